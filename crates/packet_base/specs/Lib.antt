@@ -1,0 +1,6 @@
+pub mod RefusalCode
+pub mod Header
+pub mod Spelling
+pub mod Reading
+pub mod Outcome
+pub mod Inside

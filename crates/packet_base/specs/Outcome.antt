@@ -1,0 +1,25 @@
+-- How the outcome of a call agrees with what reading gives. Want of memory may come at any time.
+use Rattle.std.specs.Prelude.{◌≡◌, ℕ, List, Result, Ok, Err}
+use Rattle.topics.specs.declared.malformed.MalformedKind.{MalformedKind}
+use Rattle.topics.specs.declared.malformed.MalformedKind.TheVariants as kinds
+use Rattle.packet_base.specs.declared.refusal_code.RefusalCode.{RefusalCode}
+use Rattle.packet_base.specs.declared.stop.Stop.{Stop}
+use Rattle.packet_base.specs.declared.stop.Stop.TheVariants as stops
+
+-- reading stops so, unless memory was wanting
+abbrev pub StopsBy : {Y : Type 0} → Stop → Result Y Stop → Type 0
+StopsBy stops.More read = read ≡ Err stops.More
+StopsBy (stops.Malformed kinds.Memory) read = Unit {0}
+StopsBy (stops.Malformed kind) read = read ≡ Err (stops.Malformed kind)
+StopsBy (stops.Refused code) read = read ≡ Err (stops.Refused code)
+
+-- what a call returned, seen by view, is what reading gives
+abbrev pub Gives : {X Y : Type 0} → (X → Y) → Result X Stop → Result Y Stop → Type 0
+Gives view (Ok x) read = read ≡ Ok (view x)
+Gives view (Err stop) read = StopsBy stop read
+
+-- the same for a call of a reader, in which these bytes are left afterwards
+abbrev pub Reads : {X Y : Type 0} → (X → Y) → Result X Stop → List ℕ
+    → Result (Y × List ℕ) Stop → Type 0
+Reads view (Ok x) rest read = read ≡ Ok (view x, rest)
+Reads view (Err stop) rest read = StopsBy stop read

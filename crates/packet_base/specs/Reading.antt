@@ -1,0 +1,113 @@
+-- Reading from left to right, with the first fault that is met.
+use Rattle.std.specs.Prelude.{
+  ◌≡◌,
+  ℕ,
+  ◌+◌,
+  ◌-◌,
+  ◌*◌,
+  nat_lt,
+  ◌==◌,
+  Bool,
+  true,
+  false,
+  not,
+  ◌&&◌,
+  if◌then◌else◌,
+  List,
+  [],
+  ◌∷◌,
+  length,
+  take,
+  drop,
+  Result,
+  Ok,
+  Err,
+}
+use Rattle.std.specs.Int.{w16, from_be_bytes}
+use Rattle.std.specs.List.{list_any}
+use Rattle.std.specs.Str.{is_utf8}
+use Rattle.topics.specs.declared.malformed.MalformedKind.{MalformedKind}
+use Rattle.topics.specs.declared.malformed.MalformedKind.TheVariants as kinds
+use Rattle.packet_base.specs.declared.stop.Stop.{Stop}
+use Rattle.packet_base.specs.declared.stop.Stop.TheVariants as stops
+
+infixl 10 ◌>>=◌
+-- one step and then the next, unless the first stops
+abbrev pub ◌>>=◌ : {A B : Type 0} → Result A Stop → (A → Result B Stop) → Result B Stop
+(Ok x) >>= f = f x
+(Err stop) >>= f = Err stop
+
+infixl 10 ◌>>◌
+-- the same for a step without a value
+abbrev pub ◌>>◌ : {A B : Type 0} → Result A Stop → Result B Stop → Result B Stop
+(Ok x) >> next = next
+(Err stop) >> next = Err stop
+
+-- goes on where the test is true, and stops so where it is not
+abbrev pub check : Bool → Stop → Result (Unit {0}) Stop
+check true stop = Ok tt
+check false stop = Err stop
+
+-- a fault of the bytes
+abbrev pub malformed : {A : Type 0} → MalformedKind → Result A Stop
+malformed kind = Err (stops.Malformed kind)
+
+-- the next byte, and the bytes after it
+abbrev pub byte_at : List ℕ → Result (ℕ × List ℕ) Stop
+byte_at [] = malformed kinds.Shape
+byte_at (b ∷ rest) = Ok (b, rest)
+
+-- so many bytes, and those after them
+abbrev pub front_at : ℕ → List ℕ → Result (List ℕ × List ℕ) Stop
+front_at len bytes =
+    if nat_lt (length bytes) len then malformed kinds.Shape else Ok (take len bytes, drop len bytes)
+
+-- a number of two bytes (MQTT 1.5.2)
+unfoldable pub number_at : List ℕ → Result (ℕ × List ℕ) Stop
+number_at bytes = do
+  front ← front_at 2 bytes
+  Ok (from_be_bytes w16 front.0, front.1)
+
+-- a Packet Identifier is not zero (MQTT 2.3.1)
+unfoldable pub id_at : List ℕ → Result (ℕ × List ℕ) Stop
+id_at bytes = do
+  id ← number_at bytes
+  check (nat_lt 0 id.0) (stops.Malformed kinds.Identifier)
+  Ok id
+
+-- whether U+0000 stands in the text
+abbrev pub has_null : List ℕ → Bool
+has_null bytes = list_any (λ b. b == 0) bytes
+
+-- well-formed UTF-8 without U+0000 (MQTT 1.5.3)
+abbrev pub is_text : List ℕ → Bool
+is_text bytes = is_utf8 bytes && not (has_null bytes)
+
+-- bytes that have to be a text
+abbrev pub text_of : List ℕ → Result (List ℕ) Stop
+text_of bytes = do
+  check (is_text bytes) (stops.Malformed kinds.Text)
+  Ok bytes
+
+-- a text of the length that stands before it (MQTT 1.5.3)
+unfoldable pub text_at : List ℕ → Result (List ℕ × List ℕ) Stop
+text_at bytes = do
+  len ← number_at bytes
+  front ← front_at len.0 len.1
+  text ← text_of front.0
+  Ok (text, front.1)
+
+-- no bytes are left over
+abbrev pub ended : List ℕ → Result (Unit {0}) Stop
+ended [] = Ok tt
+ended (b ∷ bytes) = malformed kinds.Shape
+
+-- A Remaining Length, of which so many bytes may follow the next one (MQTT 2.2.3).
+unfoldable pub length_at : ℕ → List ℕ → Result (ℕ × List ℕ) Stop
+length_at follow [] = Err stops.More
+length_at follow (b ∷ rest) =
+    if nat_lt b 128 then Ok (b, rest) else
+    if follow == 0 then malformed kinds.Length else
+    length_at (follow - 1) rest >>= (λ high.
+      check (nat_lt 0 high.0) (stops.Malformed kinds.Length)
+      >> Ok (b - 128 + 128 * high.0, high.1))

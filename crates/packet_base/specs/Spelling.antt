@@ -1,0 +1,45 @@
+-- How numbers, texts and lengths are spelled (MQTT 1.5, 2.2.3).
+use Rattle.std.specs.Prelude.{
+  ◌≡◌,
+  ℕ,
+  ◌+◌,
+  ◌*◌,
+  ◌<◌,
+  ◌≤◌,
+  nat_lt,
+  if◌then◌else◌,
+  List,
+  [],
+  ◌∷◌,
+  ◌++◌,
+  length,
+}
+use Rattle.std.specs.Int.{w16, to_be_bytes}
+
+-- two bytes, the high one first (MQTT 1.5.2)
+abbrev pub number : ℕ → List ℕ
+number n = to_be_bytes w16 n
+
+-- how many bytes it has, then the bytes (MQTT 1.5.3)
+abbrev pub text : List ℕ → List ℕ
+text bytes = number (length bytes) ++ bytes
+
+-- Seven bits in each byte, the low ones first, and 128 more where another byte follows (MQTT 2.2.3).
+-- The last byte of several is not 0, so each number has one form.
+abbrev pub IsLength : List ℕ → ℕ → Type 0
+IsLength [] n = ⊥
+IsLength (b ∷ []) n = (b < 128) × (n ≡ b)
+IsLength (b ∷ c ∷ bs) n =
+    (128 ≤ b) × (b < 256) × (high : ℕ) × (0 < high) × (n + 128 ≡ b + 128 * high)
+    × IsLength (c ∷ bs) high
+
+-- how many bytes the length takes, for lengths below 2 ^ 28 (MQTT 2.2.3, table 2.4)
+abbrev pub length_bytes : ℕ → ℕ
+length_bytes n =
+    if nat_lt n 128 then 1 else
+    if nat_lt n 16384 then 2 else
+    if nat_lt n 2097152 then 3 else 4
+
+-- new is old with the bytes of a length at its end
+abbrev pub AppendsLength : List ℕ → List ℕ → ℕ → Type 0
+AppendsLength old new n = (bytes : List ℕ) × IsLength bytes n × (new ≡ old ++ bytes)

@@ -1,0 +1,19 @@
+//! The fields that MQTT packets are made of (MQTT 3.1.1, sections 1.5 and 2): a reader over the
+//! bytes that are left, and the calls that write a field at the end of a vector.
+#![tactic(auto)]
+
+mod header;
+mod packet_id;
+mod reader;
+mod refusal_code;
+mod remaining_length;
+mod stop;
+mod writing;
+
+pub use header::Header;
+pub use packet_id::PacketId;
+pub use reader::Reader;
+pub use refusal_code::RefusalCode;
+pub use remaining_length::{length_size, put_length, take_length};
+pub use stop::Stop;
+pub use writing::{put_byte, put_bytes, put_number, put_text};

@@ -1,0 +1,138 @@
+// A cursor over the bytes of a packet.
+
+ghost use Rattle.std.specs.Prelude.{◌≡◌, ◌<◌, true, IfOk, ◌==◌, length};
+ghost use Rattle.packet_base.specs.Reading.{
+  byte_at,
+  front_at,
+  number_at,
+  id_at,
+  text_at,
+  text_of,
+  ended,
+  is_text,
+};
+ghost use Rattle.packet_base.specs.Outcome.{Gives, Reads};
+
+use crate::packet_id::PacketId;
+use crate::stop::Stop;
+use std::marker::Model;
+use topics::MalformedKind;
+
+/// The bytes of a packet that are not read yet, which is how a contract sees it. A field that does
+/// not fit into them is `Shape`; after an error the reader is not to be used.
+#[derive(Drop)]
+pub struct Reader<'a> {
+    rest: &'a [u8],
+}
+
+impl<'a> Model for Reader<'a> {
+    ghost use Rattle.std.specs.Prelude.{ℕ, List};
+
+    ghost Value = { List ℕ };
+
+    ghost view = { λ reader. reader.rest.now };
+}
+
+impl<'a> Reader<'a> {
+    /// A reader at the front of the bytes.
+    pub fn new(bytes: &'a [u8]) -> Reader<'a>
+        ensures { result ≡ bytes.now }
+    {
+        Reader { rest: bytes }
+    }
+
+    /// Whether all bytes are read.
+    pub fn is_empty(&self) -> bool
+        ensures { result ≡ (length self.now == 0) }
+    {
+        self.rest.is_empty()
+    }
+
+    /// The next byte.
+    pub fn byte(&mut self) -> Result<u8, Stop>
+        ensures { Reads (λ x. x) result self.new (byte_at self.old) }
+    {
+        match self.rest {
+            [] => Err(Stop::Malformed(MalformedKind::Shape)),
+            [byte, rest @ ..] => {
+                self.rest = rest;
+                Ok(*byte)
+            }
+        }
+    }
+
+    /// The next `len` bytes.
+    pub fn front(&mut self, len: usize) -> Result<&'a [u8], Stop>
+        ensures { Reads (λ x. x.now) result self.new (front_at len self.old) }
+    {
+        let bytes = self.rest;
+        if bytes.len() < len {
+            return Err(Stop::Malformed(MalformedKind::Shape));
+        }
+        let (front, rest) = bytes.split_at(len);
+        self.rest = rest;
+        Ok(front)
+    }
+
+    /// A number of two bytes, the high one first (MQTT 1.5.2).
+    #[tactic(auto, unfolding(crate::specs::Reading::number_at))]
+    pub fn number(&mut self) -> Result<u16, Stop>
+        ensures { Reads (λ x. x) result self.new (number_at self.old) }
+    {
+        let front = self.front(2)?;
+        Ok(u16::from_be_bytes([front[0], front[1]]))
+    }
+
+    /// A Packet Identifier; zero is `Identifier` (MQTT 2.3.1).
+    #[tactic(auto, unfolding(crate::specs::Reading::id_at))]
+    pub fn id(&mut self) -> Result<PacketId, Stop>
+        ensures { Reads (λ x. x) result self.new (id_at self.old) }
+    {
+        let number = self.number()?;
+        if number == 0 {
+            return Err(Stop::Malformed(MalformedKind::Identifier));
+        }
+        Ok(PacketId::new(number))
+    }
+
+    /// A text with its length before it (MQTT 1.5.3). What is no well-formed UTF-8, or has U+0000,
+    /// is `Text`.
+    #[tactic(auto, unfolding(crate::specs::Reading::text_at))]
+    pub fn text(&mut self) -> Result<&'a str, Stop>
+        ensures exact { Reads (λ x. x.now) result self.new (text_at self.old) }
+        ensures checked { IfOk result (λ x. is_text x.now ≡ true) }
+    {
+        let len = self.number()?;
+        let bytes = self.front(usize::from(len))?;
+        checked_text(bytes)
+    }
+
+    /// Bytes that are left over are `Shape`.
+    pub fn end(&self) -> Result<(), Stop>
+        ensures { Gives (λ x. x) result (ended self.now) }
+    {
+        if self.rest.is_empty() {
+            return Ok(());
+        }
+        Err(Stop::Malformed(MalformedKind::Shape))
+    }
+}
+
+// The bytes as a text, if they are one.
+#[tactic(auto, using(
+    crate::proofs::Texts::text_is,
+    crate::proofs::Texts::no_text,
+    crate::proofs::Texts::null_text
+))]
+fn checked_text(bytes: &[u8]) -> Result<&str, Stop>
+    ensures exact { Gives (λ x. x.now) result (text_of bytes.now) }
+    ensures checked { IfOk result (λ x. is_text x.now ≡ true) }
+{
+    let Ok(text) = std::str::from_utf8(bytes) else {
+        return Err(Stop::Malformed(MalformedKind::Text));
+    };
+    if bytes.contains(&0) {
+        return Err(Stop::Malformed(MalformedKind::Text));
+    }
+    Ok(text)
+}

@@ -1,0 +1,80 @@
+// The Remaining Length of a packet: one to four bytes (MQTT 2.2.3).
+
+ghost use Rattle.std.specs.Prelude.{◌≡◌, ◌+◌, ◌<◌, ◌≤◌, ◌^◌, IfOk, vec_len, vec_capacity};
+ghost use Rattle.packet_base.specs.Spelling.{AppendsLength, length_bytes};
+ghost use Rattle.packet_base.specs.Reading.{length_at};
+ghost use Rattle.packet_base.specs.Outcome.{Gives};
+ghost use Rattle.packet_base.specs.Inside.{length_limit};
+
+use crate::stop::Stop;
+use topics::MalformedKind;
+
+/// The Remaining Length at the front, and the bytes after it. A fourth byte that another would
+/// follow, or a longer spelling than is needed, is `Length`; bytes that end before it does are
+/// `More`.
+pub fn take_length(bytes: &[u8]) -> Result<(u32, &[u8]), Stop>
+    ensures exact { Gives (λ x. (x.0, x.1.now)) result (length_at 3 bytes.now) }
+    ensures small { IfOk result (λ x. x.0 < 2 ^ 28) }
+{
+    length_from(bytes, 3)
+}
+
+// The same where at most `follow` bytes may follow the next one.
+#[tactic(auto, unfolding(crate::specs::Reading::length_at), using(
+    crate::proofs::Lengths::limit_least,
+    crate::proofs::Lengths::limit_step,
+    crate::proofs::Lengths::limit_below
+))]
+fn length_from(bytes: &[u8], follow: u8) -> Result<(u32, &[u8]), Stop>
+    requires { follow < 4 }
+    ensures exact { Gives (λ x. (x.0, x.1.now)) result (length_at follow bytes.now) }
+    ensures limit { IfOk result (λ x. x.0 < length_limit follow) }
+{
+    match bytes {
+        [] => Err(Stop::More),
+        [byte, rest @ ..] => {
+            if *byte < 128 {
+                return Ok((u32::from(*byte), rest));
+            }
+            if follow == 0 {
+                return Err(Stop::Malformed(MalformedKind::Length));
+            }
+            let (high, rest) = length_from(rest, follow - 1)?;
+            if high == 0 {
+                return Err(Stop::Malformed(MalformedKind::Length));
+            }
+            Ok((u32::from(*byte - 128) + 128 * high, rest))
+        }
+    }
+}
+
+/// How many bytes the Remaining Length takes.
+pub fn length_size(length: u32) -> usize
+    ensures { result ≡ length_bytes length }
+{
+    if length < 128 {
+        1
+    } else if length < 16_384 {
+        2
+    } else if length < 2_097_152 {
+        3
+    } else {
+        4
+    }
+}
+
+/// Writes the Remaining Length at the end, in its one spelling.
+pub fn put_length(out: &mut Vec<u8>, length: u32)
+    requires small { length < 2 ^ 28 }
+    requires room { vec_len out.old + length_bytes length ≤ vec_capacity out.old }
+    ensures spelled { AppendsLength out.old.items out.new.items length }
+    ensures len { vec_len out.new ≡ vec_len out.old + length_bytes length }
+    ensures capacity { vec_capacity out.old ≤ vec_capacity out.new }
+{
+    let mut rest = length;
+    while rest >= 128 {
+        out.push_reserved((rest % 128 + 128) as u8);
+        rest /= 128;
+    }
+    out.push_reserved(rest as u8);
+}

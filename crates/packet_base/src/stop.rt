@@ -1,0 +1,50 @@
+// Why reading stops before a packet is whole.
+
+ghost use Rattle.std.specs.Prelude.{◌≡◌};
+
+use crate::refusal_code::RefusalCode;
+use std::alloc::{AllocError, AllocFailed};
+use topics::MalformedKind;
+
+/// Why reading a packet stops before it is whole.
+#[derive(Clone, Copy, Debug, PartialEq, Eq)]
+pub enum Stop {
+    /// The bytes end before the packet does.
+    More,
+    /// No packet begins with these bytes, or memory was wanting.
+    Malformed(MalformedKind),
+    /// A CONNECT that is answered with this code.
+    Refused(RefusalCode),
+}
+
+impl From<MalformedKind> for Stop {
+    ghost use Rattle.packet_base.specs.declared.stop.Stop.TheVariants.{Malformed};
+
+    ghost from_gives = { λ kind stop. stop ≡ Malformed kind };
+
+    fn from(kind: MalformedKind) -> Stop {
+        Stop::Malformed(kind)
+    }
+}
+
+impl From<AllocError> for Stop {
+    ghost use Rattle.packet_base.specs.declared.stop.Stop.TheVariants.{Malformed};
+    ghost use Rattle.topics.specs.declared.malformed.MalformedKind.TheVariants.{Memory};
+
+    ghost from_gives = { λ _ stop. stop ≡ Malformed Memory };
+
+    fn from(_error: AllocError) -> Stop {
+        Stop::Malformed(MalformedKind::Memory)
+    }
+}
+
+impl<T: Drop> From<AllocFailed<T>> for Stop {
+    ghost use Rattle.packet_base.specs.declared.stop.Stop.TheVariants.{Malformed};
+    ghost use Rattle.topics.specs.declared.malformed.MalformedKind.TheVariants.{Memory};
+
+    ghost from_gives = { λ _ stop. stop ≡ Malformed Memory };
+
+    fn from(_error: AllocFailed<T>) -> Stop {
+        Stop::Malformed(MalformedKind::Memory)
+    }
+}
