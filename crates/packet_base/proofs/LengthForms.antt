@@ -78,3 +78,27 @@ form_from (suc fuel) n small =
 -- each length has one
 pub form_of : (n : ℕ) → n < 2 ^ 28 → (form : List ℕ) × IsLength form n
 form_of n small = form_from 3 n small
+
+-- and no other one
+pub one_form : (a b : List ℕ) (n : ℕ) → IsLength a n → IsLength b n → a ≡ b
+one_form [] b n p q = absurd p
+one_form (x ∷ xs) [] n p q = absurd q
+one_form (x ∷ []) (y ∷ []) n p q = ap (λ (z : ℕ). z ∷ []) (sym p.1 ∙ q.1)
+one_form (x ∷ []) (y ∷ d ∷ ds) n p q = absurd (omega (arith, p.0, p.1, q.0, q.3, q.4))
+one_form (x ∷ c ∷ cs) (y ∷ []) n p q = absurd (omega (arith, q.0, q.1, p.0, p.3, p.4))
+one_form (x ∷ c ∷ cs) (y ∷ d ∷ ds) n p q =
+    let low : x ≡ y = omega (arith, p.0, p.1, p.4, q.0, q.1, q.4) in
+    let high : q.2 ≡ p.2 = omega (arith, p.0, p.1, p.4, q.0, q.1, q.4) in
+    let rest : c ∷ cs ≡ d ∷ ds = one_form (c ∷ cs) (d ∷ ds) p.2 p.5 (subst (λ (m : ℕ). IsLength (d ∷ ds) m) high q.5) in
+    ap (λ (z : ℕ). z ∷ c ∷ cs) low ∙ ap (λ (z : List ℕ). y ∷ z) rest
+
+-- what is left behind a length is the end of the bytes
+pub length_left : (follow : ℕ) (bytes : List ℕ) → IfOk (length_at follow bytes) (λ x. (front : List ℕ) × (bytes ≡ front ++ x.1))
+unfolding length_at
+length_left follow [] = tt
+length_left follow (b ∷ rest) =
+    let Q : ℕ × List ℕ → Type 0 = λ x. (front : List ℕ) × (b ∷ rest ≡ front ++ x.1) in
+    cond_if (ltb b 128) _ _ Q (λ t. (b ∷ [], refl)) (λ t.
+      cond_if (eqb follow 0) _ _ Q (λ u. tt) (λ u.
+        then_if (length_at (follow - 1) rest) _ (λ x. (front : List ℕ) × (rest ≡ front ++ x.1)) Q (length_left (follow - 1) rest) (λ x h.
+          check_if (ltb 0 x.0) _ _ Q (λ v. (b ∷ h.0, ap (λ (z : List ℕ). b ∷ z) h.1)))))

@@ -4,3 +4,4 @@ pub mod Steps
 pub mod FieldsFound
 pub mod FieldsAgain
 pub mod LengthForms
+pub mod HeaderReads

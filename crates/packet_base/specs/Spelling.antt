@@ -6,6 +6,9 @@ use Rattle.std.specs.Prelude.{
   ◌*◌,
   ◌<◌,
   ◌≤◌,
+  Bool,
+  true,
+  false,
   nat_lt,
   if◌then◌else◌,
   List,
@@ -43,3 +46,8 @@ length_bytes n =
 -- new is old with the bytes of a length at its end
 abbrev pub AppendsLength : List ℕ → List ℕ → ℕ → Type 0
 AppendsLength old new n = (bytes : List ℕ) × IsLength bytes n × (new ≡ old ++ bytes)
+
+-- a flag as a bit
+abbrev pub bit : Bool → ℕ
+bit true = 1
+bit false = 0

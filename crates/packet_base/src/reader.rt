@@ -1,6 +1,7 @@
 // A cursor over the bytes of a packet.
 
-ghost use Rattle.std.specs.Prelude.{◌≡◌, ◌<◌, true, IfOk, ◌==◌, length};
+ghost use Rattle.std.specs.Prelude.{◌≡◌, ◌<◌, true, IfOk, IsTrue, ◌==◌, nat_eq, length, drop};
+ghost use Rattle.std.specs.List.{starts_with};
 ghost use Rattle.packet_base.specs.Reading.{
   byte_at,
   front_at,
@@ -46,6 +47,18 @@ impl<'a> Reader<'a> {
         ensures { result ≡ (length self.now == 0) }
     {
         self.rest.is_empty()
+    }
+
+    /// Goes past these bytes where the bytes left begin with them, and tells whether they do.
+    pub fn skip(&mut self, prefix: &[u8]) -> bool
+        ensures found { result ≡ starts_with nat_eq self.old prefix.now }
+        ensures past { IsTrue result → self.new ≡ drop (length prefix.now) self.old }
+    {
+        if !self.rest.starts_with(prefix) {
+            return false;
+        }
+        self.rest = &self.rest[prefix.len()..];
+        true
     }
 
     /// The next byte.

@@ -1,0 +1,39 @@
+-- Client Identifiers as bytes, and the first fault of a text (MQTT 1.5.3, 3.1.3.1).
+use Rattle.std.specs.Prelude.{
+  ◌≡◌,
+  ◌⊎◌,
+  ℕ,
+  Bool,
+  not,
+  ◌&&◌,
+  nat_lt,
+  if◌then◌else◌,
+  List,
+  length,
+  Option,
+  Some,
+  None,
+  is_none,
+}
+use Rattle.std.specs.Str.{is_utf8}
+use Rattle.topics.specs.declared.malformed.MalformedKind.{MalformedKind}
+use Rattle.topics.specs.declared.malformed.MalformedKind.TheVariants as kinds
+use Rattle.packet_base.specs.Reading.{has_null}
+
+-- 1 to 64 bytes, this broker's own limit
+abbrev pub has_client_length : List ℕ → Bool
+has_client_length text = nat_lt 0 (length text) && nat_lt (length text) 65
+
+-- the first fault of a text as a Client Identifier
+abbrev pub client_fault : List ℕ → Option MalformedKind
+client_fault text =
+    if not (has_client_length text) then Some kinds.Identifier else
+    if has_null text then Some kinds.Text else None
+
+-- how a text is refused: by its first fault, and one without a fault for want of memory alone
+abbrev pub RefusesBy : Option MalformedKind → MalformedKind → Type 0
+RefusesBy fault kind = (fault ≡ Some kind) ⊎ ((fault ≡ None) × (kind ≡ kinds.Memory))
+
+-- bytes that a `ClientId` may hold
+abbrev pub is_client : List ℕ → Bool
+is_client bytes = is_utf8 bytes && is_none (client_fault bytes)

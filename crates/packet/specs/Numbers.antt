@@ -1,0 +1,16 @@
+-- The numbers of the refusals, as in the table of refusals.
+use Rattle.std.specs.Prelude.{ℕ, Option, Some, None}
+use Rattle.topics.specs.Malformed.{number_of}
+use Rattle.packet.specs.declared.error.DecodeFault.{DecodeFault}
+use Rattle.packet.specs.declared.error.DecodeFault.TheVariants as faults
+use Rattle.packet.specs.declared.error.EncodeFault.{EncodeFault}
+use Rattle.packet.specs.declared.error.EncodeFault.TheVariants as encode_faults
+
+-- a malformed packet has its kind's number, a refused CONNECT has none
+abbrev pub decode_number : DecodeFault → Option ℕ
+decode_number (faults.Malformed kind) = Some (number_of kind)
+decode_number (faults.Refused code) = None
+
+abbrev pub encode_number : EncodeFault → ℕ
+encode_number encode_faults.TooLarge = 4
+encode_number encode_faults.Memory = 12

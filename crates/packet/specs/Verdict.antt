@@ -1,0 +1,79 @@
+-- What bytes begin with: a packet, less than one, or the first fault from the left.
+use Rattle.std.specs.Prelude.{
+  ◌≡◌,
+  ℕ,
+  ◌<◌,
+  ◌≤◌,
+  nat_le,
+  List,
+  [],
+  ◌∷◌,
+  ◌++◌,
+  length,
+  take,
+  drop,
+  Result,
+  Ok,
+  Err,
+}
+use Rattle.topics.specs.declared.malformed.MalformedKind.TheVariants as kinds
+use Rattle.packet_base.specs.declared.stop.Stop.{Stop}
+use Rattle.packet_base.specs.declared.stop.Stop.TheVariants as stops
+use Rattle.packet_base.specs.declared.header.Header.{Header}
+use Rattle.packet_base.specs.declared.header.Header.TheVariants as headers
+use Rattle.packet_base.specs.Header.{header_of}
+use Rattle.packet_base.specs.Reading.{◌>>=◌, ◌>>◌, check, length_at}
+use Rattle.packet_base.specs.Outcome.{StopsBy}
+use Rattle.packet.specs.declared.packet.Packet.{Packet}
+use Rattle.packet.specs.declared.packet.Packet.TheVariants as packets
+use Rattle.packet.specs.declared.decoding.Step.{Step}
+use Rattle.packet.specs.declared.decoding.Step.TheVariants as steps
+use Rattle.packet.specs.declared.error.DecodeFault.{DecodeFault}
+use Rattle.packet.specs.declared.error.DecodeFault.TheVariants as faults
+use Rattle.packet.specs.Spelling.{longest_body, Spells, IsPacket}
+use Rattle.packet.specs.Connect.{connect_of}
+use Rattle.packet.specs.Connack.{connack_of}
+
+-- the body behind a first byte that says this
+abbrev pub body_of : Header → List ℕ → Result Packet Stop
+body_of headers.Connect body = connect_of body >>= (λ c. Ok (packets.Connect c))
+body_of headers.Connack body = connack_of body >>= (λ c. Ok (packets.Connack c))
+
+-- The packet at the front, and the bytes after it. First byte, length, limit, the whole body and
+-- what stands in it are looked at in this order.
+unfoldable pub verdict : List ℕ → Result (Packet × List ℕ) Stop
+verdict [] = Err stops.More
+verdict (first ∷ bytes) = do
+  header ← header_of first
+  len ← length_at 3 bytes
+  check (nat_le len.0 longest_body) (stops.Malformed kinds.TooLarge)
+  check (nat_le len.0 (length len.1)) stops.More
+  packet ← body_of header (take len.0 len.1)
+  Ok (packet, drop len.0 len.1)
+
+-- the answer of `decode` is the verdict, but that memory may be wanting
+abbrev pub Decodes : List ℕ → Result Step DecodeFault → Type 0
+Decodes bytes (Ok (steps.Whole packet len)) = verdict bytes ≡ Ok (packet, drop len bytes)
+Decodes bytes (Ok steps.More) = verdict bytes ≡ Err stops.More
+Decodes bytes (Err (faults.Malformed kind)) = StopsBy (stops.Malformed kind) (verdict bytes)
+Decodes bytes (Err (faults.Refused code)) = verdict bytes ≡ Err (stops.Refused code)
+
+-- a whole packet lies within the bytes
+abbrev pub IsWithin : List ℕ → Step → Type 0
+IsWithin bytes (steps.Whole packet len) = len ≤ length bytes
+IsWithin bytes steps.More = Unit {0}
+
+-- a packet that was read is spelled so
+abbrev pub IsSpelledSo : List ℕ → Step → Type 0
+IsSpelledSo bytes (steps.Whole packet len) = Spells packet (take len bytes) × IsPacket packet
+IsSpelledSo bytes steps.More = Unit {0}
+
+-- the answer is this packet with this length, but that memory may be wanting
+abbrev pub ReadsWhole : Packet → ℕ → Result Step DecodeFault → Type 0
+ReadsWhole p len (Ok step) = step ≡ steps.Whole p len
+ReadsWhole p len (Err fault) = fault ≡ faults.Malformed kinds.Memory
+
+-- what is spelled is read, whatever follows it
+abbrev pub ReadsWhatIsSpelled : List ℕ → Result Step DecodeFault → Type 0
+ReadsWhatIsSpelled bytes result = (p : Packet) (front rest : List ℕ) → IsPacket p
+    → Spells p front → bytes ≡ front ++ rest → ReadsWhole p (length front) result

@@ -1,0 +1,142 @@
+// The name by which a client's session is found again.
+
+ghost use Rattle.std.specs.Prelude.{◌≡◌, None, Some, IfOk, OnOk, IfErr, IsTrue, true, bytes_eq};
+ghost use Rattle.std.specs.Cmp;
+ghost use Rattle.std.specs.Cmp.Lexicographic.{
+  slice_cmp,
+  nat_list_eq_equiv,
+  nat_list_cmp_total,
+  texts_ties,
+  texts_po,
+};
+ghost use Rattle.std.specs.Ordering.{nat_cmp};
+ghost use Rattle.std.proofs.Common.{refl};
+ghost use Rattle.packet.specs.ClientId.{client_fault, has_client_length, is_client, RefusesBy};
+
+use std::alloc::{AllocError, Global};
+use std::cmp::Ordering;
+use std::fmt;
+use std::marker::Model;
+use topics::MalformedKind;
+
+/// The most bytes of a Client Identifier.
+const MAX_BYTES: usize = 64;
+
+/// A Client Identifier of 1 to 64 bytes (MQTT 3.1.3.1). Compared and ordered by its bytes, which
+/// are what a contract sees.
+#[derive(Debug, Drop)]
+pub struct ClientId {
+    text: String,
+}
+
+impl Model for ClientId {
+    ghost use Rattle.std.specs.Prelude.{List, ℕ, IsTrue, string_bytes};
+    ghost use Rattle.packet.specs.ClientId.{is_client};
+
+    ghost Value = { List ℕ };
+
+    ghost view = { λ client. string_bytes client.text };
+
+    ghost invariant = { λ client. IsTrue (is_client (string_bytes client.text)) };
+}
+
+impl ClientId {
+    /// The Client Identifier of this text. In this order: `Identifier` where it has not 1 to 64
+    /// bytes, `Text` where U+0000 stands in it, `Memory`.
+    #[tactic(auto, using(crate::proofs::Clients::is_client_none))]
+    pub fn new(alloc: Global, text: &str) -> Result<ClientId, MalformedKind>
+        ensures value { IfOk result (λ client. client ≡ text.now) }
+        ensures ok { OnOk result (client_fault text.now ≡ None) }
+
+        // Memory may be wanting for a text without a fault only.
+        ensures err { IfErr result (RefusesBy (client_fault text.now)) }
+    {
+        if !has_client_length(text) {
+            return Err(MalformedKind::Identifier);
+        }
+        if text.as_bytes().contains(&0) {
+            return Err(MalformedKind::Text);
+        }
+        Ok(ClientId::of_checked(alloc, text)?)
+    }
+
+    // The Client Identifier of a text without a fault.
+    pub(crate) fn of_checked(alloc: Global, text: &str) -> Result<ClientId, AllocError>
+        requires { is_client text.now ≡ true }
+        ensures { IfOk result (λ client. client ≡ text.now) }
+    {
+        let text = String::from_str(alloc, text)?;
+        Ok(ClientId { text })
+    }
+
+    /// The text of this identifier.
+    pub fn as_str(&self) -> &str
+        ensures value { result.now ≡ self.now }
+        ensures checked { IsTrue (is_client self.now) }
+    {
+        self.text.as_str()
+    }
+}
+
+/// Whether a text has 1 to 64 bytes.
+pub(crate) fn has_client_length(text: &str) -> bool
+    ensures { result ≡ has_client_length text.now }
+{
+    !text.is_empty() && text.len() <= MAX_BYTES
+}
+
+impl Clone for ClientId {
+    ghost is_clone = { λ client copy. copy ≡ client };
+
+    fn clone(&self) -> Result<ClientId, AllocError> {
+        Ok(ClientId {
+            text: self.text.clone()?,
+        })
+    }
+}
+
+impl PartialEq for ClientId {
+    ghost eq = { bytes_eq };
+
+    ghost laws = { Cmp.partial_equiv_from_equiv nat_list_eq_equiv };
+
+    fn eq(&self, other: &ClientId) -> bool {
+        self.text == other.text
+    }
+}
+
+impl Eq for ClientId {
+    ghost laws = { nat_list_eq_equiv };
+}
+
+impl PartialOrd for ClientId {
+    ghost partial_cmp = { λ x y. Some (slice_cmp nat_cmp x y) };
+
+    ghost laws = { texts_po };
+
+    fn partial_cmp(&self, other: &ClientId) -> Option<Ordering> {
+        Some(self.cmp(other))
+    }
+}
+
+impl Ord for ClientId {
+    ghost cmp = { slice_cmp nat_cmp };
+
+    ghost total = { nat_list_cmp_total };
+
+    ghost matches_partial_cmp = { λ x y. refl };
+
+    ghost matches_eq = { texts_ties };
+
+    fn cmp(&self, other: &ClientId) -> Ordering {
+        self.text.cmp(&other.text)
+    }
+}
+
+impl fmt::Display for ClientId {
+    ghost output = { λ client. Some client };
+
+    fn fmt<W: fmt::Write>(&self, f: &mut fmt::Formatter<W>) -> fmt::Result {
+        f.write_str(self.text.as_str())
+    }
+}

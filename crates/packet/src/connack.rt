@@ -1,0 +1,71 @@
+// CONNACK: the server's answer to a CONNECT (MQTT 3.2).
+
+ghost use Rattle.std.specs.Prelude.{◌≡◌, ◌+◌, ◌≤◌, ◌++◌, length, vec_len, vec_capacity};
+ghost use Rattle.packet_base.specs.Outcome.{Gives};
+ghost use Rattle.packet.specs.Connack.{connack, connack_of, answer_of};
+
+use packet_base::{Reader, RefusalCode, Stop, put_byte};
+use topics::MalformedKind;
+
+/// The answer to a CONNECT (MQTT 3.2).
+#[derive(Clone, Copy, Debug, PartialEq, Eq)]
+pub enum Connack {
+    /// The connection is accepted; whether the server kept a session of the client.
+    Accepted(bool),
+    /// The connection is refused, and no session is present (MQTT 3.2.2.2).
+    Refused(RefusalCode),
+}
+
+impl Connack {
+    // Reads a body.
+    #[tactic(auto, unfolding(crate::specs::Connack::connack_of))]
+    pub(crate) fn read(body: &mut Reader) -> Result<Connack, Stop>
+        ensures { Gives (λ x. x) result (connack_of body.old) }
+    {
+        let present = body.byte()?;
+        let code = body.byte()?;
+        let connack = answer(present, code)?;
+        body.end()?;
+        Ok(connack)
+    }
+
+    // How many bytes the body has.
+    pub(crate) fn body_len(self) -> usize
+        ensures { result ≡ length (connack self) }
+    {
+        2
+    }
+
+    // Writes the body.
+    pub(crate) fn put(self, out: &mut Vec<u8>)
+        requires { vec_len out.old + length (connack self) ≤ vec_capacity out.old }
+        ensures { out.new.items ≡ out.old.items ++ connack self }
+    {
+        match self {
+            Connack::Accepted(present) => {
+                put_byte(out, u8::from(present));
+                put_byte(out, 0);
+            }
+            Connack::Refused(code) => {
+                put_byte(out, 0);
+                put_byte(out, code.number());
+            }
+        }
+    }
+}
+
+// The two bytes of a body.
+fn answer(present: u8, code: u8) -> Result<Connack, Stop>
+    ensures { result ≡ answer_of present code }
+{
+    match (present, code) {
+        (0, 0) => Ok(Connack::Accepted(false)),
+        (1, 0) => Ok(Connack::Accepted(true)),
+        (0, 1) => Ok(Connack::Refused(RefusalCode::ProtocolVersion)),
+        (0, 2) => Ok(Connack::Refused(RefusalCode::IdentifierRejected)),
+        (0, 3) => Ok(Connack::Refused(RefusalCode::ServerUnavailable)),
+        (0, 4) => Ok(Connack::Refused(RefusalCode::BadUserNameOrPassword)),
+        (0, 5) => Ok(Connack::Refused(RefusalCode::NotAuthorized)),
+        _ => Err(Stop::Malformed(MalformedKind::Shape)),
+    }
+}

@@ -1,0 +1,95 @@
+// CONNECT: a client asks for a connection (MQTT 3.1).
+
+ghost use Rattle.std.specs.Prelude.{◌≡◌, ◌+◌, ◌≤◌, ◌++◌, length, vec_len, vec_capacity, IfOk};
+ghost use Rattle.packet_base.specs.Outcome.{Gives};
+ghost use Rattle.packet.specs.Connect.{connect, connect_of, FitsConnect};
+
+use crate::client_id::{ClientId, has_client_length};
+use packet_base::{Reader, RefusalCode, Stop, put_byte, put_bytes, put_number, put_text};
+use std::alloc::Global;
+use topics::MalformedKind;
+
+/// What each CONNECT begins with: the text `MQTT` (MQTT 3.1.2.1).
+const PROTOCOL: [u8; 6] = [0x00, 0x04, 0x4D, 0x51, 0x54, 0x54];
+
+/// The protocol level of MQTT 3.1.1 (MQTT 3.1.2.2).
+const LEVEL: u8 = 4;
+
+/// The connect flag CleanSession (MQTT 3.1.2.4).
+const CLEAN_SESSION: u8 = 2;
+
+/// A client asks for a connection (MQTT 3.1). It has no Will, user name or password: a CONNECT
+/// with one of these is refused as not authorized.
+#[derive(Clone, Debug, Drop)]
+pub struct Connect {
+    /// The client that asks.
+    pub client: ClientId,
+    /// CleanSession: whether the session begins anew, and ends with the connection.
+    pub clean: bool,
+    /// The most seconds between two packets of the client; 0 for no limit (MQTT 3.1.2.10).
+    pub keep_alive: u16,
+}
+
+impl Connect {
+    // Reads a body.
+    #[tactic(auto, unfolding(crate::specs::Connect::connect_of), using(
+        crate::proofs::Clients::client_checked
+    ))]
+    pub(crate) fn read(alloc: Global, body: &mut Reader) -> Result<Connect, Stop>
+        ensures { Gives (λ x. x) result (connect_of body.old) }
+    {
+        if !body.skip(&PROTOCOL) {
+            return Err(Stop::Malformed(MalformedKind::Protocol));
+        }
+        let level = body.byte()?;
+        let flags = body.byte()?;
+        if level != LEVEL {
+            return Err(Stop::Refused(RefusalCode::ProtocolVersion));
+        }
+        if flags % 2 != 0 {
+            return Err(Stop::Malformed(MalformedKind::Protocol));
+        }
+        if flags > CLEAN_SESSION {
+            return Err(Stop::Refused(RefusalCode::NotAuthorized));
+        }
+        let keep_alive = body.number()?;
+        let client = body.text()?;
+        body.end()?;
+        if !has_client_length(client) {
+            return Err(Stop::Refused(RefusalCode::IdentifierRejected));
+        }
+        let client = ClientId::of_checked(alloc, client)?;
+        Ok(Connect {
+            client,
+            clean: flags == CLEAN_SESSION,
+            keep_alive,
+        })
+    }
+
+    // How many bytes the body has.
+    pub(crate) fn body_len(&self) -> usize
+        ensures { result ≡ length (connect self.now) }
+    {
+        12 + self.client.as_str().len()
+    }
+
+    // Writes the body.
+    pub(crate) fn put(&self, out: &mut Vec<u8>)
+        requires { vec_len out.old + length (connect self.now) ≤ vec_capacity out.old }
+        ensures { out.new.items ≡ out.old.items ++ connect self.now }
+    {
+        put_bytes(out, &PROTOCOL);
+        put_byte(out, LEVEL);
+        put_byte(out, CLEAN_SESSION * u8::from(self.clean));
+        put_number(out, self.keep_alive);
+        put_text(out, self.client.as_str());
+    }
+
+    // The fields are in their ranges.
+    pub(crate) fn known(&self)
+        ensures { FitsConnect self.now }
+    {
+        let _keep_alive = self.keep_alive;
+        let _client = self.client.as_str();
+    }
+}

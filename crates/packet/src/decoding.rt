@@ -1,0 +1,79 @@
+// Reading the packet at the front of a slice.
+
+ghost use Rattle.std.specs.Prelude.{◌≤◌, length, drop, ◌∷◌, IfOk};
+ghost use Rattle.packet_base.specs.Outcome.{Gives};
+ghost use Rattle.packet.specs.Verdict.{verdict, Decodes, IsWithin, IsSpelledSo, ReadsWhatIsSpelled};
+
+use crate::error::DecodeFault;
+use crate::packet::Packet;
+use packet_base::{Header, Reader, Stop, take_length};
+use std::alloc::Global;
+use topics::MalformedKind;
+
+/// The most bytes behind the Remaining Length.
+const MAX_REMAINING: usize = 1_048_572;
+
+/// What stands at the front of a slice.
+#[derive(Debug, Drop)]
+pub enum Step {
+    /// A whole packet, and how many bytes it takes.
+    Whole(Packet, usize),
+    /// Less than a packet, which more bytes may complete.
+    More,
+}
+
+/// Reads the packet at the front of the bytes; bytes may follow it.
+///
+/// The first fault from the left is answered: `PacketType`, `Qos` or `Flags` of the first byte,
+/// `Length` of the Remaining Length, `TooLarge` where it is over 1,048,572; then, once the whole
+/// body is there, `Protocol`, `Text`, `Identifier`, `Shape` and `Refused` of its fields in their
+/// order. `Memory` may come in place of a packet.
+pub fn decode(alloc: Global, bytes: &[u8]) -> Result<Step, DecodeFault>
+    ensures exact { Decodes bytes.now result }
+    ensures within { IfOk result (IsWithin bytes.now) }
+
+    // What is read is spelled so, and what is spelled is read.
+    ensures found { IfOk result (IsSpelledSo bytes.now) }
+    ensures only { ReadsWhatIsSpelled bytes.now result }
+{
+    front_step(alloc, bytes)
+}
+
+// The same with the exact answer alone.
+#[tactic(auto, unfolding(crate::specs::Verdict::verdict))]
+fn front_step(alloc: Global, bytes: &[u8]) -> Result<Step, DecodeFault>
+    ensures exact { Decodes bytes.now result }
+    ensures within { IfOk result (IsWithin bytes.now) }
+{
+    match bytes {
+        [] => Ok(Step::More),
+        [first, behind @ ..] => match front_packet(alloc, *first, behind) {
+            Ok((packet, len)) => Ok(Step::Whole(packet, 1 + len)),
+            Err(Stop::More) => Ok(Step::More),
+            Err(Stop::Malformed(kind)) => Err(DecodeFault::Malformed(kind)),
+            Err(Stop::Refused(code)) => Err(DecodeFault::Refused(code)),
+        },
+    }
+}
+
+// The packet of a first byte and what stands behind it, and how many bytes it takes of these.
+#[tactic(auto, unfolding(crate::specs::Verdict::verdict), using(
+    crate::proofs::Behind::rest_shorter
+))]
+fn front_packet(alloc: Global, first: u8, behind: &[u8]) -> Result<(Packet, usize), Stop>
+    ensures exact { Gives (λ x. (x.0, drop x.1 behind.now)) result (verdict (first ∷ behind.now)) }
+    ensures within { IfOk result (λ x. x.1 ≤ length behind.now) }
+{
+    let header = Header::of(first)?;
+    let (len, rest) = take_length(behind)?;
+    let len = len as usize;
+    if len > MAX_REMAINING {
+        return Err(Stop::Malformed(MalformedKind::TooLarge));
+    }
+    if len > rest.len() {
+        return Err(Stop::More);
+    }
+    let (body, after) = rest.split_at(len);
+    let packet = Packet::read(alloc, header, &mut Reader::new(body))?;
+    Ok((packet, behind.len() - after.len()))
+}

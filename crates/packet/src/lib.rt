@@ -1,0 +1,24 @@
+//! MQTT 3.1.1 Control Packets and their bytes: `decode` reads the packet at the front of a slice,
+//! `encode` writes the one spelling of a packet at the end of a vector.
+#![tactic(auto)]
+
+mod client_id;
+mod connack;
+mod connect;
+mod decoding;
+mod encoding;
+mod error;
+mod laws;
+mod packet;
+mod qos;
+
+pub use client_id::ClientId;
+pub use connack::Connack;
+pub use connect::Connect;
+pub use decoding::{Step, decode};
+pub use encoding::encode;
+pub use error::{DecodeFault, EncodeFault};
+pub use laws::{no_spelling_begins_another, one_spelling};
+pub use packet::Packet;
+pub use packet_base::{PacketId, RefusalCode};
+pub use qos::QoS;

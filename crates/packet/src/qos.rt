@@ -1,0 +1,29 @@
+// The three levels of delivery.
+
+ghost use Rattle.std.specs.Prelude.{◌≡◌};
+ghost use Rattle.packet.specs.QoS.{qos_number};
+
+/// Quality of Service: how surely a publication is delivered (MQTT 4.3). The levels are ordered by
+/// their numbers.
+#[derive(Clone, Copy, Debug, PartialEq, Eq, PartialOrd, Ord, Hash)]
+pub enum QoS {
+    /// At most once: there is no answer.
+    AtMostOnce,
+    /// At least once: answered by PUBACK.
+    AtLeastOnce,
+    /// Exactly once: answered by PUBREC, then PUBREL and PUBCOMP.
+    ExactlyOnce,
+}
+
+impl QoS {
+    /// The level's number, 0 to 2.
+    pub fn number(self) -> u8
+        ensures { result ≡ qos_number self }
+    {
+        match self {
+            QoS::AtMostOnce => 0,
+            QoS::AtLeastOnce => 1,
+            QoS::ExactlyOnce => 2,
+        }
+    }
+}
