@@ -1,9 +1,6 @@
 -- What is left behind a Remaining Length and a body is the end of the bytes, and what this says of
 -- the answers of `decode`.
-use Rattle.std.proofs.Common.{
-  ◌≡◌, ℕ, ◌+◌, ◌-◌, ◌<◌, ◌≤◌, List, [], ◌∷◌, ◌++◌, length, take, drop, get_or, Result, Ok, Err, refl, sym, ap, subst, ◌∙◌, arith,
-  append_assoc
-}
+use Rattle.std.proofs.Common.{◌≡◌, ℕ, ◌-◌, ◌≤◌, List, ◌∷◌, ◌++◌, length, take, drop, Result, Ok, Err, refl, sym, ap, subst, ◌∙◌, arith, append_assoc}
 use Rattle.std.specs.Prelude.{IfOk}
 use Rattle.std.proofs.lemmas.Bool.{le-leb}
 use Rattle.std.proofs.lemmas.Result.{IfOk-at_ok}
@@ -24,8 +21,8 @@ use Rattle.packet.specs.declared.decoding.Step.{Step}
 use Rattle.packet.specs.declared.decoding.Step.TheVariants as steps
 use Rattle.packet.specs.declared.error.DecodeFault.{DecodeFault}
 use Rattle.packet.specs.declared.error.DecodeFault.TheVariants as faults
-use Rattle.packet.specs.Spelling.{Spells, IsPacket, longest_body}
-use Rattle.packet.specs.Verdict.{body_of, verdict, Decodes, IsWithin, IsSpelledSo, ReadsWhole, ReadsWhatIsSpelled}
+use Rattle.packet.specs.Spelling.{Spells, longest_body}
+use Rattle.packet.specs.Verdict.{body_of, verdict, Decodes, IsWithin, IsSpelledSo, ReadsWhatIsSpelled}
 use Rattle.packet.proofs.PacketReads.{Begins, verdict_found, verdict_again}
 
 left : (bytes rest : List ℕ) (n : ℕ) → length_at 3 bytes ≡ Ok (n, rest) → (front : List ℕ) × (bytes ≡ front ++ rest)
@@ -40,7 +37,7 @@ pub rest_dropped : (bytes rest : List ℕ) (n len : ℕ) → length_at 3 bytes �
 rest_dropped bytes rest n len e =
     let h = left bytes rest n e in
     let parts : bytes ≡ (h.0 ++ take len rest) ++ drop len rest =
-          h.1 ∙ ap (λ (x : List ℕ). h.0 ++ x) (sym (take-append-drop len rest)) ∙ sym (append_assoc h.0 (take len rest) (drop len rest)) in
+    h.1 ∙ ap (λ (x : List ℕ). h.0 ++ x) (sym (take-append-drop len rest)) ∙ sym (append_assoc h.0 (take len rest) (drop len rest)) in
     end_rest bytes (drop len rest) (h.0 ++ take len rest) parts
 
 -- the verdict where each step goes on
@@ -50,7 +47,7 @@ unfolding verdict
 verdict_whole first bytes rest front after h n p said len small there is_front is_after read =
     let whole : body_of h (take n rest) ≡ Ok p = ap (body_of h) (sym is_front) ∙ read in
     let left : drop (length bytes - length after) bytes ≡ drop n rest =
-          ap (λ (x : List ℕ). drop (length bytes - length x) bytes) is_after ∙ rest_dropped bytes rest n n len in
+    ap (λ (x : List ℕ). drop (length bytes - length x) bytes) is_after ∙ rest_dropped bytes rest n n len in
     rw (said, len, le-leb _ _ small, le-leb _ _ there, whole, left) refl
 
 -- a packet that was read is spelled so
@@ -58,7 +55,7 @@ pub is_found : (bytes : List ℕ) (result : Result Step DecodeFault) → IsBytes
 is_found bytes (Ok (steps.Whole p len)) fits given =
     let begins = IfOk-at_ok (λ x. Begins bytes x.0 x.1) given (verdict_found bytes fits) in
     let front : begins.front ≡ take len bytes =
-          append_cancel_right begins.front (take len bytes) (drop len bytes) (sym begins.parts ∙ sym (take-append-drop len bytes)) in
+    append_cancel_right begins.front (take len bytes) (drop len bytes) (sym begins.parts ∙ sym (take-append-drop len bytes)) in
     (subst (λ (x : List ℕ). Spells p x) front begins.spelled, begins.whole)
 is_found bytes (Ok steps.More) fits given = tt
 is_found bytes (Err fault) fits given = tt
@@ -85,7 +82,7 @@ is_read bytes (Ok (steps.Whole q len)) given within p front rest whole spelled p
     let same : (q, drop len bytes) ≡ (p, rest) = ok_is (q, drop len bytes) (p, rest) (sym given ∙ again) in
     let same_rest : drop len bytes ≡ rest = ap (λ (x : Packet × List ℕ). x.1) same in
     let same_len : len ≡ length front =
-          counted len front rest bytes same_rest parts within in
+    counted len front rest bytes same_rest parts within in
     ap (λ (x : Packet). steps.Whole x len) (ap (λ (x : Packet × List ℕ). x.0) same) ∙ ap (λ (n : ℕ). steps.Whole p n) same_len
 is_read bytes (Ok steps.More) given within p front rest whole spelled parts =
     let again : verdict bytes ≡ Ok (p, rest) = ap verdict parts ∙ verdict_again p front rest whole spelled in

@@ -1,5 +1,5 @@
 -- A body that is read is spelled so, and one that is spelled is read: a line for each packet.
-use Rattle.std.proofs.Common.{◌≡◌, ℕ, List, Result, Ok, Err, refl, ap}
+use Rattle.std.proofs.Common.{◌≡◌, ℕ, List, Result, Ok, refl}
 use Rattle.std.specs.Prelude.{IfOk}
 use Rattle.packet_base.specs.declared.stop.Stop.{Stop}
 use Rattle.packet_base.specs.declared.header.Header.{Header}
@@ -26,10 +26,10 @@ pub record IsBody (h : Header) (bytes : List ℕ) (p : Packet) : Type 0 where
 pub body_found : (h : Header) (bytes : List ℕ) → IsBytes bytes → IfOk (body_of h bytes) (IsBody h bytes)
 body_found headers.Connect bytes fits =
     then_if (connect_of bytes) _ (λ c. (bytes ≡ connect c) × FitsConnect c) (IsBody headers.Connect bytes) (connect_found bytes fits)
-      (λ c x. record { said = refl; spelled = x.0; fits = x.1; listed = tt })
+    (λ c x. record { said = refl; spelled = x.0; fits = x.1; listed = tt })
 body_found headers.Connack bytes fits =
     then_if (connack_of bytes) _ (λ c. bytes ≡ connack c) (IsBody headers.Connack bytes) (connack_found bytes fits)
-      (λ c x. record { said = refl; spelled = x; fits = tt; listed = tt })
+    (λ c x. record { said = refl; spelled = x; fits = tt; listed = tt })
 
 -- a body that was read, as a packet
 wrapped : {A : Type 0} (r : Result A Stop) (x : A) (wrap : A → Packet) → r ≡ Ok x → (r >>= (λ y. Ok (wrap y))) ≡ Ok (wrap x)

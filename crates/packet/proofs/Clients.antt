@@ -1,13 +1,13 @@
 -- Texts that are Client Identifiers.
-use Rattle.std.proofs.Common.{◌≡◌, ℕ, ◌<◌, ◌≤◌, ◌^◌, Bool, true, false, cond, ltb, List, length, Option, Some, None, refl, arith}
-use Rattle.std.specs.Prelude.{not, ◌&&◌, is_none, IsTrue}
+use Rattle.std.proofs.Common.{◌≡◌, ℕ, ◌<◌, ◌^◌, Bool, true, false, cond, ltb, List, length, Some, None, refl, arith}
+use Rattle.std.specs.Prelude.{not, ◌&&◌, is_none}
 use Rattle.std.specs.Str.{IsUtf8, is_utf8}
 use Rattle.std.proofs.lemmas.Bool.{ltb-true}
 use Rattle.std.proofs.lemmas.Str.{is_utf8-from_IsUtf8}
 use Rattle.topics.specs.declared.malformed.MalformedKind.{MalformedKind}
 use Rattle.topics.specs.declared.malformed.MalformedKind.TheVariants as kinds
 use Rattle.packet_base.specs.Reading.{has_null, is_text}
-use Rattle.packet.specs.ClientId.{client_fault, has_client_length, is_client}
+use Rattle.packet.specs.ClientId.{has_client_length, is_client}
 
 -- a text of the right length without U+0000 is one
 pub is_client_none : (text : List ℕ) → IsUtf8 text → has_client_length text ≡ true → has_null text ≡ false → is_client text ≡ true

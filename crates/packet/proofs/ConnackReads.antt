@@ -1,7 +1,5 @@
 -- A CONNACK's body that is read is spelled so, and one that is spelled is read.
-use Rattle.std.proofs.Common.{
-  ◌≡◌, ℕ, ◌<◌, Bool, true, false, eqb, List, [], ◌∷◌, ◌++◌, Result, Ok, Err, refl, sym, ap, subst, ◌∙◌, arith
-}
+use Rattle.std.proofs.Common.{◌≡◌, ℕ, ◌<◌, true, false, eqb, List, [], ◌∷◌, Ok, refl, ap, subst, ◌∙◌}
 use Rattle.std.specs.Prelude.{IfOk}
 use Rattle.std.proofs.lemmas.Bool.{eqb-true}
 use Rattle.packet_base.specs.declared.refusal_code.RefusalCode.TheVariants as codes
@@ -30,8 +28,8 @@ answer_found : (present code : ℕ) → IfOk (answer_of present code) (λ c. pre
 answer_found present code =
     let Q : Connack → Type 0 = λ c. present ∷ code ∷ [] ≡ connack c in
     cond_if (eqb present 1) _ _ Q
-      (λ one. cond_if (eqb code 0) _ _ Q (two present code 1 0 one) (λ _. tt))
-      (λ _. cond_if (eqb present 0) _ _ Q (coded_found present code) (λ _. tt))
+    (λ one. cond_if (eqb code 0) _ _ Q (two present code 1 0 one) (λ _. tt))
+    (λ _. cond_if (eqb present 0) _ _ Q (coded_found present code) (λ _. tt))
 
 pub connack_found : (body : List ℕ) → IsBytes body → IfOk (connack_of body) (λ c. body ≡ connack c)
 unfolding connack_of
@@ -41,9 +39,9 @@ connack_found body fits =
     then_if (byte_at present.1) _ (λ x. Splits present.1 (x.0 ∷ []) x.1 × (x.0 < 256)) Q (byte_found present.1 h1.0.left) (λ code h2.
     then_if (answer_of present.0 code.0) _ (λ c. present.0 ∷ code.0 ∷ [] ≡ connack c) Q (answer_found present.0 code.0) (λ c is_answer.
     seq_if (ended code.1) _ (code.1 ≡ []) Q (ended_found code.1) (λ nothing.
-      let both = Splits-then body (present.0 ∷ []) present.1 (code.0 ∷ []) code.1 h1.0 h2.0 in
-      let all = Splits-all body _ (subst (λ (rest : List ℕ). Splits body (present.0 ∷ code.0 ∷ []) rest) nothing both) in
-      all ∙ is_answer))))
+    let both = Splits-then body (present.0 ∷ []) present.1 (code.0 ∷ []) code.1 h1.0 h2.0 in
+    let all = Splits-all body _ (subst (λ (rest : List ℕ). Splits body (present.0 ∷ code.0 ∷ []) rest) nothing both) in
+    all ∙ is_answer))))
 
 pub connack_again : (c : Connack) → connack_of (connack c) ≡ Ok c
 unfolding connack_of

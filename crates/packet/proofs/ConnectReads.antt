@@ -1,8 +1,5 @@
 -- A CONNECT's body that is read is spelled so, and one that is spelled is read.
-use Rattle.std.proofs.Common.{
-  ◌≡◌, ℕ, zero, suc, ◌+◌, ◌*◌, ◌%◌, ◌^◌, ◌<◌, Bool, true, false, ltb, eqb, List, [], ◌∷◌, ◌++◌, length, drop, Result, Ok, Err,
-  refl, sym, ap, subst, ◌∙◌, append_assoc, arith
-}
+use Rattle.std.proofs.Common.{◌≡◌, ℕ, zero, suc, ◌*◌, ◌%◌, ◌^◌, ◌<◌, Bool, true, false, ltb, eqb, List, [], ◌∷◌, ◌++◌, length, drop, Ok, refl, sym, ap, subst, ◌∙◌, arith}
 use Rattle.std.specs.Prelude.{IfOk, nat_eq}
 use Rattle.std.specs.List.{starts_with}
 use Rattle.std.proofs.lemmas.Bool.{eqb-true, ltb-true}
@@ -58,12 +55,11 @@ connect_found body fits =
     then_if (text_at keep.1) _ (λ x. Splits keep.1 (text x.0) x.1 × (length x.0 < 2 ^ 16) × (is_text x.0 ≡ true)) Q (text_found keep.1 h3.0.left) (λ client h4.
     seq_if (ended client.1) _ (client.1 ≡ []) Q (ended_found client.1) (λ nothing.
     check_if (has_client_length client.0) _ _ Q (λ len.
-      let b = Splits-then (drop 6 body) (level.0 ∷ []) level.1 (flags.0 ∷ []) flags.1 h1.0 h2.0 in
-      let d : Splits keep.1 (text client.0) [] = subst (λ (rest : List ℕ). Splits keep.1 (text client.0) rest) nothing h4.0 in
-      (
-        whole body (drop 6 body) flags.1 keep.1 client.0 level.0 flags.0 keep.0 a b h3.0 d (eqb-true _ _ is_level) (clean_flags flags.0 (eqb-true _ _ even) (ltb-true _ _ small)),
-        (h3.1, client_checked client.0 h4.2 len)
-      )))))))))))
+    let b = Splits-then (drop 6 body) (level.0 ∷ []) level.1 (flags.0 ∷ []) flags.1 h1.0 h2.0 in
+    let d : Splits keep.1 (text client.0) [] = subst (λ (rest : List ℕ). Splits keep.1 (text client.0) rest) nothing h4.0 in (
+      whole body (drop 6 body) flags.1 keep.1 client.0 level.0 flags.0 keep.0 a b h3.0 d (eqb-true _ _ is_level) (clean_flags flags.0 (eqb-true _ _ even) (ltb-true _ _ small)),
+      (h3.1, client_checked client.0 h4.2 len),
+    )))))))))))
 
 regrouped : (clean : Bool) (keep_alive : ℕ) (client : List ℕ) → protocol ++ (4 ∷ 2 * bit clean ∷ []) ++ number keep_alive ++ text client ≡ protocol ++ (4 ∷ 2 * bit clean ∷ (number keep_alive ++ (text client ++ [])))
 regrouped clean keep_alive client = ap (λ (x : List ℕ). protocol ++ (4 ∷ 2 * bit clean ∷ (number keep_alive ++ x))) (sym (append-nil (text client)))

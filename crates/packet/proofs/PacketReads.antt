@@ -1,8 +1,5 @@
 -- A packet that is read is spelled so, and one that is spelled is read, whatever follows it.
-use Rattle.std.proofs.Common.{
-  ◌≡◌, ℕ, suc, ◌+◌, ◌-◌, ◌^◌, ◌<◌, ◌≤◌, Bool, true, false, leb, List, [], ◌∷◌, ◌++◌, length, take, drop, Result, Ok, Err, refl, sym, ap,
-  subst, ◌∙◌, append_assoc, arith
-}
+use Rattle.std.proofs.Common.{◌≡◌, ℕ, suc, ◌+◌, ◌≤◌, true, leb, List, [], ◌∷◌, ◌++◌, length, take, drop, Ok, refl, sym, ap, subst, ◌∙◌, append_assoc, arith}
 use Rattle.std.specs.Prelude.{IfOk}
 use Rattle.std.proofs.lemmas.Bool.{le-leb, leb-true}
 use Rattle.std.proofs.lemmas.List.{take_at, drop_at, length-append, length-take, take-append-drop}
@@ -10,12 +7,12 @@ use Rattle.packet_base.specs.declared.header.Header.{Header}
 use Rattle.packet_base.specs.Header.{first_byte, header_of}
 use Rattle.packet_base.specs.Spelling.{IsLength}
 use Rattle.packet_base.specs.Reading.{length_at}
-use Rattle.packet_base.proofs.Steps.{then_if, seq_if, check_if}
+use Rattle.packet_base.proofs.Steps.{then_if, check_if}
 use Rattle.packet_base.proofs.FieldsFound.{IsBytes, IsBytes-take}
-use Rattle.packet_base.proofs.LengthForms.{Heads, length_found, length_again, short_form, form_of}
+use Rattle.packet_base.proofs.LengthForms.{Heads, length_found, length_again, short_form}
 use Rattle.packet_base.proofs.HeaderReads.{header_found, header_again}
 use Rattle.packet.specs.declared.packet.Packet.{Packet}
-use Rattle.packet.specs.Spelling.{header, body, Fits, IsListed, Spells, IsPacket, longest_body}
+use Rattle.packet.specs.Spelling.{header, body, Spells, IsPacket, longest_body}
 use Rattle.packet.specs.Verdict.{body_of, verdict}
 use Rattle.packet.proofs.BodyReads.{IsBody, body_found, body_again}
 
@@ -34,7 +31,7 @@ made first bytes h n behind p said heads small there body_is =
     let head : first_byte (header p) ≡ first = ap first_byte body_is.said ∙ said in
     let rest : behind ≡ body p ++ drop n behind = sym (take-append-drop n behind) ∙ ap (λ (x : List ℕ). x ++ drop n behind) body_is.spelled in
     let behind_first : bytes ≡ heads.form ++ body p ++ drop n behind =
-          heads.parts ∙ ap (λ (x : List ℕ). heads.form ++ x) rest ∙ sym (append_assoc heads.form (body p) (drop n behind)) in
+    heads.parts ∙ ap (λ (x : List ℕ). heads.form ++ x) rest ∙ sym (append_assoc heads.form (body p) (drop n behind)) in
     record {
       front = first_byte (header p) ∷ heads.form ++ body p;
       spelled = (heads.form, subst (λ (m : ℕ). IsLength heads.form m) (sym len) heads.spelled, refl);
@@ -52,7 +49,7 @@ verdict_found (first ∷ bytes) fits =
     check_if (leb len.0 longest_body) _ _ Q (λ small.
     check_if (leb len.0 (length len.1)) _ _ Q (λ there.
     then_if (body_of h (take len.0 len.1)) _ (IsBody h (take len.0 len.1)) Q (body_found h (take len.0 len.1) (IsBytes-take len.0 len.1 heads.left)) (λ p body_is.
-      made first bytes h len.0 len.1 p said heads (leb-true _ _ small) (leb-true _ _ there) body_is)))))
+    made first bytes h len.0 len.1 p said heads (leb-true _ _ small) (leb-true _ _ there) body_is)))))
 
 pub verdict_again : (p : Packet) (front rest : List ℕ) → IsPacket p → Spells p front → verdict (front ++ rest) ≡ Ok (p, rest)
 unfolding verdict
@@ -60,7 +57,7 @@ verdict_again p front rest whole spelled =
     let n = length (body p) in
     let form = spelled.0 in
     let regrouped : front ++ rest ≡ first_byte (header p) ∷ (form ++ (body p ++ rest)) =
-          ap (λ (x : List ℕ). x ++ rest) spelled.2 ∙ ap (λ (x : List ℕ). first_byte (header p) ∷ x) (append_assoc form (body p) rest) in
+    ap (λ (x : List ℕ). x ++ rest) spelled.2 ∙ ap (λ (x : List ℕ). first_byte (header p) ∷ x) (append_assoc form (body p) rest) in
     let few : length form ≤ 3 + 1 = omega (arith, short_form form n spelled.1 (omega (arith, whole.2))) in
     let there : leb n (length (body p ++ rest)) ≡ true = le-leb _ _ (omega (arith, length-append (body p) rest)) in
     ap verdict regrouped ∙ rw (

@@ -1,5 +1,5 @@
 -- CONNACK (MQTT 3.2).
-use Rattle.std.specs.Prelude.{ℕ, true, false, ◌==◌, if◌then◌else◌, List, [], ◌∷◌, Result, Ok, Err}
+use Rattle.std.specs.Prelude.{ℕ, true, false, ◌==◌, if◌then◌else◌, List, [], ◌∷◌, Result, Ok}
 use Rattle.topics.specs.declared.malformed.MalformedKind.TheVariants as kinds
 use Rattle.packet_base.specs.declared.refusal_code.RefusalCode.TheVariants as codes
 use Rattle.packet_base.specs.declared.stop.Stop.{Stop}

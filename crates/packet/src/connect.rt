@@ -20,7 +20,7 @@ const CLEAN_SESSION: u8 = 2;
 
 /// A client asks for a connection (MQTT 3.1). It has no Will, user name or password: a CONNECT
 /// with one of these is refused as not authorized.
-#[derive(Clone, Debug, Drop)]
+#[derive(Clone, Debug, PartialEq, Eq, Drop)]
 pub struct Connect {
     /// The client that asks.
     pub client: ClientId,
@@ -32,9 +32,7 @@ pub struct Connect {
 
 impl Connect {
     // Reads a body.
-    #[tactic(auto, unfolding(crate::specs::Connect::connect_of), using(
-        crate::proofs::Clients::client_checked
-    ))]
+    #[tactic(auto, unfolding(crate::specs::Connect::connect_of), using(crate::proofs::Clients::client_checked))]
     pub(crate) fn read(alloc: Global, body: &mut Reader) -> Result<Connect, Stop>
         ensures { Gives (λ x. x) result (connect_of body.old) }
     {

@@ -5,11 +5,9 @@ ghost use Rattle.packet.specs.Laws.{HasOneSpelling, NoneBeginsAnother};
 /// Each packet within the limit, its numbers in their ranges, has one spelling.
 pub fn one_spelling()
     ensures { HasOneSpelling }
-{
-}
+{}
 
 /// No spelling is a beginning of another one, so packets that are joined can be told apart.
 pub fn no_spelling_begins_another()
     ensures { NoneBeginsAnother }
-{
-}
+{}

@@ -22,3 +22,6 @@ pub use laws::{no_spelling_begins_another, one_spelling};
 pub use packet::Packet;
 pub use packet_base::{PacketId, RefusalCode};
 pub use qos::QoS;
+
+#[cfg(test)]
+mod tests;

@@ -11,7 +11,7 @@ use packet_base::{Header, Reader, Stop};
 use std::alloc::{AllocError, Global};
 
 /// A Control Packet (MQTT 2). What MQTT's table of packets does not allow cannot be built.
-#[derive(Clone, Debug, Drop)]
+#[derive(Clone, Debug, PartialEq, Eq, Drop)]
 pub enum Packet {
     /// A client asks for a connection (MQTT 3.1).
     Connect(Connect),

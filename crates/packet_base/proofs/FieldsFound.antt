@@ -1,10 +1,7 @@
 -- Each field that is read stands so in the bytes.
-use Rattle.std.proofs.Common.{
-  ◌≡◌, ℕ, zero, suc, ◌+◌, ◌-◌, ◌^◌, ◌<◌, ◌≤◌, Bool, true, false, ltb, List, [], ◌∷◌, ◌++◌, length, get_or, take, drop,
-  Result, Ok, Err, refl, sym, ap, subst, ◌∙◌, append_assoc, arith, inl, inr
-}
-use Rattle.std.specs.Prelude.{IfOk, IsTrue}
-use Rattle.std.specs.Int.{w16, to_be_bytes, from_be_bytes}
+use Rattle.std.proofs.Common.{◌≡◌, ℕ, suc, ◌+◌, ◌^◌, ◌<◌, ◌≤◌, true, ltb, List, [], ◌∷◌, ◌++◌, length, get_or, take, drop, refl, sym, ap, subst, ◌∙◌, append_assoc, arith, inl, inr}
+use Rattle.std.specs.Prelude.{IfOk}
+use Rattle.std.specs.Int.{w16, from_be_bytes}
 use Rattle.std.proofs.lemmas.Bool.{cases_lt, ltb-false, ltb-true}
 use Rattle.std.proofs.lemmas.List.{take-append-drop, length-take, get_or-drop, get_or-take, get_or_past, append-nil}
 use Rattle.std.proofs.lemmas.Nat.{be_bytes_2}
@@ -50,27 +47,26 @@ pub front_found : (len : ℕ) (bytes : List ℕ) → IsBytes bytes
 front_found len bytes fits =
     let Q : List ℕ × List ℕ → Type 0 = λ x. Splits bytes x.0 x.1 × (length x.0 ≡ len) × IsBytes x.0 in
     cond_if (ltb (length bytes) len) _ _ Q (λ t. tt) (λ t.
-      let long : len ≤ length bytes = ltb-false _ _ t in
-      (
-        record { parts = sym (take-append-drop len bytes); left = IsBytes-drop len bytes fits },
-        omega (arith, length-take len bytes),
-        IsBytes-take len bytes fits
-      ))
+    let long : len ≤ length bytes = ltb-false _ _ t in (
+      record { parts = sym (take-append-drop len bytes); left = IsBytes-drop len bytes fits },
+      omega (arith, length-take len bytes),
+      IsBytes-take len bytes fits,
+    ))
 
 pub number_found : (bytes : List ℕ) → IsBytes bytes → IfOk (number_at bytes) (λ x. Splits bytes (number x.0) x.1 × (x.0 < 2 ^ 16))
 unfolding number_at
 number_found bytes fits =
     let Q : ℕ × List ℕ → Type 0 = λ x. Splits bytes (number x.0) x.1 × (x.0 < 2 ^ 16) in
     then_if (front_at 2 bytes) _ (λ x. Splits bytes x.0 x.1 × (length x.0 ≡ 2) × IsBytes x.0) Q (front_found 2 bytes fits) (λ x h.
-      let low : from_be_bytes w16 x.0 < 2 ^ 16 = omega (arith, h.2 0, h.2 1) in
-      (subst (λ (front : List ℕ). Splits bytes front x.1) (sym (be_bytes_2 x.0 _ h.1 h.2 refl)) h.0, low))
+    let low : from_be_bytes w16 x.0 < 2 ^ 16 = omega (arith, h.2 0, h.2 1) in
+    (subst (λ (front : List ℕ). Splits bytes front x.1) (sym (be_bytes_2 x.0 _ h.1 h.2 refl)) h.0, low))
 
 pub id_found : (bytes : List ℕ) → IsBytes bytes → IfOk (id_at bytes) (λ x. Splits bytes (number x.0) x.1 × (x.0 < 2 ^ 16) × (0 < x.0))
 unfolding id_at
 id_found bytes fits =
     let Q : ℕ × List ℕ → Type 0 = λ x. Splits bytes (number x.0) x.1 × (x.0 < 2 ^ 16) × (0 < x.0) in
     then_if (number_at bytes) _ (λ x. Splits bytes (number x.0) x.1 × (x.0 < 2 ^ 16)) Q (number_found bytes fits) (λ x h.
-      check_if (ltb 0 x.0) _ _ Q (λ t. (h.0, h.1, ltb-true _ _ t)))
+    check_if (ltb 0 x.0) _ _ Q (λ t. (h.0, h.1, ltb-true _ _ t)))
 
 pub text_of_found : (bytes : List ℕ) → IfOk (text_of bytes) (λ x. (x ≡ bytes) × (is_text x ≡ true))
 text_of_found bytes =
@@ -83,12 +79,12 @@ unfolding text_at
 text_found bytes fits =
     let Q : List ℕ × List ℕ → Type 0 = λ x. Splits bytes (text x.0) x.1 × (length x.0 < 2 ^ 16) × (is_text x.0 ≡ true) in
     then_if (number_at bytes) _ (λ x. Splits bytes (number x.0) x.1 × (x.0 < 2 ^ 16)) Q (number_found bytes fits) (λ n h.
-      then_if (front_at n.0 n.1) _ (λ x. Splits n.1 x.0 x.1 × (length x.0 ≡ n.0) × IsBytes x.0) Q (front_found n.0 n.1 h.0.left) (λ x k.
-        then_if (text_of x.0) _ (λ y. (y ≡ x.0) × (is_text y ≡ true)) Q (text_of_found x.0) (λ y t.
-          let counted : length y ≡ n.0 = ap length t.0 ∙ k.1 in
-          let both : Splits bytes (number n.0 ++ x.0) x.1 = Splits-then bytes (number n.0) n.1 x.0 x.1 h.0 k.0 in
-          let renamed : Splits bytes (number n.0 ++ y) x.1 = subst (λ (z : List ℕ). Splits bytes (number n.0 ++ z) x.1) (sym t.0) both in
-          (subst (λ (m : ℕ). Splits bytes (number m ++ y) x.1) (sym counted) renamed, omega (arith, counted, h.1), t.1))))
+    then_if (front_at n.0 n.1) _ (λ x. Splits n.1 x.0 x.1 × (length x.0 ≡ n.0) × IsBytes x.0) Q (front_found n.0 n.1 h.0.left) (λ x k.
+    then_if (text_of x.0) _ (λ y. (y ≡ x.0) × (is_text y ≡ true)) Q (text_of_found x.0) (λ y t.
+    let counted : length y ≡ n.0 = ap length t.0 ∙ k.1 in
+    let both : Splits bytes (number n.0 ++ x.0) x.1 = Splits-then bytes (number n.0) n.1 x.0 x.1 h.0 k.0 in
+    let renamed : Splits bytes (number n.0 ++ y) x.1 = subst (λ (z : List ℕ). Splits bytes (number n.0 ++ z) x.1) (sym t.0) both in
+    (subst (λ (m : ℕ). Splits bytes (number m ++ y) x.1) (sym counted) renamed, omega (arith, counted, h.1), t.1))))
 
 pub ended_found : (bytes : List ℕ) → IfOk (ended bytes) (λ _. bytes ≡ [])
 ended_found [] = refl

@@ -1,12 +1,10 @@
 -- A first byte says what it spells, and what it spells is what it says.
-use Rattle.std.proofs.Common.{
-  ◌≡◌, ℕ, ◌+◌, ◌*◌, ◌/◌, ◌%◌, ◌<◌, Bool, true, false, eqb, Result, Ok, Err, refl, sym, ap, subst, ◌∙◌, arith
-}
+use Rattle.std.proofs.Common.{◌≡◌, ℕ, ◌+◌, ◌*◌, ◌/◌, ◌%◌, true, eqb, Ok, refl, ◌∙◌, arith}
 use Rattle.std.specs.Prelude.{IfOk}
 use Rattle.std.proofs.lemmas.Bool.{eqb-true}
 use Rattle.packet_base.specs.declared.header.Header.{Header}
 use Rattle.packet_base.specs.declared.header.Header.TheVariants as headers
-use Rattle.packet_base.specs.Header.{first_byte, plain_header, typed_header, header_of}
+use Rattle.packet_base.specs.Header.{first_byte, plain_header, header_of}
 use Rattle.packet_base.proofs.Steps.{cond_if}
 
 -- a type whose flags are always the same
@@ -15,8 +13,8 @@ plain_found : (header : Header) (type wanted first : ℕ) → first_byte header 
 plain_found header type wanted first spelled same =
     let Q : Header → Type 0 = λ h. first_byte h ≡ first in
     cond_if (eqb (first % 16) wanted) _ _ Q
-      (λ t. spelled ∙ (let whole : 16 * type + wanted ≡ first = omega (arith, eqb-true _ _ same, eqb-true _ _ t) in whole))
-      (λ t. tt)
+    (λ t. spelled ∙ (let whole : 16 * type + wanted ≡ first = omega (arith, eqb-true _ _ same, eqb-true _ _ t) in whole))
+    (λ t. tt)
 
 pub header_found : (first : ℕ) → IfOk (header_of first) (λ h. first_byte h ≡ first)
 header_found first =

@@ -1,8 +1,5 @@
 -- Each Remaining Length below 2 ^ 28 has a form, and that form is the one that is read.
-use Rattle.std.proofs.Common.{
-  ◌≡◌, ℕ, zero, suc, ◌+◌, ◌-◌, ◌*◌, ◌/◌, ◌%◌, ◌^◌, ◌<◌, ◌≤◌, Bool, true, false, ltb, eqb, List, [], ◌∷◌, ◌++◌, length, Result,
-  Ok, Err, refl, sym, ap, subst, ◌∙◌, arith, inl, inr
-}
+use Rattle.std.proofs.Common.{◌≡◌, ℕ, zero, suc, ◌+◌, ◌-◌, ◌*◌, ◌/◌, ◌%◌, ◌^◌, ◌<◌, ◌≤◌, false, ltb, eqb, List, [], ◌∷◌, ◌++◌, length, Ok, refl, sym, ap, subst, ◌∙◌, arith, inl, inr}
 use Rattle.std.specs.Prelude.{IfOk}
 use Rattle.std.proofs.lemmas.Bool.{cases_lt, ltb-false, ltb-true, le-ltb, lt-ltb}
 use Rattle.std.proofs.Math.Nat.{pow-succ'}
@@ -35,10 +32,10 @@ length_found follow [] fits = tt
 length_found follow (b ∷ rest) fits =
     let Q : ℕ × List ℕ → Type 0 = λ x. Heads (b ∷ rest) x.0 x.1 in
     cond_if (ltb b 128) _ _ Q
-      (λ t. record { form = b ∷ []; spelled = (ltb-true _ _ t, refl); parts = refl; left = λ i. fits (suc i) })
-      (λ t. cond_if (eqb follow 0) _ _ Q (λ u. tt) (λ u.
-        then_if (length_at (follow - 1) rest) _ (λ x. Heads rest x.0 x.1) Q (length_found (follow - 1) rest (λ i. fits (suc i))) (λ x h.
-          check_if (ltb 0 x.0) _ _ Q (λ v. longer b rest x.0 x.1 (ltb-false _ _ t) (fits 0) (ltb-true _ _ v) h))))
+    (λ t. record { form = b ∷ []; spelled = (ltb-true _ _ t, refl); parts = refl; left = λ i. fits (suc i) })
+    (λ t. cond_if (eqb follow 0) _ _ Q (λ u. tt) (λ u.
+    then_if (length_at (follow - 1) rest) _ (λ x. Heads rest x.0 x.1) Q (length_found (follow - 1) rest (λ i. fits (suc i))) (λ x h.
+    check_if (ltb 0 x.0) _ _ Q (λ v. longer b rest x.0 x.1 (ltb-false _ _ t) (fits 0) (ltb-true _ _ v) h))))
 
 some_follow : (follow : ℕ) → 0 < follow → eqb follow 0 ≡ false
 some_follow zero some = absurd (omega arith)
@@ -99,6 +96,6 @@ length_left follow [] = tt
 length_left follow (b ∷ rest) =
     let Q : ℕ × List ℕ → Type 0 = λ x. (front : List ℕ) × (b ∷ rest ≡ front ++ x.1) in
     cond_if (ltb b 128) _ _ Q (λ t. (b ∷ [], refl)) (λ t.
-      cond_if (eqb follow 0) _ _ Q (λ u. tt) (λ u.
-        then_if (length_at (follow - 1) rest) _ (λ x. (front : List ℕ) × (rest ≡ front ++ x.1)) Q (length_left (follow - 1) rest) (λ x h.
-          check_if (ltb 0 x.0) _ _ Q (λ v. (b ∷ h.0, ap (λ (z : List ℕ). b ∷ z) h.1)))))
+    cond_if (eqb follow 0) _ _ Q (λ u. tt) (λ u.
+    then_if (length_at (follow - 1) rest) _ (λ x. (front : List ℕ) × (rest ≡ front ++ x.1)) Q (length_left (follow - 1) rest) (λ x h.
+    check_if (ltb 0 x.0) _ _ Q (λ v. (b ∷ h.0, ap (λ (z : List ℕ). b ∷ z) h.1)))))

@@ -1,8 +1,6 @@
 -- How the outcome of a call agrees with what reading gives. Want of memory may come at any time.
 use Rattle.std.specs.Prelude.{◌≡◌, ℕ, List, Result, Ok, Err}
-use Rattle.topics.specs.declared.malformed.MalformedKind.{MalformedKind}
 use Rattle.topics.specs.declared.malformed.MalformedKind.TheVariants as kinds
-use Rattle.packet_base.specs.declared.refusal_code.RefusalCode.{RefusalCode}
 use Rattle.packet_base.specs.declared.stop.Stop.{Stop}
 use Rattle.packet_base.specs.declared.stop.Stop.TheVariants as stops
 

@@ -1,28 +1,5 @@
 -- Reading from left to right, with the first fault that is met.
-use Rattle.std.specs.Prelude.{
-  ◌≡◌,
-  ℕ,
-  ◌+◌,
-  ◌-◌,
-  ◌*◌,
-  nat_lt,
-  ◌==◌,
-  Bool,
-  true,
-  false,
-  not,
-  ◌&&◌,
-  if◌then◌else◌,
-  List,
-  [],
-  ◌∷◌,
-  length,
-  take,
-  drop,
-  Result,
-  Ok,
-  Err,
-}
+use Rattle.std.specs.Prelude.{ℕ, ◌+◌, ◌-◌, ◌*◌, nat_lt, ◌==◌, Bool, true, false, not, ◌&&◌, if◌then◌else◌, List, [], ◌∷◌, length, take, drop, Result, Ok, Err}
 use Rattle.std.specs.Int.{w16, from_be_bytes}
 use Rattle.std.specs.List.{list_any}
 use Rattle.std.specs.Str.{is_utf8}
@@ -109,5 +86,5 @@ length_at follow (b ∷ rest) =
     if nat_lt b 128 then Ok (b, rest) else
     if follow == 0 then malformed kinds.Length else
     length_at (follow - 1) rest >>= (λ high.
-      check (nat_lt 0 high.0) (stops.Malformed kinds.Length)
-      >> Ok (b - 128 + 128 * high.0, high.1))
+    check (nat_lt 0 high.0) (stops.Malformed kinds.Length)
+    >> Ok (b - 128 + 128 * high.0, high.1))

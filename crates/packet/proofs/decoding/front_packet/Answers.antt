@@ -5,18 +5,18 @@ use Rattle.packet.proofs.decoding.front_packet.Goals as goal
 pub returns-clause-exact : goal.returns-clause-exact
 returns-clause-exact c =
     verdict_whole
-      c.args.first
-      c.args.behind.now
-      c.in_ok-len.rest.now
-      c.new.result
-      c.split_at.result.1.now
-      c.in_ok-header.header
-      c.in_ok-len.len
-      c.in_ok-packet.packet
-      (sym c.in_ok-header.ensures)
-      c.in_ok-len.ensures.exact
-      (omega arith)
-      (omega arith)
-      (c.new.ensures ∙ c.split_at.ensures.front)
-      c.split_at.ensures.back
-      c.in_ok-packet.ensures
+    c.args.first
+    c.args.behind.now
+    c.in_ok-len.rest.now
+    c.new.result
+    c.split_at.result.1.now
+    c.in_ok-header.header
+    c.in_ok-len.len
+    c.in_ok-packet.packet
+    (sym c.in_ok-header.ensures)
+    c.in_ok-len.ensures.exact
+    (omega arith)
+    (omega arith)
+    (c.new.ensures ∙ c.split_at.ensures.front)
+    c.split_at.ensures.back
+    c.in_ok-packet.ensures

@@ -1,4 +1,4 @@
-use Rattle.std.proofs.Common.{◌≡◌, ℕ, ◌∷◌, [], ◌++◌, ◌%◌, ◌+◌, ◌∙◌, refl, sym, arith}
+use Rattle.std.proofs.Common.{◌∷◌, [], ◌%◌, ◌+◌, ◌∙◌, refl, arith}
 use Rattle.packet_base.proofs.Lengths.{bytes_step, length_longer, pushed}
 use Rattle.packet_base.proofs.remaining_length.put_length.Goals as goal
 
@@ -15,9 +15,9 @@ loop-rest-preserved c =
       );
       capacity = omega (arith, c.push_reserved.ensures.capacity, c.loop-rest.invariant.capacity);
       completed = λ tail spelled.
-        let all = c.loop-rest.invariant.completed
-              ((n % 128 + 128) ∷ tail) (length_longer n tail c.loop-rest-test.true spelled) in
-        (all.0, all.1, pushed _ _ tail _ c.push_reserved.ensures.items ∙ all.2);
+          let all = c.loop-rest.invariant.completed
+          ((n % 128 + 128) ∷ tail) (length_longer n tail c.loop-rest-test.true spelled) in
+          (all.0, all.1, pushed _ _ tail _ c.push_reserved.ensures.items ∙ all.2);
     }
 
 pub returns-clause-spelled : goal.returns-clause-spelled
