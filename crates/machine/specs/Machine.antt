@@ -3,15 +3,19 @@ use Rattle.std.specs.Prelude.{ℕ, List, [], ◌∷◌, Option, Some, None, slic
 use Rattle.machine.specs.declared.error.ThawFault.{ThawFault}
 use Rattle.machine.specs.declared.error.ThawFault.TheVariants.{Shape, Memory}
 
--- where the machine begins, what a command makes of a state, and what the command gives there
+-- where the machine begins, which command begins a ballot, what a command makes of a state, and
+-- what it gives there
 pub record Rules (S C O : Type 0) : Type 0 where
   pub opening : S
+  pub start_of : ℕ → C
   pub after : S → C → S
   pub gives : S → C → List O
 
 -- the rules of a machine, from its members
-abbrev pub rules_by : {S C O : Type 0} → S → (S → C → S) → (S → C → List O) → Rules S C O
-rules_by opening after gives = record { opening = opening; after = after; gives = gives }
+abbrev pub rules_by : {S C O : Type 0} →
+  S → (ℕ → C) → (S → C → S) → (S → C → List O) → Rules S C O
+rules_by opening start_of after gives =
+    record { opening = opening; start_of = start_of; after = after; gives = gives }
 
 -- the state after commands that were done one after the other from the state s
 abbrev pub replay_from : {S C O : Type 0} → Rules S C O → S → List C → S
