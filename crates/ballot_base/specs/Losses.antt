@@ -33,6 +33,16 @@ Steps old outcome new given =
     ((new.state ≡ outcome.state) × (given ≡ outcome.effects) × (new.losses ≡ old.losses))
         ⊎ (Loses old.state outcome new.state given × (new.losses ≡ one_more old.losses))
 
+-- the step was done, perhaps with messages missing, which was counted
+pub record Done {C O : Type 0} (old : Counted C) (outcome : Outcome C O) (new : Counted C)
+    (before behind : List (Effect C O)) : Type 0 where
+  pub given : List (Effect C O)
+  pub appended : behind ≡ before ++ given
+  pub state : new.state ≡ outcome.state
+  pub thinned : Thinned given outcome.effects
+  pub counted : ((given ≡ outcome.effects) × (new.losses ≡ old.losses))
+    ⊎ (new.losses ≡ one_more old.losses)
+
 -- a call's effects were appended behind what was there, and they are those of the step
 pub record Stepped {C O : Type 0} (old : Counted C) (outcome : Outcome C O) (new : Counted C)
     (before behind : List (Effect C O)) : Type 0 where

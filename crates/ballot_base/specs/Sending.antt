@@ -29,9 +29,7 @@ abbrev pub message_to_each : {C : Type 0} (O : Type 0) → ℕ → Body C → Li
 message_to_each O id body receivers = map (message_to O id body) receivers
 
 abbrev pub message_to_marked : {C : Type 0} (O : Type 0) → ℕ → Body C → List Mark → List (Effect C O)
-message_to_marked O id body [] = []
-message_to_marked O id body (mark ∷ marks) =
-    message_to O id body mark.member ∷ message_to_marked O id body marks
+message_to_marked O id body marks = map (λ mark. message_to O id body mark.member) marks
 
 -- an outcome behind messages that were sent first
 abbrev pub sent_first : {C O : Type 0} → List (Effect C O) → Outcome C O → Outcome C O
