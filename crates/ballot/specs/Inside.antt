@@ -1,5 +1,5 @@
 -- Inside.antt: what the helpers of a replica say of the list of effects.
-use Rattle.std.specs.Prelude.{◌≡◌, Bool, true, false, List, ◌++◌}
+use Rattle.std.specs.Prelude.{◌≡◌, Bool, true, List, ◌++◌}
 use Rattle.ballot_base.specs.declared.message.Effect.{Effect}
 use Rattle.ballot_base.specs.Losses.{Thinned, halted, one_more}
 use Rattle.ballot_base.specs.Replica.{Counted}

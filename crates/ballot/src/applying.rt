@@ -36,18 +36,13 @@ pub fn apply_places<M: Machine>(
 ) -> Result<(), Halted>
     requires rising { from ≤ to }
     requires within { to ≤ length log.now }
-    requires applied {
-        machine.old ≡ replay (rules_by M.opening M.start_of M.after M.gives) (take from log.now)
-    }
-    ensures state {
-        OnOk result
-            (machine.new ≡ replay (rules_by M.opening M.start_of M.after M.gives) (take to log.now))
-    }
-    ensures outputs {
-        OnOk result
-            (out.new.items ≡ out.old.items ++
-                outputs_between (rules_by M.opening M.start_of M.after M.gives) log.now from to)
-    }
+    requires applied { machine.old ≡
+        replay (rules_by M.opening M.start_of M.after M.gives) (take from log.now) }
+    ensures state { OnOk result
+        (machine.new ≡ replay (rules_by M.opening M.start_of M.after M.gives) (take to log.now)) }
+    ensures outputs { OnOk result
+        (out.new.items ≡ out.old.items ++
+        outputs_between (rules_by M.opening M.start_of M.after M.gives) log.now from to) }
     ensures err { OnErr result (Grows out.old.items out.new.items) }
 {
     for place in from..to {

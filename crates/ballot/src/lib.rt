@@ -7,9 +7,9 @@ mod error;
 mod marking;
 mod replica;
 mod sending;
-
 #[cfg(test)]
 mod tests;
 
+pub use ballot_base::{Body, Config, Effect, Log, Members, Message, Role, Status};
 pub use error::{OpeningError, ProposeError};
 pub use replica::Replica;

@@ -60,16 +60,16 @@ impl<M: Machine> Model for Replica<M> {
             previous_members = [];
             noted = [];
             marks = r.marks.items;
-            stopped = r.stopped
+            stopped = r.stopped;
           };
-          losses = r.losses
-        }
-    };
+          losses = r.losses;
+        } };
 
     ghost invariant = { λ r.
         (r.committed ≤ length r.log.items) ×
-        (r.stopped ≡ false → r.machine ≡ replay (rules_by M.opening M.start_of M.after M.gives) (take r.committed r.log.items))
-    };
+        (r.stopped ≡ false →
+        r.machine ≡ replay (rules_by M.opening M.start_of M.after M.gives)
+        (take r.committed r.log.items)) };
 }
 
 impl<M: Machine> Replica<M> {
@@ -77,14 +77,10 @@ impl<M: Machine> Replica<M> {
     pub fn new(alloc: Global, id: u8, config: &Config) -> Result<Replica<M>, OpeningError>
         requires low { 1 ≤ id }
         requires high { id ≤ 15 }
-        ensures ok {
-            IfOk result (λ replica.
-                replica ≡ record { state = opening M.Command id config.now; losses = 0 })
-        }
-        ensures bad {
-            IsErrOf result OpeningError.BadMembers
-                ↔ (is_lawful config.now.members config.now.primary ≡ false)
-        }
+        ensures ok { IfOk result (λ replica.
+            replica ≡ record { state = opening M.Command id config.now; losses = 0 }) }
+        ensures bad { IsErrOf result OpeningError.BadMembers
+            ↔ (is_lawful config.now.members config.now.primary ≡ false) }
     {
         if !config.is_lawful() {
             return Err(OpeningError::BadMembers);
@@ -134,51 +130,39 @@ impl<M: Machine> Replica<M> {
         self.losses
     }
 
-    /// Takes a command into the log of an active primary. Its outputs come out, with its place, once
-    /// every member is known to hold it: for a sole member in this call, else in a later one. Where
-    /// memory is wanting for a message, that message is lost.
+    /// Takes a command into the log of an active primary. Its outputs come out, with its place,
+    /// once every member is known to hold it: for a sole member in this call, else in a later one.
+    /// Where memory is wanting for a message, that message is lost.
     pub fn propose(
         &mut self,
         command: M::Command,
         out: &mut Vec<Effect<M::Command, M::Output>>,
     ) -> Result<(), ProposeError>
         // The protocol's step, or one in which memory was wanting and that was counted.
-        ensures step {
-            self.old.state.stopped ≡ false →
-                Stepped self.old
-                    (proposed (rules_by M.opening M.start_of M.after M.gives) self.old.state command)
-                    self.new out.old.items out.new.items
-        }
-        ensures done {
-            OnOk result
-                (Done self.old
-                    (added (rules_by M.opening M.start_of M.after M.gives) self.old.state command)
-                    self.new out.old.items out.new.items)
-        }
+        ensures step { self.old.state.stopped ≡ false →
+            Stepped self.old
+            (proposed (rules_by M.opening M.start_of M.after M.gives) self.old.state command)
+            self.new out.old.items out.new.items }
+        ensures done { OnOk result
+            (Done self.old
+            (added (rules_by M.opening M.start_of M.after M.gives) self.old.state command)
+            self.new out.old.items out.new.items) }
 
         // When each refusal comes; want of memory alone is free to come at any time.
         ensures halted { IsErrOf result ProposeError.Halted ↔ (self.new.state.stopped ≡ true) }
-        ensures not_active {
-            IsErrOf result ProposeError.NotActive
-                ↔ ((self.old.state.stopped ≡ false) × (is_active self.old.state.role ≡ false))
-        }
-        ensures full {
-            IsErrOf result ProposeError.LogFull
-                ↔ ((self.old.state.stopped ≡ false) ×
-                    (is_active self.old.state.role ≡ true) ×
-                    (most_places ≤ length self.old.state.log))
-        }
+        ensures not_active { IsErrOf result ProposeError.NotActive
+            ↔ ((self.old.state.stopped ≡ false) × (is_active self.old.state.role ≡ false)) }
+        ensures full { IsErrOf result ProposeError.LogFull
+            ↔ ((self.old.state.stopped ≡ false) ×
+            (is_active self.old.state.role ≡ true) ×
+            (most_places ≤ length self.old.state.log)) }
 
         // What stays.
-        ensures memory {
-            IsErrOf result ProposeError.Memory →
-                self.new ≡ record self.old { losses = one_more self.old.losses }
-        }
-        ensures same {
-            (self.old.state.stopped ≡ true)
-                ⊎ (IsErrOf result ProposeError.NotActive ⊎ IsErrOf result ProposeError.LogFull) →
-                self.new ≡ self.old
-        }
+        ensures memory { IsErrOf result ProposeError.Memory →
+            self.new ≡ record self.old { losses = one_more self.old.losses } }
+        ensures same { (self.old.state.stopped ≡ true)
+            ⊎ (IsErrOf result ProposeError.NotActive ⊎ IsErrOf result ProposeError.LogFull) →
+            self.new ≡ self.old }
         ensures err { OnErr result (out.new.items ≡ out.old.items) }
     {
         if self.stopped {
@@ -193,22 +177,20 @@ impl<M: Machine> Replica<M> {
         self.add(command, out)
     }
 
-    // Adds a command behind the log, sends it to the other members and commits what all hold. A call
-    // that fails takes back what it did.
+    // Adds a command behind the log, sends it to the other members and commits what all hold. A
+    // call that fails takes back what it did.
     fn add(
         &mut self,
         command: M::Command,
         out: &mut Vec<Effect<M::Command, M::Output>>,
     ) -> Result<(), ProposeError>
         requires { self.old.state.stopped ≡ false }
-        ensures outcome {
-            MatchResult result
-                (λ _.
-                    Done self.old
-                        (added (rules_by M.opening M.start_of M.after M.gives) self.old.state command)
-                        self.new out.old.items out.new.items)
-                (λ error. Lacks error self.old self.new)
-        }
+        ensures outcome { MatchResult result
+            (λ _.
+            Done self.old
+            (added (rules_by M.opening M.start_of M.after M.gives) self.old.state command)
+            self.new out.old.items out.new.items)
+            (λ error. Lacks error self.old self.new) }
         ensures err { OnErr result (out.new.items ≡ out.old.items) }
     {
         let before = out.len();
@@ -252,21 +234,18 @@ impl<M: Machine> Replica<M> {
     ) -> Result<bool, Halted>
         requires running { self.old.state.stopped ≡ false }
         requires within { held ≤ length self.old.state.log }
-        ensures state {
-            OnOk result
-                (self.new ≡ record self.old {
-                    state =
-                        (commit_at (rules_by M.opening M.start_of M.after M.gives) self.old.state held).state
-                })
-        }
-        ensures effects {
-            IfOk result
-                (Sends out.old.items out.new.items
-                    (commit_at (rules_by M.opening M.start_of M.after M.gives) self.old.state held).effects)
-        }
-        ensures stops {
-            OnErr result (self.new ≡ record self.old { state = halted self.old.state })
-        }
+        ensures state { OnOk result
+            (self.new ≡ record self.old {
+              state =
+                  (commit_at (rules_by M.opening M.start_of M.after M.gives)
+                  self.old.state held).state;
+            }) }
+        ensures effects { IfOk result
+            (Sends out.old.items out.new.items
+            (commit_at (rules_by M.opening M.start_of M.after M.gives)
+            self.old.state held).effects) }
+        ensures stops { OnErr result
+            (self.new ≡ record self.old { state = halted self.old.state }) }
         ensures err { OnErr result (Grows out.old.items out.new.items) }
     {
         if held <= self.committed {
@@ -287,11 +266,9 @@ impl<M: Machine> Replica<M> {
 
     // Counts a call in which memory was wanting.
     fn count(&mut self, whole: bool)
-        ensures {
-            self.new ≡ record self.old {
-                losses = if whole then self.old.losses else one_more self.old.losses
-            }
-        }
+        ensures { self.new ≡ record self.old {
+          losses = if whole then self.old.losses else one_more self.old.losses;
+        } }
     {
         if !whole {
             self.losses = self.losses.saturating_add(1);

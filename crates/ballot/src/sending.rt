@@ -29,10 +29,8 @@ fn send_append<M: Machine>(
     receiver: u8,
     out: &mut Vec<Effect<M::Command, M::Output>>,
 ) -> bool
-    ensures {
-        Sends out.old.items out.new.items
-            (message_to M.Output from (Body.Append ballot place command.now) receiver ∷ []) result
-    }
+    ensures { Sends out.old.items out.new.items
+        (message_to M.Output from (Body.Append ballot place command.now) receiver ∷ []) result }
 {
     match M::copy(alloc, command) {
         Ok(copied) => {
@@ -53,10 +51,8 @@ pub fn send_appends<M: Machine>(
     marks: &[Mark],
     out: &mut Vec<Effect<M::Command, M::Output>>,
 ) -> bool
-    ensures {
-        Sends out.old.items out.new.items
-            (message_to_marked M.Output from (Body.Append ballot place command.now) marks.now) result
-    }
+    ensures { Sends out.old.items out.new.items
+        (message_to_marked M.Output from (Body.Append ballot place command.now) marks.now) result }
 {
     let mut whole = true;
     for mark in marks {
@@ -74,10 +70,8 @@ pub fn send_commits<C: Drop, O: Drop>(
     marks: &[Mark],
     out: &mut Vec<Effect<C, O>>,
 ) -> bool
-    ensures {
-        Sends out.old.items out.new.items
-            (message_to_marked O from (Body.Commit ballot committed) marks.now) result
-    }
+    ensures { Sends out.old.items out.new.items
+        (message_to_marked O from (Body.Commit ballot committed) marks.now) result }
 {
     let mut whole = true;
     for mark in marks {

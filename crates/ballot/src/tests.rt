@@ -51,7 +51,10 @@ fn bad_members_are_refused(rt: HostRuntime) -> Result<(), Fail> {
     for (members, primary) in rows {
         let config = config(rt.alloc(), members, primary)?;
         let opened = Replica::<Tally>::new(rt.alloc(), 1, &config);
-        assert!(rt; matches!(&opened, Err(OpeningError::BadMembers)), "at {members:?}");
+        assert!(rt;
+            matches!(&opened, Err(OpeningError::BadMembers)),
+            "at {members:?}"
+        );
     }
     let config = config(rt.alloc(), &[1, 2, 3, 4, 5, 6, 15], 15)?;
     let replica = Replica::<Tally>::new(rt.alloc(), 7, &config)?;

@@ -11,7 +11,7 @@ Thinned-same (x ∷ xs) = keeps (Thinned-same xs)
 
 -- two thinned lists are one
 pub Thinned-append : {C O : Type 0} {xs ys us vs : List (Effect C O)} →
-  Thinned xs ys → Thinned us vs → Thinned (xs ++ us) (ys ++ vs)
+    Thinned xs ys → Thinned us vs → Thinned (xs ++ us) (ys ++ vs)
 Thinned-append none q = q
 Thinned-append (keeps p) q = keeps (Thinned-append p q)
 Thinned-append (loses p) q = loses (Thinned-append p q)

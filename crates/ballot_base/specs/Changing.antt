@@ -1,23 +1,18 @@
--- Changing.antt: the rows of the protocol between ballots, from NewBallot to Activated, and the ticks of
--- a new primary. A message that a row's condition does not cover changes nothing.
-use Rattle.std.specs.Prelude.{ℕ, ◌+◌, ◌^◌, Bool, true, false, List, [], ◌∷◌, ◌++◌, length, filter, map, not, min, max, take, drop, slice_get, Option, Some, None, ◌==◌, ◌&&◌, ◌||◌, nat_lt, nat_le, if◌then◌else◌}
-use Rattle.std.specs.List.{list_any, list_all, flat_map}
-use Rattle.machine.specs.Machine.{Rules, replay}
-use Rattle.ballot_base.specs.declared.message.Message.{Message}
-use Rattle.ballot_base.specs.declared.message.Body.{Body}
-use Rattle.ballot_base.specs.declared.message.Body.TheVariants.{NewBallot, Join, State, Install, Installed, Activate, Activated, Superseded, Append, Held, Commit}
+-- Changing.antt: the rows of the protocol between ballots, from NewBallot to Activated, and the
+-- ticks of a new primary. A message that a row's condition does not cover changes nothing.
+use Rattle.std.specs.Prelude.{ℕ, List, [], ◌∷◌, ◌++◌, length, filter, not, ◌==◌, ◌&&◌, ◌||◌, nat_lt, nat_le, if◌then◌else◌}
+use Rattle.std.specs.List.{list_any}
+use Rattle.machine.specs.Machine.{Rules}
+use Rattle.ballot_base.specs.declared.message.Body.TheVariants.{Join, State, Install, Installed, Activate}
 use Rattle.ballot_base.specs.declared.message.Effect.{Effect}
-use Rattle.ballot_base.specs.declared.message.Effect.TheVariants.{To, Out}
-use Rattle.ballot_base.specs.declared.status.Mark.{Mark}
-use Rattle.ballot_base.specs.declared.status.Role.{Role}
 use Rattle.ballot_base.specs.declared.status.Role.TheVariants.{Backup, Fetching, Installing, Active}
-use Rattle.ballot_base.specs.Sending.{Outcome, nothing_done, message_to, message_to_each, message_to_marked, sent_first, master}
+use Rattle.ballot_base.specs.Sending.{Outcome, nothing_done, message_to, message_to_each, master}
 use Rattle.ballot_base.specs.Serving.{most_places, added}
-use Rattle.ballot_base.specs.Replica.{ReplicaState, is_active, is_backup, is_fetching, is_installing, others, marks_at}
+use Rattle.ballot_base.specs.Replica.{ReplicaState, is_fetching, is_installing, others, marks_at}
 
 -- a new primary asks the earlier ballot's members, itself included where it is one, for their logs
 unfoldable pub on_new_ballot : {C : Type 0} (O : Type 0) →
-  ReplicaState C → ℕ → List ℕ → ℕ → List ℕ → Outcome C O
+    ReplicaState C → ℕ → List ℕ → ℕ → List ℕ → Outcome C O
 on_new_ballot O r ballot members previous previous_members =
     if nat_lt r.joined ballot
     then record {
@@ -28,9 +23,9 @@ on_new_ballot O r ballot members previous previous_members =
         previous = previous;
         previous_members = previous_members;
         noted = [];
-        marks = []
+        marks = [];
       };
-      effects = message_to_each O r.id (Join ballot previous) previous_members
+      effects = message_to_each O r.id (Join ballot previous) previous_members;
     }
     else nothing_done O r
 
@@ -40,7 +35,7 @@ on_join O r from ballot previous =
     if nat_le r.joined ballot && nat_le previous r.held_in
     then record {
       state = if nat_lt r.joined ballot then record r { joined = ballot; role = Backup } else r;
-      effects = message_to O r.id (State ballot r.log) from ∷ []
+      effects = message_to O r.id (State ballot r.log) from ∷ [];
     }
     else nothing_done O r
 
@@ -60,14 +55,15 @@ on_state O r ballot log =
 
 -- Install(ballot, log): a log is taken once, unless it lacks an applied place; later it is only
 -- answered, since more may have been added behind it
-unfoldable pub on_install : {C : Type 0} (O : Type 0) → ReplicaState C → ℕ → ℕ → List C → Outcome C O
+unfoldable pub on_install : {C : Type 0} (O : Type 0) →
+    ReplicaState C → ℕ → ℕ → List C → Outcome C O
 on_install O r from ballot log =
     let installed = message_to O r.id (Installed ballot (length log)) from ∷ [] in
     if (nat_lt r.joined ballot || (r.joined == ballot && nat_lt r.held_in ballot))
-        && nat_le r.committed (length log)
+    && nat_le r.committed (length log)
     then record {
       state = record r { joined = ballot; held_in = ballot; log = log; role = Backup };
-      effects = installed
+      effects = installed;
     }
     else if r.joined == ballot && r.held_in == ballot
     then record { state = r; effects = installed }
@@ -83,7 +79,7 @@ unfoldable pub on_installed : {C : Type 0} (O : Type 0) → ReplicaState C → �
 on_installed O r from ballot =
     let noted = record r { noted = r.noted ++ from ∷ [] } in
     if (r.joined == ballot && is_installing r.role)
-        && list_any (λ member. member == from) (not_noted r)
+    && list_any (λ member. member == from) (not_noted r)
     then record { state = noted; effects = activates O noted (not_noted noted) }
     else nothing_done O r
   where
@@ -98,10 +94,10 @@ on_activated {O = O} rules r ballot =
     let active = record r {
       role = Active;
       committed = length r.log;
-      marks = marks_at (length r.log) (others r.id r.members)
+      marks = marks_at (length r.log) (others r.id r.members);
     } in
     if (r.joined == ballot && is_installing r.role)
-        && (nat_le (length (not_noted r)) 0 && nat_lt (length r.log) most_places)
+    && (nat_le (length (not_noted r)) 0 && nat_lt (length r.log) most_places)
     then added rules active (rules.start_of ballot)
     else nothing_done O r
 
@@ -117,7 +113,7 @@ abbrev pub on_tick_fetching : {C : Type 0} (O : Type 0) → ReplicaState C → O
 on_tick_fetching O r =
     record {
       state = r;
-      effects = message_to_each O r.id (Join r.joined r.previous) r.previous_members
+      effects = message_to_each O r.id (Join r.joined r.previous) r.previous_members;
     }
 
 abbrev pub on_tick_installing : {C : Type 0} (O : Type 0) → ReplicaState C → Outcome C O

@@ -1,5 +1,5 @@
 -- Config.antt: which members and primary a ballot may have.
-use Rattle.std.specs.Prelude.{ℕ, Bool, true, false, List, [], ◌∷◌, length, ◌&&◌, ◌==◌, nat_lt, nat_le}
+use Rattle.std.specs.Prelude.{ℕ, Bool, true, List, [], ◌∷◌, length, ◌&&◌, ◌==◌, nat_lt, nat_le}
 use Rattle.std.specs.List.{list_any}
 
 -- the numbers rise strictly from above `last`, up to 15
@@ -12,5 +12,5 @@ are_rising last (member ∷ members) =
 abbrev pub is_lawful : List ℕ → ℕ → Bool
 is_lawful members primary =
     are_rising 0 members
-        && (nat_le 1 (length members)
-            && (nat_le (length members) 7 && list_any (λ member. member == primary) members))
+    && (nat_le 1 (length members)
+    && (nat_le (length members) 7 && list_any (λ member. member == primary) members))

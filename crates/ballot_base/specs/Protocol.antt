@@ -1,19 +1,15 @@
 -- Protocol.antt: the step of a replica on a message, a proposal or a tick.
-use Rattle.std.specs.Prelude.{ℕ, ◌+◌, ◌^◌, Bool, true, false, List, [], ◌∷◌, ◌++◌, length, filter, map, not, min, max, take, drop, slice_get, Option, Some, None, ◌==◌, ◌&&◌, ◌||◌, nat_lt, nat_le, if◌then◌else◌}
-use Rattle.std.specs.List.{list_any, list_all, flat_map}
-use Rattle.machine.specs.Machine.{Rules, replay}
+use Rattle.std.specs.Prelude.{ℕ, Bool, true, false, if◌then◌else◌}
+use Rattle.machine.specs.Machine.{Rules}
 use Rattle.ballot_base.specs.declared.message.Message.{Message}
 use Rattle.ballot_base.specs.declared.message.Body.{Body}
 use Rattle.ballot_base.specs.declared.message.Body.TheVariants.{NewBallot, Join, State, Install, Installed, Activate, Activated, Superseded, Append, Held, Commit}
-use Rattle.ballot_base.specs.declared.message.Effect.{Effect}
-use Rattle.ballot_base.specs.declared.message.Effect.TheVariants.{To, Out}
-use Rattle.ballot_base.specs.declared.status.Mark.{Mark}
 use Rattle.ballot_base.specs.declared.status.Role.{Role}
 use Rattle.ballot_base.specs.declared.status.Role.TheVariants.{Backup, Fetching, Installing, Active}
 use Rattle.ballot_base.specs.Sending.{Outcome, nothing_done}
 use Rattle.ballot_base.specs.Serving.{proposed, on_append, on_held, on_commit, on_tick_active}
 use Rattle.ballot_base.specs.Changing.{on_new_ballot, on_join, on_state, on_install, on_installed, on_activated, on_superseded, on_tick_fetching, on_tick_installing}
-use Rattle.ballot_base.specs.Replica.{ReplicaState, is_active, is_backup, is_fetching, is_installing, others, marks_at}
+use Rattle.ballot_base.specs.Replica.{ReplicaState, is_active}
 
 -- what a replica takes in at one step
 pub data Input (C : Type 0) : Type 0 where
@@ -32,7 +28,8 @@ received {O = O} rules r from (Installed ballot held) = on_installed O r from ba
 received {O = O} rules r from (Activate ballot) = nothing_done O r
 received {O = O} rules r from (Activated ballot) = on_activated rules r ballot
 received {O = O} rules r from (Superseded ballot) = on_superseded O r ballot
-received {O = O} rules r from (Append ballot place command) = on_append O r from ballot place command
+received {O = O} rules r from (Append ballot place command) =
+    on_append O r from ballot place command
 received {O = O} rules r from (Held ballot held) = on_held rules r from ballot held
 received {O = O} rules r from (Commit ballot held) = on_commit O r ballot held
 
@@ -57,7 +54,8 @@ changes_ballots (Commit ballot held) = false
 changes_ballots _ = true
 
 -- the step of a replica that stays in one ballot: messages of a change of ballots are ignored
-abbrev pub step_in_one_ballot : {S C O : Type 0} → Rules S C O → ReplicaState C → Input C → Outcome C O
+abbrev pub step_in_one_ballot : {S C O : Type 0} →
+    Rules S C O → ReplicaState C → Input C → Outcome C O
 step_in_one_ballot {O = O} rules r (Receives message) =
     if changes_ballots message.body
     then nothing_done O r

@@ -1,5 +1,5 @@
 -- Replica.antt: what a replica keeps, and how it opens.
-use Rattle.std.specs.Prelude.{ℕ, Bool, true, false, List, [], ◌∷◌, length, filter, map, not, ◌==◌, if◌then◌else◌}
+use Rattle.std.specs.Prelude.{ℕ, Bool, true, false, List, [], length, filter, map, not, ◌==◌, if◌then◌else◌}
 use Rattle.ballot_base.specs.declared.config.Config.{Config}
 use Rattle.ballot_base.specs.declared.status.Mark.{Mark}
 use Rattle.ballot_base.specs.declared.status.Role.{Role}
@@ -83,7 +83,7 @@ opening_member C id config =
       previous_members = [];
       noted = [];
       marks = [];
-      stopped = false
+      stopped = false;
     }
 
 -- how a node opens: the primary of ballot 1 is active at once, with mark 0 for each other member
@@ -93,7 +93,7 @@ opening C id config =
     then record (opening_member C id config) {
       role = Active;
       members = config.members;
-      marks = marks_at 0 (others id config.members)
+      marks = marks_at 0 (others id config.members);
     }
     else opening_member C id config
 
@@ -105,5 +105,5 @@ status_of r =
       role = r.role;
       held = length r.log;
       committed = r.committed;
-      stopped = r.stopped
+      stopped = r.stopped;
     }

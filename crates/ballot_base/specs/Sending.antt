@@ -1,16 +1,10 @@
 -- Sending.antt: what a step makes of a replica and hands out.
-use Rattle.std.specs.Prelude.{ℕ, ◌+◌, ◌^◌, Bool, true, false, List, [], ◌∷◌, ◌++◌, length, filter, map, not, min, max, take, drop, slice_get, Option, Some, None, ◌==◌, ◌&&◌, ◌||◌, nat_lt, nat_le, if◌then◌else◌}
-use Rattle.std.specs.List.{list_any, list_all, flat_map}
-use Rattle.machine.specs.Machine.{Rules, replay}
-use Rattle.ballot_base.specs.declared.message.Message.{Message}
+use Rattle.std.specs.Prelude.{ℕ, List, [], ◌++◌, map}
 use Rattle.ballot_base.specs.declared.message.Body.{Body}
-use Rattle.ballot_base.specs.declared.message.Body.TheVariants.{NewBallot, Join, State, Install, Installed, Activate, Activated, Superseded, Append, Held, Commit}
 use Rattle.ballot_base.specs.declared.message.Effect.{Effect}
-use Rattle.ballot_base.specs.declared.message.Effect.TheVariants.{To, Out}
+use Rattle.ballot_base.specs.declared.message.Effect.TheVariants.{To}
 use Rattle.ballot_base.specs.declared.status.Mark.{Mark}
-use Rattle.ballot_base.specs.declared.status.Role.{Role}
-use Rattle.ballot_base.specs.declared.status.Role.TheVariants.{Backup, Fetching, Installing, Active}
-use Rattle.ballot_base.specs.Replica.{ReplicaState, is_active, is_backup, is_fetching, is_installing, others, marks_at}
+use Rattle.ballot_base.specs.Replica.{ReplicaState}
 
 -- what a replica is after a step, and what the step hands out
 pub record Outcome (C O : Type 0) : Type 0 where
@@ -28,13 +22,13 @@ message_to O id body receiver = To receiver (record { from = id; body = body })
 abbrev pub message_to_each : {C : Type 0} (O : Type 0) → ℕ → Body C → List ℕ → List (Effect C O)
 message_to_each O id body receivers = map (message_to O id body) receivers
 
-abbrev pub message_to_marked : {C : Type 0} (O : Type 0) → ℕ → Body C → List Mark → List (Effect C O)
+abbrev pub message_to_marked : {C : Type 0} (O : Type 0) →
+    ℕ → Body C → List Mark → List (Effect C O)
 message_to_marked O id body marks = map (λ mark. message_to O id body mark.member) marks
 
 -- an outcome behind messages that were sent first
 abbrev pub sent_first : {C O : Type 0} → List (Effect C O) → Outcome C O → Outcome C O
 sent_first effects outcome = record { state = outcome.state; effects = effects ++ outcome.effects }
-
 
 -- the number by which the master is named
 abbrev pub master : ℕ

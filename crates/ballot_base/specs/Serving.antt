@@ -1,25 +1,20 @@
--- Serving.antt: the rows of the protocol inside a ballot: Append, Held, Commit, proposals and ticks.
--- Receivers are taken in rising order. A message that a row's condition does not cover changes nothing.
-use Rattle.std.specs.Prelude.{ℕ, ◌+◌, ◌^◌, Bool, true, false, List, [], ◌∷◌, ◌++◌, length, filter, map, not, min, max, take, drop, slice_get, Option, Some, None, ◌==◌, ◌&&◌, ◌||◌, nat_lt, nat_le, if◌then◌else◌}
-use Rattle.std.specs.List.{list_any, list_all, flat_map}
+-- Serving.antt: the rows of the protocol inside a ballot: Append, Held, Commit, proposals, ticks.
+-- Receivers are taken in rising order. A message that no row's condition covers changes nothing.
+use Rattle.std.specs.Prelude.{ℕ, ◌+◌, ◌^◌, List, [], ◌∷◌, ◌++◌, length, map, min, max, take, drop, slice_get, Option, Some, None, ◌==◌, ◌&&◌, nat_lt, nat_le, if◌then◌else◌}
 use Rattle.machine.specs.Machine.{Rules, replay}
-use Rattle.ballot_base.specs.declared.message.Message.{Message}
-use Rattle.ballot_base.specs.declared.message.Body.{Body}
-use Rattle.ballot_base.specs.declared.message.Body.TheVariants.{NewBallot, Join, State, Install, Installed, Activate, Activated, Superseded, Append, Held, Commit}
+use Rattle.ballot_base.specs.declared.message.Body.TheVariants.{Append, Held, Commit}
 use Rattle.ballot_base.specs.declared.message.Effect.{Effect}
-use Rattle.ballot_base.specs.declared.message.Effect.TheVariants.{To, Out}
+use Rattle.ballot_base.specs.declared.message.Effect.TheVariants.{Out}
 use Rattle.ballot_base.specs.declared.status.Mark.{Mark}
-use Rattle.ballot_base.specs.declared.status.Role.{Role}
-use Rattle.ballot_base.specs.declared.status.Role.TheVariants.{Backup, Fetching, Installing, Active}
-use Rattle.ballot_base.specs.Sending.{Outcome, nothing_done, message_to, message_to_each, message_to_marked, sent_first}
-use Rattle.ballot_base.specs.Replica.{ReplicaState, is_active, is_backup, is_fetching, is_installing, others, marks_at}
+use Rattle.ballot_base.specs.Sending.{Outcome, nothing_done, message_to, message_to_marked, sent_first}
+use Rattle.ballot_base.specs.Replica.{ReplicaState, is_active, is_backup}
 
 -- the outputs of commands that are done one after the other from a state, each with its place
 abbrev pub outputs_from : {S C O : Type 0} → Rules S C O → S → ℕ → List C → List (Effect C O)
 outputs_from rules s place [] = []
 outputs_from rules s place (command ∷ commands) =
     map (Out place) (rules.gives s command)
-        ++ outputs_from rules (rules.after s command) (place + 1) commands
+    ++ outputs_from rules (rules.after s command) (place + 1) commands
 
 -- the outputs of the places from one length of the log up to another
 abbrev pub outputs_between : {S C O : Type 0} → Rules S C O → List C → ℕ → ℕ → List (Effect C O)
@@ -36,7 +31,7 @@ abbrev pub raised : ℕ → ℕ → List Mark → List Mark
 raised member held [] = []
 raised member held (mark ∷ marks) =
     (if mark.member == member then record mark { held = max mark.held held } else mark)
-        ∷ raised member held marks
+    ∷ raised member held marks
 
 -- places below `held` that are not applied yet are applied, their outputs given, and the other
 -- members hear of it
@@ -46,7 +41,7 @@ commit_at {O = O} rules r held =
     then record {
       state = record r { committed = held };
       effects = outputs_between rules r.log r.committed held
-        ++ message_to_marked O r.id (Commit r.joined held) r.marks
+          ++ message_to_marked O r.id (Commit r.joined held) r.marks;
     }
     else nothing_done O r
 
@@ -62,8 +57,8 @@ most_places = 2 ^ 40
 unfoldable pub added : {S C O : Type 0} → Rules S C O → ReplicaState C → C → Outcome C O
 added {O = O} rules r command =
     sent_first
-        (message_to_marked O r.id (Append r.joined (length r.log) command) r.marks)
-        (commit rules (record r { log = r.log ++ command ∷ [] }))
+    (message_to_marked O r.id (Append r.joined (length r.log) command) r.marks)
+    (commit rules (record r { log = r.log ++ command ∷ [] }))
 
 -- a proposal counts at an active primary whose log has room
 unfoldable pub proposed : {S C O : Type 0} → Rules S C O → ReplicaState C → C → Outcome C O
@@ -77,10 +72,10 @@ unfoldable pub on_append : {C : Type 0} (O : Type 0) → ReplicaState C → ℕ 
 on_append O r from ballot place command =
     let log = if place == length r.log then r.log ++ command ∷ [] else r.log in
     if (r.joined == ballot && r.held_in == ballot)
-        && (is_backup r.role && nat_le place (length r.log))
+    && (is_backup r.role && nat_le place (length r.log))
     then record {
       state = record r { log = log };
-      effects = message_to O r.id (Held ballot (length log)) from ∷ []
+      effects = message_to O r.id (Held ballot (length log)) from ∷ [];
     }
     else nothing_done O r
 
@@ -95,12 +90,13 @@ on_held {O = O} rules r from ballot held =
 unfoldable pub on_commit : {C : Type 0} (O : Type 0) → ReplicaState C → ℕ → ℕ → Outcome C O
 on_commit O r ballot held =
     if (r.joined == ballot && r.held_in == ballot)
-        && (is_backup r.role && nat_le held (length r.log))
+    && (is_backup r.role && nat_le held (length r.log))
     then record { state = record r { committed = max r.committed held }; effects = [] }
     else nothing_done O r
 
 -- the places at the marks that are below the length of the log
-abbrev pub appends_behind : {C : Type 0} (O : Type 0) → ℕ → ℕ → List C → List Mark → List (Effect C O)
+abbrev pub appends_behind : {C : Type 0} (O : Type 0) →
+    ℕ → ℕ → List C → List Mark → List (Effect C O)
 appends_behind O id ballot log [] = []
 appends_behind O id ballot log (mark ∷ marks) =
     append_at O id ballot mark (slice_get log mark.held) ++ appends_behind O id ballot log marks
@@ -116,5 +112,5 @@ on_tick_active O r =
     record {
       state = r;
       effects = appends_behind O r.id r.joined r.log r.marks
-        ++ message_to_marked O r.id (Commit r.joined r.committed) r.marks
+          ++ message_to_marked O r.id (Commit r.joined r.committed) r.marks;
     }

@@ -13,7 +13,7 @@ pub record Rules (S C O : Type 0) : Type 0 where
 
 -- the rules of a machine, from its members
 abbrev pub rules_by : {S C O : Type 0} →
-  S → (ℕ → C) → (S → C → S) → (S → C → List O) → Rules S C O
+    S → (ℕ → C) → (S → C → S) → (S → C → List O) → Rules S C O
 rules_by opening start_of after gives =
     record { opening = opening; start_of = start_of; after = after; gives = gives }
 
@@ -33,7 +33,8 @@ answers_behind rules front (Some command) = rules.gives (replay rules front) com
 
 -- the answers at a place of a list of commands: what the command there gives behind those before it
 abbrev pub answers_at : {S C O : Type 0} → Rules S C O → List C → ℕ → List O
-answers_at rules commands place = answers_behind rules (take place commands) (slice_get commands place)
+answers_at rules commands place =
+    answers_behind rules (take place commands) (slice_get commands place)
 
 -- the numbers of the refusals, as they stand in the table of refusals
 abbrev pub thaw_number : ThawFault → ℕ

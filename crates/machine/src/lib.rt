@@ -4,7 +4,6 @@
 mod error;
 mod machine;
 mod tally;
-
 #[cfg(test)]
 mod tests;
 

@@ -18,17 +18,21 @@ pub trait Machine: Drop {
 
     // The rules: the state after a command, and what the command gives, in order.
     ghost after: { Self → Self.Command → Self };
+
     ghost gives: { Self → Self.Command → List Self.Output };
 
     // Where every machine begins, and the command that begins a ballot.
     ghost opening: { Self };
+
     ghost start_of: { ℕ → Self.Command };
 
     // The bytes that a state is frozen to, and the state that bytes stand for, if any.
     ghost frozen: { Self → List ℕ };
+
     ghost thawed: { List ℕ → Option Self };
 
     ghost IsState: { Self → Type 0 };
+
     ghost IsCommand: { Self.Command → Type 0 };
 
     /// A second command that equals this one. Its only error is want of memory.
@@ -48,7 +52,8 @@ pub trait Machine: Drop {
     /// was refused: `out` is then as before, and the machine is not used again.
     fn apply(&mut self, command: &Self::Command, out: &mut Vec<Self::Output>) -> Result<(), Halted>
         ensures state { OnOk result (self.new ≡ after self.old command.now) }
-        ensures outputs { OnOk result (out.new.items ≡ out.old.items ++ gives self.old command.now) }
+        ensures outputs { OnOk result
+            (out.new.items ≡ out.old.items ++ gives self.old command.now) }
         ensures err { OnErr result (out.new.items ≡ out.old.items) }
         ensures valid { IsState self.old };
 
@@ -66,6 +71,8 @@ pub trait Machine: Drop {
 
     // The laws.
     ghost opens: { IsState opening };
+
     ghost keeps: { (s : Self) (c : Self.Command) → IsState s → IsCommand c → IsState (after s c) };
+
     ghost thaws: { (s : Self) → IsState s → thawed (frozen s) ≡ Some s };
 }

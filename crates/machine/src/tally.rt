@@ -27,15 +27,23 @@ impl Machine for Tally {
     ghost use Rattle.machine.specs.Inside.{tally_of-bytes_of, IsTotal-after};
 
     type Command = TallyCommand;
+
     type Output = u64;
 
     ghost after = { λ s c. record { total = total_after s.total c } };
+
     ghost gives = { λ s c. totals_given s.total c };
+
     ghost opening = { record { total = 0 } };
+
     ghost start_of = { λ ballot. Start ballot };
+
     ghost frozen = { λ s. bytes_of s.total };
+
     ghost thawed = { tally_of };
+
     ghost IsState = { λ s. s.total < 2 ^ 64 };
+
     ghost IsCommand = { IsTallyCommand };
 
     fn copy(_alloc: Global, command: &TallyCommand) -> Result<TallyCommand, Memory> {
@@ -83,6 +91,8 @@ impl Machine for Tally {
     }
 
     ghost opens = { Prim.search rules };
+
     ghost keeps = { λ s c state command. IsTotal-after s.total c state };
+
     ghost thaws = { λ s state. tally_of-bytes_of s.total state };
 }

@@ -8,5 +8,5 @@ invariant-loop-place g l =
     let rules = rules_by g.M.Machine.opening g.M.Machine.start_of g.M.Machine.after g.M.Machine.gives in
     record {
       state : l.machine ≡ replay rules (take l.place l.log);
-      outputs : l.out.items ≡ l.initial.out.items ++ outputs_between rules l.log l.from l.place
+      outputs : l.out.items ≡ l.initial.out.items ++ outputs_between rules l.log l.from l.place;
     }

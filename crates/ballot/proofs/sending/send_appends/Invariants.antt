@@ -7,4 +7,4 @@ use Rattle.ballot.proofs.sending.send_appends.Given as goal
 abbrev pub invariant-loop-mark : goal.invariant-loop-mark
 invariant-loop-mark g l =
     Sends l.initial.out.items l.out.items
-        (message_to_marked g.row.M-Output.Denot l.from (Append l.ballot l.place l.command) (take l.mark-index l.marks)) l.whole
+    (message_to_marked g.row.M-Output.Denot l.from (Append l.ballot l.place l.command) (take l.mark-index l.marks)) l.whole

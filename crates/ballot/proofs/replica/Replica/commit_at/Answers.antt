@@ -22,4 +22,4 @@ pub returns-in-Ok-clause-effects : goal.returns-in-Ok-clause-effects
 returns-in-Ok-clause-effects g c =
     let rules = rules_by g.M.Machine.opening g.M.Machine.start_of g.M.Machine.after g.M.Machine.gives in
     rw (← c.self.view_is) (commit_gives rules _ c.args.held _ _ _ _ _ _ c.if-held-self.false
-        c.deref.ensures.value c.deref-in-Ok.ensures.value c.in-Ok.ensures.outputs c.send_commits.ensures)
+    c.deref.ensures.value c.deref-in-Ok.ensures.value c.in-Ok.ensures.outputs c.send_commits.ensures)
