@@ -1,0 +1,4 @@
+pub mod Committed
+pub mod PlacesApplied
+pub mod ProposalAnswered
+pub mod SendsJoin

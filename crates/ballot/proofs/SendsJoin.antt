@@ -1,0 +1,69 @@
+-- SendsJoin.antt: messages sent one after the other are one send.
+use Rattle.std.proofs.Common.{◌≡◌, ℕ, ◌+◌, ◌<◌, Bool, true, false, ◌&&◌, cond, List, [], ◌∷◌, ◌++◌, length, get_or, map, take, refl, ap, sym, ◌∙◌, subst, append_assoc}
+use Rattle.std.proofs.lemmas.List.{take_more, map-append, append-nil}
+use Rattle.ballot_base.specs.declared.message.Message.{Message}
+use Rattle.ballot_base.specs.declared.message.Effect.{Effect}
+use Rattle.ballot_base.specs.declared.message.Effect.TheVariants.{To}
+use Rattle.ballot_base.specs.Losses.Thinned.{none, keeps, loses}
+use Rattle.ballot_base.proofs.ThinnedEffects.{Thinned-append}
+use Rattle.ballot.specs.Inside.{Sends, Grows}
+
+-- one message, by what `push` answered
+pub Sends-pushed : {C O : Type 0} (old new : List (Effect C O)) (receiver : ℕ) (m : Message C) (sent : Bool) →
+    new ≡ cond sent (old ++ To receiver m ∷ []) old → Sends old new (To receiver m ∷ []) sent
+Sends-pushed old new receiver m true e =
+    record { given = To receiver m ∷ []; appended = e; thinned = keeps none; exact = λ _. refl }
+Sends-pushed old new receiver m false e =
+    record { given = []; appended = e ∙ sym (append-nil old); thinned = loses none; exact = λ h. cc }
+
+-- a message that could not be copied
+pub Sends-lost : {C O : Type 0} (old : List (Effect C O)) (receiver : ℕ) (m : Message C) →
+    Sends old old (To receiver m ∷ []) false
+Sends-lost old receiver m = Sends-pushed old old receiver m false refl
+
+-- nothing to send
+pub Sends-nothing : {C O : Type 0} (old : List (Effect C O)) → Sends old old [] true
+Sends-nothing old =
+    record { given = []; appended = sym (append-nil old); thinned = none; exact = λ _. refl }
+
+-- a send behind a send
+pub Sends-then : {C O : Type 0} {old mid new xs ys : List (Effect C O)} {first second : Bool} →
+    Sends old mid xs first → Sends mid new ys second → Sends old new (xs ++ ys) (first && second)
+Sends-then {old = old} {mid = mid} {xs = xs} {ys = ys} {first = first} {second = second} p q =
+    record {
+      given = p.given ++ q.given;
+      appended = q.appended ∙ ap (λ zs. zs ++ q.given) p.appended ∙ append_assoc old p.given q.given;
+      thinned = Thinned-append p.thinned q.thinned;
+      exact = both first second p.exact q.exact;
+    }
+  where
+    both : {X : Type 0} {as' bs us vs : List X} (first second : Bool) →
+        (first ≡ true → as' ≡ us) → (second ≡ true → bs ≡ vs) → (first && second) ≡ true →
+        as' ++ bs ≡ us ++ vs
+    both true true f g h = let a = f refl in let b = g refl in cc
+    both true false f g h = cc
+    both false second f g h = cc
+
+-- one receiver more
+pub Sends-more : {X C O : Type 0} (f : X → Effect C O) (xs : List X) (i : ℕ) (d : X)
+    {old mid new : List (Effect C O)} {first second : Bool} → i < length xs →
+    Sends old mid (map f (take i xs)) first → Sends mid new (f (get_or xs i d) ∷ []) second →
+    Sends old new (map f (take (i + 1) xs)) (first && second)
+Sends-more f xs i d {old = old} {new = new} {first = first} {second = second} below p q =
+    let e : map f (take (i + 1) xs) ≡ map f (take i xs) ++ f (get_or xs i d) ∷ [] =
+    ap (map f) (take_more xs i d below) ∙ map-append f (take i xs) (get_or xs i d ∷ []) in
+    subst (λ ys. Sends old new ys (first && second)) (sym e) (Sends-then p q)
+
+-- what grew still grows
+pub Grows-then : {C O : Type 0} {old mid new : List (Effect C O)} → Grows old mid → Grows mid new → Grows old new
+Grows-then {old = old} p q =
+    record {
+      rest = p.rest ++ q.rest;
+      appended = q.appended ∙ ap (λ zs. zs ++ q.rest) p.appended ∙ append_assoc old p.rest q.rest;
+    }
+
+pub Grows-same : {C O : Type 0} (old : List (Effect C O)) → Grows old old
+Grows-same old = record { rest = []; appended = sym (append-nil old) }
+
+pub Grows-sent : {C O : Type 0} {old new xs : List (Effect C O)} {whole : Bool} → Sends old new xs whole → Grows old new
+Grows-sent p = record { rest = p.given; appended = p.appended }

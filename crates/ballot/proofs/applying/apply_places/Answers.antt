@@ -1,0 +1,22 @@
+use Rattle.std.proofs.Common.{arith}
+use Rattle.machine.specs.Machine.{rules_by}
+use Rattle.ballot.proofs.PlacesApplied.{on_err_any, place_applied, place_given}
+use Rattle.ballot.proofs.SendsJoin.{Grows-then}
+use Rattle.ballot.proofs.applying.apply_places.Goals as goal
+
+pub returns-in_err-put_out-clause-err : goal.returns-in_err-put_out-clause-err
+returns-in_err-put_out-clause-err g c =
+    on_err_any _ (Grows-then (record { rest = _; appended = c.loop-place.invariant.outputs }) c.in_err-put_out.ensures.err)
+
+pub loop-place-preserved : goal.loop-place-preserved
+loop-place-preserved g c =
+    let rules = rules_by g.M.Machine.opening g.M.Machine.start_of g.M.Machine.after g.M.Machine.gives in
+    let place = c.loop-place.place in
+    record {
+      state = place_applied rules c.args.log.now place c.index-log-place.result c.loop-place.machine c.apply.new.self
+          (omega arith) c.index-log-place.is c.loop-place.invariant.state c.in_ok-apply.ensures.state;
+      outputs = place_given rules c.args.log.now c.args.from place c.index-log-place.result c.loop-place.machine
+          _ _ _ _ _ (omega arith) (omega arith) c.index-log-place.is
+          c.loop-place.invariant.state c.new-given.ensures.items c.in_ok-apply.ensures.outputs
+          c.loop-place.invariant.outputs c.in_ok-put_out.ensures.ok;
+    }

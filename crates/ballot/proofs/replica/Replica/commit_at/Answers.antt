@@ -1,0 +1,25 @@
+use Rattle.std.proofs.Common.{refl}
+use Rattle.machine.specs.Machine.{rules_by}
+use Rattle.ballot.proofs.Committed.{commit_stays, commit_gives_nothing, commit_goes, commit_gives}
+use Rattle.ballot.proofs.replica.Replica.commit_at.Goals as goal
+
+pub returns-then-held-self-clause-state : goal.returns-then-held-self-clause-state
+returns-then-held-self-clause-state g c =
+    let rules = rules_by g.M.Machine.opening g.M.Machine.start_of g.M.Machine.after g.M.Machine.gives in
+    rw (← c.self.view_is) (commit_stays rules _ c.args.held c.if-held-self.true)
+
+pub returns-then-held-self-clause-effects : goal.returns-then-held-self-clause-effects
+returns-then-held-self-clause-effects g c =
+    let rules = rules_by g.M.Machine.opening g.M.Machine.start_of g.M.Machine.after g.M.Machine.gives in
+    rw (← c.self.view_is) (commit_gives_nothing rules _ c.args.held _ c.if-held-self.true)
+
+pub returns-in-Ok-clause-state : goal.returns-in-Ok-clause-state
+returns-in-Ok-clause-state g c =
+    let rules = rules_by g.M.Machine.opening g.M.Machine.start_of g.M.Machine.after g.M.Machine.gives in
+    rw (← c.self.view_is) (commit_goes rules _ _ c.args.held c.if-held-self.false refl)
+
+pub returns-in-Ok-clause-effects : goal.returns-in-Ok-clause-effects
+returns-in-Ok-clause-effects g c =
+    let rules = rules_by g.M.Machine.opening g.M.Machine.start_of g.M.Machine.after g.M.Machine.gives in
+    rw (← c.self.view_is) (commit_gives rules _ c.args.held _ _ _ _ _ _ c.if-held-self.false
+    c.deref.ensures.value c.deref-in-Ok.ensures.value c.in-Ok.ensures.outputs c.send_commits.ensures)

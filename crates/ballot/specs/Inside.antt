@@ -1,0 +1,27 @@
+-- Inside.antt: what the helpers of a replica say of the list of effects.
+use Rattle.std.specs.Prelude.{◌≡◌, Bool, true, List, ◌++◌}
+use Rattle.ballot_base.specs.declared.message.Effect.{Effect}
+use Rattle.ballot_base.specs.Losses.{Thinned, halted, one_more}
+use Rattle.ballot_base.specs.Replica.{Counted}
+use Rattle.ballot.specs.declared.error.ProposeError.{ProposeError}
+use Rattle.ballot.specs.declared.error.ProposeError.TheVariants.{NotActive, LogFull, Memory, Halted}
+
+-- the wanted messages were appended, save some that were lost; none was where the send was whole
+pub record Sends {C O : Type 0} (old new wanted : List (Effect C O)) (whole : Bool) : Type 0 where
+  pub given : List (Effect C O)
+  pub appended : new ≡ old ++ given
+  pub thinned : Thinned given wanted
+  pub exact : whole ≡ true → given ≡ wanted
+
+-- something was appended
+pub record Grows {C O : Type 0} (old new : List (Effect C O)) : Type 0 where
+  pub rest : List (Effect C O)
+  pub appended : new ≡ old ++ rest
+
+-- what a proposal that found no memory leaves
+abbrev pub Lacks : {C : Type 0} → ProposeError → Counted C → Counted C → Type 0
+Lacks NotActive old new = ⊥
+Lacks LogFull old new = ⊥
+Lacks Memory old new = new ≡ record old { losses = one_more old.losses }
+Lacks Halted old new =
+    new ≡ record { state = halted old.state; losses = one_more old.losses }

@@ -1,0 +1,19 @@
+-- Refusals.antt: the numbers of the refusals, as they stand in the table of refusals.
+use Rattle.std.specs.Prelude.{ℕ}
+use Rattle.ballot.specs.declared.error.OpeningError.{OpeningError}
+use Rattle.ballot.specs.declared.error.ProposeError.{ProposeError}
+use Rattle.ballot.specs.declared.error.OpeningError.TheVariants.{BadMembers}
+use Rattle.ballot.specs.declared.error.OpeningError.TheVariants as opening
+use Rattle.ballot.specs.declared.error.ProposeError.TheVariants.{NotActive, LogFull, Memory, Halted}
+
+-- a replica that was not opened
+abbrev pub opening_number : OpeningError → ℕ
+opening_number BadMembers = 20
+opening_number opening.Memory = 12
+
+-- a proposal that was not taken
+abbrev pub propose_number : ProposeError → ℕ
+propose_number NotActive = 18
+propose_number LogFull = 19
+propose_number Memory = 12
+propose_number Halted = 17

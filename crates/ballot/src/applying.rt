@@ -1,0 +1,54 @@
+// Commands that are done by the machine, place by place.
+
+ghost use Rattle.std.specs.Prelude.{◌≡◌, ◌≤◌, ◌++◌, length, map, take, OnOk, OnErr};
+ghost use Rattle.machine.specs.Machine.{rules_by, replay};
+ghost use Rattle.ballot.specs.Inside.{Grows};
+ghost use Rattle.ballot_base.specs.Serving.{outputs_between};
+
+use ballot_base::Effect;
+use machine::{Halted, Machine};
+use std::alloc::Global;
+
+/// Appends the outputs of one place. On an error some of them may stand behind `out`.
+pub fn put_out<C: Drop, O: Drop>(
+    place: u64,
+    given: Vec<O>,
+    out: &mut Vec<Effect<C, O>>,
+) -> Result<(), Halted>
+    ensures ok { OnOk result (out.new.items ≡ out.old.items ++ map (Effect.Out place) given.items) }
+    ensures err { OnErr result (Grows out.old.items out.new.items) }
+{
+    for output in given {
+        out.push(Effect::Out(place, output))?;
+    }
+    Ok(())
+}
+
+/// Applies the places from one length of the log up to another, and appends their outputs. On an
+/// error the machine is somewhere in between, and some outputs may stand behind `out`.
+pub fn apply_places<M: Machine>(
+    alloc: Global,
+    machine: &mut M,
+    log: &[M::Command],
+    from: u64,
+    to: u64,
+    out: &mut Vec<Effect<M::Command, M::Output>>,
+) -> Result<(), Halted>
+    requires rising { from ≤ to }
+    requires within { to ≤ length log.now }
+    requires applied { machine.old ≡
+        replay (rules_by M.opening M.start_of M.after M.gives) (take from log.now) }
+    ensures state { OnOk result
+        (machine.new ≡ replay (rules_by M.opening M.start_of M.after M.gives) (take to log.now)) }
+    ensures outputs { OnOk result
+        (out.new.items ≡ out.old.items ++
+        outputs_between (rules_by M.opening M.start_of M.after M.gives) log.now from to) }
+    ensures err { OnErr result (Grows out.old.items out.new.items) }
+{
+    for place in from..to {
+        let mut given = Vec::new(alloc);
+        machine.apply(&log[place as usize], &mut given)?;
+        put_out(place, given, out)?;
+    }
+    Ok(())
+}

@@ -1,0 +1,15 @@
+//! One replica of a machine: a log, its machine and a role in a ballot. Every call is a step of the
+//! protocol, for any machine that meets the laws of `machine`.
+#![tactic(auto)]
+
+mod applying;
+mod error;
+mod marking;
+mod replica;
+mod sending;
+#[cfg(test)]
+mod tests;
+
+pub use ballot_base::{Body, Config, Effect, Log, Members, Message, Role, Status};
+pub use error::{OpeningError, ProposeError};
+pub use replica::Replica;

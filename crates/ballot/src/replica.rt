@@ -1,0 +1,277 @@
+// One replica.
+
+ghost use Rattle.std.specs.Prelude.{◌≡◌, ◌≤◌, ◌+◌, ◌↔◌, ◌⊎◌, true, false, length, IfOk, OnOk, OnErr, IsErrOf, MatchResult, if◌then◌else◌};
+ghost use Rattle.machine.specs.Machine.{rules_by};
+ghost use Rattle.ballot.specs.Inside.{Sends, Grows, Lacks};
+ghost use Rattle.ballot_base.specs.Config.{is_lawful};
+ghost use Rattle.ballot_base.specs.Losses.{Stepped, Done, halted, one_more};
+ghost use Rattle.ballot_base.specs.Replica.{is_active, opening, status_of};
+ghost use Rattle.ballot_base.specs.Serving.{added, commit_at, most_places, proposed};
+
+use crate::applying::apply_places;
+use crate::error::{OpeningError, ProposeError};
+use crate::marking::{least_held, marks_of_others};
+use crate::sending::{send_appends, send_commits};
+use ballot_base::{Config, Effect, Mark, Role, Status};
+use machine::{Halted, Machine};
+use std::alloc::Global;
+use std::marker::Model;
+
+/// How many places a log can have.
+const MOST_PLACES: u64 = 1 << 40;
+
+/// A log, the machine that it drives and a role in a ballot. Other nodes hear of it by the messages
+/// that its calls hand out, and what the machine gave comes out with its place.
+#[derive(Drop)]
+pub struct Replica<M: Machine> {
+    alloc: Global,
+    id: u8,
+    joined: u64,
+    held_in: u64,
+    role: Role,
+    members: Vec<u8>,
+    marks: Vec<Mark>,
+    log: Vec<M::Command>,
+    committed: u64,
+    machine: M,
+    stopped: bool,
+    losses: u64,
+}
+
+impl<M: Machine> Model for Replica<M> {
+    ghost use Rattle.std.specs.Prelude.{◌≡◌, ◌≤◌, false, [], length, take};
+    ghost use Rattle.machine.specs.Machine.{rules_by, replay};
+    ghost use Rattle.ballot_base.specs.Replica.{ReplicaState, Counted};
+
+    ghost Value = { Counted M.Command };
+
+    ghost view = { λ r.
+        record {
+          state = record {
+            id = r.id;
+            joined = r.joined;
+            held_in = r.held_in;
+            log = r.log.items;
+            base = 0;
+            committed = r.committed;
+            role = r.role;
+            members = r.members.items;
+            previous = 0;
+            previous_members = [];
+            noted = [];
+            marks = r.marks.items;
+            stopped = r.stopped;
+          };
+          losses = r.losses;
+        } };
+
+    ghost invariant = { λ r.
+        (r.committed ≤ length r.log.items) ×
+        (r.stopped ≡ false →
+        r.machine ≡ replay (rules_by M.opening M.start_of M.after M.gives)
+        (take r.committed r.log.items)) };
+}
+
+impl<M: Machine> Replica<M> {
+    /// Opens node `id` in ballot 1: its members begin with an empty log, its primary is active.
+    pub fn new(alloc: Global, id: u8, config: &Config) -> Result<Replica<M>, OpeningError>
+        requires low { 1 ≤ id }
+        requires high { id ≤ 15 }
+        ensures ok { IfOk result (λ replica.
+            replica ≡ record { state = opening M.Command id config.now; losses = 0 }) }
+        ensures bad { IsErrOf result OpeningError.BadMembers
+            ↔ (is_lawful config.now.members config.now.primary ≡ false) }
+    {
+        if !config.is_lawful() {
+            return Err(OpeningError::BadMembers);
+        }
+        let members = config.members.as_slice();
+        let machine = M::fresh(alloc)?;
+        let ballot = if members.contains(&id) { 1 } else { 0 };
+        let mut replica = Replica {
+            alloc,
+            id,
+            joined: ballot,
+            held_in: ballot,
+            role: Role::Backup,
+            members: Vec::new(alloc),
+            marks: Vec::new(alloc),
+            log: Vec::new(alloc),
+            committed: 0,
+            machine,
+            stopped: false,
+            losses: 0,
+        };
+        if id == config.primary {
+            replica.role = Role::Active;
+            replica.members = Vec::from_slice(alloc, members)?;
+            replica.marks = marks_of_others(alloc, 0, id, members)?;
+        }
+        Ok(replica)
+    }
+
+    /// What the replica shows of itself.
+    pub fn status(&self) -> Status
+        ensures { result ≡ status_of self.now.state }
+    {
+        Status {
+            ballot: self.joined,
+            role: self.role,
+            held: self.log.len() as u64,
+            committed: self.committed,
+            stopped: self.stopped,
+        }
+    }
+
+    /// In how many calls memory was wanting. The count stays at 2^64 - 1.
+    pub fn losses(&self) -> u64
+        ensures { result ≡ self.now.losses }
+    {
+        self.losses
+    }
+
+    /// Takes a command into the log of an active primary. Its outputs come out, with its place,
+    /// once every member is known to hold it: for a sole member in this call, else in a later one.
+    /// Where memory is wanting for a message, that message is lost.
+    pub fn propose(
+        &mut self,
+        command: M::Command,
+        out: &mut Vec<Effect<M::Command, M::Output>>,
+    ) -> Result<(), ProposeError>
+        // The protocol's step, or one in which memory was wanting and that was counted.
+        ensures step { self.old.state.stopped ≡ false →
+            Stepped self.old
+            (proposed (rules_by M.opening M.start_of M.after M.gives) self.old.state command)
+            self.new out.old.items out.new.items }
+        ensures done { OnOk result
+            (Done self.old
+            (added (rules_by M.opening M.start_of M.after M.gives) self.old.state command)
+            self.new out.old.items out.new.items) }
+
+        // When each refusal comes; want of memory alone is free to come at any time.
+        ensures halted { IsErrOf result ProposeError.Halted ↔ (self.new.state.stopped ≡ true) }
+        ensures not_active { IsErrOf result ProposeError.NotActive
+            ↔ ((self.old.state.stopped ≡ false) × (is_active self.old.state.role ≡ false)) }
+        ensures full { IsErrOf result ProposeError.LogFull
+            ↔ ((self.old.state.stopped ≡ false) ×
+            (is_active self.old.state.role ≡ true) ×
+            (most_places ≤ length self.old.state.log)) }
+
+        // What stays.
+        ensures memory { IsErrOf result ProposeError.Memory →
+            self.new ≡ record self.old { losses = one_more self.old.losses } }
+        ensures same { (self.old.state.stopped ≡ true)
+            ⊎ (IsErrOf result ProposeError.NotActive ⊎ IsErrOf result ProposeError.LogFull) →
+            self.new ≡ self.old }
+        ensures err { OnErr result (out.new.items ≡ out.old.items) }
+    {
+        if self.stopped {
+            return Err(ProposeError::Halted);
+        }
+        if !self.role.is_active() {
+            return Err(ProposeError::NotActive);
+        }
+        if self.log.len() as u64 >= MOST_PLACES {
+            return Err(ProposeError::LogFull);
+        }
+        self.add(command, out)
+    }
+
+    // Adds a command behind the log, sends it to the other members and commits what all hold. A
+    // call that fails takes back what it did.
+    fn add(
+        &mut self,
+        command: M::Command,
+        out: &mut Vec<Effect<M::Command, M::Output>>,
+    ) -> Result<(), ProposeError>
+        requires { self.old.state.stopped ≡ false }
+        ensures outcome { MatchResult result
+            (λ _.
+            Done self.old
+            (added (rules_by M.opening M.start_of M.after M.gives) self.old.state command)
+            self.new out.old.items out.new.items)
+            (λ error. Lacks error self.old self.new) }
+        ensures err { OnErr result (out.new.items ≡ out.old.items) }
+    {
+        let before = out.len();
+        let place = self.log.len() as u64;
+        let sent = send_appends::<M>(
+            self.alloc,
+            self.id,
+            self.joined,
+            place,
+            &command,
+            &self.marks,
+            out,
+        );
+        if self.log.push(command).is_err() {
+            out.truncate(before);
+            self.losses = self.losses.saturating_add(1);
+            return Err(ProposeError::Memory);
+        }
+        let held = least_held(self.log.len() as u64, &self.marks);
+        match self.commit_at(held, out) {
+            Ok(told) => {
+                self.count(sent && told);
+                Ok(())
+            }
+            Err(_) => {
+                self.log.pop();
+                out.truncate(before);
+                self.count(false);
+                Err(ProposeError::Halted)
+            }
+        }
+    }
+
+    // Commits the places below `held`: applies those that are not applied yet, gives their outputs
+    // and tells the other members. Whether all messages found memory is the result. On an error the
+    // replica has stopped, and some outputs may stand behind `out`.
+    fn commit_at(
+        &mut self,
+        held: u64,
+        out: &mut Vec<Effect<M::Command, M::Output>>,
+    ) -> Result<bool, Halted>
+        requires running { self.old.state.stopped ≡ false }
+        requires within { held ≤ length self.old.state.log }
+        ensures state { OnOk result
+            (self.new ≡ record self.old {
+              state =
+                  (commit_at (rules_by M.opening M.start_of M.after M.gives)
+                  self.old.state held).state;
+            }) }
+        ensures effects { IfOk result
+            (Sends out.old.items out.new.items
+            (commit_at (rules_by M.opening M.start_of M.after M.gives)
+            self.old.state held).effects) }
+        ensures stops { OnErr result
+            (self.new ≡ record self.old { state = halted self.old.state }) }
+        ensures err { OnErr result (Grows out.old.items out.new.items) }
+    {
+        if held <= self.committed {
+            return Ok(true);
+        }
+        let from = self.committed;
+        match apply_places(self.alloc, &mut self.machine, &self.log, from, held, out) {
+            Ok(()) => {
+                self.committed = held;
+                Ok(send_commits(self.id, self.joined, held, &self.marks, out))
+            }
+            Err(halted) => {
+                self.stopped = true;
+                Err(halted)
+            }
+        }
+    }
+
+    // Counts a call in which memory was wanting.
+    fn count(&mut self, whole: bool)
+        ensures { self.new ≡ record self.old {
+          losses = if whole then self.old.losses else one_more self.old.losses;
+        } }
+    {
+        if !whole {
+            self.losses = self.losses.saturating_add(1);
+        }
+    }
+}

@@ -1,0 +1,3 @@
+pub mod AppliesInOrder
+pub mod StepRows
+pub mod ThinnedEffects

@@ -1,0 +1,16 @@
+-- Config.antt: which members and primary a ballot may have.
+use Rattle.std.specs.Prelude.{ℕ, Bool, true, List, [], ◌∷◌, length, ◌&&◌, ◌==◌, nat_lt, nat_le}
+use Rattle.std.specs.List.{list_any}
+
+-- the numbers rise strictly from above `last`, up to 15
+abbrev pub are_rising : ℕ → List ℕ → Bool
+are_rising last [] = true
+are_rising last (member ∷ members) =
+    (nat_lt last member && nat_le member 15) && are_rising member members
+
+-- 1 to 7 members, strictly rising, each from 1 to 15, and the primary is one of them
+abbrev pub is_lawful : List ℕ → ℕ → Bool
+is_lawful members primary =
+    are_rising 0 members
+    && (nat_le 1 (length members)
+    && (nat_le (length members) 7 && list_any (λ member. member == primary) members))

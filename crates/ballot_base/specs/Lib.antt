@@ -1,0 +1,7 @@
+pub mod Changing
+pub mod Config
+pub mod Losses
+pub mod Protocol
+pub mod Replica
+pub mod Sending
+pub mod Serving

@@ -1,0 +1,65 @@
+// Who is in a ballot.
+
+ghost use Rattle.std.specs.Prelude.{◌≡◌, IfOk, length};
+ghost use Rattle.ballot_base.specs.Config.{is_lawful};
+
+use machine::Memory;
+use std::alloc::Global;
+use std::marker::Model;
+
+/// The numbers of nodes, in the order in which they were given.
+#[derive(Drop)]
+pub struct Members {
+    numbers: Vec<u8>,
+}
+
+impl Model for Members {
+    ghost use Rattle.std.specs.Prelude.{List, ℕ};
+
+    ghost Value = { List ℕ };
+
+    ghost view = { λ m. m.numbers.items };
+}
+
+impl Members {
+    /// A copy of the numbers. The only error is want of memory.
+    pub fn from_slice(alloc: Global, numbers: &[u8]) -> Result<Members, Memory>
+        ensures { IfOk result (λ members. members ≡ numbers.now) }
+    {
+        let numbers = Vec::from_slice(alloc, numbers)?;
+        Ok(Members { numbers })
+    }
+
+    /// The numbers.
+    pub fn as_slice(&self) -> &[u8]
+        ensures { result.now ≡ self.now }
+    {
+        self.numbers.as_slice()
+    }
+}
+
+/// The configuration of a ballot: its members and which of them is its primary.
+#[derive(Drop)]
+pub struct Config {
+    /// 1 to 7 nodes, strictly rising, each from 1 to 15.
+    pub members: Members,
+    /// One of the members.
+    pub primary: u8,
+}
+
+impl Config {
+    /// Whether these may be the members and the primary of a ballot.
+    pub fn is_lawful(&self) -> bool
+        ensures { result ≡ is_lawful self.now.members self.now.primary }
+    {
+        let members = self.members.as_slice();
+        let mut last = 0;
+        for member in members {
+            if *member <= last || *member > 15 {
+                return false;
+            }
+            last = *member;
+        }
+        1 <= members.len() && members.len() <= 7 && members.contains(&self.primary)
+    }
+}

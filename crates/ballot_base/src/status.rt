@@ -1,0 +1,53 @@
+// What a replica shows of itself.
+
+ghost use Rattle.std.specs.Prelude.{◌≡◌};
+ghost use Rattle.ballot_base.specs.Replica.{is_active};
+
+/// What a replica does in the ballot that it joined.
+#[derive(Clone, Copy, Debug, PartialEq, Eq)]
+pub enum Role {
+    /// Takes what its primary sends.
+    Backup,
+    /// A new primary that asks for the earlier ballot's log.
+    Fetching,
+    /// A new primary that hands its log to the members.
+    Installing,
+    /// The primary that takes proposals.
+    Active,
+}
+
+impl Role {
+    /// Whether this is the active primary.
+    pub fn is_active(self) -> bool
+        ensures { result ≡ is_active self }
+    {
+        match self {
+            Role::Active => true,
+            Role::Backup | Role::Fetching | Role::Installing => false,
+        }
+    }
+}
+
+/// What an active primary knows of another member.
+#[derive(Clone, Copy, Debug, PartialEq, Eq)]
+pub struct Mark {
+    /// The member.
+    pub member: u8,
+    /// How many places it is known to hold.
+    pub held: u64,
+}
+
+/// What a replica shows of itself.
+#[derive(Clone, Copy, Debug, PartialEq, Eq)]
+pub struct Status {
+    /// The ballot that it joined; 0 before the first.
+    pub ballot: u64,
+    /// Its role there.
+    pub role: Role,
+    /// How many places its log has.
+    pub held: u64,
+    /// How many of them are applied.
+    pub committed: u64,
+    /// Whether it stopped for want of memory.
+    pub stopped: bool,
+}

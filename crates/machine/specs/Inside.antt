@@ -1,0 +1,17 @@
+-- Inside.antt: the proofs of the tally's laws.
+use Rattle.std.proofs.Common.{◌≡◌, ℕ, ◌^◌, ◌<◌, Some, rules}
+use Rattle.std.proofs.lemmas.Nat.{from_be_bytes-to_be_bytes_8}
+use Rattle.machine.specs.declared.tally.TallyCommand.{TallyCommand}
+use Rattle.machine.specs.declared.tally.TallyCommand.TheVariants.{Add, Start}
+use Rattle.machine.specs.Tally.{total_after, bytes_of, tally_of}
+
+-- a total stays below 2^64
+pub IsTotal-after : (total : ℕ) (command : TallyCommand) →
+    total < 2 ^ 64 → total_after total command < 2 ^ 64
+IsTotal-after total (Add number) below = search rules
+IsTotal-after total (Start ballot) below = below
+
+-- a total comes back from its bytes
+pub tally_of-bytes_of : (total : ℕ) →
+    total < 2 ^ 64 → tally_of (bytes_of total) ≡ Some (record { total = total })
+tally_of-bytes_of total below = rw (from_be_bytes-to_be_bytes_8 total below)

@@ -1,0 +1,42 @@
+-- Machine.antt: a machine by its rules alone, and what a list of commands does to it.
+use Rattle.std.specs.Prelude.{ℕ, List, [], ◌∷◌, Option, Some, None, slice_get, take}
+use Rattle.machine.specs.declared.error.ThawFault.{ThawFault}
+use Rattle.machine.specs.declared.error.ThawFault.TheVariants.{Shape, Memory}
+
+-- where the machine begins, which command begins a ballot, what a command makes of a state, and
+-- what it gives there
+pub record Rules (S C O : Type 0) : Type 0 where
+  pub opening : S
+  pub start_of : ℕ → C
+  pub after : S → C → S
+  pub gives : S → C → List O
+
+-- the rules of a machine, from its members
+abbrev pub rules_by : {S C O : Type 0} →
+    S → (ℕ → C) → (S → C → S) → (S → C → List O) → Rules S C O
+rules_by opening start_of after gives =
+    record { opening = opening; start_of = start_of; after = after; gives = gives }
+
+-- the state after commands that were done one after the other from the state s
+abbrev pub replay_from : {S C O : Type 0} → Rules S C O → S → List C → S
+replay_from rules s [] = s
+replay_from rules s (command ∷ commands) = replay_from rules (rules.after s command) commands
+
+-- the state after commands that were done one after the other from the beginning
+abbrev pub replay : {S C O : Type 0} → Rules S C O → List C → S
+replay rules commands = replay_from rules rules.opening commands
+
+-- what one command gives behind the commands in front of it, if there is one
+abbrev pub answers_behind : {S C O : Type 0} → Rules S C O → List C → Option C → List O
+answers_behind rules front None = []
+answers_behind rules front (Some command) = rules.gives (replay rules front) command
+
+-- the answers at a place of a list of commands: what the command there gives behind those before it
+abbrev pub answers_at : {S C O : Type 0} → Rules S C O → List C → ℕ → List O
+answers_at rules commands place =
+    answers_behind rules (take place commands) (slice_get commands place)
+
+-- the numbers of the refusals, as they stand in the table of refusals
+abbrev pub thaw_number : ThawFault → ℕ
+thaw_number Shape = 10
+thaw_number Memory = 12

@@ -1,0 +1,30 @@
+-- Tally.antt: the machine that adds numbers modulo 2^64.
+use Rattle.std.specs.Prelude.{ℕ, ◌+◌, ◌%◌, ◌^◌, ◌<◌, ◌==◌, List, [], ◌∷◌, length, Option, Some, None, if◌then◌else◌}
+use Rattle.std.specs.Int.{w64, to_be_bytes, from_be_bytes}
+use Rattle.machine.specs.declared.tally.Tally.{Tally}
+use Rattle.machine.specs.declared.tally.TallyCommand.{TallyCommand}
+use Rattle.machine.specs.declared.tally.TallyCommand.TheVariants.{Add, Start}
+
+-- the total after a command
+abbrev pub total_after : ℕ → TallyCommand → ℕ
+total_after total (Add number) = (total + number) % 2 ^ 64
+total_after total (Start ballot) = total
+
+-- what a command gives: the new total, and nothing at the start of a ballot
+abbrev pub totals_given : ℕ → TallyCommand → List ℕ
+totals_given total (Add number) = total_after total (Add number) ∷ []
+totals_given total (Start ballot) = []
+
+-- the numbers of commands have 64 bits
+abbrev pub IsTallyCommand : TallyCommand → Type 0
+IsTallyCommand (Add number) = number < 2 ^ 64
+IsTallyCommand (Start ballot) = ballot < 2 ^ 64
+
+-- a total as its eight bytes, the most significant first
+abbrev pub bytes_of : ℕ → List ℕ
+bytes_of total = to_be_bytes w64 total
+
+-- the tally of eight such bytes; no other bytes stand for one
+abbrev pub tally_of : List ℕ → Option Tally
+tally_of bytes =
+    if length bytes == 8 then Some (record { total = from_be_bytes w64 bytes }) else None

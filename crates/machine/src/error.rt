@@ -1,0 +1,144 @@
+// What a machine's calls can answer in place of a value.
+
+ghost use Rattle.std.specs.Prelude.{◌≡◌};
+ghost use Rattle.machine.specs.Machine.{thaw_number};
+
+use std::alloc::{AllocError, AllocFailed};
+use std::error::Error;
+use std::fmt;
+
+/// A growth was refused. Nothing was changed.
+#[derive(Clone, Copy, Debug, PartialEq, Eq)]
+pub struct Memory;
+
+impl Memory {
+    /// The number of this refusal, the same in every program and document of this broker.
+    pub fn number(self) -> u8
+        ensures { result ≡ 12 }
+    {
+        12
+    }
+}
+
+impl fmt::Display for Memory {
+    fn fmt<W: fmt::Write>(&self, f: &mut fmt::Formatter<W>) -> fmt::Result {
+        write!(f, "out of memory")
+    }
+}
+
+impl Error for Memory {}
+
+impl From<AllocError> for Memory {
+    fn from(_error: AllocError) -> Memory {
+        Memory
+    }
+}
+
+impl<T: Drop> From<AllocFailed<T>> for Memory {
+    fn from(_error: AllocFailed<T>) -> Memory {
+        Memory
+    }
+}
+
+/// A growth was refused in the middle of a command: the machine may have done a part of it and is
+/// not used again.
+#[derive(Clone, Copy, Debug, PartialEq, Eq)]
+pub struct Halted;
+
+impl Halted {
+    /// The number of this refusal, the same in every program and document of this broker.
+    pub fn number(self) -> u8
+        ensures { result ≡ 17 }
+    {
+        17
+    }
+}
+
+impl fmt::Display for Halted {
+    fn fmt<W: fmt::Write>(&self, f: &mut fmt::Formatter<W>) -> fmt::Result {
+        write!(f, "halted for want of memory")
+    }
+}
+
+impl Error for Halted {}
+
+impl From<AllocError> for Halted {
+    fn from(_error: AllocError) -> Halted {
+        Halted
+    }
+}
+
+impl<T: Drop> From<AllocFailed<T>> for Halted {
+    fn from(_error: AllocFailed<T>) -> Halted {
+        Halted
+    }
+}
+
+impl From<Memory> for Halted {
+    fn from(_error: Memory) -> Halted {
+        Halted
+    }
+}
+
+/// Why no machine came out of frozen bytes.
+#[derive(Clone, Copy, Debug, PartialEq, Eq)]
+pub enum ThawFault {
+    /// The bytes are not of the frozen form.
+    Shape,
+    /// A growth was refused.
+    Memory,
+}
+
+impl ThawFault {
+    /// The number of this refusal, the same in every program and document of this broker.
+    pub fn number(self) -> u8
+        ensures { result ≡ thaw_number self }
+    {
+        match self {
+            ThawFault::Shape => 10,
+            ThawFault::Memory => 12,
+        }
+    }
+}
+
+impl fmt::Display for ThawFault {
+    fn fmt<W: fmt::Write>(&self, f: &mut fmt::Formatter<W>) -> fmt::Result {
+        let text = match self {
+            ThawFault::Shape => "shape of the frozen machine",
+            ThawFault::Memory => "out of memory",
+        };
+        write!(f, "{text}")
+    }
+}
+
+impl Error for ThawFault {}
+
+impl From<AllocError> for ThawFault {
+    ghost use Rattle.machine.specs.declared.error.ThawFault.TheVariants.{Memory};
+
+    ghost from_gives = { λ _ fault. fault ≡ Memory };
+
+    fn from(_error: AllocError) -> ThawFault {
+        ThawFault::Memory
+    }
+}
+
+impl<T: Drop> From<AllocFailed<T>> for ThawFault {
+    ghost use Rattle.machine.specs.declared.error.ThawFault.TheVariants.{Memory};
+
+    ghost from_gives = { λ _ fault. fault ≡ Memory };
+
+    fn from(_error: AllocFailed<T>) -> ThawFault {
+        ThawFault::Memory
+    }
+}
+
+impl From<Memory> for ThawFault {
+    ghost use Rattle.machine.specs.declared.error.ThawFault.TheVariants.{Memory};
+
+    ghost from_gives = { λ _ fault. fault ≡ Memory };
+
+    fn from(_error: Memory) -> ThawFault {
+        ThawFault::Memory
+    }
+}

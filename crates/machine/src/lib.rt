@@ -1,0 +1,12 @@
+//! What a replicated state machine is, with its laws, and a small lawful one that counts.
+#![tactic(auto)]
+
+mod error;
+mod machine;
+mod tally;
+#[cfg(test)]
+mod tests;
+
+pub use error::{Halted, Memory, ThawFault};
+pub use machine::Machine;
+pub use tally::{Tally, TallyCommand};

@@ -1,0 +1,78 @@
+// What a machine must be for its replicas to agree.
+
+ghost use Rattle.std.specs.Prelude.{ℕ, List, Option, Some, None, ◌≡◌, ◌++◌, IfOk, OnOk, OnErr};
+
+use crate::error::{Halted, Memory, ThawFault};
+use std::alloc::Global;
+
+/// A deterministic machine: what it becomes and what it gives follow from its state and the
+/// command alone, so that replicas that take the same commands in the same order stay equal.
+///
+/// `after` and `gives` are its rules. `IsState` and `IsCommand` hold of every value that a program
+/// has in hand: they say which numbers and sizes there are.
+pub trait Machine: Drop {
+    /// What a log holds.
+    type Command: Drop;
+    /// What a command gives.
+    type Output: Drop;
+
+    // The rules: the state after a command, and what the command gives, in order.
+    ghost after: { Self → Self.Command → Self };
+
+    ghost gives: { Self → Self.Command → List Self.Output };
+
+    // Where every machine begins, and the command that begins a ballot.
+    ghost opening: { Self };
+
+    ghost start_of: { ℕ → Self.Command };
+
+    // The bytes that a state is frozen to, and the state that bytes stand for, if any.
+    ghost frozen: { Self → List ℕ };
+
+    ghost thawed: { List ℕ → Option Self };
+
+    ghost IsState: { Self → Type 0 };
+
+    ghost IsCommand: { Self.Command → Type 0 };
+
+    /// A second command that equals this one. Its only error is want of memory.
+    fn copy(alloc: Global, command: &Self::Command) -> Result<Self::Command, Memory>
+        ensures same { IfOk result (λ copied. copied ≡ command.now) }
+        ensures valid { IsCommand command.now };
+
+    /// A machine at its beginning. All of them are equal; the only error is want of memory.
+    fn fresh(alloc: Global) -> Result<Self, Memory>
+        ensures { IfOk result (λ machine. machine ≡ opening) };
+
+    /// The command that each log takes at the beginning of a ballot after the first.
+    fn start(ballot: u64) -> Self::Command
+        ensures { result ≡ start_of ballot };
+
+    /// Does one command and appends what it gives to `out`. [`Halted`] comes only where a growth
+    /// was refused: `out` is then as before, and the machine is not used again.
+    fn apply(&mut self, command: &Self::Command, out: &mut Vec<Self::Output>) -> Result<(), Halted>
+        ensures state { OnOk result (self.new ≡ after self.old command.now) }
+        ensures outputs { OnOk result
+            (out.new.items ≡ out.old.items ++ gives self.old command.now) }
+        ensures err { OnErr result (out.new.items ≡ out.old.items) }
+        ensures valid { IsState self.old };
+
+    /// Appends the bytes of this state to `bytes`, which stay as they were where memory is wanting.
+    fn freeze(&self, bytes: &mut Vec<u8>) -> Result<(), Memory>
+        ensures ok { OnOk result (bytes.new.items ≡ bytes.old.items ++ frozen self.now) }
+        ensures err { OnErr result (bytes.new.items ≡ bytes.old.items) }
+        ensures valid { IsState self.now };
+
+    /// The machine that frozen bytes stand for. [`ThawFault::Shape`] comes only where they stand
+    /// for none, [`ThawFault::Memory`] only where a growth was refused.
+    fn thaw(alloc: Global, bytes: &[u8]) -> Result<Self, ThawFault>
+        ensures ok { IfOk result (λ machine. thawed bytes.now ≡ Some machine) }
+        ensures shape { result ≡ Err ThawFault.Shape → thawed bytes.now ≡ None };
+
+    // The laws.
+    ghost opens: { IsState opening };
+
+    ghost keeps: { (s : Self) (c : Self.Command) → IsState s → IsCommand c → IsState (after s c) };
+
+    ghost thaws: { (s : Self) → IsState s → thawed (frozen s) ≡ Some s };
+}

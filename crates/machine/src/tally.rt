@@ -1,0 +1,98 @@
+// A machine that adds numbers: small enough to see that the laws can be met.
+
+use crate::error::{Halted, Memory, ThawFault};
+use crate::machine::Machine;
+use std::alloc::Global;
+
+/// Adds what it is told to, modulo 2^64.
+#[derive(Debug, Drop, PartialEq, Eq)]
+pub struct Tally {
+    total: u64,
+}
+
+/// What a [`Tally`] can be told.
+#[derive(Clone, Copy, Debug, PartialEq, Eq)]
+pub enum TallyCommand {
+    /// Adds this number and gives the new total.
+    Add(u64),
+    /// A ballot of this number begins: changes nothing and gives nothing.
+    Start(u64),
+}
+
+impl Machine for Tally {
+    ghost use Rattle.std.specs.Prelude.{ℕ, List, Option, Some, None, ◌≡◌, ◌<◌, ◌^◌};
+    ghost use Rattle.std.proofs.Common.{rules};
+    ghost use Rattle.machine.specs.declared.tally.TallyCommand.TheVariants.{Start};
+    ghost use Rattle.machine.specs.Tally.{total_after, totals_given, bytes_of, tally_of, IsTallyCommand};
+    ghost use Rattle.machine.specs.Inside.{tally_of-bytes_of, IsTotal-after};
+
+    type Command = TallyCommand;
+
+    type Output = u64;
+
+    ghost after = { λ s c. record { total = total_after s.total c } };
+
+    ghost gives = { λ s c. totals_given s.total c };
+
+    ghost opening = { record { total = 0 } };
+
+    ghost start_of = { λ ballot. Start ballot };
+
+    ghost frozen = { λ s. bytes_of s.total };
+
+    ghost thawed = { tally_of };
+
+    ghost IsState = { λ s. s.total < 2 ^ 64 };
+
+    ghost IsCommand = { IsTallyCommand };
+
+    fn copy(_alloc: Global, command: &TallyCommand) -> Result<TallyCommand, Memory> {
+        let copied = match command {
+            TallyCommand::Add(number) => TallyCommand::Add(*number),
+            TallyCommand::Start(ballot) => TallyCommand::Start(*ballot),
+        };
+        Ok(copied)
+    }
+
+    fn fresh(_alloc: Global) -> Result<Tally, Memory> {
+        Ok(Tally { total: 0 })
+    }
+
+    fn start(ballot: u64) -> TallyCommand {
+        TallyCommand::Start(ballot)
+    }
+
+    fn apply(&mut self, command: &TallyCommand, out: &mut Vec<u64>) -> Result<(), Halted> {
+        let total = self.total;
+        match command {
+            TallyCommand::Add(number) => {
+                let total = total.wrapping_add(*number);
+                out.push(total)?;
+                self.total = total;
+            }
+            TallyCommand::Start(_) => {}
+        }
+        Ok(())
+    }
+
+    fn freeze(&self, bytes: &mut Vec<u8>) -> Result<(), Memory> {
+        let spelled = self.total.to_be_bytes();
+        bytes.extend_from_slice(&spelled)?;
+        Ok(())
+    }
+
+    fn thaw(_alloc: Global, bytes: &[u8]) -> Result<Tally, ThawFault> {
+        match <[u8; 8]>::try_from(bytes) {
+            Ok(spelled) => Ok(Tally {
+                total: u64::from_be_bytes(spelled),
+            }),
+            Err(_) => Err(ThawFault::Shape),
+        }
+    }
+
+    ghost opens = { Prim.search rules };
+
+    ghost keeps = { λ s c state command. IsTotal-after s.total c state };
+
+    ghost thaws = { λ s state. tally_of-bytes_of s.total state };
+}
