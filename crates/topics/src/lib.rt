@@ -7,6 +7,8 @@ mod laws;
 mod level;
 mod malformed;
 mod matching;
+#[cfg(test)]
+mod tests;
 mod topic_name;
 
 pub use filter::Filter;
