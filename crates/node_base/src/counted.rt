@@ -1,0 +1,133 @@
+// A device and the count of its failed calls.
+
+ghost use Rattle.std.specs.Prelude.{◌≡◌, ◌≢◌, ◌<◌, length, if◌then◌else◌};
+ghost use Rattle.std.specs.Io.KnownBytes.{Appends, Keeps};
+ghost use Rattle.node_base.specs.Counted.{Watched, counted_once};
+ghost use Rattle.node_base.specs.Engines.{WritesBeginning, WritesShort, ReadsPiece};
+ghost use Rattle.node_base.specs.Inside.{WritesOnce};
+
+use crate::piece::Piece;
+use crate::written::Written;
+use std::io::{Read, Write};
+use std::marker::Model;
+
+/// The room that a caller of [`Counted::read_piece`] does well to lend, in bytes.
+pub const PIECE_BYTES: usize = 65_536;
+
+/// A device together with the number of its calls that failed. The count stays at 2^64 - 1.
+#[derive(Drop)]
+pub struct Counted<D> {
+    device: D,
+    faults: u64,
+}
+
+impl<D> Model for Counted<D> {
+    ghost use Rattle.node_base.specs.Counted.{Watched};
+
+    ghost Value = { Watched D };
+
+    ghost view = { λ c. record { device = c.device; faults = c.faults } };
+}
+
+impl<D> Counted<D> {
+    /// A device of which no call has failed yet.
+    pub fn new(device: D) -> Self
+        ensures { result ≡ record { device = device; faults = 0 } }
+    {
+        Counted { device, faults: 0 }
+    }
+
+    /// How many calls of the device have failed, at most 2^64 - 1.
+    pub fn faults(&self) -> u64
+        ensures { result ≡ self.now.faults }
+    {
+        self.faults
+    }
+
+    /// The device itself. Its count is forgotten.
+    pub fn into_device(self) -> D
+        ensures { result ≡ self.device }
+    {
+        self.device
+    }
+}
+
+impl<W: Write> Counted<W> {
+    /// Writes all bytes and flushes the device, in as many calls as it takes. What stands written
+    /// is always a beginning of `bytes`.
+    pub fn write_whole(&mut self, bytes: &[u8]) -> Written
+        ensures beginning { WritesBeginning
+            (W.contents self.old.device) (W.contents self.new.device) bytes.now }
+        ensures whole { result ≡ Written.Whole → Appends
+            (W.contents self.old.device) (W.contents self.new.device) bytes.now }
+        ensures stopped { result ≡ Written.Stopped → WritesShort
+            (W.contents self.old.device) (W.contents self.new.device) bytes.now }
+
+        // A fault is told exactly where one more call of the device failed.
+        ensures fault { result ≡ Written.Fault → self.new.faults
+            ≡ counted_once self.old.faults }
+        ensures no_fault { result ≢ Written.Fault → self.new.faults ≡ self.old.faults }
+    {
+        let mut done = 0;
+        while done < bytes.len() {
+            match self.write_once(&bytes[done..]) {
+                None => return Written::Fault,
+                Some(0) => return Written::Stopped,
+                Some(count) => done += count,
+            }
+        }
+        if self.flush() {
+            Written::Whole
+        } else {
+            Written::Fault
+        }
+    }
+
+    // One call of the device: how many bytes it took, or that it failed.
+    fn write_once(&mut self, bytes: &[u8]) -> Option<usize>
+        ensures { WritesOnce W.contents self.old self.new result bytes.now }
+    {
+        match self.device.write(bytes) {
+            Ok(count) => Some(count),
+            Err(_) => {
+                self.faults = self.faults.saturating_add(1);
+                None
+            }
+        }
+    }
+
+    // Hands on what the device may have kept back: whether it did not fail.
+    fn flush(&mut self) -> bool
+        ensures kept { Keeps (W.contents self.old.device) (W.contents self.new.device) }
+        ensures fault { self.new.faults
+            ≡ if result then self.old.faults else counted_once self.old.faults }
+    {
+        if self.device.flush().is_err() {
+            self.faults = self.faults.saturating_add(1);
+            return false;
+        }
+        true
+    }
+}
+
+impl<R: Read> Counted<R> {
+    /// Reads one piece, by one call of the device, into the front of `room`.
+    pub fn read_piece(&mut self, room: &mut [u8]) -> Piece
+        requires { 0 < length room.old }
+        ensures piece { ReadsPiece
+            result (R.remaining self.old.device) (R.remaining self.new.device) room.new }
+
+        // A fault is told exactly where one more call of the device failed.
+        ensures fault { result ≡ Piece.Fault → self.new.faults ≡ counted_once self.old.faults }
+        ensures no_fault { result ≢ Piece.Fault → self.new.faults ≡ self.old.faults }
+    {
+        match self.device.read(room) {
+            Ok(0) => Piece::End,
+            Ok(count) => Piece::Bytes(count),
+            Err(_) => {
+                self.faults = self.faults.saturating_add(1);
+                Piece::Fault
+            }
+        }
+    }
+}

@@ -1,0 +1,14 @@
+//! Reading from and writing to devices that may fail: streams, files, or bytes in memory. Each
+//! device stands in a [`Counted`], which counts its failed calls, so that a fault is told only
+//! where the device had one.
+#![tactic(auto)]
+
+mod counted;
+mod piece;
+#[cfg(test)]
+mod tests;
+mod written;
+
+pub use counted::{Counted, PIECE_BYTES};
+pub use piece::Piece;
+pub use written::Written;
