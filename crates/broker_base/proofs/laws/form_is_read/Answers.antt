@@ -1,0 +1,5 @@
+use Rattle.broker_base.proofs.FormAgain.{thawed-frozen}
+use Rattle.broker_base.proofs.laws.form_is_read.Goals as goal
+
+pub returns : goal.returns
+returns c = thawed-frozen
