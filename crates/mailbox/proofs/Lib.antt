@@ -1,0 +1,7 @@
+mod CountsAreKept
+mod EachView
+mod ItemsOfALane
+mod MeetingKeepsTheRule
+mod PassesKeepTheRule
+mod Seats
+mod StepsKeepTheRule
