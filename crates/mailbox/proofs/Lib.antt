@@ -1,6 +1,7 @@
 mod CountsAreKept
 mod EachView
 mod ItemsOfALane
+mod LanesSettle
 mod MeetingKeepsTheRule
 mod PassesKeepTheRule
 mod Seats

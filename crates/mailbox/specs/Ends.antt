@@ -1,5 +1,5 @@
 -- What the two ends of an inbox show: its lanes, which send, and its receiver, which takes.
-use Rattle.std.specs.Prelude.{◌≡◌, ℕ, zero, suc, ◌^◌, ◌<◌, ◌≤◌, List, [], ◌∷◌, ◌++◌, length, take, Some, slice_get, slice_index}
+use Rattle.std.specs.Prelude.{◌≡◌, ℕ, zero, suc, ◌^◌, ◌<◌, ◌≤◌, List, [], ◌∷◌, ◌++◌, length, map, take, slice_index}
 use Rattle.crossbeam_queue.specs.Fifo.{Held}
 use Rattle.mailbox.specs.Delivery.{items_of, lane_view, receiver_view, Moment}
 
@@ -36,3 +36,20 @@ module _ {T : Type 0} where
   -- at one moment the inbox held nothing
   abbrev pub WasEmpty : Taker T → Type 0
   WasEmpty r = Held 0 (Moment (receiver_view r.lanes r.taken))
+
+  -- a lane as it was made
+  abbrev pub as_made : Sender T → Sender T
+  as_made s = record s { met = 0; sent = [] }
+
+  -- these are all lanes of the receiver's inbox, in order
+  abbrev pub AreAllLanes : Taker T → List (Sender T) → Type 0
+  AreAllLanes r lanes = map as_made lanes ≡ fresh_lanes r.inbox r.lanes
+
+  -- a lane, whatever it knows to be taken
+  abbrev pub unmet : Sender T → Sender T
+  unmet s = record s { met = 0 }
+
+  -- what was counted of a lane and what is left over of it are, in order, all that it sent
+  abbrev pub ArrivesWhole : List ℕ → List (ℕ × T) → Sender T → Type 0
+  ArrivesWhole counts left s =
+      take (slice_index counts s.lane) s.sent ++ items_of s.lane left ≡ s.sent

@@ -4,6 +4,7 @@ use Rattle.atomic_table.specs.Seated.{TableId}
 use Rattle.crossbeam_queue.specs.Passes.{Pass, view}
 use Rattle.mailbox.specs.declared.view.View.{View}
 use Rattle.mailbox.specs.Delivery.{items_of, lane_view, receiver_view}
+use Rattle.mailbox.specs.Ends.{Sender, Taker}
 
 module _ {T : Type 0} where
   -- a pass that knows nothing
@@ -80,3 +81,13 @@ pub record InboxKept {T : Type 0} (queue : TableId) (room : ℕ) (pass : Pass (�
   pub has_room : room ≡ 1024
   pub has_slots : queue.slots ≡ 1024
   pub role : view pass ≡ receiver_view 0 []
+
+-- what the receiver took more is what joined the list
+pub record TakesMore {T : Type 0} (old new : Taker T) (list longer : List (ℕ × T)) : Type 0 where
+  pub more : List (ℕ × T)
+  pub history : new ≡ record old { taken = old.taken ++ more }
+  pub listed : longer ≡ list ++ more
+
+-- all that a lane sent was taken
+abbrev pub IsTaken : {T : Type 0} → List (ℕ × T) → Sender T → Type 0
+IsTaken taken s = items_of s.lane taken ≡ s.sent

@@ -1,10 +1,11 @@
 // The receiving end of an inbox.
 
-ghost use Rattle.std.specs.Prelude.{◌≡◌, ◌++◌, ◌∷◌, [], ◌<◌, ◌≤◌, length, take, ◌+◌, IfSome, IfNone, IfOk, OnOk};
+ghost use Rattle.std.specs.Prelude.{◌≡◌, ◌++◌, ◌∷◌, [], ◌<◌, ◌≤◌, length, take, ◌+◌, IfSome, IfNone, IfOk, OnOk, All, EachIndex, IsTrue, map, slice_index, vec_capacity};
 ghost use Rattle.mailbox.specs.Delivery.{items_of};
-ghost use Rattle.mailbox.specs.Ends.{Taker, Sender, WasEmpty};
+ghost use Rattle.mailbox.specs.Ends.{Taker, Sender, WasEmpty, AreAllLanes, ArrivesWhole, unmet};
+ghost use Rattle.mailbox.specs.Inside.{TakesMore, IsTaken};
 
-use crate::inbox::MOST_LANES;
+use crate::inbox::{INBOX_ITEMS, MOST_LANES};
 use crate::lane::Lane;
 use crate::moves::{Deals, Knowledge, Lends, Meets, Queue, Takes};
 use crate::naming::Naming;
@@ -117,5 +118,71 @@ impl<T: Drop, J: Naming> Receiver<T, J> {
             count: 0,
             naming: PhantomData,
         })
+    }
+
+    /// Takes all that is left, once the lanes send no more: `counts` gets how many items of each
+    /// lane were taken before, and `left` those that are left over, in order. It takes no memory:
+    /// both have their room beforehand.
+    pub fn settle<R: Wait>(
+        &mut self,
+        rt: &R,
+        lanes: &mut [Lane<T, J>],
+        counts: &mut [u64],
+        left: &mut Vec<(u8, T)>,
+    )
+        requires lanes { AreAllLanes self.old lanes.old }
+        requires counts { length counts.old ≡ self.old.lanes }
+        requires empty { left.old.items ≡ [] }
+        requires room { INBOX_ITEMS ≤ vec_capacity left.old }
+
+        // Those counted and those left over are, lane by lane and in order, all that was sent.
+        ensures whole { All (ArrivesWhole counts.new left.new.items) lanes.new }
+        ensures counted { EachIndex counts.new (λ k.
+            slice_index counts.new k ≡ length (items_of k self.old.taken)) }
+
+        // Those left over were taken now, and nothing was sent.
+        ensures taken { self.new ≡ record self.old { taken = self.old.taken ++ left.new.items } }
+        ensures lanes { map unmet lanes.new ≡ map unmet lanes.old }
+    {
+        counts.copy_from_slice(self.counts.as_slice());
+        for _ in rt.forever() {
+            self.drain(rt, left);
+            if self.meets_all(lanes) {
+                return;
+            }
+        }
+        unreachable!()
+    }
+
+    // Takes what is there, as far as there is room for it.
+    fn drain<R: Wait>(&mut self, rt: &R, left: &mut Vec<(u8, T)>)
+        ensures { TakesMore self.old self.new left.old.items left.new.items }
+    {
+        for _ in 0..INBOX_ITEMS {
+            if left.len() >= left.capacity() {
+                return;
+            }
+            let Some(item) = self.take(rt) else {
+                return;
+            };
+            if left.push(item).is_err() {
+                unreachable!()
+            }
+        }
+    }
+
+    // Whether all that these lanes sent was taken.
+    fn meets_all(&mut self, lanes: &mut [Lane<T, J>]) -> bool
+        requires { All (λ s. s.inbox ≡ self.old.inbox) lanes.old }
+        ensures all { IsTrue result → All (IsTaken self.old.taken) lanes.new }
+        ensures receiver { self.new ≡ self.old }
+        ensures lanes { map unmet lanes.new ≡ map unmet lanes.old }
+    {
+        for lane in lanes.iter_mut() {
+            if self.meet(lane) != lane.count() {
+                return false;
+            }
+        }
+        true
     }
 }
