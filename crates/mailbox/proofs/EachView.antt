@@ -1,6 +1,6 @@
 -- What holds of each pass's view holds still after one of them changed, or one more came.
 use Rattle.std.specs.Prelude.{◌≡◌, ◌≢◌, ◌⊎◌, ℕ, zero, suc, List, [], ◌∷◌, ◌++◌, length, slice_set, refl}
-use Rattle.std.proofs.Common.{sym, ap, subst, inl, inr, ⊎_elim, arith}
+use Rattle.std.proofs.Common.{sym, ap, subst, inl, inr, ⊎_elim}
 use mathlib.Core.Option.{some, some-injective, some-ne-none}
 use lib.ListN.{get_elem?}
 use Rattle.crossbeam_queue.proofs.Lists.{at_set}
@@ -15,9 +15,9 @@ module _ {V : Type 0} where
       → Each F (slice_set views port w)
   each_set F views port w mine others j u e =
       ⊎_elim
-        (λ (x : (j ≡ port) × (w ≡ u)). subst (λ (y : ℕ × V). F y.0 y.1) (λ i. (sym x.0 i, x.1 i)) mine)
-        (λ (x : (j ≢ port) × (get_elem? views j ≡ some u)). others j u x.0 x.1)
-        (at_set views port j w u e)
+      (λ (x : (j ≡ port) × (w ≡ u)). subst (λ (y : ℕ × V). F y.0 y.1) (λ i. (sym x.0 i, x.1 i)) mine)
+      (λ (x : (j ≢ port) × (get_elem? views j ≡ some u)). others j u x.0 x.1)
+      (at_set views port j w u e)
 
   -- what stands in a longer list stood there before, or is the new one at its end
   pub at_end : (views : List V) (new : V) (j : ℕ) (u : V) → get_elem? (views ++ new ∷ []) j ≡ some u
@@ -34,6 +34,6 @@ module _ {V : Type 0} where
       → Each F (views ++ new ∷ [])
   each_snoc F views new all last j u e =
       ⊎_elim
-        (λ there. all j u there)
-        (λ (x : (j ≡ length views) × (new ≡ u)). subst (λ (y : ℕ × V). F y.0 y.1) (λ i. (sym x.0 i, x.1 i)) last)
-        (at_end views new j u e)
+      (λ there. all j u there)
+      (λ (x : (j ≡ length views) × (new ≡ u)). subst (λ (y : ℕ × V). F y.0 y.1) (λ i. (sym x.0 i, x.1 i)) last)
+      (at_end views new j u e)

@@ -1,6 +1,6 @@
 -- The items of a lane in a list are those of its parts, in their order.
-use Rattle.std.specs.Prelude.{◌≡◌, ◌≢◌, ◌==◌, ℕ, ◌+◌, ◌<◌, ◌≤◌, Bool, true, false, List, [], ◌∷◌, ◌++◌, length, if◌then◌else◌, refl}
-use Rattle.std.proofs.Common.{sym, ◌∙◌, ap, eq-eqb, ne_eqb, arith}
+use Rattle.std.specs.Prelude.{◌≡◌, ◌≢◌, ◌==◌, ℕ, Bool, true, false, List, [], ◌∷◌, ◌++◌, if◌then◌else◌, refl}
+use Rattle.std.proofs.Common.{ap, eq-eqb, ne_eqb}
 use Rattle.mailbox.specs.Delivery.{items_of}
 
 module _ {T : Type 0} where

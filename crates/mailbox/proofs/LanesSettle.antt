@@ -1,5 +1,5 @@
 -- Where all that the lanes sent was taken, what was counted and what is left over are all of it.
-use Rattle.std.specs.Prelude.{◌≡◌, ◌≢◌, ℕ, zero, suc, ◌+◌, ◌<◌, ◌≤◌, List, [], ◌∷◌, ◌++◌, length, map, take, slice_index, slice_index_or, slice_set, refl}
+use Rattle.std.specs.Prelude.{◌≡◌, ℕ, zero, suc, ◌<◌, List, [], ◌∷◌, ◌++◌, length, map, take, slice_index, slice_index_or, refl}
 use Rattle.std.proofs.Common.{sym, ◌∙◌, ap, subst, arith}
 use Rattle.std.proofs.lemmas.List.{take_all, length-map, map-append}
 use Rattle.std.proofs.lemmas.List.Elements.{All-append}
@@ -19,7 +19,7 @@ all_like P f xs ys e all k d within =
     let size : length xs ≡ length ys = sym (length-map xs f) ∙ ap length e ∙ length-map ys f in
     let there : k < length ys = omega arith in
     let same : f (slice_index_or xs k d) ≡ f (slice_index_or ys k d) =
-      sym (get_or-map f xs k d) ∙ ap (λ l. slice_index_or l k (f d)) e ∙ get_or-map f ys k d in
+    sym (get_or-map f xs k d) ∙ ap (λ l. slice_index_or l k (f d)) e ∙ get_or-map f ys k d in
     subst P (sym same) (all k d there)
 
 module _ {T : Type 0} where
@@ -34,8 +34,8 @@ module _ {T : Type 0} where
   fresh_all P inbox zero p = λ k d within. absurd (omega arith)
   fresh_all P inbox (suc lanes) p =
       All-append P (fresh_lanes inbox lanes) _
-        (fresh_all P inbox lanes (λ k h. p k (omega arith)))
-        (only P _ (p lanes (omega arith)))
+      (fresh_all P inbox lanes (λ k h. p k (omega arith)))
+      (only P _ (p lanes (omega arith)))
 
   fresh_map : (inbox lanes : ℕ) → map as_made (fresh_lanes {T = T} inbox lanes) ≡ fresh_lanes inbox lanes
   fresh_map inbox zero = refl
@@ -51,7 +51,7 @@ module _ {T : Type 0} where
       → All (λ s. P (as_made s)) lanes
   of_all_lanes P r lanes are p =
       all_like P as_made lanes (fresh_lanes r.inbox r.lanes) (are ∙ sym (fresh_map r.inbox r.lanes))
-        (fresh_all (λ s. P (as_made s)) r.inbox r.lanes p)
+      (fresh_all (λ s. P (as_made s)) r.inbox r.lanes p)
 
   made_of_unmet : (lanes : List (Sender T)) → map as_made (map unmet lanes) ≡ map as_made lanes
   made_of_unmet [] = refl
@@ -99,5 +99,5 @@ module _ {T : Type 0} where
       → All (ArrivesWhole counts left) lanes
   settled counts before now left r lanes is counted are all k d within =
       arrives counts before now left (slice_index_or lanes k d) is
-        (of_all_lanes (λ s. slice_index counts s.lane ≡ length (items_of s.lane before)) r lanes are counted k d within)
-        (all k d within)
+      (of_all_lanes (λ s. slice_index counts s.lane ≡ length (items_of s.lane before)) r lanes are counted k d within)
+      (all k d within)

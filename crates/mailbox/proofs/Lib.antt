@@ -1,3 +1,4 @@
+mod AllLanesByPlace
 mod CountsAreKept
 mod EachView
 mod ItemsOfALane

@@ -1,9 +1,7 @@
 -- A push by a lane and a pop by the receiver keep the rule of the inbox.
-use Rattle.std.specs.Prelude.{◌≡◌, ◌≢◌, ◌⊎◌, ℕ, ◌+◌, ◌^◌, ◌<◌, ◌≤◌, true, List, [], ◌∷◌, ◌++◌, length, refl}
+use Rattle.std.specs.Prelude.{◌≡◌, ◌≢◌, ◌⊎◌, ℕ, ◌^◌, ◌<◌, ◌≤◌, true, List, [], ◌∷◌, ◌++◌, length, refl}
 use Rattle.std.proofs.Common.{sym, ◌∙◌, ap, subst, inl, inr, ⊎_elim, append_assoc, append-nil, length-append, lt_of_not-le, arith}
 use native.Mathlib.Decide.{ℕ_discrete}
-use mathlib.Core.Option.{some}
-use lib.ListN.{get_elem?}
 use Rattle.crossbeam_queue.specs.Fifo.{Pushes, Pops}
 use Rattle.mailbox.specs.declared.view.View.{View}
 use Rattle.mailbox.specs.Delivery.{items_of, FitsLane, FitsReceiver, Delivers}
@@ -26,12 +24,12 @@ module _ {T : Type 0} where
       → length (sent lane ++ items_of lane (x ∷ [])) ≤ 2 ^ 55
   few_later sent x lane few short =
       ⊎_elim
-        (λ (same : x.0 ≡ lane).
-            let short' : length (sent lane) < 2 ^ 55 = subst (λ k. length (sent k) < 2 ^ 55) same short in
-            rw (items_of-same lane x [] same, length-append (sent lane) (x.1 ∷ [])) (omega arith))
-        (λ (other : x.0 ≢ lane).
-            rw (items_of-other lane x [] other, append-nil (sent lane)) (few lane))
-        (same_or_other x.0 lane)
+      (λ (same : x.0 ≡ lane).
+      let short' : length (sent lane) < 2 ^ 55 = subst (λ k. length (sent k) < 2 ^ 55) same short in
+      rw (items_of-same lane x [] same, length-append (sent lane) (x.1 ∷ [])) (omega arith))
+      (λ (other : x.0 ≢ lane).
+      rw (items_of-other lane x [] other, append-nil (sent lane)) (few lane))
+      (same_or_other x.0 lane)
 
   -- what a lane sent is the same after the push of another
   others_sent : (sent : ℕ → List T) (x : ℕ × T) (lane : ℕ)
@@ -67,23 +65,22 @@ module _ {T : Type 0} where
           unmade = λ k far.
               let other : x.0 ≢ k = λ e. omega (arith, e, mine, known.3) in
               sym (others_sent h.sent x k other) ∙ h.unmade k far;
-          fits = each_set F views port w
-            (
-              (λ _. (
-                known.0,
-                ap (λ l. l ++ x.1 ∷ []) known.1 ∙ ap (λ l. h.sent v.lane ++ l) (sym (items_of-same v.lane x [] mine)),
-                known.2,
-                known.3,
-              )),
-              (h.fits port v at).1,
-            )
-            (λ j u apart e. (
-              (λ p.
-                  let theirs = (h.fits j u e).0 p in
-                  let other : x.0 ≢ u.lane = λ same. apart (theirs.0 ∙ ap h.seat (sym same ∙ mine) ∙ sym known.0) in
-                  (theirs.0, theirs.1 ∙ others_sent h.sent x u.lane other, theirs.2, theirs.3)),
-              (h.fits j u e).1,
-            ))
+          fits = each_set F views port w (
+            (λ _. (
+              known.0,
+              ap (λ l. l ++ x.1 ∷ []) known.1 ∙ ap (λ l. h.sent v.lane ++ l) (sym (items_of-same v.lane x [] mine)),
+              known.2,
+              known.3,
+            )),
+            (h.fits port v at).1,
+          )
+              (λ j u apart e. (
+                (λ p.
+                    let theirs = (h.fits j u e).0 p in
+                    let other : x.0 ≢ u.lane = λ same. apart (theirs.0 ∙ ap h.seat (sym same ∙ mine) ∙ sym known.0) in
+                    (theirs.0, theirs.1 ∙ others_sent h.sent x u.lane other, theirs.2, theirs.3)),
+                (h.fits j u e).1,
+              ));
         },
         refl,
       )
@@ -93,7 +90,7 @@ module _ {T : Type 0} where
       → x.0 < h.made
   made_before items views x h = lt_of_not-le (λ far.
       let all : items_of x.0 h.taken ++ items_of x.0 (x ∷ items) ≡ [] =
-        sym (items_of-append x.0 h.taken (x ∷ items)) ∙ h.whole x.0 ∙ h.unmade x.0 far in
+      sym (items_of-append x.0 h.taken (x ∷ items)) ∙ h.whole x.0 ∙ h.unmade x.0 far in
       let size = ap length all in
       let one = ap length (items_of-same x.0 x items refl) in
       omega (arith, length-append (items_of x.0 h.taken) (items_of x.0 (x ∷ items)), size, one))
@@ -103,7 +100,7 @@ module _ {T : Type 0} where
       → length (items_of x.0 h.taken) < 2 ^ 55
   short_before items views x h =
       let all : items_of x.0 h.taken ++ items_of x.0 (x ∷ items) ≡ h.sent x.0 =
-        sym (items_of-append x.0 h.taken (x ∷ items)) ∙ h.whole x.0 in
+      sym (items_of-append x.0 h.taken (x ∷ items)) ∙ h.whole x.0 in
       let size = ap length all in
       let one = ap length (items_of-same x.0 x items refl) in
       omega (arith, length-append (items_of x.0 h.taken) (items_of x.0 (x ∷ items)), size, one, h.few x.0)
@@ -132,19 +129,18 @@ module _ {T : Type 0} where
           whole = λ k. ap (items_of k) (append_assoc h.taken (x ∷ []) items) ∙ h.whole k;
           few = h.few;
           unmade = h.unmade;
-          fits = each_set F views port w
-            (
-              (λ p.
-                  let lane = (h.fits port v at).0 p in
-                  (lane.0, lane.1, taken_grows v.met v.lane h.taken x lane.2, lane.3)),
-              (λ _. (known.0, ap (λ l. l ++ x ∷ []) known.1, known.2)),
-            )
-            (λ j u apart e. (
-              (λ p.
-                  let lane = (h.fits j u e).0 p in
-                  (lane.0, lane.1, taken_grows u.met u.lane h.taken x lane.2, lane.3)),
-              (λ p. absurd (apart (((h.fits j u e).1 p).0 ∙ sym known.0))),
-            ))
+          fits = each_set F views port w (
+            (λ p.
+                let lane = (h.fits port v at).0 p in
+                (lane.0, lane.1, taken_grows v.met v.lane h.taken x lane.2, lane.3)),
+            (λ _. (known.0, ap (λ l. l ++ x ∷ []) known.1, known.2)),
+          )
+              (λ j u apart e. (
+                (λ p.
+                    let lane = (h.fits j u e).0 p in
+                    (lane.0, lane.1, taken_grows u.met u.lane h.taken x lane.2, lane.3)),
+                (λ p. absurd (apart (((h.fits j u e).1 p).0 ∙ sym known.0))),
+              ));
         },
         (
           refl,

@@ -19,7 +19,7 @@ lane_view lane sent met = record {
   met = met;
   gets = false;
   lanes = 0;
-  taken = []
+  taken = [];
 }
 
 -- what the receiver knows: how many lanes there are, and what it took
@@ -31,7 +31,7 @@ receiver_view lanes taken = record {
   met = 0;
   gets = true;
   lanes = lanes;
-  taken = taken
+  taken = taken;
 }
 
 module _ {T : Type 0} where

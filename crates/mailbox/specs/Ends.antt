@@ -1,6 +1,8 @@
 -- What the two ends of an inbox show: its lanes, which send, and its receiver, which takes.
-use Rattle.std.specs.Prelude.{◌≡◌, ℕ, zero, suc, ◌^◌, ◌<◌, ◌≤◌, List, [], ◌∷◌, ◌++◌, length, map, take, slice_index}
+use Rattle.std.specs.Prelude.{◌≡◌, ℕ, zero, suc, ◌≤◌, List, [], ◌∷◌, ◌++◌, length, map, take, slice_index}
 use Rattle.crossbeam_queue.specs.Fifo.{Held}
+use Rattle.mailbox.specs.declared.inbox.TheConstants.{INBOX_ITEMS}
+use Rattle.mailbox.specs.declared.lane.TheConstants.{MOST_SENT}
 use Rattle.mailbox.specs.Delivery.{items_of, lane_view, receiver_view, Moment}
 
 -- a lane: the number of its inbox, its own, and how many of its items it knows to be taken
@@ -27,11 +29,11 @@ module _ {T : Type 0} where
 
   -- at one moment the inbox held as many items as it can
   abbrev pub WasFull : Sender T → Type 0
-  WasFull s = Held 1024 (Moment (lane_view s.lane s.sent s.met))
+  WasFull s = Held INBOX_ITEMS (Moment (lane_view s.lane s.sent s.met))
 
   -- the lane has sent as much as it ever may
   abbrev pub IsSpent : Sender T → Type 0
-  IsSpent s = 2 ^ 55 ≤ length s.sent
+  IsSpent s = MOST_SENT ≤ length s.sent
 
   -- at one moment the inbox held nothing
   abbrev pub WasEmpty : Taker T → Type 0

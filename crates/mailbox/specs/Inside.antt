@@ -1,7 +1,8 @@
 -- What each use of a pass does to what is known, and what lanes and receivers keep.
-use Rattle.std.specs.Prelude.{◌≡◌, ℕ, ◌+◌, ◌^◌, ◌<◌, ◌≤◌, true, false, List, [], ◌∷◌, ◌++◌, length, slice_index}
+use Rattle.std.specs.Prelude.{◌≡◌, ℕ, ◌^◌, ◌<◌, ◌≤◌, false, List, [], ◌∷◌, ◌++◌, length, slice_index}
 use Rattle.atomic_table.specs.Seated.{TableId}
 use Rattle.crossbeam_queue.specs.Passes.{Pass, view}
+use Rattle.mailbox.specs.declared.inbox.TheConstants.{INBOX_ITEMS}
 use Rattle.mailbox.specs.declared.view.View.{View}
 use Rattle.mailbox.specs.Delivery.{items_of, lane_view, receiver_view}
 use Rattle.mailbox.specs.Ends.{Sender, Taker}
@@ -16,7 +17,7 @@ module _ {T : Type 0} where
     met = 0;
     gets = false;
     lanes = 0;
-    taken = []
+    taken = [];
   }
 
   -- a push: the lane sent one item more
@@ -56,7 +57,7 @@ pub record LaneKept {T : Type 0}
   pub of_queue : pass.table_id ≡ queue
   pub at_rest : pass.me.1 ≡ []
   pub named : queue ≡ name
-  pub has_room : room ≡ 1024
+  pub has_room : room ≡ INBOX_ITEMS
   pub role : view pass ≡ lane_view lane (view pass).sent (view pass).met
   pub counted : count ≡ length (view pass).sent
 
@@ -67,7 +68,7 @@ pub record ReceiverKept {T : Type 0}
   pub of_queue : pass.table_id ≡ queue
   pub at_rest : pass.me.1 ≡ []
   pub named : queue ≡ name
-  pub has_room : room ≡ 1024
+  pub has_room : room ≡ INBOX_ITEMS
   pub role : view pass ≡ receiver_view (length counts) (view pass).taken
   pub counted :
       (lane : ℕ)
@@ -75,11 +76,13 @@ pub record ReceiverKept {T : Type 0}
       → slice_index counts lane ≡ length (items_of lane (view pass).taken)
 
 -- what an inbox keeps that has no lanes yet
-pub record InboxKept {T : Type 0} (queue : TableId) (room : ℕ) (pass : Pass (ℕ × T) (View T)) : Type 0 where
+pub record InboxKept {T : Type 0}
+    (queue : TableId) (room : ℕ) (pass : Pass (ℕ × T) (View T))
+    : Type 0 where
   pub of_queue : pass.table_id ≡ queue
   pub at_rest : pass.me.1 ≡ []
-  pub has_room : room ≡ 1024
-  pub has_slots : queue.slots ≡ 1024
+  pub has_room : room ≡ INBOX_ITEMS
+  pub has_slots : queue.slots ≡ INBOX_ITEMS
   pub role : view pass ≡ receiver_view 0 []
 
 -- what the receiver took more is what joined the list

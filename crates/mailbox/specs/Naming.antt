@@ -11,5 +11,5 @@ no_inbox = record {
   atom = 0;
   block = 0;
   offset = 0;
-  slot_names = []
+  slot_names = [];
 }

@@ -33,10 +33,10 @@ impl<T: Drop, J: Naming> Model for Lane<T, J> {
     ghost use Rattle.mailbox.specs.Inside.{LaneKept};
 
     ghost view = { λ l. record {
-        inbox = l.inbox;
-        lane = l.lane;
-        met = (known_by l.pass).met;
-        sent = (known_by l.pass).sent
+      inbox = l.inbox;
+      lane = l.lane;
+      met = (known_by l.pass).met;
+      sent = (known_by l.pass).sent;
     } };
 
     ghost invariant = { λ l. LaneKept
@@ -84,7 +84,10 @@ impl<T: Drop, J: Naming> Lane<T, J> {
         if self.count >= MOST_SENT {
             return Err(item);
         }
-        match self.queue.push_as::<Sends, R>(rt, &mut self.pass, (self.lane, item)) {
+        match self
+            .queue
+            .push_as::<Sends, R>(rt, &mut self.pass, (self.lane, item))
+        {
             Ok(()) => {
                 self.count += 1;
                 Ok(())

@@ -8,10 +8,11 @@ mod lane;
 mod moves;
 mod naming;
 mod receiver;
+#[cfg(test)]
+mod tests;
 mod view;
 
 pub use inbox::{INBOX_ITEMS, Inbox, MOST_LANES};
 pub use lane::{Lane, MOST_SENT};
 pub use naming::Naming;
 pub use receiver::Receiver;
-pub use view::View;

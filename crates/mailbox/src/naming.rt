@@ -3,7 +3,7 @@
 use std::marker::Brand;
 
 /// Which inbox each number stands for in a run, fixed before the first is named. A function that is
-/// generic in a `Naming` can tell by their numbers that a lane and a receiver are of one inbox, also
+/// generic in a `Naming` can tell by their numbers that a lane and a receiver are of one inbox, even
 /// behind a lock. Its caller passes [`Brand`] and picks the inboxes that it made.
 pub trait Naming {
     ghost use Rattle.std.specs.Prelude.{ℕ};

@@ -1,6 +1,6 @@
 // The receiving end of an inbox.
 
-ghost use Rattle.std.specs.Prelude.{◌≡◌, ◌++◌, ◌∷◌, [], ◌<◌, ◌≤◌, length, take, ◌+◌, IfSome, IfNone, IfOk, OnOk, All, EachIndex, IsTrue, map, slice_index, vec_capacity};
+ghost use Rattle.std.specs.Prelude.{◌≡◌, ◌++◌, ◌∷◌, [], ◌<◌, ◌≤◌, length, take, ◌+◌, IfSome, IfNone, IfOk, OnOk, All, EachIndex, IsTrue, ◌↔◌, map, slice_index, vec_capacity};
 ghost use Rattle.mailbox.specs.Delivery.{items_of};
 ghost use Rattle.mailbox.specs.Ends.{Taker, Sender, WasEmpty, AreAllLanes, ArrivesWhole, unmet};
 ghost use Rattle.mailbox.specs.Inside.{TakesMore, IsTaken};
@@ -35,9 +35,9 @@ impl<T: Drop, J: Naming> Model for Receiver<T, J> {
     ghost use Rattle.mailbox.specs.Inside.{ReceiverKept};
 
     ghost view = { λ r. record {
-        inbox = r.inbox;
-        lanes = length r.counts.items;
-        taken = (known_by r.pass).taken
+      inbox = r.inbox;
+      lanes = length r.counts.items;
+      taken = (known_by r.pass).taken;
     } };
 
     ghost invariant = { λ r. ReceiverKept
@@ -61,6 +61,21 @@ impl<T: Drop, J: Naming> Receiver<T, J> {
         ensures { result ≡ self.now.lanes }
     {
         self.counts.len()
+    }
+
+    /// Whether these are all lanes of this inbox, in the order of their numbers.
+    pub fn has_all(&self, lanes: &[Lane<T, J>]) -> bool
+        ensures { IsTrue result ↔ AreAllLanes self.now lanes.now }
+    {
+        if lanes.len() != self.lanes() {
+            return false;
+        }
+        for (place, lane) in lanes.iter().enumerate() {
+            if lane.number() != self.number() || usize::from(lane.lane()) != place {
+                return false;
+            }
+        }
+        true
     }
 
     /// Takes the item that came first, with the number of its lane. There is none only where the

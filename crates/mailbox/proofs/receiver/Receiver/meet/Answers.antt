@@ -1,4 +1,4 @@
-use Rattle.std.proofs.Common.{◌∙◌, sym, ap}
+use Rattle.std.proofs.Common.{◌∙◌, ap}
 use Rattle.mailbox.proofs.PassesKeepTheRule.{lends}
 use Rattle.mailbox.proofs.MeetingKeepsTheRule.{meets, learns, parts}
 use Rattle.mailbox.proofs.receiver.Receiver.meet.Goals as goal
@@ -18,13 +18,13 @@ learn_as-requires-clause-rule g c =
     let lent = c.another-lent.ensures.rule.1 ∙ c.lane.invariant.role in
     let both = c.absorb.ensures.rule in
     learns _ _
-      (ap (λ v. v.sends) both ∙ ap (λ v. v.sends) lent)
-      (ap (λ v. v.gets) both ∙ ap (λ v. v.gets) c.self.invariant.role)
+    (ap (λ v. v.sends) both ∙ ap (λ v. v.sends) lent)
+    (ap (λ v. v.gets) both ∙ ap (λ v. v.gets) c.self.invariant.role)
 
 pub another-requires-clause-rule : goal.another-requires-clause-rule
 another-requires-clause-rule g c =
     let lent = c.another-lent.ensures.rule.1 ∙ c.lane.invariant.role in
     let both = c.learn_as.ensures.queue.1 ∙ c.absorb.ensures.rule in
     parts _ _
-      (ap (λ v. v.sends) both ∙ ap (λ v. v.sends) lent)
-      (ap (λ v. v.gets) both ∙ ap (λ v. v.gets) c.self.invariant.role)
+    (ap (λ v. v.sends) both ∙ ap (λ v. v.sends) lent)
+    (ap (λ v. v.gets) both ∙ ap (λ v. v.gets) c.self.invariant.role)

@@ -14,7 +14,7 @@ meet-requires g c =
 
 pub returns-then-meet-count-clause-lanes : goal.returns-then-meet-count-clause-lanes
 returns-then-meet-count-clause-lanes g c =
-    map-set_same unmet _ _ _ c.lane-item.result (ap unmet c.meet.ensures.lane) ∙ c.loop-lane.invariant.lanes
+    map-set_same unmet c.loop-lane.lanes c.loop-lane.lane-index c.meet.new.lane c.lane-item.result (ap unmet c.meet.ensures.lane) ∙ c.loop-lane.invariant.lanes
 
 pub loop-lane-preserved : goal.loop-lane-preserved
 loop-lane-preserved g c =
@@ -22,9 +22,9 @@ loop-lane-preserved g c =
     let same : c.meet.new.self.taken ≡ c.loop-lane.self.taken = ap (λ r. r.taken) c.meet.ensures.receiver in
     let met = c.meet.ensures in record {
       receiver = known;
-      lanes = map-set_same unmet _ _ _ c.lane-item.result (ap unmet met.lane) ∙ c.loop-lane.invariant.lanes;
+      lanes = map-set_same unmet c.loop-lane.lanes c.loop-lane.lane-index c.meet.new.lane c.lane-item.result (ap unmet met.lane) ∙ c.loop-lane.invariant.lanes;
       so_far =
           AllWithin-more_set c.loop-lane.lanes c.loop-lane.lane-index c.meet.new.lane (omega arith) (IsTaken c.meet.new.self.taken)
-            (λ k d low below. subst (λ l. IsTaken l (slice_index_or c.loop-lane.lanes k d)) (sym same) (c.loop-lane.invariant.so_far k d low below))
-            (met_all c.loop-lane.self.taken _ (slice_index_or c.loop-lane.lanes c.loop-lane.lane-index c.lane-item.result) _ _ _ met.lane met.first c.count.ensures c.if-meet-count.false same)
+          (λ k d low below. subst (λ l. IsTaken l (slice_index_or c.loop-lane.lanes k d)) (sym same) (c.loop-lane.invariant.so_far k d low below))
+          (met_all c.loop-lane.self.taken _ (slice_index_or c.loop-lane.lanes c.loop-lane.lane-index c.lane-item.result) _ _ _ met.lane met.first c.count.ensures c.if-meet-count.false same);
     }

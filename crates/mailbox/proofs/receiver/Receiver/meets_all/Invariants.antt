@@ -8,5 +8,5 @@ abbrev pub invariant-loop-lane : goal.invariant-loop-lane
 invariant-loop-lane g l = record {
   receiver : l.self ≡ l.initial.self;
   lanes : map unmet l.lanes ≡ map unmet l.initial.lanes;
-  so_far : AllWithin (IsTaken l.self.taken) l.lanes 0 l.lane-index
+  so_far : AllWithin (IsTaken l.self.taken) l.lanes 0 l.lane-index;
 }

@@ -12,8 +12,8 @@ pub invariant_of-self-2 : goal.invariant_of-self-2
 invariant_of-self-2 g c =
     let took = c.in_ok-lane.ensures in
     kept_on _ _ _ _ _ _ (c.in_ok-lane.lane, c.in_ok-lane.item) _ _
-      c.self.invariant
-      took.queue
-      took.rule
-      c.from.ensures
-      c.index_mut.ensures.value
+    c.self.invariant
+    took.queue
+    took.rule
+    c.from.ensures
+    c.index_mut.ensures.value
