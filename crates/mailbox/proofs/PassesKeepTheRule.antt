@@ -1,0 +1,107 @@
+-- Making lanes, and sharing out what their passes know, keep the rule of the inbox.
+use Rattle.std.specs.Prelude.{◌≡◌, ◌≢◌, ℕ, ◌+◌, true, false, List, [], ◌∷◌, length, slice_set, refl}
+use Rattle.std.proofs.Common.{sym, ◌∙◌, ap, arith}
+use mathlib.Core.Option.{some, some-ne-none}
+use lib.ListN.{get_elem?}
+use Rattle.crossbeam_queue.specs.Fifo.{Forks}
+use Rattle.mailbox.specs.declared.view.View.{View}
+use Rattle.mailbox.specs.Delivery.{lane_view, receiver_view, FitsLane, FitsReceiver, Delivers}
+use Rattle.mailbox.specs.Inside.{nobody}
+use Rattle.mailbox.proofs.EachView.{each_set, each_snoc}
+use Rattle.mailbox.proofs.Seats.{seated, seated-same, seated-other, not_false}
+
+module _ {T : Type 0} where
+  -- an inbox that nobody used yet
+  pub begins : Delivers {T = T} [] (receiver_view 0 [] ∷ [])
+  begins = record {
+    reader = 0;
+    made = 0;
+    seat = λ _. 0;
+    sent = λ _. [];
+    taken = [];
+    whole = λ _. refl;
+    few = λ _. omega arith;
+    unmade = λ _ _. refl;
+    fits =
+        each_snoc
+        (λ j u. FitsLane {T = T} (λ _. 0) (λ _. []) [] 0 j u × FitsReceiver {T = T} 0 [] 0 j u)
+        []
+        (receiver_view 0 [])
+        (λ j u e. absurd (some-ne-none u (sym e)))
+        ((λ p. absurd (not_false p)), λ _. (refl, refl, refl));
+  }
+
+  pub deals : (port : ℕ) (v : View T)
+      → v.gets ≡ true
+      → Forks Delivers port v (record v { lanes = v.lanes + 1 }) (lane_view v.lanes [] 0)
+  deals port v gets items views h at =
+      let known = (h.fits port v at).1 gets in
+      let left : View T = record v { lanes = v.lanes + 1 } in
+      let right : View T = lane_view v.lanes [] 0 in
+      let vs : List (View T) = slice_set views port left in
+      let seat = seated h.made (length vs) h.seat in
+      let F : ℕ → View T → Type 0 = λ j u. FitsLane seat h.sent h.taken (h.made + 1) j u × FitsReceiver h.reader h.taken (h.made + 1) j u in
+      let still : (j : ℕ) (u : View T) → get_elem? views j ≡ some u → FitsLane seat h.sent h.taken (h.made + 1) j u = λ j u e p.
+      let lane = (h.fits j u e).0 p in (
+        lane.0 ∙ sym (seated-other h.made (length vs) h.seat u.lane (λ same. omega (arith, same, lane.3))),
+        lane.1,
+        lane.2,
+        omega (arith, lane.3),
+      ) in
+      record {
+        reader = h.reader;
+        made = h.made + 1;
+        seat = seat;
+        sent = h.sent;
+        taken = h.taken;
+        whole = h.whole;
+        few = h.few;
+        unmade = λ k far. h.unmade k (omega arith);
+        fits =
+            each_snoc F vs right
+            (each_set F views port left
+            (still port v at, λ _. (known.0, known.1, ap (λ n. n + 1) known.2))
+            (λ j u apart e. (
+              still j u e,
+              λ p. absurd (apart (((h.fits j u e).1 p).0 ∙ sym known.0)),
+            ))) (
+              (λ _. (
+                sym (seated-same h.made (length vs) h.seat v.lanes known.2),
+                sym (h.unmade v.lanes (omega (arith, known.2))),
+                omega arith,
+                omega (arith, known.2),
+              )),
+              λ p. absurd (not_false p),
+            );
+      }
+
+  pub lends : (port : ℕ) (v : View T) → v.sends ≡ true → v.gets ≡ false → Forks Delivers port v nobody v
+  lends port v sends gets items views h at =
+      let known = (h.fits port v at).0 sends in
+      let vs : List (View T) = slice_set views port nobody in
+      let seat = seated v.lane (length vs) h.seat in
+      let F : ℕ → View T → Type 0 = λ j u. FitsLane seat h.sent h.taken h.made j u × FitsReceiver h.reader h.taken h.made j u in
+      record {
+        reader = h.reader;
+        made = h.made;
+        seat = seat;
+        sent = h.sent;
+        taken = h.taken;
+        whole = h.whole;
+        few = h.few;
+        unmade = h.unmade;
+        fits =
+            each_snoc F vs v
+            (each_set F views port nobody
+            ((λ p. absurd (not_false p)), λ p. absurd (not_false p))
+            (λ j u apart e. (
+              (λ p.
+                  let lane = (h.fits j u e).0 p in
+                  let other : u.lane ≢ v.lane = λ same. apart (lane.0 ∙ ap h.seat same ∙ sym known.0) in
+                  (lane.0 ∙ sym (seated-other v.lane (length vs) h.seat u.lane other), lane.1, lane.2, lane.3)),
+              (h.fits j u e).1,
+            ))) (
+              (λ _. (sym (seated-same v.lane (length vs) h.seat v.lane refl), known.1, known.2, known.3)),
+              λ p. absurd (not_false (sym gets ∙ p)),
+            );
+      }

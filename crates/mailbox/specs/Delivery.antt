@@ -1,0 +1,72 @@
+-- The rule of an inbox: for each lane, what was taken of it and what the inbox still holds of it
+-- are, in order, all that it sent.
+use Rattle.std.specs.Prelude.{◌≡◌, ◌==◌, ℕ, ◌^◌, ◌<◌, ◌≤◌, true, false, List, [], ◌∷◌, ◌++◌, length, if◌then◌else◌}
+use mathlib.Core.Option.{some}
+use lib.ListN.{get_elem?}
+use Rattle.mailbox.specs.declared.view.View.{View}
+
+-- the items of one lane, in order
+abbrev pub items_of : {T : Type 0} → ℕ → List (ℕ × T) → List T
+items_of lane [] = []
+items_of lane (x ∷ xs) = if x.0 == lane then x.1 ∷ items_of lane xs else items_of lane xs
+
+-- what a lane knows: its number, what it sent, and how many of these it knows to be taken
+abbrev pub lane_view : {T : Type 0} → ℕ → List T → ℕ → View T
+lane_view lane sent met = record {
+  sends = true;
+  lane = lane;
+  sent = sent;
+  met = met;
+  gets = false;
+  lanes = 0;
+  taken = [];
+}
+
+-- what the receiver knows: how many lanes there are, and what it took
+abbrev pub receiver_view : {T : Type 0} → ℕ → List (ℕ × T) → View T
+receiver_view lanes taken = record {
+  sends = false;
+  lane = 0;
+  sent = [];
+  met = 0;
+  gets = true;
+  lanes = lanes;
+  taken = taken;
+}
+
+module _ {T : Type 0} where
+  -- what a lane's pass knows is so, and no other pass is this lane's
+  abbrev pub FitsLane : (ℕ → ℕ) → (ℕ → List T) → List (ℕ × T) → ℕ → ℕ → View T → Type 0
+  FitsLane seat sent taken made port v =
+      v.sends ≡ true
+      → (port ≡ seat v.lane)
+      × (v.sent ≡ sent v.lane)
+      × (v.met ≤ length (items_of v.lane taken))
+      × (v.lane < made)
+
+  -- what the receiver's pass knows is so, and no other pass is the receiver's
+  abbrev pub FitsReceiver : ℕ → List (ℕ × T) → ℕ → ℕ → View T → Type 0
+  FitsReceiver reader taken made port v =
+      v.gets ≡ true → (port ≡ reader) × (v.taken ≡ taken) × (v.lanes ≡ made)
+
+-- the rule, over what the inbox holds and what each pass knows
+pub record Delivers {T : Type 0} (items : List (ℕ × T)) (views : List (View T)) : Type 0 where
+  pub reader : ℕ
+  pub made : ℕ
+  pub seat : ℕ → ℕ
+  pub sent : ℕ → List T
+  pub taken : List (ℕ × T)
+  pub whole : (lane : ℕ) → items_of lane (taken ++ items) ≡ sent lane
+  pub few : (lane : ℕ) → length (sent lane) ≤ 2 ^ 55
+  pub unmade : (lane : ℕ) → made ≤ lane → sent lane ≡ []
+  pub fits :
+      (port : ℕ) (v : View T)
+      → get_elem? views port ≡ some v
+      → FitsLane seat sent taken made port v × FitsReceiver reader taken made port v
+
+-- a moment at which the inbox held these items and one of its passes knew this
+pub record Moment {T : Type 0} (v : View T) (items : List (ℕ × T)) : Type 0 where
+  pub views : List (View T)
+  pub port : ℕ
+  pub holds : Delivers items views
+  pub knows : get_elem? views port ≡ some v

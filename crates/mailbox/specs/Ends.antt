@@ -1,0 +1,57 @@
+-- What the two ends of an inbox show: its lanes, which send, and its receiver, which takes.
+use Rattle.std.specs.Prelude.{◌≡◌, ℕ, zero, suc, ◌≤◌, List, [], ◌∷◌, ◌++◌, length, map, take, slice_index}
+use Rattle.crossbeam_queue.specs.Fifo.{Held}
+use Rattle.mailbox.specs.declared.inbox.TheConstants.{INBOX_ITEMS}
+use Rattle.mailbox.specs.declared.lane.TheConstants.{MOST_SENT}
+use Rattle.mailbox.specs.Delivery.{items_of, lane_view, receiver_view, Moment}
+
+-- a lane: the number of its inbox, its own, and how many of its items it knows to be taken
+pub record Sender (T : Type 0) : Type 0 where
+  pub inbox : ℕ
+  pub lane : ℕ
+  pub met : ℕ
+  -- history: no field keeps it
+  pub sent : List T
+
+-- a receiver: the number of its inbox, and how many lanes that has
+pub record Taker (T : Type 0) : Type 0 where
+  pub inbox : ℕ
+  pub lanes : ℕ
+  -- history: no field keeps it
+  pub taken : List (ℕ × T)
+
+module _ {T : Type 0} where
+  -- the lanes 0, 1, .. of a new inbox, in order, of which nothing was sent
+  abbrev pub fresh_lanes : ℕ → ℕ → List (Sender T)
+  fresh_lanes inbox zero = []
+  fresh_lanes inbox (suc lanes) =
+      fresh_lanes inbox lanes ++ record { inbox = inbox; lane = lanes; met = 0; sent = [] } ∷ []
+
+  -- at one moment the inbox held as many items as it can
+  abbrev pub WasFull : Sender T → Type 0
+  WasFull s = Held INBOX_ITEMS (Moment (lane_view s.lane s.sent s.met))
+
+  -- the lane has sent as much as it ever may
+  abbrev pub IsSpent : Sender T → Type 0
+  IsSpent s = MOST_SENT ≤ length s.sent
+
+  -- at one moment the inbox held nothing
+  abbrev pub WasEmpty : Taker T → Type 0
+  WasEmpty r = Held 0 (Moment (receiver_view r.lanes r.taken))
+
+  -- a lane as it was made
+  abbrev pub as_made : Sender T → Sender T
+  as_made s = record s { met = 0; sent = [] }
+
+  -- these are all lanes of the receiver's inbox, in order
+  abbrev pub AreAllLanes : Taker T → List (Sender T) → Type 0
+  AreAllLanes r lanes = map as_made lanes ≡ fresh_lanes r.inbox r.lanes
+
+  -- a lane, whatever it knows to be taken
+  abbrev pub unmet : Sender T → Sender T
+  unmet s = record s { met = 0 }
+
+  -- what was counted of a lane and what is left over of it are, in order, all that it sent
+  abbrev pub ArrivesWhole : List ℕ → List (ℕ × T) → Sender T → Type 0
+  ArrivesWhole counts left s =
+      take (slice_index counts s.lane) s.sent ++ items_of s.lane left ≡ s.sent

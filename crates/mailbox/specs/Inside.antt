@@ -1,0 +1,96 @@
+-- What each use of a pass does to what is known, and what lanes and receivers keep.
+use Rattle.std.specs.Prelude.{◌≡◌, ℕ, ◌^◌, ◌<◌, ◌≤◌, false, List, [], ◌∷◌, ◌++◌, length, slice_index}
+use Rattle.atomic_table.specs.Seated.{TableId}
+use Rattle.crossbeam_queue.specs.Passes.{Pass, view}
+use Rattle.mailbox.specs.declared.inbox.TheConstants.{INBOX_ITEMS}
+use Rattle.mailbox.specs.declared.view.View.{View}
+use Rattle.mailbox.specs.Delivery.{items_of, lane_view, receiver_view}
+use Rattle.mailbox.specs.Ends.{Sender, Taker}
+
+module _ {T : Type 0} where
+  -- a pass that knows nothing
+  abbrev pub nobody : View T
+  nobody = record {
+    sends = false;
+    lane = 0;
+    sent = [];
+    met = 0;
+    gets = false;
+    lanes = 0;
+    taken = [];
+  }
+
+  -- a push: the lane sent one item more
+  abbrev pub Sent : View T → (ℕ × T) → View T → Type 0
+  Sent v x w = w ≡ record v { sent = v.sent ++ x.1 ∷ [] }
+
+  -- a pop: the receiver took one item more, of a lane that was made and is not spent
+  abbrev pub Took : View T → (ℕ × T) → View T → Type 0
+  Took v x w =
+      (w ≡ record v { taken = v.taken ++ x ∷ [] })
+      × (x.0 < v.lanes)
+      × (length (items_of x.0 v.taken) < 2 ^ 55)
+
+  -- the receiver's view with a lane's taken in
+  abbrev pub joined : View T → View T → View T
+  joined v w = record v { sends = w.sends; lane = w.lane; sent = w.sent; met = w.met }
+
+  -- what was taken of the lane is a beginning of what it sent, and no less than it knew
+  pub record Learned (v : View T) : Type 0 where
+    pub rest : List T
+    pub beginning : v.sent ≡ items_of v.lane v.taken ++ rest
+    pub more : v.met ≤ length (items_of v.lane v.taken)
+    pub made : v.lane < v.lanes
+
+  -- what is the receiver's of a view that both share
+  abbrev pub receiver_part : View T → View T
+  receiver_part v = receiver_view v.lanes v.taken
+
+  -- what is the lane's, which knows now how much of it was taken
+  abbrev pub lane_part : View T → View T
+  lane_part v = lane_view v.lane v.sent (length (items_of v.lane v.taken))
+
+-- what a lane keeps: its pass, of the inbox that its number names, knows what the lane shows
+pub record LaneKept {T : Type 0}
+    (queue : TableId) (room : ℕ) (pass : Pass (ℕ × T) (View T)) (name : TableId) (lane count : ℕ)
+    : Type 0 where
+  pub of_queue : pass.table_id ≡ queue
+  pub at_rest : pass.me.1 ≡ []
+  pub named : queue ≡ name
+  pub has_room : room ≡ INBOX_ITEMS
+  pub role : view pass ≡ lane_view lane (view pass).sent (view pass).met
+  pub counted : count ≡ length (view pass).sent
+
+-- what a receiver keeps: the same, and how many items of each lane it took
+pub record ReceiverKept {T : Type 0}
+    (queue : TableId) (room : ℕ) (pass : Pass (ℕ × T) (View T)) (name : TableId) (counts : List ℕ)
+    : Type 0 where
+  pub of_queue : pass.table_id ≡ queue
+  pub at_rest : pass.me.1 ≡ []
+  pub named : queue ≡ name
+  pub has_room : room ≡ INBOX_ITEMS
+  pub role : view pass ≡ receiver_view (length counts) (view pass).taken
+  pub counted :
+      (lane : ℕ)
+      → lane < length counts
+      → slice_index counts lane ≡ length (items_of lane (view pass).taken)
+
+-- what an inbox keeps that has no lanes yet
+pub record InboxKept {T : Type 0}
+    (queue : TableId) (room : ℕ) (pass : Pass (ℕ × T) (View T))
+    : Type 0 where
+  pub of_queue : pass.table_id ≡ queue
+  pub at_rest : pass.me.1 ≡ []
+  pub has_room : room ≡ INBOX_ITEMS
+  pub has_slots : queue.slots ≡ INBOX_ITEMS
+  pub role : view pass ≡ receiver_view 0 []
+
+-- what the receiver took more is what joined the list
+pub record TakesMore {T : Type 0} (old new : Taker T) (list longer : List (ℕ × T)) : Type 0 where
+  pub more : List (ℕ × T)
+  pub history : new ≡ record old { taken = old.taken ++ more }
+  pub listed : longer ≡ list ++ more
+
+-- all that a lane sent was taken
+abbrev pub IsTaken : {T : Type 0} → List (ℕ × T) → Sender T → Type 0
+IsTaken taken s = items_of s.lane taken ≡ s.sent

@@ -1,0 +1,4 @@
+pub mod Delivery
+pub mod Ends
+pub mod Inside
+pub mod Naming

@@ -1,0 +1,84 @@
+// An inbox before it has lanes, and how it gets them.
+
+ghost use Rattle.std.specs.Prelude.{◌≡◌, ◌<◌, ◌≤◌, [], IfOk};
+ghost use Rattle.mailbox.specs.Ends.{fresh_lanes};
+
+use crate::lane::Lane;
+use crate::moves::{Knowledge, Queue};
+use crate::naming::Naming;
+use crate::receiver::Receiver;
+use std::alloc::{AllocError, Global};
+use std::marker::{Model, PhantomData};
+use std::sync::Arc;
+
+/// How many items an inbox holds.
+pub const INBOX_ITEMS: usize = 1_024;
+
+/// The most lanes of an inbox.
+pub const MOST_LANES: u8 = 16;
+
+/// An empty inbox that has no number and no lanes yet. To a contract it is its identity, which no
+/// other inbox shares.
+#[derive(Drop)]
+pub struct Inbox<T: Drop> {
+    queue: Arc<Queue<T>, Global>,
+    pass: Knowledge<T>,
+    alloc: Global,
+}
+
+impl<T: Drop> Model for Inbox<T> {
+    ghost use Rattle.atomic_table.specs.Seated.{TableId, table_id_coded};
+
+    ghost Value = { TableId };
+
+    ghost coded = { table_id_coded };
+
+    ghost use Rattle.std.specs.Arc.{arc_value};
+    ghost use Rattle.crossbeam_queue.specs.Passes.{ruled_capacity};
+    ghost use Rattle.mailbox.specs.Inside.{InboxKept};
+
+    ghost view = { λ n. (arc_value n.queue).table.shared.table_id };
+
+    ghost invariant = { λ n. InboxKept
+        (arc_value n.queue).table.shared.table_id
+        (ruled_capacity (arc_value n.queue))
+        n.pass };
+}
+
+impl<T: Drop> Inbox<T> {
+    /// An empty inbox with room for [`INBOX_ITEMS`] items.
+    pub fn new(alloc: Global) -> Result<Self, AllocError>
+        ensures { IfOk result (λ n. n.slots ≡ INBOX_ITEMS) }
+    {
+        let (queue, pass) = Queue::ruled(alloc, INBOX_ITEMS)?;
+        let queue = Arc::new(alloc, queue)?;
+        Ok(Inbox { queue, pass, alloc })
+    }
+
+    /// The receiver and the lanes of this inbox, which is the one of this number in the run.
+    pub fn named<J: Naming>(
+        self,
+        number: u8,
+        lanes: u8,
+    ) -> Result<(Receiver<T, J>, Vec<Lane<T, J>>), AllocError>
+        requires named { self ≡ J.inbox_of number }
+        requires lanes { (1 ≤ lanes) × (lanes ≤ MOST_LANES) }
+        ensures receiver { IfOk result (λ r.
+            r.0 ≡ record { inbox = number; lanes = lanes; taken = [] }) }
+        ensures lanes { IfOk result (λ r. r.1.items ≡ fresh_lanes number lanes) }
+    {
+        let Inbox { queue, pass, alloc } = self;
+        let mut receiver = Receiver {
+            queue,
+            pass,
+            inbox: number,
+            counts: Vec::new(alloc),
+            naming: PhantomData,
+        };
+        let mut all = Vec::new(alloc);
+        for _ in 0..lanes {
+            all.push(receiver.deal()?)?;
+        }
+        Ok((receiver, all))
+    }
+}

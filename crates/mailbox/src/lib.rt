@@ -1,0 +1,18 @@
+//! An inbox: items that several lanes send and one receiver takes. What arrives of each lane is
+//! what it sent, whole, once and in its order; between lanes there is no order to rely on. An item
+//! may be of any type.
+#![tactic(auto)]
+
+mod inbox;
+mod lane;
+mod moves;
+mod naming;
+mod receiver;
+#[cfg(test)]
+mod tests;
+mod view;
+
+pub use inbox::{INBOX_ITEMS, Inbox, MOST_LANES};
+pub use lane::{Lane, MOST_SENT};
+pub use naming::Naming;
+pub use receiver::Receiver;

@@ -1,0 +1,101 @@
+// The rule of an inbox's queue, and what each use of a pass does to what is known. Two of these are
+// atomic steps that change what the inbox holds: `Sends`, a push by a lane, and `Takes`, a pop by
+// the receiver. The others only share out what is known.
+
+use crate::view::View;
+use crossbeam_queue::protocol::{Join, Lesson, Outcome, Protocol, Split};
+use crossbeam_queue::{Pass, RuledArrayQueue};
+
+/// What an inbox holds is what its lanes sent and its receiver did not take yet.
+pub struct Mail;
+
+impl<T> Protocol<(u8, T), View<T>> for Mail {
+    ghost use Rattle.std.specs.Prelude.{[]};
+    ghost use Rattle.mailbox.specs.Delivery.{Delivers, receiver_view};
+
+    ghost holds = { Delivers };
+
+    ghost first = { receiver_view 0 [] };
+}
+
+pub type Queue<T> = RuledArrayQueue<(u8, T), View<T>, Mail>;
+
+pub type Knowledge<T> = Pass<(u8, T), View<T>>;
+
+/// A lane's push.
+pub struct Sends;
+
+impl<T> Outcome<(u8, T), View<T>> for Sends {
+    ghost use Rattle.mailbox.specs.Inside.{Sent};
+
+    ghost then = { Sent };
+}
+
+impl<T> Lesson<(u8, T), View<T>> for Sends {
+    ghost use Rattle.mailbox.specs.Delivery.{Moment};
+
+    ghost fact = { Moment };
+}
+
+/// The receiver's pop.
+pub struct Takes;
+
+impl<T> Outcome<(u8, T), View<T>> for Takes {
+    ghost use Rattle.mailbox.specs.Inside.{Took};
+
+    ghost then = { Took };
+}
+
+impl<T> Lesson<(u8, T), View<T>> for Takes {
+    ghost use Rattle.mailbox.specs.Delivery.{Moment};
+
+    ghost fact = { Moment };
+}
+
+/// The receiver makes the next lane.
+pub struct Deals;
+
+impl<T> Split<View<T>> for Deals {
+    ghost use Rattle.std.specs.Prelude.{◌+◌, []};
+    ghost use Rattle.mailbox.specs.Delivery.{lane_view};
+
+    ghost left = { λ v. record v { lanes = v.lanes + 1 } };
+
+    ghost right = { λ v. lane_view v.lanes [] 0 };
+}
+
+/// A lane hands all that it knows to a pass that the receiver takes in.
+pub struct Lends;
+
+impl<T> Split<View<T>> for Lends {
+    ghost use Rattle.mailbox.specs.Inside.{nobody};
+
+    ghost left = { λ v. nobody };
+
+    ghost right = { λ v. v };
+}
+
+/// The receiver takes in what a lane knows, compares, and gives it back.
+pub struct Meets;
+
+impl<T> Join<View<T>> for Meets {
+    ghost use Rattle.mailbox.specs.Inside.{nobody, joined};
+
+    ghost both = { joined };
+
+    ghost spent = { nobody };
+}
+
+impl<T> Lesson<(u8, T), View<T>> for Meets {
+    ghost use Rattle.mailbox.specs.Inside.{Learned};
+
+    ghost fact = { λ v _. Learned v };
+}
+
+impl<T> Split<View<T>> for Meets {
+    ghost use Rattle.mailbox.specs.Inside.{receiver_part, lane_part};
+
+    ghost left = { receiver_part };
+
+    ghost right = { lane_part };
+}

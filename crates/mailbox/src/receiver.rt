@@ -1,0 +1,203 @@
+// The receiving end of an inbox.
+
+ghost use Rattle.std.specs.Prelude.{◌≡◌, ◌++◌, ◌∷◌, [], ◌<◌, ◌≤◌, length, take, ◌+◌, IfSome, IfNone, IfOk, OnOk, All, EachIndex, IsTrue, ◌↔◌, map, slice_index, vec_capacity};
+ghost use Rattle.mailbox.specs.Delivery.{items_of};
+ghost use Rattle.mailbox.specs.Ends.{Taker, Sender, WasEmpty, AreAllLanes, ArrivesWhole, unmet};
+ghost use Rattle.mailbox.specs.Inside.{TakesMore, IsTaken};
+
+use crate::inbox::{INBOX_ITEMS, MOST_LANES};
+use crate::lane::Lane;
+use crate::moves::{Deals, Knowledge, Lends, Meets, Queue, Takes};
+use crate::naming::Naming;
+use std::alloc::{AllocError, Global};
+use std::marker::{Model, PhantomData};
+use std::sync::{Arc, Wait};
+
+/// The right to take what the lanes of an inbox send. It has one holder, and knows what it took.
+#[derive(Drop)]
+pub struct Receiver<T: Drop, J: Naming> {
+    pub(crate) queue: Arc<Queue<T>, Global>,
+    pub(crate) pass: Knowledge<T>,
+    pub(crate) inbox: u8,
+    // How many items of each lane were taken. The rule of the inbox keeps each below 2^55.
+    pub(crate) counts: Vec<u64>,
+    pub(crate) naming: PhantomData<J>,
+}
+
+impl<T: Drop, J: Naming> Model for Receiver<T, J> {
+    ghost use Rattle.mailbox.specs.Ends.{Taker};
+
+    ghost Value = { Taker T };
+
+    ghost use Rattle.std.specs.Prelude.{length};
+    ghost use Rattle.std.specs.Arc.{arc_value};
+    ghost use Rattle.crossbeam_queue.specs.Passes.{view as known_by, ruled_capacity};
+    ghost use Rattle.mailbox.specs.Inside.{ReceiverKept};
+
+    ghost view = { λ r. record {
+      inbox = r.inbox;
+      lanes = length r.counts.items;
+      taken = (known_by r.pass).taken;
+    } };
+
+    ghost invariant = { λ r. ReceiverKept
+        (arc_value r.queue).table.shared.table_id
+        (ruled_capacity (arc_value r.queue))
+        r.pass
+        (J.inbox_of r.inbox)
+        r.counts.items };
+}
+
+impl<T: Drop, J: Naming> Receiver<T, J> {
+    /// The number of the inbox that this receiver takes from.
+    pub fn number(&self) -> u8
+        ensures { result ≡ self.now.inbox }
+    {
+        self.inbox
+    }
+
+    /// How many lanes the inbox has.
+    pub fn lanes(&self) -> usize
+        ensures { result ≡ self.now.lanes }
+    {
+        self.counts.len()
+    }
+
+    /// Whether these are all lanes of this inbox, in the order of their numbers.
+    pub fn has_all(&self, lanes: &[Lane<T, J>]) -> bool
+        ensures { IsTrue result ↔ AreAllLanes self.now lanes.now }
+    {
+        if lanes.len() != self.lanes() {
+            return false;
+        }
+        for (place, lane) in lanes.iter().enumerate() {
+            if lane.number() != self.number() || usize::from(lane.lane()) != place {
+                return false;
+            }
+        }
+        true
+    }
+
+    /// Takes the item that came first, with the number of its lane. There is none only where the
+    /// inbox was empty at some moment of the call.
+    pub fn take<R: Wait>(&mut self, rt: &R) -> Option<(u8, T)>
+        ensures taken { IfSome result (λ x.
+            self.new ≡ record self.old { taken = self.old.taken ++ x ∷ [] }) }
+        ensures lane { IfSome result (λ x. x.0 < self.old.lanes) }
+
+        // Where nothing came, nothing was there.
+        ensures empty { IfNone result (WasEmpty self.old) }
+        ensures same { IfNone result (self.new ≡ self.old) }
+    {
+        let (lane, item) = self.queue.pop_as::<Takes, R>(rt, &mut self.pass)?;
+        self.counts[usize::from(lane)] += 1;
+        Some((lane, item))
+    }
+
+    /// How many items of a lane of this inbox were taken. The lane then knows it too.
+    pub fn meet(&mut self, lane: &mut Lane<T, J>) -> u64
+        requires { lane.old.inbox ≡ self.old.inbox }
+        ensures exact { result ≡ length (items_of lane.old.lane self.old.taken) }
+
+        // The items that were taken are the first that the lane sent, and no fewer than it knew.
+        ensures first { items_of lane.old.lane self.old.taken ≡ take result lane.old.sent }
+        ensures known { lane.old.met ≤ result }
+
+        // Nothing was sent or taken.
+        ensures receiver { self.new ≡ self.old }
+        ensures lane { lane.new ≡ record lane.old { met = result } }
+    {
+        let lent = self.queue.another::<Lends>(&mut lane.pass);
+        self.queue.absorb::<Meets>(&mut self.pass, lent);
+        self.queue.learn_as::<Meets>(&mut self.pass);
+        lane.pass = self.queue.another::<Meets>(&mut self.pass);
+        self.counts[usize::from(lane.lane)]
+    }
+
+    // Makes the next lane, before anything was taken.
+    pub(crate) fn deal(&mut self) -> Result<Lane<T, J>, AllocError>
+        requires few { self.old.lanes < MOST_LANES }
+        requires fresh { self.old.taken ≡ [] }
+        ensures lane { IfOk result (λ l.
+            l ≡ record { inbox = self.old.inbox; lane = self.old.lanes; met = 0; sent = [] }) }
+        ensures more { OnOk result (self.new ≡ record self.old { lanes = self.old.lanes + 1 }) }
+    {
+        let queue = Arc::try_clone(&self.queue)?;
+        let lane = self.counts.len() as u8;
+        self.counts.push(0)?;
+        Ok(Lane {
+            queue,
+            pass: self.queue.another::<Deals>(&mut self.pass),
+            inbox: self.inbox,
+            lane,
+            count: 0,
+            naming: PhantomData,
+        })
+    }
+
+    /// Takes all that is left, once the lanes send no more: `counts` gets how many items of each
+    /// lane were taken before, and `left` those that are left over, in order. It takes no memory:
+    /// both have their room beforehand.
+    pub fn settle<R: Wait>(
+        &mut self,
+        rt: &R,
+        lanes: &mut [Lane<T, J>],
+        counts: &mut [u64],
+        left: &mut Vec<(u8, T)>,
+    )
+        requires lanes { AreAllLanes self.old lanes.old }
+        requires counts { length counts.old ≡ self.old.lanes }
+        requires empty { left.old.items ≡ [] }
+        requires room { INBOX_ITEMS ≤ vec_capacity left.old }
+
+        // Those counted and those left over are, lane by lane and in order, all that was sent.
+        ensures whole { All (ArrivesWhole counts.new left.new.items) lanes.new }
+        ensures counted { EachIndex counts.new (λ k.
+            slice_index counts.new k ≡ length (items_of k self.old.taken)) }
+
+        // Those left over were taken now, and nothing was sent.
+        ensures taken { self.new ≡ record self.old { taken = self.old.taken ++ left.new.items } }
+        ensures lanes { map unmet lanes.new ≡ map unmet lanes.old }
+    {
+        counts.copy_from_slice(self.counts.as_slice());
+        for _ in rt.forever() {
+            self.drain(rt, left);
+            if self.meets_all(lanes) {
+                return;
+            }
+        }
+        unreachable!()
+    }
+
+    // Takes what is there, as far as there is room for it.
+    fn drain<R: Wait>(&mut self, rt: &R, left: &mut Vec<(u8, T)>)
+        ensures { TakesMore self.old self.new left.old.items left.new.items }
+    {
+        for _ in 0..INBOX_ITEMS {
+            if left.len() >= left.capacity() {
+                return;
+            }
+            let Some(item) = self.take(rt) else {
+                return;
+            };
+            if left.push(item).is_err() {
+                unreachable!()
+            }
+        }
+    }
+
+    // Whether all that these lanes sent was taken.
+    fn meets_all(&mut self, lanes: &mut [Lane<T, J>]) -> bool
+        requires { All (λ s. s.inbox ≡ self.old.inbox) lanes.old }
+        ensures all { IsTrue result → All (IsTaken self.old.taken) lanes.new }
+        ensures receiver { self.new ≡ self.old }
+        ensures lanes { map unmet lanes.new ≡ map unmet lanes.old }
+    {
+        for lane in lanes.iter_mut() {
+            if self.meet(lane) != lane.count() {
+                return false;
+            }
+        }
+        true
+    }
+}
