@@ -6,9 +6,8 @@ mod broker_machine;
 mod freezing;
 mod reading;
 mod sessions;
-mod thawing;
-
 #[cfg(test)]
 mod tests;
+mod thawing;
 
 pub use sessions::BrokerMachine;

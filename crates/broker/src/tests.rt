@@ -2,12 +2,15 @@ use crate::sessions::BrokerMachine;
 use broker_base::{Command, ConnectionId, Output};
 use machine::{Machine, ThawFault};
 use packet::{ClientId, Connack, Packet};
+use std::test::Fail;
 
 // The fresh machine, and the one with the session of client `a`, which is not clean, on connection 1
 // of ballot 1. The bytes are written by hand from the description of the form.
 const FRESH: [u8; 5] = [1, 0, 0, 0, 0];
+
 const ONE_SESSION: [u8; 33] = [
-    1, 0, 1, 0, 1, 0x61, 0, 1, 0, 0, 0, 0, 0, 0, 0, 1, 0, 0, 0, 0, 0, 0, 0, 1, 0, 0, 0, 0, 0, 0, 0, 0, 0,
+    1, 0, 1, 0, 1, 0x61, 0, 1, 0, 0, 0, 0, 0, 0, 0, 1, 0, 0, 0, 0, 0, 0, 0, 1, 0, 0, 0, 0, 0, 0, 0,
+    0, 0,
 ];
 
 #[test]
@@ -45,7 +48,10 @@ fn a_lost_connection_and_a_ballot(rt: HostRuntime) -> Result<(), Fail> {
     machine.apply(&BrokerMachine::start(2), &mut out)?;
     assert!(rt; out.is_empty());
     // The session is found again, and is made clean.
-    machine.apply(&Command::Connect(next, ClientId::new(rt.alloc(), "a")?, true), &mut out)?;
+    machine.apply(
+        &Command::Connect(next, ClientId::new(rt.alloc(), "a")?, true),
+        &mut out,
+    )?;
     assert!(rt; out.len() == 1 && is_welcome(&out[0], next, false));
     machine.apply(&BrokerMachine::start(3), &mut out)?;
     let mut bytes = Vec::new(rt.alloc());
@@ -62,13 +68,20 @@ fn other_bytes_are_refused(rt: HostRuntime) {
     ballot[15] = 0;
     let mut clean = ONE_SESSION;
     clean[6] = 2;
-    for bytes in [long.as_slice(), ballot.as_slice(), clean.as_slice(), &FRESH[..4], &[], &[1, 0, 0, 0, 0, 0]] {
+    for bytes in [
+        long.as_slice(),
+        ballot.as_slice(),
+        clean.as_slice(),
+        &FRESH[..4],
+        &[],
+        &[1, 0, 0, 0, 0, 0],
+    ] {
         assert!(rt; is_shape(BrokerMachine::thaw(rt.alloc(), bytes)));
     }
 }
 
-fn is_shape(result: Result<BrokerMachine, ThawFault>) -> bool {
-    match result {
+fn is_shape(thawed: Result<BrokerMachine, ThawFault>) -> bool {
+    match thawed {
         Ok(_) => false,
         Err(fault) => fault == ThawFault::Shape,
     }
