@@ -17,7 +17,7 @@ use Rattle.broker_base.specs.Past.{Client, by_bytes, is_some, any_connection}
 use Rattle.broker_base.specs.Table.{Table}
 use Rattle.broker_base.specs.State.{IsTable, AreRows, IsKept, IsNamed, served_on}
 use Rattle.broker_base.specs.Step.{is_served}
-use Rattle.broker_base.specs.Form.{wide_number, connection_bytes, empty_lists, session_bytes, frozen, wide_at, flag_at, name_at, connection_at, session_at, shares, follows, sessions_at, table_at, thawed}
+use Rattle.broker_base.specs.Form.{wide_number, connection_bytes, empty_lists, session_bytes, frozen, wide_at, flag_at, name_at, connection_at, kept_at, lists_at, session_at, shares, follows, sessions_at, table_at, thawed}
 use Rattle.broker_base.specs.declared.session.SessionState.{SessionState}
 use Rattle.broker_base.proofs.KeepsTable.{and-true-left, and-true-right}
 
@@ -59,6 +59,19 @@ session-parts c flag connection rest =
     append_assoc (text c) (flag ∷ (connection ++ empty_lists)) rest
     ∙ ap (λ (bytes : List ℕ). text c ++ (flag ∷ bytes)) (append_assoc connection empty_lists rest)
 
+kept_again : (kept : SessionState) (rest : List ℕ) → IsKept kept → kept_at (bit kept.clean ∷ (connection_bytes kept.current ++ rest)) ≡ Ok (kept, rest)
+unfolding kept_at
+kept_again kept rest h =
+    rw (
+      flag_again kept.clean (connection_bytes kept.current ++ rest),
+      connection_again kept.current rest h.0,
+      clean-served kept.clean (is_some kept.current) h.1,
+    ) refl
+
+lists_again : (rest : List ℕ) → lists_at (empty_lists ++ rest) ≡ Ok (tt, rest)
+unfolding lists_at
+lists_again rest = rw (front_again empty_lists rest 7 refl) refl
+
 session_again : (row : Client × SessionState) (rest : List ℕ) → is_client row.0 ≡ true → IsKept row.1 → session_at (session_bytes row ++ rest) ≡ Ok (row, rest)
 unfolding session_at
 session_again row rest client kept =
@@ -66,10 +79,8 @@ session_again row rest client kept =
     ∙ rw (
       text_again row.0 (bit row.1.clean ∷ (connection_bytes row.1.current ++ (empty_lists ++ rest))) (client_short row.0 client) (client_parts row.0 client).0,
       client,
-      flag_again row.1.clean (connection_bytes row.1.current ++ (empty_lists ++ rest)),
-      connection_again row.1.current (empty_lists ++ rest) kept.0,
-      clean-served row.1.clean (is_some row.1.current) kept.1,
-      front_again empty_lists rest 7 refl,
+      kept_again row.1 (empty_lists ++ rest) kept,
+      lists_again rest,
     ) refl
 
 -- ---- all sessions
@@ -96,7 +107,7 @@ unfolding IsStrictlySortedBy
 behind-all [] row t s = refl
 behind-all (r ∷ front) row t s = rw (below-member r.0 front row t s.0) (behind-all front row t s.1)
 
-served-append : (x : ConnectionName) (front t : Table) → served_on x (front ++ t) ≡ served_on x front + served_on x t
+pub served-append : (x : ConnectionName) (front t : Table) → served_on x (front ++ t) ≡ served_on x front + served_on x t
 served-append x [] t = sym (zero-add (served_on x t))
 served-append x (r ∷ front) t =
     ap (λ (n : ℕ). cond (any_connection (same_connection x) r.1.current) 1 0 + n) (served-append x front t)

@@ -202,7 +202,7 @@ is-without over t h = record {
 unserved-at : (x : ConnectionName) (kept : SessionState) (n : ℕ) (b : Bool) → any_connection (same_connection x) kept.current ≡ b → b ≡ false → n ≡ 0 → one_at x kept + n ≡ 0
 unserved-at x kept n b e f z = rw (e, f, z) refl
 
-unserved : (x : ConnectionName) (t : Table) → is_served x t ≡ false → served_on x t ≡ 0
+pub unserved : (x : ConnectionName) (t : Table) → is_served x t ≡ false → served_on x t ≡ 0
 unserved x [] h = refl
 unserved x (row ∷ rest) h =
     unserved-at x row.1 (served_on x rest) (any_connection (same_connection x) row.1.current) refl

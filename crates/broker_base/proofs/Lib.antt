@@ -4,4 +4,5 @@ pub mod PastFacts
 pub mod StepStandsFor
 pub mod KeepsTable
 pub mod FormAgain
+pub mod FormFound
 pub mod ListStandsFor

@@ -64,16 +64,27 @@ name_at bytes = do
 unfoldable pub connection_at : List ℕ → Result (Option ConnectionName × List ℕ) Stop
 connection_at bytes = flag_at bytes >>= (λ flag. if flag.0 then name_at flag.1 else Ok (None, flag.1))
 
+-- whether a session is clean, and its connection, which a clean one has
+unfoldable pub kept_at : List ℕ → Result (SessionState × List ℕ) Stop
+kept_at bytes = do
+  clean ← flag_at bytes
+  current ← connection_at clean.1
+  keep (not clean.0 || is_some current.0)
+  Ok (record { clean = clean.0; current = current.0 }, current.1)
+
+unfoldable pub lists_at : List ℕ → Result (Unit {0} × List ℕ) Stop
+lists_at bytes = do
+  lists ← front_at 7 bytes
+  keep (list_all (λ b. b == 0) lists.0)
+  Ok (tt, lists.1)
+
 unfoldable pub session_at : List ℕ → Result ((Client × SessionState) × List ℕ) Stop
 session_at bytes = do
   client ← text_at bytes
   keep (is_client client.0)
-  clean ← flag_at client.1
-  current ← connection_at clean.1
-  keep (not clean.0 || is_some current.0)
-  lists ← front_at 7 current.1
-  keep (list_all (λ b. b == 0) lists.0)
-  Ok ((client.0, record { clean = clean.0; current = current.0 }), lists.1)
+  kept ← kept_at client.1
+  lists ← lists_at kept.1
+  Ok ((client.0, kept.0), lists.1)
 
 abbrev pub shares : Table → Option ConnectionName → Bool
 shares table None = false

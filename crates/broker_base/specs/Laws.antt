@@ -1,12 +1,12 @@
 -- The laws that `src/laws.rt` proves: the step on the table of sessions is what the lists of commands say.
-use Rattle.std.specs.Prelude.{◌≡◌, List, [], ◌∷◌, Some}
+use Rattle.std.specs.Prelude.{◌≡◌, ℕ, IfOk, List, [], ◌∷◌, Some}
 use Rattle.machine.specs.Machine.{Rules, replay}
 use Rattle.broker_base.specs.Past.{Past, Limits, place_of, past_of}
 use Rattle.broker_base.specs.Table.{Table, StandsFor}
 use Rattle.broker_base.specs.Answers.{answers_of}
 use Rattle.broker_base.specs.Step.{after, outputs}
 use Rattle.broker_base.specs.State.{IsTable, IsBrokerCommand, usual_limits}
-use Rattle.broker_base.specs.Form.{frozen, thawed}
+use Rattle.broker_base.specs.Form.{frozen, thawed, table_at}
 use Rattle.broker_base.specs.declared.command.Command.{Command}
 use Rattle.broker_base.specs.declared.command.Command.TheVariants.{Start}
 use Rattle.broker_base.specs.declared.command.Output.{Output}
@@ -33,6 +33,7 @@ abbrev pub KeepsTables : Type 0
 KeepsTables = IsTable [] × ((table : Table) (command : Command) → IsTable table → IsBrokerCommand command
     → IsTable (after usual_limits table command))
 
--- a table comes back from its frozen bytes
+-- a table comes back from its frozen bytes, and what is read from bytes is one that a broker may hold
 abbrev pub FormIsRead : Type 0
-FormIsRead = (table : Table) → IsTable table → thawed (frozen table) ≡ Some table
+FormIsRead = ((table : Table) → IsTable table → thawed (frozen table) ≡ Some table)
+    × ((bytes : List ℕ) → IfOk (table_at bytes) IsTable)

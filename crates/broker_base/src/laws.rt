@@ -20,7 +20,7 @@ pub fn keeps_tables()
     ensures { KeepsTables }
 {}
 
-/// A table comes back from its frozen bytes.
+/// A table comes back from its frozen bytes, and every table that is read is one that may be held.
 pub fn form_is_read()
     ensures { FormIsRead }
 {}
