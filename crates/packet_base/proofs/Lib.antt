@@ -5,3 +5,6 @@ pub mod FieldsFound
 pub mod FieldsAgain
 pub mod LengthForms
 pub mod HeaderReads
+pub mod FieldsShorter
+pub mod ListsRead
+pub mod ItemsInALoop
