@@ -4,6 +4,7 @@ use Rattle.std.proofs.Common.{
   subst, ◌∙◌, append_assoc, arith, inl, inr
 }
 use Rattle.std.specs.Prelude.{IfOk, ◌⊎◌}
+use Rattle.std.proofs.lemmas.Bool.{eqb-true}
 use Rattle.std.proofs.lemmas.List.{append-nil}
 use Rattle.std.proofs.lemmas.Result.{IfOk-at_ok}
 use Rattle.std.proofs.Math.Dec.{eqb-suc-zero}
@@ -97,3 +98,26 @@ items_stop {A = A} item front (b ∷ bytes) total stop some stopped so_far =
         let whole : items_at item (b ∷ bytes) ≡ Err stop = rw (eqb-suc-zero (length bytes), e) refl in
         stops_at stop total (sym so_far ∙ ap (prefixed front) whole)
     ]
+
+-- bytes that are not empty
+pub some_left : (bytes : List ℕ) (b : Bool) → b ≡ eqb (length bytes) 0 → b ≡ false → 0 < length bytes
+some_left [] b e clear = absurd cc
+some_left (x ∷ bytes) b e clear = omega arith
+
+-- bytes that are
+pub none_left : (bytes : List ℕ) (b : Bool) → b ≡ eqb (length bytes) 0 → b ≡ true → length bytes ≡ 0
+none_left bytes b e set = eqb-true (length bytes) 0 (sym e ∙ set)
+
+-- the item that a loop reads takes a byte at least
+pub item_shorter : {A : Type 0} (item : ItemAt A) → IsShorter item → (bytes : List ℕ) (x : A) (rest : List ℕ) → item bytes ≡ Ok (x, rest) → length rest < length bytes
+item_shorter item shorter bytes x rest e = IfOk-at_ok (λ y. length y.1 < length bytes) e (shorter bytes)
+
+-- all items, where the loop ends
+pub items_all : {A : Type 0} (item : ItemAt A) (front : List A) (bytes : List ℕ) (total : Result (List A) Stop) → length bytes ≡ 0 → prefixed front (items_at item bytes) ≡ total → total ≡ Ok front
+items_all item front bytes total none so_far = sym so_far ∙ items_done item front bytes none
+
+-- one more item, where the loop goes on
+pub items_next : {A : Type 0} (item : ItemAt A) → IsShorter item → (front next : List A) (bytes : List ℕ) (x : A) (rest : List ℕ) (total : Result (List A) Stop) → 0 < length bytes
+    → item bytes ≡ Ok (x, rest) → next ≡ front ++ x ∷ [] → prefixed front (items_at item bytes) ≡ total → prefixed next (items_at item rest) ≡ total
+items_next {A = A} item shorter front next bytes x rest total some e added so_far =
+    ap (λ (xs : List A). prefixed xs (items_at item rest)) added ∙ sym (items_more item shorter front bytes x rest some e) ∙ so_far
