@@ -11,3 +11,4 @@ pub mod Behind
 pub mod OneSpelling
 pub mod ListsWritten
 pub mod ItemsShorter
+pub mod MoreBytes

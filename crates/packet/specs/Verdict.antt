@@ -57,6 +57,10 @@ verdict (first ∷ bytes) = do
   packet ← body_of header (take len.0 len.1)
   Ok (packet, drop len.0 len.1)
 
+-- less than a packet, which more bytes may complete
+abbrev pub IsUnfinished : List ℕ → Type 0
+IsUnfinished bytes = verdict bytes ≡ Err stops.More
+
 -- the answer of `decode` is the verdict, but that memory may be wanting
 abbrev pub Decodes : List ℕ → Result Step DecodeFault → Type 0
 Decodes bytes (Ok (steps.Whole packet len)) = verdict bytes ≡ Ok (packet, drop len bytes)

@@ -8,3 +8,4 @@ pub mod HeaderReads
 pub mod FieldsShorter
 pub mod ListsRead
 pub mod ItemsInALoop
+pub mod Growing
