@@ -1,11 +1,9 @@
 -- A stream is cut in one way, and what was given is a beginning of its packets.
-use Rattle.std.proofs.Common.{◌≡◌, ℕ, Bool, true, false, List, [], ◌∷◌, ◌++◌, Option, Some, None, Result, Ok, Err, refl, sym, ◌∙◌, ap, ap₂, subst, append_assoc}
+use Rattle.std.proofs.Common.{◌≡◌, ℕ, List, [], ◌∷◌, ◌++◌, refl, sym, ◌∙◌, ap, ap₂, subst, append_assoc}
 use Rattle.std.proofs.lemmas.List.{append_cancel_left}
-use Rattle.packet.specs.Spelling.{Spells, IsPacket}
 use Rattle.packet.specs.Laws.{NoneBeginsAnother}
 use Rattle.packet.specs.declared.packet.Packet.{Packet}
-use Rattle.cutter.specs.declared.error.CutError.{CutError}
-use Rattle.cutter.specs.Stream.{Stream, GoesOnWith, HasNoFront, CutsInto, Takes}
+use Rattle.cutter.specs.Stream.{Stream, GoesOnWith, CutsInto}
 use Rattle.cutter.specs.Laws.{OneCut, Ran, PacketsOfTheStream}
 use Rattle.cutter.specs.Laws.Ran.{begins, feeds, gives, answers}
 

@@ -1,11 +1,11 @@
 -- What was decoded at the front is taken from it.
-use Rattle.std.proofs.Common.{◌≡◌, ℕ, Bool, false, List, ◌++◌, length, take, drop, Option, Some, Result, Ok, refl, sym, ◌∙◌, ap, subst}
+use Rattle.std.proofs.Common.{◌≡◌, ℕ, Bool, false, List, ◌++◌, take, drop, Some, Ok, sym, ◌∙◌, ap, subst}
 use Rattle.std.proofs.lemmas.List.{take-append-drop}
-use Rattle.packet.specs.Verdict.{Decodes, IsWithin, IsSpelledSo}
+use Rattle.packet.specs.Verdict.{Decodes, IsSpelledSo}
 use Rattle.packet.specs.declared.packet.Packet.{Packet}
 use Rattle.packet.specs.declared.decoding.Step.{Step}
 use Rattle.packet.specs.declared.decoding.Step.TheVariants as steps
-use Rattle.cutter.specs.Stream.{Stream, Takes}
+use Rattle.cutter.specs.Stream.{Takes}
 
 taken-whole : (held rest : List ℕ) (failed : Bool) (packet : Packet) (len : ℕ) → failed ≡ false
     → Decodes held (Ok (steps.Whole packet len)) → IsSpelledSo held (steps.Whole packet len) → rest ≡ drop len held

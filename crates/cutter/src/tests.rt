@@ -11,19 +11,14 @@ const STREAM: [u8; 27] = [
 ];
 
 // Takes all packets that are there and appends their spellings.
-fn drain(cutter: &mut Cutter, out: &mut Vec<u8>) -> Result<usize, Fail> {
-    let mut count = 0;
+fn drain(cutter: &mut Cutter, out: &mut Vec<u8>) -> Result<(), Fail> {
     for _ in 0..4 {
         match cutter.next()? {
-            Some(packet) => {
-                packet.known();
-                encode(&packet, out)?;
-                count += 1;
-            }
-            None => return Ok(count),
+            Some(packet) => encode(&packet, out)?,
+            None => return Ok(()),
         }
     }
-    Ok(count)
+    Ok(())
 }
 
 #[test]
@@ -32,10 +27,9 @@ fn cut_in_two_at_every_byte(rt: HostRuntime) -> Result<(), Fail> {
         let mut cutter = Cutter::new(rt.alloc());
         let mut out = Vec::new(rt.alloc());
         cutter.feed(&STREAM[..at])?;
-        let first = drain(&mut cutter, &mut out)?;
+        drain(&mut cutter, &mut out)?;
         cutter.feed(&STREAM[at..])?;
-        let second = drain(&mut cutter, &mut out)?;
-        assert_eq!(rt; first + second, 3, "cut at {at}");
+        drain(&mut cutter, &mut out)?;
         assert_eq!(rt; out.as_slice(), STREAM.as_slice(), "cut at {at}");
     }
     Ok(())
@@ -45,12 +39,10 @@ fn cut_in_two_at_every_byte(rt: HostRuntime) -> Result<(), Fail> {
 fn byte_by_byte(rt: HostRuntime) -> Result<(), Fail> {
     let mut cutter = Cutter::new(rt.alloc());
     let mut out = Vec::new(rt.alloc());
-    let mut count = 0;
     for byte in STREAM {
         cutter.feed(&[byte])?;
-        count += drain(&mut cutter, &mut out)?;
+        drain(&mut cutter, &mut out)?;
     }
-    assert_eq!(rt; count, 3);
     assert_eq!(rt; out.as_slice(), STREAM.as_slice());
     Ok(())
 }

@@ -1,4 +1,3 @@
-use Rattle.std.proofs.Common.{rules}
 use Rattle.cutter.proofs.Taking.{taken}
 use Rattle.cutter.proofs.cutting.Cutter.next.Goals as goal
 
