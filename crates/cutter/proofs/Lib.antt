@@ -1,0 +1,2 @@
+pub mod OneWay
+pub mod Taking

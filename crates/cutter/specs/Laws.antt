@@ -1,0 +1,27 @@
+-- The laws of streams that `src/laws.rt` proves.
+use Rattle.std.specs.Prelude.{◌≡◌, ℕ, false, List, [], ◌∷◌, ◌++◌, Option, Some, Result, Ok}
+use Rattle.packet.specs.declared.packet.Packet.{Packet}
+use Rattle.cutter.specs.declared.error.CutError.{CutError}
+use Rattle.cutter.specs.Stream.{Stream, CutsInto, Takes}
+
+-- two cuts of a stream are one
+abbrev pub OneCut : Type 0
+OneCut = (bytes : List ℕ) (packets others : List Packet) (rest left : List ℕ)
+    → CutsInto bytes packets rest → CutsInto bytes others left → (packets ≡ others) × (rest ≡ left)
+
+-- A cutter after some calls, with all bytes that it took in and all packets that it gave. A call that
+-- changes nothing needs no case.
+pub data Ran : List ℕ → List Packet → Stream → Type 0 where
+  begins : Ran [] [] (record { held = []; failed = false })
+  feeds : {fed : List ℕ} {given : List Packet} {s : Stream} (piece : List ℕ)
+      → Ran fed given s → Ran (fed ++ piece) given (record s { held = s.held ++ piece })
+  gives : {fed : List ℕ} {given : List Packet} {s t : Stream} (packet : Packet)
+      → Ran fed given s → Takes s (Ok (Some packet)) t → Ran fed (given ++ packet ∷ []) t
+  answers : {fed : List ℕ} {given : List Packet} {s t : Stream} (result : Result (Option Packet) CutError)
+      → Ran fed given s → t.held ≡ s.held → Takes s result t → Ran fed given t
+
+-- what was given is a beginning of the packets of the bytes that were taken in
+abbrev pub PacketsOfTheStream : Type 0
+PacketsOfTheStream = (fed : List ℕ) (given : List Packet) (s : Stream) → Ran fed given s
+    → (packets : List Packet) (rest : List ℕ) → CutsInto fed packets rest
+    → (later : List Packet) × (packets ≡ given ++ later)

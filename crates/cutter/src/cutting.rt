@@ -1,0 +1,79 @@
+// Taking packets from the front of a stream.
+
+ghost use Rattle.std.specs.Prelude.{◌≡◌, ◌++◌, ◌↔◌, [], true, false, OnOk, OnErr, IsErrOf};
+ghost use Rattle.cutter.specs.Stream.{Takes};
+
+use crate::error::CutError;
+use bytes::{Buf, BytesMut};
+use packet::{DecodeFault, Packet, Step, decode};
+use std::alloc::Global;
+use std::marker::Model;
+use topics::MalformedKind;
+
+/// The bytes of a stream that came and are not taken yet. How the stream is cut into pieces makes
+/// no difference to the packets that are taken.
+#[derive(Drop)]
+pub struct Cutter {
+    held: BytesMut,
+    failed: bool,
+    alloc: Global,
+}
+
+impl Model for Cutter {
+    ghost use Rattle.cutter.specs.Stream.{Stream};
+
+    ghost Value = { Stream };
+
+    ghost view = { λ cutter. record { held = cutter.held.items; failed = cutter.failed } };
+}
+
+impl Cutter {
+    /// A cutter at the beginning of a stream.
+    pub fn new(alloc: Global) -> Cutter
+        ensures { result ≡ record { held = []; failed = false } }
+    {
+        Cutter {
+            held: BytesMut::new(alloc),
+            failed: false,
+            alloc,
+        }
+    }
+
+    /// Takes in the next piece of the stream. After `Memory` nothing has changed; `Failed` comes
+    /// exactly behind a fault of the stream.
+    pub fn feed(&mut self, piece: &[u8]) -> Result<(), CutError>
+        ensures ok { OnOk result
+            (self.new ≡ record self.old { held = self.old.held ++ piece.now }) }
+        ensures failed { IsErrOf result CutError.Failed ↔ (self.old.failed ≡ true) }
+        ensures fault { OnErr result (self.new ≡ self.old) }
+        ensures memory { (self.old.failed ≡ false) → OnErr result (IsErrOf result CutError.Memory) }
+    {
+        if self.failed {
+            return Err(CutError::Failed);
+        }
+        self.held.extend_from_slice(piece)?;
+        Ok(())
+    }
+
+    /// Takes the next packet, where the whole of it came. A fault of the stream is answered once,
+    /// and `Failed` from then on; after `Memory` nothing has changed.
+    pub fn next(&mut self) -> Result<Option<Packet>, CutError>
+        ensures { Takes self.old result self.new }
+    {
+        if self.failed {
+            return Err(CutError::Failed);
+        }
+        match decode(self.alloc, &self.held) {
+            Ok(Step::Whole(packet, len)) => {
+                self.held.advance(len);
+                Ok(Some(packet))
+            }
+            Ok(Step::More) => Ok(None),
+            Err(DecodeFault::Malformed(MalformedKind::Memory)) => Err(CutError::Memory),
+            Err(fault) => {
+                self.failed = true;
+                Err(CutError::Decode(fault))
+            }
+        }
+    }
+}

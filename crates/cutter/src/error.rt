@@ -1,0 +1,56 @@
+// Why no packet is taken from a stream.
+
+ghost use Rattle.std.specs.Prelude.{◌≡◌};
+ghost use Rattle.cutter.specs.Numbers.{cut_number};
+
+use packet::DecodeFault;
+use std::alloc::AllocError;
+use std::error::Error;
+use std::fmt;
+
+/// Why a call of a [`crate::Cutter`] gives nothing.
+#[derive(Clone, Copy, Debug, PartialEq, Eq)]
+pub enum CutError {
+    /// The stream goes on with what begins no packet, or with a CONNECT that is to be refused; never
+    /// want of memory.
+    Decode(DecodeFault),
+    /// No memory was found; the cutter is as it was.
+    Memory,
+    /// An earlier call answered a fault of the stream.
+    Failed,
+}
+
+impl CutError {
+    /// The number of the refusal; a CONNECT that is answered with a code has none.
+    pub fn number(self) -> Option<u8>
+        ensures { result ≡ cut_number self }
+    {
+        match self {
+            CutError::Decode(fault) => fault.number(),
+            CutError::Memory => Some(12),
+            CutError::Failed => Some(13),
+        }
+    }
+}
+
+impl fmt::Display for CutError {
+    fn fmt<W: fmt::Write>(&self, f: &mut fmt::Formatter<W>) -> fmt::Result {
+        match self {
+            CutError::Decode(fault) => write!(f, "{fault}"),
+            CutError::Memory => write!(f, "out of memory"),
+            CutError::Failed => write!(f, "the stream has failed before"),
+        }
+    }
+}
+
+impl Error for CutError {}
+
+impl From<AllocError> for CutError {
+    ghost use Rattle.cutter.specs.declared.error.CutError.TheVariants.{Memory};
+
+    ghost from_gives = { λ _ error. error ≡ Memory };
+
+    fn from(_error: AllocError) -> CutError {
+        CutError::Memory
+    }
+}

@@ -1,0 +1,12 @@
+//! Packets of a stream of bytes, which comes in pieces of any size.
+#![tactic(auto)]
+
+mod cutting;
+mod error;
+mod laws;
+#[cfg(test)]
+mod tests;
+
+pub use cutting::Cutter;
+pub use error::CutError;
+pub use laws::{one_cut, packets_of_the_stream};
