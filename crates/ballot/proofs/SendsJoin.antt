@@ -49,6 +49,7 @@ Sends-then {old = old} {mid = mid} {xs = xs} {ys = ys} {first = first} {second =
     none_lost : {A B : Type 0} {us : List A} {vs : List B} (first second : Bool) → (us ≡ []) × (vs ≡ []) →
         (us ≡ [] → first ≡ true) → (vs ≡ [] → second ≡ true) → (first && second) ≡ true
     none_lost first second e f g = and_from first second (f e.0) (g e.1)
+
     both : {X : Type 0} {as' bs us vs : List X} (first second : Bool) →
         (first ≡ true → as' ≡ us) → (second ≡ true → bs ≡ vs) → (first && second) ≡ true →
         as' ++ bs ≡ us ++ vs
@@ -73,9 +74,9 @@ pub Sends-more_of : {X C O : Type 0} (f : X → List (Effect C O)) (xs : List X)
     Sends old new (flat_map f (take (i + 1) xs)) (first && second)
 Sends-more_of f xs i d {old = old} {new = new} {first = first} {second = second} below p q =
     let e : flat_map f (take (i + 1) xs) ≡ flat_map f (take i xs) ++ f (get_or xs i d) =
-        ap (flat_map f) (take_more xs i d below)
-            ∙ flat_map-append f (take i xs) (get_or xs i d ∷ [])
-            ∙ ap (λ ys. flat_map f (take i xs) ++ ys) (append-nil (f (get_or xs i d))) in
+    ap (flat_map f) (take_more xs i d below)
+    ∙ flat_map-append f (take i xs) (get_or xs i d ∷ [])
+    ∙ ap (λ ys. flat_map f (take i xs) ++ ys) (append-nil (f (get_or xs i d))) in
     subst (λ ys. Sends old new ys (first && second)) (sym e) (Sends-then p q)
 
 -- what grew still grows

@@ -23,8 +23,8 @@ pub record Went {C O : Type 0} (old : Counted C) (outcome : Outcome C O) (new : 
   pub appended : behind ≡ before ++ given
   pub way : ((new.state ≡ outcome.state) × (given ≡ outcome.effects) × (new.losses ≡ old.losses))
       ⊎ (Loses old.state outcome new.state given
-          × (new.losses ≡ one_more old.losses)
-          × (IsQuiet old.state outcome → ⊥))
+      × (new.losses ≡ one_more old.losses)
+      × (IsQuiet old.state outcome → ⊥))
 
 -- something was appended
 pub record Grows {C O : Type 0} (old new : List (Effect C O)) : Type 0 where

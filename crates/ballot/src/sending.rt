@@ -72,10 +72,8 @@ pub fn send_behind<M: Machine>(
     marks: &[Mark],
     out: &mut Vec<Effect<M::Command, M::Output>>,
 ) -> bool
-    ensures {
-        Sends out.old.items out.new.items
-            (appends_behind M.Output from ballot log.now marks.now) result
-    }
+    ensures { Sends out.old.items out.new.items
+        (appends_behind M.Output from ballot log.now marks.now) result }
 {
     let mut whole = true;
     for mark in marks {
@@ -94,10 +92,8 @@ fn send_at_mark<M: Machine>(
     mark: Mark,
     out: &mut Vec<Effect<M::Command, M::Output>>,
 ) -> bool
-    ensures {
-        Sends out.old.items out.new.items
-            (append_at M.Output from ballot mark (slice_get log.now mark.held)) result
-    }
+    ensures { Sends out.old.items out.new.items
+        (append_at M.Output from ballot mark (slice_get log.now mark.held)) result }
 {
     match log.get(mark.held as usize) {
         Some(command) => {

@@ -9,6 +9,6 @@ loop-mark-init g c = Sends-nothing _
 pub loop-mark-preserved : goal.loop-mark-preserved
 loop-mark-preserved g c =
     let e : c.if-whole.whole ≡ (c.loop-mark.whole && c.send_at_mark-sent.result) =
-        elim c.if-whole.branch [ then-whole w ↦ search rules | else-whole w ↦ search rules ] in
+    elim c.if-whole.branch [ then-whole w ↦ search rules | else-whole w ↦ search rules ] in
     rw e (Sends-more_of _ c.args.marks.now c.loop-mark.mark-index (record { member = 0; held = 0 }) (omega arith)
-        c.loop-mark.invariant c.send_at_mark-sent.ensures)
+    c.loop-mark.invariant c.send_at_mark-sent.ensures)
