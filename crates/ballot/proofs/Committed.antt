@@ -17,7 +17,7 @@ use Rattle.ballot.proofs.SendsJoin.{Sends-nothing, Sends-then}
 -- what was appended whole
 Sends-whole : {C O : Type 0} (old new xs : List (Effect C O)) → new ≡ old ++ xs → Sends old new xs true
 Sends-whole old new xs e =
-    record { given = xs; appended = e; thinned = Thinned-same xs; exact = λ _. refl }
+    record { given = xs; appended = e; thinned = Thinned-same xs; exact = λ _. refl; idle = λ _. refl }
 
 -- with nothing to commit the replica stays
 pub commit_stays : {S C O : Type 0} (rules : Rules S C O) (old : Counted C) (held : ℕ) →

@@ -1,4 +1,6 @@
 pub mod Committed
+pub mod MessagesTaken
 pub mod PlacesApplied
 pub mod ProposalAnswered
 pub mod SendsJoin
+pub mod TicksTaken

@@ -1,8 +1,9 @@
 -- Inside.antt: what the helpers of a replica say of the list of effects.
-use Rattle.std.specs.Prelude.{◌≡◌, Bool, true, List, ◌++◌}
+use Rattle.std.specs.Prelude.{◌≡◌, ◌⊎◌, Bool, true, List, [], ◌++◌}
 use Rattle.ballot_base.specs.declared.message.Effect.{Effect}
-use Rattle.ballot_base.specs.Losses.{Thinned, halted, one_more}
+use Rattle.ballot_base.specs.Losses.{Thinned, Loses, IsQuiet, halted, one_more}
 use Rattle.ballot_base.specs.Replica.{Counted}
+use Rattle.ballot_base.specs.Sending.{Outcome}
 use Rattle.ballot.specs.declared.error.ProposeError.{ProposeError}
 use Rattle.ballot.specs.declared.error.ProposeError.TheVariants.{NotActive, LogFull, Memory, Halted}
 
@@ -12,6 +13,18 @@ pub record Sends {C O : Type 0} (old new wanted : List (Effect C O)) (whole : Bo
   pub appended : new ≡ old ++ given
   pub thinned : Thinned given wanted
   pub exact : whole ≡ true → given ≡ wanted
+  -- nothing is lost where nothing is sent
+  pub idle : wanted ≡ [] → whole ≡ true
+
+-- the step was done, or one with losses that were counted, and only where there was something to lose
+pub record Went {C O : Type 0} (old : Counted C) (outcome : Outcome C O) (new : Counted C)
+    (before behind : List (Effect C O)) : Type 0 where
+  pub given : List (Effect C O)
+  pub appended : behind ≡ before ++ given
+  pub way : ((new.state ≡ outcome.state) × (given ≡ outcome.effects) × (new.losses ≡ old.losses))
+      ⊎ (Loses old.state outcome new.state given
+      × (new.losses ≡ one_more old.losses)
+      × (IsQuiet old.state outcome → ⊥))
 
 -- something was appended
 pub record Grows {C O : Type 0} (old new : List (Effect C O)) : Type 0 where

@@ -24,6 +24,29 @@ pub fn put_out<C: Drop, O: Drop>(
     Ok(())
 }
 
+/// Applies the places from one length of the log up to another, and drops their outputs. On an error
+/// the machine is somewhere in between.
+pub fn apply_dropping<M: Machine>(
+    alloc: Global,
+    machine: &mut M,
+    log: &[M::Command],
+    from: u64,
+    to: u64,
+) -> Result<(), Halted>
+    requires rising { from ≤ to }
+    requires within { to ≤ length log.now }
+    requires applied { machine.old ≡
+        replay (rules_by M.opening M.start_of M.after M.gives) (take from log.now) }
+    ensures { OnOk result
+        (machine.new ≡ replay (rules_by M.opening M.start_of M.after M.gives) (take to log.now)) }
+{
+    for place in from..to {
+        let mut given = Vec::new(alloc);
+        machine.apply(&log[place as usize], &mut given)?;
+    }
+    Ok(())
+}
+
 /// Applies the places from one length of the log up to another, and appends their outputs. On an
 /// error the machine is somewhere in between, and some outputs may stand behind `out`.
 pub fn apply_places<M: Machine>(

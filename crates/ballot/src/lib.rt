@@ -7,6 +7,7 @@ mod error;
 mod marking;
 mod replica;
 mod sending;
+mod taking;
 #[cfg(test)]
 mod tests;
 

@@ -1,21 +1,26 @@
 // One replica.
 
-ghost use Rattle.std.specs.Prelude.{◌≡◌, ◌≤◌, ◌+◌, ◌↔◌, ◌⊎◌, true, false, length, IfOk, OnOk, OnErr, IsErrOf, MatchResult, if◌then◌else◌};
+ghost use Rattle.std.specs.Prelude.{◌≡◌, ◌≤◌, ◌<◌, ◌↔◌, ◌⊎◌, true, false, [], length, IfOk, OnOk, OnErr, IsErr, IsErrOf, MatchResult, if◌then◌else◌};
 ghost use Rattle.machine.specs.Machine.{rules_by};
-ghost use Rattle.ballot.specs.Inside.{Sends, Grows, Lacks};
+ghost use Rattle.ballot.specs.Inside.{Sends, Grows, Lacks, Went};
 ghost use Rattle.ballot_base.specs.Config.{is_lawful};
-ghost use Rattle.ballot_base.specs.Losses.{Stepped, Done, halted, one_more};
+ghost use Rattle.ballot_base.specs.Losses.{Stepped, Done, IsQuiet, halted, one_more};
 ghost use Rattle.ballot_base.specs.Replica.{is_active, opening, status_of};
-ghost use Rattle.ballot_base.specs.Serving.{added, commit_at, most_places, proposed};
+ghost use Rattle.ballot_base.specs.Protocol.{step_in_one_ballot};
+ghost use Rattle.ballot_base.specs.Protocol.Input.{Receives, Ticks};
+ghost use Rattle.ballot_base.specs.Serving.{added, commit_at, follows, leads, most_places, on_append, on_commit, on_held, proposed};
 
-use crate::applying::apply_places;
+use crate::applying::{apply_dropping, apply_places};
 use crate::error::{OpeningError, ProposeError};
-use crate::marking::{least_held, marks_of_others};
-use crate::sending::{send_appends, send_commits};
-use ballot_base::{Config, Effect, Mark, Role, Status};
+use crate::marking::{least_held, least_raised, marks_of_others, raise};
+use crate::sending::{send, send_appends, send_behind, send_commits};
+use crate::taking::{counted, take_in};
+use ballot_base::{Body, Config, Effect, Mark, Message, Role, Status};
 use machine::{Halted, Machine};
 use std::alloc::Global;
 use std::marker::Model;
+
+mod messages;
 
 /// How many places a log can have.
 const MOST_PLACES: u64 = 1 << 40;
@@ -246,6 +251,7 @@ impl<M: Machine> Replica<M> {
             self.old.state held).effects) }
         ensures stops { OnErr result
             (self.new ≡ record self.old { state = halted self.old.state }) }
+        ensures needed { OnErr result (self.old.state.committed < held) }
         ensures err { OnErr result (Grows out.old.items out.new.items) }
     {
         if held <= self.committed {
@@ -262,6 +268,37 @@ impl<M: Machine> Replica<M> {
                 Err(halted)
             }
         }
+    }
+
+    /// Says again what others may have missed. It takes no step of its own, and never halts.
+    pub fn tick(&mut self, out: &mut Vec<Effect<M::Command, M::Output>>)
+        ensures step { self.old.state.stopped ≡ false →
+            Stepped self.old
+            (step_in_one_ballot (rules_by M.opening M.start_of M.after M.gives)
+            self.old.state Ticks)
+            self.new out.old.items out.new.items }
+        ensures quiet { self.old.state.stopped ≡ false →
+            IsQuiet self.old.state
+            (step_in_one_ballot (rules_by M.opening M.start_of M.after M.gives)
+            self.old.state Ticks) →
+            self.new ≡ self.old }
+        ensures state { self.new.state ≡ self.old.state }
+        ensures stopped { self.old.state.stopped ≡ true →
+            (self.new ≡ self.old) × (out.new.items ≡ out.old.items) }
+    {
+        if self.stopped || !self.role.is_active() {
+            return;
+        }
+        let behind = send_behind::<M>(
+            self.alloc,
+            self.id,
+            self.joined,
+            &self.log,
+            &self.marks,
+            out,
+        );
+        let told = send_commits(self.id, self.joined, self.committed, &self.marks, out);
+        self.losses = counted(self.losses, behind && told);
     }
 
     // Counts a call in which memory was wanting.

@@ -1,7 +1,8 @@
 // Messages that a call hands out. One that finds no memory is lost.
 
-ghost use Rattle.std.specs.Prelude.{[], ◌∷◌};
+ghost use Rattle.std.specs.Prelude.{[], ◌∷◌, slice_get};
 ghost use Rattle.ballot.specs.Inside.{Sends};
+ghost use Rattle.ballot_base.specs.Serving.{append_at, appends_behind};
 ghost use Rattle.ballot_base.specs.Sending.{message_to, message_to_marked};
 
 use ballot_base::{Body, Effect, Mark, Message};
@@ -60,6 +61,46 @@ pub fn send_appends<M: Machine>(
         whole = whole && sent;
     }
     whole
+}
+
+/// Sends the place at its mark to each node whose mark is below the length of the log.
+pub fn send_behind<M: Machine>(
+    alloc: Global,
+    from: u8,
+    ballot: u64,
+    log: &[M::Command],
+    marks: &[Mark],
+    out: &mut Vec<Effect<M::Command, M::Output>>,
+) -> bool
+    ensures { Sends out.old.items out.new.items
+        (appends_behind M.Output from ballot log.now marks.now) result }
+{
+    let mut whole = true;
+    for mark in marks {
+        let sent = send_at_mark::<M>(alloc, from, ballot, log, *mark, out);
+        whole = whole && sent;
+    }
+    whole
+}
+
+/// Sends the place at a mark, if the log has it.
+fn send_at_mark<M: Machine>(
+    alloc: Global,
+    from: u8,
+    ballot: u64,
+    log: &[M::Command],
+    mark: Mark,
+    out: &mut Vec<Effect<M::Command, M::Output>>,
+) -> bool
+    ensures { Sends out.old.items out.new.items
+        (append_at M.Output from ballot mark (slice_get log.now mark.held)) result }
+{
+    match log.get(mark.held as usize) {
+        Some(command) => {
+            send_append::<M>(alloc, from, ballot, mark.held, command, mark.member, out)
+        }
+        None => true,
+    }
 }
 
 /// Tells each node with a mark how many places are committed.

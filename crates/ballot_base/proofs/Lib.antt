@@ -1,3 +1,4 @@
 pub mod AppliesInOrder
+pub mod MessageRows
 pub mod StepRows
 pub mod ThinnedEffects

@@ -44,6 +44,12 @@ pub record Done {C O : Type 0} (old : Counted C) (outcome : Outcome C O) (new : 
   pub counted : ((given ≡ outcome.effects) × (new.losses ≡ old.losses))
       ⊎ (new.losses ≡ one_more old.losses)
 
+-- a step in which nothing is handed out, nothing added to the log and nothing applied
+pub record IsQuiet {C O : Type 0} (old : ReplicaState C) (outcome : Outcome C O) : Type 0 where
+  pub nothing_sent : outcome.effects ≡ []
+  pub same_log : outcome.state.log ≡ old.log
+  pub same_committed : outcome.state.committed ≡ old.committed
+
 -- a call's effects were appended behind what was there, and they are those of the step
 pub record Stepped {C O : Type 0} (old : Counted C) (outcome : Outcome C O) (new : Counted C)
     (before behind : List (Effect C O)) : Type 0 where

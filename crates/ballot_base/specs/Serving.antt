@@ -1,6 +1,7 @@
 -- Serving.antt: the rows of the protocol inside a ballot: Append, Held, Commit, proposals, ticks.
 -- Receivers are taken in rising order. A message that no row's condition covers changes nothing.
-use Rattle.std.specs.Prelude.{ℕ, ◌+◌, ◌^◌, List, [], ◌∷◌, ◌++◌, length, map, min, max, take, drop, slice_get, Option, Some, None, ◌==◌, ◌&&◌, nat_lt, nat_le, if◌then◌else◌}
+use Rattle.std.specs.Prelude.{ℕ, Bool, ◌+◌, ◌^◌, List, [], ◌∷◌, ◌++◌, length, map, min, max, take, drop, slice_get, Option, Some, None, ◌==◌, ◌&&◌, nat_lt, nat_le, if◌then◌else◌}
+use Rattle.std.specs.List.{flat_map}
 use Rattle.machine.specs.Machine.{Rules, replay}
 use Rattle.ballot_base.specs.declared.message.Body.TheVariants.{Append, Held, Commit}
 use Rattle.ballot_base.specs.declared.message.Effect.{Effect}
@@ -27,11 +28,12 @@ least held [] = held
 least held (mark ∷ marks) = least (min held mark.held) marks
 
 -- the mark of a member becomes the greater of it and what the member now holds
+abbrev pub raised_mark : ℕ → ℕ → Mark → Mark
+raised_mark member held mark =
+    if mark.member == member then record mark { held = max mark.held held } else mark
+
 abbrev pub raised : ℕ → ℕ → List Mark → List Mark
-raised member held [] = []
-raised member held (mark ∷ marks) =
-    (if mark.member == member then record mark { held = max mark.held held } else mark)
-    ∷ raised member held marks
+raised member held marks = map (raised_mark member held) marks
 
 -- places below `held` that are not applied yet are applied, their outputs given, and the other
 -- members hear of it
@@ -67,12 +69,22 @@ proposed {O = O} rules r command =
     then added rules r command
     else nothing_done O r
 
+-- whether a replica is a backup that holds the log of a ballot, or leads it as its active primary
+abbrev pub follows : {C : Type 0} → ReplicaState C → ℕ → Bool
+follows r ballot = (r.joined == ballot && r.held_in == ballot) && is_backup r.role
+
+abbrev pub leads : {C : Type 0} → ReplicaState C → ℕ → Bool
+leads r ballot = r.joined == ballot && is_active r.role
+
+-- a log that takes a command where its place is the next one
+abbrev pub extended : {C : Type 0} → ℕ → C → List C → List C
+extended place command log = if place == length log then log ++ command ∷ [] else log
+
 -- Append(ballot, place, command)
 unfoldable pub on_append : {C : Type 0} (O : Type 0) → ReplicaState C → ℕ → ℕ → ℕ → C → Outcome C O
 on_append O r from ballot place command =
-    let log = if place == length r.log then r.log ++ command ∷ [] else r.log in
-    if (r.joined == ballot && r.held_in == ballot)
-    && (is_backup r.role && nat_le place (length r.log))
+    let log = extended place command r.log in
+    if follows r ballot && nat_le place (length r.log)
     then record {
       state = record r { log = log };
       effects = message_to O r.id (Held ballot (length log)) from ∷ [];
@@ -82,29 +94,27 @@ on_append O r from ballot place command =
 -- Held(ballot, held)
 unfoldable pub on_held : {S C O : Type 0} → Rules S C O → ReplicaState C → ℕ → ℕ → ℕ → Outcome C O
 on_held {O = O} rules r from ballot held =
-    if r.joined == ballot && is_active r.role
+    if leads r ballot
     then commit rules (record r { marks = raised from held r.marks })
     else nothing_done O r
 
 -- Commit(ballot, held): the outputs are the primary's to give, and a backup drops them
 unfoldable pub on_commit : {C : Type 0} (O : Type 0) → ReplicaState C → ℕ → ℕ → Outcome C O
 on_commit O r ballot held =
-    if (r.joined == ballot && r.held_in == ballot)
-    && (is_backup r.role && nat_le held (length r.log))
+    if follows r ballot && nat_le held (length r.log)
     then record { state = record r { committed = max r.committed held }; effects = [] }
     else nothing_done O r
 
--- the places at the marks that are below the length of the log
+-- what a member may lack: the place at its mark, if the log has it
+abbrev pub append_at : {C : Type 0} (O : Type 0) → ℕ → ℕ → Mark → Option C → List (Effect C O)
+append_at O id ballot mark None = []
+append_at O id ballot mark (Some command) =
+    message_to O id (Append ballot mark.held command) mark.member ∷ []
+
 abbrev pub appends_behind : {C : Type 0} (O : Type 0) →
     ℕ → ℕ → List C → List Mark → List (Effect C O)
-appends_behind O id ballot log [] = []
-appends_behind O id ballot log (mark ∷ marks) =
-    append_at O id ballot mark (slice_get log mark.held) ++ appends_behind O id ballot log marks
-  where
-    append_at : {C : Type 0} (O : Type 0) → ℕ → ℕ → Mark → Option C → List (Effect C O)
-    append_at O id ballot mark None = []
-    append_at O id ballot mark (Some command) =
-        message_to O id (Append ballot mark.held command) mark.member ∷ []
+appends_behind O id ballot log marks =
+    flat_map (λ mark. append_at O id ballot mark (slice_get log mark.held)) marks
 
 -- an active primary says again what the other members lack, and what is committed
 unfoldable pub on_tick_active : {C : Type 0} (O : Type 0) → ReplicaState C → Outcome C O

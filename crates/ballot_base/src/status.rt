@@ -1,7 +1,7 @@
 // What a replica shows of itself.
 
 ghost use Rattle.std.specs.Prelude.{◌≡◌};
-ghost use Rattle.ballot_base.specs.Replica.{is_active};
+ghost use Rattle.ballot_base.specs.Replica.{is_active, is_backup};
 
 /// What a replica does in the ballot that it joined.
 #[derive(Clone, Copy, Debug, PartialEq, Eq)]
@@ -24,6 +24,16 @@ impl Role {
         match self {
             Role::Active => true,
             Role::Backup | Role::Fetching | Role::Installing => false,
+        }
+    }
+
+    /// Whether this is a backup.
+    pub fn is_backup(self) -> bool
+        ensures { result ≡ is_backup self }
+    {
+        match self {
+            Role::Backup => true,
+            Role::Fetching | Role::Installing | Role::Active => false,
         }
     }
 }

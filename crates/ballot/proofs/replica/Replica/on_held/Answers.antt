@@ -1,0 +1,65 @@
+use Rattle.std.proofs.Common.{◌≡◌, ◌≤◌, length, refl, ap, sym, ◌∙◌, arith}
+use Rattle.machine.specs.Machine.{rules_by}
+use Rattle.ballot_base.specs.Replica.{Counted}
+use Rattle.ballot_base.specs.Serving.{least, raised}
+use Rattle.ballot_base.proofs.StepRows.{least-le, commit_at-stopped}
+use Rattle.ballot_base.proofs.MessageRows.{on_held-elsewhere}
+use Rattle.ballot.proofs.MessagesTaken.{went_same, held_taken, held_halted, written_back, taken_back}
+use Rattle.ballot.proofs.replica.Replica.on_held.Goals as goal
+
+pub returns-then-not-leads-clause-went : goal.returns-then-not-leads-clause-went
+returns-then-not-leads-clause-went g c =
+    let steps = rules_by g.M.Machine.opening g.M.Machine.start_of g.M.Machine.after g.M.Machine.gives in
+    went_same _ _ _ (on_held-elsewhere steps _ c.args.from c.args.ballot c.args.held
+    (sym c.leads.ensures ∙ c.if-not-leads.true))
+
+pub commit_at-requires-clause-within : goal.commit_at-requires-clause-within
+commit_at-requires-clause-within g c =
+    let below : least c.len.result (raised c.args.from c.args.held c.deref.result.now) ≤ c.len.result =
+    least-le _ (raised c.args.from c.args.held c.deref.result.now) in
+    rw (← c.self.view_is, c.least_raised-least.ensures) (omega (arith, c.self.inside.log.ok.0, c.len.ensures))
+
+pub returns-in-Ok-clause-went : goal.returns-in-Ok-clause-went
+returns-in-Ok-clause-went g c =
+    let steps = rules_by g.M.Machine.opening g.M.Machine.start_of g.M.Machine.after g.M.Machine.gives in
+    let long : c.len.result ≡ length c.args.self.now.state.log =
+    rw (← c.self.view_is) (omega (arith, c.self.inside.log.ok.0, c.len.ensures)) in
+    let written : length c.raise.new.marks ≡ c.self-2.inside.marks.len =
+    omega (arith, c.raise.auto.marks, ap length c.deref_mut.ensures.value, c.self-2.inside.marks.ok.0) in
+    held_taken steps c.args.self.now c.commit_at.new.self _ c.args.from c.args.ballot c.args.held c.least_raised-least.result
+    c.deref.result.now _ c.len.result _ _ c.in-Ok.told
+    (sym c.leads.ensures ∙ c.if-not-leads.false)
+    (rw (← c.self.view_is) c.deref.ensures.value)
+    long
+    c.least_raised-least.ensures
+    c.in-Ok.ensures.state
+    c.in-Ok.ensures.effects
+    (written_back c.self-2.inside.marks.len c.raise.new.marks c.self-2.inside.marks.items written
+    ∙ c.raise.ensures ∙ ap (raised c.args.from c.args.held) c.deref_mut.ensures.value
+    ∙ ap (λ (z : Counted _). raised c.args.from c.args.held z.state.marks) c.self-2.view_is)
+    (rw (← c.self-2.view_is) refl)
+    (rw (← c.self-2.view_is) c.counted-self-inside.ensures)
+
+pub returns-in-Ok-clause-ok : goal.returns-in-Ok-clause-ok
+returns-in-Ok-clause-ok g c =
+    let steps = rules_by g.M.Machine.opening g.M.Machine.start_of g.M.Machine.after g.M.Machine.gives in
+    ap (λ (z : Counted _). z.state.stopped) (c.self-2.view_is ∙ c.in-Ok.ensures.state)
+    ∙ commit_at-stopped steps c.args.self.now.state c.least_raised-least.result ∙ c.requires
+
+pub returns-in-Err-clause-went : goal.returns-in-Err-clause-went
+returns-in-Err-clause-went g c =
+    let steps = rules_by g.M.Machine.opening g.M.Machine.start_of g.M.Machine.after g.M.Machine.gives in
+    let long : c.len.result ≡ length c.args.self.now.state.log =
+    rw (← c.self.view_is) (omega (arith, c.self.inside.log.ok.0, c.len.ensures)) in
+    held_halted steps c.args.self.now c.commit_at.new.self _ c.args.from c.args.ballot c.args.held c.least_raised-least.result
+    c.deref.result.now c.len.result _ _
+    (sym c.leads.ensures ∙ c.if-not-leads.false)
+    (rw (← c.self.view_is) c.deref.ensures.value)
+    long
+    c.least_raised-least.ensures
+    c.in-Err.ensures.needed
+    c.in-Err.ensures.stops
+    (rw (← c.self-2.view_is) refl)
+    (rw (← c.self-2.view_is) c.counted-self-inside-in-Err.ensures)
+    (taken_back _ c.len-before.result c.in-Err.ensures.err
+    (omega (arith, c.len-before.ensures, c.args.out.now.ok.0)) c.truncate.ensures.items)

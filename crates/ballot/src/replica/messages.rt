@@ -1,0 +1,182 @@
+// What a replica does with each message of another node.
+
+ghost use Rattle.std.specs.Prelude.{◌≡◌, ◌≤◌, ◌<◌, ◌↔◌, ◌⊎◌, true, false, [], length, IfOk, OnOk, OnErr, IsErr, IsErrOf, MatchResult, if◌then◌else◌};
+ghost use Rattle.machine.specs.Machine.{rules_by};
+ghost use Rattle.ballot.specs.Inside.{Sends, Grows, Lacks, Went};
+ghost use Rattle.ballot_base.specs.Config.{is_lawful};
+ghost use Rattle.ballot_base.specs.Losses.{Stepped, Done, IsQuiet, halted, one_more};
+ghost use Rattle.ballot_base.specs.Replica.{is_active, opening, status_of};
+ghost use Rattle.ballot_base.specs.Protocol.{step_in_one_ballot};
+ghost use Rattle.ballot_base.specs.Protocol.Input.{Receives, Ticks};
+ghost use Rattle.ballot_base.specs.Serving.{added, commit_at, follows, leads, most_places, on_append, on_commit, on_held, proposed};
+
+use super::Replica;
+use crate::applying::apply_dropping;
+use crate::marking::{least_raised, raise};
+use crate::sending::send;
+use crate::taking::{counted, take_in};
+use ballot_base::{Body, Effect, Message};
+use machine::{Halted, Machine};
+
+impl<M: Machine> Replica<M> {
+    /// Takes a message of another node. A message whose effect on the log finds no memory is lost.
+    pub fn on(
+        &mut self,
+        message: Message<M::Command>,
+        out: &mut Vec<Effect<M::Command, M::Output>>,
+    ) -> Result<(), Halted>
+        // The protocol's step, or one in which memory was wanting and that was counted.
+        ensures step { self.old.state.stopped ≡ false →
+            Stepped self.old
+            (step_in_one_ballot (rules_by M.opening M.start_of M.after M.gives)
+            self.old.state (Receives message))
+            self.new out.old.items out.new.items }
+        // What sends, adds and applies nothing never wants memory.
+        ensures quiet { self.old.state.stopped ≡ false →
+            IsQuiet self.old.state
+            (step_in_one_ballot (rules_by M.opening M.start_of M.after M.gives)
+            self.old.state (Receives message)) →
+            self.new ≡ record self.old {
+              state = (step_in_one_ballot (rules_by M.opening M.start_of M.after M.gives)
+                  self.old.state (Receives message)).state;
+            } }
+
+        ensures halted { IsErr result ↔ (self.new.state.stopped ≡ true) }
+        ensures stopped { self.old.state.stopped ≡ true → self.new ≡ self.old }
+        ensures err { OnErr result (out.new.items ≡ out.old.items) }
+    {
+        if self.stopped {
+            return Err(Halted);
+        }
+        let from = message.from;
+        match message.body {
+            Body::Append(ballot, place, command) => {
+                self.on_append(from, ballot, place, command, out);
+                Ok(())
+            }
+            Body::Held(ballot, held) => self.on_held(from, ballot, held, out),
+            Body::Commit(ballot, held) => self.on_commit(ballot, held),
+            Body::NewBallot(_, _, _, _)
+            | Body::Join(_, _)
+            | Body::State(_, _)
+            | Body::Install(_, _)
+            | Body::Installed(_, _)
+            | Body::Activate(_)
+            | Body::Activated(_)
+            | Body::Superseded(_) => Ok(()),
+        }
+    }
+
+    // A backup takes the next place, and says how many places it holds.
+    fn on_append(
+        &mut self,
+        from: u8,
+        ballot: u64,
+        place: u64,
+        command: M::Command,
+        out: &mut Vec<Effect<M::Command, M::Output>>,
+    )
+        ensures went { Went self.old (on_append M.Output self.old.state from ballot place command) self.new
+            out.old.items out.new.items }
+        ensures runs { self.new.state.stopped ≡ self.old.state.stopped }
+    {
+        if !self.follows(ballot) {
+            return;
+        }
+        if place > self.log.len() as u64 {
+            return;
+        }
+        if !take_in(&mut self.log, place, command) {
+            self.losses = counted(self.losses, false);
+            return;
+        }
+        let body = Body::Held(ballot, self.log.len() as u64);
+        let sent = send(
+            out,
+            from,
+            Message {
+                from: self.id,
+                body,
+            },
+        );
+        self.losses = counted(self.losses, sent);
+    }
+
+    // The primary learns what a member holds, and commits what all hold.
+    fn on_held(
+        &mut self,
+        from: u8,
+        ballot: u64,
+        held: u64,
+        out: &mut Vec<Effect<M::Command, M::Output>>,
+    ) -> Result<(), Halted>
+        requires { self.old.state.stopped ≡ false }
+        ensures went { Went self.old
+            (on_held (rules_by M.opening M.start_of M.after M.gives) self.old.state from ballot held)
+            self.new out.old.items out.new.items }
+        ensures ok { OnOk result (self.new.state.stopped ≡ false) }
+        ensures err { OnErr result ((self.new.state.stopped ≡ true) × (out.new.items ≡ out.old.items)) }
+    {
+        if !self.leads(ballot) {
+            return Ok(());
+        }
+        let before = out.len();
+        let least = least_raised(self.log.len() as u64, from, held, &self.marks);
+        match self.commit_at(least, out) {
+            Ok(told) => {
+                raise(from, held, &mut self.marks);
+                self.losses = counted(self.losses, told);
+                Ok(())
+            }
+            Err(halted) => {
+                out.truncate(before);
+                self.losses = counted(self.losses, false);
+                Err(halted)
+            }
+        }
+    }
+
+    // A backup applies what every member holds. The outputs are the primary's to give.
+    fn on_commit(&mut self, ballot: u64, held: u64) -> Result<(), Halted>
+        requires { self.old.state.stopped ≡ false }
+        ensures went { Went self.old (on_commit M.Output self.old.state ballot held) self.new [] [] }
+        ensures ok { OnOk result (self.new.state.stopped ≡ false) }
+        ensures err { OnErr result (self.new.state.stopped ≡ true) }
+    {
+        if !self.follows(ballot) {
+            return Ok(());
+        }
+        if held > self.log.len() as u64 {
+            return Ok(());
+        }
+        if held <= self.committed {
+            return Ok(());
+        }
+        let from = self.committed;
+        match apply_dropping(self.alloc, &mut self.machine, &self.log, from, held) {
+            Ok(()) => {
+                self.committed = held;
+                Ok(())
+            }
+            Err(halted) => {
+                self.stopped = true;
+                self.losses = counted(self.losses, false);
+                Err(halted)
+            }
+        }
+    }
+
+    // Whether this is a backup that holds the log of a ballot.
+    fn follows(&self, ballot: u64) -> bool
+        ensures { result ≡ follows self.now.state ballot }
+    {
+        (self.joined == ballot && self.held_in == ballot) && self.role.is_backup()
+    }
+
+    // Whether this is the active primary of a ballot.
+    fn leads(&self, ballot: u64) -> bool
+        ensures { result ≡ leads self.now.state ballot }
+    {
+        self.joined == ballot && self.role.is_active()
+    }
+}

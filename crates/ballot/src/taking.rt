@@ -1,0 +1,32 @@
+// Commands that come from elsewhere into a log, and the count of what was lost.
+
+ghost use Rattle.std.specs.Prelude.{◌≡◌, length, if◌then◌else◌};
+ghost use Rattle.std.specs.Bool.{OnTrue, OnFalse};
+ghost use Rattle.ballot_base.specs.Losses.{one_more};
+ghost use Rattle.ballot_base.specs.Serving.{extended};
+
+/// Takes a command where its place is the next one of the log. Whether memory was found, where it
+/// was needed, is the result; where not, the log stays.
+pub fn take_in<C: Drop>(log: &mut Vec<C>, place: u64, command: C) -> bool
+    ensures taken { OnTrue result (log.new.items ≡ extended place command log.old.items) }
+    ensures lost { OnFalse result ((log.new.items ≡ log.old.items) × (place ≡ length log.old.items)) }
+{
+    if place != log.len() as u64 {
+        return true;
+    }
+    match log.push(command) {
+        Ok(()) => true,
+        Err(_) => false,
+    }
+}
+
+/// The count of losses behind a call that was whole, or in which memory was wanting.
+pub fn counted(losses: u64, whole: bool) -> u64
+    ensures { result ≡ (if whole then losses else one_more losses) }
+{
+    if whole {
+        losses
+    } else {
+        losses.saturating_add(1)
+    }
+}
