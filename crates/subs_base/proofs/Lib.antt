@@ -1,0 +1,2 @@
+pub mod ContentAfter
+pub mod RowsAreGranted
