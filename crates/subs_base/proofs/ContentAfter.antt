@@ -8,7 +8,8 @@ use Rattle.std.specs.Ordering.{nat_cmp, is_eq}
 use Rattle.std.proofs.lemmas.Map.Made.{lookup-map_values}
 use Rattle.packet.specs.declared.qos.QoS.{QoS}
 use Rattle.subs_base.specs.Content.{Content, without_client, without_subscription}
-use Rattle.subs_base.specs.Inside.{content_of, listed, at}
+use Rattle.subs_base.specs.ListIndex.{content_of, at}
+use Rattle.subs_base.specs.Inside.{listed}
 
 abbrev Kept : Type 0
 Kept = BTreeMap (List ℕ) QoS

@@ -2,8 +2,10 @@
 //! and the simple one.
 #![tactic(auto)]
 
+mod laws;
 mod list_index;
 mod sub_index;
 
+pub use laws::grants_one_list;
 pub use list_index::ListIndex;
 pub use sub_index::SubIndex;

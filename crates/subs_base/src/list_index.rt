@@ -1,10 +1,28 @@
 // The simple index: each client with its filters, all of them looked at for a publication.
 
-ghost use Rattle.std.specs.Prelude.{◌≡◌, ◌++◌, ◌↔◌, IsTrue, IsSome, OnOk, OnErr, List, ℕ, Some, None, bytes_eq, if◌then◌else◌, take, length};
+ghost use Rattle.std.specs.Prelude.{
+  ◌≡◌,
+  ◌++◌,
+  ◌↔◌,
+  IsTrue,
+  IsSome,
+  OnOk,
+  OnErr,
+  is_some,
+  List,
+  ℕ,
+  Some,
+  None,
+  bytes_eq,
+  if◌then◌else◌,
+  take,
+  length,
+};
 ghost use Rattle.std.specs.Cmp.Lexicographic.{slice_cmp};
 ghost use Rattle.std.specs.Ordering.{nat_cmp};
-ghost use Rattle.std.specs.BTreeMap.{Updates, IsOrdered};
-ghost use Rattle.subs_base.specs.Inside.{content_of, listed, greater, greatest_from, rows_of, AreOrdered};
+ghost use Rattle.std.specs.BTreeMap.{Updates, IsOrdered, get};
+ghost use Rattle.subs_base.specs.ListIndex.{content_of};
+ghost use Rattle.subs_base.specs.Inside.{listed, greater, greatest_from, rows_of, AreOrdered};
 
 use crate::sub_index::SubIndex;
 use packet::{ClientId, QoS};
@@ -21,7 +39,8 @@ pub struct ListIndex {
 }
 
 impl Model for ListIndex {
-    ghost use Rattle.subs_base.specs.Inside.{Clients, listed};
+    ghost use Rattle.subs_base.specs.ListIndex.{Clients};
+    ghost use Rattle.subs_base.specs.Inside.{listed};
 
     ghost Value = { Clients };
 
@@ -52,11 +71,12 @@ impl SubIndex for ListIndex {
 
     fn clear(&mut self, client: &ClientId, filter: &Filter) -> bool {
         match self.clients.get_mut(client) {
-            Some(filters) => filters.remove(filter).is_some(),
+            Some(filters) => clear_filter(filters, filter),
             None => false,
         }
     }
 
+    #[tactic(auto, using(crate::proofs::ContentAfter::content_dropped))]
     fn drop_client(&mut self, client: &ClientId) {
         self.clients.remove(client);
     }
@@ -80,7 +100,8 @@ fn set_filter(
     filter: &Filter,
     qos: QoS,
 ) -> Result<(), AllocError>
-    ensures ok { OnOk result (Updates (slice_cmp nat_cmp) filters.old filters.new filter.now (Some qos)) }
+    ensures ok { OnOk result
+        (Updates (slice_cmp nat_cmp) filters.old filters.new filter.now (Some qos)) }
     ensures err { OnErr result (filters.new.entries ≡ filters.old.entries) }
 {
     if let Some(kept) = filters.get_mut(filter) {
@@ -91,13 +112,21 @@ fn set_filter(
     Ok(())
 }
 
+fn clear_filter(filters: &mut BTreeMap<Filter, QoS>, filter: &Filter) -> bool
+    ensures found { result ≡ is_some (get (slice_cmp nat_cmp) filters.old filter.now) }
+    ensures after { Updates (slice_cmp nat_cmp) filters.old filters.new filter.now None }
+{
+    filters.remove(filter).is_some()
+}
+
 /// Appends the clients' rows. Where memory is wanting, some of them may stand there.
 fn append_rows(
     clients: &BTreeMap<ClientId, BTreeMap<Filter, QoS>>,
     topic: &TopicName,
     rows: &mut Vec<(ClientId, QoS)>,
 ) -> Result<(), AllocError>
-    ensures ok { OnOk result (rows.new.items ≡ rows.old.items ++ rows_of topic.now (listed clients.now.entries)) }
+    ensures ok { OnOk result
+        (rows.new.items ≡ rows.old.items ++ rows_of topic.now (listed clients.now.entries)) }
     ensures ordered { OnOk result (AreOrdered (listed clients.now.entries)) }
     ensures clients_ordered { IsOrdered (slice_cmp nat_cmp) clients.now }
     ensures err { OnErr result (rows.old.items ≡ take (length rows.old.items) rows.new.items) }

@@ -1,7 +1,7 @@
 -- The rows of the map are those that its content grants.
 use Rattle.std.proofs.Common.{subst}
 use Rattle.subs_base.specs.Granted.{AppendsGranted}
-use Rattle.subs_base.specs.Inside.{Clients, content_of}
+use Rattle.subs_base.specs.ListIndex.{Clients, content_of}
 use Rattle.subs_base.proofs.ContentAfter.{on_ok_both}
 use Rattle.subs_base.proofs.RowsAreGranted.{appends_granted}
 use Rattle.subs_base.proofs.list_index.ListIndexSubIndex.granted.Goals as goal

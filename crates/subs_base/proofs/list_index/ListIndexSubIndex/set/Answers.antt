@@ -4,7 +4,8 @@ use Rattle.std.specs.BTreeMap.{get, is_at}
 use Rattle.std.specs.Cmp.Lexicographic.{slice_cmp}
 use Rattle.std.specs.Ordering.{nat_cmp}
 use Rattle.subs_base.specs.Content.{with_subscription}
-use Rattle.subs_base.specs.Inside.{content_of, listed}
+use Rattle.subs_base.specs.ListIndex.{content_of}
+use Rattle.subs_base.specs.Inside.{listed}
 use Rattle.subs_base.proofs.ContentAfter.{content_changed, content_kept, held_some, held_none, on_ok, on_err}
 use Rattle.subs_base.proofs.list_index.ListIndexSubIndex.set.Goals as goal
 
