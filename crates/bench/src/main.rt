@@ -2,13 +2,14 @@
 //! figures are in `docs/PERFORMANCE.md`.
 #![tactic(auto)]
 
+mod granted;
 mod matching;
 
 use anyhow::{Result, bail};
 use std::env;
 
 /// The benchmarks, each named like its file.
-const NAMES: [&str; 1] = ["matching"];
+const NAMES: [&str; 2] = ["granted", "matching"];
 
 fn main(rt: HostRuntime) -> Result<()> {
     let mut words = env::args(&rt)?;
@@ -28,6 +29,7 @@ fn list(rt: &impl Print) -> Result<()> {
 
 fn run(rt: &HostRuntime, name: &str) -> Result<()> {
     match name {
+        "granted" => granted::run(rt),
         "matching" => matching::run(rt),
         _ => bail!("no benchmark has the name {name}"),
     }

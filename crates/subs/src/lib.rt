@@ -1,0 +1,7 @@
+//! The index of all clients' subscriptions.
+#![tactic(auto)]
+
+#[cfg(test)]
+mod tests;
+
+pub use subs_base::{ListIndex, SubIndex, grants_one_list};

@@ -1,0 +1,3 @@
+pub mod ContentAfter
+pub mod RowsAreGranted
+pub mod GrantsOneList

@@ -1,0 +1,45 @@
+-- How a `ListIndex` goes through its clients and their filters.
+use Rattle.std.specs.Prelude.{ℕ, List, [], ◌∷◌, ◌++◌, Option, Some, None, if◌then◌else◌, nat_lt, map}
+use Rattle.std.specs.BTreeMap.{BTreeMap}
+use Rattle.std.specs.Map.{keys_of}
+use Rattle.std.specs.List.Sorted.{IsStrictlySortedBy}
+use Rattle.std.specs.Cmp.Lexicographic.{slice_cmp}
+use Rattle.std.specs.Ordering.{nat_cmp}
+use Rattle.topics.specs.Matching.{is_match}
+use Rattle.packet.specs.declared.qos.QoS.{QoS}
+use Rattle.packet.specs.QoS.{qos_number}
+use Rattle.subs_base.specs.Granted.{Row}
+use Rattle.subs_base.specs.ListIndex.{Filters, Clients}
+
+-- the maps as lists
+abbrev pub listed : List (List ℕ × BTreeMap (List ℕ) QoS) → Clients
+listed entries = map (λ entry. (entry.0, entry.1.entries)) entries
+
+-- the greater of two, none being the least
+abbrev pub greater : QoS → Option QoS → QoS
+greater qos None = qos
+greater qos (Some best) = if nat_lt (qos_number qos) (qos_number best) then best else qos
+
+-- the greatest QoS so far, and of the filters that match
+abbrev pub greatest_from : List ℕ → Option QoS → Filters → Option QoS
+greatest_from topic best [] = best
+greatest_from topic best (entry ∷ entries) =
+    if is_match entry.0 topic then greatest_from topic (Some (greater entry.1 best)) entries
+    else greatest_from topic best entries
+
+-- the client's row, if it has a matching filter
+abbrev pub row_of : List ℕ → Option QoS → List Row
+row_of client None = []
+row_of client (Some qos) = (client, qos) ∷ []
+
+-- a row for each client with a matching filter
+abbrev pub rows_of : List ℕ → Clients → List Row
+rows_of topic [] = []
+rows_of topic (entry ∷ entries) =
+    row_of entry.0 (greatest_from topic None entry.1) ++ rows_of topic entries
+
+-- the filters of each client are in order
+abbrev pub AreOrdered : Clients → Type 0
+AreOrdered [] = Unit {0}
+AreOrdered (entry ∷ entries) =
+    IsStrictlySortedBy (slice_cmp nat_cmp) (keys_of entry.1) × AreOrdered entries

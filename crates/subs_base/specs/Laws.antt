@@ -1,0 +1,10 @@
+-- The law that `src/laws.rt` proves.
+use Rattle.std.specs.Prelude.{◌≡◌, ℕ, List}
+use Rattle.subs_base.specs.Content.{Content}
+use Rattle.subs_base.specs.Granted.{Row, IsGranted}
+
+-- a content grants one list of rows for a topic, and no other
+abbrev pub GrantsOneList : Type 0
+GrantsOneList =
+    (content : Content) (topic : List ℕ) (rows others : List Row)
+    → IsGranted content topic rows → IsGranted content topic others → rows ≡ others

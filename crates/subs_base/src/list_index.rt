@@ -1,0 +1,162 @@
+// The simple index: each client with its filters, all of them looked at for a publication.
+
+ghost use Rattle.std.specs.Prelude.{
+  ◌≡◌,
+  ◌++◌,
+  ◌↔◌,
+  IsTrue,
+  IsSome,
+  OnOk,
+  OnErr,
+  is_some,
+  List,
+  ℕ,
+  Some,
+  None,
+  bytes_eq,
+  if◌then◌else◌,
+  take,
+  length,
+};
+ghost use Rattle.std.specs.Cmp.Lexicographic.{slice_cmp};
+ghost use Rattle.std.specs.Ordering.{nat_cmp};
+ghost use Rattle.std.specs.BTreeMap.{Updates, IsOrdered, get};
+ghost use Rattle.subs_base.specs.ListIndex.{content_of};
+ghost use Rattle.subs_base.specs.Inside.{listed, greater, greatest_from, rows_of, AreOrdered};
+
+use crate::sub_index::SubIndex;
+use packet::{ClientId, QoS};
+use std::alloc::{AllocError, Global};
+use std::collections::BTreeMap;
+use std::marker::Model;
+use topics::{Filter, TopicName, matches};
+
+/// An index that looks at every filter of every client for each publication.
+#[derive(Debug, Drop)]
+pub struct ListIndex {
+    clients: BTreeMap<ClientId, BTreeMap<Filter, QoS>>,
+    alloc: Global,
+}
+
+impl Model for ListIndex {
+    ghost use Rattle.subs_base.specs.ListIndex.{Clients};
+    ghost use Rattle.subs_base.specs.Inside.{listed};
+
+    ghost Value = { Clients };
+
+    ghost view = { λ index. listed index.clients.entries };
+}
+
+impl SubIndex for ListIndex {
+    ghost content = { content_of };
+
+    fn new(alloc: Global) -> ListIndex {
+        ListIndex {
+            clients: BTreeMap::new(alloc),
+            alloc,
+        }
+    }
+
+    fn set(&mut self, client: &ClientId, filter: &Filter, qos: QoS) -> Result<(), AllocError> {
+        match self.clients.get_mut(client) {
+            Some(filters) => set_filter(filters, filter, qos),
+            None => {
+                let mut filters = BTreeMap::new(self.alloc);
+                set_filter(&mut filters, filter, qos)?;
+                self.clients.insert(client.clone()?, filters)?;
+                Ok(())
+            }
+        }
+    }
+
+    fn clear(&mut self, client: &ClientId, filter: &Filter) -> bool {
+        match self.clients.get_mut(client) {
+            Some(filters) => clear_filter(filters, filter),
+            None => false,
+        }
+    }
+
+    #[tactic(auto, using(crate::proofs::ContentAfter::content_dropped))]
+    fn drop_client(&mut self, client: &ClientId) {
+        self.clients.remove(client);
+    }
+
+    fn granted(
+        &self,
+        topic: &TopicName,
+        rows: &mut Vec<(ClientId, QoS)>,
+    ) -> Result<(), AllocError> {
+        let before = rows.len();
+        let appended = append_rows(&self.clients, topic, rows);
+        if appended.is_err() {
+            rows.truncate(before);
+        }
+        appended
+    }
+}
+
+fn set_filter(
+    filters: &mut BTreeMap<Filter, QoS>,
+    filter: &Filter,
+    qos: QoS,
+) -> Result<(), AllocError>
+    ensures ok { OnOk result
+        (Updates (slice_cmp nat_cmp) filters.old filters.new filter.now (Some qos)) }
+    ensures err { OnErr result (filters.new.entries ≡ filters.old.entries) }
+{
+    if let Some(kept) = filters.get_mut(filter) {
+        *kept = qos;
+        return Ok(());
+    }
+    filters.insert(filter.clone()?, qos)?;
+    Ok(())
+}
+
+fn clear_filter(filters: &mut BTreeMap<Filter, QoS>, filter: &Filter) -> bool
+    ensures found { result ≡ is_some (get (slice_cmp nat_cmp) filters.old filter.now) }
+    ensures after { Updates (slice_cmp nat_cmp) filters.old filters.new filter.now None }
+{
+    filters.remove(filter).is_some()
+}
+
+/// Appends the clients' rows. Where memory is wanting, some of them may stand there.
+fn append_rows(
+    clients: &BTreeMap<ClientId, BTreeMap<Filter, QoS>>,
+    topic: &TopicName,
+    rows: &mut Vec<(ClientId, QoS)>,
+) -> Result<(), AllocError>
+    ensures ok { OnOk result
+        (rows.new.items ≡ rows.old.items ++ rows_of topic.now (listed clients.now.entries)) }
+    ensures ordered { OnOk result (AreOrdered (listed clients.now.entries)) }
+    ensures clients_ordered { IsOrdered (slice_cmp nat_cmp) clients.now }
+    ensures err { OnErr result (rows.old.items ≡ take (length rows.old.items) rows.new.items) }
+{
+    for (client, filters) in clients {
+        if let Some(qos) = greatest(filters, topic) {
+            rows.push((client.clone()?, qos))?;
+        }
+    }
+    Ok(())
+}
+
+fn greatest(filters: &BTreeMap<Filter, QoS>, topic: &TopicName) -> Option<QoS>
+    ensures value { result ≡ greatest_from topic.now None filters.now.entries }
+    ensures ordered { IsOrdered (slice_cmp nat_cmp) filters.now }
+{
+    let mut best = None;
+    for (filter, qos) in filters {
+        if matches(filter, topic) {
+            best = Some(greater(*qos, best));
+        }
+    }
+    best
+}
+
+fn greater(qos: QoS, best: Option<QoS>) -> QoS
+    ensures { result ≡ greater qos best }
+{
+    match best {
+        Some(other) if qos.number() < other.number() => other,
+        _ => qos,
+    }
+}

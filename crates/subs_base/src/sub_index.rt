@@ -1,0 +1,49 @@
+// What an index of subscriptions has to do.
+
+ghost use Rattle.std.specs.Prelude.{◌≡◌, ◌↔◌, IsTrue, IsSome, OnOk, OnErr};
+ghost use Rattle.subs_base.specs.Content.{
+  Content,
+  no_subscriptions,
+  with_subscription,
+  without_subscription,
+  without_client,
+};
+ghost use Rattle.subs_base.specs.Granted.{AppendsGranted};
+
+use packet::{ClientId, QoS};
+use std::alloc::{AllocError, Global};
+use topics::{Filter, TopicName};
+
+/// The subscriptions of all clients, each pair of client and filter once.
+pub trait SubIndex: Drop {
+    ghost content: { Self → Content };
+
+    /// An index without subscriptions.
+    fn new(alloc: Global) -> Self
+        ensures { content result ≡ no_subscriptions };
+
+    /// Sets the client's subscription of this filter, replacing an identical one (MQTT 3.8.4).
+    fn set(&mut self, client: &ClientId, filter: &Filter, qos: QoS) -> Result<(), AllocError>
+        ensures ok { OnOk result
+            (content self.new ≡ with_subscription (content self.old) client.now filter.now qos) }
+        ensures err { OnErr result (content self.new ≡ content self.old) };
+
+    /// Removes the client's subscription of this very filter, and says whether there was one
+    /// (MQTT 3.10.4). Takes no memory.
+    fn clear(&mut self, client: &ClientId, filter: &Filter) -> bool
+        ensures found { IsTrue result ↔ IsSome (content self.old client.now filter.now) }
+        ensures after { content self.new
+            ≡ without_subscription (content self.old) client.now filter.now };
+
+    /// Removes all subscriptions of the client. Takes no memory.
+    fn drop_client(&mut self, client: &ClientId)
+        ensures { content self.new ≡ without_client (content self.old) client.now };
+
+    /// Appends a row for each client with a filter that matches the topic, with the greatest QoS of
+    /// these filters, in the order of the clients' bytes (MQTT 3.3.5). Without memory the rows stay
+    /// as they were.
+    fn granted(&self, topic: &TopicName, rows: &mut Vec<(ClientId, QoS)>) -> Result<(), AllocError>
+        ensures ok { OnOk result
+            (AppendsGranted (content self.now) topic.now rows.old.items rows.new.items) }
+        ensures err { OnErr result (rows.new.items ≡ rows.old.items) };
+}
