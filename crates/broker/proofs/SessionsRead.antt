@@ -4,6 +4,7 @@ use Rattle.packet_base.specs.declared.stop.Stop.{Stop}
 use Rattle.packet_base.specs.declared.stop.Stop.TheVariants as stops
 use Rattle.topics.specs.declared.malformed.MalformedKind.TheVariants as kinds
 use Rattle.packet_base.specs.Outcome.{StopsBy}
+use Rattle.packet_base.proofs.ItemsInALoop.{stops_at, stops_cases}
 use Rattle.packet_base.specs.Reading.{◌>>=◌, ◌>>◌}
 use Rattle.broker_base.specs.Past.{Client}
 use Rattle.broker_base.specs.Table.{Table}
@@ -37,26 +38,14 @@ goes-on n i t t' b b' row total less e read may is =
 
 -- ---- a fault
 
-stops-at : {Y : Type 0} (stop : Stop) (read : Result Y Stop) → read ≡ Err stop → StopsBy stop read
-stops-at stops.More read e = e
-stops-at (stops.Malformed kinds.Memory) read e = tt
-stops-at (stops.Malformed kind) read e = e
-stops-at (stops.Refused code) read e = e
-
-stops-cases : {Y : Type 0} (stop : Stop) (read : Result Y Stop) → StopsBy stop read → (stop ≡ stops.Malformed kinds.Memory) ⊎ (read ≡ Err stop)
-stops-cases stops.More read h = inr h
-stops-cases (stops.Malformed kinds.Memory) read h = inl refl
-stops-cases (stops.Malformed kind) read h = inr h
-stops-cases (stops.Refused code) read h = inr h
-
 -- no session is there
 pub stops-so : (n i : ℕ) (t : Table) (b : List ℕ) (total : Read) (stop : Stop) → i < n → sessions_at (n - i) t b ≡ total → StopsBy stop (session_at b) → StopsBy stop total
 stops-so n i t b total stop less e h =
-    elim (stops-cases stop (session_at b) h) [
+    elim (stops_cases stop (session_at b) h) [
       | inl memory ↦ subst (λ (s : Stop). StopsBy s total) (sym memory) tt
       | inr is ↦
           let turn : turn_of (n - (i + 1)) t b ≡ Err stop = rw is refl in
-          stops-at stop total (sym e ∙ turn-is n i t b less ∙ turn)
+          stops_at stop total (sym e ∙ turn-is n i t b less ∙ turn)
     ]
 
 -- a session that may not stand there
@@ -67,7 +56,7 @@ refused-so n i t t' b b' row total stop less e read h =
       | inl memory ↦ subst (λ (s : Stop). StopsBy s total) (sym memory) tt
       | inr facts ↦
           let turn : turn_of (n - (i + 1)) t b ≡ Err stop = rw (read, facts.0) (ap (λ (s : Stop). Err s) (sym facts.1)) in
-          stops-at stop total (sym e ∙ turn-is n i t b less ∙ turn)
+          stops_at stop total (sym e ∙ turn-is n i t b less ∙ turn)
     ]
   where
     adds-cases : (t : Table) (row : Client × SessionState) (t' : Table) (stop : Stop) → AddsRow t row (Err stop) t'
