@@ -46,34 +46,34 @@ body_found headers.Connect bytes fits =
     (λ c x. record { said = refl; spelled = x.0; fits = x.1; listed = tt })
 body_found headers.Connack bytes fits =
     then_if (connack_of bytes) _ (λ c. bytes ≡ connack c) (IsBody headers.Connack bytes) (connack_found bytes fits)
-      (λ c x. record { said = refl; spelled = x; fits = tt; listed = tt })
+    (λ c x. record { said = refl; spelled = x; fits = tt; listed = tt })
 body_found (headers.Publish flags retain) bytes fits =
     then_if (publish_of flags retain bytes) _ (IsPublish flags retain bytes) (IsBody (headers.Publish flags retain) bytes) (publish_found flags retain bytes fits)
-      (λ p x. record { said = header_said flags retain p x; spelled = x.spelled; fits = x.fits; listed = tt })
+    (λ p x. record { said = header_said flags retain p x; spelled = x.spelled; fits = x.fits; listed = tt })
 body_found headers.Puback bytes fits =
     then_if (id_alone_of bytes) _ (λ id. (bytes ≡ number id) × IsId id) (IsBody headers.Puback bytes) (id_alone_found bytes fits)
-      (λ id x. record { said = refl; spelled = x.0; fits = x.1; listed = tt })
+    (λ id x. record { said = refl; spelled = x.0; fits = x.1; listed = tt })
 body_found headers.Pubrec bytes fits =
     then_if (id_alone_of bytes) _ (λ id. (bytes ≡ number id) × IsId id) (IsBody headers.Pubrec bytes) (id_alone_found bytes fits)
-      (λ id x. record { said = refl; spelled = x.0; fits = x.1; listed = tt })
+    (λ id x. record { said = refl; spelled = x.0; fits = x.1; listed = tt })
 body_found headers.Pubrel bytes fits =
     then_if (id_alone_of bytes) _ (λ id. (bytes ≡ number id) × IsId id) (IsBody headers.Pubrel bytes) (id_alone_found bytes fits)
-      (λ id x. record { said = refl; spelled = x.0; fits = x.1; listed = tt })
+    (λ id x. record { said = refl; spelled = x.0; fits = x.1; listed = tt })
 body_found headers.Pubcomp bytes fits =
     then_if (id_alone_of bytes) _ (λ id. (bytes ≡ number id) × IsId id) (IsBody headers.Pubcomp bytes) (id_alone_found bytes fits)
-      (λ id x. record { said = refl; spelled = x.0; fits = x.1; listed = tt })
+    (λ id x. record { said = refl; spelled = x.0; fits = x.1; listed = tt })
 body_found headers.Subscribe bytes fits =
     then_if (subscribe_of bytes) _ (λ s. (bytes ≡ subscribe s) × FitsSubscribe s × (0 < length s.filters)) (IsBody headers.Subscribe bytes) (subscribe_found bytes fits)
-      (λ s x. record { said = refl; spelled = x.0; fits = x.1; listed = x.2 })
+    (λ s x. record { said = refl; spelled = x.0; fits = x.1; listed = x.2 })
 body_found headers.Suback bytes fits =
     then_if (suback_of bytes) _ (λ s. (bytes ≡ suback s) × FitsSuback s × (0 < length s.codes)) (IsBody headers.Suback bytes) (suback_found bytes fits)
-      (λ s x. record { said = refl; spelled = x.0; fits = x.1; listed = x.2 })
+    (λ s x. record { said = refl; spelled = x.0; fits = x.1; listed = x.2 })
 body_found headers.Unsubscribe bytes fits =
     then_if (unsubscribe_of bytes) _ (λ u. (bytes ≡ unsubscribe u) × FitsUnsubscribe u × (0 < length u.filters)) (IsBody headers.Unsubscribe bytes) (unsubscribe_found bytes fits)
-      (λ u x. record { said = refl; spelled = x.0; fits = x.1; listed = x.2 })
+    (λ u x. record { said = refl; spelled = x.0; fits = x.1; listed = x.2 })
 body_found headers.Unsuback bytes fits =
     then_if (id_alone_of bytes) _ (λ id. (bytes ≡ number id) × IsId id) (IsBody headers.Unsuback bytes) (id_alone_found bytes fits)
-      (λ id x. record { said = refl; spelled = x.0; fits = x.1; listed = tt })
+    (λ id x. record { said = refl; spelled = x.0; fits = x.1; listed = tt })
 body_found headers.Pingreq bytes fits =
     seq_if (ended bytes) _ (bytes ≡ []) (IsBody headers.Pingreq bytes) (ended_found bytes) (λ e. record { said = refl; spelled = e; fits = tt; listed = tt })
 body_found headers.Pingresp bytes fits =

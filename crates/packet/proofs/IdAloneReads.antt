@@ -15,7 +15,7 @@ id_alone_found body fits =
     let Q : ℕ → Type 0 = λ id. (body ≡ number id) × IsId id in
     then_if (id_at body) _ (λ x. Splits body (number x.0) x.1 × (x.0 < 2 ^ 16) × (0 < x.0)) Q (id_found body fits) (λ id h.
     seq_if (ended id.1) _ (id.1 ≡ []) Q (ended_found id.1) (λ nothing.
-      (Splits-all body (number id.0) (subst (λ (rest : List ℕ). Splits body (number id.0) rest) nothing h.0), (h.2, h.1))))
+    (Splits-all body (number id.0) (subst (λ (rest : List ℕ). Splits body (number id.0) rest) nothing h.0), (h.2, h.1))))
 
 pub id_alone_again : (id : ℕ) → IsId id → id_alone_of (number id) ≡ Ok id
 unfolding id_alone_of

@@ -37,8 +37,8 @@ subscription_found bytes fits =
     then_if (filter_at bytes) _ (λ x. Splits bytes (text x.0) x.1 × (is_filter x.0 ≡ true)) Q (filter_found bytes fits) (λ filter h.
     then_if (byte_at filter.1) _ (λ x. Splits filter.1 (x.0 ∷ []) x.1 × (x.0 < 256)) Q (byte_found filter.1 h.0.left) (λ byte k.
     then_if (qos_of byte.0) _ (λ qos. byte.0 ≡ qos_number qos) Q (qos_found byte.0) (λ qos is.
-      let both = Splits-then bytes (text filter.0) filter.1 (byte.0 ∷ []) byte.1 h.0 k.0 in
-      (subst (λ (n : ℕ). Splits bytes (text filter.0 ++ n ∷ []) byte.1) is both, h.1))))
+    let both = Splits-then bytes (text filter.0) filter.1 (byte.0 ∷ []) byte.1 h.0 k.0 in
+    (subst (λ (n : ℕ). Splits bytes (text filter.0 ++ n ∷ []) byte.1) is both, h.1))))
 
 subscription_again : (s : Subscription) (rest : List ℕ) → FitsSubscription s → subscription_at (subscription s ++ rest) ≡ Ok (s, rest)
 unfolding subscription_at
@@ -64,7 +64,7 @@ granted_found bytes fits =
     let Q : SubackCode × List ℕ → Type 0 = λ x. Splits bytes (granted x.0) x.1 × Unit {0} in
     then_if (byte_at bytes) _ (λ x. Splits bytes (x.0 ∷ []) x.1 × (x.0 < 256)) Q (byte_found bytes fits) (λ byte h.
     then_if (granted_of byte.0) _ (λ code. byte.0 ≡ granted_number code) Q (granted_of_found byte.0) (λ code is.
-      (subst (λ (n : ℕ). Splits bytes (n ∷ []) byte.1) is h.0, tt)))
+    (subst (λ (n : ℕ). Splits bytes (n ∷ []) byte.1) is h.0, tt)))
 
 granted_of_again : (code : SubackCode) → granted_of (granted_number code) ≡ Ok code
 granted_of_again (answers.Granted qos) = at_level qos
@@ -94,8 +94,8 @@ subscribe_found body fits =
     let Q : Subscribe → Type 0 = λ s. (body ≡ subscribe s) × FitsSubscribe s × (0 < length s.filters) in
     then_if (id_at body) _ (λ x. Splits body (number x.0) x.1 × (x.0 < 2 ^ 16) × (0 < x.0)) Q (id_found body fits) (λ id h.
     then_if (list_of subscription_at id.1) _ (λ xs. (id.1 ≡ flat_map subscription xs) × All FitsSubscription xs × (0 < length xs)) Q
-      (list_found subscription_at subscription FitsSubscription subscriptions id.1 h.0.left) (λ xs k.
-      (id_then body id.1 (flat_map subscription xs) id.0 h.0 k.0, ((h.2, h.1), k.1), k.2)))
+    (list_found subscription_at subscription FitsSubscription subscriptions id.1 h.0.left) (λ xs k.
+    (id_then body id.1 (flat_map subscription xs) id.0 h.0 k.0, ((h.2, h.1), k.1), k.2)))
 
 pub subscribe_again : (s : Subscribe) → FitsSubscribe s → 0 < length s.filters → subscribe_of (subscribe s) ≡ Ok s
 unfolding subscribe_of
@@ -111,8 +111,8 @@ unsubscribe_found body fits =
     let Q : Unsubscribe → Type 0 = λ u. (body ≡ unsubscribe u) × FitsUnsubscribe u × (0 < length u.filters) in
     then_if (id_at body) _ (λ x. Splits body (number x.0) x.1 × (x.0 < 2 ^ 16) × (0 < x.0)) Q (id_found body fits) (λ id h.
     then_if (list_of filter_at id.1) _ (λ xs. (id.1 ≡ flat_map text xs) × All (λ filter. IsTrue (is_filter filter)) xs × (0 < length xs)) Q
-      (list_found filter_at text (λ filter. IsTrue (is_filter filter)) names id.1 h.0.left) (λ xs k.
-      (id_then body id.1 (flat_map text xs) id.0 h.0 k.0, ((h.2, h.1), k.1), k.2)))
+    (list_found filter_at text (λ filter. IsTrue (is_filter filter)) names id.1 h.0.left) (λ xs k.
+    (id_then body id.1 (flat_map text xs) id.0 h.0 k.0, ((h.2, h.1), k.1), k.2)))
 
 pub unsubscribe_again : (u : Unsubscribe) → FitsUnsubscribe u → 0 < length u.filters → unsubscribe_of (unsubscribe u) ≡ Ok u
 unfolding unsubscribe_of
@@ -128,8 +128,8 @@ suback_found body fits =
     let Q : Suback → Type 0 = λ s. (body ≡ suback s) × FitsSuback s × (0 < length s.codes) in
     then_if (id_at body) _ (λ x. Splits body (number x.0) x.1 × (x.0 < 2 ^ 16) × (0 < x.0)) Q (id_found body fits) (λ id h.
     then_if (list_of granted_at id.1) _ (λ xs. (id.1 ≡ flat_map granted xs) × All (λ _. Unit {0}) xs × (0 < length xs)) Q
-      (list_found granted_at granted (λ _. Unit {0}) codes id.1 h.0.left) (λ xs k.
-      (id_then body id.1 (flat_map granted xs) id.0 h.0 k.0, (h.2, h.1), k.2)))
+    (list_found granted_at granted (λ _. Unit {0}) codes id.1 h.0.left) (λ xs k.
+    (id_then body id.1 (flat_map granted xs) id.0 h.0 k.0, (h.2, h.1), k.2)))
 
 pub suback_again : (s : Suback) → FitsSuback s → 0 < length s.codes → suback_of (suback s) ≡ Ok s
 unfolding suback_of

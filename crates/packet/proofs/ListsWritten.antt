@@ -1,6 +1,28 @@
 -- What a loop over the items of a list has counted, written or seen so far.
 use Rattle.std.proofs.Common.{
-  ◌≡◌, ℕ, suc, ◌+◌, ◌-◌, ◌<◌, ◌≤◌, min, List, [], ◌∷◌, ◌++◌, length, get_or, take, drop, refl, sym, ap, subst, ◌∙◌, append_assoc, arith
+  ◌≡◌,
+  ℕ,
+  suc,
+  ◌+◌,
+  ◌-◌,
+  ◌<◌,
+  ◌≤◌,
+  min,
+  List,
+  [],
+  ◌∷◌,
+  ◌++◌,
+  length,
+  get_or,
+  take,
+  drop,
+  refl,
+  sym,
+  ap,
+  subst,
+  ◌∙◌,
+  append_assoc,
+  arith,
 }
 use Rattle.std.specs.List.{flat_map, All}
 use Rattle.std.proofs.lemmas.List.{take_more, drop_more, take_all, length-append, append-nil}
@@ -20,7 +42,7 @@ pub counted_more : {X : Type 0} (f : X → List ℕ) (xs : List X) (i : ℕ) (x 
     → len ≡ min (front + length (flat_map f (take i xs))) limit → next ≡ min (len + size) limit → next ≡ min (front + length (flat_map f (take (i + 1) xs))) limit
 counted_more f xs i x front len size limit next there is sized so_far summed =
     let more : length (flat_map f (take (i + 1) xs)) ≡ length (flat_map f (take i xs)) + length (f x) =
-          ap length (taken_more f xs i x there is) ∙ length-append (flat_map f (take i xs)) (f x) in
+    ap length (taken_more f xs i x there is) ∙ length-append (flat_map f (take i xs)) (f x) in
     omega (arith, more, sized, so_far, summed)
 
 pub counted_all : {X : Type 0} (f : X → List ℕ) (xs all : List X) (i len limit : ℕ) → length xs ≤ i → xs ≡ all → len ≡ min (2 + length (flat_map f (take i xs))) limit

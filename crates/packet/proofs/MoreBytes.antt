@@ -1,7 +1,30 @@
 -- What more bytes change of a verdict: nothing, unless the bytes were too few.
 use Rattle.std.proofs.Common.{
-  ◌≡◌, ◌≢◌, ℕ, ◌+◌, ◌<◌, ◌≤◌, Bool, true, false, leb, List, [], ◌∷◌, ◌++◌, length, take, drop, Result, Ok, Err, refl, sym, ap,
-  ◌∙◌, arith
+  ◌≡◌,
+  ◌≢◌,
+  ℕ,
+  ◌+◌,
+  ◌<◌,
+  ◌≤◌,
+  Bool,
+  true,
+  false,
+  leb,
+  List,
+  [],
+  ◌∷◌,
+  ◌++◌,
+  length,
+  take,
+  drop,
+  Result,
+  Ok,
+  Err,
+  refl,
+  sym,
+  ap,
+  ◌∙◌,
+  arith,
 }
 use Rattle.std.proofs.lemmas.Bool.{le-leb, leb-true}
 use Rattle.std.proofs.lemmas.List.{append-nil, length-append, take-append-le, drop-append-le}
@@ -21,17 +44,17 @@ use Rattle.packet.proofs.Behind.{ok_is}
 -- a body that is there, with more bytes behind it
 body_there : (more : List ℕ) (h : Header) (n : ℕ) (rest : List ℕ) → n ≤ length rest
     → Grows more
-        (body_of h (take n rest) >>= (λ p. Ok (p, drop n rest)))
-        (body_of h (take n (rest ++ more)) >>= (λ p. Ok (p, drop n (rest ++ more))))
+    (body_of h (take n rest) >>= (λ p. Ok (p, drop n rest)))
+    (body_of h (take n (rest ++ more)) >>= (λ p. Ok (p, drop n (rest ++ more))))
 body_there more h n rest there =
     rw (take-append-le n rest more there, drop-append-le n rest more there)
-      (grows_same more (body_of h (take n rest)) _ _ (λ p _. refl))
+    (grows_same more (body_of h (take n rest)) _ _ (λ p _. refl))
 
 -- a body that may not be there yet
 body_grows : (more : List ℕ) (h : Header) (n : ℕ) (rest : List ℕ) (b : Bool) → leb n (length rest) ≡ b
     → Grows more
-        (check b stops.More >> (body_of h (take n rest) >>= (λ p. Ok (p, drop n rest))))
-        (check (leb n (length (rest ++ more))) stops.More >> (body_of h (take n (rest ++ more)) >>= (λ p. Ok (p, drop n (rest ++ more)))))
+    (check b stops.More >> (body_of h (take n rest) >>= (λ p. Ok (p, drop n rest))))
+    (check (leb n (length (rest ++ more))) stops.More >> (body_of h (take n (rest ++ more)) >>= (λ p. Ok (p, drop n (rest ++ more)))))
 body_grows more h n rest true e =
     let there : n ≤ length rest = leb-true n (length rest) e in
     let longer : leb n (length (rest ++ more)) ≡ true = le-leb _ _ (omega (arith, there, length-append rest more)) in

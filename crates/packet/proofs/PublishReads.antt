@@ -27,11 +27,11 @@ delivery_found flags.AtMostOnce bytes fits = record { splits = record { parts = 
 delivery_found (flags.AtLeastOnce dup) bytes fits =
     let Q : Delivery × List ℕ → Type 0 = λ x. IsDelivery (flags.AtLeastOnce dup) bytes x.0 x.1 in
     then_if (id_at bytes) _ (λ x. Splits bytes (number x.0) x.1 × (x.0 < 2 ^ 16) × (0 < x.0)) Q (id_found bytes fits)
-      (λ id h. record { splits = h.0; said = refl; fits = (h.2, h.1) })
+    (λ id h. record { splits = h.0; said = refl; fits = (h.2, h.1) })
 delivery_found (flags.ExactlyOnce dup) bytes fits =
     let Q : Delivery × List ℕ → Type 0 = λ x. IsDelivery (flags.ExactlyOnce dup) bytes x.0 x.1 in
     then_if (id_at bytes) _ (λ x. Splits bytes (number x.0) x.1 × (x.0 < 2 ^ 16) × (0 < x.0)) Q (id_found bytes fits)
-      (λ id h. record { splits = h.0; said = refl; fits = (h.2, h.1) })
+    (λ id h. record { splits = h.0; said = refl; fits = (h.2, h.1) })
 
 delivery_again : (d : Delivery) (rest : List ℕ) → FitsDelivery d → delivery_at (delivery_flags d) (delivery_id d ++ rest) ≡ Ok (d, rest)
 unfolding delivery_at
@@ -52,12 +52,12 @@ publish_found f retain body fits =
     let Q : Publish → Type 0 = IsPublish f retain body in
     then_if (topic_at body) _ (λ x. Splits body (text x.0) x.1 × (is_topic x.0 ≡ true)) Q (topic_found body fits) (λ topic h.
     then_if (delivery_at f topic.1) _ (λ x. IsDelivery f topic.1 x.0 x.1) Q (delivery_found f topic.1 h.0.left) (λ d k.
-      record {
-        spelled = (Splits-then body (text topic.0) topic.1 (delivery_id d.0) d.1 h.0 k.splits).parts;
-        flags_said = k.said;
-        retain_said = refl;
-        fits = (h.1, k.fits);
-      }))
+    record {
+      spelled = (Splits-then body (text topic.0) topic.1 (delivery_id d.0) d.1 h.0 k.splits).parts;
+      flags_said = k.said;
+      retain_said = refl;
+      fits = (h.1, k.fits);
+    }))
 
 pub publish_again : (p : Publish) → FitsPublish p → publish_of (delivery_flags p.delivery) p.retain (publish p) ≡ Ok p
 unfolding publish_of

@@ -5,13 +5,10 @@ ghost use Rattle.packet_base.specs.Outcome.{Gives};
 ghost use Rattle.packet.specs.Verdict.{verdict, Decodes, IsWithin, IsSpelledSo, ReadsWhatIsSpelled};
 
 use crate::error::DecodeFault;
-use crate::packet::Packet;
+use crate::packet::{MAX_REMAINING, Packet};
 use packet_base::{Header, Reader, Stop, take_length};
 use std::alloc::Global;
 use topics::MalformedKind;
-
-/// The most bytes behind the Remaining Length.
-const MAX_REMAINING: usize = 1_048_572;
 
 /// What stands at the front of a slice.
 #[derive(Debug, PartialEq, Eq, Drop)]

@@ -4,11 +4,8 @@ ghost use Rattle.std.specs.Prelude.{◌≡◌, ◌<◌, ◌↔◌, length, OnOk,
 ghost use Rattle.packet.specs.Spelling.{body, longest_body, IsListed, IsPacket, AppendsSpelling};
 
 use crate::error::EncodeFault;
-use crate::packet::Packet;
+use crate::packet::{MAX_REMAINING, Packet};
 use packet_base::{length_size, put_byte, put_length};
-
-/// The most bytes behind the Remaining Length.
-const MAX_REMAINING: usize = 1_048_572;
 
 /// Writes the spelling of a packet at the end of the vector. `TooLarge` comes exactly where the
 /// body has more than 1,048,572 bytes, and before any memory is asked for; `Memory` where the

@@ -20,11 +20,9 @@ pub fn no_spelling_begins_another()
 /// Each proper front of a spelling is less than a packet, so it has no fault.
 pub fn fronts_are_unfinished()
     ensures { FrontsAreUnfinished }
-{
-}
+{}
 
 /// A fault is final: it stays the same whatever bytes follow.
 pub fn faults_stay()
     ensures { FaultsStay }
-{
-}
+{}

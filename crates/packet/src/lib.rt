@@ -38,3 +38,5 @@ pub use suback::{Suback, SubackCode};
 pub use subscribe::{Subscribe, Subscription};
 pub use unsubscribe::Unsubscribe;
 
+#[cfg(test)]
+mod tests;

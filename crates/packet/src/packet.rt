@@ -2,18 +2,21 @@
 
 ghost use Rattle.std.specs.Prelude.{
   ◌≡◌,
-  ◌+◌,
+  ◌↔◌,
+  ◌<◌,
   ◌≤◌,
+  ◌+◌,
   ◌++◌,
   length,
   min,
   vec_len,
   vec_capacity,
+  IsTrue,
   IfOk,
 };
 ghost use Rattle.packet_base.specs.Outcome.{Gives};
 ghost use Rattle.packet_base.specs.Spelling.{IsId};
-ghost use Rattle.packet.specs.Spelling.{header, body, Fits};
+ghost use Rattle.packet.specs.Spelling.{header, body, longest_body, Fits, IsListed};
 ghost use Rattle.packet.specs.Verdict.{body_of, empty_of};
 
 use crate::connack::Connack;
@@ -25,6 +28,9 @@ use crate::subscribe::Subscribe;
 use crate::unsubscribe::Unsubscribe;
 use packet_base::{Header, PacketId, Reader, Stop, put_number};
 use std::alloc::{AllocError, Global};
+
+/// The most bytes behind the Remaining Length.
+pub(crate) const MAX_REMAINING: usize = 1_048_572;
 
 /// A Control Packet (MQTT 2). What MQTT's table of packets does not allow cannot be built, but for
 /// empty lists.
@@ -84,6 +90,25 @@ impl Packet {
             Packet::Pubcomp(id) => known_id(*id),
             Packet::Unsuback(id) => known_id(*id),
             Packet::Connack(_) | Packet::Pingreq | Packet::Pingresp | Packet::Disconnect => {}
+        }
+    }
+
+    /// Whether `encode` would answer `TooLarge`: whether the body has more than 1,048,572 bytes.
+    pub fn is_too_large(&self) -> bool
+        ensures { IsTrue result ↔ (longest_body < length (body self.now)) }
+    {
+        self.body_len() > MAX_REMAINING
+    }
+
+    /// Whether no list of the packet is empty, which `encode` asks for.
+    pub fn is_listed(&self) -> bool
+        ensures { IsTrue result ↔ IsListed self.now }
+    {
+        match self {
+            Packet::Subscribe(subscribe) => !subscribe.filters.as_slice().is_empty(),
+            Packet::Suback(suback) => !suback.codes.as_slice().is_empty(),
+            Packet::Unsubscribe(unsubscribe) => !unsubscribe.filters.as_slice().is_empty(),
+            _ => true,
         }
     }
 

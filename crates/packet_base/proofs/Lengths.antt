@@ -27,6 +27,8 @@ limit_below (suc (suc zero)) few = lit≤ tt
 limit_below (suc (suc (suc zero))) few = lit≤ tt
 limit_below (suc (suc (suc (suc n)))) few = absurd (omega arith)
 
+pub ruleset limits = (limit_least, limit_step, limit_below)
+
 -- any other than the shortest takes one byte more than what is left of it
 pub bytes_step : (n : ℕ) → 128 ≤ n → n < 2 ^ 28 → length_bytes n ≡ 1 + length_bytes (n / 128)
 bytes_step n high small =

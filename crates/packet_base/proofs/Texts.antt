@@ -28,6 +28,8 @@ not_formed bytes false e none = refl
 pub no_text : (bytes : List ℕ) → (IsUtf8 bytes → ⊥) → is_text bytes ≡ false
 no_text bytes none = rw (not_formed bytes (is_utf8 bytes) refl none) refl
 
+pub ruleset text_tests = (text_is, null_text, no_text)
+
 stops_at : {Y : Type 0} (kind : MalformedKind) (read : Result Y Stop) → read ≡ Err (stops.Malformed kind) → StopsBy (stops.Malformed kind) read
 stops_at kinds.Memory read e = tt
 stops_at kind read e = e

@@ -28,8 +28,8 @@ number n = to_be_bytes w16 n
 abbrev pub text : List ℕ → List ℕ
 text bytes = number (length bytes) ++ bytes
 
--- Seven bits in each byte, the low ones first, and 128 more where another byte follows (MQTT 2.2.3).
--- The last byte of several is not 0, so each number has one form.
+-- Seven bits in each byte, the low ones first, and 128 more where another byte follows (MQTT
+-- 2.2.3). The last byte of several is not 0, so each number has one form.
 abbrev pub IsLength : List ℕ → ℕ → Type 0
 IsLength [] n = ⊥
 IsLength (b ∷ []) n = (b < 128) × (n ≡ b)

@@ -160,7 +160,7 @@ impl<'a> Reader<'a> {
 }
 
 // The bytes as a text, if they are one.
-#[tactic(auto, using(crate::proofs::Texts::text_is, crate::proofs::Texts::no_text, crate::proofs::Texts::null_text))]
+#[tactic(auto, using(crate::proofs::Texts::text_tests))]
 fn checked_text(bytes: &[u8]) -> Result<&str, Stop>
     ensures exact { Gives (λ x. x.now) result (text_of bytes.now) }
     ensures checked { IfOk result (λ x. is_text x.now ≡ true) }

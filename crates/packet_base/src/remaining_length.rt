@@ -20,7 +20,7 @@ pub fn take_length(bytes: &[u8]) -> Result<(u32, &[u8]), Stop>
 }
 
 // The same where at most `follow` bytes may follow the next one.
-#[tactic(auto, unfolding(crate::specs::Reading::length_at), using(crate::proofs::Lengths::limit_least, crate::proofs::Lengths::limit_step, crate::proofs::Lengths::limit_below))]
+#[tactic(auto, unfolding(crate::specs::Reading::length_at), using(crate::proofs::Lengths::limits))]
 fn length_from(bytes: &[u8], follow: u8) -> Result<(u32, &[u8]), Stop>
     requires { follow < 4 }
     ensures exact { Gives (λ x. (x.0, x.1.now)) result (length_at follow bytes.now) }

@@ -27,9 +27,9 @@ overflow_sub-result c =
       arith,
       ap length c.split_at.ensures.back,
       rest_shorter
-        c.args.behind.now
-        c.in_ok-len.rest.now
-        c.in_ok-len.len
-        c.in_ok-len.len
-        c.in_ok-len.ensures.exact,
+          c.args.behind.now
+          c.in_ok-len.rest.now
+          c.in_ok-len.len
+          c.in_ok-len.len
+          c.in_ok-len.ensures.exact,
     )

@@ -16,7 +16,7 @@ put-requires c =
       arith,
       c.loop-code.invariant.room,
       room_more granted codes i code c.loop-code-test.true
-        (get_or_default codes i _ code c.loop-code-test.true),
+          (get_or_default codes i _ code c.loop-code-test.true),
     )
 
 pub loop-code-preserved : goal.loop-code-preserved
@@ -27,7 +27,7 @@ loop-code-preserved c =
     let is = get_or_default codes i (answers.Granted levels.AtMostOnce) code c.loop-code-test.true in
     record {
       written = written_more granted codes i code _ c.loop-code.out.items c.put.new.out.items
-        c.loop-code-test.true is c.loop-code.invariant.written c.put.ensures.items;
+          c.loop-code-test.true is c.loop-code.invariant.written c.put.ensures.items;
       room = omega (
         arith,
         c.loop-code.invariant.room,
@@ -40,13 +40,13 @@ loop-code-preserved c =
 pub returns : goal.returns
 returns c =
     written_all
-      granted
-      c.as_slice-code-items.result.now
-      c.args.self.now.codes
-      c.loop-code.code-index
-      c.args.out.now.items
-      (number c.args.self.now.id)
-      c.loop-code.out.items
-      c.loop-code-test.false
-      c.as_slice-code-items.ensures
-      c.loop-code.invariant.written
+    granted
+    c.as_slice-code-items.result.now
+    c.args.self.now.codes
+    c.loop-code.code-index
+    c.args.out.now.items
+    (number c.args.self.now.id)
+    c.loop-code.out.items
+    c.loop-code-test.false
+    c.as_slice-code-items.ensures
+    c.loop-code.invariant.written

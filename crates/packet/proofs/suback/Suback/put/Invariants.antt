@@ -8,8 +8,8 @@ abbrev pub invariant-loop-code : goal.invariant-loop-code
 invariant-loop-code l = record {
   written : l.out.items
       ≡ l.fn.out.items ++ number l.fn.self.id
-        ++ flat_map granted (take l.code-index l.code-items);
+      ++ flat_map granted (take l.code-index l.code-items);
   room : vec_len l.out
-        + length (flat_map granted (drop l.code-index l.code-items))
+      + length (flat_map granted (drop l.code-index l.code-items))
       ≤ vec_capacity l.out;
 }

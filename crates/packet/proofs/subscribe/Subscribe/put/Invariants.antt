@@ -8,8 +8,8 @@ abbrev pub invariant-loop-subscription : goal.invariant-loop-subscription
 invariant-loop-subscription l = record {
   written : l.out.items
       ≡ l.fn.out.items ++ number l.fn.self.id
-        ++ flat_map subscription (take l.subscription-index l.subscription-items);
+      ++ flat_map subscription (take l.subscription-index l.subscription-items);
   room : vec_len l.out
-        + length (flat_map subscription (drop l.subscription-index l.subscription-items))
+      + length (flat_map subscription (drop l.subscription-index l.subscription-items))
       ≤ vec_capacity l.out;
 }

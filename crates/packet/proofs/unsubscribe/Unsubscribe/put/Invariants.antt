@@ -7,8 +7,8 @@ abbrev pub invariant-loop-filter : goal.invariant-loop-filter
 invariant-loop-filter l = record {
   written : l.out.items
       ≡ l.fn.out.items ++ number l.fn.self.id
-        ++ flat_map text (take l.filter-index l.filter-items);
+      ++ flat_map text (take l.filter-index l.filter-items);
   room : vec_len l.out
-        + length (flat_map text (drop l.filter-index l.filter-items))
+      + length (flat_map text (drop l.filter-index l.filter-items))
       ≤ vec_capacity l.out;
 }

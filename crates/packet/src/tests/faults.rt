@@ -1,0 +1,86 @@
+// What `decode` answers to bytes that are no packet, or less than one.
+
+use super::*;
+
+/// CONNECT of client `a` with keep alive 60, but for the last letter of the protocol's name.
+const OTHER_PROTOCOL: [u8; 15] = [
+    0x10, 0x0D, 0x00, 0x04, 0x4D, 0x51, 0x54, 0x55, 0x04, 0x00, 0x00, 0x3C, 0x00, 0x01, 0x61,
+];
+
+#[test]
+fn each_fault_of_decode(rt: HostRuntime) {
+    let rows: [(&[u8], MalformedKind); 26] = [
+        (&[0x00, 0x00], MalformedKind::PacketType),
+        (&[0xF0, 0x00], MalformedKind::PacketType),
+        (&[0x38, 0x00], MalformedKind::Flags),
+        (&[0x60, 0x02, 0x00, 0x01], MalformedKind::Flags),
+        (&[0x36, 0x00], MalformedKind::Qos),
+        (&[0x30, 0x80, 0x00], MalformedKind::Length),
+        (&[0x30, 0xFF, 0xFF, 0xFF, 0xFF], MalformedKind::Length),
+        (&[0x30, 0xFD, 0xFF, 0x3F], MalformedKind::TooLarge),
+        (&[0x30, 0xFF, 0xFF, 0xFF, 0x7F], MalformedKind::TooLarge),
+        (&[0x62, 0x02, 0x00, 0x00], MalformedKind::Identifier),
+        (
+            &[0x30, 0x05, 0x00, 0x03, 0x74, 0x00, 0x2F],
+            MalformedKind::Text,
+        ),
+        (&[0x30, 0x04, 0x00, 0x02, 0xC3, 0x28], MalformedKind::Text),
+        (&[0x30, 0x02, 0x00, 0x00], MalformedKind::Topic),
+        (&[0x30, 0x03, 0x00, 0x01, 0x23], MalformedKind::Topic),
+        (
+            &[0x82, 0x07, 0x00, 0x01, 0x00, 0x02, 0x23, 0x2F, 0x00],
+            MalformedKind::Filter,
+        ),
+        (
+            &[0x82, 0x06, 0x00, 0x01, 0x00, 0x01, 0x61, 0x03],
+            MalformedKind::Qos,
+        ),
+        (&[0x90, 0x03, 0x00, 0x01, 0x03], MalformedKind::Qos),
+        (&[0x30, 0x02, 0x00, 0x05], MalformedKind::Shape),
+        (&[0x32, 0x04, 0x00, 0x01, 0x74, 0x00], MalformedKind::Shape),
+        (&[0xC0, 0x01, 0x00], MalformedKind::Shape),
+        (&[0x20, 0x02, 0x01, 0x01], MalformedKind::Shape),
+        (&[0x82, 0x02, 0x00, 0x01], MalformedKind::Shape),
+        (&[0x90, 0x02, 0x00, 0x01], MalformedKind::Shape),
+        (&[0xA2, 0x02, 0x00, 0x01], MalformedKind::Shape),
+        (&[0x40, 0x03, 0x00, 0x01, 0x00], MalformedKind::Shape),
+        (&OTHER_PROTOCOL, MalformedKind::Protocol),
+    ];
+    for (bytes, kind) in rows {
+        assert_eq!(rt; decode(rt.alloc(), bytes), malformed(kind), "{bytes:?}");
+    }
+}
+
+#[test]
+fn less_than_a_packet(rt: HostRuntime) {
+    let rows: [&[u8]; 5] = [
+        &[],
+        &[0x30],
+        &[0x30, 0x80],
+        &[0x30, 0xFC, 0xFF, 0x3F],
+        &[0xC0],
+    ];
+    for bytes in rows {
+        assert_eq!(rt; decode(rt.alloc(), bytes), Ok(Step::More), "{bytes:?}");
+    }
+}
+
+// A body is looked at once it is all there, and its first byte before its length.
+#[test]
+fn the_first_fault_counts(rt: HostRuntime) {
+    let rows: [(&[u8], Result<Step, DecodeFault>); 4] = [
+        (&[0x36], malformed(MalformedKind::Qos)),
+        (&[0x30, 0x05, 0x00, 0x03, 0x74, 0x00], Ok(Step::More)),
+        (
+            &[0x32, 0x05, 0x00, 0x01, 0x23, 0x00, 0x00],
+            malformed(MalformedKind::Topic),
+        ),
+        (
+            &[0x82, 0x07, 0x00, 0x00, 0x00, 0x02, 0x23, 0x2F, 0x00],
+            malformed(MalformedKind::Identifier),
+        ),
+    ];
+    for (bytes, want) in rows {
+        assert_eq!(rt; decode(rt.alloc(), bytes), want, "{bytes:?}");
+    }
+}

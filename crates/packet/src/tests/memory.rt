@@ -1,0 +1,40 @@
+// Memory that is refused. Run with each allocation failing in turn: a call answers `Memory`, or the
+// answer that it gives with memory, and nothing else.
+
+use super::*;
+
+/// SUBSCRIBE of `a/b` at QoS 1.
+const SUBSCRIBE: [u8; 10] = [0x82, 0x08, 0x00, 0x0A, 0x00, 0x03, 0x61, 0x2F, 0x62, 0x01];
+
+/// PUBLISH of `hi` on topic `t`.
+const PUBLISH: [u8; 7] = [0x30, 0x05, 0x00, 0x01, 0x74, 0x68, 0x69];
+
+/// Reads a packet, copies it and writes the copy; the number with which one of these is refused.
+fn round(alloc: Global, bytes: &[u8], out: &mut Vec<u8>) -> Option<u8> {
+    let packet = match decode(alloc, bytes) {
+        Ok(Step::Whole(packet, _)) => packet,
+        Ok(Step::More) => return Some(0),
+        Err(fault) => return fault.number(),
+    };
+    let Ok(copy) = packet.copy() else {
+        return Some(12);
+    };
+    if !copy.is_listed() || copy.is_too_large() {
+        return Some(0);
+    }
+    encode(&copy, out).err().map(EncodeFault::number)
+}
+
+#[test]
+fn memory_is_the_one_free_answer(rt: HostRuntime) {
+    for bytes in [SUBSCRIBE.as_slice(), PUBLISH.as_slice()] {
+        let mut out = Vec::new(rt.alloc());
+        match round(rt.alloc(), bytes, &mut out) {
+            None => assert_eq!(rt; out.as_slice(), bytes),
+            Some(number) => {
+                assert_eq!(rt; number, 12);
+                assert_eq!(rt; out.as_slice(), [].as_slice());
+            }
+        }
+    }
+}
