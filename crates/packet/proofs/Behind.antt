@@ -1,10 +1,10 @@
 -- What is left behind a Remaining Length and a body is the end of the bytes, and what this says of
 -- the answers of `decode`.
-use Rattle.std.proofs.Common.{◌≡◌, ℕ, ◌-◌, ◌≤◌, List, ◌∷◌, ◌++◌, length, take, drop, Result, Ok, Err, refl, sym, ap, subst, ◌∙◌, arith, append_assoc}
+use Rattle.std.proofs.Common.{◌≡◌, ℕ, suc, ◌+◌, ◌-◌, ◌≤◌, List, [], ◌∷◌, ◌++◌, length, get_or, take, drop, Result, Ok, Err, refl, sym, ap, subst, ◌∙◌, arith, append_assoc}
 use Rattle.std.specs.Prelude.{IfOk}
 use Rattle.std.proofs.lemmas.Bool.{le-leb}
 use Rattle.std.proofs.lemmas.Result.{IfOk-at_ok}
-use Rattle.std.proofs.lemmas.List.{length-append, length-drop, take-append-drop, append_cancel_right}
+use Rattle.std.proofs.lemmas.List.{take_all, length-append, length-drop, take-append-drop, append_cancel_right}
 use Rattle.std.proofs.lemmas.List.Prefix.{end_rest}
 use Rattle.topics.specs.declared.malformed.MalformedKind.{MalformedKind}
 use Rattle.topics.specs.declared.malformed.MalformedKind.TheVariants as kinds
@@ -93,3 +93,13 @@ is_read bytes (Err (faults.Malformed kind)) given within p front rest whole spel
 is_read bytes (Err (faults.Refused code)) given within p front rest whole spelled parts =
     let again : verdict bytes ≡ Ok (p, rest) = ap verdict parts ∙ verdict_again p front rest whole spelled in
     absurd cc
+
+-- a slice is its first byte and those behind it
+pub verdict_behind : (bytes : List ℕ) (p : Packet) (n : ℕ) → 1 ≤ length bytes
+    → verdict (get_or bytes 0 0 ∷ take (length bytes - 1) (drop 1 bytes)) ≡ Ok (p, drop n (take (length bytes - 1) (drop 1 bytes)))
+    → verdict bytes ≡ Ok (p, drop (1 + n) bytes)
+verdict_behind [] p n some e = absurd (omega arith)
+verdict_behind (b ∷ bytes) p n some e =
+    let all : take (suc (length bytes) - 1) bytes ≡ bytes = take_all _ bytes (omega arith) in
+    let more : 1 + n ≡ suc n = omega arith in
+    rw more (sym (ap (λ (x : List ℕ). verdict (b ∷ x)) all) ∙ e ∙ ap (λ (x : List ℕ). Ok (p, drop n x)) all)

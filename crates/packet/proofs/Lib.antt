@@ -1,7 +1,14 @@
 pub mod Clients
 pub mod ConnectReads
 pub mod ConnackReads
+pub mod QoSReads
+pub mod IdAloneReads
+pub mod PublishReads
+pub mod ListPacketsRead
 pub mod BodyReads
 pub mod PacketReads
 pub mod Behind
 pub mod OneSpelling
+pub mod ListsWritten
+pub mod ItemsShorter
+pub mod MoreBytes

@@ -1,7 +1,6 @@
 -- Client Identifiers as bytes, and the first fault of a text (MQTT 1.5.3, 3.1.3.1).
 use Rattle.std.specs.Prelude.{
   ◌≡◌,
-  ◌⊎◌,
   ℕ,
   Bool,
   not,
@@ -29,10 +28,6 @@ abbrev pub client_fault : List ℕ → Option MalformedKind
 client_fault text =
     if not (has_client_length text) then Some kinds.Identifier else
     if has_null text then Some kinds.Text else None
-
--- how a text is refused: by its first fault, and one without a fault for want of memory alone
-abbrev pub RefusesBy : Option MalformedKind → MalformedKind → Type 0
-RefusesBy fault kind = (fault ≡ Some kind) ⊎ ((fault ≡ None) × (kind ≡ kinds.Memory))
 
 -- bytes that a `ClientId` may hold
 abbrev pub is_client : List ℕ → Bool

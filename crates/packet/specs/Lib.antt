@@ -2,7 +2,13 @@ pub mod QoS
 pub mod ClientId
 pub mod Connect
 pub mod Connack
+pub mod Delivery
+pub mod Publish
+pub mod IdAlone
+pub mod Subscribe
+pub mod Suback
+pub mod Unsubscribe
 pub mod Spelling
 pub mod Verdict
-pub mod Laws
 pub mod Numbers
+pub mod Laws

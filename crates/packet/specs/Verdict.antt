@@ -6,7 +6,7 @@ use Rattle.packet_base.specs.declared.stop.Stop.TheVariants as stops
 use Rattle.packet_base.specs.declared.header.Header.{Header}
 use Rattle.packet_base.specs.declared.header.Header.TheVariants as headers
 use Rattle.packet_base.specs.Header.{header_of}
-use Rattle.packet_base.specs.Reading.{◌>>=◌, ◌>>◌, check, length_at}
+use Rattle.packet_base.specs.Reading.{◌>>=◌, ◌>>◌, check, ended, length_at}
 use Rattle.packet_base.specs.Outcome.{StopsBy}
 use Rattle.packet.specs.declared.packet.Packet.{Packet}
 use Rattle.packet.specs.declared.packet.Packet.TheVariants as packets
@@ -17,11 +17,33 @@ use Rattle.packet.specs.declared.error.DecodeFault.TheVariants as faults
 use Rattle.packet.specs.Spelling.{longest_body, Spells, IsPacket}
 use Rattle.packet.specs.Connect.{connect_of}
 use Rattle.packet.specs.Connack.{connack_of}
+use Rattle.packet.specs.Publish.{publish_of}
+use Rattle.packet.specs.IdAlone.{id_alone_of}
+use Rattle.packet.specs.Subscribe.{subscribe_of}
+use Rattle.packet.specs.Suback.{suback_of}
+use Rattle.packet.specs.Unsubscribe.{unsubscribe_of}
+
+-- a packet without a body (MQTT 3.12 to 3.14)
+abbrev pub empty_of : Packet → List ℕ → Result Packet Stop
+empty_of packet body = ended body >> Ok packet
 
 -- the body behind a first byte that says this
 abbrev pub body_of : Header → List ℕ → Result Packet Stop
 body_of headers.Connect body = connect_of body >>= (λ c. Ok (packets.Connect c))
 body_of headers.Connack body = connack_of body >>= (λ c. Ok (packets.Connack c))
+body_of (headers.Publish flags retain) body =
+    publish_of flags retain body >>= (λ p. Ok (packets.Publish p))
+body_of headers.Puback body = id_alone_of body >>= (λ id. Ok (packets.Puback id))
+body_of headers.Pubrec body = id_alone_of body >>= (λ id. Ok (packets.Pubrec id))
+body_of headers.Pubrel body = id_alone_of body >>= (λ id. Ok (packets.Pubrel id))
+body_of headers.Pubcomp body = id_alone_of body >>= (λ id. Ok (packets.Pubcomp id))
+body_of headers.Subscribe body = subscribe_of body >>= (λ s. Ok (packets.Subscribe s))
+body_of headers.Suback body = suback_of body >>= (λ s. Ok (packets.Suback s))
+body_of headers.Unsubscribe body = unsubscribe_of body >>= (λ u. Ok (packets.Unsubscribe u))
+body_of headers.Unsuback body = id_alone_of body >>= (λ id. Ok (packets.Unsuback id))
+body_of headers.Pingreq body = empty_of packets.Pingreq body
+body_of headers.Pingresp body = empty_of packets.Pingresp body
+body_of headers.Disconnect body = empty_of packets.Disconnect body
 
 -- The packet at the front, and the bytes after it. First byte, length, limit, the whole body and
 -- what stands in it are looked at in this order.
@@ -34,6 +56,10 @@ verdict (first ∷ bytes) = do
   check (nat_le len.0 (length len.1)) stops.More
   packet ← body_of header (take len.0 len.1)
   Ok (packet, drop len.0 len.1)
+
+-- less than a packet, which more bytes may complete
+abbrev pub IsUnfinished : List ℕ → Type 0
+IsUnfinished bytes = verdict bytes ≡ Err stops.More
 
 -- the answer of `decode` is the verdict, but that memory may be wanting
 abbrev pub Decodes : List ℕ → Result Step DecodeFault → Type 0

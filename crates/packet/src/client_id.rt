@@ -11,7 +11,8 @@ ghost use Rattle.std.specs.Cmp.Lexicographic.{
 };
 ghost use Rattle.std.specs.Ordering.{nat_cmp};
 ghost use Rattle.std.proofs.Common.{refl};
-ghost use Rattle.packet.specs.ClientId.{client_fault, has_client_length, is_client, RefusesBy};
+ghost use Rattle.packet.specs.ClientId.{client_fault, has_client_length, is_client};
+ghost use Rattle.topics.specs.Text.{RefusesBy};
 
 use std::alloc::{AllocError, Global};
 use std::cmp::Ordering;

@@ -1,6 +1,6 @@
 // CONNACK: the server's answer to a CONNECT (MQTT 3.2).
 
-ghost use Rattle.std.specs.Prelude.{◌≡◌, ◌+◌, ◌≤◌, ◌++◌, length, vec_len, vec_capacity};
+ghost use Rattle.std.specs.Prelude.{◌≡◌, ◌+◌, ◌≤◌, ◌++◌, length, min, vec_len, vec_capacity};
 ghost use Rattle.packet_base.specs.Outcome.{Gives};
 ghost use Rattle.packet.specs.Connack.{connack, connack_of, answer_of};
 
@@ -31,7 +31,7 @@ impl Connack {
 
     // How many bytes the body has.
     pub(crate) fn body_len(self) -> usize
-        ensures { result ≡ length (connack self) }
+        ensures { result ≡ min (length (connack self)) usize.MAX }
     {
         2
     }

@@ -1,6 +1,6 @@
 // CONNECT: a client asks for a connection (MQTT 3.1).
 
-ghost use Rattle.std.specs.Prelude.{◌≡◌, ◌+◌, ◌≤◌, ◌++◌, length, vec_len, vec_capacity, IfOk};
+ghost use Rattle.std.specs.Prelude.{◌≡◌, ◌+◌, ◌≤◌, ◌++◌, length, min, vec_len, vec_capacity, IfOk};
 ghost use Rattle.packet_base.specs.Outcome.{Gives};
 ghost use Rattle.packet.specs.Connect.{connect, connect_of, FitsConnect};
 
@@ -66,7 +66,7 @@ impl Connect {
 
     // How many bytes the body has.
     pub(crate) fn body_len(&self) -> usize
-        ensures { result ≡ length (connect self.now) }
+        ensures { result ≡ min (length (connect self.now)) usize.MAX }
     {
         12 + self.client.as_str().len()
     }

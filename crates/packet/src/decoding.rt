@@ -57,7 +57,7 @@ fn front_step(alloc: Global, bytes: &[u8]) -> Result<Step, DecodeFault>
 }
 
 // The packet of a first byte and what stands behind it, and how many bytes it takes of these.
-#[tactic(auto, unfolding(crate::specs::Verdict::verdict), using(crate::proofs::Behind::rest_shorter))]
+#[tactic(auto, unfolding(crate::specs::Verdict::verdict))]
 fn front_packet(alloc: Global, first: u8, behind: &[u8]) -> Result<(Packet, usize), Stop>
     ensures exact { Gives (λ x. (x.0, drop x.1 behind.now)) result (verdict (first ∷ behind.now)) }
     ensures within { IfOk result (λ x. x.1 ≤ length behind.now) }

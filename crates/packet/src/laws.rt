@@ -1,6 +1,11 @@
 // Laws of the grammar of packets. The calls do nothing; their contracts are the laws.
 
-ghost use Rattle.packet.specs.Laws.{HasOneSpelling, NoneBeginsAnother};
+ghost use Rattle.packet.specs.Laws.{
+  HasOneSpelling,
+  NoneBeginsAnother,
+  FrontsAreUnfinished,
+  FaultsStay,
+};
 
 /// Each packet within the limit, its numbers in their ranges, has one spelling.
 pub fn one_spelling()
@@ -11,3 +16,15 @@ pub fn one_spelling()
 pub fn no_spelling_begins_another()
     ensures { NoneBeginsAnother }
 {}
+
+/// Each proper front of a spelling is less than a packet, so it has no fault.
+pub fn fronts_are_unfinished()
+    ensures { FrontsAreUnfinished }
+{
+}
+
+/// A fault is final: it stays the same whatever bytes follow.
+pub fn faults_stay()
+    ensures { FaultsStay }
+{
+}

@@ -6,22 +6,35 @@ mod client_id;
 mod connack;
 mod connect;
 mod decoding;
+mod delivery;
 mod encoding;
 mod error;
+mod id_alone;
 mod laws;
 mod packet;
+mod packet_list;
+mod payload;
+mod publish;
 mod qos;
+mod suback;
+mod subscribe;
+mod unsubscribe;
 
 pub use client_id::ClientId;
 pub use connack::Connack;
 pub use connect::Connect;
 pub use decoding::{Step, decode};
+pub use delivery::Delivery;
 pub use encoding::encode;
 pub use error::{DecodeFault, EncodeFault};
-pub use laws::{no_spelling_begins_another, one_spelling};
+pub use laws::{faults_stay, fronts_are_unfinished, no_spelling_begins_another, one_spelling};
 pub use packet::Packet;
 pub use packet_base::{PacketId, RefusalCode};
+pub use packet_list::PacketList;
+pub use payload::Payload;
+pub use publish::Publish;
 pub use qos::QoS;
+pub use suback::{Suback, SubackCode};
+pub use subscribe::{Subscribe, Subscription};
+pub use unsubscribe::Unsubscribe;
 
-#[cfg(test)]
-mod tests;

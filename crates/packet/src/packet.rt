@@ -1,22 +1,63 @@
 // The Control Packets.
 
-ghost use Rattle.std.specs.Prelude.{◌≡◌, ◌+◌, ◌≤◌, ◌++◌, length, vec_len, vec_capacity, IfOk};
+ghost use Rattle.std.specs.Prelude.{
+  ◌≡◌,
+  ◌+◌,
+  ◌≤◌,
+  ◌++◌,
+  length,
+  min,
+  vec_len,
+  vec_capacity,
+  IfOk,
+};
 ghost use Rattle.packet_base.specs.Outcome.{Gives};
+ghost use Rattle.packet_base.specs.Spelling.{IsId};
 ghost use Rattle.packet.specs.Spelling.{header, body, Fits};
-ghost use Rattle.packet.specs.Verdict.{body_of};
+ghost use Rattle.packet.specs.Verdict.{body_of, empty_of};
 
 use crate::connack::Connack;
 use crate::connect::Connect;
-use packet_base::{Header, Reader, Stop};
+use crate::id_alone::read_id_alone;
+use crate::publish::Publish;
+use crate::suback::Suback;
+use crate::subscribe::Subscribe;
+use crate::unsubscribe::Unsubscribe;
+use packet_base::{Header, PacketId, Reader, Stop, put_number};
 use std::alloc::{AllocError, Global};
 
-/// A Control Packet (MQTT 2). What MQTT's table of packets does not allow cannot be built.
+/// A Control Packet (MQTT 2). What MQTT's table of packets does not allow cannot be built, but for
+/// empty lists.
 #[derive(Clone, Debug, PartialEq, Eq, Drop)]
 pub enum Packet {
     /// A client asks for a connection (MQTT 3.1).
     Connect(Connect),
     /// The server's answer to CONNECT (MQTT 3.2).
     Connack(Connack),
+    /// A publication (MQTT 3.3).
+    Publish(Publish),
+    /// The answer to a PUBLISH at QoS 1 (MQTT 3.4).
+    Puback(PacketId),
+    /// The first answer to a PUBLISH at QoS 2 (MQTT 3.5).
+    Pubrec(PacketId),
+    /// The answer to PUBREC (MQTT 3.6).
+    Pubrel(PacketId),
+    /// The answer to PUBREL (MQTT 3.7).
+    Pubcomp(PacketId),
+    /// A client asks for publications (MQTT 3.8).
+    Subscribe(Subscribe),
+    /// The answer to SUBSCRIBE (MQTT 3.9).
+    Suback(Suback),
+    /// A client gives up subscriptions (MQTT 3.10).
+    Unsubscribe(Unsubscribe),
+    /// The answer to UNSUBSCRIBE (MQTT 3.11).
+    Unsuback(PacketId),
+    /// A client shows that it lives (MQTT 3.12).
+    Pingreq,
+    /// The answer to PINGREQ (MQTT 3.13).
+    Pingresp,
+    /// A client ends the connection (MQTT 3.14).
+    Disconnect,
 }
 
 impl Packet {
@@ -33,7 +74,16 @@ impl Packet {
     {
         match self {
             Packet::Connect(connect) => connect.known(),
-            Packet::Connack(_) => {}
+            Packet::Publish(publish) => publish.known(),
+            Packet::Subscribe(subscribe) => subscribe.known(),
+            Packet::Suback(suback) => suback.known(),
+            Packet::Unsubscribe(unsubscribe) => unsubscribe.known(),
+            Packet::Puback(id) => known_id(*id),
+            Packet::Pubrec(id) => known_id(*id),
+            Packet::Pubrel(id) => known_id(*id),
+            Packet::Pubcomp(id) => known_id(*id),
+            Packet::Unsuback(id) => known_id(*id),
+            Packet::Connack(_) | Packet::Pingreq | Packet::Pingresp | Packet::Disconnect => {}
         }
     }
 
@@ -44,6 +94,18 @@ impl Packet {
         match self {
             Packet::Connect(_) => Header::Connect,
             Packet::Connack(_) => Header::Connack,
+            Packet::Publish(publish) => Header::Publish(publish.delivery.flags(), publish.retain),
+            Packet::Puback(_) => Header::Puback,
+            Packet::Pubrec(_) => Header::Pubrec,
+            Packet::Pubrel(_) => Header::Pubrel,
+            Packet::Pubcomp(_) => Header::Pubcomp,
+            Packet::Subscribe(_) => Header::Subscribe,
+            Packet::Suback(_) => Header::Suback,
+            Packet::Unsubscribe(_) => Header::Unsubscribe,
+            Packet::Unsuback(_) => Header::Unsuback,
+            Packet::Pingreq => Header::Pingreq,
+            Packet::Pingresp => Header::Pingresp,
+            Packet::Disconnect => Header::Disconnect,
         }
     }
 
@@ -51,19 +113,43 @@ impl Packet {
     pub(crate) fn read(alloc: Global, header: Header, body: &mut Reader) -> Result<Packet, Stop>
         ensures { Gives (λ x. x) result (body_of header body.old) }
     {
-        match header {
-            Header::Connect => Ok(Packet::Connect(Connect::read(alloc, body)?)),
-            Header::Connack => Ok(Packet::Connack(Connack::read(body)?)),
-        }
+        Ok(match header {
+            Header::Connect => Packet::Connect(Connect::read(alloc, body)?),
+            Header::Connack => Packet::Connack(Connack::read(body)?),
+            Header::Publish(flags, retain) => {
+                Packet::Publish(Publish::read(alloc, flags, retain, body)?)
+            }
+            Header::Puback => Packet::Puback(read_id_alone(body)?),
+            Header::Pubrec => Packet::Pubrec(read_id_alone(body)?),
+            Header::Pubrel => Packet::Pubrel(read_id_alone(body)?),
+            Header::Pubcomp => Packet::Pubcomp(read_id_alone(body)?),
+            Header::Subscribe => Packet::Subscribe(Subscribe::read(alloc, body)?),
+            Header::Suback => Packet::Suback(Suback::read(alloc, body)?),
+            Header::Unsubscribe => Packet::Unsubscribe(Unsubscribe::read(alloc, body)?),
+            Header::Unsuback => Packet::Unsuback(read_id_alone(body)?),
+            Header::Pingreq => empty(Packet::Pingreq, body)?,
+            Header::Pingresp => empty(Packet::Pingresp, body)?,
+            Header::Disconnect => empty(Packet::Disconnect, body)?,
+        })
     }
 
-    // How many bytes the body has.
+    // How many bytes the body has, as far as a `usize` counts.
     pub(crate) fn body_len(&self) -> usize
-        ensures { result ≡ length (body self.now) }
+        ensures { result ≡ min (length (body self.now)) usize.MAX }
     {
         match self {
             Packet::Connect(connect) => connect.body_len(),
             Packet::Connack(connack) => connack.body_len(),
+            Packet::Publish(publish) => publish.body_len(),
+            Packet::Subscribe(subscribe) => subscribe.body_len(),
+            Packet::Suback(suback) => suback.body_len(),
+            Packet::Unsubscribe(unsubscribe) => unsubscribe.body_len(),
+            Packet::Pingreq | Packet::Pingresp | Packet::Disconnect => 0,
+            Packet::Puback(_)
+            | Packet::Pubrec(_)
+            | Packet::Pubrel(_)
+            | Packet::Pubcomp(_)
+            | Packet::Unsuback(_) => 2,
         }
     }
 
@@ -75,6 +161,31 @@ impl Packet {
         match self {
             Packet::Connect(connect) => connect.put(out),
             Packet::Connack(connack) => connack.put(out),
+            Packet::Publish(publish) => publish.put(out),
+            Packet::Puback(id) => put_number(out, id.number()),
+            Packet::Pubrec(id) => put_number(out, id.number()),
+            Packet::Pubrel(id) => put_number(out, id.number()),
+            Packet::Pubcomp(id) => put_number(out, id.number()),
+            Packet::Subscribe(subscribe) => subscribe.put(out),
+            Packet::Suback(suback) => suback.put(out),
+            Packet::Unsubscribe(unsubscribe) => unsubscribe.put(out),
+            Packet::Unsuback(id) => put_number(out, id.number()),
+            Packet::Pingreq | Packet::Pingresp | Packet::Disconnect => {}
         }
     }
+}
+
+// The identifier is in its range.
+fn known_id(id: PacketId)
+    ensures { IsId id }
+{
+    let _number = id.number();
+}
+
+// A packet whose body is empty.
+fn empty(packet: Packet, body: &mut Reader) -> Result<Packet, Stop>
+    ensures { Gives (λ x. x) result (empty_of packet body.old) }
+{
+    body.end()?;
+    Ok(packet)
 }

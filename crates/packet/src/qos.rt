@@ -1,7 +1,10 @@
 // The three levels of delivery.
 
 ghost use Rattle.std.specs.Prelude.{◌≡◌};
-ghost use Rattle.packet.specs.QoS.{qos_number};
+ghost use Rattle.packet.specs.QoS.{qos_number, qos_of};
+
+use packet_base::Stop;
+use topics::MalformedKind;
 
 /// Quality of Service: how surely a publication is delivered (MQTT 4.3). The levels are ordered by
 /// their numbers.
@@ -16,6 +19,18 @@ pub enum QoS {
 }
 
 impl QoS {
+    // The level of this number; above 2 there is none (MQTT 3.3.1.2, 3.8.3).
+    pub(crate) fn of(number: u8) -> Result<QoS, Stop>
+        ensures { result ≡ qos_of number }
+    {
+        match number {
+            0 => Ok(QoS::AtMostOnce),
+            1 => Ok(QoS::AtLeastOnce),
+            2 => Ok(QoS::ExactlyOnce),
+            _ => Err(Stop::Malformed(MalformedKind::Qos)),
+        }
+    }
+
     /// The level's number, 0 to 2.
     pub fn number(self) -> u8
         ensures { result ≡ qos_number self }

@@ -3,4 +3,5 @@ pub mod Header
 pub mod Spelling
 pub mod Reading
 pub mod Outcome
+pub mod Lists
 pub mod Inside

@@ -4,6 +4,7 @@ use Rattle.std.specs.Prelude.{
   ℕ,
   ◌+◌,
   ◌*◌,
+  ◌^◌,
   ◌<◌,
   ◌≤◌,
   Bool,
@@ -51,3 +52,7 @@ AppendsLength old new n = (bytes : List ℕ) × IsLength bytes n × (new ≡ old
 abbrev pub bit : Bool → ℕ
 bit true = 1
 bit false = 0
+
+-- what a Packet Identifier may be (MQTT 2.3.1)
+abbrev pub IsId : ℕ → Type 0
+IsId n = (0 < n) × (n < 2 ^ 16)

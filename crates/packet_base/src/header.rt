@@ -1,10 +1,40 @@
 // The first byte of a packet.
 
 ghost use Rattle.std.specs.Prelude.{◌≡◌};
-ghost use Rattle.packet_base.specs.Header.{header_of, first_byte, plain_header};
+ghost use Rattle.packet_base.specs.Header.{
+  header_of,
+  first_byte,
+  plain_header,
+  publish_header,
+  delivery_bits,
+};
 
 use crate::stop::Stop;
 use topics::MalformedKind;
+
+/// The flags DUP and QoS of a PUBLISH (MQTT 3.3.1). A bool is DUP, which QoS 0 does not have.
+#[derive(Clone, Copy, Debug, PartialEq, Eq)]
+pub enum DeliveryFlags {
+    /// QoS 0.
+    AtMostOnce,
+    /// QoS 1.
+    AtLeastOnce(bool),
+    /// QoS 2.
+    ExactlyOnce(bool),
+}
+
+impl DeliveryFlags {
+    // The bits of these flags in the first byte.
+    fn bits(self) -> u8
+        ensures { result ≡ delivery_bits self }
+    {
+        match self {
+            DeliveryFlags::AtMostOnce => 0,
+            DeliveryFlags::AtLeastOnce(dup) => 2 + 8 * u8::from(dup),
+            DeliveryFlags::ExactlyOnce(dup) => 4 + 8 * u8::from(dup),
+        }
+    }
+}
 
 /// What the first byte of a packet says: its type and its flags (MQTT 2.2.1, 2.2.2).
 #[derive(Clone, Copy, Debug, PartialEq, Eq)]
@@ -13,11 +43,36 @@ pub enum Header {
     Connect,
     /// CONNACK, type 2.
     Connack,
+    /// PUBLISH, type 3, and whether it has RETAIN.
+    Publish(DeliveryFlags, bool),
+    /// PUBACK, type 4.
+    Puback,
+    /// PUBREC, type 5.
+    Pubrec,
+    /// PUBREL, type 6.
+    Pubrel,
+    /// PUBCOMP, type 7.
+    Pubcomp,
+    /// SUBSCRIBE, type 8.
+    Subscribe,
+    /// SUBACK, type 9.
+    Suback,
+    /// UNSUBSCRIBE, type 10.
+    Unsubscribe,
+    /// UNSUBACK, type 11.
+    Unsuback,
+    /// PINGREQ, type 12.
+    Pingreq,
+    /// PINGRESP, type 13.
+    Pingresp,
+    /// DISCONNECT, type 14.
+    Disconnect,
 }
 
 impl Header {
-    /// What a first byte says. A reserved type answers `PacketType`, and flags that are not those
-    /// of the type answer `Flags`.
+    /// What a first byte says. A reserved type answers `PacketType`; a PUBLISH of QoS 3 answers
+    /// `Qos`, and one of QoS 0 with DUP `Flags`; for another type flags that are not its own
+    /// answer `Flags`.
     pub fn of(first: u8) -> Result<Header, Stop>
         ensures { result ≡ header_of first }
     {
@@ -25,6 +80,18 @@ impl Header {
         match first / 16 {
             1 => plain(Header::Connect, 0, flags),
             2 => plain(Header::Connack, 0, flags),
+            3 => publish(flags),
+            4 => plain(Header::Puback, 0, flags),
+            5 => plain(Header::Pubrec, 0, flags),
+            6 => plain(Header::Pubrel, 2, flags),
+            7 => plain(Header::Pubcomp, 0, flags),
+            8 => plain(Header::Subscribe, 2, flags),
+            9 => plain(Header::Suback, 0, flags),
+            10 => plain(Header::Unsubscribe, 2, flags),
+            11 => plain(Header::Unsuback, 0, flags),
+            12 => plain(Header::Pingreq, 0, flags),
+            13 => plain(Header::Pingresp, 0, flags),
+            14 => plain(Header::Disconnect, 0, flags),
             _ => Err(Stop::Malformed(MalformedKind::PacketType)),
         }
     }
@@ -36,6 +103,18 @@ impl Header {
         match self {
             Header::Connect => 0x10,
             Header::Connack => 0x20,
+            Header::Publish(delivery, retain) => 0x30 + delivery.bits() + u8::from(retain),
+            Header::Puback => 0x40,
+            Header::Pubrec => 0x50,
+            Header::Pubrel => 0x62,
+            Header::Pubcomp => 0x70,
+            Header::Subscribe => 0x82,
+            Header::Suback => 0x90,
+            Header::Unsubscribe => 0xA2,
+            Header::Unsuback => 0xB0,
+            Header::Pingreq => 0xC0,
+            Header::Pingresp => 0xD0,
+            Header::Disconnect => 0xE0,
         }
     }
 }
@@ -48,4 +127,19 @@ fn plain(header: Header, wanted: u8, flags: u8) -> Result<Header, Stop>
         return Ok(header);
     }
     Err(Stop::Malformed(MalformedKind::Flags))
+}
+
+// The flags of a PUBLISH: DUP, two bits of QoS, RETAIN.
+fn publish(flags: u8) -> Result<Header, Stop>
+    ensures { result ≡ publish_header flags }
+{
+    let dup = flags > 7;
+    let retain = flags % 2 == 1;
+    match flags / 2 % 4 {
+        0 if dup => Err(Stop::Malformed(MalformedKind::Flags)),
+        0 => Ok(Header::Publish(DeliveryFlags::AtMostOnce, retain)),
+        1 => Ok(Header::Publish(DeliveryFlags::AtLeastOnce(dup), retain)),
+        2 => Ok(Header::Publish(DeliveryFlags::ExactlyOnce(dup), retain)),
+        _ => Err(Stop::Malformed(MalformedKind::Qos)),
+    }
 }

@@ -10,7 +10,7 @@ mod remaining_length;
 mod stop;
 mod writing;
 
-pub use header::Header;
+pub use header::{DeliveryFlags, Header};
 pub use packet_id::PacketId;
 pub use reader::Reader;
 pub use refusal_code::RefusalCode;

@@ -2,7 +2,7 @@
 
 ghost use Rattle.std.specs.Prelude.{◌≡◌, ◌<◌, true, IfOk, IsTrue, ◌==◌, nat_eq, length, drop};
 ghost use Rattle.std.specs.List.{starts_with};
-ghost use Rattle.packet_base.specs.Reading.{
+ghost use Rattle.packet_base.specs.Reading.{topic_at, filter_at, topic_of, filter_of, 
   byte_at,
   front_at,
   number_at,
@@ -16,8 +16,9 @@ ghost use Rattle.packet_base.specs.Outcome.{Gives, Reads};
 
 use crate::packet_id::PacketId;
 use crate::stop::Stop;
+use std::alloc::Global;
 use std::marker::Model;
-use topics::MalformedKind;
+use topics::{Filter, MalformedKind, TopicName};
 
 /// The bytes of a packet that are not read yet, which is how a contract sees it. A field that does
 /// not fit into them is `Shape`; after an error the reader is not to be used.
@@ -120,6 +121,33 @@ impl<'a> Reader<'a> {
         checked_text(bytes)
     }
 
+    /// A Topic Name with its length before it. A text with a fault is `Text`, `Topic` or
+    /// `TooDeep` (MQTT 4.7).
+    #[tactic(auto, unfolding(crate::specs::Reading::topic_at))]
+    pub fn topic(&mut self, alloc: Global) -> Result<TopicName, Stop>
+        ensures { Reads (λ x. x) result self.new (topic_at self.old) }
+    {
+        let text = self.text()?;
+        topic_name(alloc, text)
+    }
+
+    /// A Topic Filter with its length before it. A text with a fault is `Text`, `Filter` or
+    /// `TooDeep` (MQTT 4.7.1).
+    #[tactic(auto, unfolding(crate::specs::Reading::filter_at))]
+    pub fn filter(&mut self, alloc: Global) -> Result<Filter, Stop>
+        ensures { Reads (λ x. x) result self.new (filter_at self.old) }
+    {
+        let text = self.text()?;
+        topic_filter(alloc, text)
+    }
+
+    /// All the bytes that are left.
+    pub fn rest(&self) -> &'a [u8]
+        ensures { result.now ≡ self.now }
+    {
+        self.rest
+    }
+
     /// Bytes that are left over are `Shape`.
     pub fn end(&self) -> Result<(), Stop>
         ensures { Gives (λ x. x) result (ended self.now) }
@@ -144,4 +172,20 @@ fn checked_text(bytes: &[u8]) -> Result<&str, Stop>
         return Err(Stop::Malformed(MalformedKind::Text));
     }
     Ok(text)
+}
+
+// A text as a Topic Name.
+#[tactic(auto, using(crate::proofs::Texts::topic_refused, crate::proofs::Texts::topic_taken))]
+fn topic_name(alloc: Global, text: &str) -> Result<TopicName, Stop>
+    ensures { Gives (λ x. x) result (topic_of text.now) }
+{
+    Ok(TopicName::new(alloc, text)?)
+}
+
+// A text as a Topic Filter.
+#[tactic(auto, using(crate::proofs::Texts::filter_refused, crate::proofs::Texts::filter_taken))]
+fn topic_filter(alloc: Global, text: &str) -> Result<Filter, Stop>
+    ensures { Gives (λ x. x) result (filter_of text.now) }
+{
+    Ok(Filter::new(alloc, text)?)
 }

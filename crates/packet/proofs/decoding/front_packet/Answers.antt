@@ -1,5 +1,5 @@
-use Rattle.std.proofs.Common.{sym, ◌∙◌, arith}
-use Rattle.packet.proofs.Behind.{verdict_whole}
+use Rattle.std.proofs.Common.{length, ap, sym, ◌∙◌, arith}
+use Rattle.packet.proofs.Behind.{rest_shorter, verdict_whole}
 use Rattle.packet.proofs.decoding.front_packet.Goals as goal
 
 pub returns-clause-exact : goal.returns-clause-exact
@@ -20,3 +20,16 @@ returns-clause-exact c =
     (c.new.ensures ∙ c.split_at.ensures.front)
     c.split_at.ensures.back
     c.in_ok-packet.ensures
+
+pub overflow_sub-result : goal.overflow_sub-result
+overflow_sub-result c =
+    omega (
+      arith,
+      ap length c.split_at.ensures.back,
+      rest_shorter
+        c.args.behind.now
+        c.in_ok-len.rest.now
+        c.in_ok-len.len
+        c.in_ok-len.len
+        c.in_ok-len.ensures.exact,
+    )

@@ -1,0 +1,24 @@
+-- PUBLISH (MQTT 3.3).
+use Rattle.std.specs.Prelude.{ℕ, Bool, IsTrue, List, ◌++◌, Result, Ok}
+use Rattle.topics.specs.Text.{is_topic}
+use Rattle.packet_base.specs.declared.stop.Stop.{Stop}
+use Rattle.packet_base.specs.declared.header.DeliveryFlags.{DeliveryFlags}
+use Rattle.packet_base.specs.Spelling.{text}
+use Rattle.packet_base.specs.Reading.{◌>>=◌, topic_at}
+use Rattle.packet.specs.declared.publish.Publish.{Publish}
+use Rattle.packet.specs.Delivery.{delivery_id, FitsDelivery, delivery_at}
+
+-- topic, identifier where the QoS has one, payload
+abbrev pub publish : Publish → List ℕ
+publish p = text p.topic ++ delivery_id p.delivery ++ p.payload
+
+-- each field is in its range
+abbrev pub FitsPublish : Publish → Type 0
+FitsPublish p = IsTrue (is_topic p.topic) × FitsDelivery p.delivery
+
+-- a body behind these flags, or its first fault; the payload is all that is left
+unfoldable pub publish_of : DeliveryFlags → Bool → List ℕ → Result Publish Stop
+publish_of flags retain body = do
+  topic ← topic_at body
+  delivery ← delivery_at flags topic.1
+  Ok (record { topic = topic.0; delivery = delivery.0; retain = retain; payload = delivery.1 })

@@ -1,0 +1,48 @@
+-- SUBACK (MQTT 3.9).
+use Rattle.std.specs.Prelude.{ℕ, ◌==◌, if◌then◌else◌, List, [], ◌∷◌, ◌++◌, Result, Ok}
+use Rattle.std.specs.List.{flat_map}
+use Rattle.packet_base.specs.declared.stop.Stop.{Stop}
+use Rattle.packet_base.specs.Spelling.{number, IsId}
+use Rattle.packet_base.specs.Reading.{◌>>=◌, byte_at, id_at}
+use Rattle.packet_base.specs.Lists.{list_of}
+use Rattle.packet.specs.declared.suback.SubackCode.{SubackCode}
+use Rattle.packet.specs.declared.suback.SubackCode.TheVariants as answers
+use Rattle.packet.specs.declared.suback.Suback.{Suback}
+use Rattle.packet.specs.QoS.{qos_number, qos_of}
+
+-- the granted QoS, or 0x80 for a failure (MQTT 3.9.3)
+abbrev pub granted_number : SubackCode → ℕ
+granted_number (answers.Granted qos) = qos_number qos
+granted_number answers.Failure = 0x80
+
+-- an answer as a byte
+abbrev pub granted : SubackCode → List ℕ
+granted code = granted_number code ∷ []
+
+-- identifier, answers
+abbrev pub suback : Suback → List ℕ
+suback s = number s.id ++ flat_map granted s.codes
+
+-- each field is in its range
+abbrev pub FitsSuback : Suback → Type 0
+FitsSuback s = IsId s.id
+
+-- the answer of a byte
+abbrev pub granted_of : ℕ → Result SubackCode Stop
+granted_of byte =
+    if byte == 0x80 then Ok answers.Failure else
+    qos_of byte >>= (λ qos. Ok (answers.Granted qos))
+
+-- an answer, and the bytes after it
+unfoldable pub granted_at : List ℕ → Result (SubackCode × List ℕ) Stop
+granted_at bytes = do
+  byte ← byte_at bytes
+  code ← granted_of byte.0
+  Ok (code, byte.1)
+
+-- a body, or its first fault
+unfoldable pub suback_of : List ℕ → Result Suback Stop
+suback_of body = do
+  id ← id_at body
+  codes ← list_of granted_at id.1
+  Ok (record { id = id.0; codes = codes })

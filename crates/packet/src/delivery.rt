@@ -1,0 +1,113 @@
+// How a PUBLISH is delivered.
+
+ghost use Rattle.std.specs.Prelude.{◌≡◌, ◌+◌, ◌≤◌, ◌++◌, length, vec_len, vec_capacity};
+ghost use Rattle.packet_base.specs.Outcome.{Reads};
+ghost use Rattle.packet.specs.Delivery.{
+  delivery_flags,
+  delivery_id,
+  delivery_qos,
+  id_of,
+  delivery_at,
+  FitsDelivery,
+};
+
+use crate::qos::QoS;
+use packet_base::{DeliveryFlags, PacketId, Reader, Stop, put_number};
+
+/// The QoS of a PUBLISH, with DUP and the Packet Identifier where its QoS has them (MQTT 3.3.1,
+/// 3.3.2.2). A bool is DUP: whether this may be another try of an earlier delivery.
+#[derive(Clone, Copy, Debug, PartialEq, Eq)]
+pub enum Delivery {
+    /// QoS 0: no identifier, and no further try.
+    AtMostOnce,
+    /// QoS 1.
+    AtLeastOnce(bool, PacketId),
+    /// QoS 2.
+    ExactlyOnce(bool, PacketId),
+}
+
+impl Delivery {
+    /// The QoS.
+    pub fn qos(self) -> QoS
+        ensures { result ≡ delivery_qos self }
+    {
+        match self {
+            Delivery::AtMostOnce => QoS::AtMostOnce,
+            Delivery::AtLeastOnce(_, _) => QoS::AtLeastOnce,
+            Delivery::ExactlyOnce(_, _) => QoS::ExactlyOnce,
+        }
+    }
+
+    /// The Packet Identifier, which QoS 0 has not.
+    pub fn id(self) -> Option<PacketId>
+        ensures { result ≡ id_of self }
+    {
+        match self {
+            Delivery::AtMostOnce => None,
+            Delivery::AtLeastOnce(_, id) => Some(id),
+            Delivery::ExactlyOnce(_, id) => Some(id),
+        }
+    }
+
+    // The flags of the first byte.
+    pub(crate) fn flags(self) -> DeliveryFlags
+        ensures { result ≡ delivery_flags self }
+    {
+        match self {
+            Delivery::AtMostOnce => DeliveryFlags::AtMostOnce,
+            Delivery::AtLeastOnce(dup, _) => DeliveryFlags::AtLeastOnce(dup),
+            Delivery::ExactlyOnce(dup, _) => DeliveryFlags::ExactlyOnce(dup),
+        }
+    }
+
+    // Reads the identifier that these flags ask for.
+    #[tactic(auto, unfolding(crate::specs::Delivery::delivery_at))]
+    pub(crate) fn read(flags: DeliveryFlags, body: &mut Reader) -> Result<Delivery, Stop>
+        ensures { Reads (λ x. x) result body.new (delivery_at flags body.old) }
+    {
+        match flags {
+            DeliveryFlags::AtMostOnce => Ok(Delivery::AtMostOnce),
+            DeliveryFlags::AtLeastOnce(dup) => Ok(Delivery::AtLeastOnce(dup, body.id()?)),
+            DeliveryFlags::ExactlyOnce(dup) => Ok(Delivery::ExactlyOnce(dup, body.id()?)),
+        }
+    }
+
+    // How many bytes the identifier takes.
+    pub(crate) fn id_len(self) -> usize
+        ensures { result ≡ length (delivery_id self) }
+    {
+        match self {
+            Delivery::AtMostOnce => 0,
+            _ => 2,
+        }
+    }
+
+    // Writes the identifier.
+    pub(crate) fn put_id(self, out: &mut Vec<u8>)
+        requires { vec_len out.old + length (delivery_id self) ≤ vec_capacity out.old }
+        ensures items { out.new.items ≡ out.old.items ++ delivery_id self }
+        ensures len { vec_len out.new ≡ vec_len out.old + length (delivery_id self) }
+        ensures capacity { vec_capacity out.old ≤ vec_capacity out.new }
+    {
+        match self {
+            Delivery::AtMostOnce => {}
+            Delivery::AtLeastOnce(_, id) => put_number(out, id.number()),
+            Delivery::ExactlyOnce(_, id) => put_number(out, id.number()),
+        }
+    }
+
+    // The identifier is in its range.
+    pub(crate) fn known(self)
+        ensures { FitsDelivery self }
+    {
+        match self {
+            Delivery::AtMostOnce => {}
+            Delivery::AtLeastOnce(_, id) => {
+                let _number = id.number();
+            }
+            Delivery::ExactlyOnce(_, id) => {
+                let _number = id.number();
+            }
+        }
+    }
+}

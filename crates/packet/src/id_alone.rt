@@ -1,0 +1,18 @@
+// The packets that hold a Packet Identifier and nothing else: PUBACK, PUBREC, PUBREL, PUBCOMP and
+// UNSUBACK (MQTT 3.4 to 3.7, 3.11).
+
+ghost use Rattle.std.specs.Prelude.{◌≡◌};
+ghost use Rattle.packet_base.specs.Outcome.{Gives};
+ghost use Rattle.packet.specs.IdAlone.{id_alone_of};
+
+use packet_base::{PacketId, Reader, Stop};
+
+// Reads a body.
+#[tactic(auto, unfolding(crate::specs::IdAlone::id_alone_of))]
+pub(crate) fn read_id_alone(body: &mut Reader) -> Result<PacketId, Stop>
+    ensures { Gives (λ x. x) result (id_alone_of body.old) }
+{
+    let id = body.id()?;
+    body.end()?;
+    Ok(id)
+}

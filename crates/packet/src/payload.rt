@@ -1,0 +1,61 @@
+// What a publication carries.
+
+ghost use Rattle.std.specs.Prelude.{◌≡◌, IfOk, length, bytes_eq};
+ghost use Rattle.std.specs.Cmp;
+ghost use Rattle.std.specs.Cmp.Lexicographic.{nat_list_eq_equiv};
+
+use std::alloc::{AllocError, Global};
+use std::marker::Model;
+
+/// The payload of a publication: any bytes (MQTT 3.3.3). A contract sees its bytes.
+#[derive(Debug, Drop)]
+pub struct Payload {
+    bytes: Vec<u8>,
+}
+
+impl Model for Payload {
+    ghost use Rattle.std.specs.Prelude.{List, ℕ};
+
+    ghost Value = { List ℕ };
+
+    ghost view = { λ payload. payload.bytes.items };
+}
+
+impl Payload {
+    /// A payload of these bytes, which are copied.
+    pub fn new(alloc: Global, bytes: &[u8]) -> Result<Payload, AllocError>
+        ensures { IfOk result (λ payload. payload ≡ bytes.now) }
+    {
+        let bytes = Vec::from_slice(alloc, bytes)?;
+        Ok(Payload { bytes })
+    }
+
+    /// The bytes.
+    pub fn as_slice(&self) -> &[u8]
+        ensures { result.now ≡ self.now }
+    {
+        self.bytes.as_slice()
+    }
+}
+
+impl Clone for Payload {
+    ghost is_clone = { λ payload copy. copy ≡ payload };
+
+    fn clone(&self) -> Result<Payload, AllocError> {
+        Payload::new(*self.bytes.allocator(), self.as_slice())
+    }
+}
+
+impl PartialEq for Payload {
+    ghost eq = { bytes_eq };
+
+    ghost laws = { Cmp.partial_equiv_from_equiv nat_list_eq_equiv };
+
+    fn eq(&self, other: &Payload) -> bool {
+        self.as_slice() == other.as_slice()
+    }
+}
+
+impl Eq for Payload {
+    ghost laws = { nat_list_eq_equiv };
+}

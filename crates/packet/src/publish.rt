@@ -1,0 +1,83 @@
+// PUBLISH: a publication on its way (MQTT 3.3).
+
+ghost use Rattle.std.specs.Prelude.{
+  ◌≡◌,
+  ◌+◌,
+  ◌≤◌,
+  ◌++◌,
+  length,
+  min,
+  vec_len,
+  vec_capacity,
+};
+ghost use Rattle.packet_base.specs.Outcome.{Gives};
+ghost use Rattle.packet.specs.Publish.{publish, publish_of, FitsPublish};
+
+use crate::delivery::Delivery;
+use crate::payload::Payload;
+use packet_base::{DeliveryFlags, Reader, Stop, put_bytes, put_text};
+use std::alloc::Global;
+use topics::TopicName;
+
+/// A publication on its way to the server or to a subscriber (MQTT 3.3).
+#[derive(Clone, Debug, PartialEq, Eq, Drop)]
+pub struct Publish {
+    /// What it is about.
+    pub topic: TopicName,
+    /// QoS, DUP and Packet Identifier.
+    pub delivery: Delivery,
+    /// RETAIN: to the server, that it is to be kept for later subscribers; from the server, that
+    /// it was kept (MQTT 3.3.1.3).
+    pub retain: bool,
+    /// What it carries.
+    pub payload: Payload,
+}
+
+impl Publish {
+    // Reads a body, behind a first byte with these flags.
+    #[tactic(auto, unfolding(crate::specs::Publish::publish_of))]
+    pub(crate) fn read(
+        alloc: Global,
+        flags: DeliveryFlags,
+        retain: bool,
+        body: &mut Reader,
+    ) -> Result<Publish, Stop>
+        ensures { Gives (λ x. x) result (publish_of flags retain body.old) }
+    {
+        let topic = body.topic(alloc)?;
+        let delivery = Delivery::read(flags, body)?;
+        let payload = Payload::new(alloc, body.rest())?;
+        Ok(Publish {
+            topic,
+            delivery,
+            retain,
+            payload,
+        })
+    }
+
+    // How many bytes the body has.
+    pub(crate) fn body_len(&self) -> usize
+        ensures { result ≡ min (length (publish self.now)) usize.MAX }
+    {
+        let names = 2 + self.topic.as_str().len() + self.delivery.id_len();
+        names.saturating_add(self.payload.as_slice().len())
+    }
+
+    // Writes the body.
+    pub(crate) fn put(&self, out: &mut Vec<u8>)
+        requires { vec_len out.old + length (publish self.now) ≤ vec_capacity out.old }
+        ensures { out.new.items ≡ out.old.items ++ publish self.now }
+    {
+        put_text(out, self.topic.as_str());
+        self.delivery.put_id(out);
+        put_bytes(out, self.payload.as_slice());
+    }
+
+    // The fields are in their ranges.
+    pub(crate) fn known(&self)
+        ensures { FitsPublish self.now }
+    {
+        let _topic = self.topic.as_str();
+        self.delivery.known();
+    }
+}

@@ -1,0 +1,29 @@
+-- Lists that go to the end of a body.
+use Rattle.std.specs.Prelude.{ℕ, zero, suc, ◌==◌, not, if◌then◌else◌, List, [], ◌∷◌, length, Result, Ok, Err}
+use Rattle.topics.specs.declared.malformed.MalformedKind.TheVariants as kinds
+use Rattle.packet_base.specs.declared.stop.Stop.{Stop}
+use Rattle.packet_base.specs.declared.stop.Stop.TheVariants as stops
+use Rattle.packet_base.specs.Reading.{◌>>=◌, ◌>>◌, check, malformed}
+
+-- how an item is read: its value, and the bytes after it
+abbrev pub ItemAt : Type 0 → Type 0
+ItemAt A = List ℕ → Result (A × List ℕ) Stop
+
+-- at most so many items, one after the other, to the end of the bytes
+unfoldable pub items_of : {A : Type 0} → ItemAt A → ℕ → List ℕ → Result (List A) Stop
+items_of item zero bytes = Ok []
+items_of item (suc most) bytes =
+    if length bytes == 0 then Ok [] else
+    item bytes >>= (λ first.
+      items_of item most first.1 >>= (λ others. Ok (first.0 ∷ others)))
+
+-- all the items to the end of the bytes, each of which has a byte at least
+abbrev pub items_at : {A : Type 0} → ItemAt A → List ℕ → Result (List A) Stop
+items_at item bytes = items_of item (length bytes) bytes
+
+-- the same where there has to be one (MQTT 3.8.3, 3.9.3, 3.10.3)
+abbrev pub list_of : {A : Type 0} → ItemAt A → List ℕ → Result (List A) Stop
+list_of item bytes = do
+  items ← items_at item bytes
+  check (not (length items == 0)) (stops.Malformed kinds.Shape)
+  Ok items
