@@ -1,0 +1,61 @@
+// Why the store refused a publication.
+
+ghost use Rattle.std.specs.Prelude.{◌≡◌};
+ghost use Rattle.retained.specs.Errors.{number_of};
+
+use std::alloc::{AllocError, AllocFailed};
+use std::error::Error;
+use std::fmt;
+
+/// Why a publication was not retained. The store is as it was before.
+#[derive(Clone, Copy, Debug, PartialEq, Eq)]
+pub enum RetainedError {
+    /// The topic would be the 16,385th retained one.
+    RetainedFull,
+    /// No memory was found.
+    Memory,
+}
+
+impl RetainedError {
+    /// The number of this refusal, the same in every program and document of this broker.
+    pub fn number(self) -> u8
+        ensures { result ≡ number_of self }
+    {
+        match self {
+            RetainedError::RetainedFull => 16,
+            RetainedError::Memory => 12,
+        }
+    }
+}
+
+impl fmt::Display for RetainedError {
+    fn fmt<W: fmt::Write>(&self, f: &mut fmt::Formatter<W>) -> fmt::Result {
+        let text = match self {
+            RetainedError::RetainedFull => "too many retained topics",
+            RetainedError::Memory => "out of memory",
+        };
+        write!(f, "{text}")
+    }
+}
+
+impl Error for RetainedError {}
+
+impl From<AllocError> for RetainedError {
+    ghost use Rattle.retained.specs.declared.error.RetainedError.TheVariants.{Memory};
+
+    ghost from_gives = { λ _ error. error ≡ Memory };
+
+    fn from(_error: AllocError) -> RetainedError {
+        RetainedError::Memory
+    }
+}
+
+impl<T: Drop> From<AllocFailed<T>> for RetainedError {
+    ghost use Rattle.retained.specs.declared.error.RetainedError.TheVariants.{Memory};
+
+    ghost from_gives = { λ _ error. error ≡ Memory };
+
+    fn from(_error: AllocFailed<T>) -> RetainedError {
+        RetainedError::Memory
+    }
+}

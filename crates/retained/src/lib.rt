@@ -1,0 +1,13 @@
+//! The retained publications: for each topic the last one that was published with RETAIN 1
+//! (MQTT 3.3.1.3).
+#![tactic(auto)]
+
+mod error;
+mod kept;
+mod retained_store;
+#[cfg(test)]
+mod tests;
+
+pub use error::RetainedError;
+pub use kept::Kept;
+pub use retained_store::RetainedStore;

@@ -1,0 +1,147 @@
+// The store of retained publications.
+
+ghost use Rattle.std.specs.Prelude.{◌≡◌, ◌++◌, ◌↔◌, [], length, filter, take, Err, IsOk, IsNone, IsTrue, OnOk, OnErr, option_copied};
+ghost use Rattle.std.specs.Cmp.Lexicographic.{slice_cmp};
+ghost use Rattle.std.specs.Ordering.{nat_cmp};
+ghost use Rattle.retained.specs.Retained.{IsRising, kept_of, after_put, is_full_for, is_refused, matching_entries};
+
+use crate::error::RetainedError;
+use crate::kept::Kept;
+use packet::{Payload, QoS};
+use std::alloc::{AllocError, Global};
+use std::collections::BTreeMap;
+use std::collections::btree_map::Iter;
+use std::marker::Model;
+use topics::{Filter, TopicName, matches};
+
+/// The most topics of which a publication is retained.
+const MAX_TOPICS: usize = 16_384;
+
+/// For each topic its last publication with RETAIN 1 (MQTT 3.3.1.3), at most 16,384 of them.
+#[derive(Debug, Drop)]
+pub struct RetainedStore {
+    topics: BTreeMap<TopicName, Kept>,
+}
+
+impl Model for RetainedStore {
+    ghost use Rattle.retained.specs.Retained.{Content};
+
+    ghost Value = { Content };
+
+    ghost view = { λ store. store.topics.entries };
+}
+
+impl RetainedStore {
+    /// A store without publications.
+    pub fn new(alloc: Global) -> RetainedStore
+        ensures { result ≡ [] }
+    {
+        RetainedStore {
+            topics: BTreeMap::new(alloc),
+        }
+    }
+
+    /// How many topics have a retained publication.
+    pub fn len(&self) -> usize
+        ensures { result ≡ length self.now }
+    {
+        self.topics.len()
+    }
+
+    pub fn is_empty(&self) -> bool
+        ensures { IsTrue result ↔ (self.now ≡ []) }
+    {
+        self.topics.is_empty()
+    }
+
+    /// What is retained of the topic.
+    pub fn get(&self, topic: &TopicName) -> Option<&Kept>
+        ensures { option_copied result ≡ kept_of topic.now self.now }
+    {
+        self.topics.get(topic)
+    }
+
+    /// Whether [`RetainedStore::put`] would answer `RetainedFull`.
+    pub fn refuses(&self, topic: &TopicName, payload: &Payload) -> bool
+        ensures { result ≡ is_refused self.now topic.now payload.now }
+    {
+        !payload.as_slice().is_empty() && self.is_full_for(topic)
+    }
+
+    /// Retains a publication in place of the topic's last one. An empty payload removes it, which
+    /// takes no memory (MQTT 3.3.1.3). `RetainedFull` where the topic would be the 16,385th,
+    /// `Memory` for want of memory, which a topic that is there never takes.
+    pub fn put(&mut self, topic: TopicName, qos: QoS, payload: Payload) -> Result<(), RetainedError>
+        ensures ok { OnOk result (self.new ≡ after_put self.old topic qos payload) }
+
+        // Each refusal leaves the store as it was.
+        ensures full { (result ≡ Err RetainedError.RetainedFull)
+            ↔ IsTrue (is_refused self.old topic payload) }
+        ensures memory { result ≡ Err RetainedError.Memory → IsNone (kept_of topic self.old) }
+        ensures removal { payload ≡ [] → IsOk result }
+        ensures err { OnErr result (self.new ≡ self.old) }
+    {
+        if payload.as_slice().is_empty() {
+            self.topics.remove(&topic);
+            return Ok(());
+        }
+        if self.refuses(&topic, &payload) {
+            return Err(RetainedError::RetainedFull);
+        }
+        self.topics.insert(topic, Kept { qos, payload })?;
+        Ok(())
+    }
+
+    /// Appends each topic that the filter matches, with what is retained of it, in the order of the
+    /// topics' bytes. Without memory the entries stay as they were.
+    pub fn matching(
+        &self,
+        filter: &Filter,
+        entries: &mut Vec<(TopicName, Kept)>,
+    ) -> Result<(), AllocError>
+        ensures ok { OnOk result
+            (entries.new.items ≡ entries.old.items ++ matching_entries self.now filter.now) }
+        ensures err { OnErr result (entries.new.items ≡ entries.old.items) }
+    {
+        let before = entries.len();
+        let appended = append_matching(&self.topics, filter, entries);
+        if appended.is_err() {
+            entries.truncate(before);
+        }
+        appended
+    }
+
+    /// The topics in the order of their bytes, with what is retained of them.
+    pub fn iter(&self) -> Iter<'_, TopicName, Kept>
+        ensures entries { result ≡ self.now }
+        ensures rising { IsRising self.now }
+    {
+        self.topics.iter()
+    }
+
+    /// Whether the topic is new and there is no place for a new one.
+    fn is_full_for(&self, topic: &TopicName) -> bool
+        ensures { result ≡ is_full_for self.now topic.now }
+    {
+        !self.topics.contains_key(topic) && self.topics.len() >= MAX_TOPICS
+    }
+}
+
+/// Appends the matching topics. Where memory is wanting, some of them may stand there.
+fn append_matching(
+    topics: &BTreeMap<TopicName, Kept>,
+    filter: &Filter,
+    entries: &mut Vec<(TopicName, Kept)>,
+) -> Result<(), AllocError>
+    ensures ok { OnOk result
+        (entries.new.items ≡ entries.old.items ++ matching_entries topics.now.entries filter.now) }
+    ensures err { OnErr result
+        (entries.old.items ≡ take (length entries.old.items) entries.new.items) }
+{
+    for (topic, kept) in topics {
+        if matches(filter, topic) {
+            entries.push((topic.clone()?, kept.clone()?))?;
+        }
+    }
+    Ok(())
+}
