@@ -1,1 +1,5 @@
 pub mod Malformed
+pub mod Text
+pub mod Matching
+pub mod Laws
+pub mod Inside

@@ -2,6 +2,17 @@
 //! malformed input that every decoder above answers with.
 #![tactic(auto)]
 
+mod filter;
+mod laws;
+mod level;
 mod malformed;
+mod matching;
+#[cfg(test)]
+mod tests;
+mod topic_name;
 
+pub use filter::Filter;
+pub use laws::matches_is_tested;
 pub use malformed::MalformedKind;
+pub use matching::matches;
+pub use topic_name::TopicName;

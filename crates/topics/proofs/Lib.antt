@@ -1,0 +1,3 @@
+pub mod LevelByLevel
+pub mod MatchingIsTested
+pub mod Faultless

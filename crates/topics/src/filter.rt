@@ -1,0 +1,162 @@
+// A Topic Filter: what a subscription asks for (MQTT 4.7.1).
+
+ghost use Rattle.std.specs.Prelude.{◌≡◌, ◌&&◌, Some, None, IfOk, OnOk, IfErr, IsTrue, bytes_eq};
+ghost use Rattle.std.specs.Cmp;
+ghost use Rattle.std.specs.Cmp.Lexicographic.{slice_cmp, nat_list_eq_equiv, nat_list_cmp_total, texts_ties, texts_po};
+ghost use Rattle.std.specs.Ordering.{nat_cmp};
+ghost use Rattle.std.proofs.Common.{refl};
+ghost use Rattle.topics.specs.Text.{filter_fault, is_filter, RefusesBy, levels, has_length, has_wildcards_in_place, may_stand};
+
+use crate::level::{
+    has_length, has_no_wildcard, is_hash, is_last, is_plus, is_shallow, split_level,
+};
+use crate::malformed::MalformedKind;
+use std::alloc::{AllocError, Global};
+use std::cmp::Ordering;
+use std::fmt;
+use std::marker::Model;
+
+/// A Topic Filter of 1 to 65,535 bytes and at most 32 levels, with its wildcards in their places:
+/// `+` alone in its level, `#` alone in the last one (MQTT 4.7.1). Compared and ordered by its bytes.
+#[derive(Debug, Drop)]
+pub struct Filter {
+    text: String,
+}
+
+impl Model for Filter {
+    ghost use Rattle.std.specs.Prelude.{List, ℕ, IsTrue, string_bytes};
+    ghost use Rattle.topics.specs.Text.{is_filter};
+
+    ghost Value = { List ℕ };
+
+    ghost view = { λ filter. string_bytes filter.text };
+
+    ghost invariant = { λ filter. IsTrue (is_filter (string_bytes filter.text)) };
+}
+
+impl Filter {
+    /// The Topic Filter of this text. In this order: `Text` where U+0000 stands in it, `Filter`
+    /// where it is empty, has more than 65,535 bytes or a wildcard out of its place, `TooDeep`
+    /// where it has more than 32 levels, `Memory`.
+    #[tactic(auto, using(crate::proofs::Faultless::is_filter_none))]
+    pub fn new(alloc: Global, text: &str) -> Result<Filter, MalformedKind>
+        ensures value { IfOk result (λ filter. filter ≡ text.now) }
+        ensures ok { OnOk result (filter_fault text.now ≡ None) }
+
+        // Memory may be wanting for a text without a fault only.
+        ensures err { IfErr result (RefusesBy (filter_fault text.now)) }
+    {
+        if let Some(fault) = fault_of(text.as_bytes()) {
+            return Err(fault);
+        }
+        let text = String::from_str(alloc, text)?;
+        Ok(Filter { text })
+    }
+
+    /// The text of this filter.
+    pub fn as_str(&self) -> &str
+        ensures value { result.now ≡ self.now }
+        ensures checked { IsTrue (is_filter self.now) }
+    {
+        self.text.as_str()
+    }
+}
+
+/// The first fault of a text as a Topic Filter.
+fn fault_of(text: &[u8]) -> Option<MalformedKind>
+    ensures { result ≡ filter_fault text.now }
+{
+    if text.contains(&0) {
+        return Some(MalformedKind::Text);
+    }
+    if !is_formed(text) {
+        return Some(MalformedKind::Filter);
+    }
+    if !is_shallow(text) {
+        return Some(MalformedKind::TooDeep);
+    }
+    None
+}
+
+fn is_formed(text: &[u8]) -> bool
+    ensures { result ≡ (has_length text.now && has_wildcards_in_place (levels text.now)) }
+{
+    has_length(text) && has_wildcards_in_place(text)
+}
+
+fn has_wildcards_in_place(text: &[u8]) -> bool
+    ensures { result ≡ has_wildcards_in_place (levels text.now) }
+{
+    let mut rest = Some(text);
+    while let Some(text) = rest {
+        let (level, behind) = split_level(text);
+        if !may_stand(level, is_last(behind)) {
+            return false;
+        }
+        rest = behind;
+    }
+    true
+}
+
+/// Whether the level has no wildcard, or is one, `#` the last level only.
+fn may_stand(level: &[u8], last: bool) -> bool
+    ensures { result ≡ may_stand level.now last }
+{
+    has_no_wildcard(level) || is_plus(level) || (is_hash(level) && last)
+}
+
+impl Clone for Filter {
+    ghost is_clone = { λ filter copy. copy ≡ filter };
+
+    fn clone(&self) -> Result<Filter, AllocError> {
+        Ok(Filter {
+            text: self.text.clone()?,
+        })
+    }
+}
+
+impl PartialEq for Filter {
+    ghost eq = { bytes_eq };
+
+    ghost laws = { Cmp.partial_equiv_from_equiv nat_list_eq_equiv };
+
+    fn eq(&self, other: &Filter) -> bool {
+        self.text == other.text
+    }
+}
+
+impl Eq for Filter {
+    ghost laws = { nat_list_eq_equiv };
+}
+
+impl PartialOrd for Filter {
+    ghost partial_cmp = { λ x y. Some (slice_cmp nat_cmp x y) };
+
+    ghost laws = { texts_po };
+
+    fn partial_cmp(&self, other: &Filter) -> Option<Ordering> {
+        Some(self.cmp(other))
+    }
+}
+
+impl Ord for Filter {
+    ghost cmp = { slice_cmp nat_cmp };
+
+    ghost total = { nat_list_cmp_total };
+
+    ghost matches_partial_cmp = { λ x y. refl };
+
+    ghost matches_eq = { texts_ties };
+
+    fn cmp(&self, other: &Filter) -> Ordering {
+        self.text.cmp(&other.text)
+    }
+}
+
+impl fmt::Display for Filter {
+    ghost output = { λ filter. Some filter };
+
+    fn fmt<W: fmt::Write>(&self, f: &mut fmt::Formatter<W>) -> fmt::Result {
+        f.write_str(self.text.as_str())
+    }
+}

@@ -1,0 +1,8 @@
+// Laws of the definitions: functions whose contract is the law.
+
+ghost use Rattle.topics.specs.Laws.{MatchesIsTested};
+
+/// The test `is_match` of the definitions is true exactly where a filter matches a topic.
+pub fn matches_is_tested()
+    ensures { MatchesIsTested }
+{}

@@ -1,0 +1,68 @@
+// Going through a text level by level.
+
+ghost use Rattle.std.specs.Prelude.{◌≡◌, ◌∷◌, ◌||◌, codes, bytes_eq};
+ghost use Rattle.topics.specs.Text.{levels, has_length, has_no_wildcard, is_shallow, is_last};
+ghost use Rattle.topics.specs.Inside.{levels_of};
+
+/// The most bytes of a topic or a filter (MQTT 4.7.3).
+const MAX_BYTES: usize = 65_535;
+
+/// The most levels that this broker takes.
+const MAX_LEVELS: usize = 32;
+
+/// The first level, and what follows its `/`.
+#[tactic(auto, using(crate::proofs::LevelByLevel::levels_cut, crate::proofs::LevelByLevel::levels_whole))]
+pub(crate) fn split_level(text: &[u8]) -> (&[u8], Option<&[u8]>)
+    ensures { levels text.now ≡ result.0.now ∷ levels_of result.1 }
+{
+    for (i, byte) in text.iter().enumerate() {
+        if *byte == b'/' {
+            return (&text[..i], Some(&text[i + 1..]));
+        }
+    }
+    (text, None)
+}
+
+/// Whether no level follows.
+#[tactic(auto, using(crate::proofs::LevelByLevel::is_last_levels))]
+pub(crate) fn is_last(rest: Option<&[u8]>) -> bool
+    ensures { result ≡ is_last (levels_of rest.entry) }
+{
+    match rest {
+        Some(_) => false,
+        None => true,
+    }
+}
+
+pub(crate) fn has_length(text: &[u8]) -> bool
+    ensures { result ≡ has_length text.now }
+{
+    !text.is_empty() && text.len() <= MAX_BYTES
+}
+
+pub(crate) fn has_no_wildcard(text: &[u8]) -> bool
+    ensures { result ≡ has_no_wildcard text.now }
+{
+    !text.contains(&b'+') && !text.contains(&b'#')
+}
+
+#[tactic(auto, using(crate::proofs::LevelByLevel::is_shallow_count))]
+pub(crate) fn is_shallow(text: &[u8]) -> bool
+    ensures { result ≡ is_shallow text.now }
+{
+    text.iter().filter(|byte| **byte == b'/').count() < MAX_LEVELS
+}
+
+/// Whether the level is the wildcard for any one level.
+pub(crate) fn is_plus(level: &[u8]) -> bool
+    ensures { result ≡ bytes_eq level.now (codes "+") }
+{
+    level == b"+".as_slice()
+}
+
+/// Whether the level is the wildcard for every rest.
+pub(crate) fn is_hash(level: &[u8]) -> bool
+    ensures { result ≡ bytes_eq level.now (codes "#") }
+{
+    level == b"#".as_slice()
+}

@@ -1,0 +1,139 @@
+// A Topic Name: what a publication is about (MQTT 4.7).
+
+ghost use Rattle.std.specs.Prelude.{◌≡◌, ◌&&◌, Some, None, IfOk, OnOk, IfErr, IsTrue, bytes_eq};
+ghost use Rattle.std.specs.Cmp;
+ghost use Rattle.std.specs.Cmp.Lexicographic.{slice_cmp, nat_list_eq_equiv, nat_list_cmp_total, texts_ties, texts_po};
+ghost use Rattle.std.specs.Ordering.{nat_cmp};
+ghost use Rattle.std.proofs.Common.{refl};
+ghost use Rattle.topics.specs.Text.{topic_fault, is_topic, RefusesBy, has_length, has_no_wildcard};
+
+use crate::level::{has_length, has_no_wildcard, is_shallow};
+use crate::malformed::MalformedKind;
+use std::alloc::{AllocError, Global};
+use std::cmp::Ordering;
+use std::fmt;
+use std::marker::Model;
+
+/// A Topic Name of 1 to 65,535 bytes and at most 32 levels, without wildcards (MQTT 4.7).
+/// Compared and ordered by its bytes.
+#[derive(Debug, Drop)]
+pub struct TopicName {
+    text: String,
+}
+
+impl Model for TopicName {
+    ghost use Rattle.std.specs.Prelude.{List, ℕ, IsTrue, string_bytes};
+    ghost use Rattle.topics.specs.Text.{is_topic};
+
+    ghost Value = { List ℕ };
+
+    ghost view = { λ name. string_bytes name.text };
+
+    ghost invariant = { λ name. IsTrue (is_topic (string_bytes name.text)) };
+}
+
+impl TopicName {
+    /// The Topic Name of this text. In this order: `Text` where U+0000 stands in it, `Topic` where
+    /// it is empty, has more than 65,535 bytes or a wildcard, `TooDeep` where it has more than 32
+    /// levels, `Memory`.
+    #[tactic(auto, using(crate::proofs::Faultless::is_topic_none))]
+    pub fn new(alloc: Global, text: &str) -> Result<TopicName, MalformedKind>
+        ensures value { IfOk result (λ name. name ≡ text.now) }
+        ensures ok { OnOk result (topic_fault text.now ≡ None) }
+
+        // Memory may be wanting for a text without a fault only.
+        ensures err { IfErr result (RefusesBy (topic_fault text.now)) }
+    {
+        if let Some(fault) = fault_of(text.as_bytes()) {
+            return Err(fault);
+        }
+        let text = String::from_str(alloc, text)?;
+        Ok(TopicName { text })
+    }
+
+    /// The text of this name.
+    pub fn as_str(&self) -> &str
+        ensures value { result.now ≡ self.now }
+        ensures checked { IsTrue (is_topic self.now) }
+    {
+        self.text.as_str()
+    }
+}
+
+/// The first fault of a text as a Topic Name.
+fn fault_of(text: &[u8]) -> Option<MalformedKind>
+    ensures { result ≡ topic_fault text.now }
+{
+    if text.contains(&0) {
+        return Some(MalformedKind::Text);
+    }
+    if !is_name(text) {
+        return Some(MalformedKind::Topic);
+    }
+    if !is_shallow(text) {
+        return Some(MalformedKind::TooDeep);
+    }
+    None
+}
+
+fn is_name(text: &[u8]) -> bool
+    ensures { result ≡ (has_length text.now && has_no_wildcard text.now) }
+{
+    has_length(text) && has_no_wildcard(text)
+}
+
+impl Clone for TopicName {
+    ghost is_clone = { λ name copy. copy ≡ name };
+
+    fn clone(&self) -> Result<TopicName, AllocError> {
+        Ok(TopicName {
+            text: self.text.clone()?,
+        })
+    }
+}
+
+impl PartialEq for TopicName {
+    ghost eq = { bytes_eq };
+
+    ghost laws = { Cmp.partial_equiv_from_equiv nat_list_eq_equiv };
+
+    fn eq(&self, other: &TopicName) -> bool {
+        self.text == other.text
+    }
+}
+
+impl Eq for TopicName {
+    ghost laws = { nat_list_eq_equiv };
+}
+
+impl PartialOrd for TopicName {
+    ghost partial_cmp = { λ x y. Some (slice_cmp nat_cmp x y) };
+
+    ghost laws = { texts_po };
+
+    fn partial_cmp(&self, other: &TopicName) -> Option<Ordering> {
+        Some(self.cmp(other))
+    }
+}
+
+impl Ord for TopicName {
+    ghost cmp = { slice_cmp nat_cmp };
+
+    ghost total = { nat_list_cmp_total };
+
+    ghost matches_partial_cmp = { λ x y. refl };
+
+    ghost matches_eq = { texts_ties };
+
+    fn cmp(&self, other: &TopicName) -> Ordering {
+        self.text.cmp(&other.text)
+    }
+}
+
+impl fmt::Display for TopicName {
+    ghost output = { λ name. Some name };
+
+    fn fmt<W: fmt::Write>(&self, f: &mut fmt::Formatter<W>) -> fmt::Result {
+        f.write_str(self.text.as_str())
+    }
+}
