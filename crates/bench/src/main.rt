@@ -3,18 +3,21 @@
 #![tactic(auto)]
 
 mod granted;
+mod inbox;
 mod matching;
 
 use anyhow::{Result, bail};
 use std::env;
 
 /// The benchmarks, each named like its file.
-const NAMES: [&str; 2] = ["granted", "matching"];
+const NAMES: [&str; 3] = ["granted", "inbox", "matching"];
 
 fn main(rt: HostRuntime) -> Result<()> {
     let mut words = env::args(&rt)?;
     words.next();
     match words.next() {
+        // It starts threads, which `main` alone may do with the runtime itself.
+        Some(name) if name.as_str() == "inbox" => inbox::run(&rt, rt.alloc()),
         Some(name) => run(&rt, name.as_str()),
         None => list(&rt),
     }

@@ -1,0 +1,97 @@
+// Items a second through an inbox of the node, by the lanes that send together.
+
+ghost use Rattle.std.specs.Prelude.{◌≡◌, ◌≤◌};
+
+use anyhow::{Result, bail};
+use mailbox::{Inbox, Lane, MOST_LANES, Naming, Receiver};
+use std::alloc::Global;
+use std::marker::Brand;
+use std::sync::Wait;
+use std::thread;
+use std::thread::Threads;
+use std::time::{Clock, CpuClock, Instant};
+
+/// How many items are sent, by all lanes together.
+const ITEMS: u64 = 3_000_000;
+
+/// Prints the time of an item through an inbox of 1, 4 and 15 lanes, each with a thread of its own.
+pub fn run<R: Threads + Wait + Sync + Clock + CpuClock + Print>(
+    rt: &R,
+    alloc: Global,
+) -> Result<()> {
+    measure::<Brand, R>(rt, Inbox::new(alloc)?, 1)?;
+    measure::<Brand, R>(rt, Inbox::new(alloc)?, 4)?;
+    measure::<Brand, R>(rt, Inbox::new(alloc)?, 15)
+}
+
+fn measure<J: Naming + Send, R: Threads + Wait + Sync + Clock + CpuClock + Print>(
+    rt: &R,
+    inbox: Inbox<u64>,
+    lanes: u8,
+) -> Result<()>
+    requires named { inbox ≡ J.inbox_of 1 }
+    requires lanes { (1 ≤ lanes) × (lanes ≤ MOST_LANES) }
+{
+    let (mut receiver, senders) = inbox.named::<J>(1, lanes)?;
+    let each = ITEMS / u64::from(lanes);
+    let busy_before = rt.process_cpu_time()?;
+    let start = Instant::now(rt)?;
+    let in_order = thread::scope(thread::scope_env(), rt, |scope| {
+        for lane in senders {
+            if scope.spawn(move || pour(rt, lane, each)).is_err() {
+                return false;
+            }
+        }
+        come_in_order(rt, &mut receiver, each)
+    });
+    let elapsed = start.elapsed(rt)?;
+    let busy = rt.process_cpu_time()?.saturating_sub(busy_before);
+    if !in_order {
+        bail!("an item was lost or came out of order");
+    }
+    let nanos = elapsed.as_nanos() / u128::from(ITEMS);
+    let busy_nanos = busy.as_nanos() / u128::from(ITEMS);
+    println!(rt; "{lanes} lanes: {nanos} ns an item, {busy_nanos} ns of all processors")?;
+    Ok(())
+}
+
+// Sends the numbers from 0 on, each again until there is room for it.
+fn pour<J: Naming, R: Wait>(rt: &R, mut lane: Lane<u64, J>, each: u64) {
+    let mut item = 0;
+    for _ in rt.forever() {
+        if item == each {
+            return;
+        }
+        if lane.send(rt, item).is_ok() {
+            item = item.wrapping_add(1);
+        } else {
+            thread::yield_now();
+        }
+    }
+}
+
+// Whether so many numbers come of each lane, from 0 on and with none left out.
+fn come_in_order<J: Naming, R: Wait>(rt: &R, receiver: &mut Receiver<u64, J>, each: u64) -> bool {
+    let mut next = [0u64; MOST_LANES as usize];
+    let mut missing = receiver.lanes();
+    for _ in rt.forever() {
+        if missing == 0 {
+            break;
+        }
+        let Some((lane, item)) = receiver.take(rt) else {
+            thread::yield_now();
+            continue;
+        };
+        let Some(wanted) = next.get_mut(usize::from(lane)) else {
+            return false;
+        };
+        if *wanted != item {
+            return false;
+        }
+        *wanted = wanted.wrapping_add(1);
+        if *wanted == each {
+            missing = missing.saturating_sub(1);
+        }
+    }
+    true
+}
