@@ -1,6 +1,6 @@
 // The store of retained publications.
 
-ghost use Rattle.std.specs.Prelude.{◌≡◌, ◌++◌, ◌↔◌, [], length, filter, take, Err, IsOk, IsNone, IsTrue, OnOk, OnErr, option_copied};
+ghost use Rattle.std.specs.Prelude.{◌≡◌, ◌++◌, ◌↔◌, [], length, take, Err, IsOk, IsNone, IsTrue, OnOk, OnErr, option_copied};
 ghost use Rattle.std.specs.Cmp.Lexicographic.{slice_cmp};
 ghost use Rattle.std.specs.Ordering.{nat_cmp};
 ghost use Rattle.retained.specs.Retained.{IsRising, kept_of, after_put, is_full_for, is_refused, matching_entries};
