@@ -1,5 +1,5 @@
 -- What is left behind an item of a list is shorter.
-use Rattle.std.proofs.Common.{◌≡◌, ℕ, ◌<◌, List, length, Result, Ok, Err, arith}
+use Rattle.std.proofs.Common.{ℕ, ◌<◌, List, length, Result, Ok, Err, arith}
 use Rattle.std.specs.Prelude.{IfOk}
 use Rattle.packet_base.specs.Reading.{byte_at, filter_at}
 use Rattle.packet_base.proofs.Steps.{then_if}

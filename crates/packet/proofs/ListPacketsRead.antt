@@ -1,15 +1,13 @@
 -- The bodies of SUBSCRIBE, SUBACK and UNSUBSCRIBE that are read are spelled so, and those that are
 -- spelled are read.
-use Rattle.std.proofs.Common.{◌≡◌, ℕ, ◌+◌, ◌^◌, ◌<◌, Bool, true, eqb, List, [], ◌∷◌, ◌++◌, length, Result, Ok, refl, sym, ap, subst, ◌∙◌, append_assoc, arith}
+use Rattle.std.proofs.Common.{◌≡◌, ℕ, ◌^◌, ◌<◌, true, eqb, List, [], ◌∷◌, ◌++◌, length, Ok, refl, ap, subst, ◌∙◌, append_assoc, arith}
 use Rattle.std.specs.Prelude.{IfOk, IsTrue}
 use Rattle.std.specs.List.{flat_map, All}
 use Rattle.std.proofs.lemmas.Bool.{eqb-true}
-use Rattle.std.proofs.lemmas.List.{length-append}
 use Rattle.topics.specs.Text.{is_filter}
-use Rattle.packet_base.specs.declared.stop.Stop.{Stop}
-use Rattle.packet_base.specs.Spelling.{number, text, IsId}
-use Rattle.packet_base.specs.Reading.{◌>>=◌, byte_at, id_at, filter_at}
-use Rattle.packet_base.specs.Lists.{ItemAt, list_of}
+use Rattle.packet_base.specs.Spelling.{number, text}
+use Rattle.packet_base.specs.Reading.{byte_at, id_at, filter_at}
+use Rattle.packet_base.specs.Lists.{list_of}
 use Rattle.packet_base.proofs.Steps.{then_if, cond_if}
 use Rattle.packet_base.proofs.FieldsFound.{IsBytes, Splits, Splits-then, byte_found, id_found, filter_found}
 use Rattle.packet_base.proofs.FieldsAgain.{id_again, filter_again}

@@ -1,31 +1,5 @@
 -- What more bytes change of a verdict: nothing, unless the bytes were too few.
-use Rattle.std.proofs.Common.{
-  ◌≡◌,
-  ◌≢◌,
-  ℕ,
-  ◌+◌,
-  ◌<◌,
-  ◌≤◌,
-  Bool,
-  true,
-  false,
-  leb,
-  List,
-  [],
-  ◌∷◌,
-  ◌++◌,
-  length,
-  take,
-  drop,
-  Result,
-  Ok,
-  Err,
-  refl,
-  sym,
-  ap,
-  ◌∙◌,
-  arith,
-}
+use Rattle.std.proofs.Common.{◌≡◌, ◌≢◌, ℕ, ◌≤◌, Bool, true, false, leb, List, [], ◌∷◌, ◌++◌, length, take, drop, Result, Ok, Err, refl, sym, ap, ◌∙◌, arith}
 use Rattle.std.proofs.lemmas.Bool.{le-leb, leb-true}
 use Rattle.std.proofs.lemmas.List.{append-nil, length-append, take-append-le, drop-append-le}
 use Rattle.packet_base.specs.declared.stop.Stop.{Stop}
@@ -35,7 +9,7 @@ use Rattle.packet_base.specs.Header.{header_of}
 use Rattle.packet_base.specs.Reading.{◌>>=◌, ◌>>◌, check, length_at}
 use Rattle.packet_base.proofs.Growing.{Grows, grows_check, grows_same, grows_then, length_grows}
 use Rattle.packet.specs.declared.packet.Packet.{Packet}
-use Rattle.packet.specs.Spelling.{Spells, IsPacket, longest_body}
+use Rattle.packet.specs.Spelling.{longest_body}
 use Rattle.packet.specs.Verdict.{body_of, verdict}
 use Rattle.packet.specs.Laws.{FrontsAreUnfinished, FaultsStay}
 use Rattle.packet.proofs.PacketReads.{verdict_again}

@@ -1,5 +1,5 @@
 -- A number that is read as a QoS is its number, and each QoS's number is read as it.
-use Rattle.std.proofs.Common.{◌≡◌, ℕ, eqb, Result, Ok, Err, refl, sym}
+use Rattle.std.proofs.Common.{◌≡◌, ℕ, eqb, Ok, refl}
 use Rattle.std.specs.Prelude.{IfOk}
 use Rattle.std.proofs.lemmas.Bool.{eqb-true}
 use Rattle.packet_base.proofs.Steps.{cond_if}

@@ -1,5 +1,5 @@
 -- How a PUBLISH is delivered: QoS, DUP and Packet Identifier (MQTT 3.3.1, 3.3.2.2).
-use Rattle.std.specs.Prelude.{ℕ, ◌<◌, ◌^◌, List, [], Option, Some, None, Result, Ok}
+use Rattle.std.specs.Prelude.{ℕ, List, [], Option, Some, None, Result, Ok}
 use Rattle.packet_base.specs.declared.stop.Stop.{Stop}
 use Rattle.packet_base.specs.declared.header.DeliveryFlags.{DeliveryFlags}
 use Rattle.packet_base.specs.declared.header.DeliveryFlags.TheVariants as flags

@@ -1,5 +1,5 @@
 -- SUBSCRIBE (MQTT 3.8).
-use Rattle.std.specs.Prelude.{◌≡◌, ℕ, IsTrue, List, [], ◌∷◌, ◌++◌, Result, Ok}
+use Rattle.std.specs.Prelude.{ℕ, IsTrue, List, [], ◌∷◌, ◌++◌, Result, Ok}
 use Rattle.std.specs.List.{flat_map, All}
 use Rattle.topics.specs.Text.{is_filter}
 use Rattle.packet_base.specs.declared.stop.Stop.{Stop}

@@ -1,5 +1,5 @@
 -- UNSUBSCRIBE (MQTT 3.10).
-use Rattle.std.specs.Prelude.{◌≡◌, ℕ, IsTrue, List, ◌++◌, Result, Ok}
+use Rattle.std.specs.Prelude.{ℕ, IsTrue, List, ◌++◌, Result, Ok}
 use Rattle.std.specs.List.{flat_map, All}
 use Rattle.topics.specs.Text.{is_filter}
 use Rattle.packet_base.specs.declared.stop.Stop.{Stop}

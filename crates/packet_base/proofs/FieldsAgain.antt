@@ -1,5 +1,5 @@
 -- Each field that is spelled is read again, whatever follows it.
-use Rattle.std.proofs.Common.{◌≡◌, ℕ, ◌+◌, ◌^◌, ◌<◌, ◌≤◌, Bool, true, false, cond, ltb, List, [], ◌∷◌, ◌++◌, length, take, drop, Option, Some, None, Ok, refl, sym, ap, ◌∙◌, append_assoc, arith}
+use Rattle.std.proofs.Common.{◌≡◌, ℕ, ◌^◌, ◌<◌, Bool, true, false, cond, ltb, List, ◌++◌, length, Some, None, Ok, refl, arith}
 use Rattle.std.specs.Prelude.{not, ◌&&◌, is_none}
 use Rattle.std.specs.Str.{is_utf8}
 use Rattle.std.proofs.lemmas.Bool.{le-ltb, lt-ltb, ltb-true}
@@ -9,7 +9,7 @@ use Rattle.packet_base.specs.Spelling.{number, text}
 use Rattle.topics.specs.declared.malformed.MalformedKind.{MalformedKind}
 use Rattle.topics.specs.declared.malformed.MalformedKind.TheVariants as kinds
 use Rattle.topics.specs.Text.{levels, has_length, has_no_wildcard, has_wildcards_in_place, is_shallow, topic_fault, filter_fault, is_topic, is_filter}
-use Rattle.packet_base.specs.Reading.{front_at, number_at, id_at, text_of, text_at, is_text, has_null, faultless, topic_at, filter_at}
+use Rattle.packet_base.specs.Reading.{front_at, number_at, id_at, text_of, text_at, is_text, has_null, topic_at, filter_at}
 
 pub front_again : (front rest : List ℕ) (len : ℕ) → length front ≡ len → front_at len (front ++ rest) ≡ Ok (front, rest)
 front_again front rest len e =

@@ -1,5 +1,5 @@
 -- Each field that is read stands so in the bytes.
-use Rattle.std.proofs.Common.{◌≡◌, ℕ, suc, ◌+◌, ◌^◌, ◌<◌, ◌≤◌, Bool, true, false, ltb, List, [], ◌∷◌, ◌++◌, length, get_or, take, drop, Option, Some, None, Result, Ok, Err, refl, sym, ap, subst, ◌∙◌, append_assoc, arith, inl, inr}
+use Rattle.std.proofs.Common.{◌≡◌, ℕ, suc, ◌+◌, ◌^◌, ◌<◌, ◌≤◌, Bool, true, false, ltb, List, [], ◌∷◌, ◌++◌, length, get_or, take, drop, Option, Some, None, Ok, refl, sym, ap, subst, ◌∙◌, append_assoc, arith, inl, inr}
 use Rattle.std.specs.Prelude.{IfOk, not, ◌&&◌}
 use Rattle.std.specs.Int.{w16, from_be_bytes}
 use Rattle.std.proofs.lemmas.Bool.{cases_lt, ltb-false, ltb-true}
@@ -8,7 +8,6 @@ use Rattle.std.proofs.lemmas.Nat.{be_bytes_2}
 use Rattle.std.specs.Str.{is_utf8}
 use Rattle.topics.specs.declared.malformed.MalformedKind.{MalformedKind}
 use Rattle.topics.specs.Text.{topic_fault, filter_fault, is_topic, is_filter}
-use Rattle.packet_base.specs.declared.stop.Stop.{Stop}
 use Rattle.packet_base.specs.Spelling.{number, text}
 use Rattle.packet_base.specs.Reading.{◌>>◌, byte_at, front_at, number_at, id_at, text_of, text_at, ended, is_text, has_null, faultless, topic_of, topic_at, filter_of, filter_at}
 use Rattle.packet_base.proofs.Steps.{then_if, check_if, cond_if}
@@ -112,19 +111,17 @@ unfolding topic_at
 topic_found bytes fits =
     let Q : List ℕ × List ℕ → Type 0 = λ x. Splits bytes (text x.0) x.1 × (is_topic x.0 ≡ true) in
     then_if (text_at bytes) _ (λ x. Splits bytes (text x.0) x.1 × (length x.0 < 2 ^ 16) × (is_text x.0 ≡ true)) Q (text_found bytes fits) (λ x h.
-      then_if (topic_of x.0) _ (λ y. (y ≡ x.0) × (topic_fault x.0 ≡ None)) Q (passed_found x.0 (topic_fault x.0)) (λ y t.
-        (
-          subst (λ (z : List ℕ). Splits bytes (text z) x.1) (sym t.0) h.0,
-          subst (λ (z : List ℕ). is_topic z ≡ true) (sym t.0) (let good : is_topic x.0 ≡ true = rw (formed_text x.0 h.2, t.1) refl in good)
-        )))
+    then_if (topic_of x.0) _ (λ y. (y ≡ x.0) × (topic_fault x.0 ≡ None)) Q (passed_found x.0 (topic_fault x.0)) (λ y t. (
+      subst (λ (z : List ℕ). Splits bytes (text z) x.1) (sym t.0) h.0,
+      subst (λ (z : List ℕ). is_topic z ≡ true) (sym t.0) (let good : is_topic x.0 ≡ true = rw (formed_text x.0 h.2, t.1) refl in good),
+    )))
 
 pub filter_found : (bytes : List ℕ) → IsBytes bytes → IfOk (filter_at bytes) (λ x. Splits bytes (text x.0) x.1 × (is_filter x.0 ≡ true))
 unfolding filter_at
 filter_found bytes fits =
     let Q : List ℕ × List ℕ → Type 0 = λ x. Splits bytes (text x.0) x.1 × (is_filter x.0 ≡ true) in
     then_if (text_at bytes) _ (λ x. Splits bytes (text x.0) x.1 × (length x.0 < 2 ^ 16) × (is_text x.0 ≡ true)) Q (text_found bytes fits) (λ x h.
-      then_if (filter_of x.0) _ (λ y. (y ≡ x.0) × (filter_fault x.0 ≡ None)) Q (passed_found x.0 (filter_fault x.0)) (λ y t.
-        (
-          subst (λ (z : List ℕ). Splits bytes (text z) x.1) (sym t.0) h.0,
-          subst (λ (z : List ℕ). is_filter z ≡ true) (sym t.0) (let good : is_filter x.0 ≡ true = rw (formed_text x.0 h.2, t.1) refl in good)
-        )))
+    then_if (filter_of x.0) _ (λ y. (y ≡ x.0) × (filter_fault x.0 ≡ None)) Q (passed_found x.0 (filter_fault x.0)) (λ y t. (
+      subst (λ (z : List ℕ). Splits bytes (text z) x.1) (sym t.0) h.0,
+      subst (λ (z : List ℕ). is_filter z ≡ true) (sym t.0) (let good : is_filter x.0 ≡ true = rw (formed_text x.0 h.2, t.1) refl in good),
+    )))

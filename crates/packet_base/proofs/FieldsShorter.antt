@@ -1,10 +1,10 @@
 -- What is left behind a field is shorter.
-use Rattle.std.proofs.Common.{◌≡◌, ℕ, ◌+◌, ◌-◌, ◌<◌, ◌≤◌, Bool, true, false, ltb, List, [], ◌∷◌, length, take, drop, Result, Ok, Err, refl, arith}
+use Rattle.std.proofs.Common.{ℕ, ◌+◌, ◌<◌, ◌≤◌, ltb, List, [], ◌∷◌, length, Result, Ok, Err, arith}
 use Rattle.std.specs.Prelude.{IfOk}
 use Rattle.std.proofs.lemmas.Bool.{ltb-false}
 use Rattle.std.proofs.lemmas.List.{length-drop}
 use Rattle.packet_base.specs.Reading.{byte_at, front_at, number_at, text_of, text_at, filter_of, filter_at}
-use Rattle.packet_base.proofs.Steps.{then_if, check_if, cond_if}
+use Rattle.packet_base.proofs.Steps.{then_if, cond_if}
 
 pub byte_shorter : (bytes : List ℕ) → IfOk (byte_at bytes) (λ x. length x.1 < length bytes)
 byte_shorter [] = tt

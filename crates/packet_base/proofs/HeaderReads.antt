@@ -1,15 +1,12 @@
 -- A first byte says what it spells, and what it spells is what it says.
-use Rattle.std.proofs.Common.{
-  ◌≡◌, ℕ, zero, suc, ◌+◌, ◌*◌, ◌/◌, ◌%◌, ◌<◌, Bool, true, false, eqb, ltb, Result, Ok, Err, refl, sym, ap, subst, ◌∙◌, arith,
-  inl, inr
-}
+use Rattle.std.proofs.Common.{◌≡◌, ℕ, zero, suc, ◌+◌, ◌*◌, ◌/◌, ◌%◌, ◌<◌, true, false, eqb, ltb, Ok, refl, ◌∙◌, arith, inl, inr}
 use Rattle.std.specs.Prelude.{IfOk}
-use Rattle.std.proofs.lemmas.Bool.{eqb-true, eqb-false, cases_lt, lt-ltb, le-ltb, ltb-false}
+use Rattle.std.proofs.lemmas.Bool.{eqb-true, cases_lt, lt-ltb, le-ltb, ltb-false}
 use Rattle.packet_base.specs.declared.header.DeliveryFlags.TheVariants as deliveries
 use Rattle.packet_base.specs.declared.header.Header.{Header}
 use Rattle.packet_base.specs.declared.header.Header.TheVariants as headers
 use Rattle.packet_base.specs.Spelling.{bit}
-use Rattle.packet_base.specs.Header.{first_byte, plain_header, publish_header, typed_header, header_of}
+use Rattle.packet_base.specs.Header.{first_byte, plain_header, publish_header, header_of}
 use Rattle.packet_base.proofs.Steps.{cond_if}
 
 -- a type whose flags are always the same
@@ -18,8 +15,8 @@ plain_found : (header : Header) (type wanted first : ℕ) → first_byte header 
 plain_found header type wanted first spelled same =
     let Q : Header → Type 0 = λ h. first_byte h ≡ first in
     cond_if (eqb (first % 16) wanted) _ _ Q
-      (λ t. spelled ∙ (let whole : 16 * type + wanted ≡ first = omega (arith, eqb-true _ _ same, eqb-true _ _ t) in whole))
-      (λ t. tt)
+    (λ t. spelled ∙ (let whole : 16 * type + wanted ≡ first = omega (arith, eqb-true _ _ same, eqb-true _ _ t) in whole))
+    (λ t. tt)
 
 -- the bit of DUP
 dup_bit : (flags : ℕ) → flags < 16 → bit (ltb 7 flags) ≡ flags / 8
@@ -50,9 +47,9 @@ publish_found first type =
     cond_if (eqb (flags / 2 % 4) 2) _ _ Q (λ t. together first 2 _ _ is (eqb-true (flags / 2 % 4) 2 t) dup retain) (λ no2.
     cond_if (eqb (flags / 2 % 4) 1) _ _ Q (λ t. together first 1 _ _ is (eqb-true (flags / 2 % 4) 1 t) dup retain) (λ no1.
     cond_if (ltb 7 flags) _ _ Q (λ _. tt) (λ low.
-      let none : flags / 2 % 4 ≡ 0 = none_left (flags / 2 % 4) (omega arith) no3 no2 no1 in
-      let clear : 0 ≡ flags / 8 = (let small : flags < 8 = omega (arith, ltb-false 7 flags low) in omega (arith, small)) in
-      together first 0 0 (bit (eqb (flags % 2) 1)) is none clear retain))))
+    let none : flags / 2 % 4 ≡ 0 = none_left (flags / 2 % 4) (omega arith) no3 no2 no1 in
+    let clear : 0 ≡ flags / 8 = (let small : flags < 8 = omega (arith, ltb-false 7 flags low) in omega (arith, small)) in
+    together first 0 0 (bit (eqb (flags % 2) 1)) is none clear retain))))
   where
     none_left : (n : ℕ) → n < 4 → eqb n 3 ≡ false → eqb n 2 ≡ false → eqb n 1 ≡ false → n ≡ 0
     none_left zero small a b c = refl

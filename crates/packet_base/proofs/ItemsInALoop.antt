@@ -1,14 +1,10 @@
 -- Items that a loop reads one by one are all the items of the bytes.
-use Rattle.std.proofs.Common.{
-  ◌≡◌, ℕ, zero, suc, ◌+◌, ◌-◌, ◌<◌, ◌≤◌, Bool, true, false, cond, eqb, List, [], ◌∷◌, ◌++◌, length, Result, Ok, Err, refl, sym, ap,
-  subst, ◌∙◌, append_assoc, arith, inl, inr
-}
+use Rattle.std.proofs.Common.{◌≡◌, ℕ, zero, suc, ◌<◌, ◌≤◌, Bool, true, false, cond, eqb, List, [], ◌∷◌, ◌++◌, length, Result, Ok, Err, refl, sym, ap, subst, ◌∙◌, append_assoc, arith, inl, inr}
 use Rattle.std.specs.Prelude.{IfOk, ◌⊎◌}
 use Rattle.std.proofs.lemmas.Bool.{eqb-true}
 use Rattle.std.proofs.lemmas.List.{append-nil}
 use Rattle.std.proofs.lemmas.Result.{IfOk-at_ok}
 use Rattle.std.proofs.Math.Dec.{eqb-suc-zero}
-use Rattle.topics.specs.declared.malformed.MalformedKind.{MalformedKind}
 use Rattle.topics.specs.declared.malformed.MalformedKind.TheVariants as kinds
 use Rattle.packet_base.specs.declared.stop.Stop.{Stop}
 use Rattle.packet_base.specs.declared.stop.Stop.TheVariants as stops
@@ -95,8 +91,8 @@ items_stop {A = A} item front (b ∷ bytes) total stop some stopped so_far =
     elim (stops_cases stop (item (b ∷ bytes)) stopped) [
       | inl memory ↦ subst (λ (s : Stop). StopsBy s total) (sym memory) tt
       | inr e ↦
-        let whole : items_at item (b ∷ bytes) ≡ Err stop = rw (eqb-suc-zero (length bytes), e) refl in
-        stops_at stop total (sym so_far ∙ ap (prefixed front) whole)
+          let whole : items_at item (b ∷ bytes) ≡ Err stop = rw (eqb-suc-zero (length bytes), e) refl in
+          stops_at stop total (sym so_far ∙ ap (prefixed front) whole)
     ]
 
 -- bytes that are not empty

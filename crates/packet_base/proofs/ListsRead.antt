@@ -1,17 +1,11 @@
 -- A list of items that is read stands so in the bytes, and one that is spelled is read.
-use Rattle.std.proofs.Common.{
-  ◌≡◌, ℕ, zero, suc, ◌+◌, ◌-◌, ◌<◌, ◌≤◌, Bool, true, false, cond, eqb, List, [], ◌∷◌, ◌++◌, length, Result, Ok, Err, refl, sym, ap,
-  subst, ◌∙◌, append_assoc, arith
-}
+use Rattle.std.proofs.Common.{◌≡◌, ℕ, zero, suc, ◌<◌, ◌≤◌, true, false, eqb, List, [], ◌∷◌, ◌++◌, length, Ok, refl, ap, ◌∙◌, arith}
 use Rattle.std.specs.Prelude.{IfOk, not}
 use Rattle.std.specs.List.{flat_map, All}
-use Rattle.std.proofs.lemmas.Bool.{eqb-true, eqb-false}
-use Rattle.std.proofs.lemmas.Result.{IfOk-at_ok}
+use Rattle.std.proofs.lemmas.Bool.{eqb-true}
 use Rattle.std.proofs.lemmas.List.{length-append, nil_from_length}
 use Rattle.std.proofs.lemmas.List.Elements.{All-nil, All-cons, All-head, All-tail}
 use Rattle.std.proofs.Math.Dec.{eqb-suc-zero}
-use Rattle.packet_base.specs.declared.stop.Stop.{Stop}
-use Rattle.packet_base.specs.Reading.{◌>>=◌, ◌>>◌, check}
 use Rattle.packet_base.specs.Lists.{ItemAt, items_of, items_at, list_of}
 use Rattle.packet_base.proofs.Steps.{then_if, check_if, cond_if}
 use Rattle.packet_base.proofs.FieldsFound.{IsBytes, Splits}
@@ -31,9 +25,9 @@ items_found {A = A} item spelled Fits is (suc most) bytes few fits =
     let Q : List A → Type 0 = λ xs. (bytes ≡ flat_map spelled xs) × All Fits xs in
     cond_if (eqb (length bytes) 0) _ _ Q (λ none. (nil_from_length bytes (eqb-true _ _ none), All-nil Fits)) (λ _.
     then_if (item bytes) _ (λ x. Splits bytes (spelled x.0) x.1 × Fits x.0) Q (is.found bytes fits) (λ first h.
-      let left : length first.1 ≤ most = omega (arith, few, ap length h.0.parts, length-append (spelled first.0) first.1, is.some first.0) in
-      then_if (items_of item most first.1) _ (λ xs. (first.1 ≡ flat_map spelled xs) × All Fits xs) Q (items_found item spelled Fits is most first.1 left h.0.left) (λ others k.
-        (h.0.parts ∙ ap (λ (x : List ℕ). spelled first.0 ++ x) k.0, All-cons Fits first.0 others h.1 k.1))))
+    let left : length first.1 ≤ most = omega (arith, few, ap length h.0.parts, length-append (spelled first.0) first.1, is.some first.0) in
+    then_if (items_of item most first.1) _ (λ xs. (first.1 ≡ flat_map spelled xs) × All Fits xs) Q (items_found item spelled Fits is most first.1 left h.0.left) (λ others k.
+    (h.0.parts ∙ ap (λ (x : List ℕ). spelled first.0 ++ x) k.0, All-cons Fits first.0 others h.1 k.1))))
 
 -- no item is spelled by nothing
 not_empty : (bytes more : List ℕ) → 0 < length bytes → eqb (length (bytes ++ more)) 0 ≡ false
@@ -61,7 +55,7 @@ pub list_found : {A : Type 0} (item : ItemAt A) (spelled : A → List ℕ) (Fits
 list_found {A = A} item spelled Fits is bytes fits =
     let Q : List A → Type 0 = λ xs. (bytes ≡ flat_map spelled xs) × All Fits xs × (0 < length xs) in
     then_if (items_at item bytes) _ (λ xs. (bytes ≡ flat_map spelled xs) × All Fits xs) Q (items_found item spelled Fits is (length bytes) bytes (omega arith) fits) (λ xs h.
-      check_if (not (eqb (length xs) 0)) _ _ Q (λ t. (h.0, h.1, some_item xs t)))
+    check_if (not (eqb (length xs) 0)) _ _ Q (λ t. (h.0, h.1, some_item xs t)))
   where
     some_item : {A : Type 0} (xs : List A) → not (eqb (length xs) 0) ≡ true → 0 < length xs
     some_item [] t = absurd cc

@@ -1,9 +1,9 @@
 -- Lists that go to the end of a body.
-use Rattle.std.specs.Prelude.{ℕ, zero, suc, ◌==◌, not, if◌then◌else◌, List, [], ◌∷◌, length, Result, Ok, Err}
+use Rattle.std.specs.Prelude.{ℕ, zero, suc, ◌==◌, not, if◌then◌else◌, List, [], ◌∷◌, length, Result, Ok}
 use Rattle.topics.specs.declared.malformed.MalformedKind.TheVariants as kinds
 use Rattle.packet_base.specs.declared.stop.Stop.{Stop}
 use Rattle.packet_base.specs.declared.stop.Stop.TheVariants as stops
-use Rattle.packet_base.specs.Reading.{◌>>=◌, ◌>>◌, check, malformed}
+use Rattle.packet_base.specs.Reading.{◌>>=◌, ◌>>◌, check}
 
 -- how an item is read: its value, and the bytes after it
 abbrev pub ItemAt : Type 0 → Type 0
@@ -15,7 +15,7 @@ items_of item zero bytes = Ok []
 items_of item (suc most) bytes =
     if length bytes == 0 then Ok [] else
     item bytes >>= (λ first.
-      items_of item most first.1 >>= (λ others. Ok (first.0 ∷ others)))
+    items_of item most first.1 >>= (λ others. Ok (first.0 ∷ others)))
 
 -- all the items to the end of the bytes, each of which has a byte at least
 abbrev pub items_at : {A : Type 0} → ItemAt A → List ℕ → Result (List A) Stop

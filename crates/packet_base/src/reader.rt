@@ -2,7 +2,11 @@
 
 ghost use Rattle.std.specs.Prelude.{◌≡◌, ◌<◌, true, IfOk, IsTrue, ◌==◌, nat_eq, length, drop};
 ghost use Rattle.std.specs.List.{starts_with};
-ghost use Rattle.packet_base.specs.Reading.{topic_at, filter_at, topic_of, filter_of, 
+ghost use Rattle.packet_base.specs.Reading.{
+  topic_at,
+  filter_at,
+  topic_of,
+  filter_of,
   byte_at,
   front_at,
   number_at,

@@ -1,4 +1,3 @@
-use Rattle.std.proofs.Common.{List}
 use Rattle.std.proofs.lemmas.Result.{err_from_is_err_and}
 use Rattle.packet_base.specs.Lists.{items_at}
 use Rattle.packet_base.proofs.ItemsInALoop.{some_left, none_left, item_shorter, items_all, items_next, items_stop}

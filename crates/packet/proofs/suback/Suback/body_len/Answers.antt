@@ -1,4 +1,4 @@
-use Rattle.std.proofs.Common.{◌≡◌, length, ap, arith}
+use Rattle.std.proofs.Common.{length, ap, arith}
 use Rattle.packet.proofs.ListsWritten.{length-granted}
 use Rattle.packet.proofs.suback.Suback.body_len.Goals as goal
 
