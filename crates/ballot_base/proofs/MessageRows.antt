@@ -19,17 +19,17 @@ use Rattle.ballot_base.proofs.StepRows.{commit_at-goes, commit_at-stays}
 raised_mark-member : (member held : ℕ) (mark : Mark) → (raised_mark member held mark).member ≡ mark.member
 raised_mark-member member held mark =
     cond_both (mark.member == member) (record mark { held = max mark.held held }) mark
-        (λ (m : Mark). m.member ≡ mark.member) (λ _. refl) (λ _. refl)
+    (λ (m : Mark). m.member ≡ mark.member) (λ _. refl) (λ _. refl)
 
 -- raised marks are those of the same members
 pub message_to_marked-raised : {C : Type 0} (O : Type 0) (id : ℕ) (body : Body C) (member held : ℕ) (marks : List Mark) →
-  message_to_marked O id body (raised member held marks) ≡ message_to_marked O id body marks
+    message_to_marked O id body (raised member held marks) ≡ message_to_marked O id body marks
 message_to_marked-raised O id body member held [] = refl
 message_to_marked-raised {C = C} O id body member held (mark ∷ marks) =
     let e = raised_mark-member member held mark in
     let rest = message_to_marked-raised O id body member held marks in
     ap (λ n. message_to O id body n ∷ message_to_marked O id body (raised member held marks)) e
-        ∙ ap (λ (xs : List (Effect C O)). message_to O id body mark.member ∷ xs) rest
+    ∙ ap (λ (xs : List (Effect C O)). message_to O id body mark.member ∷ xs) rest
 
 -- an outcome with marks raised in it
 abbrev pub marks_raised : {C O : Type 0} → ℕ → ℕ → Outcome C O → Outcome C O
@@ -38,81 +38,81 @@ marks_raised member held o =
 
 -- marks can be raised behind a commit as well as before it
 pub commit_at-raised : {S C O : Type 0} (rules : Rules S C O) (r : ReplicaState C) (member held n : ℕ) →
-  commit_at rules (record r { marks = raised member held r.marks }) n
+    commit_at rules (record r { marks = raised member held r.marks }) n
     ≡ marks_raised member held (commit_at rules r n)
 commit_at-raised {C = C} {O = O} rules r member held n = by_order (cases_lt r.committed n)
   where
     by_order : (r.committed < n) ⊎ (n ≤ r.committed) →
-      commit_at rules (record r { marks = raised member held r.marks }) n
+        commit_at rules (record r { marks = raised member held r.marks }) n
         ≡ marks_raised member held (commit_at rules r n)
     by_order (inl above) =
         commit_at-goes rules (record r { marks = raised member held r.marks }) n above
-            ∙ ap (λ (es : List (Effect C O)).
-                let o : Outcome C O = record {
-                  state = record r { committed = n; marks = raised member held r.marks };
-                  effects = outputs_between rules r.log r.committed n ++ es
-                } in o) (message_to_marked-raised O r.id (Commit r.joined n) member held r.marks)
-            ∙ ap (marks_raised member held) (sym (commit_at-goes rules r n above))
+        ∙ ap (λ (es : List (Effect C O)).
+        let o : Outcome C O = record {
+          state = record r { committed = n; marks = raised member held r.marks };
+          effects = outputs_between rules r.log r.committed n ++ es;
+        } in o) (message_to_marked-raised O r.id (Commit r.joined n) member held r.marks)
+        ∙ ap (marks_raised member held) (sym (commit_at-goes rules r n above))
     by_order (inr below) =
         commit_at-stays rules (record r { marks = raised member held r.marks }) n below
-            ∙ ap (marks_raised member held) (sym (commit_at-stays rules r n below))
+        ∙ ap (marks_raised member held) (sym (commit_at-stays rules r n below))
 
 -- Append at a replica that does not follow the ballot, or behind a gap
 pub on_append-elsewhere : {C : Type 0} (O : Type 0) (r : ReplicaState C) (from ballot place : ℕ) (command : C) →
-  follows r ballot ≡ false → on_append O r from ballot place command ≡ nothing_done O r
+    follows r ballot ≡ false → on_append O r from ballot place command ≡ nothing_done O r
 unfolding on_append
 on_append-elsewhere O r from ballot place command no_follower = rw no_follower refl
 
 pub on_append-gap : {C : Type 0} (O : Type 0) (r : ReplicaState C) (from ballot place : ℕ) (command : C) →
-  follows r ballot ≡ true → length r.log < place → on_append O r from ballot place command ≡ nothing_done O r
+    follows r ballot ≡ true → length r.log < place → on_append O r from ballot place command ≡ nothing_done O r
 unfolding on_append
 on_append-gap O r from ballot place command follower gap = rw (follower, lt-leb place (length r.log) gap) refl
 
 -- Append that is answered
 pub on_append-takes : {C : Type 0} (O : Type 0) (r : ReplicaState C) (from ballot place : ℕ) (command : C) →
-  follows r ballot ≡ true → place ≤ length r.log →
-  on_append O r from ballot place command ≡ record {
-    state = record r { log = extended place command r.log };
-    effects = message_to O r.id (Held ballot (length (extended place command r.log))) from ∷ []
-  }
+    follows r ballot ≡ true → place ≤ length r.log →
+    on_append O r from ballot place command ≡ record {
+      state = record r { log = extended place command r.log };
+      effects = message_to O r.id (Held ballot (length (extended place command r.log))) from ∷ [];
+    }
 unfolding on_append
 on_append-takes O r from ballot place command follower within =
     rw (follower, le-leb place (length r.log) within) refl
 
 -- Held at a replica that does not lead the ballot, and at its primary
 pub on_held-elsewhere : {S C O : Type 0} (rules : Rules S C O) (r : ReplicaState C) (from ballot held : ℕ) →
-  leads r ballot ≡ false → on_held rules r from ballot held ≡ nothing_done O r
+    leads r ballot ≡ false → on_held rules r from ballot held ≡ nothing_done O r
 unfolding on_held
 on_held-elsewhere rules r from ballot held no_leader = rw no_leader refl
 
 pub on_held-raises : {S C O : Type 0} (rules : Rules S C O) (r : ReplicaState C) (from ballot held : ℕ) →
-  leads r ballot ≡ true →
-  on_held rules r from ballot held
+    leads r ballot ≡ true →
+    on_held rules r from ballot held
     ≡ commit_at rules (record r { marks = raised from held r.marks })
-      (least (length r.log) (raised from held r.marks))
+    (least (length r.log) (raised from held r.marks))
 unfolding on_held commit
 on_held-raises rules r from ballot held leader = rw leader refl
 
 -- Commit at a replica that does not follow the ballot, past its log, and of what it has applied
 pub on_commit-elsewhere : {C : Type 0} (O : Type 0) (r : ReplicaState C) (ballot held : ℕ) →
-  follows r ballot ≡ false → on_commit O r ballot held ≡ nothing_done O r
+    follows r ballot ≡ false → on_commit O r ballot held ≡ nothing_done O r
 unfolding on_commit
 on_commit-elsewhere O r ballot held no_follower = rw no_follower refl
 
 pub on_commit-past : {C : Type 0} (O : Type 0) (r : ReplicaState C) (ballot held : ℕ) →
-  follows r ballot ≡ true → length r.log < held → on_commit O r ballot held ≡ nothing_done O r
+    follows r ballot ≡ true → length r.log < held → on_commit O r ballot held ≡ nothing_done O r
 unfolding on_commit
 on_commit-past O r ballot held follower past = rw (follower, lt-leb held (length r.log) past) refl
 
 pub on_commit-takes : {C : Type 0} (O : Type 0) (r : ReplicaState C) (ballot held : ℕ) →
-  follows r ballot ≡ true → held ≤ length r.log →
-  on_commit O r ballot held ≡ record { state = record r { committed = max r.committed held }; effects = [] }
+    follows r ballot ≡ true → held ≤ length r.log →
+    on_commit O r ballot held ≡ record { state = record r { committed = max r.committed held }; effects = [] }
 unfolding on_commit
 on_commit-takes O r ballot held follower within = rw (follower, le-leb held (length r.log) within) refl
 
 -- a tick of an active primary, by its role
 pub ticked-active : {C : Type 0} (O : Type 0) (r : ReplicaState C) (role : Role) →
-  is_active role ≡ true → ticked O r role ≡ on_tick_active O r
+    is_active role ≡ true → ticked O r role ≡ on_tick_active O r
 ticked-active O r Backup active = cc
 ticked-active O r Fetching active = cc
 ticked-active O r Installing active = cc
@@ -120,10 +120,10 @@ ticked-active O r Active active = refl
 
 -- what such a tick gives
 pub on_tick_active-is : {C : Type 0} (O : Type 0) (r : ReplicaState C) →
-  on_tick_active O r ≡ record {
-    state = r;
-    effects = appends_behind O r.id r.joined r.log r.marks
-        ++ message_to_marked O r.id (Commit r.joined r.committed) r.marks
-  }
+    on_tick_active O r ≡ record {
+      state = r;
+      effects = appends_behind O r.id r.joined r.log r.marks
+          ++ message_to_marked O r.id (Commit r.joined r.committed) r.marks;
+    }
 unfolding on_tick_active
 on_tick_active-is O r = refl
