@@ -1,22 +1,23 @@
-use Rattle.std.proofs.Common.{◌∷◌, [], ◌%◌, ◌+◌, ◌∙◌, refl, arith}
+use Rattle.std.proofs.Common.{◌≤◌, ◌∷◌, [], ◌%◌, ◌+◌, ◌∙◌, refl, arith}
 use Rattle.packet_base.proofs.Lengths.{bytes_step, length_longer, pushed}
 use Rattle.packet_base.proofs.remaining_length.put_length.Goals as goal
 
 pub loop-rest-preserved : goal.loop-rest-preserved
 loop-rest-preserved c =
     let n = c.loop-rest.rest in
+    let high : 128 ≤ n = omega (arith, c.loop-rest-test.true) in
     record {
       small = omega (arith, c.loop-rest.invariant.small);
       size = omega (
         arith,
-        bytes_step n c.loop-rest-test.true c.loop-rest.invariant.small,
+        bytes_step n high c.loop-rest.invariant.small,
         c.push_reserved.ensures.len,
         c.loop-rest.invariant.size,
       );
       capacity = omega (arith, c.push_reserved.ensures.capacity, c.loop-rest.invariant.capacity);
       completed = λ tail spelled.
           let all = c.loop-rest.invariant.completed
-          ((n % 128 + 128) ∷ tail) (length_longer n tail c.loop-rest-test.true spelled) in
+          ((n % 128 + 128) ∷ tail) (length_longer n tail high spelled) in
           (all.0, all.1, pushed _ _ tail _ c.push_reserved.ensures.items ∙ all.2);
     }
 
