@@ -1,0 +1,11 @@
+mod Asked
+mod Changes
+mod Closes
+mod Fronts
+mod HandsOver
+mod Opens
+mod Places
+mod Proposes
+mod Settles
+mod Spelled
+mod TurnsJoin

@@ -1,0 +1,129 @@
+// What an item does to a node.
+
+ghost use Rattle.std.specs.Prelude.{◌≡◌};
+ghost use Rattle.node.specs.Connections.{holding};
+ghost use Rattle.node.specs.Inside.{Turns};
+ghost use Rattle.node.specs.Step.{asks, begins, changes, ends, goes_on, quiet, takes_in};
+
+use crate::node_core::front::Front;
+use crate::node_core::item::{Item, Port};
+use crate::node_core::piece::Piece;
+use crate::node_core::serving::Serving;
+use ballot::Effect;
+use broker_base::{Command, ConnectionId, Output};
+use packet::Connect;
+
+impl Serving {
+    /// Takes an item in. Whether memory was wanting is told by `is_wanting`.
+    pub fn take_in(&mut self, item: Item, effects: &mut Vec<Effect<Command, Output>>)
+        ensures { Turns self.old self.new effects.old.items effects.new.items
+            (takes_in item self.old.core) }
+    {
+        match item {
+            Item::Opened(port, _) => self.open(port),
+            Item::Bytes(port, piece, _) => {
+                self.hold(port, piece, effects);
+                self.begin(port, effects);
+                self.go_on(port, effects);
+            }
+            Item::Ended(port) => self.end(port, effects),
+        }
+    }
+
+    // Holds bytes that came on a port. A connection that finds no memory for them is lost.
+    fn hold(&mut self, port: Port, piece: Piece, effects: &mut Vec<Effect<Command, Output>>)
+        ensures { Turns self.old self.new effects.old.items effects.new.items
+            (quiet (changes port (holding piece) self.old.core)) }
+    {
+        if !self.add(port, piece) {
+            self.wanting = true;
+            self.end(port, effects);
+        }
+    }
+
+    // Reads the first packet of the connection of a port.
+    fn begin(&mut self, port: Port, effects: &mut Vec<Effect<Command, Output>>)
+        ensures { Turns self.old self.new effects.old.items effects.new.items
+            (begins port self.old.core) }
+    {
+        let Some(index) = self.place_at(port) else {
+            return;
+        };
+        let connection = &self.connections[index];
+        if !connection.is_first() {
+            return;
+        }
+        let name = connection.name;
+        match Front::of(self.alloc, connection.unread.as_slice()) {
+            Front::More => {}
+            Front::Connect(connect, count) => {
+                self.mark(port, count);
+                self.connect(port, name, connect, effects);
+            }
+            Front::Refused(code) => self.refuse(port, code),
+            Front::Fault => self.close(port),
+            Front::Wanting => {
+                self.wanting = true;
+                self.close(port);
+            }
+        }
+    }
+
+    // Proposes a CONNECT. A refused proposal closes the connection.
+    fn connect(
+        &mut self,
+        port: Port,
+        name: ConnectionId,
+        connect: Connect,
+        effects: &mut Vec<Effect<Command, Output>>,
+    )
+        ensures { Turns self.old self.new effects.old.items effects.new.items
+            (asks port name connect self.old.core) }
+    {
+        let command = Command::Connect(name, connect.client, connect.clean);
+        if !self.propose(command, effects) {
+            self.close(port);
+        }
+    }
+
+    // Reads what came behind a CONNECT that was proposed.
+    fn go_on(&mut self, port: Port, effects: &mut Vec<Effect<Command, Output>>)
+        ensures { Turns self.old self.new effects.old.items effects.new.items
+            (goes_on port self.old.core) }
+    {
+        let Some(index) = self.place_at(port) else {
+            return;
+        };
+        let connection = &self.connections[index];
+        if !connection.is_proposed() {
+            return;
+        }
+        let front = Front::of(self.alloc, connection.unread.as_slice());
+        if front.is_more() {
+            return;
+        }
+        if front.is_wanting() {
+            self.wanting = true;
+            self.end(port, effects);
+            return;
+        }
+        self.end(port, effects);
+    }
+
+    // Closes the connection of a port as lost.
+    fn end(&mut self, port: Port, effects: &mut Vec<Effect<Command, Output>>)
+        ensures { Turns self.old self.new effects.old.items effects.new.items
+            (ends port self.old.core) }
+    {
+        let Some(index) = self.place_at(port) else {
+            return;
+        };
+        let connection = &self.connections[index];
+        let proposed = connection.is_proposed();
+        let name = connection.name;
+        self.close(port);
+        if proposed {
+            self.propose(Command::Lost(name), effects);
+        }
+    }
+}
