@@ -58,8 +58,8 @@ fault_closes : (port : Port) (c : Connection) (core : CoreState) (v : Result (Pa
 fault_closes port c core (Err stops.More) fault = absurd fault
 fault_closes port c core (Err (stops.Malformed kind)) fault = refl
 fault_closes port c core (Err (stops.Refused code)) fault = absurd fault
-fault_closes port c core (Ok (packets.Connack answer, rest)) fault = refl
 fault_closes port c core (Ok (packets.Connect connect, rest)) fault = absurd fault
+fault_closes port c core (Ok _) fault = refl
 
 pub first_fault : (port : Port) (c : Connection) (a b : Running) (out : List (Effect Command Output)) →
     open_at port a.core ≡ Some c → is_first c.stage ≡ true → IsFront c.unread fronts.Fault →
@@ -140,8 +140,8 @@ fault_ends : (port : Port) (core : CoreState) (v : Result (Packet × List ℕ) S
 fault_ends port core (Err stops.More) fault = absurd fault
 fault_ends port core (Err (stops.Malformed kind)) fault = refl
 fault_ends port core (Err (stops.Refused code)) fault = absurd fault
-fault_ends port core (Ok (packets.Connack answer, rest)) fault = refl
 fault_ends port core (Ok (packets.Connect connect, rest)) fault = absurd fault
+fault_ends port core (Ok _) fault = refl
 
 front_ends : (port : Port) (core : CoreState) (bytes : List ℕ) (front : Front) → IsFront bytes front →
     is_more front ≡ false → is_wanting front ≡ false → ends port core ≡ reads_on port core (verdict bytes)

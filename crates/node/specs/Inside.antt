@@ -45,8 +45,8 @@ abbrev pub IsFault : Result (Packet × List ℕ) Stop → Type 0
 IsFault (Err stops.More) = ⊥
 IsFault (Err (stops.Malformed kind)) = Unit {0}
 IsFault (Err (stops.Refused code)) = ⊥
-IsFault (Ok (packets.Connack answer, rest)) = Unit {0}
 IsFault (Ok (packets.Connect connect, rest)) = ⊥
+IsFault (Ok _) = Unit {0}
 
 -- what these bytes begin with, unless memory was wanting
 abbrev pub IsFront : List ℕ → Front → Type 0

@@ -1,10 +1,18 @@
 -- The bytes of the packets that a node puts out.
-use Rattle.std.specs.Prelude.{ℕ, List, ◌∷◌, length}
+use Rattle.std.specs.Prelude.{ℕ, List, [], ◌∷◌, length}
 use Rattle.packet_base.specs.Header.{first_byte}
+use Rattle.packet_base.specs.declared.header.Header.TheVariants as headers
+use Rattle.packet.specs.Connack.{connack}
 use Rattle.packet.specs.declared.packet.Packet.{Packet}
-use Rattle.packet.specs.Spelling.{header, body}
+use Rattle.packet.specs.declared.packet.Packet.TheVariants as packets
 
--- First byte, Remaining Length, body (MQTT 2). One byte holds the length: no body that is put out so
--- far has more than 127 bytes.
+-- First byte, Remaining Length, body (MQTT 2). So far the broker answers with CONNACK alone (MQTT 3.2),
+-- whose length is one byte; no other packet is put out.
 abbrev pub spelling : Packet → List ℕ
-spelling p = first_byte (header p) ∷ length (body p) ∷ body p
+spelling (packets.Connack answer) = first_byte headers.Connack ∷ length (connack answer) ∷ connack answer
+spelling _ = []
+
+-- the packet is one that is put out
+abbrev pub IsAnswer : Packet → Type 0
+IsAnswer (packets.Connack answer) = Unit {0}
+IsAnswer _ = ⊥

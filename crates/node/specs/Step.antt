@@ -114,9 +114,9 @@ abbrev pub reads_first : Port → Connection → CoreState → Result (Packet ×
 reads_first port c core (Err stops.More) = quiet core
 reads_first port c core (Err (stops.Malformed kind)) = quiet (changes port closed core)
 reads_first port c core (Err (stops.Refused code)) = quiet (changes port (refused code) core)
-reads_first port c core (Ok (packets.Connack answer, rest)) = quiet (changes port closed core)
 reads_first port c core (Ok (packets.Connect connect, rest)) =
     asks port c.name connect (changes port (asked rest) core)
+reads_first port c core (Ok _) = quiet (changes port closed core)
 
 abbrev pub begins_with : Port → CoreState → Option Connection → Turn
 begins_with port core None = quiet core

@@ -31,7 +31,7 @@ impl Front {
             Ok(Step::More) => Front::More,
             Ok(Step::Whole(packet, count)) => match packet {
                 Packet::Connect(connect) => Front::Connect(connect, count),
-                Packet::Connack(_) => Front::Fault,
+                _ => Front::Fault,
             },
             Err(DecodeFault::Refused(code)) => Front::Refused(code),
             Err(DecodeFault::Malformed(kind)) => {

@@ -1,7 +1,7 @@
 // Bytes in their order.
 
 ghost use Rattle.std.specs.Prelude.{◌≡◌, ◌==◌, ◌++◌, [], length, drop, OnOk, OnErr, IfOk};
-ghost use Rattle.node.specs.Spelling.{spelling};
+ghost use Rattle.node.specs.Spelling.{spelling, IsAnswer};
 
 use machine::Memory;
 use packet::{Packet, encode, one_spelling};
@@ -68,8 +68,21 @@ impl Piece {
         Ok(())
     }
 
-    /// Adds the bytes of a packet at the end. Where memory is wanting nothing changes.
+    /// Adds the bytes of a packet at the end; so far only those of a CONNACK, the one packet that
+    /// the broker gives. Where memory is wanting nothing changes.
     pub(crate) fn put(&mut self, packet: &Packet) -> Result<(), Memory>
+        ensures ok { OnOk result (self.new ≡ self.old ++ spelling packet.now) }
+        ensures err { OnErr result (self.new ≡ self.old) }
+    {
+        match packet {
+            Packet::Connack(_) => self.put_answer(packet),
+            _ => Ok(()),
+        }
+    }
+
+    // Adds the bytes of a CONNACK at the end.
+    fn put_answer(&mut self, packet: &Packet) -> Result<(), Memory>
+        requires { IsAnswer packet.now }
         ensures ok { OnOk result (self.new ≡ self.old ++ spelling packet.now) }
         ensures err { OnErr result (self.new ≡ self.old) }
     {
