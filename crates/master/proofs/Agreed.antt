@@ -1,27 +1,22 @@
 -- Agreed.antt: in every world that a group comes to, its nodes agree.
-use Rattle.std.proofs.Common.{◌≡◌, ℕ, zero, suc, ◌+◌, ◌<◌, ◌≤◌, ◌⊎◌, inl, inr, Bool, true, false, cond, List, [], ◌∷◌, ◌++◌, length, map, filter, take, not, Some, None, Option, refl, ap, sym, ◌∙◌, subst, arith}
-use Rattle.std.specs.Prelude.{slice_get, ◌==◌}
-use Rattle.std.specs.List.{list_any}
-use Rattle.std.proofs.lemmas.Bool.{cases_eq, cases_Bool, eq-eqb, ne_eqb}
+use Rattle.std.proofs.Common.{◌≡◌, ℕ, zero, suc, ◌+◌, ◌≤◌, inr, List, [], ◌∷◌, length, take, Some, None, Option, refl, ap, sym, ◌∙◌, subst, arith}
+use Rattle.std.specs.Prelude.{slice_get}
 use Rattle.std.proofs.lemmas.List.{length-take-le, take-take}
 use Rattle.machine.specs.Machine.{Rules}
 use Rattle.ballot_base.specs.declared.config.Config.{Config}
 use Rattle.ballot_base.specs.declared.message.Message.{Message}
 use Rattle.ballot_base.specs.declared.message.Body.TheVariants.{Held}
-use Rattle.ballot_base.specs.declared.status.Mark.{Mark}
-use Rattle.ballot_base.specs.Replica.{ReplicaState, is_active, is_backup, opening, opening_member, others, marks_at}
-use Rattle.ballot_base.specs.Losses.{Loses, halted}
+use Rattle.ballot_base.specs.Replica.{ReplicaState}
+use Rattle.ballot_base.specs.Losses.{halted}
 use Rattle.ballot_base.specs.Sending.{nothing_done}
-use Rattle.ballot_base.specs.Protocol.{step_in_one_ballot}
 use Rattle.master.specs.declared.event.Event.{Event}
-use Rattle.master.specs.Group.{World, Happens, moved}
+use Rattle.master.specs.Group.{World, Happens}
 use Rattle.master.specs.Group.Happens.{nothing_happens, proposed_to, delivered_to, ticked_at, crashed}
-use Rattle.master.specs.Agreement.{In, IsPrefixOf, log_of, outputs_of, IsOpening, Past, HasTold, IsChosen, IsAgreed, Agreement}
-use Rattle.master.specs.Agreement.In.{here, there}
-use Rattle.master.specs.Agreement.Past.{began, went_on}
+use Rattle.master.specs.Agreement.{In, IsPrefixOf, log_of, outputs_of, HasTold, IsChosen, IsAgreed, Agreement}
+use Rattle.master.specs.Agreement.In.{here}
 use Rattle.master.specs.Agreement.HasTold.{as_primary, by_held}
-use Rattle.master.proofs.Lists.{prefix_same, prefix_then, prefix_take, prefix_length, prefix_either, take_prefix, in_at}
-use Rattle.master.proofs.Sound.{log_at, committed_of, Told, AllTold, Says, IsSoundNode, IsSound}
+use Rattle.master.proofs.Lists.{prefix_take, prefix_either, take_prefix, in_at}
+use Rattle.master.proofs.Sound.{log_at, committed_of, Told, AllTold, IsSound}
 use Rattle.master.proofs.Sound.Told.{told_nothing, told_as_primary, told_by_held}
 use Rattle.master.proofs.Rows.{owes_nothing, lossy_sound}
 use Rattle.master.proofs.Events.{owes_proposed, owes_received, owes_ticked}

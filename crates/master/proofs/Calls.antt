@@ -1,5 +1,5 @@
 -- Calls.antt: a call of one replica is what happens to the group.
-use Rattle.std.proofs.Common.{◌≡◌, ℕ, zero, suc, ◌+◌, ◌<◌, ◌⊎◌, inl, inr, Bool, true, false, List, [], ◌∷◌, ◌++◌, length, map, set, get_or, Some, refl, ap, sym, ◌∙◌, subst, arith}
+use Rattle.std.proofs.Common.{◌≡◌, ℕ, zero, suc, ◌+◌, ◌<◌, inl, inr, false, List, [], ◌∷◌, ◌++◌, length, map, set, get_or, Some, refl, ap, sym, ◌∙◌, subst, arith}
 use Rattle.std.specs.Prelude.{slice_get}
 use Rattle.std.proofs.lemmas.List.{map-set, append-nil, get_or_default}
 use Rattle.machine.specs.Machine.{Rules}
@@ -12,10 +12,9 @@ use Rattle.ballot_base.specs.Sending.{Outcome}
 use Rattle.ballot_base.specs.Protocol.{step_in_one_ballot}
 use Rattle.ballot_base.specs.Protocol.Input.{Receives, Proposes, Ticks}
 use Rattle.ballot_base.proofs.ThinnedEffects.{Thinned-same}
-use Rattle.master.specs.declared.event.Event.{Event}
 use Rattle.master.specs.declared.event.Event.TheVariants.{Propose, Deliver, Tick, Crash}
 use Rattle.master.specs.Group.{World, Happens, messages, outputs, moved}
-use Rattle.master.specs.Group.Happens.{nothing_happens, proposed_to, delivered_to, ticked_at, crashed}
+use Rattle.master.specs.Group.Happens.{proposed_to, delivered_to, ticked_at, crashed}
 use Rattle.master.proofs.Lists.{messages-append, outputs-append}
 
 -- what a group with these replicas and effects is seen as

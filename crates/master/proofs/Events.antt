@@ -1,7 +1,6 @@
 -- Events.antt: each event keeps a world sound.
-use Rattle.std.proofs.Common.{◌≡◌, ℕ, zero, suc, ◌+◌, ◌<◌, ◌≤◌, ◌⊎◌, inl, inr, Bool, true, false, cond, min, max, List, [], ◌∷◌, ◌++◌, length, map, take, drop, Some, None, Option, refl, ap, sym, ◌∙◌, subst, arith}
+use Rattle.std.proofs.Common.{◌≡◌, ℕ, ◌+◌, ◌<◌, ◌≤◌, ◌⊎◌, inl, inr, true, false, cond, max, List, [], ◌∷◌, ◌++◌, length, Some, None, Option, refl, ap, sym, ◌∙◌, subst, arith}
 use Rattle.std.specs.Prelude.{slice_get, ◌==◌, ◌&&◌}
-use Rattle.std.specs.List.{flat_map}
 use Rattle.std.proofs.lemmas.Bool.{cases_eq, cases_lt, cases_Bool, eq-eqb, ne_eqb, and_parts}
 use Rattle.std.proofs.lemmas.List.{append-nil, take-append-le, length-append}
 use Rattle.machine.specs.Machine.{Rules}
@@ -9,24 +8,21 @@ use Rattle.ballot_base.specs.declared.config.Config.{Config}
 use Rattle.ballot_base.specs.declared.message.Message.{Message}
 use Rattle.ballot_base.specs.declared.message.Body.{Body}
 use Rattle.ballot_base.specs.declared.message.Body.TheVariants.{NewBallot, Join, State, Install, Installed, Activate, Activated, Superseded, Append, Held, Commit}
-use Rattle.ballot_base.specs.declared.message.Effect.{Effect}
 use Rattle.ballot_base.specs.declared.status.Mark.{Mark}
-use Rattle.ballot_base.specs.declared.status.Role.{Role}
-use Rattle.ballot_base.specs.declared.status.Role.TheVariants.{Backup, Fetching, Installing, Active}
 use Rattle.ballot_base.specs.Replica.{ReplicaState, is_active, is_backup}
 use Rattle.ballot_base.specs.Sending.{Outcome, nothing_done, message_to_marked, sent_first}
-use Rattle.ballot_base.specs.Serving.{least, commit_at, added, proposed, most_places, extended, follows, leads, raised, raised_mark, on_append, on_held, on_commit, append_at, appends_behind, on_tick_active}
-use Rattle.ballot_base.specs.Protocol.{Input, step_in_one_ballot, ticked}
-use Rattle.ballot_base.specs.Protocol.Input.{Receives, Proposes, Ticks}
+use Rattle.ballot_base.specs.Serving.{least, commit_at, added, proposed, most_places, extended, follows, leads, raised, raised_mark, on_append, on_held, on_commit, append_at, appends_behind}
+use Rattle.ballot_base.specs.Protocol.{step_in_one_ballot, ticked}
+use Rattle.ballot_base.specs.Protocol.Input.{Receives, Ticks}
 use Rattle.ballot_base.proofs.StepRows.{commit_at-goes, commit_at-stays, added-is, proposed-adds, proposed-not_active, proposed-full}
 use Rattle.ballot_base.proofs.MessageRows.{raised_mark-member, on_append-elsewhere, on_append-gap, on_append-takes, on_held-elsewhere, on_held-raises, on_commit-elsewhere, on_commit-past, on_commit-takes, ticked-active, on_tick_active-is}
-use Rattle.master.specs.Group.{World, messages, outputs, moved}
-use Rattle.master.specs.Agreement.{In, IsPrefixOf, log_of, outputs_of}
+use Rattle.master.specs.Group.{World, messages, outputs}
+use Rattle.master.specs.Agreement.{In, IsPrefixOf, outputs_of}
 use Rattle.master.specs.Agreement.In.{here, there}
-use Rattle.master.proofs.Lists.{prefix_same, prefix_then, prefix_push, prefix_get, prefix_next, prefix_length, get_pushed, in_append, messages-append, outputs-append, outputs_of_messages, said_to_marked}
-use Rattle.master.proofs.Sound.{log_at, committed_of, Told, AllTold, Says, IsSoundNode, IsSound, Extends, LeftIs, told_kept, told_less, all_told_kept, node_kept}
-use Rattle.master.proofs.Sound.Told.{told_nothing, told_as_primary, told_by_held}
-use Rattle.master.proofs.Rows.{Fits, Owes, owes_nothing, owes_commit, left_of_primary}
+use Rattle.master.proofs.Lists.{prefix_same, prefix_then, prefix_push, prefix_next, prefix_length, get_pushed, in_append, messages-append, outputs-append, outputs_of_messages, said_to_marked}
+use Rattle.master.proofs.Sound.{log_at, Told, AllTold, Says, IsSoundNode, IsSound, Extends, told_less, all_told_kept, node_kept}
+use Rattle.master.proofs.Sound.Told.{told_by_held}
+use Rattle.master.proofs.Rows.{Owes, owes_nothing, owes_commit, left_of_primary}
 
 -- the log of the primary, at its own place
 log_here : {C O : Type 0} (v : World C O) (n p : ℕ) (log : List C) → n ≡ p → log_at v n ≡ log → log_at v p ≡ log

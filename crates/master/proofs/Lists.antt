@@ -1,5 +1,5 @@
 -- Lists.antt: beginnings of lists, what is in a list, and the messages and outputs among effects.
-use Rattle.std.proofs.Common.{◌≡◌, ℕ, zero, suc, ◌+◌, ◌<◌, ◌≤◌, ◌⊎◌, inl, inr, List, [], ◌∷◌, ◌++◌, length, map, set, take, drop, Some, None, Option, refl, ap, sym, ◌∙◌, subst, append_assoc, arith}
+use Rattle.std.proofs.Common.{◌≡◌, ℕ, zero, suc, ◌≤◌, ◌⊎◌, inl, inr, List, [], ◌∷◌, ◌++◌, length, set, take, Some, refl, ap, sym, ◌∙◌, subst, append_assoc, arith}
 use Rattle.std.specs.Prelude.{slice_get}
 use Rattle.std.proofs.lemmas.List.{append-nil, take-append-le, length-append}
 use Rattle.ballot_base.specs.declared.message.Message.{Message}
@@ -9,7 +9,7 @@ use Rattle.ballot_base.specs.declared.message.Effect.TheVariants.{To, Out}
 use Rattle.ballot_base.specs.declared.status.Mark.{Mark}
 use Rattle.ballot_base.specs.Losses.{Thinned}
 use Rattle.ballot_base.specs.Losses.Thinned.{none, keeps, loses}
-use Rattle.ballot_base.specs.Sending.{message_to, message_to_marked}
+use Rattle.ballot_base.specs.Sending.{message_to_marked}
 use Rattle.master.specs.Group.{messages, outputs}
 use Rattle.master.specs.Agreement.{In, IsPrefixOf}
 use Rattle.master.specs.Agreement.In.{here, there}

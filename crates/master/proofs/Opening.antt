@@ -1,5 +1,5 @@
 -- Opening.antt: a group opens soundly, so its nodes agree after any events; and what is agreed only grows.
-use Rattle.std.proofs.Common.{◌≡◌, ℕ, zero, suc, ◌+◌, ◌≤◌, ◌⊎◌, inl, inr, Bool, true, false, cond, List, [], ◌∷◌, ◌++◌, length, map, filter, take, not, Some, None, Option, refl, ap, sym, ◌∙◌, subst, arith}
+use Rattle.std.proofs.Common.{◌≡◌, ℕ, ◌+◌, ◌≤◌, ◌⊎◌, inl, inr, Bool, true, false, cond, List, [], ◌∷◌, length, take, not, Some, None, Option, refl, ap, sym, ◌∙◌, subst, arith}
 use Rattle.std.specs.Prelude.{slice_get, ◌==◌}
 use Rattle.std.specs.List.{list_any}
 use Rattle.std.proofs.lemmas.Bool.{cases_eq, eq-eqb, ne_eqb}
@@ -7,13 +7,13 @@ use Rattle.machine.specs.Machine.{Rules}
 use Rattle.ballot_base.specs.declared.config.Config.{Config}
 use Rattle.ballot_base.specs.declared.status.Mark.{Mark}
 use Rattle.ballot_base.specs.declared.status.Role.TheVariants.{Active}
-use Rattle.ballot_base.specs.Replica.{ReplicaState, is_active, is_backup, opening, opening_member, others, marks_at}
-use Rattle.master.specs.Group.{World, Happens}
+use Rattle.ballot_base.specs.Replica.{ReplicaState, opening, opening_member, others, marks_at}
+use Rattle.master.specs.Group.{World}
 use Rattle.master.specs.Agreement.{In, IsPrefixOf, log_of, outputs_of, IsOpening, Past, HasTold, IsChosen, IsAgreed, Agreement}
 use Rattle.master.specs.Agreement.In.{here, there}
 use Rattle.master.specs.Agreement.Past.{began, went_on}
 use Rattle.master.specs.Agreement.HasTold.{as_primary, by_held}
-use Rattle.master.proofs.Sound.{log_at, committed_of, Told, AllTold, IsSoundNode, IsSound}
+use Rattle.master.proofs.Sound.{log_at, committed_of, AllTold, IsSoundNode, IsSound}
 use Rattle.master.proofs.Sound.Told.{told_nothing}
 use Rattle.master.proofs.Agreed.{event_sound, sound_agreement}
 

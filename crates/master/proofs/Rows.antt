@@ -1,29 +1,27 @@
 -- Rows.antt: each row of the protocol keeps a world sound.
-use Rattle.std.proofs.Common.{◌≡◌, ℕ, zero, suc, ◌+◌, ◌<◌, ◌≤◌, ◌⊎◌, inl, inr, Bool, true, false, min, max, List, [], ◌∷◌, ◌++◌, length, map, set, take, drop, Some, None, Option, refl, ap, sym, ◌∙◌, subst, append_assoc, arith}
-use Rattle.std.specs.Prelude.{slice_get, ◌==◌}
-use Rattle.std.proofs.lemmas.Bool.{cases_eq, cases_lt, cases_Bool, eq-eqb, ne_eqb}
-use Rattle.std.proofs.lemmas.List.{append-nil, take-append-le, take-take, take-append-drop, length-take-le, length-append}
-use Rattle.machine.specs.Machine.{Rules, replay, replay_from}
+use Rattle.std.proofs.Common.{◌≡◌, ℕ, ◌+◌, ◌<◌, ◌≤◌, ◌⊎◌, inl, inr, true, min, List, [], ◌∷◌, ◌++◌, length, map, set, take, drop, Some, Option, refl, ap, sym, ◌∙◌, subst, arith}
+use Rattle.std.specs.Prelude.{slice_get}
+use Rattle.std.proofs.lemmas.Bool.{cases_eq, cases_lt}
+use Rattle.std.proofs.lemmas.List.{append-nil, take-take, take-append-drop, length-take-le}
+use Rattle.machine.specs.Machine.{Rules, replay}
 use Rattle.ballot_base.specs.declared.config.Config.{Config}
 use Rattle.ballot_base.specs.declared.message.Message.{Message}
-use Rattle.ballot_base.specs.declared.message.Body.{Body}
-use Rattle.ballot_base.specs.declared.message.Body.TheVariants.{NewBallot, Join, State, Install, Installed, Activate, Activated, Superseded, Append, Held, Commit}
+use Rattle.ballot_base.specs.declared.message.Body.TheVariants.{Commit}
 use Rattle.ballot_base.specs.declared.message.Effect.{Effect}
-use Rattle.ballot_base.specs.declared.message.Effect.TheVariants.{To, Out}
+use Rattle.ballot_base.specs.declared.message.Effect.TheVariants.{Out}
 use Rattle.ballot_base.specs.declared.status.Mark.{Mark}
-use Rattle.ballot_base.specs.Replica.{ReplicaState, is_active, is_backup}
-use Rattle.ballot_base.specs.Losses.{Thinned, Loses, halted}
+use Rattle.ballot_base.specs.Replica.{ReplicaState, is_active}
+use Rattle.ballot_base.specs.Losses.{Loses, halted}
 use Rattle.ballot_base.specs.Sending.{Outcome, nothing_done, message_to_marked}
-use Rattle.ballot_base.specs.Serving.{outputs_from, outputs_between, least, commit_at, commit, added, proposed, most_places, extended, follows, on_append}
+use Rattle.ballot_base.specs.Serving.{outputs_from, outputs_between, least, commit_at}
 use Rattle.ballot_base.proofs.AppliesInOrder.{outputs_from-append}
-use Rattle.ballot_base.proofs.StepRows.{commit_at-stays, commit_at-goes, added-is, least-le, proposed-adds, proposed-not_active, proposed-full}
-use Rattle.ballot_base.proofs.MessageRows.{on_append-elsewhere, on_append-gap, on_append-takes}
+use Rattle.ballot_base.proofs.StepRows.{commit_at-stays, commit_at-goes, least-le}
 use Rattle.master.specs.Group.{World, messages, outputs, moved}
 use Rattle.master.specs.Agreement.{In, IsPrefixOf, log_of, outputs_of}
 use Rattle.master.specs.Agreement.In.{here, there}
-use Rattle.master.proofs.Lists.{prefix_same, prefix_then, prefix_push, prefix_get, prefix_next, get_pushed, get_set, get_set_other, in_append, messages-append, outputs-append, thinned_outputs, thinned_messages, outputs_of_messages, said_to_marked}
-use Rattle.master.proofs.Sound.{log_at, committed_of, Told, AllTold, Says, IsSoundNode, IsSound, Extends, LeftIs, told_kept, told_less, all_told_kept, node_kept, moved_extends, moved_sound}
-use Rattle.master.proofs.Sound.Told.{told_nothing, told_as_primary, told_by_held}
+use Rattle.master.proofs.Lists.{prefix_same, get_set, get_set_other, messages-append, outputs-append, thinned_outputs, thinned_messages, outputs_of_messages, said_to_marked}
+use Rattle.master.proofs.Sound.{log_at, committed_of, Told, AllTold, Says, IsSoundNode, IsSound, Extends, LeftIs, told_less, node_kept, moved_extends, moved_sound}
+use Rattle.master.proofs.Sound.Told.{told_as_primary}
 
 -- a state is sound for node n in any later world that has its log
 abbrev pub Fits : {C O : Type 0} → Config → ℕ → World C O → ℕ → ReplicaState C → Type 0

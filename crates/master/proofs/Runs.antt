@@ -1,5 +1,5 @@
 -- Runs.antt: after any events, from any past, the nodes agree and what is agreed has only grown.
-use Rattle.std.proofs.Common.{◌≡◌, ℕ, ◌+◌, ◌-◌, ◌<◌, ◌⊎◌, inl, inr, Bool, true, false, ◌&&◌, List, [], ◌∷◌, ◌++◌, length, take, get_or, refl, ap, sym, ◌∙◌, subst, arith}
+use Rattle.std.proofs.Common.{◌≡◌, ℕ, ◌+◌, ◌-◌, ◌<◌, ◌⊎◌, inl, inr, true, ◌&&◌, List, [], ◌∷◌, ◌++◌, length, take, get_or, refl, ap, sym, ◌∙◌, subst, arith}
 use Rattle.std.specs.Prelude.{◌==◌, nat_lt, nat_le}
 use Rattle.std.specs.List.{list_any}
 use Rattle.std.proofs.lemmas.Bool.{and_parts, or_cases, ltb-true, eqb-true}
@@ -10,7 +10,7 @@ use Rattle.ballot_base.specs.Config.{is_lawful, are_rising}
 use Rattle.master.specs.declared.event.Event.{Event}
 use Rattle.master.specs.Group.{World, Happens, Run}
 use Rattle.master.specs.Group.Run.{ends, goes}
-use Rattle.master.specs.Agreement.{IsPrefixOf, Past, IsChosen, IsAgreed, Agreement, AgreesAfter}
+use Rattle.master.specs.Agreement.{IsPrefixOf, Past, IsChosen, AgreesAfter}
 use Rattle.master.specs.Agreement.Past.{went_on}
 use Rattle.master.proofs.Opening.{agreement, chosen_stays}
 

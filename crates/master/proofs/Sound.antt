@@ -1,5 +1,5 @@
 -- Sound.antt: what holds in every world that a group comes to, and that it is kept when nodes move.
-use Rattle.std.proofs.Common.{◌≡◌, ℕ, zero, suc, ◌+◌, ◌<◌, ◌≤◌, ◌⊎◌, inl, inr, true, List, [], ◌∷◌, ◌++◌, length, set, take, Some, None, Option, refl, ap, sym, ◌∙◌, subst, arith}
+use Rattle.std.proofs.Common.{◌≡◌, ℕ, ◌+◌, ◌≤◌, ◌⊎◌, inl, inr, true, List, length, set, take, Some, None, Option, ap, sym, ◌∙◌, subst, arith}
 use Rattle.std.specs.Prelude.{slice_get}
 use Rattle.std.proofs.lemmas.Bool.{cases_eq}
 use Rattle.machine.specs.Machine.{Rules}
@@ -10,7 +10,7 @@ use Rattle.ballot_base.specs.declared.message.Body.TheVariants.{NewBallot, Join,
 use Rattle.ballot_base.specs.declared.message.Effect.{Effect}
 use Rattle.ballot_base.specs.declared.status.Mark.{Mark}
 use Rattle.ballot_base.specs.Replica.{ReplicaState, is_active, is_backup}
-use Rattle.master.specs.Group.{World, messages, outputs, moved}
+use Rattle.master.specs.Group.{World, messages, moved}
 use Rattle.master.specs.Agreement.{In, IsPrefixOf, log_of, outputs_of}
 use Rattle.master.proofs.Lists.{prefix_same, prefix_then, prefix_get, prefix_length, get_set, get_set_other, in_left, in_append}
 

@@ -1,10 +1,8 @@
 -- Agreement.antt: what members have told, which lists are chosen, and what it means that nodes agree.
-use Rattle.std.specs.Prelude.{ℕ, ◌+◌, ◌≤◌, ◌≡◌, ◌⊎◌, List, [], ◌∷◌, ◌++◌, length, take, slice_get, Option, Some, None}
+use Rattle.std.specs.Prelude.{ℕ, ◌+◌, ◌≡◌, ◌⊎◌, List, [], ◌∷◌, ◌++◌, length, take, slice_get, Option, Some, None}
 use Rattle.machine.specs.Machine.{Rules}
-use Rattle.ballot_base.specs.declared.message.Message.{Message}
 use Rattle.ballot_base.specs.declared.message.Body.TheVariants.{Held}
 use Rattle.ballot_base.specs.declared.config.Config.{Config}
-use Rattle.ballot_base.specs.declared.message.Effect.{Effect}
 use Rattle.ballot_base.specs.Replica.{ReplicaState, opening}
 use Rattle.ballot_base.specs.Serving.{outputs_from}
 use Rattle.master.specs.declared.event.Event.{Event}

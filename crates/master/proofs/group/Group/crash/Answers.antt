@@ -1,4 +1,4 @@
-use Rattle.std.proofs.Common.{◌≡◌, ◌+◌, ◌-◌, ◌<◌, false, length, refl, sym, ◌∙◌, arith}
+use Rattle.std.proofs.Common.{◌≡◌, ◌+◌, ◌-◌, ◌<◌, length, arith}
 use Rattle.machine.specs.Machine.{rules_by}
 use Rattle.master.specs.Group.Happens.{nothing_happens}
 use Rattle.master.proofs.Calls.{crashed_call}
