@@ -11,7 +11,8 @@ use Rattle.ballot_base.specs.Replica.{ReplicaState}
 use Rattle.master.specs.declared.event.Event.{Event}
 use Rattle.master.specs.declared.event.Event.TheVariants.{Propose, Deliver, Tick, Crash}
 
--- the nodes, number n + 1 at place n, the messages with their receivers in the order of sending, and
+-- the nodes, number n + 1 at place n, the messages with their receivers in the order of sending,
+-- and
 -- the outputs that left with their places
 pub record World (C O : Type 0) : Type 0 where
   pub nodes : List (ReplicaState C)
@@ -39,13 +40,16 @@ moved w n new given =
     }
 
 -- what an event may do: the step of one node, perhaps with losses; or nothing
-pub data Happens {S C O : Type 0} (rules : Rules S C O) : World C O → Event C → World C O → Type 0 where
+pub data Happens {S C O : Type 0} (rules : Rules S C O) : World C O → Event C → World C O →
+    Type 0 where
   nothing_happens : {w : World C O} {e : Event C} → Happens rules w e w
-  proposed_to : {w : World C O} (n : ℕ) {command : C} {old new : ReplicaState C} {given : List (Effect C O)} →
+  proposed_to : {w : World C O} (n : ℕ) {command : C} {old new : ReplicaState C} {given : List
+      (Effect C O)} →
       slice_get w.nodes n ≡ Some old →
       Loses old (step_in_one_ballot rules old (Proposes command)) new given →
       Happens rules w (Propose (n + 1) command) (moved w n new given)
-  delivered_to : {w : World C O} {k : ℕ} (n : ℕ) {message : Message C} {old new : ReplicaState C} {given : List (Effect C O)} →
+  delivered_to : {w : World C O} {k : ℕ}
+      (n : ℕ) {message : Message C} {old new : ReplicaState C} {given : List (Effect C O)} →
       slice_get w.sent k ≡ Some (n + 1, message) → slice_get w.nodes n ≡ Some old →
       Loses old (step_in_one_ballot rules old (Receives message)) new given →
       Happens rules w (Deliver k) (moved w n new given)
@@ -57,7 +61,8 @@ pub data Happens {S C O : Type 0} (rules : Rules S C O) : World C O → Event C 
       Happens rules w (Crash (n + 1)) (moved {O = O} w n (halted old) [])
 
 -- events one after the other
-pub data Run {S C O : Type 0} (rules : Rules S C O) : World C O → List (Event C) → World C O → Type 0 where
+pub data Run {S C O : Type 0} (rules : Rules S C O) : World C O → List (Event C) → World C O →
+    Type 0 where
   ends : {w : World C O} → Run rules w [] w
   goes : {w v u : World C O} {e : Event C} {events : List (Event C)} →
       Happens rules w e v → Run rules v events u → Run rules w (e ∷ events) u

@@ -58,7 +58,8 @@ pub fn sent_message<M: Machine>(
     effects: &[Effect<M::Command, M::Output>],
     number: u64,
 ) -> Option<(u8, Message<M::Command>)>
-    ensures { IfSome result (λ found. slice_get (messages effects.now) number ≡ Some (found.0, found.1)) }
+    ensures { IfSome result (λ found. slice_get (messages effects.now) number ≡ Some
+        (found.0, found.1)) }
 {
     let place = place_of_message(effects, number)?;
     match &effects[place] {

@@ -56,7 +56,8 @@ impl<M: Machine> Group<M> {
 
     /// Lets one thing happen. What cannot happen changes nothing.
     pub fn step(&mut self, event: &Event<M::Command>)
-        ensures { Happens (rules_by M.opening M.start_of M.after M.gives) self.old event.now self.new }
+        ensures { Happens
+            (rules_by M.opening M.start_of M.after M.gives) self.old event.now self.new }
     {
         match event {
             Event::Propose(node, command) => self.propose(*node, command),
@@ -68,7 +69,8 @@ impl<M: Machine> Group<M> {
 
     /// Lets events happen one after the other.
     pub fn run(&mut self, events: &[Event<M::Command>])
-        ensures run { Run (rules_by M.opening M.start_of M.after M.gives) self.old events.now self.new }
+        ensures run { Run
+            (rules_by M.opening M.start_of M.after M.gives) self.old events.now self.new }
         // For whatever led up to here: the nodes agree, and what is agreed has only grown.
         ensures agreement { (config : Configuration) (past : List (World M.Command M.Output)) →
             is_lawful config.members config.primary ≡ true →
