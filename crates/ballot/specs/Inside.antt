@@ -16,7 +16,8 @@ pub record Sends {C O : Type 0} (old new wanted : List (Effect C O)) (whole : Bo
   -- nothing is lost where nothing is sent
   pub idle : wanted ≡ [] → whole ≡ true
 
--- the step was done, or one with losses that were counted, and only where there was something to lose
+-- the step was done, or one with losses that were counted, and only where there was something to
+-- lose
 pub record Went {C O : Type 0} (old : Counted C) (outcome : Outcome C O) (new : Counted C)
     (before behind : List (Effect C O)) : Type 0 where
   pub given : List (Effect C O)

@@ -24,7 +24,8 @@ pub fn put_out<C: Drop, O: Drop>(
     Ok(())
 }
 
-/// Applies the places from one length of the log up to another, and drops their outputs. On an error
+/// Applies the places from one length of the log up to another, and drops their outputs. On an
+/// error
 /// the machine is somewhere in between.
 pub fn apply_dropping<M: Machine>(
     alloc: Global,

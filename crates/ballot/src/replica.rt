@@ -135,6 +135,13 @@ impl<M: Machine> Replica<M> {
         self.losses
     }
 
+    /// Stops for good, as a crash of its node does. All that the replica shows stays.
+    pub fn stop(&mut self)
+        ensures { self.new ≡ record self.old { state = halted self.old.state } }
+    {
+        self.stopped = true;
+    }
+
     /// Takes a command into the log of an active primary. Its outputs come out, with its place,
     /// once every member is known to hold it: for a sole member in this call, else in a later one.
     /// Where memory is wanting for a message, that message is lost.

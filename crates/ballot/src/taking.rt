@@ -9,7 +9,8 @@ ghost use Rattle.ballot_base.specs.Serving.{extended};
 /// was needed, is the result; where not, the log stays.
 pub fn take_in<C: Drop>(log: &mut Vec<C>, place: u64, command: C) -> bool
     ensures taken { OnTrue result (log.new.items ≡ extended place command log.old.items) }
-    ensures lost { OnFalse result ((log.new.items ≡ log.old.items) × (place ≡ length log.old.items)) }
+    ensures lost { OnFalse result ((log.new.items ≡ log.old.items) ×
+        (place ≡ length log.old.items)) }
 {
     if place != log.len() as u64 {
         return true;

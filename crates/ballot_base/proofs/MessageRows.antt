@@ -16,7 +16,7 @@ use Rattle.ballot_base.specs.Protocol.{ticked}
 use Rattle.ballot_base.proofs.StepRows.{commit_at-goes, commit_at-stays}
 
 -- a member's mark stays that member's
-raised_mark-member : (member held : ℕ) (mark : Mark) → (raised_mark member held mark).member ≡ mark.member
+pub raised_mark-member : (member held : ℕ) (mark : Mark) → (raised_mark member held mark).member ≡ mark.member
 raised_mark-member member held mark =
     cond_both (mark.member == member) (record mark { held = max mark.held held }) mark
     (λ (m : Mark). m.member ≡ mark.member) (λ _. refl) (λ _. refl)

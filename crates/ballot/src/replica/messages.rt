@@ -76,7 +76,8 @@ impl<M: Machine> Replica<M> {
         command: M::Command,
         out: &mut Vec<Effect<M::Command, M::Output>>,
     )
-        ensures went { Went self.old (on_append M.Output self.old.state from ballot place command) self.new
+        ensures went { Went self.old
+            (on_append M.Output self.old.state from ballot place command) self.new
             out.old.items out.new.items }
         ensures runs { self.new.state.stopped ≡ self.old.state.stopped }
     {
@@ -112,10 +113,12 @@ impl<M: Machine> Replica<M> {
     ) -> Result<(), Halted>
         requires { self.old.state.stopped ≡ false }
         ensures went { Went self.old
-            (on_held (rules_by M.opening M.start_of M.after M.gives) self.old.state from ballot held)
+            (on_held
+            (rules_by M.opening M.start_of M.after M.gives) self.old.state from ballot held)
             self.new out.old.items out.new.items }
         ensures ok { OnOk result (self.new.state.stopped ≡ false) }
-        ensures err { OnErr result ((self.new.state.stopped ≡ true) × (out.new.items ≡ out.old.items)) }
+        ensures err { OnErr result ((self.new.state.stopped ≡ true) ×
+            (out.new.items ≡ out.old.items)) }
     {
         if !self.leads(ballot) {
             return Ok(());
@@ -139,7 +142,8 @@ impl<M: Machine> Replica<M> {
     // A backup applies what every member holds. The outputs are the primary's to give.
     fn on_commit(&mut self, ballot: u64, held: u64) -> Result<(), Halted>
         requires { self.old.state.stopped ≡ false }
-        ensures went { Went self.old (on_commit M.Output self.old.state ballot held) self.new [] [] }
+        ensures went { Went self.old
+            (on_commit M.Output self.old.state ballot held) self.new [] [] }
         ensures ok { OnOk result (self.new.state.stopped ≡ false) }
         ensures err { OnErr result (self.new.state.stopped ≡ true) }
     {

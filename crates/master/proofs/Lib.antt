@@ -1,0 +1,9 @@
+pub mod Agreed
+pub mod Calls
+pub mod Events
+pub mod Finding
+pub mod Lists
+pub mod Opening
+pub mod Rows
+pub mod Runs
+pub mod Sound

@@ -1,0 +1,173 @@
+-- Opening.antt: a group opens soundly, so its nodes agree after any events; and what is agreed only grows.
+use Rattle.std.proofs.Common.{◌≡◌, ℕ, ◌+◌, ◌≤◌, ◌⊎◌, inl, inr, Bool, true, false, cond, List, [], ◌∷◌, length, take, not, Some, None, Option, refl, ap, sym, ◌∙◌, subst, arith}
+use Rattle.std.specs.Prelude.{slice_get, ◌==◌}
+use Rattle.std.specs.List.{list_any}
+use Rattle.std.proofs.lemmas.Bool.{cases_eq, eq-eqb, ne_eqb}
+use Rattle.machine.specs.Machine.{Rules}
+use Rattle.ballot_base.specs.declared.config.Config.{Config}
+use Rattle.ballot_base.specs.declared.status.Mark.{Mark}
+use Rattle.ballot_base.specs.declared.status.Role.TheVariants.{Active}
+use Rattle.ballot_base.specs.Replica.{ReplicaState, opening, opening_member, others, marks_at}
+use Rattle.master.specs.Group.{World}
+use Rattle.master.specs.Agreement.{In, IsPrefixOf, log_of, outputs_of, IsOpening, Past, HasTold, IsChosen, IsAgreed, Agreement}
+use Rattle.master.specs.Agreement.In.{here, there}
+use Rattle.master.specs.Agreement.Past.{began, went_on}
+use Rattle.master.specs.Agreement.HasTold.{as_primary, by_held}
+use Rattle.master.proofs.Sound.{log_at, committed_of, AllTold, IsSoundNode, IsSound}
+use Rattle.master.proofs.Sound.Told.{told_nothing}
+use Rattle.master.proofs.Agreed.{event_sound, sound_agreement}
+
+-- marks of members
+mark_held : (held : ℕ) (members : List ℕ) (mark : Mark) → In mark (marks_at held members) → mark.held ≡ held
+mark_held held [] mark i = elim i [ ]
+mark_held held (m ∷ members) mark here = refl
+mark_held held (m ∷ members) mark (there i) = mark_held held members mark i
+
+mark_of : (held : ℕ) (members : List ℕ) (m : ℕ) → In m members →
+    (mark : Mark) × In mark (marks_at held members) × (mark.member ≡ m)
+mark_of held [] m i = elim i [ ]
+mark_of held (x ∷ members) m here = (record { member = m; held = held }, here, refl)
+mark_of held (x ∷ members) m (there i) = let q = mark_of held members m i in (q.0, there q.1, q.2)
+
+-- another member is among the others
+in_others : (id : ℕ) (members : List ℕ) (m : ℕ) → In m members → (m ≡ id → ⊥) → In m (others id members)
+in_others id [] m i ne = elim i [ ]
+in_others id (x ∷ members) m here ne =
+    let e : cond (not (m == id)) (m ∷ others id members) (others id members) ≡ m ∷ others id members =
+    ap (λ b. cond (not b) (m ∷ others id members) (others id members)) (ne_eqb m id ne) in
+    subst (λ (us : List ℕ). In m us) (sym e) here
+in_others id (x ∷ members) m (there i) ne = kept (x == id) (in_others id members m i ne)
+  where
+    kept : (b : Bool) → In m (others id members) → In m (cond (not b) (x ∷ others id members) (others id members))
+    kept true j = j
+    kept false j = there j
+
+-- a node opens soundly
+node_opens : {C O : Type 0} (config : Config) (p : ℕ) (w : World C O) (n : ℕ) → config.primary ≡ p + 1 →
+    list_any (λ member. member == config.primary) config.members ≡ true → IsSoundNode config p w n (opening C (n + 1) config)
+node_opens {C = C} {O = O} config p w n primary member = by_place (cases_eq n p)
+  where
+    leader : n ≡ p → IsSoundNode config p w n (record (opening_member C (n + 1) config) {
+      role = Active;
+      members = config.members;
+      marks = marks_at 0 (others (n + 1) config.members);
+    })
+    leader e =
+        let here_primary : config.primary ≡ n + 1 = omega (arith, e, primary) in
+        record {
+          id = refl;
+          leads = λ a. (e, ap (λ b. cond b 1 0) (subst (λ k. list_any (λ member. member == k) config.members ≡ true) here_primary member));
+          follows = λ a h. cc;
+          front = record { rest = log_at w p; is = refl };
+          within = omega arith;
+          committed = λ m i. told_nothing refl;
+          marked = λ mark i m h. told_nothing (mark_held 0 (others (n + 1) config.members) mark i);
+          covered = λ a m i. cover e m i (cases_eq m p);
+        }
+      where
+        cover : n ≡ p → (m : ℕ) → In (m + 1) config.members → (m ≡ p) ⊎ (m ≡ p → ⊥) →
+            (m ≡ p) ⊎ ((mark : Mark) × In mark (marks_at 0 (others (n + 1) config.members)) × (mark.member ≡ m + 1))
+        cover e m i (inl same) = inl same
+        cover e m i (inr ne) =
+            inr (mark_of 0 (others (n + 1) config.members) (m + 1)
+            (in_others (n + 1) config.members (m + 1) i (λ h. ne (omega (arith, h, e)))))
+
+    backup : (n ≡ p → ⊥) → IsSoundNode config p w n (opening_member C (n + 1) config)
+    backup ne =
+        record {
+          id = refl;
+          leads = λ a. cc;
+          follows = λ a h. ne h;
+          front = record { rest = log_at w p; is = refl };
+          within = omega arith;
+          committed = λ m i. told_nothing refl;
+          marked = λ mark i m h. elim i [ ];
+          covered = λ a m i. cc;
+        }
+
+    by_place : (n ≡ p) ⊎ (n ≡ p → ⊥) → IsSoundNode config p w n (opening C (n + 1) config)
+    by_place (inl e) =
+        let b = eq-eqb (n + 1) config.primary (omega (arith, e, primary)) in
+        subst (λ (r : ReplicaState C). IsSoundNode config p w n r)
+        (sym (ap (λ k. cond k (record (opening_member C (n + 1) config) {
+          role = Active;
+          members = config.members;
+          marks = marks_at 0 (others (n + 1) config.members);
+        }) (opening_member C (n + 1) config)) b)) (leader e)
+    by_place (inr ne) =
+        let b = ne_eqb (n + 1) config.primary (λ h. ne (omega (arith, h, primary))) in
+        subst (λ (r : ReplicaState C). IsSoundNode config p w n r)
+        (sym (ap (λ k. cond k (record (opening_member C (n + 1) config) {
+          role = Active;
+          members = config.members;
+          marks = marks_at 0 (others (n + 1) config.members);
+        }) (opening_member C (n + 1) config)) b)) (backup ne)
+
+-- an opening has no commit
+opening_committed : (C : Type 0) (id : ℕ) (config : Config) → (opening C id config).committed ≡ 0
+opening_committed C id config = by_role (id == config.primary)
+  where
+    by_role : (b : Bool) → (cond b (record (opening_member C id config) {
+      role = Active;
+      members = config.members;
+      marks = marks_at 0 (others id config.members);
+    }) (opening_member C id config)).committed ≡ 0
+    by_role true = refl
+    by_role false = refl
+
+-- a group opens soundly
+pub opening_sound : {S C O : Type 0} (rules : Rules S C O) (config : Config) (p : ℕ) (w : World C O) → config.primary ≡ p + 1 →
+    list_any (λ member. member == config.primary) config.members ≡ true → IsOpening config w → IsSound rules config p w
+opening_sound {C = C} {O = O} rules config p w primary member opens =
+    record {
+      said = λ receiver m i. elim (subst (λ (us : List _). In (receiver, m) us) opens.nothing_sent i) [ ];
+      nodes = λ n r e. subst (λ (s : ReplicaState C). IsSoundNode config p w n s) (sym (opens.node n r e)) (node_opens config p w n primary member);
+      left = opens.nothing_left ∙ by_node (slice_get w.nodes p) refl;
+    }
+  where
+    by_node : (o : Option (ReplicaState C)) → slice_get w.nodes p ≡ o → [] ≡ outputs_of rules (take (committed_of o) (log_of o))
+    by_node None e = refl
+    by_node (Some r) e =
+        ap (λ k. outputs_of rules (take k r.log))
+        (sym (ap (λ (s : ReplicaState C). s.committed) (opens.node p r e) ∙ opening_committed C (p + 1) config))
+
+-- every world that a group comes to is sound
+pub past_sound : {S C O : Type 0} (rules : Rules S C O) (config : Config) (p : ℕ) (w : World C O) (past : List (World C O)) →
+    config.primary ≡ p + 1 → list_any (λ member. member == config.primary) config.members ≡ true →
+    Past rules config (w ∷ past) → IsSound rules config p w
+past_sound rules config p w past primary member (began opens) = opening_sound rules config p w primary member opens
+past_sound rules config p w past primary member (went_on {w = before} {e = e} earlier happens) =
+    event_sound rules config p before w e (past_sound rules config p before _ primary member earlier) happens
+
+-- so its nodes agree
+pub agreement : {S C O : Type 0} (rules : Rules S C O) (config : Config) (p : ℕ) (w : World C O) (past : List (World C O)) (xs : List C) →
+    config.primary ≡ p + 1 → list_any (λ member. member == config.primary) config.members ≡ true →
+    Past rules config (w ∷ past) → IsAgreed config (w ∷ past) xs → Agreement rules config w xs
+agreement {C = C} rules config p w past xs primary member came agreed =
+    let sound = past_sound rules config p w past primary member came in
+    let ok = by_node sound (slice_get w.nodes p) refl in
+    sound_agreement rules config p w past xs primary sound ok.0 ok.1 agreed
+  where
+    by_node : IsSound rules config p w → (o : Option (ReplicaState C)) → slice_get w.nodes p ≡ o →
+        AllTold config p w (committed_of o) × (committed_of o ≤ length (log_of o))
+    by_node sound None e = (λ n i. told_nothing refl, omega arith)
+    by_node sound (Some r) e = ((sound.nodes p r e).committed, (sound.nodes p r e).within)
+
+-- a list once chosen stays so
+pub chosen_stays : {C O : Type 0} (config : Config) (v : World C O) (past : List (World C O)) (xs : List C) →
+    IsChosen config past xs → IsChosen config (v ∷ past) xs
+chosen_stays {C = C} {O = O} config v past xs chosen n i =
+    let q = chosen n i in (q.0, stays q.0 q.1, q.2)
+  where
+    stays : (told : List C) → HasTold config past n told → HasTold config (v ∷ past) n told
+    stays told (as_primary w j e l) = as_primary w (there j) e l
+    stays told (by_held w receiver j k l) = by_held w receiver (there j) k l
+
+-- what is agreed only grows
+pub agreed_grows : {C O : Type 0} (config : Config) (v : World C O) (past : List (World C O)) (xs ys : List C) →
+    IsAgreed config past xs → IsAgreed config (v ∷ past) ys → IsPrefixOf xs ys
+agreed_grows {C = C} config v past xs ys a b = by_chosen a.chosen
+  where
+    by_chosen : (xs ≡ []) ⊎ IsChosen config past xs → IsPrefixOf xs ys
+    by_chosen (inl e) = subst (λ (us : List C). IsPrefixOf us ys) (sym e) (record { rest = ys; is = refl })
+    by_chosen (inr chosen) = b.longest xs (chosen_stays config v past xs chosen)

@@ -1,0 +1,93 @@
+-- Agreement.antt: what members have told, which lists are chosen, and what it means that nodes
+-- agree.
+use Rattle.std.specs.Prelude.{ℕ, ◌+◌, ◌≡◌, ◌⊎◌, List, [], ◌∷◌, ◌++◌, length, take, slice_get, Option, Some, None}
+use Rattle.machine.specs.Machine.{Rules}
+use Rattle.ballot_base.specs.declared.message.Body.TheVariants.{Held}
+use Rattle.ballot_base.specs.declared.config.Config.{Config}
+use Rattle.ballot_base.specs.Replica.{ReplicaState, opening}
+use Rattle.ballot_base.specs.Serving.{outputs_from}
+use Rattle.master.specs.declared.event.Event.{Event}
+use Rattle.master.specs.Group.{World, Happens, outputs}
+
+-- one of a list
+pub data In {X : Type 0} (x : X) : List X → Type 0 where
+  here : {xs : List X} → In x (x ∷ xs)
+  there : {y : X} {xs : List X} → In x xs → In x (y ∷ xs)
+
+-- a beginning of a list
+pub record IsPrefixOf {X : Type 0} (xs ys : List X) : Type 0 where
+  pub rest : List X
+  pub is : ys ≡ xs ++ rest
+
+-- the log of a node, if it is there
+abbrev pub log_of : {C : Type 0} → Option (ReplicaState C) → List C
+log_of None = []
+log_of (Some r) = r.log
+
+-- nodes 1, 2, .. as they open in a configuration, with no message and no output
+pub record IsOpening {C O : Type 0} (config : Config) (w : World C O) : Type 0 where
+  pub node : (n : ℕ) (r : ReplicaState C) → slice_get w.nodes n ≡ Some r →
+      r ≡ opening C (n + 1) config
+  pub nothing_sent : w.sent ≡ []
+  pub nothing_left : w.left ≡ []
+
+-- the worlds that were, the present one first -- history: no field keeps it
+pub data Past {S C O : Type 0} (rules : Rules S C O) (config : Config) : List (World C O) →
+    Type 0 where
+  began : {w : World C O} → IsOpening config w → Past rules config (w ∷ [])
+  went_on : {w v : World C O} {past : List (World C O)} {e : Event C} →
+      Past rules config (w ∷ past) → Happens rules w e v → Past rules config (v ∷ w ∷ past)
+
+-- a member has told a list: the primary of the ballot by holding it as its log, another by sending
+-- Held with its length while its log began with it. Node n + 1 stands at place n
+pub data HasTold {C O : Type 0} (config : Config) (past : List (World C O)) (n : ℕ)
+    (xs : List C) : Type 0 where
+  as_primary : (w : World C O) → In w past → n + 1 ≡ config.primary →
+      log_of (slice_get w.nodes n) ≡ xs → HasTold config past n xs
+  by_held : (w : World C O) (receiver : ℕ) → In w past →
+      In (receiver, record { from = n + 1; body = Held 1 (length xs) }) w.sent →
+      IsPrefixOf xs (log_of (slice_get w.nodes n)) → HasTold config past n xs
+
+-- each member has told the list, or a list that it begins
+abbrev pub IsChosen : {C O : Type 0} → Config → List (World C O) → List C → Type 0
+IsChosen {C} config past xs =
+    (n : ℕ) → In (n + 1) config.members →
+    (told : List C) × HasTold config past n told × IsPrefixOf xs told
+
+-- the agreed list is the longest that is chosen, or empty where none is
+pub record IsAgreed {C O : Type 0} (config : Config) (past : List (World C O))
+    (xs : List C) : Type 0 where
+  pub chosen : (xs ≡ []) ⊎ IsChosen config past xs
+  pub longest : (ys : List C) → IsChosen config past ys → IsPrefixOf ys xs
+
+-- the outputs of a list of commands, each with its place
+abbrev pub outputs_of : {S C O : Type 0} → Rules S C O → List C → List (ℕ × O)
+outputs_of rules commands = outputs (outputs_from rules rules.opening 0 commands)
+
+-- the nodes agree
+pub record Agreement {S C O : Type 0} (rules : Rules S C O) (config : Config) (w : World C O)
+    (agreed : List C) : Type 0 where
+  -- what is applied anywhere is a beginning of the agreed list
+  pub applied : (n : ℕ) (r : ReplicaState C) → slice_get w.nodes n ≡ Some r →
+      IsPrefixOf (take r.committed r.log) agreed
+  -- of two logs one is a beginning of the other
+  pub fronts : (n m : ℕ) (r s : ReplicaState C) → slice_get w.nodes n ≡ Some r →
+      slice_get w.nodes m ≡ Some s →
+      IsPrefixOf r.log s.log ⊎ IsPrefixOf s.log r.log
+  -- what left is the machine's answers at the first places of the agreed list, each once, in order
+  pub answered : ℕ
+  pub left : w.left ≡ outputs_of rules (take answered agreed)
+  -- and every member, stopped or not, holds these places
+  pub held : (n : ℕ) (r : ReplicaState C) → slice_get w.nodes n ≡ Some r →
+      In (n + 1) config.members →
+      IsPrefixOf (take answered agreed) r.log
+
+-- the past has gone on up to a world in which the nodes agree on whatever list is agreed there, and
+-- what was agreed before is a beginning of it
+pub record AgreesAfter {S C O : Type 0} (rules : Rules S C O) (config : Config)
+    (past : List (World C O)) (w : World C O) : Type 0 where
+  pub later : List (World C O)
+  pub went_on : Past rules config (w ∷ later)
+  pub agreement : (xs : List C) → IsAgreed config (w ∷ later) xs → Agreement rules config w xs
+  pub only_grown : (ys xs : List C) → IsAgreed config past ys →
+      IsAgreed config (w ∷ later) xs → IsPrefixOf ys xs
