@@ -82,6 +82,10 @@ IsListed _ = Unit {0}
 abbrev pub longest_body : ℕ
 longest_body = 1048572
 
+-- a packet over the limit
+abbrev pub IsTooLarge : Packet → Type 0
+IsTooLarge p = longest_body < length (body p)
+
 -- a packet that has a spelling
 abbrev pub IsPacket : Packet → Type 0
 IsPacket p = Fits p × IsListed p × (length (body p) ≤ longest_body)

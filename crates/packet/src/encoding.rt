@@ -1,7 +1,7 @@
 // Writing a packet at the end of a vector.
 
-ghost use Rattle.std.specs.Prelude.{◌≡◌, ◌<◌, ◌↔◌, length, OnOk, OnErr, IsErrOf};
-ghost use Rattle.packet.specs.Spelling.{body, longest_body, IsListed, IsPacket, AppendsSpelling};
+ghost use Rattle.std.specs.Prelude.{◌≡◌, ◌↔◌, OnOk, OnErr, IsErrOf};
+ghost use Rattle.packet.specs.Spelling.{IsListed, IsTooLarge, IsPacket, AppendsSpelling};
 
 use crate::error::EncodeFault;
 use crate::packet::{MAX_REMAINING, Packet};
@@ -16,7 +16,7 @@ pub fn encode(packet: &Packet, out: &mut Vec<u8>) -> Result<(), EncodeFault>
     ensures fits { OnOk result (IsPacket packet.now) }
 
     // Memory aside, a packet is refused exactly where it is too large.
-    ensures large { IsErrOf result EncodeFault.TooLarge ↔ (longest_body < length (body packet.now)) }
+    ensures large { IsErrOf result EncodeFault.TooLarge ↔ IsTooLarge packet.now }
     ensures err { OnErr result (out.new.items ≡ out.old.items) }
 {
     packet.known();

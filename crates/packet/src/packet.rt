@@ -3,7 +3,6 @@
 ghost use Rattle.std.specs.Prelude.{
   ◌≡◌,
   ◌↔◌,
-  ◌<◌,
   ◌≤◌,
   ◌+◌,
   ◌++◌,
@@ -16,7 +15,7 @@ ghost use Rattle.std.specs.Prelude.{
 };
 ghost use Rattle.packet_base.specs.Outcome.{Gives};
 ghost use Rattle.packet_base.specs.Spelling.{IsId};
-ghost use Rattle.packet.specs.Spelling.{header, body, longest_body, Fits, IsListed};
+ghost use Rattle.packet.specs.Spelling.{header, body, Fits, IsListed, IsTooLarge};
 ghost use Rattle.packet.specs.Verdict.{body_of, empty_of};
 
 use crate::connack::Connack;
@@ -95,7 +94,7 @@ impl Packet {
 
     /// Whether `encode` would answer `TooLarge`: whether the body has more than 1,048,572 bytes.
     pub fn is_too_large(&self) -> bool
-        ensures { IsTrue result ↔ (longest_body < length (body self.now)) }
+        ensures { IsTrue result ↔ IsTooLarge self.now }
     {
         self.body_len() > MAX_REMAINING
     }
