@@ -5,12 +5,13 @@
 mod granted;
 mod inbox;
 mod matching;
+mod retained_topics;
 
 use anyhow::{Result, bail};
 use std::env;
 
 /// The benchmarks, each named like its file.
-const NAMES: [&str; 3] = ["granted", "inbox", "matching"];
+const NAMES: [&str; 4] = ["granted", "inbox", "matching", "retained"];
 
 fn main(rt: HostRuntime) -> Result<()> {
     let mut words = env::args(&rt)?;
@@ -34,6 +35,7 @@ fn run(rt: &HostRuntime, name: &str) -> Result<()> {
     match name {
         "granted" => granted::run(rt),
         "matching" => matching::run(rt),
+        "retained" => retained_topics::run(rt),
         _ => bail!("no benchmark has the name {name}"),
     }
 }
