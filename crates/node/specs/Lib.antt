@@ -3,5 +3,7 @@ pub mod Core
 pub mod Handing
 pub mod Inside
 pub mod Losses
+pub mod Running
 pub mod Spelling
+pub mod State
 pub mod Step

@@ -1,0 +1,20 @@
+-- A node with the items that wait for it.
+use Rattle.std.specs.Prelude.{◌≡◌, ℕ, List, ◌∷◌}
+use Rattle.broker_base.specs.declared.command.Command.{Command}
+use Rattle.broker_base.specs.declared.command.Output.{Output}
+use Rattle.ballot_base.specs.declared.message.Effect.{Effect}
+use Rattle.node.specs.declared.node_core.item.Item.{Item}
+use Rattle.node.specs.Core.{CountedCore}
+use Rattle.node.specs.Losses.{Stepped}
+
+-- the items that wait, each with the lane that it came by, the oldest first, and the node
+pub record Waiting : Type 0 where
+  pub items : List (ℕ × Item)
+  pub node : CountedCore
+
+-- the first item was taken, and the node's step with it was done
+pub record TakesOne (old new : Waiting) (before behind : List (Effect Command Output)) : Type 0 where
+  pub lane : ℕ
+  pub item : Item
+  pub front : old.items ≡ (lane, item) ∷ new.items
+  pub stepped : Stepped old.node item new.node before behind

@@ -1,0 +1,58 @@
+// A node that threads share.
+
+ghost use Rattle.std.specs.Prelude.{◌≡◌, OnErr, OnOk};
+ghost use Rattle.node.specs.Running.{Extends};
+
+use crate::node_core::{Handed, Item, Port};
+use crate::node_state::NodeState;
+use ballot::{Effect, Status};
+use broker_base::{Command, Output};
+use machine::Memory;
+use std::sync::{Mutex, Wait};
+
+/// A node behind a lock. Each call takes the lock once and does one thing under it; what that is
+/// stands at the [`NodeState`]'s call of the same name.
+#[derive(Drop)]
+pub struct Node {
+    state: Mutex<NodeState>,
+}
+
+impl Node {
+    /// A node of this state.
+    pub fn new(state: NodeState) -> Node {
+        Node {
+            state: Mutex::new(state),
+        }
+    }
+
+    /// Puts an item behind those that wait. The only error is want of memory.
+    pub fn put<R: Wait>(&self, rt: &R, lane: u8, item: Item) -> Result<(), Memory> {
+        self.state.lock(rt).put(lane, item)
+    }
+
+    /// One turn of a worker: takes the first item that waits and does the step with it, if there
+    /// is one. The messages to other nodes come behind `effects`.
+    pub fn take_one<R: Wait>(&self, rt: &R, effects: &mut Vec<Effect<Command, Output>>) -> bool
+        ensures { Extends effects.old.items effects.new.items }
+    {
+        self.state.lock(rt).take_one(effects)
+    }
+
+    /// Appends what was put out for a port and not handed over before.
+    pub fn outgoing<R: Wait>(&self, rt: &R, port: Port, out: &mut Vec<u8>) -> Result<Handed, Memory>
+        ensures ok { OnOk result (Extends out.old.items out.new.items) }
+        ensures err { OnErr result (out.new.items ≡ out.old.items) }
+    {
+        self.state.lock(rt).outgoing(port, out)
+    }
+
+    /// What the node's replica shows of itself.
+    pub fn status<R: Wait>(&self, rt: &R) -> Status {
+        self.state.lock(rt).status()
+    }
+
+    /// In how many steps memory was wanting, up to 2^64 - 1.
+    pub fn losses<R: Wait>(&self, rt: &R) -> u64 {
+        self.state.lock(rt).losses()
+    }
+}
