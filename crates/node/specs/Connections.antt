@@ -3,7 +3,7 @@ use Rattle.std.specs.Prelude.{ℕ, Bool, true, false, not, ◌&&◌, ◌||◌, �
 use Rattle.broker_base.specs.Connection.{ConnectionName, same_connection}
 use Rattle.node.specs.declared.node_core.item.Port.{Port}
 use Rattle.node.specs.declared.node_core.connection.Stage.{Stage}
-use Rattle.node.specs.declared.node_core.connection.Stage.TheVariants.{Awaits, Proposed, Over}
+use Rattle.node.specs.declared.node_core.connection.Stage.TheVariants.{Awaits, Proposed, Over, Failed}
 use Rattle.node.specs.declared.node_core.connection.Connection.{Connection}
 
 -- ---- one connection
@@ -12,16 +12,19 @@ abbrev pub is_over : Stage → Bool
 is_over Awaits = false
 is_over Proposed = false
 is_over Over = true
+is_over Failed = true
 
 abbrev pub is_first : Stage → Bool
 is_first Awaits = true
 is_first Proposed = false
 is_first Over = false
+is_first Failed = false
 
 abbrev pub is_proposed : Stage → Bool
 is_proposed Awaits = false
 is_proposed Proposed = true
 is_proposed Over = false
+is_proposed Failed = false
 
 -- a connection of a port, also a closed one; the open one; the open one of a name
 abbrev pub is_at : Port → Connection → Bool

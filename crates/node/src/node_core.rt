@@ -84,10 +84,11 @@ impl NodeCore {
     {
         self.serving.begin_step();
         self.serving.take_in(item, effects);
-        self.serving.settle();
         if self.serving.is_wanting() {
+            self.serving.lose_failed(effects);
             self.losses = self.losses.saturating_add(1);
         }
+        self.serving.settle();
     }
 
     /// Appends what was put out for a port and not handed over before, and tells whether more may

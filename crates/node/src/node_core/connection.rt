@@ -1,7 +1,7 @@
 // One connection of a node.
 
 ghost use Rattle.std.specs.Prelude.{◌≡◌, ◌++◌, true, drop, OnOk, OnErr};
-ghost use Rattle.node.specs.Connections.{asked, closed, fresh, handed, holding, is_at, is_first, is_listed, is_open_at, is_open_named, is_proposed, putting};
+ghost use Rattle.node.specs.Connections.{asked, closed, fresh, handed, holding, is_at, is_first, is_listed, is_open_at, is_open_named, is_over, is_proposed, putting};
 ghost use Rattle.node.specs.Handing.{answer_of};
 ghost use Rattle.node.specs.Spelling.{spelling};
 ghost use Rattle.node.specs.Step.{refused};
@@ -23,6 +23,8 @@ pub enum Stage {
     Proposed,
     /// It is closed.
     Over,
+    /// It is closed for want of memory, and the broker is still to hear that it is lost.
+    Failed,
 }
 
 /// A connection of a node. It stays listed until all that was put out for it was handed over.
@@ -60,14 +62,21 @@ impl Connection {
     pub fn is_open_at(&self, port: Port) -> bool
         ensures { result ≡ is_open_at port self.now }
     {
-        self.stage != Stage::Over && self.port.0 == port.0
+        !self.is_over() && self.port.0 == port.0
     }
 
     // Whether this is the open connection of a name.
     pub fn is_open_named(&self, name: ConnectionId) -> bool
         ensures { result ≡ is_open_named name self.now }
     {
-        self.stage != Stage::Over && self.name == name
+        !self.is_over() && self.name == name
+    }
+
+    // Whether it is closed.
+    pub fn is_over(&self) -> bool
+        ensures { result ≡ is_over self.now.stage }
+    {
+        matches!(self.stage, Stage::Over | Stage::Failed)
     }
 
     // Whether its first packet is awaited.
@@ -88,14 +97,14 @@ impl Connection {
     pub fn is_listed(&self) -> bool
         ensures { result ≡ is_listed self.now }
     {
-        self.stage != Stage::Over || !self.pending.is_empty()
+        !self.is_over() || !self.pending.is_empty()
     }
 
     // Whether more may be put out for it.
     pub fn answer(&self) -> Handed
         ensures { result ≡ answer_of (Some self.now) }
     {
-        if self.stage == Stage::Over {
+        if self.is_over() {
             Handed::Closed
         } else {
             Handed::Open
@@ -135,12 +144,14 @@ impl Connection {
         put.is_ok()
     }
 
-    // Puts a packet out, or closes the connection where there is no memory: whether there was.
+    // Puts a packet out, or closes the connection as failed where there is no memory: whether there
+    // was.
     pub fn send(&mut self, packet: &Packet) -> bool
         ensures { result ≡ true → self.new ≡ putting (spelling packet.now) self.old }
     {
         if self.put(packet).is_err() {
             self.close();
+            self.stage = Stage::Failed;
             return false;
         }
         true

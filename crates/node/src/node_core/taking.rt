@@ -1,10 +1,12 @@
 // What an item does to a node.
 
-ghost use Rattle.std.specs.Prelude.{◌≡◌};
+ghost use Rattle.std.specs.Prelude.{◌≡◌, true};
 ghost use Rattle.node.specs.Connections.{holding};
 ghost use Rattle.node.specs.Inside.{Turns};
+ghost use Rattle.node.specs.Running.{Extends};
 ghost use Rattle.node.specs.Step.{asks, begins, changes, ends, goes_on, quiet, takes_in};
 
+use crate::node_core::connection::Stage;
 use crate::node_core::front::Front;
 use crate::node_core::item::{Item, Port};
 use crate::node_core::piece::Piece;
@@ -125,5 +127,33 @@ impl Serving {
         if proposed {
             self.propose(Command::Lost(name), effects);
         }
+    }
+
+    /// Tells the broker of the connections that were closed for want of memory.
+    pub fn lose_failed(&mut self, effects: &mut Vec<Effect<Command, Output>>)
+        requires { self.old.wanting ≡ true }
+        ensures wanting { self.new.wanting ≡ true }
+        ensures extends { Extends effects.old.items effects.new.items }
+    {
+        for index in 0..self.connections.len() {
+            self.lose_if_failed(index, effects);
+        }
+    }
+
+    // The same of the connection at a place of the list.
+    fn lose_if_failed(&mut self, index: usize, effects: &mut Vec<Effect<Command, Output>>)
+        requires { self.old.wanting ≡ true }
+        ensures wanting { self.new.wanting ≡ true }
+        ensures extends { Extends effects.old.items effects.new.items }
+    {
+        let Some(connection) = self.connections.get_mut(index) else {
+            return;
+        };
+        if connection.stage != Stage::Failed {
+            return;
+        }
+        connection.stage = Stage::Over;
+        let name = connection.name;
+        self.propose(Command::Lost(name), effects);
     }
 }
