@@ -2,8 +2,8 @@
 use Rattle.std.proofs.Common.{◌≡◌, ℕ, ◌<◌, ◌≤◌, ◌^◌, ◌-◌, Bool, true, false, not, ◌&&◌, ◌⊎◌, inl, inr, List, length, nat_lt, Result, Ok, Err, refl, sym, ap, ◌∙◌, arith}
 use Rattle.std.specs.Result.{is_ok, IsErrOf}
 use Rattle.std.proofs.lemmas.Bool.{lt-ltb, le-ltb, cases_lt}
-use Rattle.broker_base.specs.declared.command.Command.{Command}
-use Rattle.broker_base.specs.declared.command.Output.{Output}
+use Rattle.connecting_base.specs.declared.command.Command.{Command}
+use Rattle.connecting_base.specs.declared.command.Output.{Output}
 use Rattle.ballot.specs.declared.error.ProposeError.{ProposeError}
 use Rattle.ballot.specs.declared.error.ProposeError.TheVariants.{NotActive, LogFull, Memory, Halted}
 use Rattle.ballot_base.specs.declared.message.Effect.{Effect}

@@ -8,8 +8,8 @@ use Rattle.packet.specs.declared.packet.Packet.{Packet}
 use Rattle.packet.specs.declared.packet.Packet.TheVariants as packets
 use Rattle.packet.specs.declared.connect.Connect.{Connect}
 use Rattle.packet.specs.Verdict.{verdict}
-use Rattle.broker_base.specs.declared.command.Command.{Command}
-use Rattle.broker_base.specs.declared.command.Output.{Output}
+use Rattle.connecting_base.specs.declared.command.Command.{Command}
+use Rattle.connecting_base.specs.declared.command.Output.{Output}
 use Rattle.ballot_base.specs.declared.message.Effect.{Effect}
 use Rattle.node.specs.declared.node_core.item.Port.{Port}
 use Rattle.node.specs.declared.node_core.front.Front.{Front}

@@ -1,7 +1,7 @@
 -- Opens.antt: what the tests before a connection is accepted decide.
 use Rattle.std.proofs.Common.{◌≡◌, ◌+◌, true, false, List, [], ◌∷◌, ◌++◌, refl, sym, ap, ◌∙◌}
 use Rattle.std.specs.List.{list_any}
-use Rattle.broker_base.specs.Connection.{ConnectionName, is_connection_name}
+use Rattle.connecting_base.specs.Connection.{ConnectionName, is_connection_name}
 use Rattle.node.specs.declared.node_core.item.Port.{Port}
 use Rattle.node.specs.declared.node_core.connection.Connection.{Connection}
 use Rattle.node.specs.Connections.{is_at, fresh}

@@ -1,6 +1,6 @@
 -- The connections of a node, in the order in which they were opened, and what becomes of one.
 use Rattle.std.specs.Prelude.{ℕ, Bool, true, false, not, ◌&&◌, ◌||◌, ◌==◌, if◌then◌else◌, List, [], ◌∷◌, ◌++◌, length}
-use Rattle.broker_base.specs.Connection.{ConnectionName, same_connection}
+use Rattle.connecting_base.specs.Connection.{ConnectionName, same_connection}
 use Rattle.node.specs.declared.node_core.item.Port.{Port}
 use Rattle.node.specs.declared.node_core.connection.Stage.{Stage}
 use Rattle.node.specs.declared.node_core.connection.Stage.TheVariants.{Awaits, Proposed, Over, Failed}

@@ -1,11 +1,11 @@
 -- A node: one replica of the broker with its connections, and how it opens.
 use Rattle.std.specs.Prelude.{ℕ, Bool, not, ◌&&◌, List, []}
 use Rattle.machine.specs.Machine.{Rules}
-use Rattle.broker_base.specs.Table.{Table}
-use Rattle.broker_base.specs.State.{usual_limits}
-use Rattle.broker_base.specs.Laws.{broker_rules}
-use Rattle.broker_base.specs.declared.command.Command.{Command}
-use Rattle.broker_base.specs.declared.command.Output.{Output}
+use Rattle.connecting_base.specs.Table.{Table}
+use Rattle.connecting_base.specs.State.{usual_limits}
+use Rattle.connecting_base.specs.Laws.{broker_rules}
+use Rattle.connecting_base.specs.declared.command.Command.{Command}
+use Rattle.connecting_base.specs.declared.command.Output.{Output}
 use Rattle.ballot_base.specs.declared.config.Config.{Config}
 use Rattle.ballot_base.specs.declared.message.Effect.{Effect}
 use Rattle.ballot_base.specs.Replica.{Counted, is_active, opening}

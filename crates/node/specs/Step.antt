@@ -9,11 +9,11 @@ use Rattle.packet.specs.declared.packet.Packet.TheVariants as packets
 use Rattle.packet.specs.declared.connect.Connect.{Connect}
 use Rattle.packet.specs.declared.connack.Connack.TheVariants as connacks
 use Rattle.packet.specs.Verdict.{verdict}
-use Rattle.broker_base.specs.Connection.{ConnectionName, is_connection_name}
-use Rattle.broker_base.specs.declared.command.Command.{Command}
-use Rattle.broker_base.specs.declared.command.Command.TheVariants as commands
-use Rattle.broker_base.specs.declared.command.Output.{Output}
-use Rattle.broker_base.specs.declared.command.Output.TheVariants as outputs
+use Rattle.connecting_base.specs.Connection.{ConnectionName, is_connection_name}
+use Rattle.connecting_base.specs.declared.command.Command.{Command}
+use Rattle.connecting_base.specs.declared.command.Command.TheVariants as commands
+use Rattle.connecting_base.specs.declared.command.Output.{Output}
+use Rattle.connecting_base.specs.declared.command.Output.TheVariants as outputs
 use Rattle.ballot_base.specs.declared.message.Effect.{Effect}
 use Rattle.ballot_base.specs.declared.message.Effect.TheVariants.{To, Out}
 use Rattle.ballot_base.specs.Serving.{proposed, most_places}

@@ -6,7 +6,7 @@ ghost use Rattle.node.specs.Running.{Extends};
 use crate::node_core::{Handed, Item, Port};
 use crate::node_state::NodeState;
 use ballot::{Effect, Status};
-use broker_base::{Command, Output};
+use connecting_base::{Command, Output};
 use machine::Memory;
 use std::sync::{Mutex, Wait};
 

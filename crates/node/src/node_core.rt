@@ -21,7 +21,7 @@ mod taking;
 mod tests;
 
 use ballot::{Config, Effect, OpeningError, Status};
-use broker_base::{Command, Output};
+use connecting_base::{Command, Output};
 pub use handed::Handed;
 pub use item::{Item, Port};
 use machine::Memory;

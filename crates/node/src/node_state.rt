@@ -9,7 +9,7 @@ ghost use Rattle.node.specs.State.{TakesOne};
 
 use crate::node_core::{Handed, Item, NodeCore, Port};
 use ballot::{Config, Effect, OpeningError, Status};
-use broker_base::{Command, Output};
+use connecting_base::{Command, Output};
 use machine::Memory;
 use std::alloc::Global;
 use std::collections::VecDeque;

@@ -9,7 +9,7 @@ ghost use Rattle.node.specs.Step.{refused};
 use crate::node_core::handed::Handed;
 use crate::node_core::item::Port;
 use crate::node_core::piece::Piece;
-use broker_base::ConnectionId;
+use connecting_base::ConnectionId;
 use machine::Memory;
 use packet::{Connack, Packet, RefusalCode};
 use std::alloc::Global;

@@ -7,7 +7,7 @@ ghost use Rattle.node.specs.Step.{delivered, has_room, proposes, served_by};
 
 use crate::node_core::serving::Serving;
 use ballot::Effect;
-use broker_base::{Command, Output};
+use connecting_base::{Command, Output};
 
 impl Serving {
     /// Proposes a command and does what it gives at once: whether it was taken.

@@ -2,7 +2,7 @@
 
 ghost use Rattle.std.specs.Prelude.{◌≡◌, ◌≤◌, ◌↔◌, false, true, drop, IfOk, IfSome, OnSome, IfNone, IsErrOf};
 ghost use Rattle.std.specs.List.{position};
-ghost use Rattle.broker_base.specs.Connection.{is_connection_name};
+ghost use Rattle.connecting_base.specs.Connection.{is_connection_name};
 ghost use Rattle.ballot_base.specs.Config.{is_lawful};
 ghost use Rattle.ballot_base.specs.Replica.{status_of};
 ghost use Rattle.node.specs.Connections.{asked, closed, holding, is_open_at, is_open_named, putting};
@@ -16,8 +16,8 @@ use crate::node_core::item::Port;
 use crate::node_core::listing::{close_each, has_port, keep_listed, push};
 use crate::node_core::piece::Piece;
 use ballot::{Config, OpeningError, Replica, Status};
-use broker::BrokerMachine;
-use broker_base::ConnectionId;
+use connecting::BrokerMachine;
+use connecting_base::ConnectionId;
 use packet::{Packet, RefusalCode};
 use std::alloc::Global;
 use std::marker::Model;

@@ -12,7 +12,7 @@ use crate::node_core::item::{Item, Port};
 use crate::node_core::piece::Piece;
 use crate::node_core::serving::Serving;
 use ballot::Effect;
-use broker_base::{Command, ConnectionId, Output};
+use connecting_base::{Command, ConnectionId, Output};
 use packet::Connect;
 
 impl Serving {

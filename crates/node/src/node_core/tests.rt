@@ -2,7 +2,7 @@
 
 use crate::node_core::{Handed, Item, NodeCore, Piece, Port};
 use ballot::{Config, Effect, Members, Role, Status};
-use broker_base::{Command, Output};
+use connecting_base::{Command, Output};
 use std::alloc::Global;
 use std::process::Abort;
 use std::test::Fail;

@@ -1,6 +1,0 @@
-use Rattle.broker_base.proofs.FormAgain.{thawed-frozen}
-use Rattle.broker_base.proofs.FormFound.{table_found}
-use Rattle.broker_base.proofs.laws.form_is_read.Goals as goal
-
-pub returns : goal.returns
-returns c = (thawed-frozen, table_found)

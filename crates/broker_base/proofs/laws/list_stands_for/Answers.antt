@@ -1,5 +1,0 @@
-use Rattle.broker_base.proofs.ListStandsFor.{list-stands-for}
-use Rattle.broker_base.proofs.laws.list_stands_for.Goals as goal
-
-pub returns : goal.returns
-returns c = list-stands-for
