@@ -5,13 +5,18 @@
 mod granted;
 mod inbox;
 mod matching;
+mod packets;
+mod publications;
 mod retained_topics;
+mod streams;
 
 use anyhow::{Result, bail};
 use std::env;
 
 /// The benchmarks, each named like its file.
-const NAMES: [&str; 4] = ["granted", "inbox", "matching", "retained"];
+const NAMES: [&str; 6] = [
+    "granted", "inbox", "matching", "packets", "retained", "streams",
+];
 
 fn main(rt: HostRuntime) -> Result<()> {
     let mut words = env::args(&rt)?;
@@ -35,7 +40,9 @@ fn run(rt: &HostRuntime, name: &str) -> Result<()> {
     match name {
         "granted" => granted::run(rt),
         "matching" => matching::run(rt),
+        "packets" => packets::run(rt),
         "retained" => retained_topics::run(rt),
+        "streams" => streams::run(rt),
         _ => bail!("no benchmark has the name {name}"),
     }
 }

@@ -1,0 +1,54 @@
+// Times of a cutter, for large packets that come in small pieces and for small packets that come
+// all at once.
+
+use crate::publications::append;
+use anyhow::{Result, bail};
+use cutter::Cutter;
+use std::alloc::Global;
+use std::time::Instant;
+
+/// What a TCP segment carries on an Ethernet, in bytes.
+const SEGMENT: usize = 1_460;
+
+/// Prints the times of both at a number of packets and at twice as many. A large packet has 1 MiB.
+pub fn run(rt: &HostRuntime) -> Result<()> {
+    measure(rt, 16, 1_048_557, SEGMENT)?;
+    measure(rt, 32, 1_048_557, SEGMENT)?;
+    measure(rt, 100_000, 83, usize::MAX)?;
+    measure(rt, 200_000, 83, usize::MAX)
+}
+
+fn measure(rt: &HostRuntime, count: u32, payload_len: usize, most: usize) -> Result<()> {
+    let mut stream = Vec::new(rt.alloc());
+    append(rt.alloc(), count, payload_len, &mut stream)?;
+    let piece = most.min(stream.len());
+    let start = Instant::now(rt)?;
+    let taken = pour(rt.alloc(), &stream, piece)?;
+    let micros = start.elapsed(rt)?.as_micros();
+    if taken != count {
+        bail!("{taken} of {count} packets were taken");
+    }
+    let bytes = stream.len();
+    println!(rt; "{count} packets, {bytes} bytes in pieces of {piece}: {micros} us")?;
+    Ok(())
+}
+
+// Feeds the stream piece by piece, takes all that is whole behind each, and counts the packets.
+fn pour(alloc: Global, stream: &[u8], piece: usize) -> Result<u32> {
+    let mut cutter = Cutter::new(alloc);
+    let mut taken = 0u32;
+    for part in stream.chunks(piece.max(1)) {
+        cutter.feed(part)?;
+        taken = taken.saturating_add(take_all(&mut cutter)?);
+    }
+    Ok(taken)
+}
+
+fn take_all(cutter: &mut Cutter) -> Result<u32> {
+    for taken in 0..u32::MAX {
+        if cutter.next()?.is_none() {
+            return Ok(taken);
+        }
+    }
+    Ok(u32::MAX)
+}
