@@ -10,12 +10,14 @@ use std::time::Instant;
 /// What a TCP segment carries on an Ethernet, in bytes.
 const SEGMENT: usize = 1_460;
 
-/// Prints the times of both at a number of packets and at twice as many. A large packet has 1 MiB.
+/// Prints the times of both at a number of packets, at twice as many, and of the small ones at four
+/// times as many. A large packet has 1 MiB.
 pub fn run(rt: &HostRuntime) -> Result<()> {
     measure(rt, 16, 1_048_557, SEGMENT)?;
     measure(rt, 32, 1_048_557, SEGMENT)?;
     measure(rt, 100_000, 83, usize::MAX)?;
-    measure(rt, 200_000, 83, usize::MAX)
+    measure(rt, 200_000, 83, usize::MAX)?;
+    measure(rt, 400_000, 83, usize::MAX)
 }
 
 fn measure(rt: &HostRuntime, count: u32, payload_len: usize, most: usize) -> Result<()> {
