@@ -1,0 +1,10 @@
+pub mod Connection
+pub mod Sized
+pub mod Place
+pub mod Past
+pub mod Owner
+pub mod Publication
+pub mod Subscriptions
+pub mod Received
+pub mod Retained
+pub mod Entries
