@@ -60,7 +60,7 @@ pub data Entry : Type 0 where
   Released : (made : ℕ) → (publication : Publication) → (id start release : ℕ) → Entry
   Finished : (made : ℕ) → (publication : Publication) → (id start : ℕ) → (release : Option ℕ) → (finish : ℕ) → Entry
 
--- where an entry comes from: a PUBLISH taken at this place, or what was retained when a SUBSCRIBE came at it
-pub data Origin : Type 0 where
-  FromPublish : (place : ℕ) → Origin
-  FromRetained : (place : ℕ) → Origin
+-- whether it takes room: all but the finished ones do
+abbrev pub is_unfinished : Entry → Bool
+is_unfinished (Entry.Finished made p id start release finish) = false
+is_unfinished _ = true

@@ -8,3 +8,10 @@ pub mod Subscriptions
 pub mod Received
 pub mod Retained
 pub mod Entries
+pub mod Readings
+pub mod Times
+pub mod Marks
+pub mod Commands
+pub mod Sends
+pub mod Answers
+pub mod RowWords

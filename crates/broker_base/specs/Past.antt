@@ -1,9 +1,8 @@
 -- What a list of commands says of connections and sessions (MQTT 3.1.2.4, 3.1.4, 3.14.4, 4.1).
 -- Every question is asked of a past, so what holds at a place is answered by the places below it.
-use Rattle.std.specs.Prelude.{◌≡◌, ℕ, ◌-◌, suc, Bool, true, false, ◌&&◌, ◌||◌, not, if◌then◌else◌, List, [], ◌∷◌, length, filter, drop, Option, Some, None, is_some}
-use Rattle.std.specs.Ordering.{match_ordering}
+use Rattle.std.specs.Prelude.{◌≡◌, ℕ, ◌-◌, suc, Bool, true, false, ◌&&◌, ◌||◌, not, if◌then◌else◌, [], ◌∷◌, length, drop, Option, Some, None, is_some}
 use Rattle.broker_base.specs.Connection.{ConnectionName, same_connection}
-use Rattle.broker_base.specs.Place.{Client, by_bytes, same_client, Mark, Place, Past, only_if}
+use Rattle.broker_base.specs.Place.{Client, same_client, Mark, Place, Past, only_if}
 use Rattle.broker_base.specs.declared.command.Command.{Command}
 use Rattle.broker_base.specs.declared.command.Command.TheVariants as commands
 

@@ -1,5 +1,5 @@
 -- The retained publications (MQTT 3.3.1.3).
-use Rattle.std.specs.Prelude.{Bool, true, false, not, ◌&&◌, nat_le, if◌then◌else◌, List, [], ◌∷◌, length, is_none}
+use Rattle.std.specs.Prelude.{Bool, not, ◌&&◌, nat_le, if◌then◌else◌, [], ◌∷◌, length, is_none}
 use Rattle.packet.specs.declared.packet.Packet.TheVariants as packets
 use Rattle.retained.specs.Retained.{Content, after_put, is_empty, kept_of}
 use Rattle.broker_base.specs.Place.{Mark, Past, Limits}
