@@ -1,5 +1,6 @@
 pub mod Connection
 pub mod Sized
+pub mod Logged
 pub mod Place
 pub mod Past
 pub mod Owner

@@ -1,5 +1,5 @@
 -- The identifiers of QoS 2 publications that a session received and does not have a PUBREL for (MQTT 4.3.3).
-use Rattle.std.specs.Prelude.{ℕ, Bool, false, not, ◌==◌, nat_lt, if◌then◌else◌, List, [], ◌∷◌, filter}
+use Rattle.std.specs.Prelude.{ℕ, Bool, true, false, not, ◌==◌, nat_lt, if◌then◌else◌, List, [], ◌∷◌, filter}
 use Rattle.std.specs.List.{list_any}
 use Rattle.packet.specs.declared.delivery.Delivery.{Delivery}
 use Rattle.packet.specs.declared.delivery.Delivery.TheVariants as deliveries
@@ -49,3 +49,13 @@ received_of (place ∷ past) c =
 abbrev pub is_repeat : Past → Client → Delivery → Bool
 is_repeat past c (deliveries.ExactlyOnce dup id) = has_id id (received_of past c)
 is_repeat past c _ = false
+
+-- a delivery at QoS 2
+abbrev pub is_exactly_once : Delivery → Bool
+is_exactly_once (deliveries.ExactlyOnce dup id) = true
+is_exactly_once _ = false
+
+-- whether a command brings a new publication: a PUBLISH at QoS 2 that is taken (MQTT 4.3.3)
+abbrev pub is_new : Command → Mark → Bool
+is_new (commands.Packet x (packets.Publish p)) (Mark.Taken c) = is_exactly_once p.delivery
+is_new _ _ = false
