@@ -16,3 +16,5 @@ pub mod Commands
 pub mod Sends
 pub mod Answers
 pub mod RowWords
+pub mod Rows
+pub mod MoreRows

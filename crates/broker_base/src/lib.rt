@@ -4,8 +4,15 @@
 
 mod command;
 mod connection_id;
+mod rows;
 mod sized_packet;
 
 pub use command::{Answer, Command};
 pub use connection_id::ConnectionId;
+pub use rows::{
+    a_full_queue_keeps_the_order, a_repeat_before_pubrel, a_second_connection_takes_over,
+    connect_is_answered, ping_unsubscribe_and_violations, puback_frees_its_identifier,
+    publish_reaches_the_subscriber, pubrel_twice, retained_at_subscribe, subscribe_is_granted,
+    two_filters_one_publication, window_of_64,
+};
 pub use sized_packet::{SizedPacket, TooLarge};
