@@ -1,0 +1,4 @@
+pub mod CurrentIsLastAccepted
+pub mod RepeatIsUnreleased
+pub mod NothingWaits
+pub mod EntriesGrow

@@ -18,3 +18,5 @@ pub mod Answers
 pub mod RowWords
 pub mod Rows
 pub mod MoreRows
+pub mod Laws
+pub mod EntryLaws

@@ -4,11 +4,13 @@
 
 mod command;
 mod connection_id;
+mod laws;
 mod rows;
 mod sized_packet;
 
 pub use command::{Answer, Command};
 pub use connection_id::ConnectionId;
+pub use laws::current_is_last_accepted;
 pub use rows::{
     a_full_queue_keeps_the_order, a_repeat_before_pubrel, a_second_connection_takes_over,
     connect_is_answered, ping_unsubscribe_and_violations, puback_frees_its_identifier,

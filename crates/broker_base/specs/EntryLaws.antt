@@ -1,0 +1,53 @@
+-- What readers may want to know of a session's entries: what waits, what starts, identifiers, and how the list grows.
+use Rattle.std.specs.Prelude.{◌≡◌, ◌≤◌, ◌<◌, ℕ, suc, Bool, true, false, List, [], ◌∷◌, ◌++◌, length, filter, map, Option, Some, None, is_some, ◌⊎◌}
+use Rattle.std.specs.List.{AllByRecursion}
+use Rattle.broker_base.specs.Connection.{ConnectionName}
+use Rattle.broker_base.specs.Place.{Client, Mark, Place, Past, Limits}
+use Rattle.broker_base.specs.Past.{current_connection, session_of, begins}
+use Rattle.broker_base.specs.Publication.{Publication}
+use Rattle.broker_base.specs.Entries.{Entry, is_unfinished}
+use Rattle.broker_base.specs.Times.{entries_of, window_at}
+use Rattle.broker_base.specs.declared.command.Command.{Command}
+use Rattle.broker_base.specs.declared.command.Command.TheVariants as commands
+
+-- ---- what waits
+
+-- an entry waits only where its client has no connection, or the window is full of the earlier ones (MQTT 4.6)
+abbrev pub NothingWaitsInVain : Type 0
+NothingWaitsInVain =
+    (limits : Limits) (past : Past) (c : Client) (before behind : List Entry) (made : ℕ) (p : Publication)
+    → entries_of limits past c ≡ before ++ Entry.Waits made p ∷ behind
+    → (current_connection past c ≡ None) ⊎ (window_at limits past ≤ length (filter is_unfinished before))
+
+-- ---- how the list grows
+
+-- One place later, at place n: an entry that waited waits or started here; one that started goes on, is released
+-- or finished here; a finished one stays. Identifier, publication and times stay as they were.
+abbrev pub GoesOn : ℕ → Entry → Entry → Type 0
+GoesOn n (Entry.Waits made p) later =
+    (later ≡ Entry.Waits made p) ⊎ ((id : ℕ) × (later ≡ Entry.Started made p id n))
+GoesOn n (Entry.Started made p id start) later =
+    (later ≡ Entry.Started made p id start) ⊎ ((later ≡ Entry.Released made p id start n)
+    ⊎ (later ≡ Entry.Finished made p id start None n))
+GoesOn n (Entry.Released made p id start release) later =
+    (later ≡ Entry.Released made p id start release) ⊎ (later ≡ Entry.Finished made p id start (Some release) n)
+GoesOn n (Entry.Finished made p id start release finish) later = later ≡ Entry.Finished made p id start release finish
+
+-- an entry that place n made: it waits, or started there
+abbrev pub IsMadeAt : ℕ → Entry → Type 0
+IsMadeAt n (Entry.Waits made p) = made ≡ n
+IsMadeAt n (Entry.Started made p id start) = (made ≡ n) × (start ≡ n)
+IsMadeAt n _ = ⊥
+
+-- the earlier entries go on in their order, and those behind them are made at place n
+abbrev pub GrowsTo : ℕ → List Entry → List Entry → Type 0
+GrowsTo n (entry ∷ entries) (later ∷ others) = GoesOn n entry later × GrowsTo n entries others
+GrowsTo n (entry ∷ entries) [] = ⊥
+GrowsTo n [] others = AllByRecursion (IsMadeAt n) others
+
+-- while a session lasts its entries only grow, and none un-starts
+abbrev pub EntriesOnlyGrow : Type 0
+EntriesOnlyGrow =
+    (limits : Limits) (place : Place) (past : Past) (c : Client)
+    → is_some (session_of (place ∷ past) c) ≡ true → begins place past c ≡ false
+    → GrowsTo (length past) (entries_of limits past c) (entries_of limits (place ∷ past) c)
