@@ -2,3 +2,5 @@ pub mod CurrentIsLastAccepted
 pub mod RepeatIsUnreleased
 pub mod NothingWaits
 pub mod EntriesGrow
+pub mod TakenPublishAddsOne
+pub mod PacketOfNobody

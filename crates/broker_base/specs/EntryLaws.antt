@@ -1,10 +1,14 @@
 -- What readers may want to know of a session's entries: what waits, what starts, identifiers, and how the list grows.
-use Rattle.std.specs.Prelude.{◌≡◌, ◌≤◌, ◌<◌, ℕ, suc, Bool, true, false, List, [], ◌∷◌, ◌++◌, length, filter, map, Option, Some, None, is_some, ◌⊎◌}
+use Rattle.std.specs.Prelude.{◌≡◌, ◌≤◌, ◌<◌, ℕ, suc, ◌+◌, if◌then◌else◌, Bool, true, false, List, [], ◌∷◌, ◌++◌, length, filter, map, Option, Some, None, is_some, ◌⊎◌}
 use Rattle.std.specs.List.{AllByRecursion}
+use Rattle.packet.specs.declared.publish.Publish.{Publish}
+use Rattle.packet.specs.declared.packet.Packet.TheVariants as packets
 use Rattle.broker_base.specs.Connection.{ConnectionName}
 use Rattle.broker_base.specs.Place.{Client, Mark, Place, Past, Limits}
 use Rattle.broker_base.specs.Past.{current_connection, session_of, begins}
-use Rattle.broker_base.specs.Publication.{Publication}
+use Rattle.broker_base.specs.Publication.{Publication, publication_of}
+use Rattle.broker_base.specs.Subscriptions.{effective_qos}
+use Rattle.broker_base.specs.Marks.{is_queued_at}
 use Rattle.broker_base.specs.Entries.{Entry, is_unfinished}
 use Rattle.broker_base.specs.Times.{entries_of, window_at}
 use Rattle.broker_base.specs.declared.command.Command.{Command}
@@ -51,3 +55,15 @@ EntriesOnlyGrow =
     (limits : Limits) (place : Place) (past : Past) (c : Client)
     → is_some (session_of (place ∷ past) c) ≡ true → begins place past c ≡ false
     → GrowsTo (length past) (entries_of limits past c) (entries_of limits (place ∷ past) c)
+
+-- the place of a taken PUBLISH of this client
+abbrev pub taken : ConnectionName → Publish → Client → Place
+taken x p d = record { command = commands.Packet x (packets.Publish p); mark = Mark.Taken d }
+
+-- a taken PUBLISH gives a session one entry where its effective QoS is 1 or 2, and else none (MQTT 3.3.5)
+abbrev pub TakenPublishAddsOne : Type 0
+TakenPublishAddsOne =
+    (limits : Limits) (past : Past) (x : ConnectionName) (p : Publish) (d c : Client)
+    → is_some (session_of (taken x p d ∷ past) c) ≡ true
+    → length (entries_of limits (taken x p d ∷ past) c)
+    ≡ length (entries_of limits past c) + (if is_queued_at (effective_qos past c (publication_of p)) then 1 else 0)

@@ -20,3 +20,4 @@ pub mod Rows
 pub mod MoreRows
 pub mod Laws
 pub mod EntryLaws
+pub mod QuietLaws
