@@ -4,3 +4,5 @@ pub mod NothingWaits
 pub mod EntriesGrow
 pub mod TakenPublishAddsOne
 pub mod PacketOfNobody
+pub mod LeastFree
+pub mod IdentifiersApart

@@ -21,3 +21,4 @@ pub mod MoreRows
 pub mod Laws
 pub mod EntryLaws
 pub mod QuietLaws
+pub mod IdentifierLaws
