@@ -1,14 +1,13 @@
 -- While a session lasts its entries only grow: each goes on, in order, and new ones come behind.
-use Rattle.std.proofs.Common.{◌≡◌, ℕ, suc, ◌≤◌, ◌+◌, Bool, true, false, not, ◌&&◌, ◌==◌, nat_lt, if◌then◌else◌, List, [], ◌∷◌, ◌++◌, length, map, filter, Option, Some, None, ◌⊎◌, inl, inr, refl, sym, ◌∙◌, ap, arith}
+use Rattle.std.proofs.Common.{◌≡◌, ℕ, Bool, true, false, not, ◌&&◌, ◌==◌, nat_lt, if◌then◌else◌, List, [], ◌∷◌, ◌++◌, length, map, Option, Some, None, inl, inr, refl, ap}
 use Rattle.std.specs.Prelude.{is_some}
 use Rattle.std.specs.List.{AllByRecursion}
-use Rattle.packet.specs.declared.packet.Packet.{Packet}
 use Rattle.packet.specs.declared.packet.Packet.TheVariants as packets
 use Rattle.broker_base.specs.Connection.{ConnectionName}
-use Rattle.broker_base.specs.Place.{Client, same_client, Mark, Place, Past, Limits}
+use Rattle.broker_base.specs.Place.{Client, same_client, Mark}
 use Rattle.broker_base.specs.Past.{current_connection, session_of, begins, in_session}
 use Rattle.broker_base.specs.Publication.{Publication, is_acknowledged}
-use Rattle.broker_base.specs.Entries.{Entry, copies_at, queued, is_unfinished}
+use Rattle.broker_base.specs.Entries.{Entry, copies_at, queued}
 use Rattle.broker_base.specs.Times.{entries_of, window_at, start_all, started, answered_by, least_free, at_puback, at_pubrec, at_pubcomp}
 use Rattle.broker_base.specs.EntryLaws.{GoesOn, GrowsTo, IsMadeAt, EntriesOnlyGrow}
 use Rattle.broker_base.specs.declared.command.Command.{Command}

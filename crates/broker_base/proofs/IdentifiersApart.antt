@@ -1,14 +1,14 @@
 -- In a session's entries what waits stands last, and no two that are under way have one identifier.
-use Rattle.std.proofs.Common.{◌≡◌, ℕ, suc, ◌≤◌, ◌+◌, Bool, true, false, ◌||◌, ◌==◌, nat_lt, if◌then◌else◌, List, [], ◌∷◌, ◌++◌, length, map, Option, Some, None, ◌⊎◌, inl, inr, refl, sym, ◌∙◌, ap, arith}
+use Rattle.std.proofs.Common.{◌≡◌, ℕ, Bool, true, false, ◌||◌, ◌==◌, nat_lt, if◌then◌else◌, List, [], ◌∷◌, ◌++◌, length, map, Option, Some, None, inl, inr, refl, ◌∙◌, ap, arith}
 use Rattle.std.specs.List.{AllByRecursion}
 use Rattle.broker_base.specs.Connection.{ConnectionName}
-use Rattle.broker_base.specs.Place.{Client, Place, Past, Limits}
+use Rattle.broker_base.specs.Place.{Client, Past, Limits}
 use Rattle.broker_base.specs.Past.{current_connection, session_of, begins, in_session}
 use Rattle.broker_base.specs.Publication.{Publication}
 use Rattle.broker_base.specs.Received.{has_id}
 use Rattle.broker_base.specs.Entries.{Entry, copies_at, queued}
 use Rattle.broker_base.specs.Readings.{busy_ids}
-use Rattle.broker_base.specs.Times.{entries_of, window_at, start_all, started, answered_by, least_free}
+use Rattle.broker_base.specs.Times.{entries_of, window_at, start_all, started, least_free}
 use Rattle.broker_base.specs.IdentifierLaws.{IsDistinct, IdentifiersAreDistinct, IsWaiting, WaitsLast, StartedComeFirst}
 use Rattle.broker_base.proofs.EntriesGrow.{Answered, Answering, answers-by}
 use Rattle.broker_base.proofs.LeastFree.{least-is-free}

@@ -6,3 +6,6 @@ pub mod TakenPublishAddsOne
 pub mod PacketOfNobody
 pub mod LeastFree
 pub mod IdentifiersApart
+pub mod IdentifiersInWindow
+pub mod StartsWhereItMay
+pub mod FilterHasLastGranting

@@ -1,11 +1,11 @@
 -- An entry waits only where its client has no connection, or the window is full of the earlier ones.
-use Rattle.std.proofs.Common.{◌≡◌, ℕ, suc, ◌≤◌, ◌+◌, Bool, true, false, nat_lt, if◌then◌else◌, List, [], ◌∷◌, ◌++◌, length, map, filter, Option, Some, None, ◌⊎◌, inl, inr, refl, sym, ◌∙◌, ap, arith}
+use Rattle.std.proofs.Common.{◌≡◌, ℕ, suc, ◌≤◌, ◌+◌, Bool, true, false, nat_lt, if◌then◌else◌, List, [], ◌∷◌, ◌++◌, length, filter, Option, Some, None, ◌⊎◌, inl, inr, refl, arith}
 use Rattle.broker_base.specs.Connection.{ConnectionName}
-use Rattle.broker_base.specs.Place.{Client, Place, Past, Limits}
+use Rattle.broker_base.specs.Place.{Client, Past, Limits}
 use Rattle.broker_base.specs.Past.{current_connection, session_of, begins, in_session}
 use Rattle.broker_base.specs.Publication.{Publication}
-use Rattle.broker_base.specs.Entries.{Entry, copies_at, queued, is_unfinished}
-use Rattle.broker_base.specs.Times.{entries_of, window_at, start_all, started, answered_by, least_free}
+use Rattle.broker_base.specs.Entries.{Entry, is_unfinished}
+use Rattle.broker_base.specs.Times.{entries_of, window_at, start_all, started, least_free}
 use Rattle.broker_base.specs.EntryLaws.{NothingWaitsInVain}
 
 -- with so many unfinished entries before these, each that waits has a full window before it

@@ -1,26 +1,20 @@
 -- A packet of a connection that is nobody's current one: nothing changes, and nothing is given.
-use Rattle.std.proofs.Common.{◌≡◌, ℕ, suc, ◌≤◌, Bool, true, false, not, ◌&&◌, nat_lt, if◌then◌else◌, List, [], ◌∷◌, ◌++◌, length, map, Option, Some, None, ◌⊎◌, inl, inr, refl, sym, ◌∙◌, ap, arith, append-nil}
+use Rattle.std.proofs.Common.{◌≡◌, ℕ, ◌≤◌, Bool, true, false, not, ◌&&◌, nat_lt, if◌then◌else◌, List, [], ◌∷◌, length, Option, Some, None, ◌⊎◌, inl, inr, refl, sym, ◌∙◌, ap, arith, append-nil}
 use Rattle.packet.specs.declared.subscribe.Subscription.{Subscription}
 use Rattle.packet.specs.declared.packet.Packet.{Packet}
 use Rattle.packet.specs.declared.packet.Packet.TheVariants as packets
 use Rattle.retained.specs.Retained.{Content}
 use Rattle.broker_base.specs.Connection.{ConnectionName, same_connection}
 use Rattle.broker_base.specs.Place.{Client, Mark, Place, Past, Limits, only_if}
-use Rattle.broker_base.specs.Past.{any_connection, current_connection, newest_connection, session_of, newest_session, begins, in_session}
-use Rattle.broker_base.specs.Owner.{owner_of}
-use Rattle.broker_base.specs.Publication.{Publication}
+use Rattle.broker_base.specs.Past.{any_connection, current_connection, session_of, newest_session, begins, in_session}
 use Rattle.broker_base.specs.Subscriptions.{subscribed, subscriptions_of}
 use Rattle.broker_base.specs.Received.{received_by, received_of}
 use Rattle.broker_base.specs.Retained.{retained_by, retained_publications}
-use Rattle.broker_base.specs.Entries.{Entry, copies_by, copies_at, queued}
+use Rattle.broker_base.specs.Entries.{Entry, copies_by}
 use Rattle.broker_base.specs.Times.{entries_of, window_at, start_all, started, answered_by, least_free}
-use Rattle.broker_base.specs.Marks.{packet_mark_of}
-use Rattle.broker_base.specs.Commands.{window_from}
-use Rattle.broker_base.specs.Answers.{packet_answers, answers_of}
-use Rattle.broker_base.specs.QuietLaws.{IsSteady, LeavesAsIs, PacketOfNobodyIsNothing, WindowIsSteady}
-use Rattle.broker_base.specs.declared.command.Command.{Command}
+use Rattle.broker_base.specs.Answers.{packet_answers}
+use Rattle.broker_base.specs.QuietLaws.{IsSteady, PacketOfNobodyIsNothing, WindowIsSteady}
 use Rattle.broker_base.specs.declared.command.Command.TheVariants as commands
-use Rattle.broker_base.specs.declared.command.Answer.{Answer}
 use Rattle.broker_base.proofs.NothingWaits.{IsFull, full-at}
 
 -- the place of such a packet
@@ -225,9 +219,11 @@ same-retained past x packet = no-retained packet x (retained_publications past)
 
 pub packet_of_nobody_is_nothing : PacketOfNobodyIsNothing
 packet_of_nobody_is_nothing limits past x packet steady none =
-    rw none
-    ((λ c. record { connection = same-connection past x packet c; session = still-session past x packet c; subscriptions = same-subscriptions past x packet c; received = same-received past x packet c; entries = same-entries limits past x packet c steady }),
-    same-retained past x packet, no-answer packet limits (nobodys x packet) past x)
+    rw none (
+      (λ c. record { connection = same-connection past x packet c; session = still-session past x packet c; subscriptions = same-subscriptions past x packet c; received = same-received past x packet c; entries = same-entries limits past x packet c steady }),
+      same-retained past x packet,
+      no-answer packet limits (nobodys x packet) past x,
+    )
 
 pub window_is_steady : WindowIsSteady
 window_is_steady first place past e = rw e refl

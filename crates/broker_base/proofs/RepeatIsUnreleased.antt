@@ -1,10 +1,9 @@
 -- A PUBLISH at QoS 2 is a repeat exactly where the last word on its identifier is a taken PUBLISH.
-use Rattle.std.proofs.Common.{◌≡◌, ℕ, Bool, true, false, not, ◌&&◌, ◌||◌, ◌==◌, nat_lt, if◌then◌else◌, List, [], ◌∷◌, Option, Some, None, refl, sym, ◌∙◌, ap, arith}
+use Rattle.std.proofs.Common.{◌≡◌, ℕ, Bool, true, false, not, ◌&&◌, ◌||◌, ◌==◌, nat_lt, if◌then◌else◌, List, [], ◌∷◌, Option, Some, None, refl, ◌∙◌, ap, arith}
 use Rattle.packet.specs.declared.delivery.Delivery.{Delivery}
 use Rattle.packet.specs.declared.delivery.Delivery.TheVariants as deliveries
-use Rattle.packet.specs.declared.packet.Packet.{Packet}
 use Rattle.packet.specs.declared.packet.Packet.TheVariants as packets
-use Rattle.broker_base.specs.Place.{Client, same_client, Mark, Place, Past}
+use Rattle.broker_base.specs.Place.{Client, same_client, Mark}
 use Rattle.broker_base.specs.Past.{session_of, begins, in_session}
 use Rattle.broker_base.specs.Received.{has_id, without_id, with_id, receives, received_by, received_of}
 use Rattle.broker_base.specs.Laws.{brings, says_of, newest, ends_in_publish, RepeatIsUnreleased}
@@ -128,5 +127,5 @@ repeat_is_unreleased [] c id = refl
 repeat_is_unreleased (place ∷ past) c id =
     in-session (session_of (place ∷ past) c) (begins place past c) id (received_by place.command place.mark c (received_of past c))
     ∙ ap (in_session (session_of (place ∷ past) c) (begins place past c) false)
-      (word-by place.command place.mark c id (received_of past c)
-      ∙ ap (newest (says_of place.command place.mark c id)) (repeat_is_unreleased past c id))
+    (word-by place.command place.mark c id (received_of past c)
+    ∙ ap (newest (says_of place.command place.mark c id)) (repeat_is_unreleased past c id))

@@ -1,17 +1,15 @@
 -- How many entries a place gives a session.
-use Rattle.std.proofs.Common.{◌≡◌, ℕ, suc, ◌+◌, Bool, true, false, nat_lt, if◌then◌else◌, List, [], ◌∷◌, ◌++◌, length, map, Option, Some, None, refl, sym, ◌∙◌, ap, arith, length-append}
+use Rattle.std.proofs.Common.{◌≡◌, ℕ, suc, ◌+◌, Bool, true, false, nat_lt, if◌then◌else◌, List, [], ◌∷◌, length, map, Option, Some, None, refl, ◌∙◌, ap, length-append}
 use Rattle.std.specs.Prelude.{is_some}
 use Rattle.packet.specs.declared.qos.QoS.{QoS}
 use Rattle.packet.specs.declared.qos.QoS.TheVariants as levels
-use Rattle.packet.specs.declared.packet.Packet.TheVariants as packets
 use Rattle.broker_base.specs.Connection.{ConnectionName}
-use Rattle.broker_base.specs.Place.{Client, Mark, Place, Past, Limits}
-use Rattle.broker_base.specs.Past.{current_connection, session_of, begins, in_session}
+use Rattle.broker_base.specs.Past.{current_connection, session_of, in_session}
 use Rattle.broker_base.specs.Publication.{Publication, publication_of}
 use Rattle.broker_base.specs.Subscriptions.{effective_qos}
 use Rattle.broker_base.specs.Marks.{is_queued_at}
-use Rattle.broker_base.specs.Entries.{Entry, copy_of, copies_at, queued}
-use Rattle.broker_base.specs.Times.{entries_of, window_at, start_all, started, answered_by, least_free}
+use Rattle.broker_base.specs.Entries.{Entry, copy_of, queued}
+use Rattle.broker_base.specs.Times.{entries_of, window_at, start_all, started, least_free}
 use Rattle.broker_base.specs.EntryLaws.{taken, TakenPublishAddsOne}
 
 start-length : (w n : ℕ) (busy : List ℕ) (es : List Entry) → length (start_all w n busy es) ≡ length es

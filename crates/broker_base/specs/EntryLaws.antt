@@ -1,5 +1,5 @@
 -- What readers may want to know of a session's entries: what waits, what starts, identifiers, and how the list grows.
-use Rattle.std.specs.Prelude.{◌≡◌, ◌≤◌, ◌<◌, ℕ, suc, ◌+◌, if◌then◌else◌, Bool, true, false, List, [], ◌∷◌, ◌++◌, length, filter, map, Option, Some, None, is_some, ◌⊎◌}
+use Rattle.std.specs.Prelude.{◌≡◌, ◌≤◌, ℕ, ◌+◌, if◌then◌else◌, true, false, List, [], ◌∷◌, ◌++◌, length, filter, Some, None, is_some, ◌⊎◌}
 use Rattle.std.specs.List.{AllByRecursion}
 use Rattle.packet.specs.declared.publish.Publish.{Publish}
 use Rattle.packet.specs.declared.packet.Packet.TheVariants as packets
@@ -11,7 +11,6 @@ use Rattle.broker_base.specs.Subscriptions.{effective_qos}
 use Rattle.broker_base.specs.Marks.{is_queued_at}
 use Rattle.broker_base.specs.Entries.{Entry, is_unfinished}
 use Rattle.broker_base.specs.Times.{entries_of, window_at}
-use Rattle.broker_base.specs.declared.command.Command.{Command}
 use Rattle.broker_base.specs.declared.command.Command.TheVariants as commands
 
 -- ---- what waits

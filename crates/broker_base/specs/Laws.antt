@@ -1,5 +1,5 @@
 -- What readers may want to know of the definitions: connections, received identifiers and subscriptions.
-use Rattle.std.specs.Prelude.{◌≡◌, ◌↔◌, ℕ, Bool, true, false, ◌&&◌, ◌==◌, if◌then◌else◌, List, [], ◌∷◌, ◌++◌, bytes_eq, Option, Some, None}
+use Rattle.std.specs.Prelude.{◌≡◌, ◌↔◌, ℕ, Bool, true, false, ◌&&◌, ◌==◌, if◌then◌else◌, List, [], ◌∷◌, ◌++◌, bytes_eq, Option, Some, None, option_map}
 use Rattle.std.specs.List.{AllByRecursion, list_any}
 use Rattle.packet.specs.declared.qos.QoS.{QoS}
 use Rattle.packet.specs.declared.delivery.Delivery.{Delivery}
@@ -69,23 +69,25 @@ RepeatIsUnreleased =
 
 -- ---- subscriptions
 
--- the QoS of a filter's last place in a list
+-- the QoS at which a filter stands in a session's list
+abbrev pub qos_asked : List ℕ → List Subscription → Option QoS
+qos_asked f (s ∷ more) = if bytes_eq f s.filter then Some s.qos else qos_asked f more
+qos_asked f [] = None
+
+-- the first of two, else the second
+abbrev pub either : {A : Type 0} → Option A → Option A → Option A
+either (Some word) other = Some word
+either None other = other
+
+-- the QoS of a filter's last place in a SUBSCRIBE
 abbrev pub last_qos : List ℕ → List Subscription → Option QoS
-last_qos f (s ∷ more) = unless_later (last_qos f more)
-  where
-    unless_later : Option QoS → Option QoS
-    unless_later (Some qos) = Some qos
-    unless_later None = if bytes_eq f s.filter then Some s.qos else None
+last_qos f (s ∷ more) = either (last_qos f more) (if bytes_eq f s.filter then Some s.qos else None)
 last_qos f [] = None
 
--- what a command says of a filter: granted at a QoS, given up, or nothing
+-- what a command says of a filter of the client: granted at a QoS, given up, or nothing
 abbrev pub word_on : Command → Mark → Client → List ℕ → Option (Option QoS)
 word_on (commands.Packet x (packets.Subscribe s)) (Mark.Granted d which) c f =
-    if same_client d c then granted_word (last_qos f (granted_of s.filters which)) else None
-  where
-    granted_word : Option QoS → Option (Option QoS)
-    granted_word (Some qos) = Some (Some qos)
-    granted_word None = None
+    if same_client d c then option_map (λ qos. Some qos) (last_qos f (granted_of s.filters which)) else None
 word_on (commands.Packet x (packets.Unsubscribe u)) (Mark.Handled d) c f =
     if same_client d c && list_any (bytes_eq f) u.filters then Some None else None
 word_on _ _ c f = None
@@ -100,4 +102,4 @@ last_granting (place ∷ past) c f =
 -- a session's filters have the QoS of their last granting (MQTT 3.8.4, 3.10.4)
 abbrev pub FilterHasLastGranting : Type 0
 FilterHasLastGranting =
-    (past : Past) (c : Client) (f : List ℕ) → last_qos f (subscriptions_of past c) ≡ last_granting past c f
+    (past : Past) (c : Client) (f : List ℕ) → qos_asked f (subscriptions_of past c) ≡ last_granting past c f

@@ -22,3 +22,4 @@ pub mod Laws
 pub mod EntryLaws
 pub mod QuietLaws
 pub mod IdentifierLaws
+pub mod StartLaws

@@ -1,5 +1,5 @@
 -- A packet of a connection that is nobody's current one: nothing changes, and nothing is given.
-use Rattle.std.specs.Prelude.{◌≡◌, ℕ, false, List, [], ◌∷◌, None}
+use Rattle.std.specs.Prelude.{◌≡◌, ℕ, false, [], ◌∷◌, None}
 use Rattle.packet.specs.declared.packet.Packet.{Packet}
 use Rattle.broker_base.specs.Connection.{ConnectionName}
 use Rattle.broker_base.specs.Place.{Client, Place, Past, Limits}
