@@ -9,3 +9,4 @@ pub mod IdentifiersApart
 pub mod IdentifiersInWindow
 pub mod StartsWhereItMay
 pub mod FilterHasLastGranting
+pub mod EntersOnce

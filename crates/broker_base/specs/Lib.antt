@@ -23,3 +23,4 @@ pub mod EntryLaws
 pub mod QuietLaws
 pub mod IdentifierLaws
 pub mod StartLaws
+pub mod OriginLaws

@@ -3,6 +3,7 @@
 ghost use Rattle.broker_base.specs.Laws.{CurrentIsLastAccepted, FilterHasLastGranting, RepeatIsUnreleased};
 ghost use Rattle.broker_base.specs.EntryLaws.{NothingWaitsInVain, EntriesOnlyGrow, TakenPublishAddsOne};
 ghost use Rattle.broker_base.specs.IdentifierLaws.{IdentifiersAreDistinct, IdentifiersAreInTheWindow, StartedComeFirst};
+ghost use Rattle.broker_base.specs.OriginLaws.{EntersOnce};
 ghost use Rattle.broker_base.specs.QuietLaws.{PacketOfNobodyIsNothing, WindowIsSteady};
 ghost use Rattle.broker_base.specs.StartLaws.{StartsWhereItMay};
 
@@ -48,6 +49,12 @@ pub fn identifiers_are_distinct()
 /// (MQTT 3.3.5).
 pub fn taken_publish_adds_one()
     ensures { TakenPublishAddsOne }
+{}
+
+/// A publication enters a session at most once, also where several filters match or it is sent
+/// again (MQTT 3.3.5, 4.3.3).
+pub fn enters_once()
+    ensures { EntersOnce }
 {}
 
 /// A packet of a connection that is nobody's current one changes nothing and gives nothing
