@@ -10,3 +10,4 @@ pub mod IdentifiersInWindow
 pub mod StartsWhereItMay
 pub mod FilterHasLastGranting
 pub mod EntersOnce
+pub mod AnswersAreAddressed

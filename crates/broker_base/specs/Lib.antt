@@ -24,3 +24,4 @@ pub mod QuietLaws
 pub mod IdentifierLaws
 pub mod StartLaws
 pub mod OriginLaws
+pub mod AnswerLaws

@@ -5,6 +5,7 @@ ghost use Rattle.broker_base.specs.EntryLaws.{NothingWaitsInVain, EntriesOnlyGro
 ghost use Rattle.broker_base.specs.IdentifierLaws.{IdentifiersAreDistinct, IdentifiersAreInTheWindow, StartedComeFirst};
 ghost use Rattle.broker_base.specs.OriginLaws.{EntersOnce};
 ghost use Rattle.broker_base.specs.QuietLaws.{PacketOfNobodyIsNothing, WindowIsSteady};
+ghost use Rattle.broker_base.specs.AnswerLaws.{AnswersAreAddressed};
 ghost use Rattle.broker_base.specs.StartLaws.{StartsWhereItMay};
 
 /// A client is served on the connection of its last accepted Connect, unless that one was ended
@@ -62,6 +63,12 @@ pub fn enters_once()
 pub fn packet_of_nobody_is_nothing()
     ensures nothing { PacketOfNobodyIsNothing }
     ensures steady { WindowIsSteady }
+{}
+
+/// Each answer goes to the connection that the command names, or is a PUBLISH or a Close to some
+/// client's current connection.
+pub fn answers_are_addressed()
+    ensures { AnswersAreAddressed }
 {}
 
 /// An entry starts only where its client has a connection and fewer entries than the window are
