@@ -1,0 +1,13 @@
+pub mod CurrentIsLastAccepted
+pub mod RepeatIsUnreleased
+pub mod NothingWaits
+pub mod EntriesGrow
+pub mod TakenPublishAddsOne
+pub mod PacketOfNobody
+pub mod LeastFree
+pub mod IdentifiersApart
+pub mod IdentifiersInWindow
+pub mod StartsWhereItMay
+pub mod FilterHasLastGranting
+pub mod EntersOnce
+pub mod AnswersAreAddressed

@@ -1,0 +1,38 @@
+-- The past of a list of commands, and the limits of this broker.
+use Rattle.std.specs.Prelude.{ℕ, if◌then◌else◌, Bool, true, false, List, [], ◌∷◌}
+use Rattle.broker_base.specs.Place.{Place, Past, Limits}
+use Rattle.broker_base.specs.Marks.{mark_of}
+use Rattle.broker_base.specs.declared.command.Command.{Command}
+use Rattle.broker_base.specs.declared.command.Command.TheVariants as commands
+
+-- the place of a command after these
+abbrev pub place_of : Limits → Past → Command → Place
+place_of limits past command = record { command = command; mark = mark_of limits past command }
+
+-- the places of more commands, oldest first, on top of a past: the one recursion over a list of commands
+unfoldable pub past_from : Limits → Past → List Command → Past
+past_from limits past (command ∷ commands) = past_from limits (place_of limits past command ∷ past) commands
+past_from limits past [] = past
+
+-- the places of a list of commands
+abbrev pub past_of : Limits → List Command → Past
+past_of limits = past_from limits []
+
+-- whether a new ballot begins
+abbrev pub is_start : Command → Bool
+is_start (commands.Start ballot) = true
+is_start _ = false
+
+-- the window of a broker that began with this one: from the first Start on it is 64
+abbrev pub window_from : ℕ → Past → ℕ
+window_from first (place ∷ past) = if is_start place.command then 64 else window_from first past
+window_from first [] = first
+
+-- the limits of a broker whose window was this one at first
+abbrev pub limits_from : ℕ → Limits
+limits_from first =
+    record { sessions = 4096; subscriptions = 64; entries = 4096; retained = 16384; window = window_from first }
+
+-- the limits of a broker that began empty
+abbrev pub usual_limits : Limits
+usual_limits = limits_from 64

@@ -1,0 +1,19 @@
+-- Names of Network Connections.
+use Rattle.std.specs.Prelude.{◌≡◌, ℕ, nat_lt, nat_le, ◌^◌, Bool, true, ◌==◌, ◌&&◌}
+
+-- a connection's name: the ballot in which it was accepted, and its number there
+pub record ConnectionName : Type 0 where
+  pub ballot : ℕ
+  pub count : ℕ
+
+-- ballots are 1 to 2^32, the connections of one are numbered 1 to 2^40
+abbrev pub is_connection_name : ConnectionName → Bool
+is_connection_name name =
+    (nat_lt 0 name.ballot && nat_le name.ballot (2 ^ 32)) && (nat_lt 0 name.count && nat_le name.count (2 ^ 40))
+
+abbrev pub IsConnectionName : ConnectionName → Type 0
+IsConnectionName name = is_connection_name name ≡ true
+
+-- whether two names are one
+abbrev pub same_connection : ConnectionName → ConnectionName → Bool
+same_connection x y = (x.ballot == y.ballot) && (x.count == y.count)
