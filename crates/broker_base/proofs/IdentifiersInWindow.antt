@@ -7,7 +7,8 @@ use Rattle.broker_base.specs.Publication.{Publication}
 use Rattle.broker_base.specs.Entries.{Entry, copies_at, queued}
 use Rattle.broker_base.specs.Readings.{busy_ids}
 use Rattle.broker_base.specs.Times.{entries_of, window_at, start_all, started, least_free}
-use Rattle.broker_base.specs.IdentifierLaws.{IsInWindow, IdentifiersAreInTheWindow}
+use Rattle.broker_base.specs.Commands.{usual_limits}
+use Rattle.broker_base.specs.IdentifierLaws.{IsInWindow, IdentifiersAreInTheWindow, IdentifiersAreTo16}
 use Rattle.broker_base.proofs.EntriesGrow.{Answered, Answering, answers-by}
 use Rattle.broker_base.proofs.LeastFree.{least-in-reach}
 
@@ -81,3 +82,6 @@ identifiers_are_in_the_window limits grows (place ∷ past) c =
     (fits-answered (window_at limits (place ∷ past)) (length past) by.on_each by.answering (entries_of limits past c)
     (wider (window_at limits past) (window_at limits (place ∷ past)) (busy_ids (entries_of limits past c)) (grows place past)
     (identifiers_are_in_the_window limits grows past c))))))
+
+pub identifiers_are_to_16 : IdentifiersAreTo16
+identifiers_are_to_16 = identifiers_are_in_the_window usual_limits (λ place past. omega arith)

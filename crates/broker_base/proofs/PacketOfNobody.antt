@@ -226,4 +226,4 @@ packet_of_nobody_is_nothing limits past x packet steady none =
     )
 
 pub window_is_steady : WindowIsSteady
-window_is_steady first place past e = rw e refl
+window_is_steady = ((λ place past e. refl), (λ first place past e. rw e refl))

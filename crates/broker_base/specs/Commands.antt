@@ -23,16 +23,20 @@ abbrev pub is_start : Command → Bool
 is_start (commands.Start ballot) = true
 is_start _ = false
 
--- the window of a broker that began with this one: from the first Start on it is 64
+-- the limits of this broker, whatever its window is
+abbrev pub limits_with : (Past → ℕ) → Limits
+limits_with window =
+    record { sessions = 4096; subscriptions = 64; entries = 4096; retained = 16384; window = window }
+
+-- the limits of this broker: 16 entries of a session are under way at once
+abbrev pub usual_limits : Limits
+usual_limits = limits_with (λ past. 16)
+
+-- a window that was this one at first, and is 64 from the first Start on
 abbrev pub window_from : ℕ → Past → ℕ
 window_from first (place ∷ past) = if is_start place.command then 64 else window_from first past
 window_from first [] = first
 
--- the limits of a broker whose window was this one at first
+-- the limits of a broker with such a window
 abbrev pub limits_from : ℕ → Limits
-limits_from first =
-    record { sessions = 4096; subscriptions = 64; entries = 4096; retained = 16384; window = window_from first }
-
--- the limits of a broker that began empty
-abbrev pub usual_limits : Limits
-usual_limits = limits_from 64
+limits_from first = limits_with (window_from first)

@@ -6,6 +6,7 @@ use Rattle.broker_base.specs.Received.{has_id}
 use Rattle.broker_base.specs.Entries.{Entry}
 use Rattle.broker_base.specs.Readings.{busy_ids}
 use Rattle.broker_base.specs.Times.{entries_of, window_at}
+use Rattle.broker_base.specs.Commands.{usual_limits}
 
 -- each number once
 abbrev pub IsDistinct : List ℕ → Type 0
@@ -29,6 +30,11 @@ abbrev pub IdentifiersAreInTheWindow : Type 0
 IdentifiersAreInTheWindow =
     (limits : Limits) → NeverShrinks limits → (past : Past) (c : Client)
     → AllByRecursion (IsInWindow (window_at limits past)) (busy_ids (entries_of limits past c))
+
+-- in this broker they are 1 to 16
+abbrev pub IdentifiersAreTo16 : Type 0
+IdentifiersAreTo16 =
+    (past : Past) (c : Client) → AllByRecursion (IsInWindow 16) (busy_ids (entries_of usual_limits past c))
 
 -- an entry that waits
 abbrev pub IsWaiting : Entry → Type 0

@@ -9,7 +9,7 @@ use Rattle.broker_base.specs.Subscriptions.{subscriptions_of}
 use Rattle.broker_base.specs.Received.{received_of}
 use Rattle.broker_base.specs.Retained.{retained_publications}
 use Rattle.broker_base.specs.Times.{entries_of, window_at}
-use Rattle.broker_base.specs.Commands.{place_of, is_start, limits_from}
+use Rattle.broker_base.specs.Commands.{place_of, is_start, usual_limits, limits_from}
 use Rattle.broker_base.specs.Answers.{answers_of}
 use Rattle.broker_base.specs.declared.command.Command.TheVariants as commands
 
@@ -40,6 +40,6 @@ PacketOfNobodyIsNothing =
     × (retained_publications (packet_place limits past x packet ∷ past) ≡ retained_publications past)
     × (answers_of limits past (commands.Packet x packet) ≡ [])
 
--- the window of this broker is such a one
+-- the window of this broker is such a one, and so is one that grows at a new ballot
 abbrev pub WindowIsSteady : Type 0
-WindowIsSteady = (first : ℕ) → IsSteady (limits_from first)
+WindowIsSteady = IsSteady usual_limits × ((first : ℕ) → IsSteady (limits_from first))

@@ -2,7 +2,7 @@
 
 ghost use Rattle.broker_base.specs.Laws.{CurrentIsLastAccepted, FilterHasLastGranting, RepeatIsUnreleased};
 ghost use Rattle.broker_base.specs.EntryLaws.{NothingWaitsInVain, EntriesOnlyGrow, TakenPublishAddsOne};
-ghost use Rattle.broker_base.specs.IdentifierLaws.{IdentifiersAreDistinct, IdentifiersAreInTheWindow, StartedComeFirst};
+ghost use Rattle.broker_base.specs.IdentifierLaws.{IdentifiersAreDistinct, IdentifiersAreInTheWindow, IdentifiersAreTo16, StartedComeFirst};
 ghost use Rattle.broker_base.specs.OriginLaws.{EntersOnce};
 ghost use Rattle.broker_base.specs.QuietLaws.{PacketOfNobodyIsNothing, WindowIsSteady};
 ghost use Rattle.broker_base.specs.AnswerLaws.{AnswersAreAddressed};
@@ -43,6 +43,7 @@ pub fn entries_only_grow()
 pub fn identifiers_are_distinct()
     ensures distinct { IdentifiersAreDistinct }
     ensures window { IdentifiersAreInTheWindow }
+    ensures sixteen { IdentifiersAreTo16 }
     ensures first { StartedComeFirst }
 {}
 

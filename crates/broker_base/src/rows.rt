@@ -61,14 +61,14 @@ pub fn ping_unsubscribe_and_violations()
     ensures closed { ViolationsClose }
 {}
 
-/// With a window of 16, PUBACK sends the 17th publication with the identifier that it freed, and
-/// that one stays behind the others (MQTT 4.4, 4.6).
+/// PUBACK sends the 17th publication with the identifier that it freed, and that one stays behind
+/// the others (MQTT 4.4, 4.6).
 pub fn puback_frees_its_identifier()
     ensures { PubackFreesItsIdentifier }
 {}
 
-/// 64 entries of a session are under way at once; with a broker that began with 16, from the first
-/// new ballot on.
+/// With a window of 64, as many entries of a session are under way at once; with one that grows
+/// from 16 at a new ballot, from the first ballot on that begins.
 pub fn window_of_64()
     ensures wide { WideWindowSendsAll }
     ensures seventy { WindowOf64 }
