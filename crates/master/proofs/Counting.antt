@@ -1,5 +1,5 @@
 -- Counting.antt: a turn, a loss or nothing is the counted step of an event.
-use Rattle.std.proofs.Common.{◌≡◌, ℕ, zero, suc, get_or, ◌+◌, ◌-◌, ◌^◌, ◌<◌, ◌≤◌, ◌⊎◌, inl, inr, Bool, true, false, cond, min, List, [], ◌∷◌, ◌++◌, length, Some, None, Option, refl, ap, sym, ◌∙◌, subst, arith}
+use Rattle.std.proofs.Common.{◌≡◌, ℕ, zero, suc, get_or, ◌+◌, ◌-◌, ◌^◌, ◌<◌, ◌≤◌, ◌⊎◌, inl, inr, Bool, true, false, cond, min, List, [], ◌∷◌, length, Some, None, Option, refl, ap, sym, ◌∙◌, subst, arith}
 use Rattle.std.specs.Prelude.{slice_get, nat_lt, ◌&&◌}
 use Rattle.std.proofs.lemmas.Bool.{le-ltb, lt-ltb}
 use Rattle.machine.specs.Machine.{Rules}
@@ -8,11 +8,11 @@ use Rattle.ballot_base.specs.declared.message.Effect.{Effect}
 use Rattle.ballot_base.specs.declared.status.Status.{Status}
 use Rattle.ballot_base.specs.Losses.{Loses, halted, one_more}
 use Rattle.ballot_base.specs.Protocol.{Input, step_in_one_ballot}
-use Rattle.ballot_base.specs.Protocol.Input.{Receives, Proposes, Ticks}
+use Rattle.ballot_base.specs.Protocol.Input.{Receives, Proposes}
 use Rattle.ballot_base.specs.Replica.{ReplicaState, is_active, status_of}
 use Rattle.ballot_base.specs.Serving.{most_places}
 use Rattle.master.specs.declared.event.Event.{Event}
-use Rattle.master.specs.declared.event.Event.TheVariants.{Propose, Deliver, Tick, Crash}
+use Rattle.master.specs.declared.event.Event.TheVariants.{Deliver}
 use Rattle.master.specs.Group.{World, GroupState, Turn, moved, running, can_take, taking, stopping, takes, comes, turn, behind, group_step}
 use Rattle.master.specs.Steps.{Happens, StepsBy, LosesNothing}
 use Rattle.master.specs.Steps.Happens.{nothing_happens, goes}

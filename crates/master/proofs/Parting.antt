@@ -1,8 +1,6 @@
 -- Parting.antt: messages are parted from effects one by one.
-use Rattle.std.proofs.Common.{◌≡◌, ℕ, zero, suc, ◌+◌, ◌≤◌, ◌<◌, Bool, true, false, List, [], ◌∷◌, ◌++◌, length, take, drop, get_or, refl, ap, sym, ◌∙◌, subst, append_assoc, arith}
-use Rattle.std.specs.Bool.{OnTrue, OnFalse}
+use Rattle.std.proofs.Common.{◌≡◌, ℕ, ◌+◌, ◌≤◌, ◌<◌, Bool, true, false, List, [], ◌∷◌, ◌++◌, length, take, drop, get_or, refl, ap, sym, ◌∙◌, subst, append_assoc, arith}
 use Rattle.std.specs.List.{remove}
-use Rattle.std.specs.Prelude.{◌&&◌}
 use Rattle.std.proofs.lemmas.List.{append-nil, take-append-drop, take_more, drop_more, drop-append-le, length-append, length-drop, length-take-le, get_or_default}
 use Rattle.std.proofs.Math.Seq.{drop-length, take-length}
 use Rattle.ballot_base.specs.declared.message.Message.{Message}

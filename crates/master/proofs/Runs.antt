@@ -10,11 +10,10 @@ use Rattle.master.specs.Group.{World, GroupState, Turn, turn, behind, group_step
 use Rattle.master.specs.Steps.{Happens, Run, StepsBy, LosesNothing}
 use Rattle.master.specs.Steps.Happens.{nothing_happens, goes}
 use Rattle.master.specs.Steps.Run.{ends, goes_on}
-use Rattle.master.specs.Agreement.{IsPrefixOf, Past, IsChosen, IsAgreed, AgreesAfter}
+use Rattle.master.specs.Agreement.{IsPrefixOf, Past, IsChosen, AgreesAfter}
 use Rattle.master.specs.Agreement.Past.{went_on}
-use Rattle.master.proofs.Sound.{log_at}
 use Rattle.master.proofs.Opening.{agreement, chosen_stays, past_lawful}
-use Rattle.master.proofs.Chosen.{Lawful, lawful_config, agreed_is}
+use Rattle.master.proofs.Chosen.{lawful_config, agreed_is}
 use Rattle.master.proofs.Counting.{steps_exactly}
 
 -- what is seen of a group behind some events

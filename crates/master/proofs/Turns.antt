@@ -1,6 +1,6 @@
 -- Turns.antt: a call of one replica is a turn of its group, and the messages are parted from it.
-use Rattle.std.proofs.Common.{◌≡◌, ℕ, zero, suc, ◌+◌, ◌-◌, ◌^◌, ◌<◌, ◌≤◌, ◌⊎◌, inl, inr, Bool, true, false, cond, min, List, [], ◌∷◌, ◌++◌, length, map, set, take, drop, get_or, Some, None, Option, refl, ap, sym, ◌∙◌, subst, append_assoc, arith}
-use Rattle.std.specs.Prelude.{slice_get, nat_lt}
+use Rattle.std.proofs.Common.{◌≡◌, ℕ, zero, suc, ◌+◌, ◌-◌, ◌^◌, ◌<◌, ◌≤◌, ◌⊎◌, inl, inr, Bool, true, false, cond, min, List, [], ◌∷◌, ◌++◌, length, map, set, take, drop, get_or, Some, None, refl, ap, sym, ◌∙◌, subst, arith}
+use Rattle.std.specs.Prelude.{slice_get}
 use Rattle.std.proofs.lemmas.List.{map-set, append-nil, take-append-le, length-map}
 use Rattle.std.proofs.Math.Seq.{take-length, drop-append_seam}
 use Rattle.machine.specs.Machine.{Rules}
@@ -15,7 +15,7 @@ use Rattle.ballot_base.proofs.ThinnedEffects.{Thinned-same}
 use Rattle.ballot_base.specs.declared.config.Config.{Config}
 use Rattle.ballot_base.specs.declared.status.Status.{Status}
 use Rattle.ballot_base.specs.Replica.{status_of}
-use Rattle.master.specs.Group.{World, GroupState, Turn, messages, outputs, moved, opening_nodes, opening_world, running, unless_stopped}
+use Rattle.master.specs.Group.{World, messages, outputs, moved, opening_nodes, opening_world, running, unless_stopped}
 use Rattle.master.specs.Inside.{RunsAt, TookIn, Parted, TookTurn}
 
 -- an exact step is one in which nothing was lost

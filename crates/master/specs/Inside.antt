@@ -9,7 +9,7 @@ use Rattle.ballot_base.specs.declared.message.Effect.TheVariants.{To, Out}
 use Rattle.ballot_base.specs.Losses.{Thinned, Loses, one_more}
 use Rattle.ballot_base.specs.Protocol.{Input}
 use Rattle.ballot_base.specs.Protocol.Input.{Receives, Proposes, Ticks}
-use Rattle.ballot_base.specs.Replica.{ReplicaState, Counted}
+use Rattle.ballot_base.specs.Replica.{ReplicaState}
 use Rattle.ballot_base.specs.Sending.{Outcome}
 use Rattle.master.specs.declared.turning.Taken.{Taken}
 use Rattle.master.specs.declared.turning.Taken.TheVariants.{Received, Proposed, Ticked}

@@ -1,4 +1,4 @@
-use Rattle.std.proofs.Common.{◌≡◌, ◌+◌, ◌<◌, ◌≤◌, length, ap, sym, ◌∙◌, arith}
+use Rattle.std.proofs.Common.{◌+◌, ◌<◌, length, ap, sym, ◌∙◌, arith}
 use Rattle.master.proofs.Parting.{Parting, parting_begins, parting_below, parting_out, parting_sent, parting_lost, parting_ends}
 use Rattle.master.proofs.turning.part.Goals as goal
 use Rattle.master.proofs.turning.part.Goals.{then-is_message+then-keep, then-is_message+else-keep, else-is_message}

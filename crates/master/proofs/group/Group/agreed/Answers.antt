@@ -1,7 +1,6 @@
-use Rattle.std.proofs.Common.{◌≡◌, ◌≤◌, length, take, ap, sym, ◌∙◌, subst, arith}
+use Rattle.std.proofs.Common.{◌≡◌, ◌≤◌, length, ap, sym, arith}
 use Rattle.std.proofs.lemmas.List.{length-take-le}
 use Rattle.machine.specs.Machine.{rules_by}
-use Rattle.master.specs.Agreement.{IsAgreed}
 use Rattle.master.specs.Inside.{primary_log}
 use Rattle.master.proofs.Chosen.{agreed_is, least_told-le}
 use Rattle.master.proofs.group.Group.agreed.Goals as goal

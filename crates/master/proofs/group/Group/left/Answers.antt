@@ -1,4 +1,4 @@
-use Rattle.std.proofs.Common.{◌≡◌, ◌∙◌, sym}
+use Rattle.std.proofs.Common.{◌∙◌}
 use Rattle.master.proofs.Lists.{outs_alone}
 use Rattle.master.proofs.group.Group.left.Goals as goal
 

@@ -1,8 +1,8 @@
-use Rattle.std.proofs.Common.{◌≡◌, ap, sym, ◌∙◌, refl, arith}
+use Rattle.std.proofs.Common.{◌≡◌, ap, sym, ◌∙◌, arith}
 use Rattle.ballot_base.specs.Replica.{Counted}
-use Rattle.master.specs.Group.{GroupState, World, opening_world}
+use Rattle.master.specs.Group.{GroupState, World}
 use Rattle.master.proofs.Opening.{opened_more}
-use Rattle.master.proofs.Turns.{opened_group, world_of}
+use Rattle.master.proofs.Turns.{opened_group}
 use Rattle.master.proofs.group.Group.opening.Goals as goal
 
 pub loop-at-preserved : goal.loop-at-preserved

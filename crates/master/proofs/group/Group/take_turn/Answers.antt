@@ -1,4 +1,4 @@
-use Rattle.std.proofs.Common.{◌≡◌, ◌<◌, inl, inr, length, ap, sym, ◌∙◌, refl, arith}
+use Rattle.std.proofs.Common.{◌≡◌, inl, inr, length, ◌∙◌, refl}
 use Rattle.machine.specs.Machine.{rules_by}
 use Rattle.ballot_base.specs.Protocol.{step_in_one_ballot}
 use Rattle.master.specs.Inside.{input_of}
