@@ -13,4 +13,4 @@ mod tests;
 
 pub use ballot_base::{Body, Config, Effect, Log, Members, Message, Role, Status};
 pub use error::{OpeningError, ProposeError};
-pub use replica::Replica;
+pub use replica::{MOST_PLACES, Replica};

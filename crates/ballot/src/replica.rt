@@ -23,7 +23,7 @@ use std::marker::Model;
 mod messages;
 
 /// How many places a log can have.
-const MOST_PLACES: u64 = 1 << 40;
+pub const MOST_PLACES: u64 = 1 << 40;
 
 /// A log, the machine that it drives and a role in a ballot. Other nodes hear of it by the messages
 /// that its calls hand out, and what the machine gave comes out with its place.
@@ -126,6 +126,13 @@ impl<M: Machine> Replica<M> {
             committed: self.committed,
             stopped: self.stopped,
         }
+    }
+
+    /// The commands of the log, from place 0 on.
+    pub fn log(&self) -> &[M::Command]
+        ensures { result.now ≡ self.now.state.log }
+    {
+        self.log.as_slice()
     }
 
     /// In how many calls memory was wanting. The count stays at 2^64 - 1.

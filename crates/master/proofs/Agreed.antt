@@ -1,5 +1,5 @@
 -- Agreed.antt: in every world that a group comes to, its nodes agree.
-use Rattle.std.proofs.Common.{◌≡◌, ℕ, zero, suc, ◌+◌, ◌≤◌, inr, List, [], ◌∷◌, length, take, Some, None, Option, refl, ap, sym, ◌∙◌, subst, arith}
+use Rattle.std.proofs.Common.{◌≡◌, ℕ, zero, suc, ◌+◌, ◌-◌, ◌≤◌, inl, inr, Bool, true, false, cond, List, [], ◌∷◌, length, take, Some, None, Option, refl, ap, sym, ◌∙◌, subst, arith}
 use Rattle.std.specs.Prelude.{slice_get}
 use Rattle.std.proofs.lemmas.List.{length-take-le, take-take}
 use Rattle.machine.specs.Machine.{Rules}
@@ -8,36 +8,112 @@ use Rattle.ballot_base.specs.declared.message.Message.{Message}
 use Rattle.ballot_base.specs.declared.message.Body.TheVariants.{Held}
 use Rattle.ballot_base.specs.Replica.{ReplicaState}
 use Rattle.ballot_base.specs.Losses.{halted}
-use Rattle.ballot_base.specs.Sending.{nothing_done}
 use Rattle.master.specs.declared.event.Event.{Event}
-use Rattle.master.specs.Group.{World, Happens}
-use Rattle.master.specs.Group.Happens.{nothing_happens, proposed_to, delivered_to, ticked_at, crashed}
+use Rattle.master.specs.declared.event.Event.TheVariants.{Propose, Deliver, Tick, Crash}
+use Rattle.master.specs.Group.{World, Turn, running, unless_stopped, can_take, taking, stopping, takes, comes, turn}
+use Rattle.master.specs.Steps.{Happens}
+use Rattle.master.specs.Steps.Happens.{nothing_happens, goes}
+use Rattle.ballot_base.specs.Losses.{Loses}
+use Rattle.ballot_base.specs.Protocol.{Input, step_in_one_ballot}
+use Rattle.ballot_base.specs.Protocol.Input.{Receives, Proposes, Ticks}
 use Rattle.master.specs.Agreement.{In, IsPrefixOf, log_of, outputs_of, HasTold, IsChosen, IsAgreed, Agreement}
 use Rattle.master.specs.Agreement.In.{here}
 use Rattle.master.specs.Agreement.HasTold.{as_primary, by_held}
-use Rattle.master.proofs.Lists.{prefix_take, prefix_either, take_prefix, in_at}
-use Rattle.master.proofs.Sound.{log_at, committed_of, Told, AllTold, IsSound}
+use Rattle.master.proofs.Lists.{prefix_same, prefix_take, prefix_either, take_prefix, in_at}
+use Rattle.master.proofs.Sound.{log_at, committed_of, Told, AllTold, IsSound, Extends, extends_same, moved_extends}
 use Rattle.master.proofs.Sound.Told.{told_nothing, told_as_primary, told_by_held}
-use Rattle.master.proofs.Rows.{owes_nothing, lossy_sound}
+use Rattle.master.proofs.Rows.{Owes, owes_halted, lossy_sound}
 use Rattle.master.proofs.Events.{owes_proposed, owes_received, owes_ticked}
 
--- an event keeps a world sound
+-- a node that runs is there
+runs_there : {C : Type 0} (nodes : List (ReplicaState C)) (node : ℕ) (r : ReplicaState C) → running nodes node ≡ Some r → slice_get nodes (node - 1) ≡ Some r
+runs_there nodes zero r e = cc
+runs_there {C = C} nodes (suc n) r e =
+    let same : suc n - 1 ≡ n = omega arith in
+    ap (slice_get nodes) same ∙ by_node (slice_get nodes n) e
+  where
+    by_stop : (s : ReplicaState C) (b : Bool) → cond b None (Some s) ≡ Some r → Some s ≡ Some r
+    by_stop s true f = cc
+    by_stop s false f = f
+
+    by_node : (o : Option (ReplicaState C)) → unless_stopped o ≡ Some r → o ≡ Some r
+    by_node None f = cc
+    by_node (Some s) f = by_stop s s.stopped f
+
+-- what is to be shown of the turn of an event
+record OwesTurn {S C O : Type 0} (rules : Rules S C O) (config : Config) (p : ℕ) (w : World C O) (t : Turn C O) : Type 0 where
+  pub stands : slice_get w.nodes t.place ≡ Some t.before
+  pub owes : Owes rules config p w t.place t.before t.outcome
+
+-- a turn by which a node takes something in
+owes_taking : {S C O : Type 0} (rules : Rules S C O) (config : Config) (p : ℕ) (w : World C O) (node : ℕ) (input : Input C) (t : Turn C O) →
+    ((r : ReplicaState C) → slice_get w.nodes (node - 1) ≡ Some r → Owes rules config p w (node - 1) r (step_in_one_ballot rules r input)) →
+    takes rules w node input ≡ Some t → OwesTurn rules config p w t
+owes_taking {C = C} {O = O} rules config p w node input t owes e = by_node (running w.nodes node) refl e
+  where
+    by_input : (r : ReplicaState C) → running w.nodes node ≡ Some r → (b : Bool) →
+        cond b (Some (record { place = node - 1; before = r; outcome = step_in_one_ballot rules r input })) None ≡ Some t → OwesTurn rules config p w t
+    by_input r runs true f =
+        let g : record { place = node - 1; before = r; outcome = step_in_one_ballot rules r input } ≡ t = cc in
+        let stands = runs_there w.nodes node r runs in
+        subst (λ (x : Turn C O). OwesTurn rules config p w x) g (record { stands = stands; owes = owes r stands })
+    by_input r runs false f = cc
+
+    by_node : (o : Option (ReplicaState C)) → running w.nodes node ≡ o → taking rules (node - 1) o input ≡ Some t → OwesTurn rules config p w t
+    by_node None runs f = cc
+    by_node (Some r) runs f = by_input r runs (can_take r input) f
+
+-- a turn by which a node stops: its state is no other than what a loss may leave
+owes_stopping : {S C O : Type 0} (rules : Rules S C O) (config : Config) (p : ℕ) (w : World C O) (node : ℕ) (t : Turn C O) →
+    IsSound rules config p w → stopping O (node - 1) (running w.nodes node) ≡ Some t → OwesTurn rules config p w t
+owes_stopping {C = C} {O = O} rules config p w node t sound e = by_node (running w.nodes node) refl e
+  where
+    by_node : (o : Option (ReplicaState C)) → running w.nodes node ≡ o → stopping O (node - 1) o ≡ Some t → OwesTurn rules config p w t
+    by_node None runs f = cc
+    by_node (Some r) runs f =
+        let g : record { place = node - 1; before = r; outcome = record { state = halted r; effects = [] } } ≡ t = cc in
+        let stands = runs_there w.nodes node r runs in
+        subst (λ (x : Turn C O). OwesTurn rules config p w x) g
+        (record { stands = stands; owes = owes_halted rules config p w (node - 1) r sound stands })
+
+-- the turn of an event
+owes_turn : {S C O : Type 0} (rules : Rules S C O) (config : Config) (p : ℕ) (w : World C O) (e : Event C) (t : Turn C O) →
+    IsSound rules config p w → turn rules w e ≡ Some t → OwesTurn rules config p w t
+owes_turn rules config p w (Propose node command) t sound e =
+    owes_taking rules config p w node (Proposes command) t (λ r stands. owes_proposed rules config p w (node - 1) r command sound stands) e
+owes_turn {C = C} rules config p w (Deliver number) t sound e = by_message (slice_get w.sent number) refl e
+  where
+    by_message : (o : Option (ℕ × Message C)) → slice_get w.sent number ≡ o → comes rules w o ≡ Some t → OwesTurn rules config p w t
+    by_message None sent f = cc
+    by_message (Some (receiver, m)) sent f =
+        owes_taking rules config p w receiver (Receives m) t
+        (λ r stands. owes_received rules config p w (receiver - 1) r receiver m.from m.body sound stands (in_at w.sent number _ sent)) f
+owes_turn rules config p w (Tick node) t sound e =
+    owes_taking rules config p w node Ticks t (λ r stands. owes_ticked rules config p w (node - 1) r sound stands) e
+owes_turn rules config p w (Crash node) t sound e = owes_stopping rules config p w node t sound e
+
+-- an event keeps a world sound, and what it had
 pub event_sound : {S C O : Type 0} (rules : Rules S C O) (config : Config) (p : ℕ) (w v : World C O) (e : Event C) →
     IsSound rules config p w → Happens rules w e v → IsSound rules config p v
 event_sound rules config p w v e sound nothing_happens = sound
-event_sound rules config p w v e sound (proposed_to n {command = c} {old = old} {new = new} {given = given} stands l) =
-    lossy_sound rules config p w n old _ new given sound stands (owes_proposed rules config p w n old c sound stands) l
-event_sound rules config p w v e sound (delivered_to {k = k} n {message = m} {old = old} {new = new} {given = given} sent stands l) =
-    lossy_sound rules config p w n old _ new given sound stands
-    (owes_received rules config p w n old (n + 1) m.from m.body sound stands (in_at w.sent k _ sent)) l
-event_sound rules config p w v e sound (ticked_at n {old = old} {new = new} {given = given} stands l) =
-    lossy_sound rules config p w n old _ new given sound stands (owes_ticked rules config p w n old sound stands) l
-event_sound {O = O} rules config p w v e sound (crashed n {old = old} stands) =
-    lossy_sound rules config p w n old (nothing_done O old) (halted old) [] sound stands
-    (owes_nothing rules config p w n old (nothing_done O old) sound stands refl) (inr (inr (refl, refl)))
+event_sound rules config p w v e sound (goes t {new = new} {given = given} is l) =
+    let o = owes_turn rules config p w e t sound is in
+    lossy_sound rules config p w t.place t.before t.outcome new given sound o.stands o.owes l
+
+pub event_extends : {S C O : Type 0} (rules : Rules S C O) (config : Config) (p : ℕ) (w v : World C O) (e : Event C) →
+    IsSound rules config p w → Happens rules w e v → Extends w v
+event_extends rules config p w v e sound nothing_happens = extends_same w
+event_extends {C = C} rules config p w v e sound (goes t {new = new} {given = given} is l) =
+    let o = owes_turn rules config p w e t sound is in
+    moved_extends w t.place t.before new given o.stands (by_loss o.owes l)
+  where
+    by_loss : Owes rules config p w t.place t.before t.outcome → Loses t.before t.outcome new given → IsPrefixOf t.before.log new.log
+    by_loss owes (inl (same, thinned)) = subst (λ (r : ReplicaState C). IsPrefixOf t.before.log r.log) (sym same) owes.grown
+    by_loss owes (inr (inl (same, none_given))) = subst (λ (r : ReplicaState C). IsPrefixOf t.before.log r.log) (sym same) (prefix_same t.before.log)
+    by_loss owes (inr (inr (same, none_given))) = subst (λ (r : ReplicaState C). IsPrefixOf t.before.log r.log) (sym same) (prefix_same t.before.log)
 
 -- the log of any node is a beginning of the primary's
-log_front : {S C O : Type 0} (rules : Rules S C O) (config : Config) (p : ℕ) (w : World C O) (n : ℕ) →
+pub log_front : {S C O : Type 0} (rules : Rules S C O) (config : Config) (p : ℕ) (w : World C O) (n : ℕ) →
     IsSound rules config p w → IsPrefixOf (log_at w n) (log_at w p)
 log_front {C = C} rules config p w n sound = by_node (slice_get w.nodes n) refl
   where
@@ -60,7 +136,7 @@ told_front {C = C} rules config p w n k sound (told_by_held receiver held i belo
     (sym (take_prefix k (log_front rules config p w n sound) (omega arith))) (prefix_take k (log_at w n))
 
 -- a list that each member told at least is chosen
-all_told_chosen : {S C O : Type 0} (rules : Rules S C O) (config : Config) (p : ℕ) (w : World C O) (past : List (World C O)) (k : ℕ) →
+pub all_told_chosen : {S C O : Type 0} (rules : Rules S C O) (config : Config) (p : ℕ) (w : World C O) (past : List (World C O)) (k : ℕ) →
     config.primary ≡ p + 1 → IsSound rules config p w → AllTold config p w (suc k) → IsChosen config (w ∷ past) (take (suc k) (log_at w p))
 all_told_chosen {C = C} rules config p w past k primary sound all n i = by_telling (all n i)
   where

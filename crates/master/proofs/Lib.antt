@@ -1,9 +1,11 @@
 pub mod Agreed
-pub mod Calls
+pub mod Chosen
+pub mod Counting
 pub mod Events
-pub mod Finding
 pub mod Lists
 pub mod Opening
+pub mod Parting
 pub mod Rows
 pub mod Runs
 pub mod Sound
+pub mod Turns

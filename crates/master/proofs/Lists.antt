@@ -1,5 +1,5 @@
 -- Lists.antt: beginnings of lists, what is in a list, and the messages and outputs among effects.
-use Rattle.std.proofs.Common.{◌≡◌, ℕ, zero, suc, ◌≤◌, ◌⊎◌, inl, inr, List, [], ◌∷◌, ◌++◌, length, set, take, Some, refl, ap, sym, ◌∙◌, subst, append_assoc, arith}
+use Rattle.std.proofs.Common.{◌≡◌, ℕ, zero, suc, ◌≤◌, ◌⊎◌, inl, inr, List, [], ◌∷◌, ◌++◌, length, map, set, take, Some, refl, ap, sym, ◌∙◌, subst, append_assoc, arith}
 use Rattle.std.specs.Prelude.{slice_get}
 use Rattle.std.proofs.lemmas.List.{append-nil, take-append-le, length-append}
 use Rattle.ballot_base.specs.declared.message.Message.{Message}
@@ -152,3 +152,9 @@ pub said_to_marked : {C : Type 0} (O : Type 0) (P : ℕ × Message C → Type 0)
 said_to_marked O P id body [] f x i = elim i [ ]
 said_to_marked O P id body (mark ∷ marks) f x here = f mark.member
 said_to_marked O P id body (mark ∷ marks) f x (there i) = said_to_marked O P id body marks f x i
+
+-- effects with no message among them are their outputs
+pub outs_alone : {C O : Type 0} (xs : List (Effect C O)) → messages xs ≡ [] → xs ≡ map (λ (left : ℕ × O). let e : Effect C O = Out left.0 left.1 in e) (outputs xs)
+outs_alone [] e = refl
+outs_alone (To r m ∷ xs) e = cc
+outs_alone (Out k o ∷ xs) e = ap (λ us. Out k o ∷ us) (outs_alone xs e)

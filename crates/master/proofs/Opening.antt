@@ -1,21 +1,23 @@
 -- Opening.antt: a group opens soundly, so its nodes agree after any events; and what is agreed only grows.
-use Rattle.std.proofs.Common.{◌≡◌, ℕ, ◌+◌, ◌≤◌, ◌⊎◌, inl, inr, Bool, true, false, cond, List, [], ◌∷◌, length, take, not, Some, None, Option, refl, ap, sym, ◌∙◌, subst, arith}
-use Rattle.std.specs.Prelude.{slice_get, ◌==◌}
-use Rattle.std.specs.List.{list_any}
-use Rattle.std.proofs.lemmas.Bool.{cases_eq, eq-eqb, ne_eqb}
+use Rattle.std.proofs.Common.{◌≡◌, ℕ, zero, suc, ◌+◌, ◌≤◌, ◌⊎◌, inl, inr, Bool, true, false, cond, List, [], ◌∷◌, ◌++◌, length, map, take, not, Some, None, Option, refl, ap, sym, ◌∙◌, subst, arith}
+use Rattle.std.specs.Prelude.{slice_get, ◌==◌, ◌&&◌, nat_le}
+use Rattle.std.specs.List.{list_any, list_all}
+use Rattle.std.proofs.lemmas.Bool.{cases_eq, eq-eqb, ne_eqb, and_parts}
+use Rattle.std.proofs.lemmas.List.{length-append, map-append}
 use Rattle.machine.specs.Machine.{Rules}
 use Rattle.ballot_base.specs.declared.config.Config.{Config}
 use Rattle.ballot_base.specs.declared.status.Mark.{Mark}
 use Rattle.ballot_base.specs.declared.status.Role.TheVariants.{Active}
-use Rattle.ballot_base.specs.Replica.{ReplicaState, opening, opening_member, others, marks_at}
-use Rattle.master.specs.Group.{World}
+use Rattle.ballot_base.specs.Replica.{ReplicaState, Counted, opening, opening_member, others, marks_at}
+use Rattle.ballot_base.specs.Config.{is_lawful}
+use Rattle.master.specs.Group.{World, opening_nodes, opening_world}
 use Rattle.master.specs.Agreement.{In, IsPrefixOf, log_of, outputs_of, IsOpening, Past, HasTold, IsChosen, IsAgreed, Agreement}
 use Rattle.master.specs.Agreement.In.{here, there}
 use Rattle.master.specs.Agreement.Past.{began, went_on}
 use Rattle.master.specs.Agreement.HasTold.{as_primary, by_held}
-use Rattle.master.proofs.Sound.{log_at, committed_of, AllTold, IsSoundNode, IsSound}
+use Rattle.master.proofs.Sound.{log_at, committed_of, AllTold, IsSoundNode, IsSound, Extends, extends_same, extends_then}
 use Rattle.master.proofs.Sound.Told.{told_nothing}
-use Rattle.master.proofs.Agreed.{event_sound, sound_agreement}
+use Rattle.master.proofs.Agreed.{event_sound, event_extends, sound_agreement}
 
 -- marks of members
 mark_held : (held : ℕ) (members : List ℕ) (mark : Mark) → In mark (marks_at held members) → mark.held ≡ held
@@ -115,21 +117,58 @@ opening_committed C id config = by_role (id == config.primary)
     by_role true = refl
     by_role false = refl
 
+-- the nodes that open
+get_last : {X : Type 0} (xs : List X) (s r : X) (n : ℕ) → slice_get (xs ++ s ∷ []) n ≡ Some r →
+    (slice_get xs n ≡ Some r) ⊎ ((n ≡ length xs) × (s ≡ r))
+get_last [] s r zero e = inr (refl, cc)
+get_last [] s r (suc n) e = cc
+get_last (x ∷ xs) s r zero e = inl e
+get_last (x ∷ xs) s r (suc n) e = more (get_last xs s r n e)
+  where
+    more : (slice_get xs n ≡ Some r) ⊎ ((n ≡ length xs) × (s ≡ r)) →
+        (slice_get xs n ≡ Some r) ⊎ ((suc n ≡ suc (length xs)) × (s ≡ r))
+    more (inl e) = inl e
+    more (inr q) = inr (ap suc q.0, q.1)
+
+opening_nodes-length : (C : Type 0) (nodes : ℕ) (config : Config) → length (opening_nodes C nodes config) ≡ nodes
+opening_nodes-length C zero config = refl
+opening_nodes-length C (suc n) config =
+    let e = opening_nodes-length C n config in
+    omega (arith, e, length-append (opening_nodes C n config) (opening C (n + 1) config ∷ []))
+
+opens_node : (C : Type 0) (nodes : ℕ) (config : Config) (n : ℕ) (r : ReplicaState C) →
+    slice_get (opening_nodes C nodes config) n ≡ Some r → r ≡ opening C (n + 1) config
+opens_node C zero config n r e = cc
+opens_node C (suc k) config n r e =
+    by_last (opens_node C k config n r) (get_last (opening_nodes C k config) (opening C (k + 1) config) r n e)
+  where
+    by_last : (slice_get (opening_nodes C k config) n ≡ Some r → r ≡ opening C (n + 1) config) →
+        (slice_get (opening_nodes C k config) n ≡ Some r)
+        ⊎ ((n ≡ length (opening_nodes C k config)) × (opening C (k + 1) config ≡ r)) → r ≡ opening C (n + 1) config
+    by_last before (inl f) = before f
+    by_last before (inr q) =
+        let same : k ≡ n = sym (opening_nodes-length C k config) ∙ sym q.0 in
+        sym q.1 ∙ ap (λ j. opening C (j + 1) config) same
+
 -- a group opens soundly
 pub opening_sound : {S C O : Type 0} (rules : Rules S C O) (config : Config) (p : ℕ) (w : World C O) → config.primary ≡ p + 1 →
     list_any (λ member. member == config.primary) config.members ≡ true → IsOpening config w → IsSound rules config p w
 opening_sound {C = C} {O = O} rules config p w primary member opens =
-    record {
-      said = λ receiver m i. elim (subst (λ (us : List _). In (receiver, m) us) opens.nothing_sent i) [ ];
-      nodes = λ n r e. subst (λ (s : ReplicaState C). IsSoundNode config p w n s) (sym (opens.node n r e)) (node_opens config p w n primary member);
-      left = opens.nothing_left ∙ by_node (slice_get w.nodes p) refl;
-    }
+    subst (λ (v : World C O). IsSound rules config p v) (sym opens.is)
+    (record {
+      said = λ receiver m i. elim i [ ];
+      nodes = λ n r e. subst (λ (s : ReplicaState C). IsSoundNode config p first n s) (sym (opens_node C opens.nodes config n r e)) (node_opens config p first n primary member);
+      left = by_node (slice_get (opening_nodes C opens.nodes config) p) refl;
+    })
   where
-    by_node : (o : Option (ReplicaState C)) → slice_get w.nodes p ≡ o → [] ≡ outputs_of rules (take (committed_of o) (log_of o))
+    first : World C O
+    first = opening_world C O opens.nodes config
+
+    by_node : (o : Option (ReplicaState C)) → slice_get (opening_nodes C opens.nodes config) p ≡ o → [] ≡ outputs_of rules (take (committed_of o) (log_of o))
     by_node None e = refl
     by_node (Some r) e =
         ap (λ k. outputs_of rules (take k r.log))
-        (sym (ap (λ (s : ReplicaState C). s.committed) (opens.node p r e) ∙ opening_committed C (p + 1) config))
+        (sym (ap (λ (s : ReplicaState C). s.committed) (opens_node C opens.nodes config p r e) ∙ opening_committed C (p + 1) config))
 
 -- every world that a group comes to is sound
 pub past_sound : {S C O : Type 0} (rules : Rules S C O) (config : Config) (p : ℕ) (w : World C O) (past : List (World C O)) →
@@ -138,6 +177,32 @@ pub past_sound : {S C O : Type 0} (rules : Rules S C O) (config : Config) (p : �
 past_sound rules config p w past primary member (began opens) = opening_sound rules config p w primary member opens
 past_sound rules config p w past primary member (went_on {w = before} {e = e} earlier happens) =
     event_sound rules config p before w e (past_sound rules config p before _ primary member earlier) happens
+
+-- what was there stays
+pub past_sound_at : {S C O : Type 0} (rules : Rules S C O) (config : Config) (p : ℕ) (v w : World C O) (past : List (World C O)) →
+    config.primary ≡ p + 1 → list_any (λ member. member == config.primary) config.members ≡ true →
+    Past rules config (w ∷ past) → In v (w ∷ past) → IsSound rules config p v
+past_sound_at rules config p v w past primary member came here = past_sound rules config p w past primary member came
+past_sound_at rules config p v w past primary member (began opens) (there i) = elim i [ ]
+past_sound_at rules config p v w past primary member (went_on {w = before} earlier happens) (there i) =
+    past_sound_at rules config p v before _ primary member earlier i
+
+pub past_extends : {S C O : Type 0} (rules : Rules S C O) (config : Config) (p : ℕ) (v w : World C O) (past : List (World C O)) →
+    config.primary ≡ p + 1 → list_any (λ member. member == config.primary) config.members ≡ true →
+    Past rules config (w ∷ past) → In v (w ∷ past) → Extends v w
+past_extends rules config p v w past primary member came here = extends_same w
+past_extends rules config p v w past primary member (began opens) (there i) = elim i [ ]
+past_extends rules config p v w past primary member (went_on {w = before} {e = e} earlier happens) (there i) =
+    extends_then (past_extends rules config p v before _ primary member earlier i)
+    (event_extends rules config p before w e (past_sound rules config p before _ primary member earlier) happens)
+
+-- the configuration of a past is lawful
+pub past_lawful : {S C O : Type 0} (rules : Rules S C O) (config : Config) (past : List (World C O)) → Past rules config past →
+    is_lawful config.members config.primary ≡ true
+past_lawful rules config past (began opens) =
+    let a = and_parts (nat_le opens.nodes 15) (is_lawful config.members config.primary && list_all (λ member. nat_le member opens.nodes) config.members) opens.lawful in
+    (and_parts (is_lawful config.members config.primary) (list_all (λ member. nat_le member opens.nodes) config.members) a.1).0
+past_lawful rules config past (went_on earlier happens) = past_lawful rules config _ earlier
 
 -- so its nodes agree
 pub agreement : {S C O : Type 0} (rules : Rules S C O) (config : Config) (p : ℕ) (w : World C O) (past : List (World C O)) (xs : List C) →
@@ -171,3 +236,13 @@ agreed_grows {C = C} config v past xs ys a b = by_chosen a.chosen
     by_chosen : (xs ≡ []) ⊎ IsChosen config past xs → IsPrefixOf xs ys
     by_chosen (inl e) = subst (λ (us : List C). IsPrefixOf us ys) (sym e) (record { rest = ys; is = refl })
     by_chosen (inr chosen) = b.longest xs (chosen_stays config v past xs chosen)
+
+-- one node more is opened
+pub opened_more : {C : Type 0} (config : Config) (items more : List (Counted C)) (new : Counted C) (at : ℕ) →
+    map (λ (z : Counted C). z.state) items ≡ opening_nodes C at config → new.state ≡ opening C (at + 1) config → more ≡ items ++ new ∷ [] →
+    map (λ (z : Counted C). z.state) more ≡ opening_nodes C (at + 1) config
+opened_more {C = C} config items more new at before opens pushed =
+    let next : at + 1 ≡ suc at = omega arith in
+    ap (map (λ (z : Counted C). z.state)) pushed ∙ map-append (λ (z : Counted C). z.state) items (new ∷ [])
+    ∙ ap (λ us. us ++ new.state ∷ []) before ∙ ap (λ s. opening_nodes C at config ++ s ∷ []) opens
+    ∙ sym (ap (λ k. opening_nodes C k config) next)

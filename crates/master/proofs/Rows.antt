@@ -133,6 +133,28 @@ owes_nothing {C = C} {O = O} rules config p w n old o sound stands e =
       left_elsewhere = λ h. refl;
     })
 
+-- a node that stops
+pub owes_halted : {S C O : Type 0} (rules : Rules S C O) (config : Config) (p : ℕ) (w : World C O) (n : ℕ)
+    (old : ReplicaState C) → IsSound rules config p w → slice_get w.nodes n ≡ Some old →
+    Owes rules config p w n old (record { state = halted old; effects = [] })
+owes_halted {C = C} {O = O} rules config p w n old sound stands =
+    record {
+      grown = prefix_same old.log;
+      fits = λ v x l. let s = node_kept config p w v n old x (sound.nodes n old stands) in record {
+        id = s.id;
+        leads = s.leads;
+        follows = s.follows;
+        front = s.front;
+        within = s.within;
+        committed = s.committed;
+        marked = s.marked;
+        covered = s.covered;
+      };
+      says = λ v x l receiver m i. elim i [ ];
+      left_here = λ h. append-nil w.left ∙ left_of_primary rules p w n old stands sound.left h;
+      left_elsewhere = λ h. refl;
+    }
+
 -- the least of the marks is at most each of them
 pub least_le_mark : (held : ℕ) (mark : Mark) (marks : List Mark) → In mark marks → least held marks ≤ mark.held
 least_le_mark held mark [] i = elim i [ ]

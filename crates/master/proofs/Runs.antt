@@ -1,31 +1,93 @@
--- Runs.antt: after any events, from any past, the nodes agree and what is agreed has only grown.
-use Rattle.std.proofs.Common.{◌≡◌, ℕ, ◌+◌, ◌-◌, ◌<◌, ◌⊎◌, inl, inr, true, ◌&&◌, List, [], ◌∷◌, ◌++◌, length, take, get_or, refl, ap, sym, ◌∙◌, subst, arith}
-use Rattle.std.specs.Prelude.{◌==◌, nat_lt, nat_le}
-use Rattle.std.specs.List.{list_any}
-use Rattle.std.proofs.lemmas.Bool.{and_parts, or_cases, ltb-true, eqb-true}
+-- Runs.antt: events one after the other, and what agreement comes of them.
+use Rattle.std.proofs.Common.{◌≡◌, ℕ, ◌+◌, ◌-◌, ◌^◌, ◌<◌, ◌≤◌, ◌⊎◌, inl, inr, min, List, [], ◌∷◌, ◌++◌, length, take, get_or, Some, None, Option, refl, ap, sym, ◌∙◌, subst, arith}
 use Rattle.std.proofs.lemmas.List.{take_more}
 use Rattle.machine.specs.Machine.{Rules}
 use Rattle.ballot_base.specs.declared.config.Config.{Config}
-use Rattle.ballot_base.specs.Config.{is_lawful, are_rising}
+use Rattle.ballot_base.specs.Losses.{one_more}
+use Rattle.ballot_base.proofs.ThinnedEffects.{Thinned-same}
 use Rattle.master.specs.declared.event.Event.{Event}
-use Rattle.master.specs.Group.{World, Happens, Run}
-use Rattle.master.specs.Group.Run.{ends, goes}
+use Rattle.master.specs.Group.{World, GroupState, Turn, turn, behind, group_step, group_run}
+use Rattle.master.specs.Steps.{Happens, Run, StepsBy, LosesNothing}
+use Rattle.master.specs.Steps.Happens.{nothing_happens, goes}
+use Rattle.master.specs.Steps.Run.{ends, goes_on}
 use Rattle.master.specs.Agreement.{IsPrefixOf, Past, IsChosen, AgreesAfter}
 use Rattle.master.specs.Agreement.Past.{went_on}
-use Rattle.master.proofs.Opening.{agreement, chosen_stays}
+use Rattle.master.proofs.Opening.{agreement, chosen_stays, past_lawful}
+use Rattle.master.proofs.Chosen.{lawful_config, agreed_is}
+use Rattle.master.proofs.Counting.{steps_exactly}
+
+-- what is seen of a group behind some events
+pub record Ran {S C O : Type 0} (rules : Rules S C O) (old : GroupState C O) (events : List (Event C)) (new : GroupState C O) : Type 0 where
+  pub same_config : new.config ≡ old.config
+  pub ran : Run rules old.world events new.world
+  pub counts : old.losses ≤ 2 ^ 64 - 1 → (old.losses ≤ new.losses) × (new.losses ≤ 2 ^ 64 - 1)
+  pub exact : LosesNothing old new → new.world ≡ group_run rules events old.world
 
 -- one event more
-pub run_more : {S C O : Type 0} {rules : Rules S C O} {w v u : World C O} {events : List (Event C)} {e : Event C} →
+run_more : {S C O : Type 0} {rules : Rules S C O} {w v u : World C O} {events : List (Event C)} {e : Event C} →
     Run rules w events v → Happens rules v e u → Run rules w (events ++ e ∷ []) u
-run_more ends h = goes h ends
-run_more (goes g r) h = goes g (run_more r h)
+run_more ends h = goes_on h ends
+run_more (goes_on g r) h = goes_on g (run_more r h)
+
+group_run-more : {S C O : Type 0} (rules : Rules S C O) (events : List (Event C)) (e : Event C) (w : World C O) →
+    group_run rules (events ++ e ∷ []) w ≡ group_step rules e (group_run rules events w)
+group_run-more rules [] e w = refl
+group_run-more rules (x ∷ events) e w = group_run-more rules events e (group_step rules x w)
+
+-- an exact step is one that may happen
+happens_of : {S C O : Type 0} (rules : Rules S C O) (old new : GroupState C O) (e : Event C) → StepsBy rules old e new →
+    Happens rules old.world e new.world
+happens_of {C = C} {O = O} rules old new e s = by_way s.way
+  where
+    by_turn : (o : Option (Turn C O)) → turn rules old.world e ≡ o → Happens rules old.world e (behind old.world o)
+    by_turn None is = nothing_happens
+    by_turn (Some t) is = goes t is (inl (refl, Thinned-same t.outcome.effects))
+
+    by_way : ((new.world ≡ group_step rules e old.world) × (new.losses ≡ old.losses))
+        ⊎ (Happens rules old.world e new.world × (new.losses ≡ one_more old.losses)) → Happens rules old.world e new.world
+    by_way (inl (a, b)) =
+        subst (λ (v : World C O). Happens rules old.world e v) (sym a) (by_turn (turn rules old.world e) refl)
+    by_way (inr (a, b)) = a
+
+counted : {S C O : Type 0} (rules : Rules S C O) (old new : GroupState C O) (e : Event C) → StepsBy rules old e new →
+    (new.losses ≡ old.losses) ⊎ (new.losses ≡ one_more old.losses)
+counted {C = C} {O = O} rules old new e s = by_way s.way
+  where
+    by_way : ((new.world ≡ group_step rules e old.world) × (new.losses ≡ old.losses))
+        ⊎ (Happens rules old.world e new.world × (new.losses ≡ one_more old.losses)) → (new.losses ≡ old.losses) ⊎ (new.losses ≡ one_more old.losses)
+    by_way (inl (a, b)) = inl b
+    by_way (inr (a, b)) = inr b
+
+pub ran_none : {S C O : Type 0} (rules : Rules S C O) (old : GroupState C O) → Ran rules old [] old
+ran_none rules old =
+    record { same_config = refl; ran = ends; counts = λ below. (omega arith, below); exact = λ h. refl }
 
 -- the next of a list of events
-pub run_next : {S C O : Type 0} (rules : Rules S C O) (w v u : World C O) (events : List (Event C)) (i : ℕ) (e : Event C) → i < length events →
-    e ≡ get_or events i e → Run rules w (take i events) v → Happens rules v e u → Run rules w (take (i + 1) events) u
-run_next {C = C} rules w v u events i e below read r h =
-    subst (λ (es : List (Event C)). Run rules w es u)
-    (sym (take_more events i e below ∙ ap (λ (x : Event C). take i events ++ x ∷ []) (sym read))) (run_more r h)
+pub ran_next : {S C O : Type 0} (rules : Rules S C O) (old now new : GroupState C O) (events : List (Event C)) (i : ℕ) (e : Event C) → i < length events →
+    e ≡ get_or events i e → Ran rules old (take i events) now → StepsBy rules now e new → Ran rules old (take (i + 1) events) new
+ran_next {C = C} rules old now new events i e below read r s =
+    subst (λ (es : List (Event C)). Ran rules old es new)
+    (sym (take_more events i e below ∙ ap (λ (x : Event C). take i events ++ x ∷ []) (sym read)))
+    (record {
+      same_config = s.same_config ∙ r.same_config;
+      ran = run_more r.ran (happens_of rules now new e s);
+      counts = λ few. counts (r.counts few) (counted rules now new e s);
+      exact = λ h. exact h (r.counts (let a = h.1 in omega (arith, a))) (counted rules now new e s);
+    })
+  where
+    counts : (old.losses ≤ now.losses) × (now.losses ≤ 2 ^ 64 - 1) → (new.losses ≡ now.losses) ⊎ (new.losses ≡ one_more now.losses) →
+        (old.losses ≤ new.losses) × (new.losses ≤ 2 ^ 64 - 1)
+    counts (a, b) (inl f) = (omega (arith, a, f), omega (arith, b, f))
+    counts (a, b) (inr f) = let g : new.losses ≡ min (now.losses + 1) (2 ^ 64 - 1) = f in (omega (arith, a, b, g), omega (arith, g))
+
+    exact : LosesNothing old new → (old.losses ≤ now.losses) × (now.losses ≤ 2 ^ 64 - 1) →
+        (new.losses ≡ now.losses) ⊎ (new.losses ≡ one_more now.losses) → new.world ≡ group_run rules (take i events ++ e ∷ []) old.world
+    exact (same, few) (a, b) (inl f) =
+        let g : now.losses ≡ old.losses = sym f ∙ same in
+        steps_exactly rules now new e s (f, omega (arith, g, few)) ∙ ap (group_step rules e) (r.exact (g, few))
+        ∙ sym (group_run-more rules (take i events) e old.world)
+    exact (same, few) (a, b) (inr f) =
+        let g : new.losses ≡ min (now.losses + 1) (2 ^ 64 - 1) = f in absurd (omega (arith, same, few, a, b, g))
 
 -- the past that a run leaves, in which what was chosen stays so
 went : {S C O : Type 0} (rules : Rules S C O) (config : Config) (w v : World C O) (past : List (World C O)) (events : List (Event C)) →
@@ -33,39 +95,23 @@ went : {S C O : Type 0} (rules : Rules S C O) (config : Config) (w v : World C O
     (later : List (World C O)) × Past rules config (v ∷ later)
     × ((xs : List C) → IsChosen config (w ∷ past) xs → IsChosen config (v ∷ later) xs)
 went rules config w v past events came ends = (past, came, λ xs c. c)
-went rules config w v past events came (goes {v = u} {e = e} {events = rest} h r) =
+went rules config w v past events came (goes_on {v = u} {e = e} {events = rest} h r) =
     let q = went rules config u v (w ∷ past) rest (went_on came h) r in
     (q.0, q.1, λ xs c. q.2 xs (chosen_stays config u (w ∷ past) xs c))
 
--- a primary that is among rising members is a node
-rising_member : (last primary : ℕ) (members : List ℕ) → are_rising last members ≡ true →
-    list_any (λ member. member == primary) members ≡ true → last < primary
-rising_member last primary [] rising any = cc
-rising_member last primary (m ∷ members) rising any =
-    let a = and_parts (nat_lt last m && nat_le m 15) (are_rising m members) rising in
-    let b = and_parts (nat_lt last m) (nat_le m 15) a.0 in
-    let above : last < m = ltb-true last m b.0 in
-    by_first above (λ h. rising_member m primary members a.1 h) (or_cases (m == primary) (list_any (λ member. member == primary) members) any)
-  where
-    by_first : last < m → (list_any (λ member. member == primary) members ≡ true → m < primary) →
-        ((m == primary) ≡ true) ⊎ (list_any (λ member. member == primary) members ≡ true) → last < primary
-    by_first above f (inl e) = let same : m ≡ primary = eqb-true m primary e in omega (arith, same, above)
-    by_first above f (inr h) = let more = f h in omega (arith, more, above)
-
 pub agrees_after : {S C O : Type 0} (rules : Rules S C O) (config : Config) (w v : World C O) (past : List (World C O)) (events : List (Event C)) →
-    is_lawful config.members config.primary ≡ true → Past rules config (w ∷ past) → Run rules w events v →
-    AgreesAfter rules config (w ∷ past) v
-agrees_after {C = C} rules config w v past events lawful came r =
-    let a = and_parts (are_rising 0 config.members) _ lawful in
-    let b = and_parts (nat_le 1 (length config.members)) _ a.1 in
-    let c = and_parts (nat_le (length config.members) 7) _ b.1 in
-    let positive = rising_member 0 config.primary config.members a.0 c.1 in
+    Past rules config (w ∷ past) → Run rules w events v → AgreesAfter rules config (w ∷ past) v
+agrees_after {C = C} rules config w v past events came r =
     let q = went rules config w v past events came r in
+    let l = lawful_config config (past_lawful rules config (w ∷ past) came) in
+    let agreed = agreed_is rules config v q.0 q.1 in
     record {
       later = q.0;
       went_on = q.1;
-      agreement = λ xs agreed. agreement rules config (config.primary - 1) v q.0 xs (omega (arith, positive)) c.1 q.1 agreed;
-      only_grown = λ ys xs before now. grown ys xs before.chosen (λ h. now.longest ys (q.2 ys h));
+      list = _;
+      agreed = agreed;
+      agreement = agreement rules config (config.primary - 1) v q.0 _ l.primary l.member q.1 agreed;
+      only_grown = λ ys before. grown ys _ before.chosen (λ h. agreed.longest ys (q.2 ys h));
     }
   where
     grown : (ys xs : List C) → (ys ≡ []) ⊎ IsChosen config (w ∷ past) ys → (IsChosen config (w ∷ past) ys → IsPrefixOf ys xs) → IsPrefixOf ys xs

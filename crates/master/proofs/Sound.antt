@@ -117,6 +117,12 @@ node_kept config p w v n r x s =
       covered = s.covered;
     }
 
+pub extends_same : {C O : Type 0} (w : World C O) → Extends w w
+extends_same w = record { logs = λ n. prefix_same (log_at w n); sent = λ x i. i }
+
+pub extends_then : {C O : Type 0} {u w v : World C O} → Extends u w → Extends w v → Extends u v
+extends_then x y = record { logs = λ n. prefix_then (x.logs n) (y.logs n); sent = λ m i. y.sent m (x.sent m i) }
+
 -- a world in which one node's log grew extends the one before
 pub moved_extends : {C O : Type 0} (w : World C O) (n : ℕ) (old new : ReplicaState C) (given : List (Effect C O)) →
     slice_get w.nodes n ≡ Some old → IsPrefixOf old.log new.log → Extends w (moved w n new given)

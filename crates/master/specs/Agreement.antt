@@ -1,13 +1,14 @@
 -- Agreement.antt: what members have told, which lists are chosen, and what it means that nodes
 -- agree.
-use Rattle.std.specs.Prelude.{ℕ, ◌+◌, ◌≡◌, ◌⊎◌, List, [], ◌∷◌, ◌++◌, length, take, slice_get, Option, Some, None}
+use Rattle.std.specs.Prelude.{ℕ, true, ◌+◌, ◌≡◌, ◌⊎◌, List, [], ◌∷◌, ◌++◌, length, take, slice_get, Option, Some, None}
 use Rattle.machine.specs.Machine.{Rules}
 use Rattle.ballot_base.specs.declared.message.Body.TheVariants.{Held}
 use Rattle.ballot_base.specs.declared.config.Config.{Config}
-use Rattle.ballot_base.specs.Replica.{ReplicaState, opening}
+use Rattle.ballot_base.specs.Replica.{ReplicaState}
 use Rattle.ballot_base.specs.Serving.{outputs_from}
 use Rattle.master.specs.declared.event.Event.{Event}
-use Rattle.master.specs.Group.{World, Happens, outputs}
+use Rattle.master.specs.Group.{World, outputs, can_open, opening_world}
+use Rattle.master.specs.Steps.{Happens}
 
 -- one of a list
 pub data In {X : Type 0} (x : X) : List X → Type 0 where
@@ -24,12 +25,11 @@ abbrev pub log_of : {C : Type 0} → Option (ReplicaState C) → List C
 log_of None = []
 log_of (Some r) = r.log
 
--- nodes 1, 2, .. as they open in a configuration, with no message and no output
+-- a group as it opens: nodes 1, 2, .. in a configuration, with no message and no output
 pub record IsOpening {C O : Type 0} (config : Config) (w : World C O) : Type 0 where
-  pub node : (n : ℕ) (r : ReplicaState C) → slice_get w.nodes n ≡ Some r →
-      r ≡ opening C (n + 1) config
-  pub nothing_sent : w.sent ≡ []
-  pub nothing_left : w.left ≡ []
+  pub nodes : ℕ
+  pub lawful : can_open nodes config ≡ true
+  pub is : w ≡ opening_world C O nodes config
 
 -- the worlds that were, the present one first -- history: no field keeps it
 pub data Past {S C O : Type 0} (rules : Rules S C O) (config : Config) : List (World C O) →
@@ -82,12 +82,13 @@ pub record Agreement {S C O : Type 0} (rules : Rules S C O) (config : Config) (w
       In (n + 1) config.members →
       IsPrefixOf (take answered agreed) r.log
 
--- the past has gone on up to a world in which the nodes agree on whatever list is agreed there, and
+-- the past has gone on up to a world in which the nodes agree on the list that is agreed there, and
 -- what was agreed before is a beginning of it
 pub record AgreesAfter {S C O : Type 0} (rules : Rules S C O) (config : Config)
     (past : List (World C O)) (w : World C O) : Type 0 where
   pub later : List (World C O)
   pub went_on : Past rules config (w ∷ later)
-  pub agreement : (xs : List C) → IsAgreed config (w ∷ later) xs → Agreement rules config w xs
-  pub only_grown : (ys xs : List C) → IsAgreed config past ys →
-      IsAgreed config (w ∷ later) xs → IsPrefixOf ys xs
+  pub list : List C
+  pub agreed : IsAgreed config (w ∷ later) list
+  pub agreement : Agreement rules config w list
+  pub only_grown : (before : List C) → IsAgreed config past before → IsPrefixOf before list

@@ -1,2 +1,4 @@
 pub mod Agreement
 pub mod Group
+pub mod Inside
+pub mod Steps

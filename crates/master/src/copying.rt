@@ -1,72 +1,48 @@
-// Messages that were sent, found and copied to be delivered once more.
+// Copies of messages that were sent, to be delivered once more.
 
-ghost use Rattle.std.specs.Prelude.{◌≡◌, ◌<◌, length, take, slice_get, Some, IfSome};
-ghost use Rattle.master.specs.Group.{messages};
+ghost use Rattle.std.specs.Prelude.{◌≡◌, IfOk};
 
-use ballot::{Body, Effect, Message};
-use machine::Machine;
+use ballot::{Body, Log, Members, Message};
+use machine::{Machine, Memory};
 use std::alloc::Global;
 
-/// Where the message of a number stands among effects.
-fn place_of_message<C, O>(effects: &[Effect<C, O>], number: u64) -> Option<usize>
-    ensures { IfSome result (λ place.
-        (place < length effects.now) × (length (messages (take place effects.now)) ≡ number)) }
-{
-    let mut left = number;
-    for (place, effect) in effects.iter().enumerate() {
-        match effect {
-            Effect::To(_, _) => {
-                if left == 0 {
-                    return Some(place);
-                }
-                left -= 1;
-            }
-            Effect::Out(_, _) => {}
-        }
-    }
-    None
-}
-
-/// A copy of a message of one ballot. There is none where memory is wanting.
-fn copy_of<M: Machine>(alloc: Global, message: &Message<M::Command>) -> Option<Message<M::Command>>
-    ensures { IfSome result (λ copied. copied ≡ message.now) }
+/// A copy of a message. The only error is want of memory.
+pub fn copy_of<M: Machine>(
+    alloc: Global,
+    message: &Message<M::Command>,
+) -> Result<Message<M::Command>, Memory>
+    ensures { IfOk result (λ copied. copied ≡ message.now) }
 {
     let from = message.from;
-    match &message.body {
-        Body::Append(ballot, place, command) => match M::copy(alloc, command) {
-            Ok(command) => Some(Message {
-                from,
-                body: Body::Append(*ballot, *place, command),
-            }),
-            Err(_) => None,
-        },
-        Body::Held(ballot, held) => Some(Message {
-            from,
-            body: Body::Held(*ballot, *held),
-        }),
-        Body::Commit(ballot, committed) => Some(Message {
-            from,
-            body: Body::Commit(*ballot, *committed),
-        }),
-        _ => None,
-    }
+    let body = match &message.body {
+        Body::NewBallot(ballot, members, previous, previous_members) => {
+            let members = Members::from_slice(alloc, members.as_slice())?;
+            let previous_members = Members::from_slice(alloc, previous_members.as_slice())?;
+            Body::NewBallot(*ballot, members, *previous, previous_members)
+        }
+        Body::Join(ballot, previous) => Body::Join(*ballot, *previous),
+        Body::State(ballot, log) => Body::State(*ballot, copy_log::<M>(alloc, log)?),
+        Body::Install(ballot, log) => Body::Install(*ballot, copy_log::<M>(alloc, log)?),
+        Body::Installed(ballot, held) => Body::Installed(*ballot, *held),
+        Body::Activate(ballot) => Body::Activate(*ballot),
+        Body::Activated(ballot) => Body::Activated(*ballot),
+        Body::Superseded(ballot) => Body::Superseded(*ballot),
+        Body::Append(ballot, place, command) => {
+            Body::Append(*ballot, *place, M::copy(alloc, command)?)
+        }
+        Body::Held(ballot, held) => Body::Held(*ballot, *held),
+        Body::Commit(ballot, committed) => Body::Commit(*ballot, *committed),
+    };
+    Ok(Message { from, body })
 }
 
-/// A copy of the message of a number with its receiver, if there is one and memory for it.
-pub fn sent_message<M: Machine>(
-    alloc: Global,
-    effects: &[Effect<M::Command, M::Output>],
-    number: u64,
-) -> Option<(u8, Message<M::Command>)>
-    ensures { IfSome result (λ found. slice_get (messages effects.now) number ≡ Some
-        (found.0, found.1)) }
+// A copy of a log.
+fn copy_log<M: Machine>(alloc: Global, log: &Log<M::Command>) -> Result<Log<M::Command>, Memory>
+    ensures { IfOk result (λ copied. copied ≡ log.now) }
 {
-    let place = place_of_message(effects, number)?;
-    match &effects[place] {
-        Effect::To(receiver, message) => {
-            let copied = copy_of::<M>(alloc, message)?;
-            Some((*receiver, copied))
-        }
-        Effect::Out(_, _) => None,
+    let mut copied = Log::new(alloc);
+    for command in log.as_slice() {
+        copied.push(M::copy(alloc, command)?)?;
     }
+    Ok(copied)
 }

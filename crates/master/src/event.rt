@@ -1,14 +1,42 @@
 // What may happen in a group.
 
+ghost use Rattle.std.specs.Prelude.{◌≡◌};
+
+use std::error::Error;
+use std::fmt;
+
 /// One thing that happens in a group of replicas.
 #[derive(Drop)]
 pub enum Event<C> {
-    /// A command is proposed to a node.
+    /// A command is proposed to a node. Idle where that node is no running active primary, or its
+    /// log is full.
     Propose(u8, C),
     /// The message of this number, counted from 0 in the order of sending, comes to its receiver.
+    /// Idle where no such message was sent, or its receiver is unknown or has stopped.
     Deliver(u64),
-    /// Time passes at a node.
+    /// Time passes at a node. Idle where it is unknown or has stopped.
     Tick(u8),
-    /// A node stops for good.
+    /// A node stops for good. Idle where it is unknown or has stopped.
     Crash(u8),
 }
+
+/// An event that cannot happen now. Nothing was changed.
+#[derive(Clone, Copy, Debug, PartialEq, Eq)]
+pub struct Idle;
+
+impl Idle {
+    /// The number of this refusal, the same in every program and document of this broker.
+    pub fn number(self) -> u8
+        ensures { result ≡ 24 }
+    {
+        24
+    }
+}
+
+impl fmt::Display for Idle {
+    fn fmt<W: fmt::Write>(&self, f: &mut fmt::Formatter<W>) -> fmt::Result {
+        write!(f, "an event that cannot happen now")
+    }
+}
+
+impl Error for Idle {}

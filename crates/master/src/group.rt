@@ -1,15 +1,20 @@
 // A group of replicas in one ballot.
 
-ghost use Rattle.std.specs.Prelude.{◌≡◌, true, List, [], ◌∷◌, IfOk};
+ghost use Rattle.std.specs.Prelude.{◌≡◌, ◌<◌, ◌↔◌, false, None, Some, [], length, slice_get, map, List, ◌∷◌, IfOk, IfSome, OnErr, IsErr, IsErrOf};
 ghost use Rattle.machine.specs.Machine.{rules_by};
-ghost use Rattle.ballot_base.specs.Config.{is_lawful};
-ghost use Rattle.ballot_base.specs.declared.config.Config.{Config as Configuration};
-ghost use Rattle.master.specs.Agreement.{IsOpening, Past, AgreesAfter};
-ghost use Rattle.master.specs.Group.{World, Happens, Run, messages, outputs};
+ghost use Rattle.ballot_base.specs.Protocol.{step_in_one_ballot};
+ghost use Rattle.ballot_base.specs.Losses.{one_more};
+ghost use Rattle.ballot_base.specs.Replica.{ReplicaState};
+ghost use Rattle.master.specs.Agreement.{IsOpening, Past, IsAgreed, AgreesAfter};
+ghost use Rattle.master.specs.Group.{World, can_open, opening_world, turn, group_step, group_run, running};
+ghost use Rattle.master.specs.Inside.{RunsAt, TookTurn, agreed_length, input_of, primary_log};
+ghost use Rattle.master.specs.Steps.{Run, StepsBy, LosesNothing};
 
-use crate::copying::sent_message;
-use crate::event::Event;
-use ballot::{Config, Effect, OpeningError, Replica};
+use crate::copying::copy_of;
+use crate::event::{Event, Idle};
+use crate::telling::{can_open, least_told};
+use crate::turning::{Taken, part, take_in};
+use ballot::{Config, Effect, MOST_PLACES, Message, OpeningError, Replica};
 use machine::Machine;
 use std::alloc::Global;
 use std::marker::Model;
@@ -19,45 +24,74 @@ use std::marker::Model;
 #[derive(Drop)]
 pub struct Group<M: Machine> {
     alloc: Global,
+    config: Config,
     nodes: Vec<Replica<M>>,
-    effects: Vec<Effect<M::Command, M::Output>>,
+    sent: Vec<(u8, Message<M::Command>)>,
+    left: Vec<Effect<M::Command, M::Output>>,
+    losses: u64,
 }
 
 impl<M: Machine> Model for Group<M> {
-    ghost use Rattle.std.specs.Prelude.{map};
-    ghost use Rattle.master.specs.Group.{World, messages, outputs};
+    ghost use Rattle.std.specs.Prelude.{◌≡◌, [], map};
+    ghost use Rattle.master.specs.Group.{GroupState, messages, outputs};
 
-    ghost Value = { World M.Command M.Output };
+    ghost Value = { GroupState M.Command M.Output };
 
     ghost view = { λ g.
         record {
-          nodes = map (λ node. node.state) g.nodes.items;
-          sent = messages g.effects.items;
-          left = outputs g.effects.items;
+          config = g.config;
+          world = record {
+            nodes = map (λ node. node.state) g.nodes.items;
+            sent = g.sent.items;
+            left = outputs g.left.items;
+          };
+          losses = g.losses;
         } };
+
+    ghost invariant = { λ g. messages g.left.items ≡ [] };
 }
 
 impl<M: Machine> Group<M> {
-    /// Opens nodes 1 to `nodes` in ballot 1.
-    pub fn opening(alloc: Global, nodes: u8, config: &Config) -> Result<Group<M>, OpeningError>
-        ensures { IfOk result (λ group. IsOpening config.now group) }
+    /// Opens nodes 1 to `nodes` in ballot 1. [`OpeningError::BadMembers`] comes for more than 15
+    /// nodes, for a configuration that no ballot may have, and for a member over `nodes`.
+    pub fn opening(alloc: Global, nodes: u8, config: Config) -> Result<Group<M>, OpeningError>
+        ensures ok { IfOk result (λ group.
+            group ≡ record {
+              config = config;
+              world = opening_world M.Command M.Output nodes config;
+              losses = 0;
+            }) }
+        ensures opens { IfOk result (λ group. IsOpening group.config group.world) }
+        ensures bad { IsErrOf result OpeningError.BadMembers ↔ (can_open nodes config ≡ false) }
     {
-        let count = if nodes > 15 { 15 } else { nodes };
+        if !can_open(nodes, &config) {
+            return Err(OpeningError::BadMembers);
+        }
         let mut opened = Vec::new(alloc);
-        for at in 0..count {
-            opened.push(Replica::new(alloc, at + 1, config)?)?;
+        for at in 0..nodes {
+            opened.push(Replica::new(alloc, at + 1, &config)?)?;
         }
         Ok(Group {
             alloc,
+            config,
             nodes: opened,
-            effects: Vec::new(alloc),
+            sent: Vec::new(alloc),
+            left: Vec::new(alloc),
+            losses: 0,
         })
     }
 
-    /// Lets one thing happen. What cannot happen changes nothing.
-    pub fn step(&mut self, event: &Event<M::Command>)
-        ensures { Happens
+    /// Lets one thing happen. [`Idle`] comes for what cannot happen now, and changes nothing. Where
+    /// memory is wanting, messages are lost, nothing happens, or the node stops.
+    pub fn step(&mut self, event: &Event<M::Command>) -> Result<(), Idle>
+        ensures step { StepsBy
             (rules_by M.opening M.start_of M.after M.gives) self.old event.now self.new }
+        ensures exact { LosesNothing self.old self.new →
+            self.new.world ≡ group_step
+            (rules_by M.opening M.start_of M.after M.gives) event.now self.old.world }
+        ensures idle { IsErr result ↔ (turn
+            (rules_by M.opening M.start_of M.after M.gives) self.old.world event.now ≡ None) }
+        ensures same { OnErr result (self.new ≡ self.old) }
     {
         match event {
             Event::Propose(node, command) => self.propose(*node, command),
@@ -67,91 +101,204 @@ impl<M: Machine> Group<M> {
         }
     }
 
-    /// Lets events happen one after the other.
+    /// Lets events happen one after the other. Idle ones are passed over.
     pub fn run(&mut self, events: &[Event<M::Command>])
-        ensures run { Run
-            (rules_by M.opening M.start_of M.after M.gives) self.old events.now self.new }
-        // For whatever led up to here: the nodes agree, and what is agreed has only grown.
-        ensures agreement { (config : Configuration) (past : List (World M.Command M.Output)) →
-            is_lawful config.members config.primary ≡ true →
-            Past (rules_by M.opening M.start_of M.after M.gives) config (self.old ∷ past) →
-            AgreesAfter (rules_by M.opening M.start_of M.after M.gives) config
-            (self.old ∷ past) self.new }
+        ensures config { self.new.config ≡ self.old.config }
+        ensures run { Run (rules_by M.opening M.start_of M.after M.gives)
+            self.old.world events.now self.new.world }
+        ensures exact { LosesNothing self.old self.new →
+            self.new.world ≡ group_run
+            (rules_by M.opening M.start_of M.after M.gives) events.now self.old.world }
+        // Whatever led up to here, the nodes agree behind the events, and what is agreed has only
+        // grown.
+        ensures agreement { (past : List (World M.Command M.Output)) →
+            Past (rules_by M.opening M.start_of M.after M.gives)
+            self.old.config (self.old.world ∷ past) →
+            AgreesAfter (rules_by M.opening M.start_of M.after M.gives)
+            self.old.config (self.old.world ∷ past) self.new.world }
     {
         for event in events {
-            self.step(event);
+            let _ = self.step(event);
         }
     }
 
-    /// All that the nodes handed out so far, in order: the messages sent and the outputs that left.
-    pub fn effects(&self) -> &[Effect<M::Command, M::Output>]
-        ensures sent { messages result.now ≡ self.now.sent }
-        ensures left { outputs result.now ≡ self.now.left }
+    /// The agreed list: the longest of which every member has told at least that much.
+    pub fn agreed(&self) -> &[M::Command]
+        ensures { (past : List (World M.Command M.Output)) →
+            Past (rules_by M.opening M.start_of M.after M.gives)
+            self.now.config (self.now.world ∷ past) →
+            IsAgreed self.now.config (self.now.world ∷ past) result.now }
     {
-        self.effects.as_slice()
+        let length = self.told_by_all();
+        &self.primary_log()[..length as usize]
     }
 
-    fn propose(&mut self, node: u8, command: &M::Command)
-        ensures { Happens (rules_by M.opening M.start_of M.after M.gives)
+    /// The length of the agreed list.
+    pub fn agreed_len(&self) -> u64
+        ensures { (past : List (World M.Command M.Output)) (agreed : List M.Command) →
+            Past (rules_by M.opening M.start_of M.after M.gives)
+            self.now.config (self.now.world ∷ past) →
+            IsAgreed self.now.config (self.now.world ∷ past) agreed → result ≡ length agreed }
+    {
+        self.told_by_all()
+    }
+
+    /// The messages that were sent, each with its receiver: the one of number n at place n.
+    pub fn sent(&self) -> &[(u8, Message<M::Command>)]
+        ensures { result.now ≡ self.now.world.sent }
+    {
+        self.sent.as_slice()
+    }
+
+    /// The outputs that left, in order: each is an [`Effect::Out`] with its place.
+    pub fn left(&self) -> &[Effect<M::Command, M::Output>]
+        ensures { result.now ≡ map (λ left. Effect.Out left.0 left.1) self.now.world.left }
+    {
+        self.left.as_slice()
+    }
+
+    /// In how many steps memory was wanting. The count stays at 2^64 - 1.
+    pub fn losses(&self) -> u64
+        ensures { result ≡ self.now.losses }
+    {
+        self.losses
+    }
+
+    fn propose(&mut self, node: u8, command: &M::Command) -> Result<(), Idle>
+        ensures step { StepsBy (rules_by M.opening M.start_of M.after M.gives)
             self.old (Event.Propose node command.now) self.new }
+        ensures idle { IsErr result ↔ (turn (rules_by M.opening M.start_of M.after M.gives)
+            self.old.world (Event.Propose node command.now) ≡ None) }
+        ensures same { OnErr result (self.new ≡ self.old) }
     {
-        if node == 0 || node as usize > self.nodes.len() {
-            return;
-        }
-        let at = node as usize - 1;
-        if self.nodes[at].status().stopped {
-            return;
-        }
-        let copied = match M::copy(self.alloc, command) {
-            Ok(copied) => copied,
-            Err(_) => return,
+        let Some(at) = self.running(node) else {
+            return Err(Idle);
         };
-        let replica = &mut self.nodes[at];
-        let _ = replica.propose(copied, &mut self.effects);
+        let status = self.nodes[at].status();
+        if !status.role.is_active() || status.held >= MOST_PLACES {
+            return Err(Idle);
+        }
+        match M::copy(self.alloc, command) {
+            Ok(command) => self.take_turn(at, Taken::Proposed(command)),
+            Err(_) => self.lose(),
+        }
+        Ok(())
     }
 
-    fn deliver(&mut self, number: u64)
-        ensures { Happens (rules_by M.opening M.start_of M.after M.gives)
+    fn deliver(&mut self, number: u64) -> Result<(), Idle>
+        ensures step { StepsBy (rules_by M.opening M.start_of M.after M.gives)
             self.old (Event.Deliver number) self.new }
+        ensures idle { IsErr result ↔ (turn (rules_by M.opening M.start_of M.after M.gives)
+            self.old.world (Event.Deliver number) ≡ None) }
+        ensures same { OnErr result (self.new ≡ self.old) }
     {
-        let (receiver, message) = match sent_message::<M>(self.alloc, &self.effects, number) {
-            Some(found) => found,
-            None => return,
+        let Some((receiver, message)) = self.sent.get(number as usize) else {
+            return Err(Idle);
         };
-        if receiver == 0 || receiver as usize > self.nodes.len() {
-            return;
+        let Some(at) = self.running(*receiver) else {
+            return Err(Idle);
+        };
+        match copy_of::<M>(self.alloc, message) {
+            Ok(message) => self.take_turn(at, Taken::Received(message)),
+            Err(_) => self.lose(),
         }
-        let at = receiver as usize - 1;
-        if self.nodes[at].status().stopped {
-            return;
-        }
-        let replica = &mut self.nodes[at];
-        let _ = replica.on(message, &mut self.effects);
+        Ok(())
     }
 
-    fn tick(&mut self, node: u8)
-        ensures { Happens (rules_by M.opening M.start_of M.after M.gives)
+    fn tick(&mut self, node: u8) -> Result<(), Idle>
+        ensures step { StepsBy (rules_by M.opening M.start_of M.after M.gives)
             self.old (Event.Tick node) self.new }
+        ensures idle { IsErr result ↔ (turn (rules_by M.opening M.start_of M.after M.gives)
+            self.old.world (Event.Tick node) ≡ None) }
+        ensures same { OnErr result (self.new ≡ self.old) }
+    {
+        let Some(at) = self.running(node) else {
+            return Err(Idle);
+        };
+        self.take_turn(at, Taken::Ticked);
+        Ok(())
+    }
+
+    fn crash(&mut self, node: u8) -> Result<(), Idle>
+        ensures step { StepsBy (rules_by M.opening M.start_of M.after M.gives)
+            self.old (Event.Crash node) self.new }
+        ensures idle { IsErr result ↔ (turn (rules_by M.opening M.start_of M.after M.gives)
+            self.old.world (Event.Crash node) ≡ None) }
+        ensures same { OnErr result (self.new ≡ self.old) }
+    {
+        let Some(at) = self.running(node) else {
+            return Err(Idle);
+        };
+        let replica = &mut self.nodes[at];
+        replica.stop();
+        Ok(())
+    }
+
+    // The place of a node that is there and has not stopped.
+    fn running(&self, node: u8) -> Option<usize>
+        ensures some { IfSome result (λ at. RunsAt self.now.world.nodes node at) }
+        ensures none { result ≡ None → running self.now.world.nodes node ≡ None }
     {
         if node == 0 || node as usize > self.nodes.len() {
-            return;
+            return None;
         }
         let at = node as usize - 1;
         if self.nodes[at].status().stopped {
-            return;
+            return None;
         }
-        let replica = &mut self.nodes[at];
-        replica.tick(&mut self.effects);
+        Some(at)
     }
 
-    fn crash(&mut self, node: u8)
-        ensures { Happens (rules_by M.opening M.start_of M.after M.gives)
-            self.old (Event.Crash node) self.new }
+    // A node that runs takes something in.
+    fn take_turn(&mut self, at: usize, taken: Taken<M::Command>)
+        requires { (replica : ReplicaState M.Command) ×
+            (slice_get self.old.world.nodes at ≡ Some replica) × (replica.stopped ≡ false) }
+        ensures { (replica : ReplicaState M.Command) →
+            slice_get self.old.world.nodes at ≡ Some replica →
+            TookTurn self.old
+            (record {
+              place = at;
+              before = replica;
+              outcome = step_in_one_ballot (rules_by M.opening M.start_of M.after M.gives)
+                  replica (input_of taken);
+            }) self.new }
     {
-        if node == 0 || node as usize > self.nodes.len() {
-            return;
+        let from = self.left.len();
+        let replica = &mut self.nodes[at];
+        let taken = take_in(replica, taken, &mut self.left);
+        let kept = part(&mut self.left, &mut self.sent, from);
+        if !(taken && kept) {
+            self.losses = self.losses.saturating_add(1);
         }
-        let replica = &mut self.nodes[node as usize - 1];
-        replica.stop();
+    }
+
+    // The log of the primary.
+    fn primary_log(&self) -> &[M::Command]
+        ensures { result.now ≡ primary_log self.now.config self.now.world }
+    {
+        let at = self.config.primary.saturating_sub(1) as usize;
+        match self.nodes.get(at) {
+            Some(replica) => replica.log(),
+            None => &[],
+        }
+    }
+
+    // How many places every member has told.
+    fn told_by_all(&self) -> u64
+        ensures { result ≡ agreed_length self.now.config self.now.world }
+    {
+        least_told(
+            &self.sent,
+            self.config.primary,
+            self.config.members.as_slice(),
+            self.primary_log().len() as u64,
+        )
+    }
+
+    // Nothing happens, for want of memory.
+    fn lose(&mut self)
+        ensures { self.new ≡ record self.old { losses = one_more self.old.losses } }
+    {
+        self.losses = self.losses.saturating_add(1);
     }
 }

@@ -4,8 +4,10 @@
 mod copying;
 mod event;
 mod group;
+mod telling;
 #[cfg(test)]
 mod tests;
+mod turning;
 
-pub use event::Event;
+pub use event::{Event, Idle};
 pub use group::Group;

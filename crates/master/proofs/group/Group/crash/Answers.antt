@@ -1,17 +1,16 @@
-use Rattle.std.proofs.Common.{◌≡◌, ◌+◌, ◌-◌, ◌<◌, length, arith}
+use Rattle.std.proofs.Common.{ap}
 use Rattle.machine.specs.Machine.{rules_by}
-use Rattle.master.specs.Group.Happens.{nothing_happens}
-use Rattle.master.proofs.Calls.{crashed_call}
+use Rattle.ballot_base.specs.Replica.{Counted}
+use Rattle.master.specs.declared.event.Event.TheVariants.{Crash}
+use Rattle.master.proofs.Counting.{stops_turn, steps_turn}
+use Rattle.master.proofs.Turns.{crash_turn}
 use Rattle.master.proofs.group.Group.crash.Goals as goal
 
-pub returns-then-node-eq0 : goal.returns-then-node-eq0
-returns-then-node-eq0 g c = nothing_happens
-
-pub returns : goal.returns
-returns g c =
+pub returns-clause-step : goal.returns-clause-step
+returns-clause-step g c =
     let rules = rules_by g.M.Machine.opening g.M.Machine.start_of g.M.Machine.after g.M.Machine.gives in
-    let below : c.args.node - 1 < length c.self.inside.nodes.items = omega (arith, c.self.inside.nodes.ok.0, c.len.ensures) in
-    let node : c.args.node ≡ (c.args.node - 1) + 1 = omega arith in
-    rw (← c.self.view_is) (crashed_call rules c.self.inside.nodes.items c.self.inside.effects.items
-    (c.args.node - 1) c.args.node c.index_mut-replica.result.now c.stop.new.self below node
-    c.index_mut-replica.ensures.value c.stop.ensures)
+    let x = rw (← c.self.view_is) at c.in-Some.ensures.some in
+    rw (← c.self.view_is) (steps_turn rules _ _ (Crash c.args.node) _ (stops_turn g.row.M-Output.Denot _ c.args.node c.in-Some.at x)
+    (crash_turn c.self.inside.config c.self.inside.nodes.items c.self.inside.sent.items c.self.inside.left.items c.self.inside.losses c.in-Some.at
+    c.index_mut-replica.result.now c.stop.new.self x.replica c.index_mut-replica.ensures.value x.stands
+    (ap (λ (z : Counted g.row.M-Command.Denot). z.state) c.stop.ensures)))

@@ -1,26 +1,76 @@
-use Rattle.std.proofs.Common.{◌≡◌, ◌+◌, ◌-◌, ◌<◌, false, length, arith}
+use Rattle.std.proofs.Common.{◌≡◌, length, None, refl, ap, sym, ◌∙◌}
+use Rattle.std.specs.Prelude.{slice_get}
+use Rattle.std.proofs.lemmas.Bool.{ltb-true, ltb-false}
 use Rattle.machine.specs.Machine.{rules_by}
-use Rattle.master.specs.Group.Happens.{nothing_happens}
-use Rattle.master.proofs.Calls.{running, delivered_call}
+use Rattle.master.specs.declared.event.Event.TheVariants.{Deliver}
+use Rattle.master.specs.Group.{GroupState}
+use Rattle.master.proofs.Counting.{delivers_turn, delivers_nothing, not_sent, get_there, get_past, some_idle, steps_turn, steps_lost, steps_idle}
 use Rattle.master.proofs.group.Group.deliver.Goals as goal
 
-pub returns-in-None : goal.returns-in-None
-returns-in-None g c = nothing_happens
-
-pub returns-then-receiver-eq0 : goal.returns-then-receiver-eq0
-returns-then-receiver-eq0 g c = nothing_happens
-
-pub returns-then-status : goal.returns-then-status
-returns-then-status g c = nothing_happens
-
-pub returns : goal.returns
-returns g c =
+pub returns-in_default-clause-step : goal.returns-in_default-clause-step
+returns-in_default-clause-step g c =
     let rules = rules_by g.M.Machine.opening g.M.Machine.start_of g.M.Machine.after g.M.Machine.gives in
-    let below : c.in-Some.found.0 - 1 < length c.self.inside.nodes.items = omega (arith, c.self.inside.nodes.ok.0, c.len.ensures) in
-    let node : c.in-Some.found.0 ≡ (c.in-Some.found.0 - 1) + 1 = omega arith in
-    let runs : c.index_mut-replica.result.now.state.stopped ≡ false =
-    running c.self.inside.nodes.items (c.in-Some.found.0 - 1) c.index.result.now c.index_mut-replica.result.now c.status.result
-    below c.index.ensures c.index_mut-replica.ensures.value c.status.ensures c.if-status.false in
-    rw (← c.self.view_is) (delivered_call rules c.self.inside.nodes.items c.self.inside.effects.items c.on.new.out.items
-    (c.in-Some.found.0 - 1) c.in-Some.found.0 c.args.number c.index_mut-replica.result.now c.on.new.self c.in-Some.found.1 below node
-    c.index_mut-replica.ensures.value (rw c.deref.ensures.value at c.in-Some.ensures) (c.on.ensures.step runs))
+    let sent : c.deref.result.now ≡ c.args.self.now.world.sent = c.deref.ensures.value ∙ ap (λ (z : GroupState _ _). z.world.sent) c.self.view_is in
+    let none : slice_get c.args.self.now.world.sent c.args.number ≡ None =
+    ap (λ us. slice_get us c.args.number) (sym sent) ∙ get_past c.deref.result.now c.args.number (ltb-false c.args.number (length c.deref.result.now) (sym c.in_default.ensures.lookup.0)) in
+    steps_idle rules c.args.self.now (Deliver c.args.number) (not_sent rules c.args.self.now.world c.args.number none)
+
+pub returns-in_default-clause-idle : goal.returns-in_default-clause-idle
+returns-in_default-clause-idle g c =
+    let rules = rules_by g.M.Machine.opening g.M.Machine.start_of g.M.Machine.after g.M.Machine.gives in
+    let sent : c.deref.result.now ≡ c.args.self.now.world.sent = c.deref.ensures.value ∙ ap (λ (z : GroupState _ _). z.world.sent) c.self.view_is in
+    let none : slice_get c.args.self.now.world.sent c.args.number ≡ None =
+    ap (λ us. slice_get us c.args.number) (sym sent) ∙ get_past c.deref.result.now c.args.number (ltb-false c.args.number (length c.deref.result.now) (sym c.in_default.ensures.lookup.0)) in
+    (λ h. not_sent rules c.args.self.now.world c.args.number none, λ e. refl)
+
+pub returns-in_default-running-clause-step : goal.returns-in_default-running-clause-step
+returns-in_default-running-clause-step g c =
+    let rules = rules_by g.M.Machine.opening g.M.Machine.start_of g.M.Machine.after g.M.Machine.gives in
+    let sent : c.deref.result.now ≡ c.args.self.now.world.sent = c.deref.ensures.value ∙ ap (λ (z : GroupState _ _). z.world.sent) c.self.view_is in
+    let found = ap (λ us. slice_get us c.args.number) (sym sent) ∙ get_there c.deref.result.now c.args.number c.in-Some.field-0.now
+    (ltb-true c.args.number (length c.deref.result.now) (sym c.in-Some.ensures.lookup.0)) c.in-Some.ensures.lookup.1 in
+    let idle = delivers_nothing rules c.args.self.now.world c.args.number c.in-Some.field-0.now found (c.in_default-running.ensures.none refl) in
+    steps_idle rules c.args.self.now (Deliver c.args.number) idle
+
+pub returns-in_default-running-clause-idle : goal.returns-in_default-running-clause-idle
+returns-in_default-running-clause-idle g c =
+    let rules = rules_by g.M.Machine.opening g.M.Machine.start_of g.M.Machine.after g.M.Machine.gives in
+    let sent : c.deref.result.now ≡ c.args.self.now.world.sent = c.deref.ensures.value ∙ ap (λ (z : GroupState _ _). z.world.sent) c.self.view_is in
+    let found = ap (λ us. slice_get us c.args.number) (sym sent) ∙ get_there c.deref.result.now c.args.number c.in-Some.field-0.now
+    (ltb-true c.args.number (length c.deref.result.now) (sym c.in-Some.ensures.lookup.0)) c.in-Some.ensures.lookup.1 in
+    let idle = delivers_nothing rules c.args.self.now.world c.args.number c.in-Some.field-0.now found (c.in_default-running.ensures.none refl) in
+    (λ h. idle, λ e. refl)
+
+pub returns-in-Ok-clause-step : goal.returns-in-Ok-clause-step
+returns-in-Ok-clause-step g c =
+    let rules = rules_by g.M.Machine.opening g.M.Machine.start_of g.M.Machine.after g.M.Machine.gives in
+    let sent : c.deref.result.now ≡ c.args.self.now.world.sent = c.deref.ensures.value ∙ ap (λ (z : GroupState _ _). z.world.sent) c.self.view_is in
+    let found = ap (λ us. slice_get us c.args.number) (sym sent) ∙ get_there c.deref.result.now c.args.number c.in-Some.field-0.now
+    (ltb-true c.args.number (length c.deref.result.now) (sym c.in-Some.ensures.lookup.0)) c.in-Some.ensures.lookup.1 in
+    let x = c.in-Some-running.ensures.some in
+    steps_turn rules c.args.self.now c.take_turn.new.self (Deliver c.args.number) _
+    (delivers_turn rules c.args.self.now.world c.args.number c.in-Some-running.at c.in-Some.field-0.now c.in-Ok.message found c.in-Ok.ensures x)
+    (c.take_turn.ensures x.replica x.stands)
+
+pub returns-in-Ok-clause-idle : goal.returns-in-Ok-clause-idle
+returns-in-Ok-clause-idle g c =
+    let rules = rules_by g.M.Machine.opening g.M.Machine.start_of g.M.Machine.after g.M.Machine.gives in
+    let sent : c.deref.result.now ≡ c.args.self.now.world.sent = c.deref.ensures.value ∙ ap (λ (z : GroupState _ _). z.world.sent) c.self.view_is in
+    let found = ap (λ us. slice_get us c.args.number) (sym sent) ∙ get_there c.deref.result.now c.args.number c.in-Some.field-0.now
+    (ltb-true c.args.number (length c.deref.result.now) (sym c.in-Some.ensures.lookup.0)) c.in-Some.ensures.lookup.1 in
+    let x = c.in-Some-running.ensures.some in
+    (λ h. cc, λ e. some_idle (delivers_turn rules c.args.self.now.world c.args.number c.in-Some-running.at c.in-Some.field-0.now c.in-Some.field-0.now.1 found refl x) e)
+
+pub returns-in-Err-clause-step : goal.returns-in-Err-clause-step
+returns-in-Err-clause-step g c =
+    let rules = rules_by g.M.Machine.opening g.M.Machine.start_of g.M.Machine.after g.M.Machine.gives in
+    steps_lost rules c.args.self.now _ (Deliver c.args.number) c.lose.ensures
+
+pub returns-in-Err-clause-idle : goal.returns-in-Err-clause-idle
+returns-in-Err-clause-idle g c =
+    let rules = rules_by g.M.Machine.opening g.M.Machine.start_of g.M.Machine.after g.M.Machine.gives in
+    let sent : c.deref.result.now ≡ c.args.self.now.world.sent = c.deref.ensures.value ∙ ap (λ (z : GroupState _ _). z.world.sent) c.self.view_is in
+    let found = ap (λ us. slice_get us c.args.number) (sym sent) ∙ get_there c.deref.result.now c.args.number c.in-Some.field-0.now
+    (ltb-true c.args.number (length c.deref.result.now) (sym c.in-Some.ensures.lookup.0)) c.in-Some.ensures.lookup.1 in
+    let x = c.in-Some-running.ensures.some in
+    (λ h. cc, λ e. some_idle (delivers_turn rules c.args.self.now.world c.args.number c.in-Some-running.at c.in-Some.field-0.now c.in-Some.field-0.now.1 found refl x) e)

@@ -1,26 +1,70 @@
-use Rattle.std.proofs.Common.{◌≡◌, ◌+◌, ◌-◌, ◌<◌, false, length, arith}
+use Rattle.std.proofs.Common.{◌≡◌, refl, ap, ◌∙◌}
 use Rattle.machine.specs.Machine.{rules_by}
-use Rattle.master.specs.Group.Happens.{nothing_happens}
-use Rattle.master.proofs.Calls.{running, proposed_call}
+use Rattle.ballot_base.specs.Protocol.Input.{Proposes}
+use Rattle.ballot_base.specs.Replica.{status_of}
+use Rattle.master.specs.declared.event.Event.TheVariants.{Propose}
+use Rattle.master.proofs.Counting.{takes_turn, cannot_take, proposal_refused, proposal_taken, some_idle, steps_turn, steps_lost, steps_idle}
+use Rattle.master.proofs.Turns.{same_replica}
 use Rattle.master.proofs.group.Group.propose.Goals as goal
 
-pub returns-then-node-eq0 : goal.returns-then-node-eq0
-returns-then-node-eq0 g c = nothing_happens
-
-pub returns-then-status : goal.returns-then-status
-returns-then-status g c = nothing_happens
-
-pub returns-in-Err : goal.returns-in-Err
-returns-in-Err g c = nothing_happens
-
-pub returns : goal.returns
-returns g c =
+pub returns-then-not-is_active-clause-step : goal.returns-then-not-is_active-clause-step
+returns-then-not-is_active-clause-step g c =
     let rules = rules_by g.M.Machine.opening g.M.Machine.start_of g.M.Machine.after g.M.Machine.gives in
-    let below : c.args.node - 1 < length c.self.inside.nodes.items = omega (arith, c.self.inside.nodes.ok.0, c.len.ensures) in
-    let node : c.args.node ≡ (c.args.node - 1) + 1 = omega arith in
-    let runs : c.index_mut-replica.result.now.state.stopped ≡ false =
-    running c.self.inside.nodes.items (c.args.node - 1) c.index.result.now c.index_mut-replica.result.now c.status.result
-    below c.index.ensures c.index_mut-replica.ensures.value c.status.ensures c.if-status.false in
-    rw (← c.self.view_is) (proposed_call rules c.self.inside.nodes.items c.self.inside.effects.items c.propose.new.out.items
-    (c.args.node - 1) c.args.node c.index_mut-replica.result.now c.propose.new.self c.args.command.now c.in-Ok.copied below node
-    c.index_mut-replica.ensures.value c.in-Ok.ensures.same (c.propose.ensures.step runs))
+    let x = c.in-Some.ensures.some in
+    let inside = rw (← c.self.view_is) at x.stands in
+    let same = same_replica c.self.inside.nodes.items c.in-Some.at c.index.result.now x.replica c.index.ensures inside in
+    let status : c.status-status.result ≡ status_of x.replica = c.status-status.ensures ∙ ap status_of same in
+    let idle = cannot_take rules c.args.self.now.world c.args.node c.in-Some.at (Proposes c.args.command.now) x
+    (proposal_refused x.replica c.status-status.result c.is_active.result c.args.command.now status c.is_active.ensures c.then-not-is_active.either) in
+    steps_idle rules c.args.self.now (Propose c.args.node c.args.command.now) idle
+
+pub returns-then-not-is_active-clause-idle : goal.returns-then-not-is_active-clause-idle
+returns-then-not-is_active-clause-idle g c =
+    let rules = rules_by g.M.Machine.opening g.M.Machine.start_of g.M.Machine.after g.M.Machine.gives in
+    let x = c.in-Some.ensures.some in
+    let inside = rw (← c.self.view_is) at x.stands in
+    let same = same_replica c.self.inside.nodes.items c.in-Some.at c.index.result.now x.replica c.index.ensures inside in
+    let status : c.status-status.result ≡ status_of x.replica = c.status-status.ensures ∙ ap status_of same in
+    let idle = cannot_take rules c.args.self.now.world c.args.node c.in-Some.at (Proposes c.args.command.now) x
+    (proposal_refused x.replica c.status-status.result c.is_active.result c.args.command.now status c.is_active.ensures c.then-not-is_active.either) in
+    (λ h. idle, λ e. refl)
+
+pub returns-in-Ok-clause-step : goal.returns-in-Ok-clause-step
+returns-in-Ok-clause-step g c =
+    let rules = rules_by g.M.Machine.opening g.M.Machine.start_of g.M.Machine.after g.M.Machine.gives in
+    let x = c.in-Some.ensures.some in
+    let inside = rw (← c.self.view_is) at x.stands in
+    let same = same_replica c.self.inside.nodes.items c.in-Some.at c.index.result.now x.replica c.index.ensures inside in
+    let status : c.status-status.result ≡ status_of x.replica = c.status-status.ensures ∙ ap status_of same in
+    let can = proposal_taken x.replica c.status-status.result c.is_active.result c.args.command.now status c.is_active.ensures c.if-not-is_active.false c.if-status-ge-MOST_PLACES.false in
+    let goes = takes_turn rules c.args.self.now.world c.args.node c.in-Some.at (Proposes c.args.command.now) x can in
+    let turned = c.take_turn.ensures x.replica x.stands in
+    steps_turn rules c.args.self.now c.take_turn.new.self (Propose c.args.node c.args.command.now) _ goes
+    (rw c.in-Ok.ensures.same at turned)
+
+pub returns-in-Ok-clause-idle : goal.returns-in-Ok-clause-idle
+returns-in-Ok-clause-idle g c =
+    let rules = rules_by g.M.Machine.opening g.M.Machine.start_of g.M.Machine.after g.M.Machine.gives in
+    let x = c.in-Some.ensures.some in
+    let inside = rw (← c.self.view_is) at x.stands in
+    let same = same_replica c.self.inside.nodes.items c.in-Some.at c.index.result.now x.replica c.index.ensures inside in
+    let status : c.status-status.result ≡ status_of x.replica = c.status-status.ensures ∙ ap status_of same in
+    let can = proposal_taken x.replica c.status-status.result c.is_active.result c.args.command.now status c.is_active.ensures c.if-not-is_active.false c.if-status-ge-MOST_PLACES.false in
+    let goes = takes_turn rules c.args.self.now.world c.args.node c.in-Some.at (Proposes c.args.command.now) x can in
+    (λ h. cc, λ e. some_idle goes e)
+
+pub returns-in-Err-clause-step : goal.returns-in-Err-clause-step
+returns-in-Err-clause-step g c =
+    let rules = rules_by g.M.Machine.opening g.M.Machine.start_of g.M.Machine.after g.M.Machine.gives in
+    steps_lost rules c.args.self.now _ (Propose c.args.node c.args.command.now) c.lose.ensures
+
+pub returns-in-Err-clause-idle : goal.returns-in-Err-clause-idle
+returns-in-Err-clause-idle g c =
+    let rules = rules_by g.M.Machine.opening g.M.Machine.start_of g.M.Machine.after g.M.Machine.gives in
+    let x = c.in-Some.ensures.some in
+    let inside = rw (← c.self.view_is) at x.stands in
+    let same = same_replica c.self.inside.nodes.items c.in-Some.at c.index.result.now x.replica c.index.ensures inside in
+    let status : c.status-status.result ≡ status_of x.replica = c.status-status.ensures ∙ ap status_of same in
+    let can = proposal_taken x.replica c.status-status.result c.is_active.result c.args.command.now status c.is_active.ensures c.if-not-is_active.false c.if-status-ge-MOST_PLACES.false in
+    let goes = takes_turn rules c.args.self.now.world c.args.node c.in-Some.at (Proposes c.args.command.now) x can in
+    (λ h. cc, λ e. some_idle goes e)

@@ -1,0 +1,6 @@
+use Rattle.std.proofs.Common.{◌∙◌}
+use Rattle.master.proofs.Lists.{outs_alone}
+use Rattle.master.proofs.group.Group.left.Goals as goal
+
+pub returns : goal.returns
+returns g c = rw (← c.self.view_is) (c.as_slice.ensures.value ∙ outs_alone c.self.inside.left.items c.self.invariant)

@@ -1,0 +1,89 @@
+// The turn of one replica, and what becomes of its effects.
+
+ghost use Rattle.std.specs.Prelude.{◌≡◌, ◌≤◌, false, [], ◌∷◌, ◌++◌, length, take, drop};
+ghost use Rattle.std.specs.Bool.{OnTrue, OnFalse};
+ghost use Rattle.machine.specs.Machine.{rules_by};
+ghost use Rattle.ballot_base.specs.Protocol.{step_in_one_ballot};
+ghost use Rattle.master.specs.Group.{messages};
+ghost use Rattle.master.specs.Inside.{Parted, TookIn, input_of, is_message};
+
+use ballot::{Effect, Message, Replica};
+use machine::Machine;
+
+/// What a node takes in.
+#[derive(Drop)]
+pub enum Taken<C> {
+    /// A message of another node.
+    Received(Message<C>),
+    /// A command.
+    Proposed(C),
+    /// Time passes.
+    Ticked,
+}
+
+/// A replica that runs takes something in. Whether memory sufficed is the result.
+pub fn take_in<M: Machine>(
+    replica: &mut Replica<M>,
+    taken: Taken<M::Command>,
+    out: &mut Vec<Effect<M::Command, M::Output>>,
+) -> bool
+    requires { replica.old.state.stopped ≡ false }
+    ensures { TookIn replica.old.state
+        (step_in_one_ballot (rules_by M.opening M.start_of M.after M.gives)
+        replica.old.state (input_of taken))
+        replica.new.state out.old.items out.new.items result }
+{
+    let before = replica.losses();
+    match taken {
+        Taken::Received(message) => {
+            let _ = replica.on(message, out);
+        }
+        Taken::Proposed(command) => {
+            let _ = replica.propose(command, out);
+        }
+        Taken::Ticked => replica.tick(out),
+    }
+    replica.losses() == before && before < u64::MAX
+}
+
+/// Whether an effect is a message.
+fn is_message<C, O>(effect: &Effect<C, O>) -> bool
+    ensures { result ≡ is_message effect.now }
+{
+    matches!(effect, Effect::To(_, _))
+}
+
+/// Puts a message behind those that were sent. Whether there was memory for it is the result.
+fn keep<C: Drop, O: Drop>(effect: Effect<C, O>, sent: &mut Vec<(u8, Message<C>)>) -> bool
+    ensures kept { OnTrue result (sent.new.items ≡ sent.old.items ++ messages (effect ∷ [])) }
+    ensures lost { OnFalse result (sent.new.items ≡ sent.old.items) }
+{
+    match effect {
+        Effect::To(receiver, message) => sent.push((receiver, message)).is_ok(),
+        Effect::Out(_, _) => true,
+    }
+}
+
+/// Moves the messages that stand among effects from a place on behind those that were sent. One
+/// that finds no memory is lost; whether none was is the result.
+pub fn part<C: Drop, O: Drop>(
+    effects: &mut Vec<Effect<C, O>>,
+    sent: &mut Vec<(u8, Message<C>)>,
+    from: usize,
+) -> bool
+    requires { from ≤ length effects.old.items }
+    ensures { Parted (drop from effects.old.items) (take from effects.old.items) effects.new.items
+        sent.old.items sent.new.items result }
+{
+    let mut at = from;
+    let mut whole = true;
+    for _place in from..effects.len() {
+        if is_message(&effects[at]) {
+            let effect = effects.remove(at);
+            whole = keep(effect, sent) && whole;
+        } else {
+            at += 1;
+        }
+    }
+    whole
+}
