@@ -1,14 +1,14 @@
 // A node that threads share.
 
 ghost use Rattle.std.specs.Prelude.{◌≡◌, OnErr, OnOk};
-ghost use Rattle.node.specs.Running.{Extends};
+ghost use Rattle.world_base.specs.Handing.{Extends};
 
-use crate::node_core::{Handed, Item, Port};
 use crate::node_state::NodeState;
 use ballot::{Effect, Status};
 use connecting_base::{Command, Output};
 use machine::Memory;
 use std::sync::{Mutex, Wait};
+use world_base::{Handed, Item, Port};
 
 /// A node behind a lock. Each call takes the lock once and does one thing under it; what that is
 /// stands at the [`NodeState`]'s call of the same name.

@@ -7,12 +7,12 @@ ghost use Rattle.node.specs.Running.{TellsFaults, TellsWriteFault};
 
 use crate::ending::Ending;
 use crate::node::Node;
-use crate::node_core::{Handed, Item, Piece, Port};
 use machine::Memory;
 use node_base::{Counted, PIECE_BYTES, Written};
 use std::alloc::Global;
 use std::io::{Read, Write};
 use std::sync::Wait;
+use world_base::{Handed, Item, Piece, Port};
 
 /// The port of the one connection.
 const PORT: Port = Port(1);

@@ -1,0 +1,20 @@
+// What a node takes in.
+
+use crate::piece::Piece;
+
+/// The number by which a node knows a stream of bytes from and to a client. A number may be used
+/// again once its connection is over and all that was put out for it was handed over.
+#[derive(Clone, Copy, Debug, PartialEq, Eq)]
+pub struct Port(pub u64);
+
+/// What a node takes in at one step. Times are in milliseconds, from a moment that the node's
+/// caller chooses.
+#[derive(Drop)]
+pub enum Item {
+    /// A stream was opened, at this time.
+    Opened(Port, u64),
+    /// Bytes came on it, at this time.
+    Bytes(Port, Piece, u64),
+    /// The stream ended, or failed.
+    Ended(Port),
+}

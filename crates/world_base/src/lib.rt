@@ -1,0 +1,23 @@
+//! One replica of the broker with its connections: what a node is between two items. Bytes of
+//! clients, messages of other nodes and times come in, bytes and messages go out.
+#![tactic(auto)]
+
+mod connection;
+mod front;
+mod handed;
+mod handing;
+mod item;
+mod listing;
+mod node_core;
+mod piece;
+mod proposing;
+mod serving;
+mod taking;
+#[cfg(test)]
+mod tests;
+
+pub use ballot::{Config, Members, OpeningError, Status};
+pub use handed::Handed;
+pub use item::{Item, Port};
+pub use node_core::NodeCore;
+pub use piece::Piece;
