@@ -13,7 +13,7 @@ use Rattle.ballot_base.specs.Sending.{Outcome}
 use Rattle.ballot_base.specs.Serving.{most_places, proposed}
 use Rattle.ballot_base.proofs.StepRows.{proposed-adds, proposed-full, added-stopped}
 use Rattle.world_base.specs.Core.{CoreState, rules, serves}
-use Rattle.world_base.specs.Step.{has_room}
+use Rattle.world_base.specs.Turns.{has_room}
 
 -- both parts of a test
 pub left_true : (a b : Bool) → (a && b) ≡ true → a ≡ true

@@ -7,7 +7,8 @@ use Rattle.world_base.specs.declared.item.Port.{Port}
 use Rattle.world_base.specs.declared.connection.Connection.{Connection}
 use Rattle.world_base.specs.Connections.{changed, is_open_at, is_open_named}
 use Rattle.world_base.specs.Inside.{Running}
-use Rattle.world_base.specs.Step.{changes, changes_named}
+use Rattle.world_base.specs.Reading.{changes}
+use Rattle.world_base.specs.Turns.{changes_named}
 use Rattle.world_base.proofs.Places.{none_changed, place_changed}
 
 there : (test : Connection → Bool) (change : Connection → Connection) (r : Running) (place : Option ℕ) (i : ℕ)

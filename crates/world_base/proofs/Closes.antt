@@ -14,7 +14,8 @@ use Rattle.world_base.specs.declared.connection.Connection.{Connection}
 use Rattle.world_base.specs.Connections.{closed, is_proposed}
 use Rattle.world_base.specs.Core.{CoreState, Turn, rules, serves}
 use Rattle.world_base.specs.Inside.{Running, Turns}
-use Rattle.world_base.specs.Step.{quiet, then_also, proposes, has_room, changes, ends, asks, open_at}
+use Rattle.world_base.specs.Reading.{changes, ends, asks, open_at}
+use Rattle.world_base.specs.Turns.{quiet, then_also, proposes, has_room}
 use Rattle.world_base.proofs.Asked.{left_true}
 use Rattle.world_base.proofs.TurnsJoin.{turns_idle, turns_join, turns_as, turns_behind, turns_quiet}
 

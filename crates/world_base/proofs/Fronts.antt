@@ -1,5 +1,5 @@
 -- Fronts.antt: what is done by what the unread bytes of a connection begin with.
-use Rattle.std.proofs.Common.{◌≡◌, ℕ, Bool, true, false, List, [], ◌∷◌, drop, Some, None, Result, Ok, Err, refl, ap, subst, ◌∙◌}
+use Rattle.std.proofs.Common.{◌≡◌, ℕ, Bool, true, false, List, [], ◌∷◌, Some, None, Result, Ok, Err, ◌⊎◌, inl, inr, refl, sym, ap, subst, ◌∙◌}
 use Rattle.std.specs.List.{find}
 use Rattle.packet_base.specs.declared.stop.Stop.{Stop}
 use Rattle.packet_base.specs.declared.stop.Stop.TheVariants as stops
@@ -9,6 +9,7 @@ use Rattle.packet.specs.declared.packet.Packet.TheVariants as packets
 use Rattle.packet.specs.declared.connect.Connect.{Connect}
 use Rattle.packet.specs.Verdict.{verdict}
 use Rattle.connecting_base.specs.declared.command.Command.{Command}
+use Rattle.connecting_base.specs.declared.command.Command.TheVariants as commands
 use Rattle.connecting_base.specs.declared.command.Output.{Output}
 use Rattle.ballot_base.specs.declared.message.Effect.{Effect}
 use Rattle.world_base.specs.declared.item.Port.{Port}
@@ -17,8 +18,11 @@ use Rattle.world_base.specs.declared.front.Front.TheVariants as fronts
 use Rattle.world_base.specs.declared.connection.Connection.{Connection}
 use Rattle.world_base.specs.Connections.{asked, changed, closed, is_first, is_proposed, is_open_at}
 use Rattle.world_base.specs.Core.{CoreState, Turn}
-use Rattle.world_base.specs.Inside.{Running, Does, Turns, IsFront, IsFault, is_more, is_wanting}
-use Rattle.world_base.specs.Step.{quiet, changes, open_at, begins, goes_on, reads_first, reads_on, asks, ends, refused}
+use Rattle.world_base.specs.Inside.{Running, Turns, Begins, Follows, IsFault, IsNotMore, is_more, is_wanting}
+use Rattle.world_base.specs.Reading.{changes, open_at, begins, goes_on, reads_first, reads_on, asks, ends, refused}
+use Rattle.world_base.specs.Turns.{quiet, proposes}
+use Rattle.world_base.proofs.Closes.{ends_proposed}
+use Rattle.world_base.proofs.Places.{same_found}
 use Rattle.world_base.proofs.TurnsJoin.{turns_idle, turns_quiet, turns_behind}
 
 -- ---- the first packet
@@ -39,36 +43,6 @@ begins_by : (port : Port) (core : CoreState) (c : Connection) (v : Result (Packe
 unfolding begins
 begins_by port core c v found first is = rw (found, first, is) refl
 
-pub first_more : (port : Port) (c : Connection) (r : Running) (out : List (Effect Command Output)) →
-    open_at port r.core ≡ Some c → is_first c.stage ≡ true → IsFront c.unread fronts.More →
-    Turns r r out out (begins port r.core)
-first_more port c r out found first front =
-    subst (λ (t : Turn). Turns r r out out t) (begins_by port r.core c _ found first front) (turns_idle r out)
-
-pub first_refused : (port : Port) (c : Connection) (a b : Running) (out : List (Effect Command Output))
-    (code : RefusalCode) → open_at port a.core ≡ Some c → is_first c.stage ≡ true →
-    IsFront c.unread (fronts.Refused code) → Does a b (changes port (refused code) a.core) →
-    Turns a b out out (begins port a.core)
-first_refused port c a b out code found first front does =
-    subst (λ (t : Turn). Turns a b out out t) (begins_by port a.core c _ found first front)
-    (turns_quiet a b out (changes port (refused code) a.core) does)
-
-fault_closes : (port : Port) (c : Connection) (core : CoreState) (v : Result (Packet × List ℕ) Stop) → IsFault v →
-    quiet (changes port closed core) ≡ reads_first port c core v
-fault_closes port c core (Err stops.More) fault = absurd fault
-fault_closes port c core (Err (stops.Malformed kind)) fault = refl
-fault_closes port c core (Err (stops.Refused code)) fault = absurd fault
-fault_closes port c core (Ok (packets.Connect connect, rest)) fault = absurd fault
-fault_closes port c core (Ok _) fault = refl
-
-pub first_fault : (port : Port) (c : Connection) (a b : Running) (out : List (Effect Command Output)) →
-    open_at port a.core ≡ Some c → is_first c.stage ≡ true → IsFront c.unread fronts.Fault →
-    b ≡ record a { core = changes port closed a.core } → Turns a b out out (begins port a.core)
-first_fault port c a b out found first front shut =
-    subst (λ (t : Turn). Turns a b out out t)
-    (fault_closes port c a.core (verdict c.unread) front ∙ begins_by port a.core c _ found first refl)
-    (turns_quiet a b out (changes port closed a.core) (λ _. shut))
-
 -- changes that are one on the connection that is found are one on the list
 changed_same : (test : Connection → Bool) (f g : Connection → Connection) (cs : List Connection) (c : Connection) →
     find test cs ≡ Some c → f c ≡ g c → changed test f cs ≡ changed test g cs
@@ -86,22 +60,82 @@ changed_same test f g (d ∷ cs) c found same =
         let later : find test cs ≡ Some c = rw e at found in
         rw e (ap (λ l. d ∷ l) (rest later))
 
-marked_same : (port : Port) (core : CoreState) (c : Connection) (count : ℕ) → open_at port core ≡ Some c →
-    changes port (λ x. asked (drop count x.unread) x) core ≡ changes port (asked (drop count c.unread)) core
-unfolding changes
-marked_same port core c count found =
-    ap (λ (l : List Connection). record core { connections = l })
-    (changed_same (is_open_at port) _ (asked (drop count c.unread)) core.connections c found refl)
+-- a change that changes nothing
+changed_not : (test : Connection → Bool) (cs : List Connection) → changed test (λ c. c) cs ≡ cs
+changed_not test [] = refl
+changed_not test (d ∷ cs) = by_test (test d) refl (changed_not test cs)
+  where
+    by_test : (b : Bool) → test d ≡ b → changed test (λ c. c) cs ≡ cs → changed test (λ c. c) (d ∷ cs) ≡ d ∷ cs
+    by_test true e rest = rw e refl
+    by_test false e rest = rw e (ap (λ l. d ∷ l) rest)
 
-pub first_connect : (port : Port) (c : Connection) (a b r : Running) (x y : List (Effect Command Output))
-    (connect : Connect) (count : ℕ) → open_at port a.core ≡ Some c → is_first c.stage ≡ true →
-    IsFront c.unread (fronts.Connect connect count) →
-    b ≡ record a { core = changes port (λ c. asked (drop count c.unread) c) a.core } →
+becomes_same : (port : Port) (core : CoreState) (c new : Connection) (change : Connection → Connection) →
+    open_at port core ≡ Some c → new ≡ change c → changes port (λ _. new) core ≡ changes port change core
+unfolding changes
+becomes_same port core c new change found is =
+    ap (λ (l : List Connection). record core { connections = l })
+    (changed_same (is_open_at port) (λ _. new) change core.connections c found is)
+
+becomes_itself : (port : Port) (core : CoreState) (c new : Connection) →
+    open_at port core ≡ Some c → new ≡ c → changes port (λ _. new) core ≡ core
+unfolding changes
+becomes_itself port core c new found is =
+    ap (λ (l : List Connection). record core { connections = l })
+    (changed_same (is_open_at port) (λ _. new) (λ x. x) core.connections c found is
+    ∙ changed_not (is_open_at port) core.connections)
+
+fault_closes : (port : Port) (c : Connection) (core : CoreState) (v : Result (Packet × List ℕ) Stop) → IsFault v →
+    quiet (changes port closed core) ≡ reads_first port c core v
+fault_closes port c core (Err stops.More) fault = absurd fault
+fault_closes port c core (Err (stops.Malformed kind)) fault = refl
+fault_closes port c core (Err (stops.Refused code)) fault = absurd fault
+fault_closes port c core (Ok (packets.Connect connect, rest)) fault = absurd fault
+fault_closes port c core (Ok _) fault = refl
+
+-- nothing is left to do for the node
+abbrev pub IsDone : Front → Type 0
+IsDone fronts.More = Unit {0}
+IsDone (fronts.Connect connect) = ⊥
+IsDone (fronts.Refused code) = Unit {0}
+IsDone fronts.Fault = Unit {0}
+IsDone fronts.Wanting = ⊥
+
+pub done_by : (front : Front) →
+    (front ≡ fronts.More) ⊎ (((code : RefusalCode) × (front ≡ fronts.Refused code)) ⊎ (front ≡ fronts.Fault)) → IsDone front
+done_by front (inl more) = subst IsDone (sym more) tt
+done_by front (inr (inl (code, refused))) = subst IsDone (sym refused) tt
+done_by front (inr (inr fault)) = subst IsDone (sym fault) tt
+
+done_is : (port : Port) (c new : Connection) (core : CoreState) (front : Front) → open_at port core ≡ Some c →
+    is_first c.stage ≡ true → Begins c front new → IsDone front → quiet (changes port (λ _. new) core) ≡ begins port core
+done_is port c new core fronts.More found first did done =
+    ap quiet (becomes_itself port core c new found did.1) ∙ begins_by port core c _ found first did.0
+done_is port c new core (fronts.Connect connect) found first did done = absurd done
+done_is port c new core (fronts.Refused code) found first did done =
+    ap quiet (becomes_same port core c new (refused code) found did.1) ∙ begins_by port core c _ found first did.0
+done_is port c new core fronts.Fault found first did done =
+    ap quiet (becomes_same port core c new closed found did.1)
+    ∙ fault_closes port c core (verdict c.unread) did.0 ∙ begins_by port core c _ found first refl
+done_is port c new core fronts.Wanting found first did done = absurd done
+
+pub first_done : (port : Port) (c d new : Connection) (a b : Running) (out : List (Effect Command Output)) (front : Front) →
+    open_at port a.core ≡ Some c → open_at port a.core ≡ Some d → is_first c.stage ≡ true → Begins d front new → IsDone front →
+    b ≡ record a { core = changes port (λ _. new) a.core } → Turns a b out out (begins port a.core)
+first_done port c d new a b out front found again first did done is =
+    let did' = subst (λ x. Begins x front new) (same_found (is_open_at port) a.core.connections c d found again) did in
+    subst (λ (t : Turn). Turns a b out out t) (done_is port c new a.core front found first did' done)
+    (turns_quiet a b out (changes port (λ _. new) a.core) (λ _. is))
+
+pub first_connect : (port : Port) (c d new : Connection) (a b r : Running) (x y : List (Effect Command Output))
+    (connect : Connect) → open_at port a.core ≡ Some c → open_at port a.core ≡ Some d → is_first c.stage ≡ true →
+    Begins d (fronts.Connect connect) new → b ≡ record a { core = changes port (λ _. new) a.core } →
     Turns b r x y (asks port c.name connect b.core) → Turns a r x y (begins port a.core)
-first_connect port c a b r x y connect count found first front marked turns =
-    subst (λ (t : Turn). Turns a r x y t) (begins_by port a.core c _ found first front)
-    (turns_behind a b r x y (changes port (asked (drop count c.unread)) a.core) (asks port c.name connect)
-    (marked ∙ ap (λ (k : CoreState). record a { core = k }) (marked_same port a.core c count found)) turns)
+first_connect port c d new a b r x y connect found again first did is turns =
+    let did' = subst (λ x. Begins x (fronts.Connect connect) new) (same_found (is_open_at port) a.core.connections c d found again) did in
+    let rest = did'.0 in
+    subst (λ (t : Turn). Turns a r x y t) (begins_by port a.core c _ found first did'.1)
+    (turns_behind a b r x y (changes port (asked rest) a.core) (asks port c.name connect)
+    (is ∙ ap (λ (k : CoreState). record a { core = k }) (becomes_same port a.core c new (asked rest) found did'.2)) turns)
 
 -- ---- what comes behind it
 
@@ -121,39 +155,55 @@ goes_by : (port : Port) (core : CoreState) (c : Connection) (v : Result (Packet 
 unfolding goes_on
 goes_by port core c v found heard is = rw (found, heard, is) refl
 
-more_is : (bytes : List ℕ) (front : Front) → IsFront bytes front → is_more front ≡ true → verdict bytes ≡ Err stops.More
-more_is bytes fronts.More f e = f
-more_is bytes (fronts.Connect connect count) f e = absurd cc
-more_is bytes (fronts.Refused code) f e = absurd cc
-more_is bytes fronts.Fault f e = absurd cc
-more_is bytes fronts.Wanting f e = absurd cc
+later_done : (port : Port) (c new : Connection) (core : CoreState) (front : Front) → open_at port core ≡ Some c →
+    is_proposed c.stage ≡ true → Follows c front new → is_more front ≡ true →
+    quiet (changes port (λ _. new) core) ≡ goes_on port core
+later_done port c new core fronts.More found heard did more =
+    ap quiet (becomes_itself port core c new found did.1) ∙ goes_by port core c _ found heard did.0
+later_done port c new core (fronts.Connect connect) found heard did more = absurd cc
+later_done port c new core (fronts.Refused code) found heard did more = absurd cc
+later_done port c new core fronts.Fault found heard did more = absurd cc
+later_done port c new core fronts.Wanting found heard did more = absurd cc
 
-pub later_more : (port : Port) (c : Connection) (r : Running) (out : List (Effect Command Output)) (front : Front) →
-    open_at port r.core ≡ Some c → is_proposed c.stage ≡ true → IsFront c.unread front → is_more front ≡ true →
-    Turns r r out out (goes_on port r.core)
-later_more port c r out front found heard f more =
-    subst (λ (t : Turn). Turns r r out out t)
-    (goes_by port r.core c _ found heard (more_is c.unread front f more)) (turns_idle r out)
+pub later_more : (port : Port) (c d new : Connection) (a b : Running) (out : List (Effect Command Output)) (front : Front) →
+    open_at port a.core ≡ Some c → open_at port a.core ≡ Some d → is_proposed c.stage ≡ true → Follows d front new →
+    is_more front ≡ true → b ≡ record a { core = changes port (λ _. new) a.core } → Turns a b out out (goes_on port a.core)
+later_more port c d new a b out front found again heard did more is =
+    let did' = subst (λ x. Follows x front new) (same_found (is_open_at port) a.core.connections c d found again) did in
+    subst (λ (t : Turn). Turns a b out out t) (later_done port c new a.core front found heard did' more)
+    (turns_quiet a b out (changes port (λ _. new) a.core) (λ _. is))
 
-fault_ends : (port : Port) (core : CoreState) (v : Result (Packet × List ℕ) Stop) → IsFault v →
+-- all else closes the connection
+closes_there : (c new : Connection) (front : Front) → Follows c front new → is_more front ≡ false → new ≡ closed c
+closes_there c new fronts.More did more = absurd cc
+closes_there c new (fronts.Connect connect) did more = did.1
+closes_there c new (fronts.Refused code) did more = did.1
+closes_there c new fronts.Fault did more = did.1
+closes_there c new fronts.Wanting did more = did
+
+ends_there : (port : Port) (core : CoreState) (v : Result (Packet × List ℕ) Stop) → IsNotMore v →
     ends port core ≡ reads_on port core v
-fault_ends port core (Err stops.More) fault = absurd fault
-fault_ends port core (Err (stops.Malformed kind)) fault = refl
-fault_ends port core (Err (stops.Refused code)) fault = absurd fault
-fault_ends port core (Ok (packets.Connect connect, rest)) fault = absurd fault
-fault_ends port core (Ok _) fault = refl
+ends_there port core (Err stops.More) other = absurd other
+ends_there port core (Err (stops.Malformed kind)) other = refl
+ends_there port core (Err (stops.Refused code)) other = refl
+ends_there port core (Ok _) other = refl
 
-front_ends : (port : Port) (core : CoreState) (bytes : List ℕ) (front : Front) → IsFront bytes front →
-    is_more front ≡ false → is_wanting front ≡ false → ends port core ≡ reads_on port core (verdict bytes)
-front_ends port core bytes fronts.More f more wanting = absurd cc
-front_ends port core bytes (fronts.Connect connect count) f more wanting = rw f refl
-front_ends port core bytes (fronts.Refused code) f more wanting = rw f refl
-front_ends port core bytes fronts.Fault f more wanting = fault_ends port core (verdict bytes) f
-front_ends port core bytes fronts.Wanting f more wanting = absurd cc
+not_more : (c new : Connection) (front : Front) → Follows c front new → is_more front ≡ false → is_wanting front ≡ false →
+    IsNotMore (verdict c.unread)
+not_more c new fronts.More did more wanting = absurd cc
+not_more c new (fronts.Connect connect) did more wanting = did.0
+not_more c new (fronts.Refused code) did more wanting = did.0
+not_more c new fronts.Fault did more wanting = did.0
+not_more c new fronts.Wanting did more wanting = absurd cc
 
-pub later_ends : (port : Port) (c : Connection) (a r : Running) (x y : List (Effect Command Output)) (front : Front) →
-    open_at port a.core ≡ Some c → is_proposed c.stage ≡ true → IsFront c.unread front → is_more front ≡ false →
-    is_wanting front ≡ false → Turns a r x y (ends port a.core) → Turns a r x y (goes_on port a.core)
-later_ends port c a r x y front found heard f more wanting turns =
+pub later_ends : (port : Port) (c d new : Connection) (a b r : Running) (x y : List (Effect Command Output)) (front : Front) →
+    open_at port a.core ≡ Some c → open_at port a.core ≡ Some d → is_proposed c.stage ≡ true → Follows d front new →
+    is_more front ≡ false → is_wanting front ≡ false → b ≡ record a { core = changes port (λ _. new) a.core } →
+    Turns b r x y (proposes (commands.Lost c.name) b.core) → Turns a r x y (goes_on port a.core)
+later_ends port c d new a b r x y front found again heard did more wanting is turns =
+    let did' = subst (λ x. Follows x front new) (same_found (is_open_at port) a.core.connections c d found again) did in
     subst (λ (t : Turn). Turns a r x y t)
-    (front_ends port a.core c.unread front f more wanting ∙ goes_by port a.core c _ found heard refl) turns
+    (ends_there port a.core (verdict c.unread) (not_more c new front did' more wanting) ∙ goes_by port a.core c _ found heard refl)
+    (ends_proposed port c a b r x y found heard
+    (is ∙ ap (λ (k : CoreState). record a { core = k })
+    (becomes_same port a.core c new closed found (closes_there c new front did' more))) turns)

@@ -79,3 +79,8 @@ place_changed test change cs i c e is =
 pub found_there : (test : Connection → Bool) (cs : List Connection) (place : Option ℕ) (i : ℕ) (c : Connection) →
     place ≡ position test cs → place ≡ Some i → c ≡ get_or cs i c → find test cs ≡ Some c
 found_there test cs place i c at is here = place_found test cs i c (sym is ∙ at) here
+
+-- what is found is one connection
+pub same_found : (test : Connection → Bool) (cs : List Connection) (c d : Connection) → find test cs ≡ Some c →
+    find test cs ≡ Some d → d ≡ c
+same_found test cs c d found again = cc

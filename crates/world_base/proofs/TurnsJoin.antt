@@ -9,7 +9,7 @@ use Rattle.connecting_base.specs.declared.command.Output.{Output}
 use Rattle.ballot_base.specs.declared.message.Effect.{Effect}
 use Rattle.world_base.specs.Core.{CoreState, Turn}
 use Rattle.world_base.specs.Inside.{Running, Does, Turns}
-use Rattle.world_base.specs.Step.{quiet, then_also, delivered, served, is_message}
+use Rattle.world_base.specs.Turns.{quiet, then_also, delivered, served, is_message}
 
 -- nothing was done
 pub turns_idle : (r : Running) (out : List (Effect Command Output)) → Turns r r out out (quiet r.core)

@@ -1,17 +1,20 @@
 -- What the helpers of a step say of it.
-use Rattle.std.specs.Prelude.{◌≡◌, ℕ, Bool, true, false, List, ◌++◌, drop, Result, Ok, Err}
+use Rattle.std.specs.Prelude.{◌≡◌, ℕ, Bool, true, false, List, ◌++◌, Result, Ok, Err}
 use Rattle.connecting_base.specs.declared.command.Command.{Command}
 use Rattle.connecting_base.specs.declared.command.Output.{Output}
 use Rattle.ballot_base.specs.declared.message.Effect.{Effect}
-use Rattle.ballot_base.specs.Serving.{proposed}
+use Rattle.ballot_base.specs.Sending.{Outcome}
 use Rattle.packet_base.specs.declared.stop.Stop.{Stop}
 use Rattle.packet_base.specs.declared.stop.Stop.TheVariants as stops
 use Rattle.packet.specs.declared.packet.Packet.{Packet}
 use Rattle.packet.specs.declared.packet.Packet.TheVariants as packets
 use Rattle.packet.specs.Verdict.{verdict}
+use Rattle.world_base.specs.declared.connection.Connection.{Connection}
 use Rattle.world_base.specs.declared.front.Front.{Front}
 use Rattle.world_base.specs.declared.front.Front.TheVariants as fronts
-use Rattle.world_base.specs.Core.{CoreState, Turn, rules}
+use Rattle.world_base.specs.Connections.{asked, closed}
+use Rattle.world_base.specs.Core.{CoreState, Turn}
+use Rattle.world_base.specs.Reading.{refused}
 
 -- a node during a step, and whether memory was wanting in it
 pub record Running : Type 0 where
@@ -29,10 +32,9 @@ pub record Turns (old new : Running) (before behind : List (Effect Command Outpu
   pub appended : behind ≡ before ++ given
   pub exact : new.wanting ≡ false → (new ≡ record old { core = turn.core }) × (given ≡ turn.messages)
 
--- a command was put to the replica
-abbrev pub Hears : Running → Running → Command → List (Effect Command Output) → Type 0
-Hears old new command given = new.wanting ≡ false →
-    let outcome = proposed rules old.core.replica.state command in
+-- a step of the replica alone
+abbrev pub Hears : Running → Running → Outcome Command Output → List (Effect Command Output) → Type 0
+Hears old new outcome given = new.wanting ≡ false →
     (new ≡ record old {
       core = record old.core {
         replica = record old.core.replica { state = outcome.state };
@@ -48,24 +50,47 @@ IsFault (Err (stops.Refused code)) = ⊥
 IsFault (Ok (packets.Connect connect, rest)) = ⊥
 IsFault (Ok _) = Unit {0}
 
--- what these bytes begin with, unless memory was wanting
-abbrev pub IsFront : List ℕ → Front → Type 0
-IsFront bytes fronts.More = verdict bytes ≡ Err stops.More
-IsFront bytes (fronts.Connect connect count) = verdict bytes ≡ Ok (packets.Connect connect, drop count bytes)
-IsFront bytes (fronts.Refused code) = verdict bytes ≡ Err (stops.Refused code)
-IsFront bytes fronts.Fault = IsFault (verdict bytes)
-IsFront bytes fronts.Wanting = Unit {0}
+-- what stands at the front of the bytes of a connection, and what is left of them
+abbrev pub Reads : List ℕ → Front → List ℕ → Type 0
+Reads bytes fronts.More left = (verdict bytes ≡ Err stops.More) × (left ≡ bytes)
+Reads bytes (fronts.Connect connect) left = verdict bytes ≡ Ok (packets.Connect connect, left)
+Reads bytes (fronts.Refused code) left = verdict bytes ≡ Err (stops.Refused code)
+Reads bytes fronts.Fault left = IsFault (verdict bytes)
+Reads bytes fronts.Wanting left = Unit {0}
+
+-- what reading its first packet makes of a connection
+abbrev pub Begins : Connection → Front → Connection → Type 0
+Begins old fronts.More new = (verdict old.unread ≡ Err stops.More) × (new ≡ old)
+Begins old (fronts.Connect connect) new =
+    (rest : List ℕ) × (verdict old.unread ≡ Ok (packets.Connect connect, rest)) × (new ≡ asked rest old)
+Begins old (fronts.Refused code) new =
+    (verdict old.unread ≡ Err (stops.Refused code)) × (new ≡ refused code old)
+Begins old fronts.Fault new = IsFault (verdict old.unread) × (new ≡ closed old)
+Begins old fronts.Wanting new = Unit {0}
+
+-- a verdict on what comes behind a first packet that closes the connection
+abbrev pub IsNotMore : Result (Packet × List ℕ) Stop → Type 0
+IsNotMore (Err stops.More) = ⊥
+IsNotMore _ = Unit {0}
+
+-- what reading on makes of a connection
+abbrev pub Follows : Connection → Front → Connection → Type 0
+Follows old fronts.More new = (verdict old.unread ≡ Err stops.More) × (new ≡ old)
+Follows old (fronts.Connect connect) new = IsNotMore (verdict old.unread) × (new ≡ closed old)
+Follows old (fronts.Refused code) new = IsNotMore (verdict old.unread) × (new ≡ closed old)
+Follows old fronts.Fault new = IsNotMore (verdict old.unread) × (new ≡ closed old)
+Follows old fronts.Wanting new = new ≡ closed old
 
 abbrev pub is_more : Front → Bool
 is_more fronts.More = true
-is_more (fronts.Connect connect count) = false
+is_more (fronts.Connect connect) = false
 is_more (fronts.Refused code) = false
 is_more fronts.Fault = false
 is_more fronts.Wanting = false
 
 abbrev pub is_wanting : Front → Bool
 is_wanting fronts.More = false
-is_wanting (fronts.Connect connect count) = false
+is_wanting (fronts.Connect connect) = false
 is_wanting (fronts.Refused code) = false
 is_wanting fronts.Fault = false
 is_wanting fronts.Wanting = true

@@ -3,5 +3,7 @@ pub mod Core
 pub mod Handing
 pub mod Inside
 pub mod Losses
+pub mod Reading
 pub mod Spelling
 pub mod Step
+pub mod Turns

@@ -1,14 +1,17 @@
 // One connection of a node.
 
-ghost use Rattle.std.specs.Prelude.{◌≡◌, ◌++◌, true, drop, OnOk, OnErr};
-ghost use Rattle.world_base.specs.Connections.{asked, closed, fresh, handed, holding, is_at, is_first, is_listed, is_open_at, is_open_named, is_over, is_proposed, putting};
+ghost use Rattle.std.specs.Prelude.{◌≡◌, ◌++◌, true, OnOk, OnErr};
+ghost use Rattle.world_base.specs.Connections.{closed, fresh, handed, holding, is_at, is_first, is_listed, is_open_at, is_open_named, is_over, is_proposed, putting};
 ghost use Rattle.world_base.specs.Handing.{answer_of};
+ghost use Rattle.world_base.specs.Inside.{Begins, Follows};
 ghost use Rattle.world_base.specs.Spelling.{spelling};
-ghost use Rattle.world_base.specs.Step.{refused};
+ghost use Rattle.world_base.specs.Reading.{refused};
 
+use crate::front::Front;
 use crate::handed::Handed;
 use crate::item::Port;
 use crate::piece::Piece;
+use crate::unread::Unread;
 use connecting_base::ConnectionId;
 use machine::Memory;
 use packet::{Connack, Packet, RefusalCode};
@@ -33,7 +36,7 @@ pub struct Connection {
     pub port: Port,
     pub name: ConnectionId,
     pub stage: Stage,
-    pub unread: Piece,
+    pub unread: Unread,
     pub pending: Piece,
 }
 
@@ -46,7 +49,7 @@ impl Connection {
             port,
             name,
             stage: Stage::Awaits,
-            unread: Piece::new(alloc),
+            unread: Unread::new(alloc),
             pending: Piece::new(alloc),
         }
     }
@@ -112,19 +115,41 @@ impl Connection {
     }
 
     // Holds bytes that came. Where memory is wanting nothing changes.
-    pub fn hold(&mut self, piece: Piece) -> Result<(), Memory>
-        ensures ok { OnOk result (self.new ≡ holding piece self.old) }
+    pub fn hold(&mut self, piece: &Piece) -> Result<(), Memory>
+        ensures ok { OnOk result (self.new ≡ holding piece.now self.old) }
         ensures err { OnErr result (self.new ≡ self.old) }
     {
         self.unread.add(piece)
     }
 
-    // Its CONNECT, which took so many bytes, becomes a command.
-    pub fn mark(&mut self, count: usize)
-        ensures { self.new ≡ asked (drop count self.old.unread) self.old }
+    // Reads its first packet. Where that is none that may come first the connection is closed, a
+    // CONNECT that is refused with a code being answered before.
+    pub fn begin(&mut self) -> Front
+        ensures { Begins self.old result self.new }
     {
-        self.stage = Stage::Proposed;
-        self.unread.take_front(count);
+        let front = self.unread.next();
+        match front {
+            Front::More => {}
+            Front::Connect(_) => self.stage = Stage::Proposed,
+            Front::Refused(code) => {
+                if !self.refuse(code) {
+                    return Front::Wanting;
+                }
+            }
+            Front::Fault | Front::Wanting => self.close(),
+        }
+        front
+    }
+
+    // Reads what came behind its first packet: all but less than a packet closes the connection.
+    pub fn follow(&mut self) -> Front
+        ensures { Follows self.old result self.new }
+    {
+        let front = self.unread.next();
+        if !front.is_more() {
+            self.close();
+        }
+        front
     }
 
     // Puts a packet out. Where memory is wanting nothing changes.

@@ -3,6 +3,7 @@
 #![tactic(auto)]
 
 mod connection;
+mod driving;
 mod front;
 mod handed;
 mod handing;
@@ -10,11 +11,11 @@ mod item;
 mod listing;
 mod node_core;
 mod piece;
-mod proposing;
 mod serving;
 mod taking;
 #[cfg(test)]
 mod tests;
+mod unread;
 
 pub use ballot::{Config, Members, OpeningError, Status};
 pub use handed::Handed;

@@ -8,7 +8,7 @@ use packet::{Packet, encode, one_spelling};
 use std::alloc::Global;
 use std::marker::Model;
 
-/// Bytes in their order: what came at once, what is not read yet, or what waits to be handed over.
+/// Bytes in their order: what came at once, or what waits to be handed over.
 #[derive(Drop)]
 pub struct Piece {
     bytes: Vec<u8>,
@@ -54,20 +54,6 @@ impl Piece {
         self.bytes.is_empty()
     }
 
-    /// Adds bytes at the end. Where memory is wanting nothing changes.
-    pub fn add(&mut self, piece: Piece) -> Result<(), Memory>
-        ensures ok { OnOk result (self.new ≡ self.old ++ piece) }
-        ensures err { OnErr result (self.new ≡ self.old) }
-    {
-        if self.bytes.is_empty() {
-            // Nothing is copied where all that came before is read.
-            self.bytes = piece.bytes;
-            return Ok(());
-        }
-        self.bytes.extend_from_slice(&piece.bytes)?;
-        Ok(())
-    }
-
     /// Adds the bytes of a packet at the end; so far only those of a CONNACK, the one packet that
     /// the broker gives. Where memory is wanting nothing changes.
     pub(crate) fn put(&mut self, packet: &Packet) -> Result<(), Memory>
@@ -91,14 +77,6 @@ impl Piece {
             Ok(()) => Ok(()),
             Err(_) => Err(Memory),
         }
-    }
-
-    /// Takes the first `count` bytes away, or all where there are fewer.
-    pub fn take_front(&mut self, count: usize)
-        ensures { self.new ≡ drop count self.old }
-    {
-        let count = count.min(self.bytes.len());
-        self.bytes.drain(..count);
     }
 
     /// Takes all bytes away.

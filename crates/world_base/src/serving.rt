@@ -1,15 +1,17 @@
 // A node during a step.
 
-ghost use Rattle.std.specs.Prelude.{◌≡◌, ◌≤◌, ◌↔◌, false, true, drop, IfOk, IfSome, OnSome, IfNone, IsErrOf};
+ghost use Rattle.std.specs.Prelude.{◌≡◌, ◌≤◌, ◌↔◌, false, true, IfOk, IfSome, OnSome, IfNone, IsErrOf};
 ghost use Rattle.std.specs.List.{position};
 ghost use Rattle.connecting_base.specs.Connection.{is_connection_name};
 ghost use Rattle.ballot_base.specs.Config.{is_lawful};
 ghost use Rattle.ballot_base.specs.Replica.{status_of};
-ghost use Rattle.world_base.specs.Connections.{asked, closed, holding, is_open_at, is_open_named, putting};
+ghost use Rattle.world_base.specs.Connections.{closed, holding, is_open_at, is_open_named, putting};
 ghost use Rattle.world_base.specs.Core.{opening_core, serves};
 ghost use Rattle.world_base.specs.Inside.{Does};
 ghost use Rattle.world_base.specs.Spelling.{spelling};
-ghost use Rattle.world_base.specs.Step.{changes, changes_named, next_name, opens, refused, settled};
+ghost use Rattle.world_base.specs.Reading.{changes, refused};
+ghost use Rattle.world_base.specs.Step.{crashed, next_name, opens, settled};
+ghost use Rattle.world_base.specs.Turns.{changes_named};
 
 use crate::connection::Connection;
 use crate::item::Port;
@@ -125,9 +127,9 @@ impl Serving {
     }
 
     // Adds bytes that came to those of the open connection of a port: whether there was memory.
-    pub fn add(&mut self, port: Port, piece: Piece) -> bool
+    pub fn add(&mut self, port: Port, piece: &Piece) -> bool
         ensures ok { result ≡ true →
-            self.new ≡ record self.old { core = changes port (holding piece) self.old.core } }
+            self.new ≡ record self.old { core = changes port (holding piece.now) self.old.core } }
         ensures same { result ≡ false → self.new ≡ self.old }
     {
         match self.place_at(port) {
@@ -154,29 +156,6 @@ impl Serving {
     {
         if let Some(index) = self.place_of(name) {
             let whole = self.connections[index].send(packet);
-            if !whole {
-                self.wanting = true;
-            }
-        }
-    }
-
-    // The CONNECT of the connection of a port, which took so many bytes, becomes a command.
-    pub fn mark(&mut self, port: Port, count: usize)
-        ensures { self.new ≡ record self.old {
-          core = changes port (λ c. asked (drop count c.unread) c) self.old.core;
-        } }
-    {
-        if let Some(index) = self.place_at(port) {
-            self.connections[index].mark(count);
-        }
-    }
-
-    // Refuses the CONNECT of the connection of a port with a code.
-    pub fn refuse(&mut self, port: Port, code: RefusalCode)
-        ensures { Does self.old self.new (changes port (refused code) self.old.core) }
-    {
-        if let Some(index) = self.place_at(port) {
-            let whole = self.connections[index].refuse(code);
             if !whole {
                 self.wanting = true;
             }
@@ -211,6 +190,13 @@ impl Serving {
             return;
         }
         self.accepted += 1;
+    }
+
+    // Stops the replica for good.
+    pub fn crash(&mut self)
+        ensures { self.new ≡ record self.old { core = crashed self.old.core } }
+    {
+        self.replica.stop();
     }
 
     // Closes all connections where the node no longer serves clients, and takes closed ones with

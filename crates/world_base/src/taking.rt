@@ -4,7 +4,9 @@ ghost use Rattle.std.specs.Prelude.{◌≡◌, true};
 ghost use Rattle.world_base.specs.Connections.{holding};
 ghost use Rattle.world_base.specs.Inside.{Turns};
 ghost use Rattle.world_base.specs.Handing.{Extends};
-ghost use Rattle.world_base.specs.Step.{asks, begins, changes, ends, goes_on, quiet, takes_in};
+ghost use Rattle.world_base.specs.Reading.{asks, begins, changes, ends, goes_on};
+ghost use Rattle.world_base.specs.Step.{takes_in};
+ghost use Rattle.world_base.specs.Turns.{quiet};
 
 use crate::connection::Stage;
 use crate::front::Front;
@@ -22,6 +24,8 @@ impl Serving {
             (takes_in item self.old.core) }
     {
         match item {
+            Item::Peer(message) => self.receive(message, effects),
+            Item::Tick(_) => self.tick(effects),
             Item::Opened(port, _) => self.open(port),
             Item::Bytes(port, piece, _) => {
                 self.hold(port, piece, effects);
@@ -29,6 +33,7 @@ impl Serving {
                 self.go_on(port, effects);
             }
             Item::Ended(port) => self.end(port, effects),
+            Item::Crash => self.crash(),
         }
     }
 
@@ -37,7 +42,7 @@ impl Serving {
         ensures { Turns self.old self.new effects.old.items effects.new.items
             (quiet (changes port (holding piece) self.old.core)) }
     {
-        if !self.add(port, piece) {
+        if !self.add(port, &piece) {
             self.wanting = true;
             self.end(port, effects);
         }
@@ -56,18 +61,10 @@ impl Serving {
             return;
         }
         let name = connection.name;
-        match Front::of(self.alloc, connection.unread.as_slice()) {
-            Front::More => {}
-            Front::Connect(connect, count) => {
-                self.mark(port, count);
-                self.connect(port, name, connect, effects);
-            }
-            Front::Refused(code) => self.refuse(port, code),
-            Front::Fault => self.close(port),
-            Front::Wanting => {
-                self.wanting = true;
-                self.close(port);
-            }
+        match self.connections[index].begin() {
+            Front::Connect(connect) => self.connect(port, name, connect, effects),
+            Front::Wanting => self.wanting = true,
+            Front::More | Front::Refused(_) | Front::Fault => {}
         }
     }
 
@@ -100,16 +97,15 @@ impl Serving {
         if !connection.is_proposed() {
             return;
         }
-        let front = Front::of(self.alloc, connection.unread.as_slice());
+        let name = connection.name;
+        let front = self.connections[index].follow();
         if front.is_more() {
             return;
         }
         if front.is_wanting() {
             self.wanting = true;
-            self.end(port, effects);
-            return;
         }
-        self.end(port, effects);
+        self.propose(Command::Lost(name), effects);
     }
 
     // Closes the connection of a port as lost.

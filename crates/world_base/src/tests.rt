@@ -1,7 +1,9 @@
 // Worked rows: the bytes that go to the sole member of a ballot, and those that it puts out.
 
+mod two_nodes;
+
 use crate::{Handed, Item, NodeCore, Piece, Port};
-use ballot::{Config, Effect, Members, Role, Status};
+use ballot::{Config, Effect, Members};
 use connecting_base::{Command, Output};
 use std::alloc::Global;
 use std::process::Abort;
@@ -115,10 +117,27 @@ fn a_second_connection_takes_over(rt: HostRuntime) -> Result<(), Fail> {
     Ok(())
 }
 
+// Bytes that come on port 1 of a fresh node in two pieces, cut at this place: what is handed over.
+fn cut_in_two(
+    rt: &impl Abort,
+    alloc: Global,
+    bytes: &[u8],
+    at: usize,
+    answer: &[u8],
+    handed: Handed,
+) -> Result<NodeCore, Fail> {
+    let mut node = sole(alloc)?;
+    take(rt, alloc, &mut node, Item::Opened(Port(1), 0));
+    send(rt, alloc, &mut node, 1, &bytes[..at])?;
+    send(rt, alloc, &mut node, 1, &bytes[at..])?;
+    expect(rt, alloc, &mut node, 1, answer, handed)?;
+    assert_eq!(rt; node.losses(), 0, "cut at {at}");
+    Ok(node)
+}
+
 // Level 3, a user name, no Client Identifier, and packets that may not come first.
 #[test]
 fn connect_is_refused(rt: HostRuntime) -> Result<(), Fail> {
-    let alloc = rt.alloc();
     let mut level = CONNECT;
     level[8] = 3;
     let mut user_name = CONNECT;
@@ -134,12 +153,46 @@ fn connect_is_refused(rt: HostRuntime) -> Result<(), Fail> {
         (&[0x20, 0x02, 0x00, 0x00], &[]),
     ];
     for (bytes, answer) in rows {
-        let mut node = sole(alloc)?;
-        take(&rt, alloc, &mut node, Item::Opened(Port(1), 0));
-        send(&rt, alloc, &mut node, 1, bytes)?;
-        expect(&rt, alloc, &mut node, 1, answer, Handed::Closed)?;
-        assert_eq!(rt; node.status().held, 0);
+        for at in 0..=bytes.len() {
+            let node = cut_in_two(&rt, rt.alloc(), bytes, at, answer, Handed::Closed)?;
+            assert_eq!(rt; node.status().held, 0);
+        }
+    }
+    Ok(())
+}
+
+#[test]
+fn connect_cut_at_every_byte(rt: HostRuntime) -> Result<(), Fail> {
+    for at in 0..=CONNECT.len() {
+        let mut node = cut_in_two(&rt, rt.alloc(), &CONNECT, at, &ACCEPTED, Handed::Open)?;
+        take(&rt, rt.alloc(), &mut node, Item::Opened(Port(2), 0));
+        send(&rt, rt.alloc(), &mut node, 2, &CONNECT[..at])?;
+        send(&rt, rt.alloc(), &mut node, 2, &CONNECT[at..])?;
+        let again = [0x20, 0x02, 0x01, 0x00];
+        expect(&rt, rt.alloc(), &mut node, 2, &again, Handed::Open)?;
+        expect(&rt, rt.alloc(), &mut node, 1, &NONE, Handed::Closed)?;
         assert_eq!(rt; node.losses(), 0);
+    }
+    Ok(())
+}
+
+// Remaining Lengths (MQTT 2.2.3) of a first packet: less than a packet is waited for, one over the
+// limit or of more than four bytes closes.
+#[test]
+fn lengths_of_the_standard(rt: HostRuntime) -> Result<(), Fail> {
+    let rows: [(&[u8], Handed); 7] = [
+        (&[0x30, 0xFC, 0xFF, 0x3F], Handed::Open),
+        (&[0x30, 0xFD, 0xFF, 0x3F], Handed::Closed),
+        (&[0x30, 0xFF, 0xFF, 0xFF, 0x7F], Handed::Closed),
+        (&[0x30, 0x80, 0x00], Handed::Closed),
+        (&[0x30, 0xFF, 0xFF, 0xFF, 0xFF], Handed::Closed),
+        (&[], Handed::Open),
+        (&[0x30], Handed::Open),
+    ];
+    for (bytes, handed) in rows {
+        for at in 0..=bytes.len() {
+            cut_in_two(&rt, rt.alloc(), bytes, at, &NONE, handed)?;
+        }
     }
     Ok(())
 }
@@ -147,16 +200,13 @@ fn connect_is_refused(rt: HostRuntime) -> Result<(), Fail> {
 // A packet behind the first, whole or malformed, closes the connection, and the broker hears of it.
 #[test]
 fn nothing_may_follow_yet(rt: HostRuntime) -> Result<(), Fail> {
-    let alloc = rt.alloc();
     for first in [0xC0, 0x00] {
-        let mut node = sole(alloc)?;
-        take(&rt, alloc, &mut node, Item::Opened(Port(1), 0));
-        let mut both = Vec::from_slice(alloc, &CONNECT)?;
+        let mut both = Vec::from_slice(rt.alloc(), &CONNECT)?;
         both.extend_from_slice(&[first, 0x00])?;
-        send(&rt, alloc, &mut node, 1, &both)?;
-        expect(&rt, alloc, &mut node, 1, &ACCEPTED, Handed::Closed)?;
-        assert_eq!(rt; node.status().held, 2);
-        assert_eq!(rt; node.losses(), 0);
+        for at in 0..=both.len() {
+            let node = cut_in_two(&rt, rt.alloc(), &both, at, &ACCEPTED, Handed::Closed)?;
+            assert_eq!(rt; node.status().held, 2);
+        }
     }
     Ok(())
 }

@@ -1,7 +1,8 @@
-use Rattle.std.proofs.Common.{sym, ◌∙◌}
+use Rattle.std.proofs.Common.{refl, sym, ◌∙◌}
 use Rattle.world_base.specs.Connections.{is_open_at}
+use Rattle.world_base.proofs.Changes.{changed_there}
 use Rattle.world_base.proofs.Places.{none_found, found_there}
-use Rattle.world_base.proofs.Fronts.{first_none, first_other, first_more, first_refused, first_fault, first_connect}
+use Rattle.world_base.proofs.Fronts.{done_by, first_none, first_other, first_done, first_connect}
 use Rattle.world_base.proofs.serving.Serving.begin.Goals as goal
 
 pub returns-in_default : goal.returns-in_default
@@ -15,33 +16,27 @@ returns-then-not-is_first c =
     (rw (← c.self.view_is) at c.place_at.ensures) c.in-Some.is c.index-connection.ensures))
     (sym c.is_first.ensures ∙ c.if-not-is_first.true)
 
-pub returns-in-More : goal.returns-in-More
-returns-in-More c =
-    first_more c.args.port c.index-connection.result.now _ _
-    (rw (← c.self.view_is) (found_there (is_open_at c.args.port) _ c.place_at.result c.in-Some.index _
-    (rw (← c.self.view_is) at c.place_at.ensures) c.in-Some.is c.index-connection.ensures))
-    (sym c.is_first.ensures ∙ c.if-not-is_first.false) (rw c.as_slice.ensures at c.in-More.ensures)
-
 pub returns-in-Connect : goal.returns-in-Connect
 returns-in-Connect c =
-    first_connect c.args.port c.index-connection.result.now _ c.mark.new.self _ _ _ c.in-Connect.connect c.in-Connect.count
+    first_connect c.args.port c.index-connection.result.now c.index_mut.result.now c.begin.new.self _ _ _ _ _ c.in-Connect.connect
     (rw (← c.self.view_is) (found_there (is_open_at c.args.port) _ c.place_at.result c.in-Some.index _
     (rw (← c.self.view_is) at c.place_at.ensures) c.in-Some.is c.index-connection.ensures))
-    (sym c.is_first.ensures ∙ c.if-not-is_first.false) (rw c.as_slice.ensures at c.in-Connect.ensures)
-    c.mark.ensures c.connect.ensures
+    (rw (← c.self.view_is) (found_there (is_open_at c.args.port) _ c.place_at.result c.in-Some.index _
+    (rw (← c.self.view_is) at c.place_at.ensures) c.in-Some.is c.index_mut.ensures.value))
+    (sym c.is_first.ensures ∙ c.if-not-is_first.false) c.in-Connect.ensures
+    (rw (← c.self.view_is) (changed_there c.args.port (λ _. c.begin.new.self) _ c.place_at.result c.in-Some.index
+    c.index_mut.result.now c.begin.new.self (rw (← c.self.view_is) at c.place_at.ensures) c.in-Some.is
+    c.index_mut.ensures.value refl))
+    c.connect.ensures
 
-pub returns-in-Refused : goal.returns-in-Refused
-returns-in-Refused c =
-    first_refused c.args.port c.index-connection.result.now _ c.refuse.new.self _ c.in-Refused.code
+pub returns-in-More : goal.returns-in-More
+returns-in-More c =
+    first_done c.args.port c.index-connection.result.now c.index_mut.result.now c.begin.new.self _ _ _ c.begin.result
     (rw (← c.self.view_is) (found_there (is_open_at c.args.port) _ c.place_at.result c.in-Some.index _
     (rw (← c.self.view_is) at c.place_at.ensures) c.in-Some.is c.index-connection.ensures))
-    (sym c.is_first.ensures ∙ c.if-not-is_first.false) (rw c.as_slice.ensures at c.in-Refused.ensures)
-    c.refuse.ensures
-
-pub returns-in-Fault : goal.returns-in-Fault
-returns-in-Fault c =
-    first_fault c.args.port c.index-connection.result.now _ c.close.new.self _
     (rw (← c.self.view_is) (found_there (is_open_at c.args.port) _ c.place_at.result c.in-Some.index _
-    (rw (← c.self.view_is) at c.place_at.ensures) c.in-Some.is c.index-connection.ensures))
-    (sym c.is_first.ensures ∙ c.if-not-is_first.false) (rw c.as_slice.ensures at c.in-Fault.ensures)
-    c.close.ensures
+    (rw (← c.self.view_is) at c.place_at.ensures) c.in-Some.is c.index_mut.ensures.value))
+    (sym c.is_first.ensures ∙ c.if-not-is_first.false) c.begin.ensures (done_by c.begin.result c.in-More.is)
+    (rw (← c.self.view_is) (changed_there c.args.port (λ _. c.begin.new.self) _ c.place_at.result c.in-Some.index
+    c.index_mut.result.now c.begin.new.self (rw (← c.self.view_is) at c.place_at.ensures) c.in-Some.is
+    c.index_mut.ensures.value refl))

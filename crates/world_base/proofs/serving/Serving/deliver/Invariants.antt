@@ -1,5 +1,5 @@
 use Rattle.world_base.specs.Inside.{Turns}
-use Rattle.world_base.specs.Step.{delivered}
+use Rattle.world_base.specs.Turns.{delivered}
 use Rattle.world_base.proofs.serving.Serving.deliver.Given as goal
 
 abbrev pub invariant-loop-effect : goal.invariant-loop-effect
