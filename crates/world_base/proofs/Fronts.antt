@@ -18,7 +18,7 @@ use Rattle.world_base.specs.declared.front.Front.TheVariants as fronts
 use Rattle.world_base.specs.declared.connection.Connection.{Connection}
 use Rattle.world_base.specs.Connections.{asked, changed, closed, is_first, is_proposed, is_open_at}
 use Rattle.world_base.specs.Core.{CoreState, Turn}
-use Rattle.world_base.specs.Inside.{Running, Turns, Begins, Follows, IsFault, IsNotMore, is_more, is_wanting}
+use Rattle.world_base.specs.Inside.{Running, Turns, Begins, Follows, IsFault, IsNotMore}
 use Rattle.world_base.specs.Reading.{changes, open_at, begins, goes_on, reads_first, reads_on, asks, ends, refused}
 use Rattle.world_base.specs.Turns.{quiet, proposes}
 use Rattle.world_base.proofs.Closes.{ends_proposed}
@@ -155,31 +155,36 @@ goes_by : (port : Port) (core : CoreState) (c : Connection) (v : Result (Packet 
 unfolding goes_on
 goes_by port core c v found heard is = rw (found, heard, is) refl
 
-later_done : (port : Port) (c new : Connection) (core : CoreState) (front : Front) → open_at port core ≡ Some c →
-    is_proposed c.stage ≡ true → Follows c front new → is_more front ≡ true →
-    quiet (changes port (λ _. new) core) ≡ goes_on port core
-later_done port c new core fronts.More found heard did more =
-    ap quiet (becomes_itself port core c new found did.1) ∙ goes_by port core c _ found heard did.0
-later_done port c new core (fronts.Connect connect) found heard did more = absurd cc
-later_done port c new core (fronts.Refused code) found heard did more = absurd cc
-later_done port c new core fronts.Fault found heard did more = absurd cc
-later_done port c new core fronts.Wanting found heard did more = absurd cc
-
-pub later_more : (port : Port) (c d new : Connection) (a b : Running) (out : List (Effect Command Output)) (front : Front) →
-    open_at port a.core ≡ Some c → open_at port a.core ≡ Some d → is_proposed c.stage ≡ true → Follows d front new →
-    is_more front ≡ true → b ≡ record a { core = changes port (λ _. new) a.core } → Turns a b out out (goes_on port a.core)
-later_more port c d new a b out front found again heard did more is =
-    let did' = subst (λ x. Follows x front new) (same_found (is_open_at port) a.core.connections c d found again) did in
-    subst (λ (t : Turn). Turns a b out out t) (later_done port c new a.core front found heard did' more)
+pub later_more : (port : Port) (c d new : Connection) (a b : Running) (out : List (Effect Command Output)) →
+    open_at port a.core ≡ Some c → open_at port a.core ≡ Some d → is_proposed c.stage ≡ true → Follows d fronts.More new →
+    b ≡ record a { core = changes port (λ _. new) a.core } → Turns a b out out (goes_on port a.core)
+later_more port c d new a b out found again heard did is =
+    let did' = subst (λ x. Follows x fronts.More new) (same_found (is_open_at port) a.core.connections c d found again) did in
+    subst (λ (t : Turn). Turns a b out out t)
+    (ap quiet (becomes_itself port a.core c new found did'.1) ∙ goes_by port a.core c _ found heard did'.0)
     (turns_quiet a b out (changes port (λ _. new) a.core) (λ _. is))
 
--- all else closes the connection
-closes_there : (c new : Connection) (front : Front) → Follows c front new → is_more front ≡ false → new ≡ closed c
-closes_there c new fronts.More did more = absurd cc
-closes_there c new (fronts.Connect connect) did more = did.1
-closes_there c new (fronts.Refused code) did more = did.1
-closes_there c new fronts.Fault did more = did.1
-closes_there c new fronts.Wanting did more = did
+-- the connection was closed by what stands there
+abbrev pub IsOther : Front → Type 0
+IsOther fronts.More = ⊥
+IsOther (fronts.Connect connect) = Unit {0}
+IsOther (fronts.Refused code) = Unit {0}
+IsOther fronts.Fault = Unit {0}
+IsOther fronts.Wanting = ⊥
+
+pub other_by : (front : Front) → ((connect : Connect) × (front ≡ fronts.Connect connect))
+    ⊎ (((code : RefusalCode) × (front ≡ fronts.Refused code)) ⊎ (front ≡ fronts.Fault)) → IsOther front
+other_by front (inl (connect, is)) = subst IsOther (sym is) tt
+other_by front (inr (inl (code, is))) = subst IsOther (sym is) tt
+other_by front (inr (inr is)) = subst IsOther (sym is) tt
+
+closes_there : (c new : Connection) (front : Front) → Follows c front new → IsOther front →
+    IsNotMore (verdict c.unread) × (new ≡ closed c)
+closes_there c new fronts.More did other = absurd other
+closes_there c new (fronts.Connect connect) did other = did
+closes_there c new (fronts.Refused code) did other = did
+closes_there c new fronts.Fault did other = did
+closes_there c new fronts.Wanting did other = absurd other
 
 ends_there : (port : Port) (core : CoreState) (v : Result (Packet × List ℕ) Stop) → IsNotMore v →
     ends port core ≡ reads_on port core v
@@ -188,22 +193,14 @@ ends_there port core (Err (stops.Malformed kind)) other = refl
 ends_there port core (Err (stops.Refused code)) other = refl
 ends_there port core (Ok _) other = refl
 
-not_more : (c new : Connection) (front : Front) → Follows c front new → is_more front ≡ false → is_wanting front ≡ false →
-    IsNotMore (verdict c.unread)
-not_more c new fronts.More did more wanting = absurd cc
-not_more c new (fronts.Connect connect) did more wanting = did.0
-not_more c new (fronts.Refused code) did more wanting = did.0
-not_more c new fronts.Fault did more wanting = did.0
-not_more c new fronts.Wanting did more wanting = absurd cc
-
 pub later_ends : (port : Port) (c d new : Connection) (a b r : Running) (x y : List (Effect Command Output)) (front : Front) →
     open_at port a.core ≡ Some c → open_at port a.core ≡ Some d → is_proposed c.stage ≡ true → Follows d front new →
-    is_more front ≡ false → is_wanting front ≡ false → b ≡ record a { core = changes port (λ _. new) a.core } →
+    IsOther front → b ≡ record a { core = changes port (λ _. new) a.core } →
     Turns b r x y (proposes (commands.Lost c.name) b.core) → Turns a r x y (goes_on port a.core)
-later_ends port c d new a b r x y front found again heard did more wanting is turns =
+later_ends port c d new a b r x y front found again heard did other is turns =
     let did' = subst (λ x. Follows x front new) (same_found (is_open_at port) a.core.connections c d found again) did in
+    let there = closes_there c new front did' other in
     subst (λ (t : Turn). Turns a r x y t)
-    (ends_there port a.core (verdict c.unread) (not_more c new front did' more wanting) ∙ goes_by port a.core c _ found heard refl)
+    (ends_there port a.core (verdict c.unread) there.0 ∙ goes_by port a.core c _ found heard refl)
     (ends_proposed port c a b r x y found heard
-    (is ∙ ap (λ (k : CoreState). record a { core = k })
-    (becomes_same port a.core c new closed found (closes_there c new front did' more))) turns)
+    (is ∙ ap (λ (k : CoreState). record a { core = k }) (becomes_same port a.core c new closed found there.1)) turns)

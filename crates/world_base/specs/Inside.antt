@@ -1,5 +1,5 @@
 -- What the helpers of a step say of it.
-use Rattle.std.specs.Prelude.{◌≡◌, ℕ, Bool, true, false, List, ◌++◌, Result, Ok, Err}
+use Rattle.std.specs.Prelude.{◌≡◌, ℕ, Bool, false, List, ◌++◌, Result, Ok, Err}
 use Rattle.connecting_base.specs.declared.command.Command.{Command}
 use Rattle.connecting_base.specs.declared.command.Output.{Output}
 use Rattle.ballot_base.specs.declared.message.Effect.{Effect}
@@ -80,17 +80,3 @@ Follows old (fronts.Connect connect) new = IsNotMore (verdict old.unread) × (ne
 Follows old (fronts.Refused code) new = IsNotMore (verdict old.unread) × (new ≡ closed old)
 Follows old fronts.Fault new = IsNotMore (verdict old.unread) × (new ≡ closed old)
 Follows old fronts.Wanting new = new ≡ closed old
-
-abbrev pub is_more : Front → Bool
-is_more fronts.More = true
-is_more (fronts.Connect connect) = false
-is_more (fronts.Refused code) = false
-is_more fronts.Fault = false
-is_more fronts.Wanting = false
-
-abbrev pub is_wanting : Front → Bool
-is_wanting fronts.More = false
-is_wanting (fronts.Connect connect) = false
-is_wanting (fronts.Refused code) = false
-is_wanting fronts.Fault = false
-is_wanting fronts.Wanting = true

@@ -146,7 +146,7 @@ impl Connection {
         ensures { Follows self.old result self.new }
     {
         let front = self.unread.next();
-        if !front.is_more() {
+        if !matches!(front, Front::More) {
             self.close();
         }
         front

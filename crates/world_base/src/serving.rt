@@ -10,7 +10,7 @@ ghost use Rattle.world_base.specs.Core.{opening_core, serves};
 ghost use Rattle.world_base.specs.Inside.{Does};
 ghost use Rattle.world_base.specs.Spelling.{spelling};
 ghost use Rattle.world_base.specs.Reading.{changes, refused};
-ghost use Rattle.world_base.specs.Step.{crashed, next_name, opens, settled};
+ghost use Rattle.world_base.specs.Step.{next_name, opens, settled};
 ghost use Rattle.world_base.specs.Turns.{changes_named};
 
 use crate::connection::Connection;
@@ -190,13 +190,6 @@ impl Serving {
             return;
         }
         self.accepted += 1;
-    }
-
-    // Stops the replica for good.
-    pub fn crash(&mut self)
-        ensures { self.new ≡ record self.old { core = crashed self.old.core } }
-    {
-        self.replica.stop();
     }
 
     // Closes all connections where the node no longer serves clients, and takes closed ones with

@@ -33,7 +33,7 @@ impl Serving {
                 self.go_on(port, effects);
             }
             Item::Ended(port) => self.end(port, effects),
-            Item::Crash => self.crash(),
+            Item::Crash => self.replica.stop(),
         }
     }
 
@@ -98,12 +98,10 @@ impl Serving {
             return;
         }
         let name = connection.name;
-        let front = self.connections[index].follow();
-        if front.is_more() {
-            return;
-        }
-        if front.is_wanting() {
-            self.wanting = true;
+        match self.connections[index].follow() {
+            Front::More => return,
+            Front::Wanting => self.wanting = true,
+            Front::Connect(_) | Front::Refused(_) | Front::Fault => {}
         }
         self.propose(Command::Lost(name), effects);
     }

@@ -18,13 +18,13 @@ const ACCEPTED: [u8; 4] = [0x20, 0x02, 0x00, 0x00];
 
 const NONE: [u8; 0] = [];
 
-// Node 1, the sole member of ballot 1.
-fn sole(alloc: Global) -> Result<NodeCore, Fail> {
+// Opens a node of a ballot whose primary is node 1.
+fn opened(alloc: Global, id: u8, members: &[u8]) -> Result<NodeCore, Fail> {
     let config = Config {
-        members: Members::from_slice(alloc, &[1])?,
+        members: Members::from_slice(alloc, members)?,
         primary: 1,
     };
-    Ok(NodeCore::new(alloc, 1, &config)?)
+    Ok(NodeCore::new(alloc, id, &config)?)
 }
 
 // Takes an item that sends no message to another node.
@@ -34,16 +34,20 @@ fn take(rt: &impl Abort, alloc: Global, node: &mut NodeCore, item: Item) {
     assert!(rt; effects.is_empty());
 }
 
-// Bytes come on a port.
+// Opens a port of a node, and lets bytes come on it in two pieces, cut at this place.
 fn send(
     rt: &impl Abort,
     alloc: Global,
     node: &mut NodeCore,
     port: u64,
     bytes: &[u8],
+    at: usize,
 ) -> Result<(), Fail> {
-    let piece = Piece::from_slice(alloc, bytes)?;
-    take(rt, alloc, node, Item::Bytes(Port(port), piece, 0));
+    take(rt, alloc, node, Item::Opened(Port(port), 0));
+    for part in [&bytes[..at], &bytes[at..]] {
+        let piece = Piece::from_slice(alloc, part)?;
+        take(rt, alloc, node, Item::Bytes(Port(port), piece, 0));
+    }
     Ok(())
 }
 
@@ -66,29 +70,29 @@ fn expect(
 #[test]
 fn connect_is_answered(rt: HostRuntime) -> Result<(), Fail> {
     let alloc = rt.alloc();
-    let mut node = sole(alloc)?;
-    take(&rt, alloc, &mut node, Item::Opened(Port(1), 0));
-    expect(&rt, alloc, &mut node, 1, &NONE, Handed::Open)?;
-    send(&rt, alloc, &mut node, 1, &CONNECT)?;
-    expect(&rt, alloc, &mut node, 1, &ACCEPTED, Handed::Open)?;
-    expect(&rt, alloc, &mut node, 1, &NONE, Handed::Open)?;
-    expect(&rt, alloc, &mut node, 2, &NONE, Handed::Closed)?;
-    assert_eq!(rt; node.status().held, 1);
-    take(&rt, alloc, &mut node, Item::Ended(Port(1)));
-    expect(&rt, alloc, &mut node, 1, &NONE, Handed::Closed)?;
-    assert_eq!(rt; node.status().held, 2);
-    assert_eq!(rt; node.losses(), 0);
+    for at in 0..=CONNECT.len() {
+        let mut node = opened(alloc, 1, &[1])?;
+        send(&rt, alloc, &mut node, 1, &CONNECT, at)?;
+        expect(&rt, alloc, &mut node, 1, &ACCEPTED, Handed::Open)?;
+        expect(&rt, alloc, &mut node, 1, &NONE, Handed::Open)?;
+        expect(&rt, alloc, &mut node, 2, &NONE, Handed::Closed)?;
+        assert_eq!(rt; node.status().held, 1);
+        take(&rt, alloc, &mut node, Item::Ended(Port(1)));
+        expect(&rt, alloc, &mut node, 1, &NONE, Handed::Closed)?;
+        assert_eq!(rt; (node.status().held, node.losses()), (2, 0));
+    }
     Ok(())
 }
 
 #[test]
 fn connect_byte_by_byte(rt: HostRuntime) -> Result<(), Fail> {
     let alloc = rt.alloc();
-    let mut node = sole(alloc)?;
+    let mut node = opened(alloc, 1, &[1])?;
     take(&rt, alloc, &mut node, Item::Opened(Port(1), 0));
     for byte in CONNECT {
         expect(&rt, alloc, &mut node, 1, &NONE, Handed::Open)?;
-        send(&rt, alloc, &mut node, 1, &[byte])?;
+        let piece = Piece::from_slice(alloc, &[byte])?;
+        take(&rt, alloc, &mut node, Item::Bytes(Port(1), piece, 0));
     }
     expect(&rt, alloc, &mut node, 1, &ACCEPTED, Handed::Open)?;
     assert_eq!(rt; node.losses(), 0);
@@ -98,41 +102,31 @@ fn connect_byte_by_byte(rt: HostRuntime) -> Result<(), Fail> {
 #[test]
 fn a_second_connection_takes_over(rt: HostRuntime) -> Result<(), Fail> {
     let alloc = rt.alloc();
-    let mut node = sole(alloc)?;
-    for port in [1, 2] {
-        take(&rt, alloc, &mut node, Item::Opened(Port(port), 0));
-        send(&rt, alloc, &mut node, port, &CONNECT)?;
+    let again = [0x20, 0x02, 0x01, 0x00];
+    for at in 0..=CONNECT.len() {
+        let mut node = opened(alloc, 1, &[1])?;
+        send(&rt, alloc, &mut node, 1, &CONNECT, at)?;
+        send(&rt, alloc, &mut node, 2, &CONNECT, at)?;
+        expect(&rt, alloc, &mut node, 2, &again, Handed::Open)?;
+        expect(&rt, alloc, &mut node, 1, &ACCEPTED, Handed::Closed)?;
+        expect(&rt, alloc, &mut node, 1, &NONE, Handed::Closed)?;
+        assert_eq!(rt; node.losses(), 0);
     }
-    expect(
-        &rt,
-        alloc,
-        &mut node,
-        2,
-        &[0x20, 0x02, 0x01, 0x00],
-        Handed::Open,
-    )?;
-    expect(&rt, alloc, &mut node, 1, &ACCEPTED, Handed::Closed)?;
-    expect(&rt, alloc, &mut node, 1, &NONE, Handed::Closed)?;
-    assert_eq!(rt; node.losses(), 0);
     Ok(())
 }
 
-// Bytes that come on port 1 of a fresh node in two pieces, cut at this place: what is handed over.
-fn cut_in_two(
-    rt: &impl Abort,
-    alloc: Global,
-    bytes: &[u8],
-    at: usize,
-    answer: &[u8],
-    handed: Handed,
-) -> Result<NodeCore, Fail> {
-    let mut node = sole(alloc)?;
-    take(rt, alloc, &mut node, Item::Opened(Port(1), 0));
-    send(rt, alloc, &mut node, 1, &bytes[..at])?;
-    send(rt, alloc, &mut node, 1, &bytes[at..])?;
-    expect(rt, alloc, &mut node, 1, answer, handed)?;
-    assert_eq!(rt; node.losses(), 0, "cut at {at}");
-    Ok(node)
+// Bytes on port 1 of a fresh node, what is handed over, and how many places its log has then.
+type Row<'a> = (&'a [u8], &'a [u8], Handed, u64);
+
+fn cut_everywhere(rt: &impl Abort, alloc: Global, row: Row<'_>) -> Result<(), Fail> {
+    let (bytes, answer, handed, held) = row;
+    for at in 0..=bytes.len() {
+        let mut node = opened(alloc, 1, &[1])?;
+        send(rt, alloc, &mut node, 1, bytes, at)?;
+        expect(rt, alloc, &mut node, 1, answer, handed)?;
+        assert_eq!(rt; (node.status().held, node.losses()), (held, 0));
+    }
+    Ok(())
 }
 
 // Level 3, a user name, no Client Identifier, and packets that may not come first.
@@ -153,25 +147,7 @@ fn connect_is_refused(rt: HostRuntime) -> Result<(), Fail> {
         (&[0x20, 0x02, 0x00, 0x00], &[]),
     ];
     for (bytes, answer) in rows {
-        for at in 0..=bytes.len() {
-            let node = cut_in_two(&rt, rt.alloc(), bytes, at, answer, Handed::Closed)?;
-            assert_eq!(rt; node.status().held, 0);
-        }
-    }
-    Ok(())
-}
-
-#[test]
-fn connect_cut_at_every_byte(rt: HostRuntime) -> Result<(), Fail> {
-    for at in 0..=CONNECT.len() {
-        let mut node = cut_in_two(&rt, rt.alloc(), &CONNECT, at, &ACCEPTED, Handed::Open)?;
-        take(&rt, rt.alloc(), &mut node, Item::Opened(Port(2), 0));
-        send(&rt, rt.alloc(), &mut node, 2, &CONNECT[..at])?;
-        send(&rt, rt.alloc(), &mut node, 2, &CONNECT[at..])?;
-        let again = [0x20, 0x02, 0x01, 0x00];
-        expect(&rt, rt.alloc(), &mut node, 2, &again, Handed::Open)?;
-        expect(&rt, rt.alloc(), &mut node, 1, &NONE, Handed::Closed)?;
-        assert_eq!(rt; node.losses(), 0);
+        cut_everywhere(&rt, rt.alloc(), (bytes, answer, Handed::Closed, 0))?;
     }
     Ok(())
 }
@@ -190,9 +166,7 @@ fn lengths_of_the_standard(rt: HostRuntime) -> Result<(), Fail> {
         (&[0x30], Handed::Open),
     ];
     for (bytes, handed) in rows {
-        for at in 0..=bytes.len() {
-            cut_in_two(&rt, rt.alloc(), bytes, at, &NONE, handed)?;
-        }
+        cut_everywhere(&rt, rt.alloc(), (bytes, &NONE, handed, 0))?;
     }
     Ok(())
 }
@@ -203,10 +177,7 @@ fn nothing_may_follow_yet(rt: HostRuntime) -> Result<(), Fail> {
     for first in [0xC0, 0x00] {
         let mut both = Vec::from_slice(rt.alloc(), &CONNECT)?;
         both.extend_from_slice(&[first, 0x00])?;
-        for at in 0..=both.len() {
-            let node = cut_in_two(&rt, rt.alloc(), &both, at, &ACCEPTED, Handed::Closed)?;
-            assert_eq!(rt; node.status().held, 2);
-        }
+        cut_everywhere(&rt, rt.alloc(), (&both, &ACCEPTED, Handed::Closed, 2))?;
     }
     Ok(())
 }
@@ -215,18 +186,11 @@ fn nothing_may_follow_yet(rt: HostRuntime) -> Result<(), Fail> {
 #[test]
 fn nothing_is_half_done(rt: HostRuntime) -> Result<(), Fail> {
     let alloc = rt.alloc();
-    let mut node = sole(alloc)?;
-    take(&rt, alloc, &mut node, Item::Opened(Port(1), 0));
-    send(&rt, alloc, &mut node, 1, &CONNECT)?;
-    let mut out = Vec::new(alloc);
-    let handed = node.outgoing(Port(1), &mut out)?;
+    let mut node = opened(alloc, 1, &[1])?;
+    send(&rt, alloc, &mut node, 1, &CONNECT, 4)?;
     if node.losses() == 0 {
-        assert_eq!(rt; out.as_slice(), ACCEPTED.as_slice());
-        assert_eq!(rt; handed, Handed::Open);
-    } else {
-        assert_eq!(rt; node.losses(), 1);
-        assert!(rt; out.is_empty());
-        assert_eq!(rt; handed, Handed::Closed);
+        return expect(&rt, alloc, &mut node, 1, &ACCEPTED, Handed::Open);
     }
-    Ok(())
+    assert_eq!(rt; node.losses(), 1);
+    expect(&rt, alloc, &mut node, 1, &NONE, Handed::Closed)
 }

@@ -1,8 +1,8 @@
 // Worked rows of two nodes, the members of ballot 1, of which node 1 is the primary.
 
-use super::{ACCEPTED, CONNECT, NONE, expect};
+use super::{ACCEPTED, CONNECT, NONE, expect, opened};
 use crate::{Handed, Item, NodeCore, Piece, Port};
-use ballot::{Body, Config, Effect, Members, Message};
+use ballot::{Body, Effect, Message};
 use connecting_base::{Command, Output};
 use std::alloc::Global;
 use std::collections::VecDeque;
@@ -20,18 +20,17 @@ struct Pair {
 }
 
 impl Pair {
+    // Client `a` has opened port 1 of node 1.
     fn new(alloc: Global) -> Result<Pair, Fail> {
-        let config = Config {
-            members: Members::from_slice(alloc, &[1, 2])?,
-            primary: 1,
-        };
-        Ok(Pair {
+        let mut pair = Pair {
             alloc,
-            one: NodeCore::new(alloc, 1, &config)?,
-            two: NodeCore::new(alloc, 2, &config)?,
+            one: opened(alloc, 1, &[1, 2])?,
+            two: opened(alloc, 2, &[1, 2])?,
             under_way: VecDeque::new(alloc),
             sent: 0,
-        })
+        };
+        pair.take(1, Item::Opened(Port(1), 0))?;
+        Ok(pair)
     }
 
     fn take(&mut self, node: u8, item: Item) -> Result<(), Fail> {
@@ -57,20 +56,16 @@ impl Pair {
         Ok(())
     }
 
-    // Client `a` opens port 1 of node 1 and asks for a connection.
+    // It sends its CONNECT.
     fn connect(&mut self) -> Result<(), Fail> {
-        self.take(1, Item::Opened(Port(1), 0))?;
         let piece = Piece::from_slice(self.alloc, &CONNECT)?;
         self.take(1, Item::Bytes(Port(1), piece, 0))
     }
 
-    // How many places both nodes hold.
-    fn agreed(&self) -> u64 {
-        self.one.status().held.min(self.two.status().held)
-    }
-
-    fn losses(&self) -> (u64, u64) {
-        (self.one.losses(), self.two.losses())
+    // How many messages were sent, how many places both nodes hold, and the losses of both.
+    fn counts(&self) -> (u64, u64, u64, u64) {
+        let held = self.one.status().held.min(self.two.status().held);
+        (self.sent, held, self.one.losses(), self.two.losses())
     }
 }
 
@@ -79,24 +74,21 @@ impl Pair {
 fn answer_waits_for_the_backup(rt: HostRuntime) -> Result<(), Fail> {
     let alloc = rt.alloc();
     let mut pair = Pair::new(alloc)?;
-    pair.take(1, Item::Opened(Port(1), 0))?;
-    assert_eq!(rt; (pair.sent, pair.agreed()), (0, 0));
-    let piece = Piece::from_slice(alloc, &CONNECT)?;
-    pair.take(1, Item::Bytes(Port(1), piece, 0))?;
-    assert_eq!(rt; (pair.sent, pair.agreed()), (1, 0));
+    assert_eq!(rt; pair.counts(), (0, 0, 0, 0));
+    pair.connect()?;
+    assert_eq!(rt; pair.counts(), (1, 0, 0, 0));
     expect(&rt, alloc, &mut pair.one, 1, &NONE, Handed::Open)?;
     pair.deliver()?;
-    assert_eq!(rt; (pair.sent, pair.agreed()), (2, 1));
+    assert_eq!(rt; pair.counts(), (2, 1, 0, 0));
     expect(&rt, alloc, &mut pair.one, 1, &NONE, Handed::Open)?;
     pair.deliver()?;
-    assert_eq!(rt; (pair.sent, pair.agreed()), (3, 1));
+    assert_eq!(rt; pair.counts(), (3, 1, 0, 0));
     expect(&rt, alloc, &mut pair.one, 1, &ACCEPTED, Handed::Open)?;
     assert_eq!(rt; pair.two.status().committed, 0);
     pair.deliver()?;
-    assert_eq!(rt; (pair.sent, pair.agreed()), (3, 1));
+    assert_eq!(rt; pair.counts(), (3, 1, 0, 0));
     assert_eq!(rt; pair.two.status().committed, 1);
     expect(&rt, alloc, &mut pair.two, 1, &NONE, Handed::Closed)?;
-    assert_eq!(rt; pair.losses(), (0, 0));
     Ok(())
 }
 
@@ -117,7 +109,6 @@ fn append_held_commit(rt: HostRuntime) -> Result<(), Fail> {
     let alloc = rt.alloc();
     let mut pair = Pair::new(alloc)?;
     let mut effects = Vec::new(alloc);
-    pair.one.step(Item::Opened(Port(1), 0), &mut effects);
     let piece = Piece::from_slice(alloc, &CONNECT)?;
     pair.one.step(Item::Bytes(Port(1), piece, 0), &mut effects);
     let append = only(&rt, &mut effects)?;
@@ -136,7 +127,7 @@ fn append_held_commit(rt: HostRuntime) -> Result<(), Fail> {
     let told = matches!(&commit.1.body, Body::Commit(1, 1));
     assert!(rt; commit.0 == 2 && commit.1.from == 1 && told);
     expect(&rt, alloc, &mut pair.one, 1, &ACCEPTED, Handed::Open)?;
-    assert_eq!(rt; pair.losses(), (0, 0));
+    assert_eq!(rt; pair.counts(), (0, 1, 0, 0));
     Ok(())
 }
 
@@ -150,13 +141,12 @@ fn a_tick_sends_what_was_lost(rt: HostRuntime) -> Result<(), Fail> {
     pair.take(2, Item::Tick(200))?;
     assert_eq!(rt; pair.sent, 1);
     pair.take(1, Item::Tick(200))?;
-    assert_eq!(rt; (pair.sent, pair.agreed()), (3, 0));
+    assert_eq!(rt; pair.counts(), (3, 0, 0, 0));
     pair.deliver()?;
     pair.deliver()?;
     pair.deliver()?;
     expect(&rt, alloc, &mut pair.one, 1, &ACCEPTED, Handed::Open)?;
-    assert_eq!(rt; (pair.sent, pair.agreed()), (5, 1));
-    assert_eq!(rt; pair.losses(), (0, 0));
+    assert_eq!(rt; pair.counts(), (5, 1, 0, 0));
     Ok(())
 }
 
@@ -174,7 +164,7 @@ fn a_crashed_node_does_nothing(rt: HostRuntime) -> Result<(), Fail> {
     pair.take(1, Item::Tick(200))?;
     pair.take(1, Item::Opened(Port(2), 200))?;
     expect(&rt, alloc, &mut pair.one, 2, &NONE, Handed::Closed)?;
-    assert_eq!(rt; (pair.sent, pair.one.status().committed), (2, 0));
-    assert_eq!(rt; pair.losses(), (0, 0));
+    assert_eq!(rt; pair.counts(), (2, 1, 0, 0));
+    assert_eq!(rt; pair.one.status().committed, 0);
     Ok(())
 }
