@@ -6,6 +6,7 @@ mod ending;
 mod node;
 mod node_state;
 mod running;
+mod service;
 #[cfg(test)]
 mod tests;
 
@@ -13,4 +14,5 @@ pub use ending::Ending;
 pub use node::Node;
 pub use node_state::NodeState;
 pub use running::run_connection;
+pub use service::Service;
 pub use world_base::{Config, Handed, Item, Members, OpeningError, Piece, Port, Status};
