@@ -1,9 +1,2 @@
-pub mod Connections
-pub mod Core
-pub mod Handing
-pub mod Inside
-pub mod Losses
 pub mod Running
-pub mod Spelling
 pub mod State
-pub mod Step

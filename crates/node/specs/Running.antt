@@ -1,13 +1,8 @@
 -- One connection of a node over a reader and a writer.
-use Rattle.std.specs.Prelude.{◌≡◌, ◌⊎◌, ℕ, List, ◌++◌, Option, Some, None}
+use Rattle.std.specs.Prelude.{◌≡◌, ◌⊎◌, ℕ, Option, Some, None}
 use Rattle.node_base.specs.Counted.{counted_once}
 use Rattle.node.specs.declared.ending.Ending.{Ending}
 use Rattle.node.specs.declared.ending.Ending.TheVariants as endings
-
--- the second list is the first with more at its end
-pub record Extends {A : Type 0} (old new : List A) : Type 0 where
-  pub more : List A
-  pub appended : new ≡ old ++ more
 
 -- a fault of the writer is told exactly where one more of its calls failed
 abbrev pub TellsWriteFault : Option Ending → ℕ → ℕ → Type 0

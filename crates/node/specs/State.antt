@@ -3,9 +3,9 @@ use Rattle.std.specs.Prelude.{◌≡◌, ℕ, List, ◌∷◌}
 use Rattle.connecting_base.specs.declared.command.Command.{Command}
 use Rattle.connecting_base.specs.declared.command.Output.{Output}
 use Rattle.ballot_base.specs.declared.message.Effect.{Effect}
-use Rattle.node.specs.declared.node_core.item.Item.{Item}
-use Rattle.node.specs.Core.{CountedCore}
-use Rattle.node.specs.Losses.{Stepped}
+use Rattle.world_base.specs.declared.item.Item.{Item}
+use Rattle.world_base.specs.Core.{CountedCore}
+use Rattle.world_base.specs.Losses.{Stepped}
 
 -- the items that wait, each with the lane that it came by, the oldest first, and the node
 pub record Waiting : Type 0 where

@@ -1,18 +1,18 @@
-//! A node: one replica of the broker with its connections, the items that it takes one by one, and
-//! the engines that read and write the bytes of a connection.
+//! A node: the items that wait for a replica with its connections, the lock round both, and the
+//! engines that read and write the bytes of a connection.
 #![tactic(auto)]
 
 mod ending;
 mod node;
-mod node_core;
 mod node_state;
 mod running;
+mod service;
 #[cfg(test)]
 mod tests;
 
-pub use ballot::{Config, Members, OpeningError, Status};
 pub use ending::Ending;
 pub use node::Node;
-pub use node_core::{Handed, Item, NodeCore, Piece, Port};
 pub use node_state::NodeState;
 pub use running::run_connection;
+pub use service::Service;
+pub use world_base::{Config, Handed, Item, Members, OpeningError, Piece, Port, Status};

@@ -1,14 +1,19 @@
 // A node that threads share.
 
 ghost use Rattle.std.specs.Prelude.{◌≡◌, OnErr, OnOk};
-ghost use Rattle.node.specs.Running.{Extends};
+ghost use Rattle.world_base.specs.Handing.{Extends};
 
-use crate::node_core::{Handed, Item, Port};
 use crate::node_state::NodeState;
+use crate::service::Service;
 use ballot::{Effect, Status};
 use connecting_base::{Command, Output};
 use machine::Memory;
+use std::alloc::Global;
 use std::sync::{Mutex, Wait};
+use world_base::{Handed, Item, Port};
+
+/// The lane by which the items of the one connection come.
+const LANE: u8 = 4;
 
 /// A node behind a lock. Each call takes the lock once and does one thing under it; what that is
 /// stands at the [`NodeState`]'s call of the same name.
@@ -54,5 +59,24 @@ impl Node {
     /// In how many steps memory was wanting, up to 2^64 - 1.
     pub fn losses<R: Wait>(&self, rt: &R) -> u64 {
         self.state.lock(rt).losses()
+    }
+}
+
+impl Service for Node {
+    // Messages to other nodes have no way to go and are dropped.
+    fn take<R: Wait>(&mut self, rt: &R, alloc: Global, item: Item) -> Result<(), Memory> {
+        self.put(rt, LANE, item)?;
+        let mut effects = Vec::new(alloc);
+        self.take_one(rt, &mut effects);
+        Ok(())
+    }
+
+    fn hand_over<R: Wait>(
+        &mut self,
+        rt: &R,
+        port: Port,
+        out: &mut Vec<u8>,
+    ) -> Result<Handed, Memory> {
+        self.outgoing(rt, port, out)
     }
 }

@@ -3,17 +3,17 @@
 ghost use Rattle.std.specs.Prelude.{◌≡◌, ◌≤◌, ◌↔◌, ◌++◌, [], ◌∷◌, true, false, IfOk, IsErrOf, OnErr, OnOk};
 ghost use Rattle.ballot_base.specs.Config.{is_lawful};
 ghost use Rattle.ballot_base.specs.Replica.{status_of};
-ghost use Rattle.node.specs.Core.{opening_core};
-ghost use Rattle.node.specs.Handing.{answer_of, bytes_of, hands_over, listed_at};
+ghost use Rattle.world_base.specs.Core.{opening_core};
+ghost use Rattle.world_base.specs.Handing.{answer_of, bytes_of, hands_over, listed_at};
 ghost use Rattle.node.specs.State.{TakesOne};
 
-use crate::node_core::{Handed, Item, NodeCore, Port};
 use ballot::{Config, Effect, OpeningError, Status};
 use connecting_base::{Command, Output};
 use machine::Memory;
 use std::alloc::Global;
 use std::collections::VecDeque;
 use std::marker::Model;
+use world_base::{Handed, Item, NodeCore, Port};
 
 /// A node with the items that wait for it, each with the lane that it came by.
 #[derive(Drop)]

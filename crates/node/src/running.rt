@@ -1,4 +1,4 @@
-// One connection of a node over a reader and a writer.
+// One connection over a reader and a writer.
 
 ghost use Rattle.std.specs.Prelude.{◌≡◌, ◌<◌, Some, length, if◌then◌else◌, IfOk, OnOk};
 ghost use Rattle.node_base.specs.Counted.{counted_once};
@@ -6,29 +6,26 @@ ghost use Rattle.node_base.specs.Engines.{WritesBeginning};
 ghost use Rattle.node.specs.Running.{TellsFaults, TellsWriteFault};
 
 use crate::ending::Ending;
-use crate::node::Node;
-use crate::node_core::{Handed, Item, Piece, Port};
+use crate::service::Service;
 use machine::Memory;
 use node_base::{Counted, PIECE_BYTES, Written};
 use std::alloc::Global;
 use std::io::{Read, Write};
 use std::sync::Wait;
+use world_base::{Handed, Item, Piece, Port};
 
 /// The port of the one connection.
 const PORT: Port = Port(1);
 
-/// The lane by which its items come.
-const LANE: u8 = 4;
-
-/// Runs the one connection of a node, from its opening until the node closes it, the input ends or
-/// a device fails: reads a piece at a time, has the node take it, and writes what the node puts
-/// out. Messages to other nodes have no way to go and are dropped.
+/// Runs the one connection of a service, from its opening until the service closes it, the input
+/// ends or a device fails: reads a piece at a time, has the service take it, and writes what it
+/// puts out.
 ///
-/// The only error is want of memory outside the node's steps.
-pub fn run_connection<R: Wait, I: Read, O: Write>(
+/// The only error is want of memory outside the steps of a node.
+pub fn run_connection<R: Wait, S: Service, I: Read, O: Write>(
     rt: &R,
     alloc: Global,
-    node: &Node,
+    service: &mut S,
     input: &mut Counted<I>,
     output: &mut Counted<O>,
 ) -> Result<Ending, Memory>
@@ -39,21 +36,21 @@ pub fn run_connection<R: Wait, I: Read, O: Write>(
     let mut bytes = Vec::from_elem(alloc, 0u8, PIECE_BYTES)?;
     let room = bytes.as_mut_slice();
     let mut out = Vec::new(alloc);
-    take(rt, alloc, node, Item::Opened(PORT, 0))?;
+    service.take(rt, alloc, Item::Opened(PORT, 0))?;
     for _ in rt.forever() {
-        if let Some(ending) = go_round(rt, alloc, node, room, &mut out, input, output)? {
+        if let Some(ending) = go_round(rt, alloc, service, room, &mut out, input, output)? {
             return Ok(ending);
         }
     }
     unreachable!()
 }
 
-// Writes what the node has put out, reads one piece and has the node take it: how the connection
-// ended, if it did.
-fn go_round<R: Wait, I: Read, O: Write>(
+// Writes what the service has put out, reads one piece and has the service take it: how the
+// connection ended, if it did.
+fn go_round<R: Wait, S: Service, I: Read, O: Write>(
     rt: &R,
     alloc: Global,
-    node: &Node,
+    service: &mut S,
     room: &mut [u8],
     out: &mut Vec<u8>,
     input: &mut Counted<I>,
@@ -63,18 +60,18 @@ fn go_round<R: Wait, I: Read, O: Write>(
     ensures { IfOk result (λ ended. TellsFaults ended
         input.old.faults input.new.faults output.old.faults output.new.faults) }
 {
-    let ended = write_out(rt, node, out, output)?;
+    let ended = write_out(rt, service, out, output)?;
     if ended.is_some() {
         return Ok(ended);
     }
     match input.read_piece(room) {
         node_base::Piece::Bytes(count) => {
             let piece = Piece::from_slice(alloc, &room[..count])?;
-            take(rt, alloc, node, Item::Bytes(PORT, piece, 0))?;
+            service.take(rt, alloc, Item::Bytes(PORT, piece, 0))?;
             Ok(None)
         }
         node_base::Piece::End => {
-            let whole = end(rt, alloc, node, out, output)?;
+            let whole = end(rt, alloc, service, out, output)?;
             Ok(Some(if whole {
                 Ending::Ended
             } else {
@@ -82,7 +79,7 @@ fn go_round<R: Wait, I: Read, O: Write>(
             }))
         }
         node_base::Piece::Fault => {
-            let whole = end(rt, alloc, node, out, output)?;
+            let whole = end(rt, alloc, service, out, output)?;
             Ok(Some(if whole {
                 Ending::ReadFault
             } else {
@@ -92,36 +89,28 @@ fn go_round<R: Wait, I: Read, O: Write>(
     }
 }
 
-// Has the node take an item, and does its step.
-fn take<R: Wait>(rt: &R, alloc: Global, node: &Node, item: Item) -> Result<(), Memory> {
-    node.put(rt, LANE, item)?;
-    let mut effects = Vec::new(alloc);
-    node.take_one(rt, &mut effects);
-    Ok(())
-}
-
-// The input has ended: the node hears of it, and what it has put out is written. Whether no call of
+// The input has ended: the service hears of it, and what it has put out is written. Whether no call of
 // the writer failed.
-fn end<R: Wait, O: Write>(
+fn end<R: Wait, S: Service, O: Write>(
     rt: &R,
     alloc: Global,
-    node: &Node,
+    service: &mut S,
     out: &mut Vec<u8>,
     output: &mut Counted<O>,
 ) -> Result<bool, Memory>
     ensures { IfOk result (λ whole. output.new.faults
         ≡ if whole then output.old.faults else counted_once output.old.faults) }
 {
-    take(rt, alloc, node, Item::Ended(PORT))?;
-    let ended = write_out(rt, node, out, output)?;
+    service.take(rt, alloc, Item::Ended(PORT))?;
+    let ended = write_out(rt, service, out, output)?;
     Ok(ended != Some(Ending::WriteFault))
 }
 
-// Writes what the node has put out, which `out` holds afterwards: how the connection ended, if the
-// node closed it or the writer did not take all.
-fn write_out<R: Wait, O: Write>(
+// Writes what the service has put out, which `out` holds afterwards: how the connection ended, if the
+// service closed it or the writer did not take all.
+fn write_out<R: Wait, S: Service, O: Write>(
     rt: &R,
-    node: &Node,
+    service: &mut S,
     out: &mut Vec<u8>,
     output: &mut Counted<O>,
 ) -> Result<Option<Ending>, Memory>
@@ -131,7 +120,7 @@ fn write_out<R: Wait, O: Write>(
         output.old.faults output.new.faults) }
 {
     out.clear();
-    let handed = node.outgoing(rt, PORT, out)?;
+    let handed = service.hand_over(rt, PORT, out)?;
     match output.write_whole(out.as_slice()) {
         Written::Fault => Ok(Some(Ending::WriteFault)),
         Written::Stopped => Ok(Some(Ending::Stopped)),

@@ -111,7 +111,7 @@ fn each_device_fails_in_turn(rt: HostRuntime) -> Result<(), Fail> {
         (0, 7, Ending::WriteFault, 4),
     ];
     for (bad_read, bad_write, ending, count) in rows {
-        let node = Node::new(sole(rt.alloc())?);
+        let mut node = Node::new(sole(rt.alloc())?);
         let mut input = Counted::new(Source {
             bytes: &CONNECT,
             calls: 0,
@@ -122,7 +122,7 @@ fn each_device_fails_in_turn(rt: HostRuntime) -> Result<(), Fail> {
             calls: 0,
             bad_call: bad_write,
         });
-        let ended = run_connection(&rt, rt.alloc(), &node, &mut input, &mut output)?;
+        let ended = run_connection(&rt, rt.alloc(), &mut node, &mut input, &mut output)?;
         assert_eq!(rt; ended, ending);
         assert_eq!(rt; input.faults(), u64::from(ending == Ending::ReadFault));
         assert_eq!(rt; output.faults(), u64::from(ending == Ending::WriteFault));

@@ -1,5 +1,8 @@
 // Why the program ends with another status than 0.
 
+ghost use Rattle.std.specs.Prelude.{◌≡◌};
+ghost use Rattle.vbroker.specs.Faults.{status_of};
+
 use ballot::OpeningError;
 use machine::Memory;
 use std::{fmt, io};
@@ -7,7 +10,7 @@ use std::{fmt, io};
 /// Why the program ends with another status than 0.
 #[derive(Clone, Copy, Debug, PartialEq, Eq)]
 pub enum Fault {
-    /// A word stands on the command line.
+    /// Another word than `two` stands on the command line, or more than one.
     Words,
     /// Memory was wanting.
     Memory,
@@ -19,7 +22,9 @@ pub enum Fault {
 
 impl Fault {
     /// The exit status: 2 for a command line that is refused, 1 for a fault of memory or file.
-    pub fn status(self) -> u8 {
+    pub fn status(self) -> u8
+        ensures { result ≡ status_of self }
+    {
         match self {
             Fault::Words => 2,
             Fault::Memory | Fault::Input | Fault::Output => 1,
@@ -30,7 +35,7 @@ impl Fault {
 impl fmt::Display for Fault {
     fn fmt<W: fmt::Write>(&self, f: &mut fmt::Formatter<W>) -> fmt::Result {
         let text = match self {
-            Fault::Words => "no argument is known",
+            Fault::Words => "the only argument is `two`",
             Fault::Memory => "out of memory",
             Fault::Input => "standard input could not be read",
             Fault::Output => "standard output could not be written",

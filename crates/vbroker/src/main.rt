@@ -1,12 +1,18 @@
-//! The broker as a program. For now all of standard input is one connection of node 1, the sole
-//! member of ballot 1, and what the node puts out goes to standard output.
+//! The broker as a program. For now all of standard input is one connection of node 1, and what the
+//! node puts out goes to standard output. Without a word on the command line node 1 is the sole
+//! member of ballot 1; with the word `two` node 2 is a member beside it.
 #![tactic(auto)]
 
 mod fault;
+mod pair;
+#[cfg(test)]
+mod tests;
 
 use fault::Fault;
-use node::{Config, Ending, Members, Node, NodeState, run_connection};
+use node::{Config, Ending, Members, Node, NodeState, Service, run_connection};
 use node_base::Counted;
+use pair::Pair;
+use std::alloc::Global;
 use std::process::ExitCode;
 use std::rt::Env;
 use std::sync::Wait;
@@ -23,21 +29,37 @@ fn main(rt: HostRuntime) -> ExitCode {
     }
 }
 
-// Runs the program: no word may stand on its command line.
+// Runs the program by the words of its command line.
 fn run<R: Env + Input + Print + Wait + AllocGlobal>(rt: &R) -> Result<(), Fault> {
     let mut words = env::args(rt)?;
     words.next();
-    if words.next().is_some() {
+    let Some(word) = words.next() else {
+        return serve(rt, &mut sole(rt.alloc())?);
+    };
+    if word.as_str() != "two" || words.next().is_some() {
         return Err(Fault::Words);
     }
+    serve(rt, &mut Pair::new(rt.alloc())?)
+}
+
+// Node 1, the sole member of ballot 1.
+fn sole(alloc: Global) -> Result<Node, Fault> {
     let config = Config {
-        members: Members::from_slice(rt.alloc(), &[1])?,
+        members: Members::from_slice(alloc, &[1])?,
         primary: 1,
     };
-    let node = Node::new(NodeState::new(rt.alloc(), 1, &config)?);
+    Ok(Node::new(NodeState::new(alloc, 1, &config)?))
+}
+
+// Serves standard input and output as one connection.
+fn serve<R, S>(rt: &R, service: &mut S) -> Result<(), Fault>
+where
+    R: Input + Print + Wait + AllocGlobal,
+    S: Service,
+{
     let mut input = Counted::new(rt.reader());
     let mut output = Counted::new(io::writer(rt));
-    match run_connection(rt, rt.alloc(), &node, &mut input, &mut output)? {
+    match run_connection(rt, rt.alloc(), service, &mut input, &mut output)? {
         Ending::Closed | Ending::Ended => Ok(()),
         Ending::ReadFault => Err(Fault::Input),
         Ending::Stopped | Ending::WriteFault => Err(Fault::Output),

@@ -1,7 +1,0 @@
-use Rattle.std.proofs.Common.{◌≡◌, ◌++◌, map, take, drop}
-use Rattle.node.specs.Connections.{closed}
-use Rattle.node.proofs.node_core.listing.close_each.Given as goal
-
-abbrev pub invariant-loop-index : goal.invariant-loop-index
-invariant-loop-index l =
-    l.connections.items ≡ map closed (take l.index l.initial.connections.items) ++ drop l.index l.initial.connections.items

@@ -1,0 +1,62 @@
+-- Changes.antt: a change of a connection is done at its place, and where there is none nothing changes.
+use Rattle.std.proofs.Common.{◌≡◌, ℕ, Bool, true, Option, Some, None, Result, Ok, Err, List, get_or, set, sym, ap, ◌∙◌}
+use Rattle.std.specs.List.{position}
+use Rattle.std.specs.Result.{is_ok, OnOk}
+use Rattle.connecting_base.specs.Connection.{ConnectionName}
+use Rattle.world_base.specs.declared.item.Port.{Port}
+use Rattle.world_base.specs.declared.connection.Connection.{Connection}
+use Rattle.world_base.specs.Connections.{changed, is_open_at, is_open_named}
+use Rattle.world_base.specs.Inside.{Running}
+use Rattle.world_base.specs.Reading.{changes}
+use Rattle.world_base.specs.Turns.{changes_named}
+use Rattle.world_base.proofs.Places.{none_changed, place_changed}
+
+there : (test : Connection → Bool) (change : Connection → Connection) (r : Running) (place : Option ℕ) (i : ℕ)
+    (c new : Connection) → place ≡ position test r.core.connections → place ≡ Some i →
+    c ≡ get_or r.core.connections i c → new ≡ change c →
+    record r { core = record r.core { connections = set r.core.connections i new } }
+    ≡ record r { core = record r.core { connections = changed test change r.core.connections } }
+there test change r place i c new at is found e =
+    ap (λ (l : List Connection). record r { core = record r.core { connections = l } })
+    (ap (λ x. set r.core.connections i x) e
+    ∙ sym (place_changed test change r.core.connections i c (sym is ∙ at) found))
+
+nowhere : (test : Connection → Bool) (change : Connection → Connection) (r : Running) (place : Option ℕ) →
+    place ≡ position test r.core.connections → place ≡ None →
+    r ≡ record r { core = record r.core { connections = changed test change r.core.connections } }
+nowhere test change r place at is =
+    ap (λ (l : List Connection). record r { core = record r.core { connections = l } })
+    (sym (none_changed test change r.core.connections (sym is ∙ at)))
+
+pub changed_there : (port : Port) (change : Connection → Connection) (r : Running) (place : Option ℕ) (i : ℕ)
+    (c new : Connection) → place ≡ position (is_open_at port) r.core.connections → place ≡ Some i →
+    c ≡ get_or r.core.connections i c → new ≡ change c →
+    record r { core = record r.core { connections = set r.core.connections i new } }
+    ≡ record r { core = changes port change r.core }
+unfolding changes
+changed_there port change = there (is_open_at port) change
+
+pub changed_nowhere : (port : Port) (change : Connection → Connection) (r : Running) (place : Option ℕ) →
+    place ≡ position (is_open_at port) r.core.connections → place ≡ None →
+    r ≡ record r { core = changes port change r.core }
+unfolding changes
+changed_nowhere port change = nowhere (is_open_at port) change
+
+pub named_there : (name : ConnectionName) (change : Connection → Connection) (r : Running) (place : Option ℕ) (i : ℕ)
+    (c new : Connection) → place ≡ position (is_open_named name) r.core.connections → place ≡ Some i →
+    c ≡ get_or r.core.connections i c → new ≡ change c →
+    record r { core = record r.core { connections = set r.core.connections i new } }
+    ≡ record r { core = changes_named name change r.core }
+unfolding changes_named
+named_there name change = there (is_open_named name) change
+
+pub named_nowhere : (name : ConnectionName) (change : Connection → Connection) (r : Running) (place : Option ℕ) →
+    place ≡ position (is_open_named name) r.core.connections → place ≡ None →
+    r ≡ record r { core = changes_named name change r.core }
+unfolding changes_named
+named_nowhere name change = nowhere (is_open_named name) change
+
+-- what an answer that is Ok says
+pub ok_holds : {E P : Type 0} (result : Result (Unit {0}) E) → is_ok result ≡ true → OnOk result P → P
+ok_holds (Ok x) e p = p
+ok_holds (Err x) e p = absurd cc

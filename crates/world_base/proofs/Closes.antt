@@ -1,0 +1,90 @@
+-- Closes.antt: how a connection is closed as lost, and by a refused proposal.
+use Rattle.std.proofs.Common.{◌≡◌, ◌<◌, ◌≤◌, ◌⊎◌, inl, inr, Bool, true, false, ◌&&◌, nat_lt, List, length, Some, None, refl, sym, subst}
+use Rattle.std.proofs.lemmas.Bool.{lt-ltb, cases_lt}
+use Rattle.connecting_base.specs.Connection.{ConnectionName}
+use Rattle.connecting_base.specs.declared.command.Command.{Command}
+use Rattle.connecting_base.specs.declared.command.Command.TheVariants as commands
+use Rattle.connecting_base.specs.declared.command.Output.{Output}
+use Rattle.packet.specs.declared.connect.Connect.{Connect}
+use Rattle.ballot_base.specs.declared.message.Effect.{Effect}
+use Rattle.ballot_base.specs.Serving.{most_places}
+use Rattle.ballot_base.proofs.StepRows.{proposed-full}
+use Rattle.world_base.specs.declared.item.Port.{Port}
+use Rattle.world_base.specs.declared.connection.Connection.{Connection}
+use Rattle.world_base.specs.Connections.{closed, is_proposed}
+use Rattle.world_base.specs.Core.{CoreState, Turn, rules, serves}
+use Rattle.world_base.specs.Inside.{Running, Turns}
+use Rattle.world_base.specs.Reading.{changes, ends, asks, open_at}
+use Rattle.world_base.specs.Turns.{quiet, then_also, proposes, has_room}
+use Rattle.world_base.proofs.Asked.{left_true}
+use Rattle.world_base.proofs.TurnsJoin.{turns_idle, turns_join, turns_as, turns_behind, turns_quiet}
+
+-- where no connection of the port is open nothing is done
+pub ends_none : (port : Port) (r : Running) (out : List (Effect Command Output)) → open_at port r.core ≡ None →
+    Turns r r out out (ends port r.core)
+unfolding ends
+ends_none port r out none = subst (λ (t : Turn). Turns r r out out t) (rw none refl) (turns_idle r out)
+
+-- the broker heard of the connection, and hears that it was lost
+pub ends_proposed : (port : Port) (c : Connection) (a b r : Running) (x y : List (Effect Command Output)) →
+    open_at port a.core ≡ Some c → is_proposed c.stage ≡ true → b ≡ record a { core = changes port closed a.core } →
+    Turns b r x y (proposes (commands.Lost c.name) b.core) → Turns a r x y (ends port a.core)
+unfolding ends
+ends_proposed port c a b r x y found heard shut turns =
+    subst (λ (t : Turn). Turns a r x y t) (rw (found, heard) refl)
+    (turns_behind a b r x y (changes port closed a.core) (proposes (commands.Lost c.name)) shut turns)
+
+-- it did not
+pub ends_other : (port : Port) (c : Connection) (a b : Running) (x : List (Effect Command Output)) →
+    open_at port a.core ≡ Some c → is_proposed c.stage ≡ false → b ≡ record a { core = changes port closed a.core } →
+    Turns a b x x (ends port a.core)
+unfolding ends
+ends_other port c a b x found silent shut =
+    subst (λ (t : Turn). Turns a b x x t) (rw (found, silent) refl)
+    (turns_quiet a b x (changes port closed a.core) (λ _. shut))
+
+-- without room nothing is proposed
+room_false : (a b : Bool) → (a && b) ≡ false → (a ≡ false) ⊎ ((a ≡ true) × (b ≡ false))
+room_false true b e = inr (refl, e)
+room_false false b e = inl refl
+
+full_of : (core : CoreState) → nat_lt (length core.replica.state.log) most_places ≡ false →
+    most_places ≤ length core.replica.state.log
+full_of core full = by_order (cases_lt (length core.replica.state.log) most_places)
+  where
+    by_order : (length core.replica.state.log < most_places) ⊎ (most_places ≤ length core.replica.state.log) →
+        most_places ≤ length core.replica.state.log
+    by_order (inl room) = let e = lt-ltb (length core.replica.state.log) most_places room in absurd cc
+    by_order (inr over) = over
+
+proposes_nothing : (command : Command) (core : CoreState) → has_room core ≡ false → proposes command core ≡ quiet core
+unfolding proposes
+proposes_nothing command core e =
+    by_parts (room_false (serves core) (nat_lt (length core.replica.state.log) most_places) e)
+  where
+    by_parts : (serves core ≡ false)
+        ⊎ ((serves core ≡ true) × (nat_lt (length core.replica.state.log) most_places ≡ false)) →
+        proposes command core ≡ quiet core
+    by_parts (inl idle) = rw idle refl
+    by_parts (inr full) =
+        let nothing = proposed-full rules core.replica.state command (left_true _ _ full.0) (full_of core full.1) in
+        rw (full.0, nothing) refl
+
+-- a refused proposal closes the connection
+pub asks_refused : (port : Port) (name : ConnectionName) (connect : Connect) (a b c : Running)
+    (x y : List (Effect Command Output)) → (c.wanting ≡ false → false ≡ has_room a.core) →
+    Turns a b x y (proposes (commands.Connect name connect.client connect.clean) a.core) →
+    c ≡ record b { core = changes port closed b.core } → Turns a c x y (asks port name connect a.core)
+asks_refused port name connect a b c x y full turns shut =
+    turns_as a c x y _ _ same
+    (turns_join a b c x y y (proposes (commands.Connect name connect.client connect.clean) a.core)
+    (λ core. quiet (changes port closed core)) turns (turns_quiet b c y (changes port closed b.core) (λ _. shut)))
+  where
+    same : c.wanting ≡ false →
+        then_also (proposes (commands.Connect name connect.client connect.clean) a.core)
+        (λ core. quiet (changes port closed core))
+        ≡ asks port name connect a.core
+    same whole =
+        let none = sym (full whole) in
+        let nothing = proposes_nothing (commands.Connect name connect.client connect.clean) a.core none in
+        rw (none, nothing) refl

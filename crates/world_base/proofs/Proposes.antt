@@ -1,0 +1,59 @@
+-- Proposes.antt: what comes to the replica is what it makes of it, and what is given is done at once.
+use Rattle.std.proofs.Common.{◌≡◌, true, false, List, refl, ap, subst, ◌∙◌}
+use Rattle.connecting_base.specs.declared.command.Command.{Command}
+use Rattle.connecting_base.specs.declared.command.Output.{Output}
+use Rattle.ballot_base.specs.declared.message.Effect.{Effect}
+use Rattle.ballot_base.specs.Protocol.{Input}
+use Rattle.ballot_base.specs.Sending.{Outcome}
+use Rattle.ballot_base.specs.Serving.{proposed}
+use Rattle.world_base.specs.Core.{Turn, rules, serves}
+use Rattle.world_base.specs.Inside.{Running, Hears, Turns}
+use Rattle.world_base.specs.Turns.{delivered, drives, heard, moved, proposes}
+use Rattle.world_base.proofs.TurnsJoin.{turns_idle, wanting_kept}
+
+-- a step of the replica, and what it gave
+turns_moved : (a b c : Running) (outcome : Outcome Command Output) (given before behind : List (Effect Command Output)) →
+    Hears a b outcome given → Turns b c before behind (delivered given b.core) →
+    Turns a c before behind (moved outcome a.core)
+turns_moved a b c outcome given before behind hears turns =
+    record {
+      given = turns.given;
+      appended = turns.appended;
+      exact = λ whole. joined whole (turns.exact whole);
+    }
+  where
+    joined : c.wanting ≡ false →
+        (c ≡ record b { core = (delivered given b.core).core }) × (turns.given ≡ (delivered given b.core).messages) →
+        (c ≡ record a { core = (moved outcome a.core).core }) × (turns.given ≡ (moved outcome a.core).messages)
+    joined whole did =
+        let did_hear = hears (wanting_kept b c (delivered given b.core).core did.0 whole) in (
+          did.0 ∙ ap (λ (r : Running). record r { core = (delivered given r.core).core }) did_hear.0
+              ∙ ap (λ (l : List (Effect Command Output)). record a {
+                core = (delivered l (record a.core {
+                  replica = record a.core.replica { state = outcome.state };
+                })).core;
+              }) did_hear.1,
+          did.1 ∙ ap (λ (l : List (Effect Command Output)). (delivered l b.core).messages) did_hear.1,
+        )
+
+-- a command
+pub turns_refused : (r : Running) (command : Command) (out : List (Effect Command Output)) →
+    serves r.core ≡ false → Turns r r out out (proposes command r.core)
+unfolding proposes
+turns_refused r command out idle =
+    subst (λ (t : Turn). Turns r r out out t) (rw idle refl) (turns_idle r out)
+
+pub turns_proposed : (a b c : Running) (command : Command) (given before behind : List (Effect Command Output)) →
+    serves a.core ≡ true → Hears a b (proposed rules a.core.replica.state command) given →
+    Turns b c before behind (delivered given b.core) → Turns a c before behind (proposes command a.core)
+unfolding proposes
+turns_proposed a b c command given before behind serving hears turns =
+    subst (λ (t : Turn). Turns a c before behind t) (rw serving refl)
+    (turns_moved a b c (proposed rules a.core.replica.state command) given before behind hears turns)
+
+-- a message or a tick
+pub turns_driven : (a b c : Running) (input : Input Command) (given before behind : List (Effect Command Output)) →
+    Hears a b (heard input a.core.replica.state) given → Turns b c before behind (delivered given b.core) →
+    Turns a c before behind (drives input a.core)
+unfolding drives
+turns_driven a b c input = turns_moved a b c (heard input a.core.replica.state)

@@ -1,0 +1,22 @@
+-- Settles.antt: what is done to the list at the end of a step.
+use Rattle.std.proofs.Common.{◌≡◌, true, false, List, map, ap, ◌∙◌}
+use Rattle.std.specs.List.{filter}
+use Rattle.world_base.specs.declared.connection.Connection.{Connection}
+use Rattle.world_base.specs.Connections.{closed, is_listed}
+use Rattle.world_base.specs.Core.{serves}
+use Rattle.world_base.specs.Inside.{Running}
+use Rattle.world_base.specs.Step.{settled}
+
+pub settles-idle : (r : Running) (mid new : List Connection) → serves r.core ≡ false →
+    mid ≡ map closed r.core.connections → new ≡ filter is_listed mid →
+    record r { core = record r.core { connections = new } } ≡ record r { core = settled r.core }
+unfolding settled
+settles-idle r mid new idle all kept =
+    rw idle (ap (λ (l : List Connection). record r { core = record r.core { connections = l } }) (kept ∙ ap (filter is_listed) all))
+
+pub settles-serving : (r : Running) (new : List Connection) → serves r.core ≡ true →
+    new ≡ filter is_listed r.core.connections →
+    record r { core = record r.core { connections = new } } ≡ record r { core = settled r.core }
+unfolding settled
+settles-serving r new serving kept =
+    rw serving (ap (λ (l : List Connection). record r { core = record r.core { connections = l } }) kept)

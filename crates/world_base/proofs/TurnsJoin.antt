@@ -1,0 +1,100 @@
+-- TurnsJoin.antt: two things that a node does, one after the other, are done as one.
+use Rattle.std.proofs.Common.{◌≡◌, true, false, List, [], ◌∷◌, ◌++◌, append_assoc, refl, sym, ap, subst, ◌∙◌}
+use Rattle.std.specs.List.{fold, filter}
+use Rattle.std.proofs.lemmas.List.{append-nil}
+use Rattle.std.proofs.lemmas.List.Sums.{fold_push}
+use Rattle.std.proofs.lemmas.List.Elements.{filter-append}
+use Rattle.connecting_base.specs.declared.command.Command.{Command}
+use Rattle.connecting_base.specs.declared.command.Output.{Output}
+use Rattle.ballot_base.specs.declared.message.Effect.{Effect}
+use Rattle.world_base.specs.Core.{CoreState, Turn}
+use Rattle.world_base.specs.Inside.{Running, Does, Turns}
+use Rattle.world_base.specs.Turns.{quiet, then_also, delivered, served, is_message}
+
+-- nothing was done
+pub turns_idle : (r : Running) (out : List (Effect Command Output)) → Turns r r out out (quiet r.core)
+turns_idle r out = record { given = []; appended = sym (append-nil out); exact = λ _. (refl, refl) }
+
+-- something without messages
+pub turns_quiet : (old new : Running) (out : List (Effect Command Output)) (core : CoreState) →
+    Does old new core → Turns old new out out (quiet core)
+turns_quiet old new out core does =
+    record { given = []; appended = sym (append-nil out); exact = λ whole. (does whole, refl) }
+
+-- the parts of a step that was done
+pub wanting_kept : (a b : Running) (core : CoreState) → b ≡ record a { core = core } → b.wanting ≡ false → a.wanting ≡ false
+wanting_kept a b core e whole = sym (ap (λ (z : Running). z.wanting) e) ∙ whole
+
+-- one thing and then another
+pub turns_join : (a b c : Running) (x y z : List (Effect Command Output)) (first : Turn) (next : CoreState → Turn) →
+    Turns a b x y first → Turns b c y z (next b.core) → Turns a c x z (then_also first next)
+turns_join a b c x y z first next one two =
+    record {
+      given = one.given ++ two.given;
+      appended = two.appended ∙ ap (λ (l : List (Effect Command Output)). l ++ two.given) one.appended
+          ∙ append_assoc x one.given two.given;
+      exact = λ whole. joined whole (two.exact whole);
+    }
+  where
+    joined : c.wanting ≡ false → (c ≡ record b { core = (next b.core).core }) × (two.given ≡ (next b.core).messages) →
+        (c ≡ record a { core = (then_also first next).core })
+        × (one.given ++ two.given ≡ (then_also first next).messages)
+    joined whole did =
+        let before = one.exact (wanting_kept b c (next b.core).core did.0 whole) in
+        let core : b.core ≡ first.core = ap (λ (r : Running). r.core) before.0 in (
+          did.0 ∙ ap (λ (r : Running). record r { core = (next r.core).core }) before.0,
+          ap (λ (l : List (Effect Command Output)). l ++ two.given) before.1
+              ∙ ap (λ (l : List (Effect Command Output)). first.messages ++ l)
+              (did.1 ∙ ap (λ (k : CoreState). (next k).messages) core),
+        )
+
+-- effects that were done one by one
+pub turns_push : (a b c : Running) (x y z given : List (Effect Command Output)) (e : Effect Command Output) →
+    Turns a b x y (delivered given a.core) → Turns b c y z (delivered (e ∷ []) b.core) →
+    Turns a c x z (delivered (given ++ e ∷ []) a.core)
+turns_push a b c x y z given e one two =
+    subst (λ (t : Turn). Turns a c x z t) same
+    (turns_join a b c x y z (delivered given a.core) (delivered (e ∷ [])) one two)
+  where
+    same : then_also (delivered given a.core) (delivered (e ∷ [])) ≡ delivered (given ++ e ∷ []) a.core
+    same =
+        ap (λ (k : CoreState). let t : Turn = record { core = k; messages = filter is_message given ++ filter is_message (e ∷ []) } in t)
+        (sym (fold_push served a.core given e))
+        ∙ ap (λ (l : List (Effect Command Output)). let t : Turn = record { core = fold served a.core (given ++ e ∷ []); messages = l } in t)
+        (sym (filter-append is_message given (e ∷ [])))
+
+-- memory was wanting before: nothing exact is said
+pub turns_wanting : (a b c : Running) (x y : List (Effect Command Output)) (t u : Turn) → b.wanting ≡ true →
+    Turns b c x y t → Turns a c x y u
+turns_wanting a b c x y t u lost turns =
+    record {
+      given = turns.given;
+      appended = turns.appended;
+      exact = λ whole. (let kept = wanting_kept b c t.core (turns.exact whole).0 whole in absurd cc);
+    }
+
+-- the same turn, where no memory was wanting
+pub turns_as : (a c : Running) (x y : List (Effect Command Output)) (t u : Turn) → (c.wanting ≡ false → t ≡ u) →
+    Turns a c x y t → Turns a c x y u
+turns_as a c x y t u same turns =
+    record {
+      given = turns.given;
+      appended = turns.appended;
+      exact = λ whole. (
+        (turns.exact whole).0 ∙ ap (λ (z : Turn). record a { core = z.core }) (same whole),
+        (turns.exact whole).1 ∙ ap (λ (z : Turn). z.messages) (same whole),
+      );
+    }
+
+-- something behind a change without messages
+pub turns_behind : (a b c : Running) (x y : List (Effect Command Output)) (core : CoreState) (next : CoreState → Turn) →
+    b ≡ record a { core = core } → Turns b c x y (next b.core) → Turns a c x y (next core)
+turns_behind a b c x y core next e turns =
+    record {
+      given = turns.given;
+      appended = turns.appended;
+      exact = λ whole. (
+        (turns.exact whole).0 ∙ ap (λ (r : Running). record r { core = (next r.core).core }) e,
+        (turns.exact whole).1 ∙ ap (λ (r : Running). (next r.core).messages) e,
+      );
+    }

@@ -1,0 +1,7 @@
+use Rattle.std.proofs.Common.{◌≡◌, ◌++◌, map, take, drop}
+use Rattle.world_base.specs.Connections.{closed}
+use Rattle.world_base.proofs.listing.close_each.Given as goal
+
+abbrev pub invariant-loop-index : goal.invariant-loop-index
+invariant-loop-index l =
+    l.connections.items ≡ map closed (take l.index l.initial.connections.items) ++ drop l.index l.initial.connections.items

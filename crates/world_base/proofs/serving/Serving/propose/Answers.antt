@@ -1,0 +1,12 @@
+use Rattle.std.proofs.Common.{sym, ◌∙◌}
+use Rattle.world_base.proofs.Proposes.{turns_refused, turns_proposed}
+use Rattle.world_base.proofs.serving.Serving.propose.Goals as goal
+
+pub returns-then-not-serves-clause-turns : goal.returns-then-not-serves-clause-turns
+returns-then-not-serves-clause-turns c =
+    turns_refused _ c.args.command _ (sym c.serves.ensures ∙ c.if-not-serves.true)
+
+pub returns-clause-turns : goal.returns-clause-turns
+returns-clause-turns c =
+    turns_proposed _ _ _ c.args.command _ _ _ (sym c.serves.ensures ∙ c.if-not-serves.false)
+    c.ask-taken.ensures.hears c.deliver.ensures

@@ -1,0 +1,46 @@
+-- A node: one replica of the broker with its connections, and how it opens.
+use Rattle.std.specs.Prelude.{ℕ, Bool, not, ◌&&◌, List, []}
+use Rattle.machine.specs.Machine.{Rules}
+use Rattle.connecting_base.specs.Table.{Table}
+use Rattle.connecting_base.specs.State.{usual_limits}
+use Rattle.connecting_base.specs.Laws.{broker_rules}
+use Rattle.connecting_base.specs.declared.command.Command.{Command}
+use Rattle.connecting_base.specs.declared.command.Output.{Output}
+use Rattle.ballot_base.specs.declared.config.Config.{Config}
+use Rattle.ballot_base.specs.declared.message.Effect.{Effect}
+use Rattle.ballot_base.specs.Replica.{Counted, is_active, opening}
+use Rattle.world_base.specs.declared.connection.Connection.{Connection}
+
+-- what a node keeps; its connections stand in the order in which they were opened
+pub record CoreState : Type 0 where
+  pub replica : Counted Command
+  -- how many connections of this ballot it accepted
+  pub accepted : ℕ
+  pub connections : List Connection
+
+-- a node with the number of its steps in which memory was wanting, up to 2^64 - 1
+pub record CountedCore : Type 0 where
+  pub core : CoreState
+  pub losses : ℕ
+
+-- what something makes of a node, and the messages to other nodes that it hands out
+pub record Turn : Type 0 where
+  pub core : CoreState
+  pub messages : List (Effect Command Output)
+
+-- the broker's rules
+abbrev pub rules : Rules Table Command Output
+rules = broker_rules usual_limits
+
+-- a new node: the replica opens in ballot 1, and no connection was opened yet
+abbrev pub opening_core : ℕ → Config → CoreState
+opening_core id config =
+    record {
+      replica = record { state = opening Command id config; losses = 0 };
+      accepted = 0;
+      connections = [];
+    }
+
+-- a node serves clients while its replica is the active primary and has not stopped
+abbrev pub serves : CoreState → Bool
+serves core = is_active core.replica.state.role && not core.replica.state.stopped

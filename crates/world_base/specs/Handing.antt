@@ -1,0 +1,37 @@
+-- What a node hands over of the bytes that it put out for a port.
+use Rattle.std.specs.Prelude.{◌≡◌, ℕ, if◌then◌else◌, List, [], ◌++◌, Option, Some, None}
+use Rattle.std.specs.List.{find, filter}
+use Rattle.world_base.specs.declared.item.Port.{Port}
+use Rattle.world_base.specs.declared.handed.Handed.{Handed}
+use Rattle.world_base.specs.declared.handed.Handed.TheVariants as answers
+use Rattle.world_base.specs.declared.connection.Connection.{Connection}
+use Rattle.world_base.specs.Connections.{is_at, is_over, is_listed, handed, changed}
+use Rattle.world_base.specs.Core.{CoreState}
+
+-- the connection of a port that is open, or has bytes to hand over
+abbrev pub listed_at : Port → CoreState → Option Connection
+listed_at port core = find (is_at port) core.connections
+
+-- all that was put out and not handed over before
+abbrev pub bytes_of : Option Connection → List ℕ
+bytes_of None = []
+bytes_of (Some c) = c.pending
+
+-- whether more may come: not where the connection is over, or was never opened
+abbrev pub answer_of : Option Connection → Handed
+answer_of None = answers.Closed
+answer_of (Some c) = if is_over c.stage then answers.Closed else answers.Open
+
+-- what is left: a closed connection is gone with its last bytes
+abbrev pub left_by : Port → CoreState → Option Connection → CoreState
+left_by port core None = core
+left_by port core (Some c) =
+    record core { connections = filter is_listed (changed (is_at port) handed core.connections) }
+
+unfoldable pub hands_over : Port → CoreState → CoreState
+hands_over port core = left_by port core (listed_at port core)
+
+-- the second list is the first with more at its end
+pub record Extends {A : Type 0} (old new : List A) : Type 0 where
+  pub more : List A
+  pub appended : new ≡ old ++ more

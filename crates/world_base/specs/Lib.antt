@@ -1,0 +1,9 @@
+pub mod Connections
+pub mod Core
+pub mod Handing
+pub mod Inside
+pub mod Losses
+pub mod Reading
+pub mod Spelling
+pub mod Step
+pub mod Turns

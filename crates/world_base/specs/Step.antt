@@ -1,0 +1,58 @@
+-- What one item makes of a node.
+use Rattle.std.specs.Prelude.{◌+◌, not, ◌&&◌, if◌then◌else◌, [], ◌∷◌, ◌++◌, map, filter}
+use Rattle.std.specs.List.{list_any}
+use Rattle.connecting_base.specs.Connection.{ConnectionName, is_connection_name}
+use Rattle.ballot_base.specs.Losses.{halted}
+use Rattle.ballot_base.specs.Protocol.Input.{Receives, Ticks}
+use Rattle.world_base.specs.declared.item.Port.{Port}
+use Rattle.world_base.specs.declared.item.Item.{Item}
+use Rattle.world_base.specs.declared.item.Item.TheVariants.{Peer, Tick, Opened, Bytes, Ended, Crash}
+use Rattle.world_base.specs.Connections.{is_at, is_listed, fresh, holding, closed}
+use Rattle.world_base.specs.Core.{CoreState, Turn, serves}
+use Rattle.world_base.specs.Reading.{begins, changes, ends, goes_on}
+use Rattle.world_base.specs.Turns.{quiet, then_also, drives}
+
+-- the name of the next connection of this ballot
+abbrev pub next_name : CoreState → ConnectionName
+next_name core = record { ballot = core.replica.state.joined; count = core.accepted + 1 }
+
+-- a connection is accepted while the node serves clients, and gets the next number of the ballot;
+-- a port may be used again once nothing of it is listed
+unfoldable pub opens : Port → CoreState → CoreState
+opens port core =
+    if (serves core && not (list_any (is_at port) core.connections))
+    && is_connection_name (next_name core)
+    then record core {
+      accepted = core.accepted + 1;
+      connections = core.connections ++ fresh port (next_name core) ∷ [];
+    }
+    else core
+
+-- where the node no longer serves clients all connections are closed; a closed one with nothing to
+-- hand over is gone
+unfoldable pub settled : CoreState → CoreState
+settled core =
+    record core {
+      connections = filter is_listed
+          (if serves core then core.connections else map closed core.connections);
+    }
+
+-- the node crashes: its replica stops for good
+abbrev pub crashed : CoreState → CoreState
+crashed core = record core { replica = record core.replica { state = halted core.replica.state } }
+
+-- an item before its connections are settled
+abbrev pub takes_in : Item → CoreState → Turn
+takes_in (Peer message) core = drives (Receives message) core
+takes_in (Tick now) core = drives Ticks core
+takes_in (Opened port now) core = quiet (opens port core)
+takes_in (Bytes port piece now) core =
+    then_also (then_also (quiet (changes port (holding piece) core)) (begins port)) (goes_on port)
+takes_in (Ended port) core = ends port core
+takes_in Crash core = quiet (crashed core)
+
+-- the step of a node on an item
+abbrev pub node_step : Item → CoreState → Turn
+node_step item core =
+    let turn = takes_in item core in
+    record { core = settled turn.core; messages = turn.messages }

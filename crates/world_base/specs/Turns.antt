@@ -1,0 +1,78 @@
+-- What a step of the replica makes of a node: outputs are done on connections, messages are handed out.
+use Rattle.std.specs.Prelude.{Bool, true, false, ◌&&◌, nat_lt, if◌then◌else◌, List, [], ◌++◌, length, filter}
+use Rattle.std.specs.List.{fold}
+use Rattle.connecting_base.specs.Connection.{ConnectionName}
+use Rattle.connecting_base.specs.declared.command.Command.{Command}
+use Rattle.connecting_base.specs.declared.command.Output.{Output}
+use Rattle.connecting_base.specs.declared.command.Output.TheVariants as outputs
+use Rattle.ballot_base.specs.declared.message.Effect.{Effect}
+use Rattle.ballot_base.specs.declared.message.Effect.TheVariants.{To, Out}
+use Rattle.ballot_base.specs.Protocol.{Input, step_in_one_ballot}
+use Rattle.ballot_base.specs.Replica.{ReplicaState}
+use Rattle.ballot_base.specs.Sending.{Outcome, nothing_done}
+use Rattle.ballot_base.specs.Serving.{proposed, most_places}
+use Rattle.world_base.specs.declared.connection.Connection.{Connection}
+use Rattle.world_base.specs.Connections.{is_open_named, closed, putting, changed}
+use Rattle.world_base.specs.Core.{CoreState, Turn, rules, serves}
+use Rattle.world_base.specs.Spelling.{spelling}
+
+-- no message is handed out
+abbrev pub quiet : CoreState → Turn
+quiet core = record { core = core; messages = [] }
+
+-- one thing, and then another
+abbrev pub then_also : Turn → (CoreState → Turn) → Turn
+then_also first next =
+    record {
+      core = (next first.core).core;
+      messages = first.messages ++ (next first.core).messages;
+    }
+
+-- ---- outputs
+
+-- a change of the open connection of a name
+unfoldable pub changes_named : ConnectionName → (Connection → Connection) → CoreState → CoreState
+changes_named name change core =
+    record core { connections = changed (is_open_named name) change core.connections }
+
+-- an output of the broker is done on its connection; one for a connection that is not open is dropped
+abbrev pub served_by : Output → CoreState → CoreState
+served_by (outputs.Send name packet) core = changes_named name (putting (spelling packet)) core
+served_by (outputs.Close name) core = changes_named name closed core
+
+abbrev pub served : CoreState → Effect Command Output → CoreState
+served core (Out place output) = served_by output core
+served core (To receiver message) = core
+
+abbrev pub is_message : Effect Command Output → Bool
+is_message (Out place output) = false
+is_message (To receiver message) = true
+
+-- what a step of the replica gives is handled at once, in its order: outputs are done, messages are
+-- handed out
+abbrev pub delivered : List (Effect Command Output) → CoreState → Turn
+delivered effects core =
+    record { core = fold served core effects; messages = filter is_message effects }
+
+abbrev pub moved : Outcome Command Output → CoreState → Turn
+moved outcome core =
+    delivered outcome.effects
+    (record core { replica = record core.replica { state = outcome.state } })
+
+-- ---- what comes to the replica
+
+-- a command of a client is put to it while the node serves clients
+unfoldable pub proposes : Command → CoreState → Turn
+proposes command core =
+    if serves core then moved (proposed rules core.replica.state command) core else quiet core
+
+-- a message of another node or a tick; a replica that has stopped does nothing
+abbrev pub heard : Input Command → ReplicaState Command → Outcome Command Output
+heard input r = if r.stopped then nothing_done Output r else step_in_one_ballot rules r input
+
+unfoldable pub drives : Input Command → CoreState → Turn
+drives input core = moved (heard input core.replica.state) core
+
+-- whether a proposal is taken: by an active primary whose log has room
+abbrev pub has_room : CoreState → Bool
+has_room core = serves core && nat_lt (length core.replica.state.log) most_places

@@ -1,0 +1,204 @@
+// One connection of a node.
+
+ghost use Rattle.std.specs.Prelude.{◌≡◌, ◌++◌, true, OnOk, OnErr};
+ghost use Rattle.world_base.specs.Connections.{closed, fresh, handed, holding, is_at, is_first, is_listed, is_open_at, is_open_named, is_over, is_proposed, putting};
+ghost use Rattle.world_base.specs.Handing.{answer_of};
+ghost use Rattle.world_base.specs.Inside.{Begins, Follows};
+ghost use Rattle.world_base.specs.Spelling.{spelling};
+ghost use Rattle.world_base.specs.Reading.{refused};
+
+use crate::front::Front;
+use crate::handed::Handed;
+use crate::item::Port;
+use crate::piece::Piece;
+use crate::unread::Unread;
+use connecting_base::ConnectionId;
+use machine::Memory;
+use packet::{Connack, Packet, RefusalCode};
+use std::alloc::Global;
+
+/// How far a connection is.
+#[derive(Clone, Copy, Debug, PartialEq, Eq)]
+pub enum Stage {
+    /// Its first packet is awaited.
+    Awaits,
+    /// Its CONNECT became a command.
+    Proposed,
+    /// It is closed.
+    Over,
+    /// It is closed for want of memory, and the broker is still to hear that it is lost.
+    Failed,
+}
+
+/// A connection of a node. It stays listed until all that was put out for it was handed over.
+#[derive(Drop)]
+pub struct Connection {
+    pub port: Port,
+    pub name: ConnectionId,
+    pub stage: Stage,
+    pub unread: Unread,
+    pub pending: Piece,
+}
+
+impl Connection {
+    // A connection that was just opened.
+    pub fn new(alloc: Global, port: Port, name: ConnectionId) -> Connection
+        ensures { result ≡ fresh port name }
+    {
+        Connection {
+            port,
+            name,
+            stage: Stage::Awaits,
+            unread: Unread::new(alloc),
+            pending: Piece::new(alloc),
+        }
+    }
+
+    // Whether it is of this port.
+    pub fn is_at(&self, port: Port) -> bool
+        ensures { result ≡ is_at port self.now }
+    {
+        self.port.0 == port.0
+    }
+
+    // Whether this is the open connection of a port.
+    pub fn is_open_at(&self, port: Port) -> bool
+        ensures { result ≡ is_open_at port self.now }
+    {
+        !self.is_over() && self.port.0 == port.0
+    }
+
+    // Whether this is the open connection of a name.
+    pub fn is_open_named(&self, name: ConnectionId) -> bool
+        ensures { result ≡ is_open_named name self.now }
+    {
+        !self.is_over() && self.name == name
+    }
+
+    // Whether it is closed.
+    pub fn is_over(&self) -> bool
+        ensures { result ≡ is_over self.now.stage }
+    {
+        matches!(self.stage, Stage::Over | Stage::Failed)
+    }
+
+    // Whether its first packet is awaited.
+    pub fn is_first(&self) -> bool
+        ensures { result ≡ is_first self.now.stage }
+    {
+        self.stage == Stage::Awaits
+    }
+
+    // Whether its CONNECT became a command, and it is open.
+    pub fn is_proposed(&self) -> bool
+        ensures { result ≡ is_proposed self.now.stage }
+    {
+        self.stage == Stage::Proposed
+    }
+
+    // Whether it is listed: it is open, or has bytes to hand over.
+    pub fn is_listed(&self) -> bool
+        ensures { result ≡ is_listed self.now }
+    {
+        !self.is_over() || !self.pending.is_empty()
+    }
+
+    // Whether more may be put out for it.
+    pub fn answer(&self) -> Handed
+        ensures { result ≡ answer_of (Some self.now) }
+    {
+        if self.is_over() {
+            Handed::Closed
+        } else {
+            Handed::Open
+        }
+    }
+
+    // Holds bytes that came. Where memory is wanting nothing changes.
+    pub fn hold(&mut self, piece: &Piece) -> Result<(), Memory>
+        ensures ok { OnOk result (self.new ≡ holding piece.now self.old) }
+        ensures err { OnErr result (self.new ≡ self.old) }
+    {
+        self.unread.add(piece)
+    }
+
+    // Reads its first packet. Where that is none that may come first the connection is closed, a
+    // CONNECT that is refused with a code being answered before.
+    pub fn begin(&mut self) -> Front
+        ensures { Begins self.old result self.new }
+    {
+        let front = self.unread.next();
+        match front {
+            Front::More => {}
+            Front::Connect(_) => self.stage = Stage::Proposed,
+            Front::Refused(code) => {
+                if !self.refuse(code) {
+                    return Front::Wanting;
+                }
+            }
+            Front::Fault | Front::Wanting => self.close(),
+        }
+        front
+    }
+
+    // Reads what came behind its first packet: all but less than a packet closes the connection.
+    pub fn follow(&mut self) -> Front
+        ensures { Follows self.old result self.new }
+    {
+        let front = self.unread.next();
+        if !matches!(front, Front::More) {
+            self.close();
+        }
+        front
+    }
+
+    // Puts a packet out. Where memory is wanting nothing changes.
+    pub fn put(&mut self, packet: &Packet) -> Result<(), Memory>
+        ensures ok { OnOk result (self.new ≡ putting (spelling packet.now) self.old) }
+        ensures err { OnErr result (self.new ≡ self.old) }
+    {
+        self.pending.put(packet)
+    }
+
+    // Refuses its CONNECT with a code: whether the answer found memory.
+    pub fn refuse(&mut self, code: RefusalCode) -> bool
+        ensures { result ≡ true → self.new ≡ refused code self.old }
+    {
+        let put = self.put(&Packet::Connack(Connack::Refused(code)));
+        self.close();
+        put.is_ok()
+    }
+
+    // Puts a packet out, or closes the connection as failed where there is no memory: whether there
+    // was.
+    pub fn send(&mut self, packet: &Packet) -> bool
+        ensures { result ≡ true → self.new ≡ putting (spelling packet.now) self.old }
+    {
+        if self.put(packet).is_err() {
+            self.close();
+            self.stage = Stage::Failed;
+            return false;
+        }
+        true
+    }
+
+    // Hands over what was put out, behind what `out` holds. Where memory is wanting nothing changes.
+    pub fn hand_over(&mut self, out: &mut Vec<u8>) -> Result<(), Memory>
+        ensures bytes { OnOk result (out.new.items ≡ out.old.items ++ self.old.pending) }
+        ensures ok { OnOk result (self.new ≡ handed self.old) }
+        ensures err { OnErr result (out.new.items ≡ out.old.items) }
+        ensures same { OnErr result (self.new ≡ self.old) }
+    {
+        out.extend_from_slice(self.pending.as_slice())?;
+        self.pending.clear();
+        Ok(())
+    }
+
+    // Closes it. What was put out before is still handed over.
+    pub fn close(&mut self)
+        ensures { self.new ≡ closed self.old }
+    {
+        self.stage = Stage::Over;
+        self.unread.clear();
+    }
+}

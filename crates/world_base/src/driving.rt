@@ -1,0 +1,143 @@
+// What comes to the replica, and what it gives at once.
+
+ghost use Rattle.std.specs.Prelude.{◌≡◌, ◌<◌, ◌-◌, ◌^◌, false, true, [], ◌∷◌};
+ghost use Rattle.ballot_base.specs.Protocol.Input.{Receives, Ticks};
+ghost use Rattle.ballot_base.specs.Serving.{proposed};
+ghost use Rattle.world_base.specs.Core.{rules, serves};
+ghost use Rattle.world_base.specs.Inside.{Does, Hears, Turns};
+ghost use Rattle.world_base.specs.Turns.{delivered, drives, has_room, heard, proposes, served_by};
+
+use crate::serving::Serving;
+use ballot::{Effect, Message};
+use connecting_base::{Command, Output};
+
+impl Serving {
+    /// Proposes a command and does what it gives at once: whether it was taken.
+    pub fn propose(&mut self, command: Command, effects: &mut Vec<Effect<Command, Output>>) -> bool
+        ensures turns { Turns self.old self.new effects.old.items effects.new.items
+            (proposes command self.old.core) }
+        ensures taken { self.new.wanting ≡ false → result ≡ has_room self.old.core }
+    {
+        if !self.serves() {
+            return false;
+        }
+        let mut given = Vec::new(self.alloc);
+        let taken = self.ask(command, &mut given);
+        self.deliver(given, effects);
+        taken
+    }
+
+    // Proposes a command to the replica alone.
+    fn ask(&mut self, command: Command, given: &mut Vec<Effect<Command, Output>>) -> bool
+        requires serving { serves self.old.core ≡ true }
+        requires empty { given.old.items ≡ [] }
+        ensures hears { Hears self.old self.new
+            (proposed rules self.old.core.replica.state command) given.new.items }
+        ensures taken { self.new.wanting ≡ false → result ≡ has_room self.old.core }
+    {
+        let before = self.replica.losses();
+        let put = self.replica.propose(command, given);
+        self.note_losses(before);
+        put.is_ok()
+    }
+
+    /// Takes a message of another node and does what it gives at once.
+    pub fn receive(&mut self, message: Message<Command>, effects: &mut Vec<Effect<Command, Output>>)
+        ensures { Turns self.old self.new effects.old.items effects.new.items
+            (drives (Receives message) self.old.core) }
+    {
+        let mut given = Vec::new(self.alloc);
+        self.hear(message, &mut given);
+        self.deliver(given, effects);
+    }
+
+    // The replica alone takes a message.
+    fn hear(&mut self, message: Message<Command>, given: &mut Vec<Effect<Command, Output>>)
+        requires { given.old.items ≡ [] }
+        ensures { Hears self.old self.new
+            (heard (Receives message) self.old.core.replica.state) given.new.items }
+    {
+        let before = self.replica.losses();
+        // A replica that stops counts a loss, and one that has stopped does nothing.
+        let _ = self.replica.on(message, given);
+        self.note_losses(before);
+    }
+
+    /// The replica says again what others may have missed.
+    pub fn tick(&mut self, effects: &mut Vec<Effect<Command, Output>>)
+        ensures { Turns self.old self.new effects.old.items effects.new.items
+            (drives Ticks self.old.core) }
+    {
+        let mut given = Vec::new(self.alloc);
+        self.say_again(&mut given);
+        self.deliver(given, effects);
+    }
+
+    // The replica alone has a tick.
+    fn say_again(&mut self, given: &mut Vec<Effect<Command, Output>>)
+        requires { given.old.items ≡ [] }
+        ensures { Hears self.old self.new
+            (heard Ticks self.old.core.replica.state) given.new.items }
+    {
+        let before = self.replica.losses();
+        self.replica.tick(given);
+        self.note_losses(before);
+    }
+
+    // Whether memory was wanting in a call of the replica is told by its count of losses, which was
+    // `before` until then.
+    fn note_losses(&mut self, before: u64)
+        ensures kept { self.new.core ≡ self.old.core }
+        ensures none { self.new.wanting ≡ false →
+            (self.old.wanting ≡ false) ×
+            ((self.old.core.replica.losses ≡ before) × (before < 2 ^ 64 - 1)) }
+    {
+        let after = self.replica.losses();
+        if after != before || after == u64::MAX {
+            self.wanting = true;
+        }
+    }
+
+    // Does what the replica gave, in its order.
+    fn deliver(
+        &mut self,
+        given: Vec<Effect<Command, Output>>,
+        effects: &mut Vec<Effect<Command, Output>>,
+    )
+        ensures { Turns self.old self.new effects.old.items effects.new.items
+            (delivered given.items self.old.core) }
+    {
+        for effect in given {
+            self.handle(effect, effects);
+        }
+    }
+
+    // Does one effect: a message is handed out, an output is done on its connection.
+    fn handle(
+        &mut self,
+        effect: Effect<Command, Output>,
+        effects: &mut Vec<Effect<Command, Output>>,
+    )
+        ensures { Turns self.old self.new effects.old.items effects.new.items
+            (delivered (effect ∷ []) self.old.core) }
+    {
+        match effect {
+            Effect::Out(_, output) => self.serve(&output),
+            Effect::To(receiver, message) => {
+                if effects.push(Effect::To(receiver, message)).is_err() {
+                    self.wanting = true;
+                }
+            }
+        }
+    }
+
+    // Does an output on its connection.
+    fn serve(&mut self, output: &Output)
+        ensures { Does self.old self.new (served_by output.now self.old.core) }
+    {
+        match output {
+            Output::Send(name, packet) => self.send(*name, packet),
+            Output::Close(name) => self.close_named(*name),
+        }
+    }
+}

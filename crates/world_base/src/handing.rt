@@ -1,0 +1,43 @@
+// The bytes that a node put out for its connections.
+
+ghost use Rattle.std.specs.Prelude.{◌≡◌, ◌++◌, IfOk, OnErr, OnOk};
+ghost use Rattle.std.specs.List.{position};
+ghost use Rattle.world_base.specs.Connections.{is_at};
+ghost use Rattle.world_base.specs.Handing.{answer_of, bytes_of, hands_over, listed_at};
+
+use crate::handed::Handed;
+use crate::item::Port;
+use crate::listing::keep_listed;
+use crate::serving::Serving;
+use machine::Memory;
+
+impl Serving {
+    /// Appends what was put out for a port and not handed over before. Where memory is wanting
+    /// nothing changes.
+    pub fn hand_over(&mut self, port: Port, out: &mut Vec<u8>) -> Result<Handed, Memory>
+        ensures ok { OnOk result
+            (self.new ≡ record self.old { core = hands_over port self.old.core }) }
+        ensures bytes { OnOk result
+            (out.new.items ≡ out.old.items ++ bytes_of (listed_at port self.old.core)) }
+        ensures answer { IfOk result (λ handed.
+            handed ≡ answer_of (listed_at port self.old.core)) }
+        ensures err { OnErr result (self.new ≡ self.old) }
+        ensures same { OnErr result (out.new.items ≡ out.old.items) }
+    {
+        let Some(index) = self.place_listed(port) else {
+            return Ok(Handed::Closed);
+        };
+        let connection = &mut self.connections[index];
+        let answer = connection.answer();
+        connection.hand_over(out)?;
+        keep_listed(&mut self.connections);
+        Ok(answer)
+    }
+
+    // Where the listed connection of a port stands.
+    fn place_listed(&self, port: Port) -> Option<usize>
+        ensures { result ≡ position (is_at port) self.now.core.connections }
+    {
+        self.connections.iter().position(|c| c.is_at(port))
+    }
+}

@@ -1,0 +1,24 @@
+//! One replica of the broker with its connections: what a node is between two items. Bytes of
+//! clients, messages of other nodes and times come in, bytes and messages go out.
+#![tactic(auto)]
+
+mod connection;
+mod driving;
+mod front;
+mod handed;
+mod handing;
+mod item;
+mod listing;
+mod node_core;
+mod piece;
+mod serving;
+mod taking;
+#[cfg(test)]
+mod tests;
+mod unread;
+
+pub use ballot::{Config, Members, OpeningError, Status};
+pub use handed::Handed;
+pub use item::{Item, Port};
+pub use node_core::NodeCore;
+pub use piece::Piece;

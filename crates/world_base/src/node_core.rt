@@ -1,0 +1,97 @@
+// A replica with its connections.
+
+ghost use Rattle.std.specs.Prelude.{◌≡◌, ◌≤◌, ◌↔◌, ◌++◌, false, IfOk, IsErrOf, OnErr, OnOk};
+ghost use Rattle.ballot_base.specs.Config.{is_lawful};
+ghost use Rattle.ballot_base.specs.Replica.{status_of};
+ghost use Rattle.world_base.specs.Core.{opening_core};
+ghost use Rattle.world_base.specs.Handing.{answer_of, bytes_of, hands_over, listed_at};
+ghost use Rattle.world_base.specs.Losses.{Stepped};
+
+use crate::handed::Handed;
+use crate::item::{Item, Port};
+use crate::serving::Serving;
+use ballot::{Config, Effect, OpeningError, Status};
+use connecting_base::{Command, Output};
+use machine::Memory;
+use std::alloc::Global;
+use std::marker::Model;
+
+/// A replica of the broker with its connections. It takes items in, one by one, and hands over what
+/// it puts out for each connection.
+#[derive(Drop)]
+pub struct NodeCore {
+    serving: Serving,
+    losses: u64,
+}
+
+impl Model for NodeCore {
+    ghost use Rattle.world_base.specs.Core.{CountedCore};
+
+    ghost Value = { CountedCore };
+
+    ghost view = { λ node. record { core = node.serving.core; losses = node.losses } };
+}
+
+impl NodeCore {
+    /// Opens node `id` in ballot 1, whose members and primary are given.
+    pub fn new(alloc: Global, id: u8, config: &Config) -> Result<NodeCore, OpeningError>
+        requires low { 1 ≤ id }
+        requires high { id ≤ 15 }
+        ensures ok { IfOk result (λ node.
+            node ≡ record { core = opening_core id config.now; losses = 0 }) }
+        ensures bad { IsErrOf result OpeningError.BadMembers
+            ↔ (is_lawful config.now.members config.now.primary ≡ false) }
+    {
+        Ok(NodeCore {
+            serving: Serving::new(alloc, id, config)?,
+            losses: 0,
+        })
+    }
+
+    /// What the replica shows of itself.
+    pub fn status(&self) -> Status
+        ensures { result ≡ status_of self.now.core.replica.state }
+    {
+        self.serving.status()
+    }
+
+    /// In how many steps memory was wanting. The count stays at 2^64 - 1.
+    pub fn losses(&self) -> u64
+        ensures { result ≡ self.now.losses }
+    {
+        self.losses
+    }
+
+    /// Takes an item in and appends the messages to other nodes that follow from it. Where memory
+    /// is wanting a connection is closed or not accepted, or a message is lost, and the step is
+    /// counted.
+    pub fn step(&mut self, item: Item, effects: &mut Vec<Effect<Command, Output>>)
+        ensures { Stepped self.old item self.new effects.old.items effects.new.items }
+    {
+        self.serving.begin_step();
+        self.serving.take_in(item, effects);
+        if self.serving.is_wanting() {
+            self.serving.lose_failed(effects);
+            self.losses = self.losses.saturating_add(1);
+        }
+        self.serving.settle();
+    }
+
+    /// Appends what was put out for a port and not handed over before, and tells whether more may
+    /// come: [`Handed::Closed`] once the node has closed the connection and nothing is left, and
+    /// for a port that was never opened. Where memory is wanting nothing changes.
+    pub fn outgoing(&mut self, port: Port, out: &mut Vec<u8>) -> Result<Handed, Memory>
+        ensures bytes { OnOk result
+            (out.new.items ≡ out.old.items ++ bytes_of (listed_at port self.old.core)) }
+        ensures answer { IfOk result (λ handed.
+            handed ≡ answer_of (listed_at port self.old.core)) }
+        ensures left { OnOk result
+            (self.new ≡ record self.old { core = hands_over port self.old.core }) }
+
+        // Want of memory changes nothing.
+        ensures same { OnErr result (self.new ≡ self.old) }
+        ensures err { OnErr result (out.new.items ≡ out.old.items) }
+    {
+        self.serving.hand_over(port, out)
+    }
+}

@@ -1,0 +1,205 @@
+// A node during a step.
+
+ghost use Rattle.std.specs.Prelude.{◌≡◌, ◌≤◌, ◌↔◌, false, true, IfOk, IfSome, OnSome, IfNone, IsErrOf};
+ghost use Rattle.std.specs.List.{position};
+ghost use Rattle.connecting_base.specs.Connection.{is_connection_name};
+ghost use Rattle.ballot_base.specs.Config.{is_lawful};
+ghost use Rattle.ballot_base.specs.Replica.{status_of};
+ghost use Rattle.world_base.specs.Connections.{closed, holding, is_open_at, is_open_named, putting};
+ghost use Rattle.world_base.specs.Core.{opening_core, serves};
+ghost use Rattle.world_base.specs.Inside.{Does};
+ghost use Rattle.world_base.specs.Spelling.{spelling};
+ghost use Rattle.world_base.specs.Reading.{changes, refused};
+ghost use Rattle.world_base.specs.Step.{next_name, opens, settled};
+ghost use Rattle.world_base.specs.Turns.{changes_named};
+
+use crate::connection::Connection;
+use crate::item::Port;
+use crate::listing::{close_each, has_port, keep_listed, push};
+use crate::piece::Piece;
+use ballot::{Config, OpeningError, Replica, Status};
+use connecting::BrokerMachine;
+use connecting_base::ConnectionId;
+use packet::{Packet, RefusalCode};
+use std::alloc::Global;
+use std::marker::Model;
+
+/// A replica of the broker with its connections, and whether memory was wanting in the step that
+/// is being done.
+#[derive(Drop)]
+pub struct Serving {
+    pub(crate) alloc: Global,
+    pub(crate) replica: Replica<BrokerMachine>,
+    pub(crate) accepted: u64,
+    pub(crate) connections: Vec<Connection>,
+    pub(crate) wanting: bool,
+}
+
+impl Model for Serving {
+    ghost use Rattle.std.specs.Prelude.{◌≤◌, ◌^◌};
+    ghost use Rattle.world_base.specs.Inside.{Running};
+
+    ghost Value = { Running };
+
+    ghost view = { λ s.
+        record {
+          core = record {
+            replica = s.replica;
+            accepted = s.accepted;
+            connections = s.connections.items;
+          };
+          wanting = s.wanting;
+        } };
+
+    ghost invariant = { λ s. s.accepted ≤ 2 ^ 40 };
+}
+
+impl Serving {
+    /// Opens node `id` in ballot 1, with no connection.
+    pub fn new(alloc: Global, id: u8, config: &Config) -> Result<Serving, OpeningError>
+        requires low { 1 ≤ id }
+        requires high { id ≤ 15 }
+        ensures ok { IfOk result (λ serving.
+            serving ≡ record { core = opening_core id config.now; wanting = false }) }
+        ensures bad { IsErrOf result OpeningError.BadMembers
+            ↔ (is_lawful config.now.members config.now.primary ≡ false) }
+    {
+        let replica = Replica::new(alloc, id, config)?;
+        Ok(Serving {
+            alloc,
+            replica,
+            accepted: 0,
+            connections: Vec::new(alloc),
+            wanting: false,
+        })
+    }
+
+    /// Begins a step: memory was not wanting yet.
+    pub fn begin_step(&mut self)
+        ensures { self.new ≡ record self.old { wanting = false } }
+    {
+        self.wanting = false;
+    }
+
+    /// Whether memory was wanting in this step.
+    pub fn is_wanting(&self) -> bool
+        ensures { result ≡ self.now.wanting }
+    {
+        self.wanting
+    }
+
+    /// What the replica shows of itself.
+    pub fn status(&self) -> Status
+        ensures { result ≡ status_of self.now.core.replica.state }
+    {
+        self.replica.status()
+    }
+
+    // Whether the node serves clients.
+    pub fn serves(&self) -> bool
+        ensures { result ≡ serves self.now.core }
+    {
+        let status = self.replica.status();
+        status.role.is_active() && !status.stopped
+    }
+
+    // Where the open connection of a port stands in the list.
+    pub fn place_at(&self, port: Port) -> Option<usize>
+        ensures { result ≡ position (is_open_at port) self.now.core.connections }
+    {
+        self.connections.iter().position(|c| c.is_open_at(port))
+    }
+
+    // Where the open connection of a name stands in the list.
+    pub fn place_of(&self, name: ConnectionId) -> Option<usize>
+        ensures { result ≡ position (is_open_named name) self.now.core.connections }
+    {
+        self.connections.iter().position(|c| c.is_open_named(name))
+    }
+
+    // Closes the open connection of a port.
+    pub fn close(&mut self, port: Port)
+        ensures { self.new ≡ record self.old { core = changes port closed self.old.core } }
+    {
+        if let Some(index) = self.place_at(port) {
+            self.connections[index].close();
+        }
+    }
+
+    // Adds bytes that came to those of the open connection of a port: whether there was memory.
+    pub fn add(&mut self, port: Port, piece: &Piece) -> bool
+        ensures ok { result ≡ true →
+            self.new ≡ record self.old { core = changes port (holding piece.now) self.old.core } }
+        ensures same { result ≡ false → self.new ≡ self.old }
+    {
+        match self.place_at(port) {
+            Some(index) => self.connections[index].hold(piece).is_ok(),
+            None => true,
+        }
+    }
+
+    // Closes the open connection of a name.
+    pub fn close_named(&mut self, name: ConnectionId)
+        ensures { self.new ≡ record self.old {
+          core = changes_named name closed self.old.core;
+        } }
+    {
+        if let Some(index) = self.place_of(name) {
+            self.connections[index].close();
+        }
+    }
+
+    // Puts a packet out on the open connection of a name, which is closed where there is no memory.
+    pub fn send(&mut self, name: ConnectionId, packet: &Packet)
+        ensures { Does self.old self.new
+            (changes_named name (putting (spelling packet.now)) self.old.core) }
+    {
+        if let Some(index) = self.place_of(name) {
+            let whole = self.connections[index].send(packet);
+            if !whole {
+                self.wanting = true;
+            }
+        }
+    }
+
+    // The name of the next connection, or none where the numbers of this ballot are spent.
+    fn next_name(&self) -> Option<ConnectionId>
+        ensures named { IfSome result (λ name. name ≡ next_name self.now.core) }
+        ensures some { OnSome result (is_connection_name (next_name self.now.core) ≡ true) }
+        ensures none { IfNone result (is_connection_name (next_name self.now.core) ≡ false) }
+    {
+        ConnectionId::new(self.replica.status().ballot, self.accepted + 1)
+    }
+
+    // Accepts a connection.
+    pub fn open(&mut self, port: Port)
+        ensures { Does self.old self.new (opens port self.old.core) }
+    {
+        if !self.serves() {
+            return;
+        }
+        if has_port(&self.connections, port) {
+            return;
+        }
+        let Some(name) = self.next_name() else {
+            return;
+        };
+        let connection = Connection::new(self.alloc, port, name);
+        if !push(&mut self.connections, connection) {
+            self.wanting = true;
+            return;
+        }
+        self.accepted += 1;
+    }
+
+    // Closes all connections where the node no longer serves clients, and takes closed ones with
+    // nothing to hand over off the list.
+    pub fn settle(&mut self)
+        ensures { self.new ≡ record self.old { core = settled self.old.core } }
+    {
+        if !self.serves() {
+            close_each(&mut self.connections);
+        }
+        keep_listed(&mut self.connections);
+    }
+}

@@ -1,0 +1,80 @@
+// The bytes of a connection that came and are not read yet.
+
+ghost use Rattle.std.specs.Prelude.{◌≡◌, ◌++◌, [], OnErr, OnOk};
+ghost use Rattle.world_base.specs.Inside.{Reads};
+
+use crate::front::Front;
+use crate::piece::Piece;
+use cutter::{CutError, Cutter};
+use machine::Memory;
+use packet::{DecodeFault, Packet};
+use std::alloc::Global;
+use std::marker::Model;
+
+/// The bytes of a connection that came and are not read yet. Its stream has had no fault: the
+/// connection is closed at the first one.
+#[derive(Drop)]
+pub struct Unread {
+    alloc: Global,
+    cutter: Cutter,
+}
+
+impl Model for Unread {
+    ghost use Rattle.std.specs.Prelude.{◌≡◌, List, ℕ, false};
+
+    ghost Value = { List ℕ };
+
+    ghost view = { λ unread. unread.cutter.held };
+
+    ghost invariant = { λ unread. unread.cutter.failed ≡ false };
+}
+
+impl Unread {
+    // No bytes.
+    pub fn new(alloc: Global) -> Unread
+        ensures { result ≡ [] }
+    {
+        Unread {
+            alloc,
+            cutter: Cutter::new(alloc),
+        }
+    }
+
+    // Adds bytes that came. Where memory is wanting nothing changes.
+    pub fn add(&mut self, piece: &Piece) -> Result<(), Memory>
+        ensures ok { OnOk result (self.new ≡ self.old ++ piece.now) }
+        ensures err { OnErr result (self.new ≡ self.old) }
+    {
+        match self.cutter.feed(piece.as_slice()) {
+            Ok(()) => Ok(()),
+            Err(_) => Err(Memory),
+        }
+    }
+
+    // Reads the packet at the front. At a fault nothing is left.
+    pub fn next(&mut self) -> Front
+        ensures { Reads self.old result self.new }
+    {
+        match self.cutter.next() {
+            Ok(None) => Front::More,
+            Ok(Some(Packet::Connect(connect))) => Front::Connect(connect),
+            Ok(Some(_)) => Front::Fault,
+            Err(CutError::Memory) => Front::Wanting,
+            Err(error) => {
+                // The stream has failed: nothing more is read of it.
+                self.cutter = Cutter::new(self.alloc);
+                match error {
+                    CutError::Decode(DecodeFault::Refused(code)) => Front::Refused(code),
+                    _ => Front::Fault,
+                }
+            }
+        }
+    }
+
+    // Drops all bytes.
+    pub fn clear(&mut self)
+        ensures { self.new ≡ [] }
+    {
+        self.cutter = Cutter::new(self.alloc);
+    }
+}
