@@ -32,6 +32,12 @@ fn a_sole_member_answers_at_once(rt: HostRuntime) -> Result<(), Fail> {
         stopped: false,
     };
     assert_eq!(rt; replica.status(), status);
+    let log = [
+        TallyCommand::Add(2),
+        TallyCommand::Start(2),
+        TallyCommand::Add(3),
+    ];
+    assert_eq!(rt; replica.log(), log.as_slice());
     assert_eq!(rt; replica.losses(), 0);
     Ok(())
 }

@@ -10,7 +10,8 @@ use Rattle.ballot_base.specs.Replica.{ReplicaState}
 use Rattle.ballot_base.specs.Losses.{halted}
 use Rattle.master.specs.declared.event.Event.{Event}
 use Rattle.master.specs.declared.event.Event.TheVariants.{Propose, Deliver, Tick, Crash}
-use Rattle.master.specs.Group.{World, Turn, running, unless_stopped, can_take, taking, stopping, takes, comes, turn}
+use Rattle.master.specs.Group.{World}
+use Rattle.master.specs.Exact.{Turn, running, unless_stopped, can_take, taking, stopping, takes, comes, turn}
 use Rattle.master.specs.Steps.{Happens}
 use Rattle.master.specs.Steps.Happens.{nothing_happens, goes}
 use Rattle.ballot_base.specs.Losses.{Loses}

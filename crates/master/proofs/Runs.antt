@@ -6,7 +6,8 @@ use Rattle.ballot_base.specs.declared.config.Config.{Config}
 use Rattle.ballot_base.specs.Losses.{one_more}
 use Rattle.ballot_base.proofs.ThinnedEffects.{Thinned-same}
 use Rattle.master.specs.declared.event.Event.{Event}
-use Rattle.master.specs.Group.{World, GroupState, Turn, turn, behind, group_step, group_run}
+use Rattle.master.specs.Group.{World, GroupState}
+use Rattle.master.specs.Exact.{Turn, turn, behind, group_step, group_run}
 use Rattle.master.specs.Steps.{Happens, Run, StepsBy, LosesNothing}
 use Rattle.master.specs.Steps.Happens.{nothing_happens, goes}
 use Rattle.master.specs.Steps.Run.{ends, goes_on}

@@ -14,7 +14,8 @@ use Rattle.ballot_base.specs.Sending.{Outcome}
 use Rattle.master.specs.declared.turning.Taken.{Taken}
 use Rattle.master.specs.declared.turning.Taken.TheVariants.{Received, Proposed, Ticked}
 use Rattle.master.specs.Agreement.{log_of}
-use Rattle.master.specs.Group.{World, GroupState, Turn, messages, outputs, moved, running}
+use Rattle.master.specs.Group.{World, GroupState, messages, outputs, moved}
+use Rattle.master.specs.Exact.{Turn, running}
 
 -- the node of a number runs, at a place
 pub record RunsAt {C : Type 0} (nodes : List (ReplicaState C)) (node at : ℕ) : Type 0 where

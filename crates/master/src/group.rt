@@ -6,7 +6,8 @@ ghost use Rattle.ballot_base.specs.Protocol.{step_in_one_ballot};
 ghost use Rattle.ballot_base.specs.Losses.{one_more};
 ghost use Rattle.ballot_base.specs.Replica.{ReplicaState};
 ghost use Rattle.master.specs.Agreement.{IsOpening, Past, IsAgreed, AgreesAfter};
-ghost use Rattle.master.specs.Group.{World, can_open, opening_world, turn, group_step, group_run, running};
+ghost use Rattle.master.specs.Group.{World, can_open, opening_world};
+ghost use Rattle.master.specs.Exact.{turn, group_step, group_run, running};
 ghost use Rattle.master.specs.Inside.{RunsAt, TookTurn, agreed_length, input_of, primary_log};
 ghost use Rattle.master.specs.Steps.{Run, StepsBy, LosesNothing};
 
@@ -122,7 +123,8 @@ impl<M: Machine> Group<M> {
         }
     }
 
-    /// The agreed list: the longest of which every member has told at least that much.
+    /// The agreed list: the longest beginning of the primary's log that every member has told. All
+    /// messages that were sent are gone through, once for each member.
     pub fn agreed(&self) -> &[M::Command]
         ensures { (past : List (World M.Command M.Output)) →
             Past (rules_by M.opening M.start_of M.after M.gives)
@@ -133,7 +135,7 @@ impl<M: Machine> Group<M> {
         &self.primary_log()[..length as usize]
     }
 
-    /// The length of the agreed list.
+    /// The length of the agreed list, found in the same way.
     pub fn agreed_len(&self) -> u64
         ensures { (past : List (World M.Command M.Output)) (agreed : List M.Command) →
             Past (rules_by M.opening M.start_of M.after M.gives)
