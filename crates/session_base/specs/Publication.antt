@@ -1,0 +1,47 @@
+-- Publications, and the packets that carry them (MQTT 3.3).
+use Rattle.std.specs.Prelude.{ℕ, Bool, true, false, if◌then◌else◌, nat_lt, Option, Some, None}
+use Rattle.packet.specs.declared.qos.QoS.{QoS}
+use Rattle.packet.specs.declared.qos.QoS.TheVariants as levels
+use Rattle.packet.specs.declared.delivery.Delivery.{Delivery}
+use Rattle.packet.specs.declared.delivery.Delivery.TheVariants as deliveries
+use Rattle.packet.specs.declared.publish.Publish.{Publish}
+use Rattle.packet.specs.QoS.{qos_number}
+use Rattle.packet.specs.Delivery.{delivery_qos}
+use Rattle.session_base.specs.declared.publication.Publication.{Publication}
+
+-- what this PUBLISH carries
+abbrev pub publication_of : Publish → Publication
+publication_of p =
+    record { retain = p.retain; qos = delivery_qos p.delivery; topic = p.topic; payload = p.payload }
+
+-- how it is delivered at this QoS, with DUP and identifier where the QoS has them
+abbrev pub delivery_at : QoS → Bool → ℕ → Delivery
+delivery_at levels.AtMostOnce dup id = deliveries.AtMostOnce
+delivery_at levels.AtLeastOnce dup id = deliveries.AtLeastOnce dup id
+delivery_at levels.ExactlyOnce dup id = deliveries.ExactlyOnce dup id
+
+-- the PUBLISH that carries it
+abbrev pub publish_of : Bool → ℕ → Publication → Publish
+publish_of dup id p =
+    record { topic = p.topic; delivery = delivery_at p.qos dup id; retain = p.retain; payload = p.payload }
+
+-- whether it goes into a queue: QoS 1 and 2 are answered
+abbrev pub is_answered : QoS → Bool
+is_answered levels.AtMostOnce = false
+is_answered levels.AtLeastOnce = true
+is_answered levels.ExactlyOnce = true
+
+-- whether PUBACK is the whole answer
+abbrev pub is_acknowledged : QoS → Bool
+is_acknowledged levels.AtMostOnce = false
+is_acknowledged levels.AtLeastOnce = true
+is_acknowledged levels.ExactlyOnce = false
+
+-- the lower QoS of two
+abbrev pub lower_qos : QoS → QoS → QoS
+lower_qos q r = if nat_lt (qos_number r) (qos_number q) then r else q
+
+-- the greater QoS of two, of which the second may be missing
+abbrev pub greater_qos : QoS → Option QoS → QoS
+greater_qos q None = q
+greater_qos q (Some r) = if nat_lt (qos_number q) (qos_number r) then r else q
