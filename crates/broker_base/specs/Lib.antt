@@ -4,7 +4,6 @@ pub mod Logged
 pub mod Place
 pub mod Past
 pub mod Owner
-pub mod Publication
 pub mod Subscriptions
 pub mod Received
 pub mod Retained
