@@ -1,0 +1,5 @@
+pub mod AnswersInFlight
+pub mod CountedIdentifiers
+pub mod SoundEntries
+pub mod SoundStarts
+pub mod PubrecInFlight

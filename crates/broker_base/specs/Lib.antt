@@ -1,3 +1,5 @@
+pub mod Kept
+pub mod KeptStep
 pub mod Connection
 pub mod Sized
 pub mod Logged
