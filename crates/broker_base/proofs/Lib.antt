@@ -3,3 +3,4 @@ pub mod CountedIdentifiers
 pub mod SoundEntries
 pub mod SoundStarts
 pub mod PubrecInFlight
+pub mod StartsInFlight

@@ -16,6 +16,7 @@ use Rattle.broker_base.specs.Times.{at_pubrec}
 use Rattle.broker_base.specs.Kept.{sent_flights, released_flight, flights_below}
 use Rattle.broker_base.proofs.CountedIdentifiers.{one_if, count}
 use Rattle.broker_base.proofs.SoundEntries.{IsBelow, Sound}
+use Rattle.broker_base.proofs.StartsInFlight.{append_none}
 use Rattle.broker_base.proofs.AnswersInFlight.{filter_out, filter_all_is, awaits_pubrec_is, not_released}
 
 other_place : (release n : ℕ) → release < n → (release == n) ≡ false
@@ -54,9 +55,6 @@ none_released n (Entry.Started made p id start ∷ es) h = none_released n es h.
 none_released n (Entry.Released made p id start release ∷ es) h = rw (other_place release n h.2, none_released n es h.3) refl
 none_released n (Entry.Finished made p id start release finish ∷ es) h = none_released n es h.1
 
-append_none : {A : Type 0} (xs : List A) → xs ++ [] ≡ xs
-append_none [] = refl
-append_none (x ∷ xs) = ap (λ ys. x ∷ ys) (append_none xs)
 
 pub released_more : (n : ℕ) (es : List Entry) → IsBelow n es → released_below (suc n) es ≡ released_below n es
 released_more n es h = ap (λ ids. released_below n es ++ ids) (none_released n es h) ∙ append_none (released_below n es)
