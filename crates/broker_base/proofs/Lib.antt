@@ -4,3 +4,4 @@ pub mod SoundEntries
 pub mod SoundStarts
 pub mod PubrecInFlight
 pub mod StartsInFlight
+pub mod KeptAfter
