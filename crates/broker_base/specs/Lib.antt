@@ -1,3 +1,7 @@
+pub mod State
+pub mod Decisions
+pub mod StepAnswers
+pub mod Step
 pub mod Kept
 pub mod KeptStep
 pub mod Connection

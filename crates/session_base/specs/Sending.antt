@@ -20,14 +20,14 @@ fill_sends window in_flight (p ∷ waiting) =
 fill_sends window in_flight [] = []
 
 -- what a client that comes back is sent of an entry: PUBREL for a released one, else PUBLISH with DUP 1 (MQTT 4.4)
-abbrev pub sent_again : ℕ → Awaits → Packet
-sent_again id (waits_for.Puback p) = packets.Publish (publish_of true id p)
-sent_again id (waits_for.Pubrec p) = packets.Publish (publish_of true id p)
-sent_again id waits_for.Pubcomp = packets.Pubrel id
+abbrev pub sent_anew : ℕ → Awaits → Packet
+sent_anew id (waits_for.Puback p) = packets.Publish (publish_of true id p)
+sent_anew id (waits_for.Pubrec p) = packets.Publish (publish_of true id p)
+sent_anew id waits_for.Pubcomp = packets.Pubrel id
 
 -- and of all that is in flight, in its order
 abbrev pub resend : List Flight → List Packet
-resend = map (λ flight. sent_again flight.0 flight.1)
+resend = map (λ flight. sent_anew flight.0 flight.1)
 
 -- PUBREC is answered by PUBREL where it released an entry, and where the entry was released before (MQTT 4.3.3)
 abbrev pub pubrec_sends : ℕ → List Flight → List Packet
