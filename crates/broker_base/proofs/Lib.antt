@@ -5,3 +5,5 @@ pub mod SoundStarts
 pub mod PubrecInFlight
 pub mod StartsInFlight
 pub mod KeptAfter
+pub mod SendsOfStarts
+pub mod SendsOfCopies

@@ -128,7 +128,7 @@ pub released_started : (t w n : ℕ) (ids : List ℕ) (es : List Entry) → rele
 released_started zero w n ids es = refl
 released_started (suc t) w n ids es = ap₂ (λ xs ys. xs ++ ys) (released_started t w n ids es) (released_at_started t w n ids es)
 
-same_next : (fs : List Flight) (ids : List ℕ) (p : Publication) → SameIds (ids_of fs) ids → SameIds (ids_of (fs ++ started_flight fs p ∷ [])) (least_free ids ∷ ids)
+pub same_next : (fs : List Flight) (ids : List ℕ) (p : Publication) → SameIds (ids_of fs) ids → SameIds (ids_of (fs ++ started_flight fs p ∷ [])) (least_free ids ∷ ids)
 same_next fs ids p same test =
     ap (count test) (map-append (λ (flight : Flight). flight.0) fs (started_flight fs p ∷ []))
     ∙ count-append test (ids_of fs) (least_free (ids_of fs) ∷ [])
@@ -161,7 +161,7 @@ fill_waits w n ids fs (Entry.Started made p id start ∷ es) h same = absurd h
 fill_waits w n ids fs (Entry.Released made p id start release ∷ es) h same = absurd h
 fill_waits w n ids fs (Entry.Finished made p id start release finish ∷ es) h same = absurd h
 
-moved : (test : ℕ → Bool) (id : ℕ) (others ids : List ℕ) → count test (id ∷ others ++ ids) ≡ count test (others ++ id ∷ ids)
+pub moved : (test : ℕ → Bool) (id : ℕ) (others ids : List ℕ) → count test (id ∷ others ++ ids) ≡ count test (others ++ id ∷ ids)
 moved test id others ids = omega (arith, count-append test others ids, count-append test others (id ∷ ids))
 
 pub fill_started : (w n : ℕ) (ids : List ℕ) (fs : List Flight) (es : List Entry) → InOrder es → SameIds (ids_of fs) (busy_ids es ++ ids) →
