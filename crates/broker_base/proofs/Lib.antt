@@ -7,3 +7,5 @@ pub mod StartsInFlight
 pub mod KeptAfter
 pub mod SendsOfStarts
 pub mod SendsOfCopies
+pub mod QuietPasts
+pub mod AnswersOfSessions
