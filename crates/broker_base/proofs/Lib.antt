@@ -9,3 +9,5 @@ pub mod SendsOfStarts
 pub mod SendsOfCopies
 pub mod QuietPasts
 pub mod AnswersOfSessions
+pub mod SessionsInOrder
+pub mod OthersStay
