@@ -11,3 +11,6 @@ pub mod QuietPasts
 pub mod AnswersOfSessions
 pub mod SessionsInOrder
 pub mod OthersStay
+pub mod SessionsAfter
+pub mod DecisionsStand
+pub mod AnswersStand
