@@ -14,3 +14,4 @@ pub mod OthersStay
 pub mod SessionsAfter
 pub mod DecisionsStand
 pub mod AnswersStand
+pub mod StepByStep

@@ -105,7 +105,7 @@ kept_stays w place content c kept not_ended not_about quiet =
 -- ---- of a past
 
 -- what is kept after a place that does not touch it, of plain values
-stays_with : (limits : Limits) (later : ℕ) → IsWindow limits later → (place : Place) (past : Past) (c : Client) (clean : Bool) →
+pub stays_with : (limits : Limits) (later : ℕ) → IsWindow limits later → (place : Place) (past : Past) (c : Client) (clean : Bool) →
     touches place c (current_connection past c) ≡ false →
     kept_after (window_at limits (place ∷ past)) place (retained_publications past) c
       (kept_with (length past) (Some clean) (current_connection past c) (subscriptions_of past c) (received_of past c) (entries_of limits past c))

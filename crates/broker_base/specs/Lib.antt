@@ -1,3 +1,4 @@
+pub mod StepLaws
 pub mod State
 pub mod Decisions
 pub mod StepAnswers

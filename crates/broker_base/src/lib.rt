@@ -5,7 +5,11 @@
 mod command;
 mod connection_id;
 mod sized_packet;
+mod step_laws;
 
 pub use command::{Answer, Command};
 pub use connection_id::ConnectionId;
 pub use sized_packet::{SizedPacket, TooLarge};
+pub use step_laws::{
+    decisions_stand_for, list_stands_for, others_stay, session_step, step_stands_for,
+};
