@@ -1,12 +1,10 @@
 -- What PUBACK and PUBCOMP do to the entries is what they do to the queue (MQTT 4.3.2, 4.3.3).
-use Rattle.std.proofs.Common.{◌≡◌, ℕ, ◌<◌, zero, suc, Bool, true, false, not, ◌&&◌, ◌==◌, if◌then◌else◌, Option, Some, None, List, [], ◌∷◌, ◌++◌, length, map, filter, refl, ap, ap₂, ◌∙◌, sym, arith}
-use Rattle.std.proofs.lemmas.List.{map-append}
+use Rattle.std.proofs.Common.{◌≡◌, ℕ, zero, suc, Bool, true, false, not, ◌&&◌, ◌==◌, if◌then◌else◌, Some, None, List, [], ◌∷◌, ◌++◌, map, filter, refl, ap, ap₂, ◌∙◌, sym}
 use Rattle.std.proofs.lemmas.List.Elements.{filter-append}
 use Rattle.session_base.specs.declared.publication.Publication.{Publication}
-use Rattle.session_base.specs.declared.awaits.Awaits.{Awaits}
 use Rattle.session_base.specs.declared.awaits.Awaits.TheVariants as waits_for
 use Rattle.session_base.specs.Publication.{is_acknowledged}
-use Rattle.session_base.specs.Queue.{Flight, awaited, is_puback, is_pubrec, is_pubcomp, awaits_puback, awaits_pubrec, awaits_pubcomp, on_puback, on_pubcomp}
+use Rattle.session_base.specs.Queue.{awaited, is_puback, is_pubrec, is_pubcomp, awaits_puback, awaits_pubrec, awaits_pubcomp, on_puback, on_pubcomp}
 use Rattle.broker_base.specs.Entries.{Entry}
 use Rattle.broker_base.specs.Readings.{released_at, released_below, waiting_of}
 use Rattle.broker_base.specs.Times.{at_puback, at_pubrec, at_pubcomp}
@@ -25,7 +23,7 @@ pub filter_map_is : {A B : Type 0} (f : A → B) (p : B → Bool) (q : A → Boo
 filter_map_is f p q h [] = refl
 filter_map_is f p q h (x ∷ xs) =
     rw (h x, filter_map_is f p q h xs)
-      elim (q x) as (λ b. (if b then f x ∷ map f (filter q xs) else map f (filter q xs)) ≡ map f (if b then x ∷ filter q xs else filter q xs)) [ true ↦ refl | false ↦ refl ]
+    elim (q x) as (λ b. (if b then f x ∷ map f (filter q xs) else map f (filter q xs)) ≡ map f (if b then x ∷ filter q xs else filter q xs)) [ true ↦ refl | false ↦ refl ]
 
 -- a filter that lets all pass
 pub filter_all_is : {A : Type 0} (p : A → Bool) → ((x : A) → p x ≡ true) → (xs : List A) → filter p xs ≡ xs
@@ -136,7 +134,7 @@ released_at_pubcomp t n i (Entry.Released made p id start release ∷ es) =
     one (i == id) (release == t) refl
     ∙ ap (λ xs. if release == t then (if i == id then xs else id ∷ xs) else xs) (released_at_pubcomp t n i es)
     ∙ ap (λ xs. if release == t then xs else filter (λ other. not (i == other)) (released_at t es))
-      (sym (filter_out (λ other. i == other) id (released_at t es) (i == id) refl))
+    (sym (filter_out (λ other. i == other) id (released_at t es) (i == id) refl))
     ∙ sym (filter_if (λ other. not (i == other)) (release == t) id (released_at t es))
   where
     one : (b r : Bool) → (release == t) ≡ r →
@@ -166,7 +164,7 @@ pub flights_pubcomp : (t n i : ℕ) (es : List Entry) → flights_below t (map (
 flights_pubcomp t n i es =
     ap₂ (λ xs ys. map released_flight xs ++ ys) (released_pubcomp t n i es) (sent_pubcomp n i es ∙ sym (pubcomp_of_sent i es))
     ∙ ap (λ xs. xs ++ on_pubcomp i (sent_flights es))
-      (sym (filter_map_is released_flight (λ flight. not (awaits_pubcomp i flight)) (λ id. not (i == id)) (λ id. ap not (and_yes (i == id))) (released_below t es)))
+    (sym (filter_map_is released_flight (λ flight. not (awaits_pubcomp i flight)) (λ id. not (i == id)) (λ id. ap not (and_yes (i == id))) (released_below t es)))
     ∙ sym (filter-append (λ flight. not (awaits_pubcomp i flight)) (map released_flight (released_below t es)) (sent_flights es))
 
 -- ---- what waits

@@ -1,5 +1,5 @@
 -- The answers that the state gives at a place are those that the past gives.
-use Rattle.std.proofs.Common.{◌≡◌, ℕ, Bool, true, false, not, ◌&&◌, if◌then◌else◌, Option, Some, None, List, [], ◌∷◌, ◌++◌, length, map, filter, refl, ap, ap₂, ◌∙◌, sym, subst}
+use Rattle.std.proofs.Common.{◌≡◌, ℕ, Bool, true, false, not, ◌&&◌, if◌then◌else◌, Option, Some, None, List, [], ◌∷◌, ◌++◌, length, map, filter, refl, ap, ap₂, ◌∙◌, sym}
 use Rattle.std.specs.Prelude.{option_map, is_some, flat_map}
 use Rattle.packet.specs.declared.packet.Packet.{Packet}
 use Rattle.packet.specs.declared.packet.Packet.TheVariants as packets
@@ -7,21 +7,20 @@ use Rattle.packet.specs.declared.publish.Publish.{Publish}
 use Rattle.session_base.specs.Queue.{on_puback, on_pubcomp}
 use Rattle.session_base.specs.Sending.{fill_sends}
 use Rattle.broker_base.specs.Connection.{ConnectionName, same_connection}
-use Rattle.broker_base.specs.Place.{Client, same_client, Mark, Place, Past, Limits, only_if}
+use Rattle.broker_base.specs.Place.{Client, Mark, Place, Past, Limits, only_if}
 use Rattle.broker_base.specs.Past.{any_connection, current_connection, session_of, is_beginning, begins_session}
 use Rattle.broker_base.specs.Owner.{named}
 use Rattle.broker_base.specs.Retained.{retained_publications}
 use Rattle.broker_base.specs.Times.{at_pubrec, window_at, entries_of}
 use Rattle.broker_base.specs.Sends.{deliveries_to}
-use Rattle.broker_base.specs.Answers.{closed, welcome, acknowledged, codes_of, handled, packet_answers, connect_answers, answers_by, answers_at}
+use Rattle.broker_base.specs.Answers.{welcome, acknowledged, codes_of, handled, packet_answers, connect_answers, answers_by, answers_at}
 use Rattle.broker_base.specs.Kept.{Kept, kept_of}
-use Rattle.broker_base.specs.State.{Sessions, keyed, table, session_in, state_of}
+use Rattle.broker_base.specs.State.{keyed, table, state_of}
 use Rattle.broker_base.specs.Step.{IsWindow}
-use Rattle.broker_base.specs.StepAnswers.{copies_answered, copies_to, while_connected, handled_of, handled_in, packet_answers_in, connection_of, resumed, connect_answers_in, answers_by_state}
+use Rattle.broker_base.specs.StepAnswers.{copies_answered, copies_to, while_connected, handled_of, handled_in, packet_answers_in, connect_answers_in, answers_by_state}
 use Rattle.broker_base.specs.declared.command.Command.{Command}
 use Rattle.broker_base.specs.declared.command.Command.TheVariants as commands
-use Rattle.broker_base.specs.declared.command.Answer.{Answer}
-use Rattle.broker_base.specs.declared.command.Answer.TheVariants.{Send, Close}
+use Rattle.broker_base.specs.declared.command.Answer.TheVariants.{Send}
 use Rattle.broker_base.proofs.SessionsInOrder.{same_self}
 use Rattle.broker_base.proofs.SessionsAfter.{at, session_is}
 use Rattle.broker_base.proofs.OthersStay.{same_window}
@@ -45,20 +44,21 @@ to_all : (limits : Limits) (later : ℕ) → IsWindow limits later → (past : P
 to_all limits later follows past x p owner [] = refl
 to_all limits later follows past x p owner (d ∷ ds) =
     by (session_of past d) (to_all limits later follows past x p owner ds)
-      (sym (deliveries_are limits (at (commands.Packet x (packets.Publish p)) (Mark.Taken owner)) past d refl (not_ending x (current_connection past d)) refl
-        (same_window limits later follows (at (commands.Packet x (packets.Publish p)) (Mark.Taken owner)) past refl)))
+    (sym (deliveries_are limits (at (commands.Packet x (packets.Publish p)) (Mark.Taken owner)) past d refl (not_ending x (current_connection past d)) refl
+    (same_window limits later follows (at (commands.Packet x (packets.Publish p)) (Mark.Taken owner)) past refl)))
   where
     place : Place
     place = at (commands.Packet x (packets.Publish p)) (Mark.Taken owner)
+
     by : (session : Option Bool) →
         flat_map (copies_answered (window_at limits (at (commands.Packet x (packets.Publish p)) (Mark.Taken owner) ∷ past)) (at (commands.Packet x (packets.Publish p)) (Mark.Taken owner)) (retained_publications past)) (table (kept_of limits past) ds)
-          ≡ flat_map (deliveries_to limits (at (commands.Packet x (packets.Publish p)) (Mark.Taken owner)) past) (filter (λ c. is_some (session_of past c)) ds) →
+        ≡ flat_map (deliveries_to limits (at (commands.Packet x (packets.Publish p)) (Mark.Taken owner)) past) (filter (λ c. is_some (session_of past c)) ds) →
         copies_to (window_at limits (at (commands.Packet x (packets.Publish p)) (Mark.Taken owner) ∷ past)) (at (commands.Packet x (packets.Publish p)) (Mark.Taken owner)) (retained_publications past) d (option_map (kept_now limits past d) session)
-          ≡ deliveries_to limits (at (commands.Packet x (packets.Publish p)) (Mark.Taken owner)) past d →
+        ≡ deliveries_to limits (at (commands.Packet x (packets.Publish p)) (Mark.Taken owner)) past d →
         flat_map (copies_answered (window_at limits (at (commands.Packet x (packets.Publish p)) (Mark.Taken owner) ∷ past)) (at (commands.Packet x (packets.Publish p)) (Mark.Taken owner)) (retained_publications past))
-          (keyed d (option_map (kept_now limits past d) session) (table (kept_of limits past) ds))
+        (keyed d (option_map (kept_now limits past d) session) (table (kept_of limits past) ds))
         ≡ flat_map (deliveries_to limits (at (commands.Packet x (packets.Publish p)) (Mark.Taken owner)) past)
-          (if is_some session then d ∷ filter (λ c. is_some (session_of past c)) ds else filter (λ c. is_some (session_of past c)) ds)
+        (if is_some session then d ∷ filter (λ c. is_some (session_of past c)) ds else filter (λ c. is_some (session_of past c)) ds)
     by None e here = e
     by (Some clean) e here = ap₂ (λ xs ys. xs ++ ys) here e
 
@@ -99,7 +99,7 @@ handled_are limits later follows past x c (packets.Pubcomp i) =
 handled_are limits later follows past x c (packets.Pubrec i) =
     ap (map (Send x)) (sym (behind_pubrec (window_at limits (at (commands.Packet x (packets.Pubrec i)) (Mark.Handled c) ∷ past)) i (kept_of limits past c)))
     ∙ sym (pubrec_is limits (at (commands.Packet x (packets.Pubrec i)) (Mark.Handled c)) past c x i refl (not_ending x (current_connection past c)) refl
-        (ap (λ b. if b then map (at_pubrec (length past) i) (entries_of limits past c) else entries_of limits past c) (same_self c)))
+    (ap (λ b. if b then map (at_pubrec (length past) i) (entries_of limits past c) else entries_of limits past c) (same_self c)))
 handled_are limits later follows past x c packet =
     nothing x (window_at limits (at (commands.Packet x packet) (Mark.Handled c) ∷ past)) packet (kept_of limits past c) (λ kept. refl)
 
@@ -111,9 +111,9 @@ packet_answers_are limits later follows past x (packets.Publish p) (Mark.Taken c
 packet_answers_are limits later follows past x (packets.Publish p) (Mark.Repeat c) = refl
 packet_answers_are limits later follows past x (packets.Subscribe s) (Mark.Granted c which) =
     ap (λ answers. Send x (packets.Suback (record { id = s.id; codes = codes_of s.filters which })) ∷ answers)
-      (ap (copies_to (window_at limits (at (commands.Packet x (packets.Subscribe s)) (Mark.Granted c which) ∷ past)) (at (commands.Packet x (packets.Subscribe s)) (Mark.Granted c which)) (retained_publications past) c) (session_is limits past c)
-      ∙ sym (deliveries_are limits (at (commands.Packet x (packets.Subscribe s)) (Mark.Granted c which)) past c refl (not_ending x (current_connection past c)) refl
-        (same_window limits later follows (at (commands.Packet x (packets.Subscribe s)) (Mark.Granted c which)) past refl)))
+    (ap (copies_to (window_at limits (at (commands.Packet x (packets.Subscribe s)) (Mark.Granted c which) ∷ past)) (at (commands.Packet x (packets.Subscribe s)) (Mark.Granted c which)) (retained_publications past) c) (session_is limits past c)
+    ∙ sym (deliveries_are limits (at (commands.Packet x (packets.Subscribe s)) (Mark.Granted c which)) past c refl (not_ending x (current_connection past c)) refl
+    (same_window limits later follows (at (commands.Packet x (packets.Subscribe s)) (Mark.Granted c which)) past refl)))
 packet_answers_are limits later follows past x packet (Mark.Handled c) =
     ap (λ old. handled_in (window_at limits (at (commands.Packet x packet) (Mark.Handled c) ∷ past)) x old packet) (session_is limits past c)
     ∙ handled_are limits later follows past x c packet
@@ -133,10 +133,10 @@ accepted_are : (limits : Limits) (past : Past) (x : ConnectionName) (c : Client)
     ≡ connect_answers limits (at (commands.Connect x c clean) Mark.Accepted) past x c Mark.Accepted
 accepted_are limits past x c clean =
     ap₂ (λ first rest. first ++ rest) (sym (closed_is limits past c))
-      (ap₂ (λ begun rest. welcome x (not begun) ∷ rest)
-        (ap (begins_session clean) (flag_is limits past c)
-          ∙ ap (λ b. is_beginning (only_if b (Some (x, clean))) (session_of past c)) (sym (same_self c)))
-        (sym (resumed_is limits past c x clean (at (commands.Connect x c clean) Mark.Accepted) (ap (λ b. only_if b (Some (x, clean))) (same_self c)) refl refl)))
+    (ap₂ (λ begun rest. welcome x (not begun) ∷ rest)
+    (ap (begins_session clean) (flag_is limits past c)
+    ∙ ap (λ b. is_beginning (only_if b (Some (x, clean))) (session_of past c)) (sym (same_self c)))
+    (sym (resumed_is limits past c x clean (at (commands.Connect x c clean) Mark.Accepted) (ap (λ b. only_if b (Some (x, clean))) (same_self c)) refl refl)))
 
 connect_answers_are : (limits : Limits) (past : Past) (x : ConnectionName) (c : Client) (clean : Bool) (mark : Mark) →
     connect_answers_in (window_at limits (at (commands.Connect x c clean) mark ∷ past)) x clean (kept_of limits past c) mark

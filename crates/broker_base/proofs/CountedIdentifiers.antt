@@ -1,6 +1,6 @@
 -- Identifiers are counted: lists with the same counts have one length and one least free number, and the least
 -- free number is not in its list.
-use Rattle.std.proofs.Common.{◌≡◌, ℕ, ◌+◌, ◌<◌, ◌≤◌, zero, suc, Bool, true, false, not, ◌&&◌, ◌||◌, ◌==◌, nat_le, if◌then◌else◌, List, [], ◌∷◌, ◌++◌, length, refl, ap, ap₂, ◌∙◌, sym, arith}
+use Rattle.std.proofs.Common.{◌≡◌, ℕ, ◌+◌, ◌≤◌, zero, suc, Bool, true, false, not, ◌||◌, ◌==◌, nat_le, if◌then◌else◌, List, [], ◌∷◌, ◌++◌, length, refl, ap, ap₂, ◌∙◌, sym, arith}
 use Rattle.session_base.specs.Identifiers.{has_id, free_from, least_free}
 
 -- 1 where the test holds
@@ -35,6 +35,7 @@ has_counted i (id ∷ ids) = one (i == id) (has_counted i ids) ∙ sym (two (i =
     one : (b : Bool) → has_id i ids ≡ not (count (λ other. i == other) ids == 0) → (b || has_id i ids) ≡ (if b then true else not (count (λ other. i == other) ids == 0))
     one true e = refl
     one false e = e
+
     two : (b : Bool) → not (one_if b + count (λ other. i == other) ids == 0) ≡ (if b then true else not (count (λ other. i == other) ids == 0))
     two true = grind arith
     two false = grind arith

@@ -1,5 +1,5 @@
 -- What the state decides of a command is what the past decides.
-use Rattle.std.proofs.Common.{◌≡◌, ℕ, ◌+◌, ◌-◌, zero, suc, Bool, true, false, not, ◌&&◌, ◌||◌, ◌==◌, nat_lt, if◌then◌else◌, Option, Some, None, List, [], ◌∷◌, ◌++◌, length, map, filter, refl, ap, ap₂, ◌∙◌, sym, subst, arith}
+use Rattle.std.proofs.Common.{◌≡◌, ℕ, ◌+◌, ◌-◌, suc, Bool, true, false, ◌&&◌, ◌||◌, ◌==◌, nat_lt, if◌then◌else◌, Option, Some, None, List, [], ◌∷◌, length, filter, refl, ap, ap₂, ◌∙◌, sym, arith}
 use Rattle.std.specs.Prelude.{option_map, is_some}
 use Rattle.std.specs.List.{list_any}
 use Rattle.std.proofs.lemmas.List.{length-map}
@@ -9,11 +9,11 @@ use Rattle.packet.specs.declared.packet.Packet.{Packet}
 use Rattle.packet.specs.declared.packet.Packet.TheVariants as packets
 use Rattle.session_base.specs.declared.publication.Publication.{Publication}
 use Rattle.session_base.specs.Publication.{publication_of}
-use Rattle.session_base.specs.Queue.{Flight, Queue, ids_of, room}
+use Rattle.session_base.specs.Queue.{Flight, ids_of, room}
 use Rattle.broker_base.specs.Connection.{ConnectionName, same_connection}
-use Rattle.broker_base.specs.Place.{Client, Mark, Place, Past, Limits}
+use Rattle.broker_base.specs.Place.{Client, Mark, Past, Limits}
 use Rattle.broker_base.specs.Past.{any_connection, current_connection, session_of}
-use Rattle.broker_base.specs.Owner.{named, clients, first_client, owner_of}
+use Rattle.broker_base.specs.Owner.{named, first_client}
 use Rattle.broker_base.specs.Subscriptions.{subscriptions_of, effective_qos}
 use Rattle.broker_base.specs.Received.{received_of, is_repeat}
 use Rattle.broker_base.specs.Retained.{retained_publications, is_retained_over}
@@ -22,14 +22,14 @@ use Rattle.broker_base.specs.Readings.{waiting_of, busy_ids}
 use Rattle.broker_base.specs.Times.{entries_of, room_of}
 use Rattle.broker_base.specs.Marks.{is_queued_at, lacks_room, is_refused, grants, packet_mark, packet_mark_of, connect_mark, mark_of}
 use Rattle.broker_base.specs.Kept.{Kept, flights_below, queue_of, kept_of}
-use Rattle.broker_base.specs.State.{Sessions, State, keyed, table, session_in, owner_in, state_of}
+use Rattle.broker_base.specs.State.{keyed, table, owner_in, state_of}
 use Rattle.broker_base.specs.Decisions.{is_full_for, refuses, is_again, owned_mark, packet_mark_in, connect_mark_in, mark_in}
 use Rattle.broker_base.specs.declared.command.Command.{Command}
 use Rattle.broker_base.specs.declared.command.Command.TheVariants as commands
 use Rattle.broker_base.proofs.CountedIdentifiers.{same_length}
 use Rattle.broker_base.proofs.SoundEntries.{Sound}
 use Rattle.broker_base.proofs.StartsInFlight.{same_ids}
-use Rattle.broker_base.proofs.KeptAfter.{sound_entries, kept_with}
+use Rattle.broker_base.proofs.KeptAfter.{sound_entries}
 use Rattle.broker_base.proofs.SessionsAfter.{session_is}
 
 -- ---- room
@@ -44,7 +44,7 @@ all_held (Entry.Finished made p id start release finish ∷ es) = all_held es
 held_is : (n : ℕ) (es : List Entry) → Sound n es → length (flights_below n es) + length (waiting_of es) ≡ length (filter is_unfinished es)
 held_is n es s =
     ap (λ k. k + length (waiting_of es))
-      (sym (length-map (flights_below n es) (λ (flight : Flight). flight.0)) ∙ same_length (ids_of (flights_below n es)) (busy_ids es) (same_ids n es s.below))
+    (sym (length-map (flights_below n es) (λ (flight : Flight). flight.0)) ∙ same_length (ids_of (flights_below n es)) (busy_ids es) (same_ids n es s.below))
     ∙ all_held es
 
 pub room_is : (limits : Limits) (past : Past) (c : Client) → room limits.entries (queue_of (length past) (entries_of limits past c)) ≡ room_of limits past c
@@ -97,14 +97,15 @@ packet_owner limits past x packet (d ∷ ds) = by (session_of past d) (packet_ow
   where
     hit : (b : Bool) (clean : Bool) →
         packet_mark_in limits (state_of limits past) packet (owner_in x (table (kept_of limits past) ds))
-          ≡ packet_mark_of limits past packet (first_client (is_current past x) (filter (λ c. is_some (session_of past c)) ds)) →
+        ≡ packet_mark_of limits past packet (first_client (is_current past x) (filter (λ c. is_some (session_of past c)) ds)) →
         packet_mark_in limits (state_of limits past) packet (if b then Some (d, kept_now limits past d clean) else owner_in x (table (kept_of limits past) ds))
         ≡ packet_mark_of limits past packet (if b then Some d else first_client (is_current past x) (filter (λ c. is_some (session_of past c)) ds))
     hit true clean e = owned_is limits past d clean packet
     hit false clean e = e
+
     by : (session : Option Bool) →
         packet_mark_in limits (state_of limits past) packet (owner_in x (table (kept_of limits past) ds))
-          ≡ packet_mark_of limits past packet (first_client (is_current past x) (filter (λ c. is_some (session_of past c)) ds)) →
+        ≡ packet_mark_of limits past packet (first_client (is_current past x) (filter (λ c. is_some (session_of past c)) ds)) →
         packet_mark_in limits (state_of limits past) packet (owner_in x (keyed d (option_map (kept_now limits past d) session) (table (kept_of limits past) ds)))
         ≡ packet_mark_of limits past packet (first_client (is_current past x) (if is_some session then d ∷ filter (λ c. is_some (session_of past c)) ds else filter (λ c. is_some (session_of past c)) ds))
     by None e = e
@@ -134,19 +135,20 @@ connect_owner : (limits : Limits) (past : Past) (x : ConnectionName) (c : Client
     ≡ connect_mark limits past c (first_client (is_current past x) (filter (λ c. is_some (session_of past c)) ds))
 connect_owner limits past x c [] =
     ap₂ (λ a k. if a || nat_lt k limits.sessions then Mark.Accepted else Mark.Full)
-      (ap is_some (session_is limits past c) ∙ has_session limits past c) (table_length limits past (named past))
+    (ap is_some (session_is limits past c) ∙ has_session limits past c) (table_length limits past (named past))
 connect_owner limits past x c (d ∷ ds) = by (session_of past d) (connect_owner limits past x c ds)
   where
     hit : (b : Bool) (clean : Bool) →
         connect_mark_in limits (state_of limits past) c (owner_in x (table (kept_of limits past) ds))
-          ≡ connect_mark limits past c (first_client (is_current past x) (filter (λ c. is_some (session_of past c)) ds)) →
+        ≡ connect_mark limits past c (first_client (is_current past x) (filter (λ c. is_some (session_of past c)) ds)) →
         connect_mark_in limits (state_of limits past) c (if b then Some (d, kept_now limits past d clean) else owner_in x (table (kept_of limits past) ds))
         ≡ connect_mark limits past c (if b then Some d else first_client (is_current past x) (filter (λ c. is_some (session_of past c)) ds))
     hit true clean e = refl
     hit false clean e = e
+
     by : (session : Option Bool) →
         connect_mark_in limits (state_of limits past) c (owner_in x (table (kept_of limits past) ds))
-          ≡ connect_mark limits past c (first_client (is_current past x) (filter (λ c. is_some (session_of past c)) ds)) →
+        ≡ connect_mark limits past c (first_client (is_current past x) (filter (λ c. is_some (session_of past c)) ds)) →
         connect_mark_in limits (state_of limits past) c (owner_in x (keyed d (option_map (kept_now limits past d) session) (table (kept_of limits past) ds)))
         ≡ connect_mark limits past c (first_client (is_current past x) (if is_some session then d ∷ filter (λ c. is_some (session_of past c)) ds else filter (λ c. is_some (session_of past c)) ds))
     by None e = e

@@ -1,11 +1,11 @@
 -- After one more command what is kept of a client's session is the step of what was kept before, for every place.
-use Rattle.std.proofs.Common.{◌≡◌, ℕ, ◌+◌, zero, suc, Bool, true, false, not, ◌&&◌, ◌||◌, ◌==◌, if◌then◌else◌, Option, Some, None, List, [], ◌∷◌, ◌++◌, length, map, refl, ap, ap₂, ◌∙◌, sym, subst}
-use Rattle.std.specs.Prelude.{option_map, is_some}
+use Rattle.std.proofs.Common.{◌≡◌, ℕ, zero, suc, Bool, true, false, not, ◌&&◌, ◌||◌, ◌==◌, if◌then◌else◌, Option, Some, None, List, [], ◌∷◌, ◌++◌, length, map, refl, ap, ap₂, ◌∙◌}
+use Rattle.std.specs.Prelude.{option_map}
 use Rattle.packet.specs.declared.subscribe.Subscription.{Subscription}
 use Rattle.packet.specs.declared.packet.Packet.TheVariants as packets
 use Rattle.retained.specs.Retained.{Content}
 use Rattle.session_base.specs.declared.publication.Publication.{Publication}
-use Rattle.session_base.specs.Queue.{Flight, Queue, awaited, fill, on_puback, on_pubrec, on_pubcomp}
+use Rattle.session_base.specs.Queue.{Flight, awaited, on_puback, on_pubcomp}
 use Rattle.broker_base.specs.Connection.{ConnectionName}
 use Rattle.broker_base.specs.Place.{Client, same_client, Mark, Place, Past, Limits, only_if}
 use Rattle.broker_base.specs.Past.{accepts, ends_any, newest_connection, current_connection, newest_session, session_of, is_beginning, begins, in_session}
@@ -47,9 +47,9 @@ unfolding entries_of
 sound_entries limits [] c = sound_none 0
 sound_entries limits (place ∷ past) c =
     sound_in_session (suc (length past)) (session_of (place ∷ past) c) (begins place past c) _
-      (sound_started (window_at limits (place ∷ past)) (length past) (current_connection (place ∷ past) c) _
-        (sound_new (length past) _ (queued (copies_at place past c))
-          (sound_answered place.command place.mark (length past) c (entries_of limits past c) (sound_entries limits past c))))
+    (sound_started (window_at limits (place ∷ past)) (length past) (current_connection (place ∷ past) c) _
+    (sound_new (length past) _ (queued (copies_at place past c))
+    (sound_answered place.command place.mark (length past) c (entries_of limits past c) (sound_entries limits past c))))
 
 -- ---- the queue
 
@@ -116,8 +116,8 @@ queue_after w command mark n c connection es ps s =
     let t : Sound (suc n) (answered_by command mark n c es ++ map (Entry.Waits n) ps) = sound_new n (answered_by command mark n c es) ps (sound_answered command mark n c es s) in
     queue_started w n connection (answered_by command mark n c es ++ map (Entry.Waits n) ps) t.below t.in_order
     ∙ ap₂ (λ fs qs. filled_on connection w fs qs)
-      (flights_new (suc n) n (answered_by command mark n c es) ps ∙ flights_answered command mark n c es s)
-      (waiting_new n (answered_by command mark n c es) ps ∙ ap (λ qs. qs ++ ps) (waiting_answered command mark n c es))
+    (flights_new (suc n) n (answered_by command mark n c es) ps ∙ flights_answered command mark n c es s)
+    (waiting_new n (answered_by command mark n c es) ps ∙ ap (λ qs. qs ++ ps) (waiting_answered command mark n c es))
 
 pub copies_are : (command : Command) (mark : Mark) (past : Past) (c : Client) →
     copies_by command mark past c ≡ copies_with command mark (retained_publications past) c (subscriptions_of past c)
@@ -143,10 +143,10 @@ anew n opened = ap (λ ids. Some (record { clean = opened.1; connection = Some o
 abbrev pub kept_next : ℕ → Place → ℕ → Client → Option (ConnectionName × Bool) → Option Bool → Option ConnectionName → List Subscription → List ℕ → List Entry → List Publication → Option Kept
 kept_next w place n c opened session connection held ids es ps =
     kept_with (suc n) (newest_session opened (ends_any place connection) session) (newest_connection opened (ends_any place connection) connection)
-      (in_session (newest_session opened (ends_any place connection) session) (is_beginning opened session) [] (subscribed place.command place.mark c held))
-      (in_session (newest_session opened (ends_any place connection) session) (is_beginning opened session) [] (received_by place.command place.mark c ids))
-      (in_session (newest_session opened (ends_any place connection) session) (is_beginning opened session) []
-        (started w n (newest_connection opened (ends_any place connection) connection) (answered_by place.command place.mark n c es ++ map (Entry.Waits n) ps)))
+    (in_session (newest_session opened (ends_any place connection) session) (is_beginning opened session) [] (subscribed place.command place.mark c held))
+    (in_session (newest_session opened (ends_any place connection) session) (is_beginning opened session) [] (received_by place.command place.mark c ids))
+    (in_session (newest_session opened (ends_any place connection) session) (is_beginning opened session) []
+    (started w n (newest_connection opened (ends_any place connection) connection) (answered_by place.command place.mark n c es ++ map (Entry.Waits n) ps)))
 
 next_is : (w : ℕ) (place : Place) (content : Content) (n : ℕ) (c : Client) (opened : Option (ConnectionName × Bool)) (session : Option Bool) (connection : Option ConnectionName)
     (held : List Subscription) (ids : List ℕ) (es : List Entry) → Sound n es →
@@ -157,36 +157,36 @@ next_is w place content n c None (Some clean) connection held ids es s = by (cle
   where
     by : (b : Bool) →
         kept_with (suc n) (only_if (not b) (Some clean)) (only_if (not (ends_any place connection)) connection)
-          (in_session (only_if (not b) (Some clean)) false [] (subscribed place.command place.mark c held))
-          (in_session (only_if (not b) (Some clean)) false [] (received_by place.command place.mark c ids))
-          (in_session (only_if (not b) (Some clean)) false []
-            (started w n (only_if (not (ends_any place connection)) connection) (answered_by place.command place.mark n c es ++ map (Entry.Waits n) (queued (copies_with place.command place.mark content c held)))))
+        (in_session (only_if (not b) (Some clean)) false [] (subscribed place.command place.mark c held))
+        (in_session (only_if (not b) (Some clean)) false [] (received_by place.command place.mark c ids))
+        (in_session (only_if (not b) (Some clean)) false []
+        (started w n (only_if (not (ends_any place connection)) connection) (answered_by place.command place.mark n c es ++ map (Entry.Waits n) (queued (copies_with place.command place.mark content c held)))))
         ≡ only_if (not b) (Some (kept_on w place content c clean (only_if (not (ends_any place connection)) connection)
-            (record { clean = clean; connection = connection; subscriptions = held; received = ids; queue = queue_of n es })))
+        (record { clean = clean; connection = connection; subscriptions = held; received = ids; queue = queue_of n es })))
     by true = refl
     by false = ap (λ q. Some (record { clean = clean; connection = only_if (not (ends_any place connection)) connection; subscriptions = subscribed place.command place.mark c held; received = received_by place.command place.mark c ids; queue = q }))
-      (queue_after w place.command place.mark n c (only_if (not (ends_any place connection)) connection) es (queued (copies_with place.command place.mark content c held)) s)
+        (queue_after w place.command place.mark n c (only_if (not (ends_any place connection)) connection) es (queued (copies_with place.command place.mark content c held)) s)
 next_is w place content n c (Some opened) None connection held ids es s = anew (suc n) opened
 next_is w place content n c (Some opened) (Some clean) connection held ids es s = by (opened.1 || clean)
   where
     by : (b : Bool) →
         kept_with (suc n) (Some opened.1) (Some opened.0)
-          (in_session (Some opened.1) b [] (subscribed place.command place.mark c held))
-          (in_session (Some opened.1) b [] (received_by place.command place.mark c ids))
-          (in_session (Some opened.1) b []
-            (started w n (Some opened.0) (answered_by place.command place.mark n c es ++ map (Entry.Waits n) (queued (copies_with place.command place.mark content c held)))))
+        (in_session (Some opened.1) b [] (subscribed place.command place.mark c held))
+        (in_session (Some opened.1) b [] (received_by place.command place.mark c ids))
+        (in_session (Some opened.1) b []
+        (started w n (Some opened.0) (answered_by place.command place.mark n c es ++ map (Entry.Waits n) (queued (copies_with place.command place.mark content c held)))))
         ≡ Some (if b then kept_anew opened else kept_on w place content c opened.1 (Some opened.0)
-            (record { clean = clean; connection = connection; subscriptions = held; received = ids; queue = queue_of n es }))
+        (record { clean = clean; connection = connection; subscriptions = held; received = ids; queue = queue_of n es }))
     by true = anew (suc n) opened
     by false = ap (λ q. Some (record { clean = opened.1; connection = Some opened.0; subscriptions = subscribed place.command place.mark c held; received = received_by place.command place.mark c ids; queue = q }))
-      (queue_after w place.command place.mark n c (Some opened.0) es (queued (copies_with place.command place.mark content c held)) s)
+        (queue_after w place.command place.mark n c (Some opened.0) es (queued (copies_with place.command place.mark content c held)) s)
 
 pub kept_step : (limits : Limits) (place : Place) (past : Past) (c : Client) →
     kept_of limits (place ∷ past) c ≡ kept_after (window_at limits (place ∷ past)) place (retained_publications past) c (kept_of limits past c)
 unfolding current_connection session_of subscriptions_of received_of entries_of
 kept_step limits place past c =
     ap (λ ps. kept_next (window_at limits (place ∷ past)) place (length past) c (accepts place.command place.mark c) (session_of past c) (current_connection past c)
-        (subscriptions_of past c) (received_of past c) (entries_of limits past c) (queued ps))
-      (copies_are place.command place.mark past c)
+    (subscriptions_of past c) (received_of past c) (entries_of limits past c) (queued ps))
+    (copies_are place.command place.mark past c)
     ∙ next_is (window_at limits (place ∷ past)) place (retained_publications past) (length past) c (accepts place.command place.mark c) (session_of past c) (current_connection past c)
-        (subscriptions_of past c) (received_of past c) (entries_of limits past c) (sound_entries limits past c)
+    (subscriptions_of past c) (received_of past c) (entries_of limits past c) (sound_entries limits past c)

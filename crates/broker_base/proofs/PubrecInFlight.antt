@@ -1,12 +1,10 @@
 -- What PUBREC does to the entries is what it does to the queue: the entry comes behind those released before
 -- (MQTT 4.3.3).
-use Rattle.std.proofs.Common.{◌≡◌, ℕ, ◌+◌, ◌<◌, ◌≤◌, zero, suc, Bool, true, false, not, ◌&&◌, ◌||◌, ◌⊎◌, inl, inr, ◌==◌, if◌then◌else◌, Option, Some, None, List, [], ◌∷◌, ◌++◌, length, map, filter, refl, ap, ap₂, ◌∙◌, sym, subst, arith}
+use Rattle.std.proofs.Common.{◌≡◌, ℕ, ◌+◌, ◌<◌, ◌≤◌, zero, suc, Bool, true, false, not, ◌&&◌, ◌||◌, ◌==◌, if◌then◌else◌, List, [], ◌∷◌, ◌++◌, map, filter, refl, ap, ap₂, ◌∙◌, sym, arith}
 use Rattle.std.specs.List.{list_any}
 use Rattle.std.proofs.lemmas.List.{map-append, append_assoc}
 use Rattle.std.proofs.lemmas.List.Elements.{filter-append}
 use Rattle.std.proofs.lemmas.List.Folds.{list_any-append}
-use Rattle.session_base.specs.declared.publication.Publication.{Publication}
-use Rattle.session_base.specs.declared.awaits.Awaits.{Awaits}
 use Rattle.session_base.specs.declared.awaits.Awaits.TheVariants as waits_for
 use Rattle.session_base.specs.Publication.{is_acknowledged}
 use Rattle.session_base.specs.Queue.{Flight, awaited, is_pubrec, awaits_pubrec, is_released, ids_of, released_with, on_pubrec}
@@ -17,7 +15,7 @@ use Rattle.broker_base.specs.Kept.{sent_flights, released_flight, flights_below}
 use Rattle.broker_base.proofs.CountedIdentifiers.{one_if, count}
 use Rattle.broker_base.proofs.SoundEntries.{IsBelow, Sound}
 use Rattle.broker_base.proofs.StartsInFlight.{append_none}
-use Rattle.broker_base.proofs.AnswersInFlight.{filter_out, filter_all_is, awaits_pubrec_is, not_released}
+use Rattle.broker_base.proofs.AnswersInFlight.{filter_out, awaits_pubrec_is, not_released}
 
 other_place : (release n : ℕ) → release < n → (release == n) ≡ false
 other_place release n h = grind arith
@@ -54,7 +52,6 @@ none_released n (Entry.Waits made p ∷ es) h = none_released n es h.1
 none_released n (Entry.Started made p id start ∷ es) h = none_released n es h.2
 none_released n (Entry.Released made p id start release ∷ es) h = rw (other_place release n h.2, none_released n es h.3) refl
 none_released n (Entry.Finished made p id start release finish ∷ es) h = none_released n es h.1
-
 
 pub released_more : (n : ℕ) (es : List Entry) → IsBelow n es → released_below (suc n) es ≡ released_below n es
 released_more n es h = ap (λ ids. released_below n es ++ ids) (none_released n es h) ∙ append_none (released_below n es)
@@ -131,9 +128,11 @@ find i (flight ∷ fs) h =
     only : (b : Bool) → b ≡ true → one_if b + count (λ id. i == id) (ids_of fs) ≤ 1 → count (λ id. i == id) (ids_of fs) ≡ 0
     only true e k = omega (arith, k)
     only false e k = absurd (cc)
+
     fewer : (b : Bool) → one_if b + count (λ id. i == id) (ids_of fs) ≤ 1 → count (λ id. i == id) (ids_of fs) ≤ 1
     fewer true k = omega (arith, k)
     fewer false k = omega (arith, k)
+
     rest : Found i fs → awaits_pubrec i flight ≡ false → Found i (flight ∷ fs)
     rest (Found.Nothing a b) e = Found.Nothing (rw (e, a) refl) (rw (e, b) refl)
     rest (Found.JustOne a b) e = Found.JustOne (ids_if false i flight fs e ∙ a) (rw (e, b) refl)
@@ -188,10 +187,10 @@ released_with_is : (t i : ℕ) (es : List Entry) → released_with i (flights_be
     ≡ map released_flight (released_below t es) ++ (i, waits_for.Pubcomp) ∷ filter (λ flight. not (awaits_pubrec i flight)) (sent_flights es)
 released_with_is t i es =
     ap₂ (λ xs ys. xs ++ (i, waits_for.Pubcomp) ∷ ys)
-      (filter-append is_released (map released_flight (released_below t es)) (sent_flights es)
-        ∙ ap₂ (λ xs ys. xs ++ ys) (released_all (released_below t es)) (released_of_sent es) ∙ append_none (map released_flight (released_below t es)))
-      (filter-append (λ flight. not (is_released flight) && not (awaits_pubrec i flight)) (map released_flight (released_below t es)) (sent_flights es)
-        ∙ ap₂ (λ xs ys. xs ++ ys) (others_of_released i (released_below t es)) (others_of_sent i es))
+    (filter-append is_released (map released_flight (released_below t es)) (sent_flights es)
+    ∙ ap₂ (λ xs ys. xs ++ ys) (released_all (released_below t es)) (released_of_sent es) ∙ append_none (map released_flight (released_below t es)))
+    (filter-append (λ flight. not (is_released flight) && not (awaits_pubrec i flight)) (map released_flight (released_below t es)) (sent_flights es)
+    ∙ ap₂ (λ xs ys. xs ++ ys) (others_of_released i (released_below t es)) (others_of_sent i es))
 
 count_sent : (test : ℕ → Bool) (es : List Entry) → count test (ids_of (sent_flights es)) ≤ count test (busy_ids es)
 count_sent test [] = omega arith
@@ -203,7 +202,7 @@ count_sent test (Entry.Finished made p id start release finish ∷ es) = count_s
 pub flights_pubrec : (n i : ℕ) (es : List Entry) → Sound n es → flights_below (suc n) (map (at_pubrec n i) es) ≡ on_pubrec i (flights_below n es)
 flights_pubrec n i es s =
     ap₂ (λ xs ys. map released_flight xs ++ ys)
-      (ap₂ (λ xs ys. xs ++ ys) (released_before n n i es (omega arith)) (released_now n i es s.below)) (sent_pubrec n i es)
+    (ap₂ (λ xs ys. xs ++ ys) (released_before n n i es (omega arith)) (released_now n i es s.below)) (sent_pubrec n i es)
     ∙ by (find i (sent_flights es) (omega (arith, count_sent (λ id. i == id) es, s.unique i)))
   where
     by : Found i (sent_flights es) →
@@ -211,7 +210,7 @@ flights_pubrec n i es s =
         ≡ on_pubrec i (flights_below n es)
     by (Found.Nothing a b) =
         ap₂ (λ xs ys. map released_flight xs ++ ys) (ap (λ xs. released_below n es ++ ids_of xs) a ∙ append_none (released_below n es))
-          (no_filter (awaits_pubrec i) (awaits_pubrec i) (sent_flights es) a)
+        (no_filter (awaits_pubrec i) (awaits_pubrec i) (sent_flights es) a)
         ∙ sym (ap (λ b. if b then released_with i (flights_below n es) else flights_below n es) (any_in_flight n i es ∙ b))
     by (Found.JustOne a b) =
         ap (λ xs. map released_flight (released_below n es ++ xs) ++ filter (λ flight. not (awaits_pubrec i flight)) (sent_flights es)) a

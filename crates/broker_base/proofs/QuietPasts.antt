@@ -1,20 +1,19 @@
 -- In every past a connected client's queue is quiet: nothing waits, or the window is full. A client with a
 -- connection has a session. What a place makes of the entries of a session that goes on.
-use Rattle.std.proofs.Common.{◌≡◌, ℕ, ◌+◌, ◌<◌, ◌≤◌, zero, suc, Bool, true, false, not, ◌&&◌, ◌||◌, ◌⊎◌, inl, inr, ◌==◌, nat_lt, if◌then◌else◌, Option, Some, None, List, [], ◌∷◌, ◌++◌, length, map, filter, refl, ap, ap₂, ◌∙◌, sym, subst, arith}
-use Rattle.std.specs.Prelude.{option_map}
+use Rattle.std.proofs.Common.{◌≡◌, ℕ, ◌+◌, ◌≤◌, suc, Bool, true, false, not, ◌&&◌, ◌⊎◌, inl, inr, nat_lt, if◌then◌else◌, Option, Some, None, List, [], ◌∷◌, ◌++◌, length, map, refl, ap, ◌∙◌, sym, arith}
 use Rattle.std.proofs.lemmas.List.{length-map}
 use Rattle.session_base.specs.declared.publication.Publication.{Publication}
 use Rattle.session_base.specs.Identifiers.{least_free}
-use Rattle.session_base.specs.Queue.{Flight, Queue, ids_of, fill}
+use Rattle.session_base.specs.Queue.{Flight, ids_of, fill}
 use Rattle.broker_base.specs.Connection.{ConnectionName}
-use Rattle.broker_base.specs.Place.{Client, Mark, Place, Past, Limits, only_if}
+use Rattle.broker_base.specs.Place.{Client, Place, Past, Limits, only_if}
 use Rattle.broker_base.specs.Past.{accepts, ends_any, newest_connection, current_connection, newest_session, session_of, is_beginning, begins, in_session}
 use Rattle.broker_base.specs.Entries.{Entry, copies_at, queued}
 use Rattle.broker_base.specs.Readings.{waiting_of, busy_ids}
 use Rattle.broker_base.specs.Times.{answered_by, start_all, started, window_at, entries_of}
-use Rattle.broker_base.specs.Kept.{Kept, flights_below, kept_of}
+use Rattle.broker_base.specs.Kept.{flights_below}
 use Rattle.broker_base.proofs.CountedIdentifiers.{same_length}
-use Rattle.broker_base.proofs.SoundEntries.{InOrder, AllWait, Sound}
+use Rattle.broker_base.proofs.SoundEntries.{InOrder, Sound}
 use Rattle.broker_base.proofs.SoundStarts.{order_waits, sound_new}
 use Rattle.broker_base.proofs.StartsInFlight.{same_ids}
 use Rattle.broker_base.proofs.SendsOfCopies.{Quiet, fill_full}
@@ -58,18 +57,18 @@ unfolding entries_of
 quiet_entries limits [] c x e = inl refl
 quiet_entries limits (place ∷ past) c x e =
     let s : Sound (suc (length past)) (answered_by place.command place.mark (length past) c (entries_of limits past c) ++ map (Entry.Waits (length past)) (queued (copies_at place past c)))
-      = sound_new (length past) (answered_by place.command place.mark (length past) c (entries_of limits past c)) (queued (copies_at place past c))
-        (sound_answered place.command place.mark (length past) c (entries_of limits past c) (sound_entries limits past c)) in
+    = sound_new (length past) (answered_by place.command place.mark (length past) c (entries_of limits past c)) (queued (copies_at place past c))
+    (sound_answered place.command place.mark (length past) c (entries_of limits past c) (sound_entries limits past c)) in
     quiet_in (window_at limits (place ∷ past)) (length past) (session_of (place ∷ past) c) (begins place past c) (current_connection (place ∷ past) c) x
-      (answered_by place.command place.mark (length past) c (entries_of limits past c) ++ map (Entry.Waits (length past)) (queued (copies_at place past c))) s.in_order e
+    (answered_by place.command place.mark (length past) c (entries_of limits past c) ++ map (Entry.Waits (length past)) (queued (copies_at place past c))) s.in_order e
 
 pub quiet_queue : (limits : Limits) (past : Past) (c : Client) (x : ConnectionName) → current_connection past c ≡ Some x →
     Quiet (window_at limits past) (flights_below (length past) (entries_of limits past c)) (waiting_of (entries_of limits past c))
 quiet_queue limits past c x e =
     let s : Sound (length past) (entries_of limits past c) = sound_entries limits past c in
     let size : length (flights_below (length past) (entries_of limits past c)) ≡ length (busy_ids (entries_of limits past c)) =
-      sym (length-map (flights_below (length past) (entries_of limits past c)) (λ (flight : Flight). flight.0))
-      ∙ same_length (ids_of (flights_below (length past) (entries_of limits past c))) (busy_ids (entries_of limits past c)) (same_ids (length past) (entries_of limits past c) s.below) in
+    sym (length-map (flights_below (length past) (entries_of limits past c)) (λ (flight : Flight). flight.0))
+    ∙ same_length (ids_of (flights_below (length past) (entries_of limits past c))) (busy_ids (entries_of limits past c)) (same_ids (length past) (entries_of limits past c) s.below) in
     elim (quiet_entries limits past c x e) [ inl k ↦ inl k | inr k ↦ inr (omega (arith, k, size)) ]
 
 -- a quiet queue is filled
@@ -119,8 +118,8 @@ pub entries_next : (limits : Limits) (place : Place) (past : Past) (c : Client) 
 unfolding entries_of session_of current_connection
 entries_next limits place past c clean a b e =
     entries_by (window_at limits (place ∷ past)) (length past) clean
-      (answered_by place.command place.mark (length past) c (entries_of limits past c) ++ map (Entry.Waits (length past)) (queued (copies_at place past c)))
-      (accepts place.command place.mark c) (ends_any place (current_connection past c)) (session_of past c) (current_connection past c) a b e
+    (answered_by place.command place.mark (length past) c (entries_of limits past c) ++ map (Entry.Waits (length past)) (queued (copies_at place past c)))
+    (accepts place.command place.mark c) (ends_any place (current_connection past c)) (session_of past c) (current_connection past c) a b e
 
 none_by : (es : List Entry) (opened : Option (ConnectionName × Bool)) (over : Bool) (session : Option Bool) → opened ≡ None → session ≡ None →
     in_session (newest_session opened over session) (is_beginning opened session) [] es ≡ []
@@ -132,5 +131,5 @@ pub entries_none : (limits : Limits) (place : Place) (past : Past) (c : Client) 
 unfolding entries_of session_of current_connection
 entries_none limits place past c a e =
     none_by (started (window_at limits (place ∷ past)) (length past) (newest_connection (accepts place.command place.mark c) (ends_any place (current_connection past c)) (current_connection past c))
-        (answered_by place.command place.mark (length past) c (entries_of limits past c) ++ map (Entry.Waits (length past)) (queued (copies_at place past c))))
-      (accepts place.command place.mark c) (ends_any place (current_connection past c)) (session_of past c) a e
+    (answered_by place.command place.mark (length past) c (entries_of limits past c) ++ map (Entry.Waits (length past)) (queued (copies_at place past c))))
+    (accepts place.command place.mark c) (ends_any place (current_connection past c)) (session_of past c) a e

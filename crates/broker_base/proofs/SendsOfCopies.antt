@@ -1,25 +1,24 @@
 -- What a connected client is sent of the copies that a place makes is what its queue sends, copy by copy
 -- (MQTT 3.3.5, 3.8.4, 4.6).
-use Rattle.std.proofs.Common.{◌≡◌, ℕ, ◌+◌, ◌<◌, ◌≤◌, zero, suc, Bool, true, false, not, ◌&&◌, ◌⊎◌, inl, inr, ◌==◌, nat_lt, if◌then◌else◌, Option, Some, None, List, [], ◌∷◌, ◌++◌, length, map, filter, refl, ap, ap₂, ◌∙◌, sym, subst, arith}
-use Rattle.std.specs.Prelude.{flat_map, take, drop}
-use Rattle.std.proofs.lemmas.List.{map-append, append_assoc, length-map}
+use Rattle.std.proofs.Common.{◌≡◌, ℕ, ◌<◌, ◌≤◌, Bool, true, false, ◌⊎◌, inl, inr, ◌==◌, nat_lt, if◌then◌else◌, List, [], ◌∷◌, ◌++◌, length, map, refl, ap, ap₂, ◌∙◌, sym, arith}
+use Rattle.std.specs.Prelude.{take, drop}
+use Rattle.std.proofs.lemmas.List.{length-map}
 use Rattle.packet.specs.declared.packet.Packet.TheVariants as packets
 use Rattle.session_base.specs.declared.publication.Publication.{Publication}
 use Rattle.session_base.specs.Publication.{publish_of, is_answered}
 use Rattle.session_base.specs.Identifiers.{least_free}
-use Rattle.session_base.specs.Queue.{Flight, Queue, ids_of, started_flight, enqueue, fill, filled}
+use Rattle.session_base.specs.Queue.{Flight, ids_of, started_flight, fill}
 use Rattle.session_base.specs.Sending.{fill_sends, copies_sent}
 use Rattle.broker_base.specs.Connection.{ConnectionName}
 use Rattle.broker_base.specs.Entries.{Entry, queued}
-use Rattle.broker_base.specs.Readings.{made_of, made_at, waiting_of, busy_ids}
+use Rattle.broker_base.specs.Readings.{made_at, waiting_of, busy_ids}
 use Rattle.broker_base.specs.Times.{start_all}
 use Rattle.broker_base.specs.Sends.{publish, all_started, handed}
-use Rattle.broker_base.specs.declared.command.Answer.{Answer}
 use Rattle.broker_base.specs.declared.command.Answer.TheVariants.{Send}
 use Rattle.broker_base.proofs.CountedIdentifiers.{count, SameIds, same_length, same_least}
 use Rattle.broker_base.proofs.SoundEntries.{IsBelow, AllWait, InOrder}
 use Rattle.broker_base.proofs.SoundStarts.{busy_waits}
-use Rattle.broker_base.proofs.StartsInFlight.{append_none, same_next, moved}
+use Rattle.broker_base.proofs.StartsInFlight.{same_next, moved}
 
 -- ---- a full window
 
@@ -88,15 +87,15 @@ same_size fs ids same = sym (length-map fs (λ (flight : Flight). flight.0)) ∙
 handed_open : (x : ConnectionName) (w n : ℕ) (ids : List ℕ) (fs : List Flight) (ms : List Publication) (p : Publication) (copies : List Publication) →
     SameIds (ids_of fs) ids → Quiet w fs ms → nat_lt (length ids) w ≡ true →
     handed x n copies (start_all w n (least_free ids ∷ ids) (map (Entry.Waits n) (queued copies)))
-      ≡ map (Send x) (copies_sent w copies (record { in_flight = fs ++ started_flight fs p ∷ []; waiting = [] })) →
+    ≡ map (Send x) (copies_sent w copies (record { in_flight = fs ++ started_flight fs p ∷ []; waiting = [] })) →
     all_started x n (Entry.Started n p (least_free ids) n ∷ []) ++ handed x n copies (start_all w n (least_free ids ∷ ids) (map (Entry.Waits n) (queued copies)))
-      ≡ map (Send x) (fill_sends w fs (ms ++ p ∷ []) ++ copies_sent w copies (fill w fs (ms ++ p ∷ [])))
+    ≡ map (Send x) (fill_sends w fs (ms ++ p ∷ []) ++ copies_sent w copies (fill w fs (ms ++ p ∷ [])))
 handed_open x w n ids fs ms p copies same (inl e) is_open rest =
     rw (this_place n)
-      (ap₂ (λ id answers. publish x false id p ∷ answers) (sym (same_least (ids_of fs) ids same)) rest
-      ∙ sym (ap₂ (λ first queue. map (Send x) (first ++ copies_sent w copies queue))
-        (ap (λ ps. fill_sends w fs (ps ++ p ∷ [])) e ∙ sent_now x w n fs p smaller)
-        (ap (λ ps. fill w fs (ps ++ p ∷ [])) e ∙ filled_now w fs p smaller)))
+    (ap₂ (λ id answers. publish x false id p ∷ answers) (sym (same_least (ids_of fs) ids same)) rest
+    ∙ sym (ap₂ (λ first queue. map (Send x) (first ++ copies_sent w copies queue))
+    (ap (λ ps. fill_sends w fs (ps ++ p ∷ [])) e ∙ sent_now x w n fs p smaller)
+    (ap (λ ps. fill w fs (ps ++ p ∷ [])) e ∙ filled_now w fs p smaller)))
   where
     smaller : length fs < w
     smaller = omega (arith, same_size fs ids same, within (length ids) w is_open)
@@ -105,9 +104,9 @@ handed_open x w n ids fs ms p copies same (inr e) is_open rest = absurd (omega (
 handed_shut : (x : ConnectionName) (w n : ℕ) (ids : List ℕ) (fs : List Flight) (ms : List Publication) (p : Publication) (copies : List Publication) →
     SameIds (ids_of fs) ids → nat_lt (length ids) w ≡ false →
     handed x n copies (start_all w n ids (map (Entry.Waits n) (queued copies)))
-      ≡ map (Send x) (copies_sent w copies (record { in_flight = fs; waiting = ms ++ p ∷ [] })) →
+    ≡ map (Send x) (copies_sent w copies (record { in_flight = fs; waiting = ms ++ p ∷ [] })) →
     all_started x n (Entry.Waits n p ∷ []) ++ handed x n copies (map (Entry.Waits n) (queued copies))
-      ≡ map (Send x) (fill_sends w fs (ms ++ p ∷ []) ++ copies_sent w copies (fill w fs (ms ++ p ∷ [])))
+    ≡ map (Send x) (fill_sends w fs (ms ++ p ∷ []) ++ copies_sent w copies (fill w fs (ms ++ p ∷ [])))
 handed_shut x w n ids fs ms p copies same shut rest =
     ap (λ es. handed x n copies es) (sym (starts_full w n ids (queued copies) (beyond (length ids) w shut)))
     ∙ rest
@@ -121,23 +120,24 @@ pub handed_is : (x : ConnectionName) (w n : ℕ) (ids : List ℕ) (fs : List Fli
 handed_is x w n ids fs ms [] same quiet = refl
 handed_is x w n ids fs ms (p ∷ copies) same quiet =
     by (is_answered p.qos) refl
-      (λ qs. handed_is x w n ids fs qs copies same)
-      (handed_is x w n (least_free ids ∷ ids) (fs ++ started_flight fs p ∷ []) [] copies (same_next fs ids p same) (inl refl))
+    (λ qs. handed_is x w n ids fs qs copies same)
+    (handed_is x w n (least_free ids ∷ ids) (fs ++ started_flight fs p ∷ []) [] copies (same_next fs ids p same) (inl refl))
   where
     one : (b : Bool) → nat_lt (length ids) w ≡ b →
         ((qs : List Publication) → Quiet w fs qs → handed x n copies (start_all w n ids (map (Entry.Waits n) (queued copies))) ≡ map (Send x) (copies_sent w copies (record { in_flight = fs; waiting = qs }))) →
         (handed x n copies (start_all w n (least_free ids ∷ ids) (map (Entry.Waits n) (queued copies))) ≡ map (Send x) (copies_sent w copies (record { in_flight = fs ++ started_flight fs p ∷ []; waiting = [] }))) →
         all_started x n (take 1 (if b then Entry.Started n p (least_free ids) n ∷ start_all w n (least_free ids ∷ ids) (map (Entry.Waits n) (queued copies)) else Entry.Waits n p ∷ map (Entry.Waits n) (queued copies)))
-          ++ handed x n copies (drop 1 (if b then Entry.Started n p (least_free ids) n ∷ start_all w n (least_free ids ∷ ids) (map (Entry.Waits n) (queued copies)) else Entry.Waits n p ∷ map (Entry.Waits n) (queued copies)))
-          ≡ map (Send x) (fill_sends w fs (ms ++ p ∷ []) ++ copies_sent w copies (fill w fs (ms ++ p ∷ [])))
+        ++ handed x n copies (drop 1 (if b then Entry.Started n p (least_free ids) n ∷ start_all w n (least_free ids ∷ ids) (map (Entry.Waits n) (queued copies)) else Entry.Waits n p ∷ map (Entry.Waits n) (queued copies)))
+        ≡ map (Send x) (fill_sends w fs (ms ++ p ∷ []) ++ copies_sent w copies (fill w fs (ms ++ p ∷ [])))
     one true is_open shut_rest open_rest = handed_open x w n ids fs ms p copies same quiet is_open open_rest
     one false shut shut_rest open_rest =
         handed_shut x w n ids fs ms p copies same shut (shut_rest (ms ++ p ∷ []) (inr (omega (arith, same_size fs ids same, beyond (length ids) w shut))))
+
     by : (b : Bool) → is_answered p.qos ≡ b →
         ((qs : List Publication) → Quiet w fs qs → handed x n copies (start_all w n ids (map (Entry.Waits n) (queued copies))) ≡ map (Send x) (copies_sent w copies (record { in_flight = fs; waiting = qs }))) →
         (handed x n copies (start_all w n (least_free ids ∷ ids) (map (Entry.Waits n) (queued copies))) ≡ map (Send x) (copies_sent w copies (record { in_flight = fs ++ started_flight fs p ∷ []; waiting = [] }))) →
         (if b then all_started x n (take 1 (start_all w n ids (map (Entry.Waits n) (if b then p ∷ queued copies else queued copies)))) ++ handed x n copies (drop 1 (start_all w n ids (map (Entry.Waits n) (if b then p ∷ queued copies else queued copies))))
-          else publish x false 0 p ∷ handed x n copies (start_all w n ids (map (Entry.Waits n) (if b then p ∷ queued copies else queued copies))))
+        else publish x false 0 p ∷ handed x n copies (start_all w n ids (map (Entry.Waits n) (if b then p ∷ queued copies else queued copies))))
         ≡ map (Send x) (if b then fill_sends w fs (ms ++ p ∷ []) ++ copies_sent w copies (fill w fs (ms ++ p ∷ [])) else packets.Publish (publish_of false 0 p) ∷ copies_sent w copies (record { in_flight = fs; waiting = ms }))
     by true e shut_rest open_rest = one (nat_lt (length ids) w) refl shut_rest open_rest
     by false e shut_rest open_rest = ap (λ answers. publish x false 0 p ∷ answers) (shut_rest ms quiet)

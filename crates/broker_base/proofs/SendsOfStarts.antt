@@ -1,26 +1,24 @@
 -- What the entries that start are sent as is what a fill of the queue sends, and a client that comes back is sent
 -- the queue again (MQTT 3.3.1.1, 4.4).
-use Rattle.std.proofs.Common.{◌≡◌, ℕ, ◌+◌, ◌<◌, ◌≤◌, zero, suc, Bool, true, false, not, ◌&&◌, ◌==◌, nat_lt, if◌then◌else◌, Option, Some, None, List, [], ◌∷◌, ◌++◌, length, map, filter, refl, ap, ap₂, ◌∙◌, sym, subst, arith}
+use Rattle.std.proofs.Common.{◌≡◌, ℕ, ◌<◌, Bool, true, false, not, ◌&&◌, ◌==◌, nat_lt, if◌then◌else◌, Some, None, List, [], ◌∷◌, ◌++◌, length, map, refl, ap, ap₂, ◌∙◌, sym, arith}
 use Rattle.std.specs.Prelude.{flat_map}
-use Rattle.std.proofs.lemmas.List.{map-append, append_assoc, length-map}
-use Rattle.packet.specs.declared.packet.Packet.{Packet}
+use Rattle.std.proofs.lemmas.List.{map-append, length-map}
 use Rattle.packet.specs.declared.packet.Packet.TheVariants as packets
 use Rattle.session_base.specs.declared.publication.Publication.{Publication}
 use Rattle.session_base.specs.declared.awaits.Awaits.TheVariants as waits_for
 use Rattle.session_base.specs.Publication.{is_acknowledged, publish_of}
 use Rattle.session_base.specs.Identifiers.{least_free}
-use Rattle.session_base.specs.Queue.{Flight, Queue, awaited, ids_of, started_flight}
+use Rattle.session_base.specs.Queue.{Flight, ids_of, started_flight}
 use Rattle.session_base.specs.Sending.{fill_sends, sent_anew, resend}
 use Rattle.broker_base.specs.Connection.{ConnectionName}
 use Rattle.broker_base.specs.Place.{Client, same_client, Mark}
 use Rattle.broker_base.specs.Entries.{Entry}
 use Rattle.broker_base.specs.Readings.{released_below, waiting_of, busy_ids}
 use Rattle.broker_base.specs.Times.{at_puback, at_pubrec, at_pubcomp, answered_by, start_all}
-use Rattle.broker_base.specs.Sends.{publish, sent_first, all_started, sent_again, resent}
+use Rattle.broker_base.specs.Sends.{publish, all_started, sent_again, resent}
 use Rattle.broker_base.specs.Kept.{sent_flights, released_flight, flights_below}
 use Rattle.broker_base.specs.declared.command.Command.{Command}
 use Rattle.broker_base.specs.declared.command.Command.TheVariants as commands
-use Rattle.broker_base.specs.declared.command.Answer.{Answer}
 use Rattle.broker_base.specs.declared.command.Answer.TheVariants.{Send}
 use Rattle.broker_base.proofs.CountedIdentifiers.{count, SameIds, same_length, same_least}
 use Rattle.broker_base.proofs.SoundEntries.{IsBelow, AllWait, InOrder}
@@ -116,7 +114,7 @@ waits_started x w n ids fs [] h same = refl
 waits_started x w n ids fs (Entry.Waits made p ∷ es) h same =
     by (nat_lt (length ids) w) (waits_started x w n (least_free ids ∷ ids) (fs ++ started_flight fs p ∷ []) es h (same_next fs ids p same))
     ∙ ap (λ k. map (Send x) (if nat_lt k w then packets.Publish (publish_of false (least_free (ids_of fs)) p) ∷ fill_sends w (fs ++ started_flight fs p ∷ []) (waiting_of es) else []))
-      (sym (same_length (ids_of fs) ids same) ∙ length-map fs (λ (flight : Flight). flight.0))
+    (sym (same_length (ids_of fs) ids same) ∙ length-map fs (λ (flight : Flight). flight.0))
   where
     by : (b : Bool) → all_started x n (start_all w n (least_free ids ∷ ids) es) ≡ map (Send x) (fill_sends w (fs ++ started_flight fs p ∷ []) (waiting_of es)) →
         all_started x n (if b then Entry.Started made p (least_free ids) n ∷ start_all w n (least_free ids ∷ ids) es else Entry.Waits made p ∷ es)
@@ -171,11 +169,11 @@ pub resent_is : (x : ConnectionName) (w n : ℕ) (es : List Entry) → IsBelow n
     resent x n (start_all w n [] es) ≡ map (Send x) (resend (flights_below n es) ++ fill_sends w (flights_below n es) (waiting_of es))
 resent_is x w n es below order =
     ap₂ (λ xs ys. xs ++ ys)
-      (ap₂ (λ xs ys. xs ++ ys)
-        (ap (map (λ id. Send x (packets.Pubrel id))) (released_started n w n [] es) ∙ pubrels x (released_below n es))
-        (again_started x w n [] es ∙ again_sent x n es (before_below n es below))
-        ∙ sym (ap (map (Send x)) (map-append (λ (flight : Flight). sent_anew flight.0 flight.1) (map released_flight (released_below n es)) (sent_flights es))
-          ∙ map-append (Send x) (resend (map released_flight (released_below n es))) (resend (sent_flights es))))
-      (starts_sent x w n [] (flights_below n es) es order (before_below n es below)
-        (λ test. same_ids n es below test ∙ ap (count test) (sym (append_none (busy_ids es)))))
+    (ap₂ (λ xs ys. xs ++ ys)
+    (ap (map (λ id. Send x (packets.Pubrel id))) (released_started n w n [] es) ∙ pubrels x (released_below n es))
+    (again_started x w n [] es ∙ again_sent x n es (before_below n es below))
+    ∙ sym (ap (map (Send x)) (map-append (λ (flight : Flight). sent_anew flight.0 flight.1) (map released_flight (released_below n es)) (sent_flights es))
+    ∙ map-append (Send x) (resend (map released_flight (released_below n es))) (resend (sent_flights es))))
+    (starts_sent x w n [] (flights_below n es) es order (before_below n es below)
+    (λ test. same_ids n es below test ∙ ap (count test) (sym (append_none (busy_ids es)))))
     ∙ sym (map-append (Send x) (resend (flights_below n es)) (fill_sends w (flights_below n es) (waiting_of es)))

@@ -1,9 +1,8 @@
 -- After a place the sessions are those that its past says.
-use Rattle.std.proofs.Common.{◌≡◌, ℕ, Bool, true, false, not, ◌⊎◌, inl, inr, if◌then◌else◌, Option, Some, None, List, [], ◌∷◌, length, refl, ap, ap₂, ◌∙◌, sym, subst}
-use Rattle.std.specs.Prelude.{option_map}
+use Rattle.std.proofs.Common.{◌≡◌, ℕ, Bool, ◌⊎◌, inl, inr, Option, Some, None, List, [], ◌∷◌, length, refl, ap, ap₂, ◌∙◌, sym}
 use Rattle.retained.specs.Retained.{Content}
 use Rattle.broker_base.specs.Connection.{ConnectionName}
-use Rattle.broker_base.specs.Place.{Client, same_client, Mark, Place, Past, Limits, only_if}
+use Rattle.broker_base.specs.Place.{Client, Mark, Place, Past, Limits, only_if}
 use Rattle.broker_base.specs.Past.{accepts, current_connection, session_of}
 use Rattle.broker_base.specs.Subscriptions.{subscriptions_of}
 use Rattle.broker_base.specs.Received.{received_of}
@@ -48,7 +47,7 @@ left_next : (limits : Limits) (later : ℕ) → IsWindow limits later → (place
 left_next limits later follows place past none =
     table_left (window_at limits (place ∷ past)) place (retained_publications past) (kept_of limits past) (named past)
     ∙ table_same (λ c. left_with (window_at limits (place ∷ past)) place (retained_publications past) c (kept_of limits past c)) (kept_of limits (place ∷ past)) (named past)
-      (λ c. left_is limits later follows place past c (none c) ∙ sym (kept_step limits place past c))
+    (λ c. left_is limits later follows place past c (none c) ∙ sym (kept_step limits place past c))
 
 abbrev pub at : Command → Mark → Place
 at command mark = record { command = command; mark = mark }
@@ -56,19 +55,19 @@ at command mark = record { command = command; mark = mark }
 sessions_opened : (limits : Limits) (later : ℕ) → IsWindow limits later → (past : Past) (x : ConnectionName) (c : Client) (clean : Bool) (place : Place) (w : ℕ) →
     place ≡ at (commands.Connect x c clean) Mark.Accepted → w ≡ window_at limits (place ∷ past) →
     put_session c (kept_connected w place (retained_publications past) c (x, clean) (session_in c (table (kept_of limits past) (named past))))
-      (sessions_left w place (retained_publications past) (table (kept_of limits past) (named past)))
+    (sessions_left w place (retained_publications past) (table (kept_of limits past) (named past)))
     ≡ table (kept_of limits (place ∷ past)) (insert_client c (named past))
 sessions_opened limits later follows past x c clean place w is window =
     ap₂ (λ old rows. put_session c (kept_connected w place (retained_publications past) c (x, clean) old) rows)
-      (session_is limits past c) (table_left w place (retained_publications past) (kept_of limits past) (named past))
+    (session_is limits past c) (table_left w place (retained_publications past) (kept_of limits past) (named past))
     ∙ sym (put_is (kept_of limits (place ∷ past)) (λ d. left_with w place (retained_publications past) d (kept_of limits past d)) c
-        (kept_connected w place (retained_publications past) c (x, clean) (kept_of limits past c)) (named past)
-        (step c ∙ ap (λ opened. kept_by w place (retained_publications past) c opened (kept_of limits past c))
-          (ap (λ (p : Place). accepts p.command p.mark c) is ∙ ap (λ b. only_if b (Some (x, clean))) (same_self c)))
-        (λ d other. step d ∙ sym (ap (λ v. left_with v place (retained_publications past) d (kept_of limits past d)) window
-          ∙ left_is limits later follows place past d (ap (λ (p : Place). accepts p.command p.mark d) is ∙ ap (λ b. only_if b (Some (x, clean))) other)
-          ∙ ap (λ v. kept_after v place (retained_publications past) d (kept_of limits past d)) (sym window)))
-        (rising_named past))
+    (kept_connected w place (retained_publications past) c (x, clean) (kept_of limits past c)) (named past)
+    (step c ∙ ap (λ opened. kept_by w place (retained_publications past) c opened (kept_of limits past c))
+    (ap (λ (p : Place). accepts p.command p.mark c) is ∙ ap (λ b. only_if b (Some (x, clean))) (same_self c)))
+    (λ d other. step d ∙ sym (ap (λ v. left_with v place (retained_publications past) d (kept_of limits past d)) window
+    ∙ left_is limits later follows place past d (ap (λ (p : Place). accepts p.command p.mark d) is ∙ ap (λ b. only_if b (Some (x, clean))) other)
+    ∙ ap (λ v. kept_after v place (retained_publications past) d (kept_of limits past d)) (sym window)))
+    (rising_named past))
   where
     step : (d : Client) → kept_of limits (place ∷ past) d ≡ kept_after w place (retained_publications past) d (kept_of limits past d)
     step d = kept_step limits place past d ∙ ap (λ v. kept_after v place (retained_publications past) d (kept_of limits past d)) (sym window)

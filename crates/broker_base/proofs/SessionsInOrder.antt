@@ -1,17 +1,16 @@
 -- The clients of a past come in rising order, and each with a session among them: so a session is found in the
 -- table, and one more comes to its place.
-use Rattle.std.proofs.Common.{◌≡◌, ℕ, Bool, true, false, not, ◌⊎◌, inl, inr, if◌then◌else◌, Option, Some, None, List, [], ◌∷◌, refl, ap, ap₂, ◌∙◌, sym, subst}
+use Rattle.std.proofs.Common.{◌≡◌, Bool, true, false, ◌⊎◌, inl, inr, if◌then◌else◌, Option, Some, None, List, [], ◌∷◌, refl, ap, ap₂, ◌∙◌, sym, subst}
 use Rattle.std.specs.declared.cmp.Ordering.{Ordering}
 use Rattle.std.specs.declared.cmp.Ordering.TheVariants.{Less, Equal, Greater}
 use Rattle.std.specs.Ordering.{is_eq, match_ordering, ordering_reverse}
 use Rattle.std.proofs.lemmas.Cmp.{nat_list_cmp_total}
 use Rattle.std.proofs.lemmas.Map.Lookups.{exact_bytes}
-use Rattle.broker_base.specs.Connection.{ConnectionName}
-use Rattle.broker_base.specs.Place.{Client, by_bytes, same_client, Mark, Place, Past, only_if}
+use Rattle.broker_base.specs.Place.{Client, by_bytes, same_client, Mark, Past, only_if}
 use Rattle.broker_base.specs.Past.{accepts, ends_any, current_connection, newest_session, session_of}
 use Rattle.broker_base.specs.Owner.{insert_client, named_by, named}
 use Rattle.broker_base.specs.Kept.{Kept}
-use Rattle.broker_base.specs.State.{Sessions, keyed, table, session_in, put_session}
+use Rattle.broker_base.specs.State.{keyed, table, session_in, put_session}
 use Rattle.broker_base.specs.declared.command.Command.{Command}
 use Rattle.broker_base.specs.declared.command.Command.TheVariants as commands
 
@@ -203,6 +202,7 @@ put_is f g c kept (d ∷ ds) is same h = by (by_bytes c d) refl (put_is f g c ke
         at : (o : Option Kept) → put_session c kept (keyed d o (table g ds)) ≡ (c, kept) ∷ table g ds
         at None = put_above c kept g ds (subst (λ (b : Client). IsAbove b ds) (sym (equal_is c d e)) h.0)
         at (Some other) = ap (λ o. match_ordering o ((c, kept) ∷ (d, other) ∷ table g ds) ((c, kept) ∷ table g ds) ((d, other) ∷ put_session c kept (table g ds))) e
+
     greater : by_bytes c d ≡ Greater → table f (insert_client c ds) ≡ put_session c kept (table g ds) →
         keyed d (f d) (table f (insert_client c ds)) ≡ put_session c kept (keyed d (g d) (table g ds))
     greater e more = ap₂ (λ o rows. keyed d o rows) (same d (ap is_eq e)) more ∙ sym (at (g d))
@@ -210,6 +210,7 @@ put_is f g c kept (d ∷ ds) is same h = by (by_bytes c d) refl (put_is f g c ke
         at : (o : Option Kept) → put_session c kept (keyed d o (table g ds)) ≡ keyed d o (put_session c kept (table g ds))
         at None = refl
         at (Some other) = ap (λ o. match_ordering o ((c, kept) ∷ (d, other) ∷ table g ds) ((c, kept) ∷ table g ds) ((d, other) ∷ put_session c kept (table g ds))) e
+
     by : (o : Ordering) → by_bytes c d ≡ o → table f (insert_client c ds) ≡ put_session c kept (table g ds) →
         table f (match_ordering o (c ∷ d ∷ ds) (d ∷ ds) (d ∷ insert_client c ds)) ≡ put_session c kept (keyed d (g d) (table g ds))
     by Less e more =

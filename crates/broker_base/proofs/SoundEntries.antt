@@ -1,13 +1,11 @@
 -- What the entries of every past meet: places below the number of the place, those that wait behind all others,
 -- and each identifier in use at most once.
-use Rattle.std.proofs.Common.{◌≡◌, ℕ, ◌+◌, ◌<◌, ◌≤◌, zero, suc, Bool, true, false, not, ◌&&◌, ◌==◌, nat_lt, if◌then◌else◌, Option, Some, None, List, [], ◌∷◌, ◌++◌, length, map, refl, ap, ap₂, ◌∙◌, sym, subst, arith}
-use Rattle.session_base.specs.declared.publication.Publication.{Publication}
+use Rattle.std.proofs.Common.{ℕ, ◌+◌, ◌<◌, ◌≤◌, suc, Bool, true, false, not, ◌&&◌, ◌==◌, if◌then◌else◌, Some, None, List, [], ◌∷◌, map, arith}
 use Rattle.session_base.specs.Publication.{is_acknowledged}
-use Rattle.session_base.specs.Identifiers.{least_free}
 use Rattle.broker_base.specs.Entries.{Entry}
 use Rattle.broker_base.specs.Readings.{busy_ids}
-use Rattle.broker_base.specs.Times.{at_puback, at_pubrec, at_pubcomp, start_all}
-use Rattle.broker_base.proofs.CountedIdentifiers.{one_if, count, least_is_free}
+use Rattle.broker_base.specs.Times.{at_puback, at_pubrec, at_pubcomp}
+use Rattle.broker_base.proofs.CountedIdentifiers.{one_if, count}
 
 -- each place in an entry is below n
 abbrev pub IsBelow : ℕ → List Entry → Type 0
@@ -184,21 +182,24 @@ busy_pubcomp test n i (Entry.Finished made p id start release finish ∷ es) = b
 
 pub sound_puback : (n i : ℕ) (es : List Entry) → Sound n es → Sound (suc n) (map (at_puback n i) es)
 sound_puback n i es s = record {
-    below = below_puback n i es s.below; in_order = order_puback n i es s.in_order;
-    unique = λ j. omega (arith, busy_puback (λ id. j == id) n i es, s.unique j);
-  }
+  below = below_puback n i es s.below;
+  in_order = order_puback n i es s.in_order;
+  unique = λ j. omega (arith, busy_puback (λ id. j == id) n i es, s.unique j);
+}
 
 pub sound_pubrec : (n i : ℕ) (es : List Entry) → Sound n es → Sound (suc n) (map (at_pubrec n i) es)
 sound_pubrec n i es s = record {
-    below = below_pubrec n i es s.below; in_order = order_pubrec n i es s.in_order;
-    unique = λ j. omega (arith, busy_pubrec (λ id. j == id) n i es, s.unique j);
-  }
+  below = below_pubrec n i es s.below;
+  in_order = order_pubrec n i es s.in_order;
+  unique = λ j. omega (arith, busy_pubrec (λ id. j == id) n i es, s.unique j);
+}
 
 pub sound_pubcomp : (n i : ℕ) (es : List Entry) → Sound n es → Sound (suc n) (map (at_pubcomp n i) es)
 sound_pubcomp n i es s = record {
-    below = below_pubcomp n i es s.below; in_order = order_pubcomp n i es s.in_order;
-    unique = λ j. omega (arith, busy_pubcomp (λ id. j == id) n i es, s.unique j);
-  }
+  below = below_pubcomp n i es s.below;
+  in_order = order_pubcomp n i es s.in_order;
+  unique = λ j. omega (arith, busy_pubcomp (λ id. j == id) n i es, s.unique j);
+}
 
 pub sound_more : (n : ℕ) (es : List Entry) → Sound n es → Sound (suc n) es
 sound_more n es s = record { below = below_more n es s.below; in_order = s.in_order; unique = s.unique }

@@ -1,5 +1,5 @@
 -- New entries, and those that start, keep the entries sound.
-use Rattle.std.proofs.Common.{◌≡◌, ℕ, ◌+◌, ◌<◌, ◌≤◌, zero, suc, Bool, true, false, ◌⊎◌, inl, inr, ◌==◌, nat_lt, if◌then◌else◌, Option, Some, None, List, [], ◌∷◌, ◌++◌, length, map, refl, ap, ap₂, ◌∙◌, sym, subst, arith}
+use Rattle.std.proofs.Common.{◌≡◌, ℕ, ◌+◌, ◌≤◌, suc, Bool, true, false, ◌⊎◌, inl, inr, ◌==◌, nat_lt, if◌then◌else◌, Option, Some, None, List, [], ◌∷◌, ◌++◌, length, map, refl, ap, sym, subst, arith}
 use Rattle.session_base.specs.declared.publication.Publication.{Publication}
 use Rattle.session_base.specs.Identifiers.{least_free}
 use Rattle.broker_base.specs.Connection.{ConnectionName}
@@ -7,7 +7,7 @@ use Rattle.broker_base.specs.Entries.{Entry}
 use Rattle.broker_base.specs.Readings.{busy_ids}
 use Rattle.broker_base.specs.Times.{start_all, started}
 use Rattle.broker_base.proofs.CountedIdentifiers.{one_if, count, least_is_free}
-use Rattle.broker_base.proofs.SoundEntries.{IsBelow, AllWait, InOrder, Unique, Sound}
+use Rattle.broker_base.proofs.SoundEntries.{IsBelow, AllWait, InOrder, Sound}
 
 -- ---- new entries
 
@@ -54,9 +54,10 @@ busy_new n (Entry.Finished made p id start release finish ∷ es) ps = busy_new 
 
 pub sound_new : (n : ℕ) (es : List Entry) (ps : List Publication) → Sound (suc n) es → Sound (suc n) (es ++ map (Entry.Waits n) ps)
 sound_new n es ps s = record {
-    below = below_new n es ps s.below; in_order = order_new n es ps s.in_order;
-    unique = λ i. subst (λ (ids : List ℕ). count (λ id. i == id) ids ≤ 1) (sym (busy_new n es ps)) (s.unique i);
-  }
+  below = below_new n es ps s.below;
+  in_order = order_new n es ps s.in_order;
+  unique = λ i. subst (λ (ids : List ℕ). count (λ id. i == id) ids ≤ 1) (sym (busy_new n es ps)) (s.unique i);
+}
 
 -- ---- starts
 
@@ -121,6 +122,7 @@ unique_started w n i ids (Entry.Finished made p id start release finish ∷ es) 
 pub sound_started : (w n : ℕ) (connection : Option ConnectionName) (es : List Entry) → Sound (suc n) es → Sound (suc n) (started w n connection es)
 sound_started w n None es s = s
 sound_started w n (Some x) es s = record {
-    below = below_started w n [] es s.below; in_order = order_started w n [] es s.in_order;
-    unique = λ i. omega (arith, unique_started w n i [] es s.in_order (omega (arith, s.unique i)));
-  }
+  below = below_started w n [] es s.below;
+  in_order = order_started w n [] es s.in_order;
+  unique = λ i. omega (arith, unique_started w n i [] es s.in_order (omega (arith, s.unique i)));
+}

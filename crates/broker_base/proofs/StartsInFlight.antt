@@ -1,9 +1,9 @@
 -- The entries that start are those that a fill of the queue takes (MQTT 4.6).
-use Rattle.std.proofs.Common.{◌≡◌, ℕ, ◌+◌, ◌<◌, ◌≤◌, zero, suc, Bool, true, false, not, ◌&&◌, ◌==◌, nat_lt, if◌then◌else◌, Option, Some, None, List, [], ◌∷◌, ◌++◌, length, map, filter, refl, ap, ap₂, ◌∙◌, sym, subst, arith}
+use Rattle.std.proofs.Common.{◌≡◌, ℕ, ◌+◌, ◌<◌, zero, suc, Bool, true, false, ◌&&◌, ◌==◌, nat_lt, if◌then◌else◌, Option, Some, None, List, [], ◌∷◌, ◌++◌, length, map, refl, ap, ap₂, ◌∙◌, sym, arith}
 use Rattle.std.proofs.lemmas.List.{map-append, append_assoc, length-map}
 use Rattle.session_base.specs.declared.publication.Publication.{Publication}
 use Rattle.session_base.specs.Identifiers.{least_free}
-use Rattle.session_base.specs.Queue.{Flight, Queue, awaited, ids_of, started_flight, fill}
+use Rattle.session_base.specs.Queue.{Flight, awaited, ids_of, started_flight, fill}
 use Rattle.broker_base.specs.Connection.{ConnectionName}
 use Rattle.broker_base.specs.Entries.{Entry}
 use Rattle.broker_base.specs.Readings.{released_at, released_below, waiting_of, busy_ids}
@@ -12,7 +12,7 @@ use Rattle.broker_base.specs.Kept.{sent_flights, released_flight, flights_below,
 use Rattle.broker_base.specs.KeptStep.{filled_on}
 use Rattle.broker_base.proofs.CountedIdentifiers.{one_if, count, count-append, SameIds, same_length, same_least}
 use Rattle.broker_base.proofs.SoundEntries.{IsBelow, AllWait, InOrder}
-use Rattle.broker_base.proofs.SoundStarts.{order_waits, busy_waits}
+use Rattle.broker_base.proofs.SoundStarts.{busy_waits}
 
 pub append_none : {A : Type 0} (xs : List A) → xs ++ [] ≡ xs
 append_none [] = refl
@@ -84,7 +84,7 @@ ids_released (id ∷ ids) = ap (λ xs. id ∷ xs) (ids_released ids)
 pub same_ids : (n : ℕ) (es : List Entry) → IsBelow n es → SameIds (ids_of (flights_below n es)) (busy_ids es)
 same_ids n es h test =
     ap (count test) (map-append (λ (flight : Flight). flight.0) (map released_flight (released_below n es)) (sent_flights es)
-      ∙ ap (λ ids. ids ++ ids_of (sent_flights es)) (ids_released (released_below n es)))
+    ∙ ap (λ ids. ids ++ ids_of (sent_flights es)) (ids_released (released_below n es)))
     ∙ count-append test (released_below n es) (ids_of (sent_flights es))
     ∙ count_in_flight n test es h
 
@@ -137,24 +137,23 @@ same_next fs ids p same test =
     sums : (id : ℕ) → id ≡ least_free ids → count test (ids_of fs) + (one_if (test id) + 0) ≡ one_if (test (least_free ids)) + count test ids
     sums id e = omega (arith, same test, ap (λ i. one_if (test i)) e)
 
-
 pub fill_waits : (w n : ℕ) (ids : List ℕ) (fs : List Flight) (es : List Entry) → AllWait es → SameIds (ids_of fs) ids →
     fill w fs (waiting_of es) ≡ record { in_flight = fs ++ sent_flights (start_all w n ids es); waiting = waiting_of (start_all w n ids es) }
 fill_waits w n ids fs [] h same = ap (λ xs. record { in_flight = xs; waiting = [] }) (sym (append_none fs))
 fill_waits w n ids fs (Entry.Waits made p ∷ es) h same =
     ap (λ k. if nat_lt k w then fill w (fs ++ started_flight fs p ∷ []) (waiting_of es) else record { in_flight = fs; waiting = p ∷ waiting_of es })
-      (sym (length-map fs (λ (flight : Flight). flight.0)) ∙ same_length (ids_of fs) ids same)
+    (sym (length-map fs (λ (flight : Flight). flight.0)) ∙ same_length (ids_of fs) ids same)
     ∙ by (nat_lt (length ids) w) (fill_waits w n (least_free ids ∷ ids) (fs ++ started_flight fs p ∷ []) es h (same_next fs ids p same))
   where
     by : (b : Bool) →
         fill w (fs ++ started_flight fs p ∷ []) (waiting_of es) ≡ record { in_flight = (fs ++ started_flight fs p ∷ []) ++ sent_flights (start_all w n (least_free ids ∷ ids) es); waiting = waiting_of (start_all w n (least_free ids ∷ ids) es) } →
         (if b then fill w (fs ++ started_flight fs p ∷ []) (waiting_of es) else record { in_flight = fs; waiting = p ∷ waiting_of es })
         ≡ record {
-            in_flight = fs ++ sent_flights (if b then Entry.Started made p (least_free ids) n ∷ start_all w n (least_free ids ∷ ids) es else Entry.Waits made p ∷ es);
-            waiting = waiting_of (if b then Entry.Started made p (least_free ids) n ∷ start_all w n (least_free ids ∷ ids) es else Entry.Waits made p ∷ es)
-          }
+          in_flight = fs ++ sent_flights (if b then Entry.Started made p (least_free ids) n ∷ start_all w n (least_free ids ∷ ids) es else Entry.Waits made p ∷ es);
+          waiting = waiting_of (if b then Entry.Started made p (least_free ids) n ∷ start_all w n (least_free ids ∷ ids) es else Entry.Waits made p ∷ es);
+        }
     by true e = e ∙ ap (λ xs. record { in_flight = xs; waiting = waiting_of (start_all w n (least_free ids ∷ ids) es) })
-      (append_assoc fs (started_flight fs p ∷ []) (sent_flights (start_all w n (least_free ids ∷ ids) es))
+        (append_assoc fs (started_flight fs p ∷ []) (sent_flights (start_all w n (least_free ids ∷ ids) es))
         ∙ ap (λ id. fs ++ (id, awaited p) ∷ sent_flights (start_all w n (least_free ids ∷ ids) es)) (same_least (ids_of fs) ids same))
     by false e = ap (λ xs. record { in_flight = xs; waiting = p ∷ waiting_of es }) (sym (append_none fs) ∙ ap (λ xs. fs ++ xs) (sym (sent_of_waits es h)))
 fill_waits w n ids fs (Entry.Started made p id start ∷ es) h same = absurd h
@@ -180,8 +179,8 @@ pub queue_started : (w n : ℕ) (connection : Option ConnectionName) (es : List 
 queue_started w n None es below order = refl
 queue_started w n (Some x) es below order =
     ap₂ (λ ids fs. record { in_flight = map released_flight ids ++ fs; waiting = waiting_of (start_all w n [] es) })
-      (released_started (suc n) w n [] es) (sent_started w n [] es order)
+    (released_started (suc n) w n [] es) (sent_started w n [] es order)
     ∙ ap (λ fs. record { in_flight = fs; waiting = waiting_of (start_all w n [] es) })
-      (sym (append_assoc (map released_flight (released_below (suc n) es)) (sent_flights es) (newly w n [] es)))
+    (sym (append_assoc (map released_flight (released_below (suc n) es)) (sent_flights es) (newly w n [] es)))
     ∙ sym (fill_started w n [] (flights_below (suc n) es) es order
-      (λ test. same_ids (suc n) es below test ∙ ap (count test) (sym (append_none (busy_ids es)))))
+    (λ test. same_ids (suc n) es below test ∙ ap (count test) (sym (append_none (busy_ids es)))))

@@ -1,23 +1,19 @@
 -- The step of the state that a past stands for; and so, command by command, of every list.
-use Rattle.std.proofs.Common.{◌≡◌, ℕ, Bool, true, false, if◌then◌else◌, Option, Some, None, List, [], ◌∷◌, length, refl, ap, ap₂, ◌∙◌, sym, subst}
-use Rattle.std.specs.Prelude.{option_map}
-use Rattle.std.proofs.lemmas.Bool.{or_parts}
-use Rattle.broker_base.specs.Connection.{ConnectionName}
-use Rattle.broker_base.specs.Place.{Client, Mark, Place, Past, Limits}
-use Rattle.broker_base.specs.Past.{accepts, current_connection, session_of}
+use Rattle.std.proofs.Common.{◌≡◌, ℕ, Bool, Option, Some, None, List, [], ◌∷◌, length, refl, ap, ap₂, ◌∙◌, sym}
+use Rattle.broker_base.specs.Place.{Mark, Place, Past, Limits}
+use Rattle.broker_base.specs.Past.{current_connection, session_of}
 use Rattle.broker_base.specs.Owner.{named}
 use Rattle.broker_base.specs.Subscriptions.{subscriptions_of}
 use Rattle.broker_base.specs.Received.{received_of}
 use Rattle.broker_base.specs.Retained.{retained_publications}
 use Rattle.broker_base.specs.Times.{window_at, entries_of}
-use Rattle.broker_base.specs.Commands.{place_of, past_from, past_of, limits_from, usual_limits, window_from}
+use Rattle.broker_base.specs.Commands.{place_of, past_from, limits_from, usual_limits}
 use Rattle.broker_base.specs.Answers.{answers_at, answers_of, answers_from}
 use Rattle.broker_base.specs.Kept.{Kept, kept_of}
 use Rattle.broker_base.specs.KeptStep.{kept_by, kept_after}
 use Rattle.broker_base.specs.State.{State, empty_state, state_of}
-use Rattle.broker_base.specs.Decisions.{mark_in, place_in}
-use Rattle.broker_base.specs.Step.{touches, is_about, session_after, step, step_at, window_after, state_from, steps_from, IsWindow}
-use Rattle.broker_base.specs.StepLaws.{StepsEachSession, OthersStay, NoneBegins, StepStandsFor, ListStandsFor, UsualListStandsFor}
+use Rattle.broker_base.specs.Step.{touches, step, step_at, state_from, steps_from, IsWindow}
+use Rattle.broker_base.specs.StepLaws.{OthersStay, NoneBegins, StepStandsFor, ListStandsFor, UsualListStandsFor}
 use Rattle.broker_base.specs.declared.command.Command.{Command}
 use Rattle.broker_base.specs.declared.command.Answer.{Answer}
 use Rattle.broker_base.proofs.KeptAfter.{kept_with, kept_step}
@@ -36,7 +32,7 @@ others limits later follows place past c kept is untouched = by (session_of past
         = ap (λ o. kept_with (length past) o (current_connection past c) (subscriptions_of past c) (received_of past c) (entries_of limits past c)) e in cc)
     by (Some clean) e =
         let now : kept_of limits past c ≡ kept_with (length past) (Some clean) (current_connection past c) (subscriptions_of past c) (received_of past c) (entries_of limits past c)
-          = ap (λ o. kept_with (length past) o (current_connection past c) (subscriptions_of past c) (received_of past c) (entries_of limits past c)) e in
+        = ap (λ o. kept_with (length past) o (current_connection past c) (subscriptions_of past c) (received_of past c) (entries_of limits past c)) e in
         let same : current_connection past c ≡ kept.connection = connection_same _ kept (sym now ∙ is) in
         kept_step limits place past c
         ∙ ap (kept_after (window_at limits (place ∷ past)) place (retained_publications past) c) now
@@ -58,12 +54,12 @@ state_next : (limits : Limits) (later : ℕ) → IsWindow limits later → (plac
 unfolding retained_publications
 state_next limits later follows place past =
     ap₂ (λ rows answers. (record { window = window_at limits (place ∷ past); sessions = rows; retained = retained_publications (place ∷ past) }, answers))
-      (sessions_are limits later follows place past) (answers_are limits later follows place past)
+    (sessions_are limits later follows place past) (answers_are limits later follows place past)
 
 pub step_stands : StepStandsFor
 step_stands limits later follows past command =
     ap₂ (λ (window : ℕ) (mark : Mark). step_at window (record { command = command; mark = mark }) (state_of limits past))
-      (sym (follows (place_of limits past command) past)) (mark_is limits past command)
+    (sym (follows (place_of limits past command) past)) (mark_is limits past command)
     ∙ state_next limits later follows (place_of limits past command) past
 
 -- ---- lists
@@ -89,9 +85,10 @@ unfolding named retained_publications
 empty_stands limits = refl
 
 pub lists_stand : ListStandsFor
-lists_stand limits later follows commands =
-    (ap (λ state. state_from limits later state commands) (sym (empty_stands limits)) ∙ states_from limits later follows [] commands,
-     ap (λ state. steps_from limits later state commands) (sym (empty_stands limits)) ∙ answers_all limits later follows [] commands)
+lists_stand limits later follows commands = (
+  ap (λ state. state_from limits later state commands) (sym (empty_stands limits)) ∙ states_from limits later follows [] commands,
+  ap (λ state. steps_from limits later state commands) (sym (empty_stands limits)) ∙ answers_all limits later follows [] commands,
+)
 
 usual_window : (first : ℕ) → IsWindow (limits_from first) 64
 usual_window first place past = refl

@@ -1,5 +1,5 @@
 -- What becomes of a command, as the state decides (MQTT 3.1.4, 3.8.4, 4.3.3, 4.8).
-use Rattle.std.specs.Prelude.{ℕ, Bool, true, false, not, ◌&&◌, ◌||◌, ◌==◌, nat_lt, nat_le, if◌then◌else◌, List, length, Option, Some, None, is_some, is_none, option_map}
+use Rattle.std.specs.Prelude.{Bool, false, not, ◌&&◌, ◌||◌, ◌==◌, nat_lt, nat_le, if◌then◌else◌, length, Option, Some, None, is_some, is_none, option_map}
 use Rattle.std.specs.List.{list_any}
 use Rattle.packet.specs.declared.delivery.Delivery.{Delivery}
 use Rattle.packet.specs.declared.delivery.Delivery.TheVariants as deliveries
@@ -10,12 +10,11 @@ use Rattle.session_base.specs.declared.publication.Publication.{Publication}
 use Rattle.session_base.specs.Publication.{publication_of, lower_qos}
 use Rattle.session_base.specs.Identifiers.{has_id}
 use Rattle.session_base.specs.Queue.{room}
-use Rattle.broker_base.specs.Connection.{ConnectionName}
 use Rattle.broker_base.specs.Place.{Client, Mark, Place, Limits}
 use Rattle.broker_base.specs.Subscriptions.{granted_qos}
 use Rattle.broker_base.specs.Marks.{is_queued_at, grants}
 use Rattle.broker_base.specs.Kept.{Kept}
-use Rattle.broker_base.specs.State.{Sessions, State, session_in, owner_in}
+use Rattle.broker_base.specs.State.{State, session_in, owner_in}
 use Rattle.broker_base.specs.declared.command.Command.{Command}
 use Rattle.broker_base.specs.declared.command.Command.TheVariants as commands
 

@@ -43,9 +43,11 @@ queue_of n entries = record { in_flight = flights_below n entries; waiting = wai
 abbrev pub kept_of : Limits → Past → Client → Option Kept
 kept_of limits past c =
     option_map
-      (λ clean. record {
-        clean = clean; connection = current_connection past c;
-        subscriptions = subscriptions_of past c; received = received_of past c;
-        queue = queue_of (length past) (entries_of limits past c);
-      })
-      (session_of past c)
+    (λ clean. record {
+      clean = clean;
+      connection = current_connection past c;
+      subscriptions = subscriptions_of past c;
+      received = received_of past c;
+      queue = queue_of (length past) (entries_of limits past c);
+    })
+    (session_of past c)

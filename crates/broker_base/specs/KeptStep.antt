@@ -1,5 +1,5 @@
 -- What one more command makes of a client's session (MQTT 3.1.2.4, 3.1.4, 3.3.5, 3.8.4, 4.3, 4.4, 4.6).
-use Rattle.std.specs.Prelude.{ℕ, Bool, not, ◌&&◌, ◌||◌, if◌then◌else◌, List, [], ◌∷◌, ◌++◌, Option, Some, None, option_map}
+use Rattle.std.specs.Prelude.{ℕ, Bool, not, ◌&&◌, ◌||◌, if◌then◌else◌, List, [], ◌++◌, Option, Some, None, option_map}
 use Rattle.packet.specs.declared.subscribe.Subscription.{Subscription}
 use Rattle.packet.specs.declared.packet.Packet.TheVariants as packets
 use Rattle.retained.specs.Retained.{Content}
@@ -43,12 +43,13 @@ filled_on None window flights waiting = record { in_flight = flights; waiting = 
 abbrev pub kept_on : ℕ → Place → Content → Client → Bool → Option ConnectionName → Kept → Kept
 kept_on window place content c clean connection old =
     record {
-      clean = clean; connection = connection;
+      clean = clean;
+      connection = connection;
       subscriptions = subscribed place.command place.mark c old.subscriptions;
       received = received_by place.command place.mark c old.received;
       queue = filled_on connection window
-        (answered_flights place.command place.mark c old.queue.in_flight)
-        (old.queue.waiting ++ queued (copies_with place.command place.mark content c old.subscriptions));
+          (answered_flights place.command place.mark c old.queue.in_flight)
+          (old.queue.waiting ++ queued (copies_with place.command place.mark content c old.subscriptions));
     }
 
 -- a session begins on a connection, with nothing in it

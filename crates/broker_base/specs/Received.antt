@@ -1,6 +1,5 @@
 -- The identifiers of QoS 2 publications that a session received and does not have a PUBREL for (MQTT 4.3.3).
 use Rattle.std.specs.Prelude.{ℕ, Bool, true, false, not, ◌==◌, nat_lt, if◌then◌else◌, List, [], ◌∷◌, filter}
-use Rattle.std.specs.List.{list_any}
 use Rattle.packet.specs.declared.delivery.Delivery.{Delivery}
 use Rattle.packet.specs.declared.delivery.Delivery.TheVariants as deliveries
 use Rattle.packet.specs.declared.packet.Packet.TheVariants as packets

@@ -1,5 +1,5 @@
 -- The broker's step: the state and the answers after one more command (MQTT 3.1.4, 3.3.1.3, 4.1, 4.3, 4.4).
-use Rattle.std.specs.Prelude.{◌≡◌, ℕ, Bool, true, false, ◌||◌, if◌then◌else◌, List, [], ◌∷◌, Option, Some, None}
+use Rattle.std.specs.Prelude.{◌≡◌, ℕ, Bool, true, false, ◌||◌, if◌then◌else◌, List, [], ◌∷◌, Option, Some}
 use Rattle.retained.specs.Retained.{Content}
 use Rattle.broker_base.specs.Connection.{ConnectionName}
 use Rattle.broker_base.specs.Place.{Client, same_client, Mark, Place, Past, Limits}
@@ -51,12 +51,14 @@ window_after later command window = if is_start command then later else window
 
 -- the state and the answers after a command that has this mark
 abbrev pub step_at : ℕ → Place → State → State × List Answer
-step_at window place state =
-    (record {
-      window = window;
-      sessions = sessions_with window place state.retained state.sessions place.command place.mark;
-      retained = retained_by place.command place.mark state.retained;
-    }, answers_by_state window place state place.command place.mark)
+step_at window place state = (
+  record {
+    window = window;
+    sessions = sessions_with window place state.retained state.sessions place.command place.mark;
+    retained = retained_by place.command place.mark state.retained;
+  },
+  answers_by_state window place state place.command place.mark,
+)
 
 -- one more command, where the window from a Start on is `later`
 abbrev pub step : Limits → ℕ → State → Command → State × List Answer

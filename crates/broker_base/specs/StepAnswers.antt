@@ -11,7 +11,7 @@ use Rattle.broker_base.specs.Past.{begins_session}
 use Rattle.broker_base.specs.Answers.{closed, welcome, turned_away, acknowledged, codes_of}
 use Rattle.broker_base.specs.Kept.{Kept}
 use Rattle.broker_base.specs.KeptStep.{copies_with}
-use Rattle.broker_base.specs.State.{Sessions, State, session_in}
+use Rattle.broker_base.specs.State.{State, session_in}
 use Rattle.broker_base.specs.declared.command.Command.{Command}
 use Rattle.broker_base.specs.declared.command.Command.TheVariants as commands
 use Rattle.broker_base.specs.declared.command.Answer.{Answer}

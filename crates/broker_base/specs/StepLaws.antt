@@ -1,5 +1,5 @@
 -- Laws of the step: one command at a time it gives what the definitions say of the whole list of commands.
-use Rattle.std.specs.Prelude.{◌≡◌, ℕ, true, false, List, [], ◌∷◌, Option, Some, None}
+use Rattle.std.specs.Prelude.{◌≡◌, ℕ, false, List, [], ◌∷◌, Some, None}
 use Rattle.broker_base.specs.Place.{Client, Place, Past, Limits}
 use Rattle.broker_base.specs.Past.{accepts}
 use Rattle.broker_base.specs.Retained.{retained_publications}
