@@ -10,8 +10,9 @@ use Rattle.broker_base.specs.Connection.{ConnectionName}
 use Rattle.broker_base.specs.Place.{Client, Mark, Place, Past, Limits}
 use Rattle.broker_base.specs.Past.{current_connection, begins}
 use Rattle.broker_base.specs.Owner.{clients}
-use Rattle.broker_base.specs.Publication.{Publication, is_answered}
-use Rattle.broker_base.specs.Received.{has_id}
+use Rattle.session_base.specs.declared.publication.Publication.{Publication}
+use Rattle.session_base.specs.Publication.{is_answered}
+use Rattle.session_base.specs.Identifiers.{has_id}
 use Rattle.broker_base.specs.Entries.{Entry, copies_at}
 use Rattle.broker_base.specs.Readings.{made_at, released_below}
 use Rattle.broker_base.specs.Times.{entries_of}

@@ -8,12 +8,14 @@ use Rattle.retained.specs.Retained.{Content, matching_entries}
 use Rattle.broker_base.specs.Connection.{ConnectionName}
 use Rattle.broker_base.specs.Place.{Client, same_client, Mark, Past, Limits}
 use Rattle.broker_base.specs.Past.{current_connection, session_of, begins, in_session}
-use Rattle.broker_base.specs.Publication.{Publication, publication_of, is_answered}
+use Rattle.session_base.specs.declared.publication.Publication.{Publication}
+use Rattle.session_base.specs.Publication.{publication_of, is_answered}
 use Rattle.broker_base.specs.Subscriptions.{effective_qos, granted_of}
 use Rattle.broker_base.specs.Retained.{retained_publications}
 use Rattle.broker_base.specs.Entries.{Entry, copy_of, retained_copy, copies_for, copies_for_all, copies_by, copies_at, queued}
 use Rattle.broker_base.specs.Readings.{made_of, publication_in}
-use Rattle.broker_base.specs.Times.{entries_of, window_at, start_all, started, least_free}
+use Rattle.session_base.specs.Identifiers.{least_free}
+use Rattle.broker_base.specs.Times.{entries_of, window_at, start_all, started}
 use Rattle.broker_base.specs.OriginLaws.{is_from_publish, EntersOnce}
 use Rattle.broker_base.specs.declared.command.Command.{Command}
 use Rattle.broker_base.specs.declared.command.Command.TheVariants as commands

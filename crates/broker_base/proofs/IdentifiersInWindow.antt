@@ -3,10 +3,11 @@ use Rattle.std.proofs.Common.{◌≡◌, ℕ, ◌≤◌, ◌<◌, Bool, true, fa
 use Rattle.std.specs.List.{AllByRecursion}
 use Rattle.broker_base.specs.Connection.{ConnectionName}
 use Rattle.broker_base.specs.Past.{current_connection, session_of, begins, in_session}
-use Rattle.broker_base.specs.Publication.{Publication}
+use Rattle.session_base.specs.declared.publication.Publication.{Publication}
 use Rattle.broker_base.specs.Entries.{Entry, copies_at, queued}
 use Rattle.broker_base.specs.Readings.{busy_ids}
-use Rattle.broker_base.specs.Times.{entries_of, window_at, start_all, started, least_free}
+use Rattle.session_base.specs.Identifiers.{least_free}
+use Rattle.broker_base.specs.Times.{entries_of, window_at, start_all, started}
 use Rattle.broker_base.specs.Commands.{usual_limits}
 use Rattle.broker_base.specs.IdentifierLaws.{IsInWindow, IdentifiersAreInTheWindow, IdentifiersAreTo16}
 use Rattle.broker_base.proofs.EntriesGrow.{Answered, Answering, answers-by}

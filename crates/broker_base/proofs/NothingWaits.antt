@@ -3,9 +3,10 @@ use Rattle.std.proofs.Common.{◌≡◌, ℕ, suc, ◌≤◌, ◌+◌, Bool, tru
 use Rattle.broker_base.specs.Connection.{ConnectionName}
 use Rattle.broker_base.specs.Place.{Client, Past, Limits}
 use Rattle.broker_base.specs.Past.{current_connection, session_of, begins, in_session}
-use Rattle.broker_base.specs.Publication.{Publication}
+use Rattle.session_base.specs.declared.publication.Publication.{Publication}
 use Rattle.broker_base.specs.Entries.{Entry, is_unfinished}
-use Rattle.broker_base.specs.Times.{entries_of, window_at, start_all, started, least_free}
+use Rattle.session_base.specs.Identifiers.{least_free}
+use Rattle.broker_base.specs.Times.{entries_of, window_at, start_all, started}
 use Rattle.broker_base.specs.EntryLaws.{NothingWaitsInVain}
 
 -- with so many unfinished entries before these, each that waits has a full window before it

@@ -11,7 +11,8 @@ use Rattle.broker_base.specs.Subscriptions.{subscribed, subscriptions_of}
 use Rattle.broker_base.specs.Received.{received_by, received_of}
 use Rattle.broker_base.specs.Retained.{retained_by, retained_publications}
 use Rattle.broker_base.specs.Entries.{Entry, copies_by}
-use Rattle.broker_base.specs.Times.{entries_of, window_at, start_all, started, answered_by, least_free}
+use Rattle.session_base.specs.Identifiers.{least_free}
+use Rattle.broker_base.specs.Times.{entries_of, window_at, start_all, started, answered_by}
 use Rattle.broker_base.specs.Answers.{packet_answers}
 use Rattle.broker_base.specs.QuietLaws.{IsSteady, PacketOfNobodyIsNothing, WindowIsSteady}
 use Rattle.broker_base.specs.declared.command.Command.TheVariants as commands

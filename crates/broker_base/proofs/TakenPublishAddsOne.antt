@@ -5,11 +5,13 @@ use Rattle.packet.specs.declared.qos.QoS.{QoS}
 use Rattle.packet.specs.declared.qos.QoS.TheVariants as levels
 use Rattle.broker_base.specs.Connection.{ConnectionName}
 use Rattle.broker_base.specs.Past.{current_connection, session_of, in_session}
-use Rattle.broker_base.specs.Publication.{Publication, publication_of}
+use Rattle.session_base.specs.declared.publication.Publication.{Publication}
+use Rattle.session_base.specs.Publication.{publication_of}
 use Rattle.broker_base.specs.Subscriptions.{effective_qos}
 use Rattle.broker_base.specs.Marks.{is_queued_at}
 use Rattle.broker_base.specs.Entries.{Entry, copy_of, queued}
-use Rattle.broker_base.specs.Times.{entries_of, window_at, start_all, started, least_free}
+use Rattle.session_base.specs.Identifiers.{least_free}
+use Rattle.broker_base.specs.Times.{entries_of, window_at, start_all, started}
 use Rattle.broker_base.specs.EntryLaws.{taken, TakenPublishAddsOne}
 
 start-length : (w n : ℕ) (busy : List ℕ) (es : List Entry) → length (start_all w n busy es) ≡ length es

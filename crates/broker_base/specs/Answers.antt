@@ -13,7 +13,7 @@ use Rattle.broker_base.specs.Connection.{ConnectionName}
 use Rattle.broker_base.specs.Place.{Client, Mark, Place, Past, Limits}
 use Rattle.broker_base.specs.Past.{current_connection, begins}
 use Rattle.broker_base.specs.Owner.{clients}
-use Rattle.broker_base.specs.Received.{has_id}
+use Rattle.session_base.specs.Identifiers.{has_id}
 use Rattle.broker_base.specs.Readings.{released_below}
 use Rattle.broker_base.specs.Times.{entries_of}
 use Rattle.broker_base.specs.Sends.{all_started, resent, deliveries_to}

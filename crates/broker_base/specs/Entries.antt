@@ -7,7 +7,8 @@ use Rattle.packet.specs.declared.packet.Packet.TheVariants as packets
 use Rattle.retained.specs.declared.kept.Kept.{Kept}
 use Rattle.retained.specs.Retained.{Content, matching_entries}
 use Rattle.broker_base.specs.Place.{Client, same_client, Mark, Place, Past}
-use Rattle.broker_base.specs.Publication.{Publication, publication_of, is_answered, lower_qos}
+use Rattle.session_base.specs.declared.publication.Publication.{Publication}
+use Rattle.session_base.specs.Publication.{publication_of, is_answered, lower_qos}
 use Rattle.broker_base.specs.Subscriptions.{granted_of, effective_qos}
 use Rattle.broker_base.specs.Retained.{retained_publications}
 use Rattle.broker_base.specs.declared.command.Command.{Command}

@@ -1,10 +1,16 @@
+pub mod StepLaws
+pub mod State
+pub mod Decisions
+pub mod StepAnswers
+pub mod Step
+pub mod Kept
+pub mod KeptStep
 pub mod Connection
 pub mod Sized
 pub mod Logged
 pub mod Place
 pub mod Past
 pub mod Owner
-pub mod Publication
 pub mod Subscriptions
 pub mod Received
 pub mod Retained

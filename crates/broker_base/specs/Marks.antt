@@ -9,7 +9,8 @@ use Rattle.retained.specs.Retained.{Content}
 use Rattle.broker_base.specs.Place.{Client, Mark, Past, Limits}
 use Rattle.broker_base.specs.Past.{session_of}
 use Rattle.broker_base.specs.Owner.{clients, owner_of}
-use Rattle.broker_base.specs.Publication.{Publication, publication_of, is_answered}
+use Rattle.session_base.specs.declared.publication.Publication.{Publication}
+use Rattle.session_base.specs.Publication.{publication_of, is_answered}
 use Rattle.broker_base.specs.Subscriptions.{with_subscription, subscriptions_of, effective_qos}
 use Rattle.broker_base.specs.Received.{is_repeat}
 use Rattle.broker_base.specs.Retained.{retained_publications, is_retained_over}

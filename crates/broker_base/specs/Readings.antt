@@ -1,6 +1,6 @@
 -- What an entry of a session, or all of them, say: origin, times, and what is under way (MQTT 4.4).
 use Rattle.std.specs.Prelude.{ℕ, zero, suc, Bool, true, false, ◌==◌, if◌then◌else◌, List, [], ◌∷◌, ◌++◌, filter, Option, Some, None}
-use Rattle.broker_base.specs.Publication.{Publication}
+use Rattle.session_base.specs.declared.publication.Publication.{Publication}
 use Rattle.broker_base.specs.Entries.{Entry}
 
 -- where an entry comes from: a PUBLISH taken at this place, or what was retained when a SUBSCRIBE came at it

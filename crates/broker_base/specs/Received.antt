@@ -1,17 +1,13 @@
 -- The identifiers of QoS 2 publications that a session received and does not have a PUBREL for (MQTT 4.3.3).
 use Rattle.std.specs.Prelude.{ℕ, Bool, true, false, not, ◌==◌, nat_lt, if◌then◌else◌, List, [], ◌∷◌, filter}
-use Rattle.std.specs.List.{list_any}
 use Rattle.packet.specs.declared.delivery.Delivery.{Delivery}
 use Rattle.packet.specs.declared.delivery.Delivery.TheVariants as deliveries
 use Rattle.packet.specs.declared.packet.Packet.TheVariants as packets
+use Rattle.session_base.specs.Identifiers.{has_id}
 use Rattle.broker_base.specs.Place.{Client, same_client, Mark, Past}
 use Rattle.broker_base.specs.Past.{session_of, begins, in_session}
 use Rattle.broker_base.specs.declared.command.Command.{Command}
 use Rattle.broker_base.specs.declared.command.Command.TheVariants as commands
-
--- whether the identifier is among these
-abbrev pub has_id : ℕ → List ℕ → Bool
-has_id id = list_any (λ other. id == other)
 
 -- without the identifier
 abbrev pub without_id : ℕ → List ℕ → List ℕ

@@ -4,7 +4,8 @@ use Rattle.packet.specs.declared.packet.Packet.TheVariants as packets
 use Rattle.broker_base.specs.Connection.{ConnectionName}
 use Rattle.broker_base.specs.Place.{Client, Place, Past, Limits}
 use Rattle.broker_base.specs.Past.{current_connection}
-use Rattle.broker_base.specs.Publication.{Publication, publish_of, is_answered}
+use Rattle.session_base.specs.declared.publication.Publication.{Publication}
+use Rattle.session_base.specs.Publication.{publish_of, is_answered}
 use Rattle.broker_base.specs.Entries.{Entry, copies_at}
 use Rattle.broker_base.specs.Readings.{made_at, released_below}
 use Rattle.broker_base.specs.Times.{entries_of}

@@ -2,8 +2,8 @@
 use Rattle.std.specs.Prelude.{◌≡◌, ◌≤◌, ◌<◌, ℕ, true, false, List, ◌∷◌, ◌++◌, length, is_some}
 use Rattle.broker_base.specs.Place.{Client, Place, Past, Limits}
 use Rattle.broker_base.specs.Past.{current_connection}
-use Rattle.broker_base.specs.Publication.{Publication}
-use Rattle.broker_base.specs.Received.{has_id}
+use Rattle.session_base.specs.declared.publication.Publication.{Publication}
+use Rattle.session_base.specs.Identifiers.{has_id}
 use Rattle.broker_base.specs.Entries.{Entry}
 use Rattle.broker_base.specs.Readings.{busy_ids}
 use Rattle.broker_base.specs.Times.{entries_of, window_at}

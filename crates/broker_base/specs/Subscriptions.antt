@@ -6,7 +6,8 @@ use Rattle.packet.specs.declared.subscribe.Subscription.{Subscription}
 use Rattle.packet.specs.declared.packet.Packet.TheVariants as packets
 use Rattle.broker_base.specs.Place.{Client, same_client, Mark, Past}
 use Rattle.broker_base.specs.Past.{session_of, begins, in_session}
-use Rattle.broker_base.specs.Publication.{Publication, lower_qos, greater_qos}
+use Rattle.session_base.specs.declared.publication.Publication.{Publication}
+use Rattle.session_base.specs.Publication.{lower_qos, greater_qos}
 use Rattle.broker_base.specs.declared.command.Command.{Command}
 use Rattle.broker_base.specs.declared.command.Command.TheVariants as commands
 

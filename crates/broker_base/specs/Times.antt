@@ -1,11 +1,11 @@
 -- When the entries of a session start, are released and finish (MQTT 4.3.2, 4.3.3, 4.4, 4.6).
-use Rattle.std.specs.Prelude.{ℕ, ◌-◌, zero, suc, not, ◌&&◌, ◌==◌, nat_lt, if◌then◌else◌, List, [], ◌∷◌, ◌++◌, length, map, filter, Option, Some, None}
+use Rattle.std.specs.Prelude.{ℕ, ◌-◌, not, ◌&&◌, ◌==◌, nat_lt, if◌then◌else◌, List, [], ◌∷◌, ◌++◌, length, map, filter, Option, Some, None}
 use Rattle.packet.specs.declared.packet.Packet.TheVariants as packets
+use Rattle.session_base.specs.Identifiers.{least_free}
 use Rattle.broker_base.specs.Connection.{ConnectionName}
 use Rattle.broker_base.specs.Place.{Client, same_client, Mark, Past, Limits}
 use Rattle.broker_base.specs.Past.{current_connection, session_of, begins, in_session}
-use Rattle.broker_base.specs.Publication.{is_acknowledged}
-use Rattle.broker_base.specs.Received.{has_id}
+use Rattle.session_base.specs.Publication.{is_acknowledged}
 use Rattle.broker_base.specs.Entries.{Entry, copies_at, queued, is_unfinished}
 use Rattle.broker_base.specs.declared.command.Command.{Command}
 use Rattle.broker_base.specs.declared.command.Command.TheVariants as commands
@@ -41,15 +41,6 @@ answered_by (commands.Packet x (packets.Pubcomp i)) (Mark.Handled d) n c entries
 answered_by _ _ n c entries = entries
 
 -- ---- what starts
-
--- the first number from i on that is not busy, where so many may be
-abbrev pub free_from : ℕ → ℕ → List ℕ → ℕ
-free_from zero i busy = i
-free_from (suc many) i busy = if has_id i busy then free_from many (suc i) busy else i
-
--- the smallest number from 1 up that is not busy
-abbrev pub least_free : List ℕ → ℕ
-least_free busy = free_from (length busy) 1 busy
 
 -- Goes along the entries with the identifiers of the earlier unfinished ones. One that waits starts where fewer
 -- than the window are unfinished before it, with the least identifier that none of them has; else no later one

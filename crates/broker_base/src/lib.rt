@@ -7,6 +7,7 @@ mod connection_id;
 mod laws;
 mod rows;
 mod sized_packet;
+mod step_laws;
 
 pub use command::{Answer, Command};
 pub use connection_id::ConnectionId;
@@ -22,3 +23,6 @@ pub use rows::{
     two_filters_one_publication, window_of_64,
 };
 pub use sized_packet::{SizedPacket, TooLarge};
+pub use step_laws::{
+    decisions_stand_for, list_stands_for, others_stay, session_step, step_stands_for,
+};

@@ -1,5 +1,5 @@
 -- Publications, and the packets that carry them (MQTT 3.3).
-use Rattle.std.specs.Prelude.{ℕ, Bool, true, false, if◌then◌else◌, nat_lt, List, Option, Some, None}
+use Rattle.std.specs.Prelude.{ℕ, Bool, true, false, if◌then◌else◌, nat_lt, Option, Some, None}
 use Rattle.packet.specs.declared.qos.QoS.{QoS}
 use Rattle.packet.specs.declared.qos.QoS.TheVariants as levels
 use Rattle.packet.specs.declared.delivery.Delivery.{Delivery}
@@ -7,13 +7,7 @@ use Rattle.packet.specs.declared.delivery.Delivery.TheVariants as deliveries
 use Rattle.packet.specs.declared.publish.Publish.{Publish}
 use Rattle.packet.specs.QoS.{qos_number}
 use Rattle.packet.specs.Delivery.{delivery_qos}
-
--- an Application Message: what a PUBLISH carries, without how it is delivered
-pub record Publication : Type 0 where
-  pub retain : Bool
-  pub qos : QoS
-  pub topic : List ℕ
-  pub payload : List ℕ
+use Rattle.session_base.specs.declared.publication.Publication.{Publication}
 
 -- what this PUBLISH carries
 abbrev pub publication_of : Publish → Publication

@@ -1,0 +1,247 @@
+-- What a place sends to the client of a session, as what is kept of the session says.
+use Rattle.std.proofs.Common.{◌≡◌, ℕ, ◌<◌, ◌≤◌, zero, suc, Bool, true, false, ◌&&◌, ◌||◌, ◌⊎◌, inl, inr, ◌==◌, if◌then◌else◌, Option, Some, None, List, [], ◌∷◌, ◌++◌, length, map, refl, ap, ap₂, ◌∙◌, sym, subst, arith}
+use Rattle.std.specs.List.{list_any}
+use Rattle.std.proofs.lemmas.List.Folds.{list_any-append}
+use Rattle.packet.specs.declared.subscribe.Subscription.{Subscription}
+use Rattle.packet.specs.declared.packet.Packet.{Packet}
+use Rattle.packet.specs.declared.packet.Packet.TheVariants as packets
+use Rattle.session_base.specs.declared.publication.Publication.{Publication}
+use Rattle.session_base.specs.Identifiers.{has_id}
+use Rattle.session_base.specs.Queue.{awaits_pubcomp, ids_of, on_pubrec}
+use Rattle.session_base.specs.Sending.{fill_sends, resend, pubrec_sends, copies_sent}
+use Rattle.broker_base.specs.Connection.{ConnectionName}
+use Rattle.broker_base.specs.Place.{Client, Mark, Place, Past, Limits}
+use Rattle.broker_base.specs.Past.{accepts, ends_any, current_connection, session_of, newest_session, newest_connection, is_beginning, in_session}
+use Rattle.broker_base.specs.Subscriptions.{subscriptions_of}
+use Rattle.broker_base.specs.Received.{received_of}
+use Rattle.broker_base.specs.Retained.{retained_publications}
+use Rattle.broker_base.specs.Entries.{Entry, copies_at, queued}
+use Rattle.broker_base.specs.Readings.{made_at, released_below, waiting_of, busy_ids}
+use Rattle.broker_base.specs.Times.{at_pubrec, answered_by, start_all, started, window_at, entries_of}
+use Rattle.broker_base.specs.Sends.{all_started, resent, handed, handed_to, deliveries_to}
+use Rattle.broker_base.specs.Answers.{closed}
+use Rattle.broker_base.specs.Kept.{Kept, sent_flights, released_flight, flights_below, queue_of, kept_of}
+use Rattle.broker_base.specs.KeptStep.{answered_flights}
+use Rattle.broker_base.specs.StepAnswers.{copies_to, while_connected, connection_of, resumed}
+use Rattle.broker_base.specs.declared.command.Command.{Command}
+use Rattle.broker_base.specs.declared.command.Answer.TheVariants.{Send}
+use Rattle.broker_base.proofs.CountedIdentifiers.{count, SameIds, same_length}
+use Rattle.broker_base.proofs.SoundEntries.{Sound}
+use Rattle.broker_base.proofs.AnswersInFlight.{awaits_no_pubcomp}
+use Rattle.broker_base.proofs.PubrecInFlight.{flights_pubrec}
+use Rattle.broker_base.proofs.StartsInFlight.{append_none, same_ids, released_started}
+use Rattle.broker_base.proofs.SendsOfStarts.{StartedBefore, before_below, before_answered, starts_sent, resent_is}
+use Rattle.broker_base.proofs.SendsOfCopies.{Quiet, handed_is, busy_from, busy_from_is, made_here}
+use Rattle.broker_base.proofs.KeptAfter.{sound_entries, sound_answered, flights_answered, waiting_answered, copies_are, kept_with}
+use Rattle.broker_base.proofs.QuietPasts.{QuietEntries, quiet_entries, quiet_queue, no_connection, entries_next, entries_none}
+
+-- ---- copies
+
+pub delivered : (x : ConnectionName) (w n : ℕ) (es : List Entry) (copies : List Publication) → Sound n es → QuietEntries w es → Quiet w (flights_below n es) (waiting_of es) →
+    handed x n copies (made_at n (start_all w n [] (es ++ map (Entry.Waits n) (queued copies)))) ≡ map (Send x) (copies_sent w copies (queue_of n es))
+delivered x w n es copies s quiet quiet_flights =
+    ap (handed x n copies) (made_here w n [] es (queued copies) s.below s.in_order (by quiet))
+    ∙ handed_is x w n (busy_from [] es) (flights_below n es) (waiting_of es) copies same quiet_flights
+  where
+    same : SameIds (ids_of (flights_below n es)) (busy_from [] es)
+    same test = same_ids n es s.below test ∙ ap (count test) (sym (append_none (busy_ids es))) ∙ busy_from_is [] es s.in_order test
+
+    size : length (busy_ids es) ≡ length (busy_from [] es)
+    size = same_length (busy_ids es) (busy_from [] es) (λ test. ap (count test) (sym (append_none (busy_ids es))) ∙ busy_from_is [] es s.in_order test)
+
+    by : QuietEntries w es → (waiting_of es ≡ []) ⊎ (w ≤ length (busy_from [] es))
+    by (inl e) = inl e
+    by (inr h) = inr (omega (arith, h, size))
+
+-- by the session and the connection
+copies_by_kept : (limits : Limits) (place : Place) (past : Past) (c : Client) (session : Option Bool) (connection : Option ConnectionName) →
+    session_of past c ≡ session → current_connection past c ≡ connection →
+    accepts place.command place.mark c ≡ None → ends_any place (current_connection past c) ≡ false →
+    answered_by place.command place.mark (length past) c (entries_of limits past c) ≡ entries_of limits past c →
+    window_at limits (place ∷ past) ≡ window_at limits past →
+    handed_to connection (length past) (copies_at place past c) (made_at (length past) (entries_of limits (place ∷ past) c))
+    ≡ copies_to (window_at limits (place ∷ past)) place (retained_publications past) c
+    (kept_with (length past) session connection (subscriptions_of past c) (received_of past c) (entries_of limits past c))
+copies_by_kept limits place past c None None is_session is_connection not_opened not_ended no_answer same_window = refl
+copies_by_kept limits place past c None (Some x) is_session is_connection not_opened not_ended no_answer same_window =
+    absurd (let none : current_connection past c ≡ None = no_connection past c is_session in cc)
+copies_by_kept limits place past c (Some clean) None is_session is_connection not_opened not_ended no_answer same_window = refl
+copies_by_kept limits place past c (Some clean) (Some x) is_session is_connection not_opened not_ended no_answer same_window =
+    ap (λ es. handed x (length past) (copies_at place past c) (made_at (length past) es))
+    (entries_next limits place past c clean not_opened not_ended is_session
+    ∙ ap₂ (λ connection es. started (window_at limits (place ∷ past)) (length past) connection (es ++ map (Entry.Waits (length past)) (queued (copies_at place past c)))) is_connection no_answer)
+    ∙ delivered x (window_at limits (place ∷ past)) (length past) (entries_of limits past c) (copies_at place past c) (sound_entries limits past c)
+    (subst (λ (w : ℕ). QuietEntries w (entries_of limits past c)) (sym same_window) (quiet_entries limits past c x is_connection))
+    (subst (λ (w : ℕ). Quiet w (flights_below (length past) (entries_of limits past c)) (waiting_of (entries_of limits past c))) (sym same_window) (quiet_queue limits past c x is_connection))
+    ∙ ap (λ ps. map (Send x) (copies_sent (window_at limits (place ∷ past)) ps (queue_of (length past) (entries_of limits past c)))) (copies_are place.command place.mark past c)
+
+pub deliveries_are : (limits : Limits) (place : Place) (past : Past) (c : Client) →
+    accepts place.command place.mark c ≡ None → ends_any place (current_connection past c) ≡ false →
+    answered_by place.command place.mark (length past) c (entries_of limits past c) ≡ entries_of limits past c →
+    window_at limits (place ∷ past) ≡ window_at limits past →
+    deliveries_to limits place past c ≡ copies_to (window_at limits (place ∷ past)) place (retained_publications past) c (kept_of limits past c)
+deliveries_are limits place past c = copies_by_kept limits place past c (session_of past c) (current_connection past c) refl refl
+
+-- ---- the client's answers
+
+nothing_started : (x : ConnectionName) (n : ℕ) (es : List Entry) → StartedBefore n es → all_started x n es ≡ []
+nothing_started x n [] h = refl
+nothing_started x n (Entry.Waits made p ∷ es) h = nothing_started x n es h
+nothing_started x n (Entry.Started made p id start ∷ es) h = rw (earlier start n h.0) (nothing_started x n es h.1)
+  where
+    earlier : (start n : ℕ) → start < n → (start == n) ≡ false
+    earlier start n h = grind arith
+nothing_started x n (Entry.Released made p id start release ∷ es) h = nothing_started x n es h
+nothing_started x n (Entry.Finished made p id start release finish ∷ es) h = nothing_started x n es h
+
+-- what starts behind a client's answer, by its connection
+started_behind : (x : ConnectionName) (w n : ℕ) (command : Command) (mark : Mark) (c : Client) (connection : Option ConnectionName) (es : List Entry) → Sound n es →
+    all_started x n (started w n connection (answered_by command mark n c es ++ map (Entry.Waits n) []))
+    ≡ map (Send x) (while_connected connection (fill_sends w (answered_flights command mark c (flights_below n es)) (waiting_of es)))
+started_behind x w n command mark c connection es s =
+    ap (λ others. all_started x n (started w n connection others)) (append_none (answered_by command mark n c es))
+    ∙ by connection
+  where
+    before : StartedBefore n (answered_by command mark n c es)
+    before = before_answered command mark n c es (before_below n es s.below)
+
+    by : (connection : Option ConnectionName) →
+        all_started x n (started w n connection (answered_by command mark n c es))
+        ≡ map (Send x) (while_connected connection (fill_sends w (answered_flights command mark c (flights_below n es)) (waiting_of es)))
+    by None = nothing_started x n (answered_by command mark n c es) before
+    by (Some y) =
+        let t : Sound (suc n) (answered_by command mark n c es) = sound_answered command mark n c es s in
+        starts_sent x w n [] (flights_below (suc n) (answered_by command mark n c es)) (answered_by command mark n c es) t.in_order before
+        (λ test. same_ids (suc n) (answered_by command mark n c es) t.below test ∙ ap (count test) (sym (append_none (busy_ids (answered_by command mark n c es)))))
+        ∙ ap₂ (λ fs ps. map (Send x) (fill_sends w fs ps)) (flights_answered command mark n c es s) (waiting_answered command mark n c es)
+
+-- the same of the session, if there is one
+abbrev pub fills_behind : ℕ → Command → Mark → Client → Option Kept → List Packet
+fills_behind w command mark c (Some kept) = while_connected kept.connection (fill_sends w (answered_flights command mark c kept.queue.in_flight) kept.queue.waiting)
+fills_behind w command mark c None = []
+
+started_by_kept : (limits : Limits) (place : Place) (past : Past) (c : Client) (x : ConnectionName) (session : Option Bool) → session_of past c ≡ session →
+    accepts place.command place.mark c ≡ None → ends_any place (current_connection past c) ≡ false → copies_at place past c ≡ [] →
+    all_started x (length past) (entries_of limits (place ∷ past) c)
+    ≡ map (Send x) (fills_behind (window_at limits (place ∷ past)) place.command place.mark c
+    (kept_with (length past) session (current_connection past c) (subscriptions_of past c) (received_of past c) (entries_of limits past c)))
+started_by_kept limits place past c x None is_session not_opened not_ended no_copies =
+    ap (all_started x (length past)) (entries_none limits place past c not_opened is_session)
+started_by_kept limits place past c x (Some clean) is_session not_opened not_ended no_copies =
+    ap (all_started x (length past))
+    (entries_next limits place past c clean not_opened not_ended is_session
+    ∙ ap (λ ps. started (window_at limits (place ∷ past)) (length past) (current_connection past c) (answered_by place.command place.mark (length past) c (entries_of limits past c) ++ map (Entry.Waits (length past)) (queued ps))) no_copies)
+    ∙ started_behind x (window_at limits (place ∷ past)) (length past) place.command place.mark c (current_connection past c) (entries_of limits past c) (sound_entries limits past c)
+
+pub starts_are : (limits : Limits) (place : Place) (past : Past) (c : Client) (x : ConnectionName) →
+    accepts place.command place.mark c ≡ None → ends_any place (current_connection past c) ≡ false → copies_at place past c ≡ [] →
+    all_started x (length past) (entries_of limits (place ∷ past) c)
+    ≡ map (Send x) (fills_behind (window_at limits (place ∷ past)) place.command place.mark c (kept_of limits past c))
+starts_are limits place past c x = started_by_kept limits place past c x (session_of past c) refl
+
+-- ---- PUBREC
+
+has_released : (i : ℕ) (ids : List ℕ) → list_any (λ flight. awaits_pubcomp i flight) (map released_flight ids) ≡ has_id i ids
+has_released i [] = refl
+has_released i (id ∷ ids) = ap₂ (λ a b. a || b) (yes (i == id)) (has_released i ids)
+  where
+    yes : (b : Bool) → (b && true) ≡ b
+    yes true = refl
+    yes false = refl
+
+sent_has_none : (i : ℕ) (es : List Entry) → list_any (λ flight. awaits_pubcomp i flight) (sent_flights es) ≡ false
+sent_has_none i [] = refl
+sent_has_none i (Entry.Waits made p ∷ es) = sent_has_none i es
+sent_has_none i (Entry.Started made p id start ∷ es) = rw (awaits_no_pubcomp i id p) (sent_has_none i es)
+sent_has_none i (Entry.Released made p id start release ∷ es) = sent_has_none i es
+sent_has_none i (Entry.Finished made p id start release finish ∷ es) = sent_has_none i es
+
+or_none : (b : Bool) → (b || false) ≡ b
+or_none true = refl
+or_none false = refl
+
+pub has_in_flight : (i n : ℕ) (es : List Entry) → list_any (λ flight. awaits_pubcomp i flight) (flights_below n es) ≡ has_id i (released_below n es)
+has_in_flight i n es =
+    list_any-append (λ flight. awaits_pubcomp i flight) (map released_flight (released_below n es)) (sent_flights es)
+    ∙ ap₂ (λ a b. a || b) (has_released i (released_below n es)) (sent_has_none i es)
+    ∙ or_none (has_id i (released_below n es))
+
+released_anyway : (t w n : ℕ) (connection : Option ConnectionName) (es : List Entry) → released_below t (started w n connection es) ≡ released_below t es
+released_anyway t w n None es = refl
+released_anyway t w n (Some x) es = released_started t w n [] es
+
+none_released_ever : (t : ℕ) → released_below t [] ≡ []
+none_released_ever zero = refl
+none_released_ever (suc t) = append_none (released_below t []) ∙ none_released_ever t
+
+-- the identifiers of released entries behind a PUBREC, if there is a session
+abbrev pub pubrels_behind : ℕ → Option Kept → List Packet
+pubrels_behind i (Some kept) = pubrec_sends i (on_pubrec i kept.queue.in_flight)
+pubrels_behind i None = []
+
+pubrec_by_kept : (limits : Limits) (place : Place) (past : Past) (c : Client) (x : ConnectionName) (i : ℕ) (session : Option Bool) → session_of past c ≡ session →
+    accepts place.command place.mark c ≡ None → ends_any place (current_connection past c) ≡ false → copies_at place past c ≡ [] →
+    answered_by place.command place.mark (length past) c (entries_of limits past c) ≡ map (at_pubrec (length past) i) (entries_of limits past c) →
+    (if has_id i (released_below (suc (length past)) (entries_of limits (place ∷ past) c)) then Send x (packets.Pubrel i) ∷ [] else [])
+    ≡ map (Send x) (pubrels_behind i (kept_with (length past) session (current_connection past c) (subscriptions_of past c) (received_of past c) (entries_of limits past c)))
+pubrec_by_kept limits place past c x i None is_session not_opened not_ended no_copies answer =
+    ap (λ ids. if has_id i ids then Send x (packets.Pubrel i) ∷ [] else [])
+    (ap (released_below (suc (length past))) (entries_none limits place past c not_opened is_session) ∙ none_released_ever (suc (length past)))
+pubrec_by_kept limits place past c x i (Some clean) is_session not_opened not_ended no_copies answer =
+    ap (λ b. if b then Send x (packets.Pubrel i) ∷ [] else [])
+    (ap (λ es. has_id i (released_below (suc (length past)) es))
+    (entries_next limits place past c clean not_opened not_ended is_session
+    ∙ ap₂ (λ es ps. started (window_at limits (place ∷ past)) (length past) (current_connection past c) (es ++ map (Entry.Waits (length past)) (queued ps))) answer no_copies
+    ∙ ap (started (window_at limits (place ∷ past)) (length past) (current_connection past c)) (append_none (map (at_pubrec (length past) i) (entries_of limits past c))))
+    ∙ ap (has_id i) (released_anyway (suc (length past)) (window_at limits (place ∷ past)) (length past) (current_connection past c) (map (at_pubrec (length past) i) (entries_of limits past c)))
+    ∙ sym (has_in_flight i (suc (length past)) (map (at_pubrec (length past) i) (entries_of limits past c)))
+    ∙ ap (list_any (λ flight. awaits_pubcomp i flight)) (flights_pubrec (length past) i (entries_of limits past c) (sound_entries limits past c)))
+    ∙ by (list_any (λ flight. awaits_pubcomp i flight) (on_pubrec i (flights_below (length past) (entries_of limits past c))))
+  where
+    by : (b : Bool) → (if b then Send x (packets.Pubrel i) ∷ [] else []) ≡ map (Send x) (if b then packets.Pubrel i ∷ [] else [])
+    by true = refl
+    by false = refl
+
+pub pubrec_is : (limits : Limits) (place : Place) (past : Past) (c : Client) (x : ConnectionName) (i : ℕ) →
+    accepts place.command place.mark c ≡ None → ends_any place (current_connection past c) ≡ false → copies_at place past c ≡ [] →
+    answered_by place.command place.mark (length past) c (entries_of limits past c) ≡ map (at_pubrec (length past) i) (entries_of limits past c) →
+    (if has_id i (released_below (suc (length past)) (entries_of limits (place ∷ past) c)) then Send x (packets.Pubrel i) ∷ [] else [])
+    ≡ map (Send x) (pubrels_behind i (kept_of limits past c))
+pubrec_is limits place past c x i = pubrec_by_kept limits place past c x i (session_of past c) refl
+
+-- ---- a Connect
+
+pub closed_is : (limits : Limits) (past : Past) (c : Client) → closed (current_connection past c) ≡ closed (connection_of (kept_of limits past c))
+closed_is limits past c = by (session_of past c) refl
+  where
+    by : (session : Option Bool) → session_of past c ≡ session →
+        closed (current_connection past c) ≡ closed (connection_of (kept_with (length past) session (current_connection past c) (subscriptions_of past c) (received_of past c) (entries_of limits past c)))
+    by None e = ap closed (no_connection past c e)
+    by (Some clean) e = refl
+
+resumed_by : (x : ConnectionName) (w n : ℕ) (clean over : Bool) (session : Option Bool) (connection : Option ConnectionName) (held : List Subscription) (ids : List ℕ) (es : List Entry) → Sound n es →
+    resent x n (in_session (newest_session (Some (x, clean)) over session) (is_beginning (Some (x, clean)) session) []
+    (started w n (newest_connection (Some (x, clean)) over connection) (es ++ map (Entry.Waits n) [])))
+    ≡ map (Send x) (resumed w clean (kept_with n session connection held ids es))
+resumed_by x w n clean over None connection held ids es s = ap (λ ids. map (λ id. Send x (packets.Pubrel id)) ids ++ [] ++ []) (none_released_ever n)
+resumed_by x w n clean over (Some old) connection held ids es s = by (clean || old)
+  where
+    by : (b : Bool) →
+        resent x n (in_session (Some clean) b [] (start_all w n [] (es ++ map (Entry.Waits n) [])))
+        ≡ map (Send x) (if b then [] else resend (flights_below n es) ++ fill_sends w (flights_below n es) (waiting_of es))
+    by true = ap (λ ids. map (λ id. Send x (packets.Pubrel id)) ids ++ [] ++ []) (none_released_ever n)
+    by false = ap (λ others. resent x n (start_all w n [] others)) (append_none es) ∙ resent_is x w n es s.below s.in_order
+
+pub resumed_is : (limits : Limits) (past : Past) (c : Client) (x : ConnectionName) (clean : Bool) (place : Place) →
+    accepts place.command place.mark c ≡ Some (x, clean) → copies_at place past c ≡ [] →
+    answered_by place.command place.mark (length past) c (entries_of limits past c) ≡ entries_of limits past c →
+    resent x (length past) (entries_of limits (place ∷ past) c) ≡ map (Send x) (resumed (window_at limits (place ∷ past)) clean (kept_of limits past c))
+unfolding entries_of session_of current_connection
+resumed_is limits past c x clean place opens no_copies no_answer =
+    ap (λ opened. resent x (length past) (in_session (newest_session opened (ends_any place (current_connection past c)) (session_of past c)) (is_beginning opened (session_of past c)) []
+    (started (window_at limits (place ∷ past)) (length past) (newest_connection opened (ends_any place (current_connection past c)) (current_connection past c))
+    (answered_by place.command place.mark (length past) c (entries_of limits past c) ++ map (Entry.Waits (length past)) (queued (copies_at place past c)))))) opens
+    ∙ ap₂ (λ es ps. resent x (length past) (in_session (newest_session (Some (x, clean)) (ends_any place (current_connection past c)) (session_of past c)) (is_beginning (Some (x, clean)) (session_of past c)) []
+    (started (window_at limits (place ∷ past)) (length past) (newest_connection (Some (x, clean)) (ends_any place (current_connection past c)) (current_connection past c)) (es ++ map (Entry.Waits (length past)) (queued ps))))) no_answer no_copies
+    ∙ resumed_by x (window_at limits (place ∷ past)) (length past) clean (ends_any place (current_connection past c)) (session_of past c) (current_connection past c)
+    (subscriptions_of past c) (received_of past c) (entries_of limits past c) (sound_entries limits past c)

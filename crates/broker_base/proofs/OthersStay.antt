@@ -1,0 +1,153 @@
+-- A session that a place does not touch stays as it is.
+use Rattle.std.proofs.Common.{◌≡◌, ℕ, Bool, true, false, not, ◌&&◌, if◌then◌else◌, Option, Some, None, List, [], ◌∷◌, ◌++◌, length, refl, ap, ap₂, ◌∙◌, sym, subst}
+use Rattle.std.proofs.lemmas.Bool.{or_parts}
+use Rattle.packet.specs.declared.subscribe.Subscription.{Subscription}
+use Rattle.packet.specs.declared.packet.Packet.TheVariants as packets
+use Rattle.retained.specs.Retained.{Content}
+use Rattle.session_base.specs.declared.publication.Publication.{Publication}
+use Rattle.session_base.specs.Queue.{Flight}
+use Rattle.broker_base.specs.Connection.{ConnectionName}
+use Rattle.broker_base.specs.Place.{Client, same_client, Mark, Place, Past, Limits, only_if}
+use Rattle.broker_base.specs.Past.{accepts, any_connection, ends, ends_any, current_connection, session_of}
+use Rattle.broker_base.specs.Subscriptions.{subscribed, subscriptions_of}
+use Rattle.broker_base.specs.Received.{received_by, received_of}
+use Rattle.broker_base.specs.Retained.{retained_publications}
+use Rattle.broker_base.specs.Entries.{queued}
+use Rattle.broker_base.specs.Readings.{waiting_of}
+use Rattle.broker_base.specs.Times.{window_at, entries_of}
+use Rattle.broker_base.specs.Commands.{is_start}
+use Rattle.broker_base.specs.Kept.{Kept, flights_below, queue_of, kept_of}
+use Rattle.broker_base.specs.KeptStep.{copies_with, answered_flights, filled_on, kept_by, kept_after}
+use Rattle.broker_base.specs.Step.{is_about, touches, session_after, IsWindow}
+use Rattle.broker_base.specs.declared.command.Command.{Command}
+use Rattle.broker_base.specs.declared.command.Command.TheVariants as commands
+use Rattle.broker_base.proofs.StartsInFlight.{append_none}
+use Rattle.broker_base.proofs.SendsOfCopies.{Quiet}
+use Rattle.broker_base.proofs.KeptAfter.{kept_with}
+use Rattle.broker_base.proofs.QuietPasts.{quiet_queue, quiet_filled}
+
+if_no : {A : Type 0} (b : Bool) (x y : A) → b ≡ false → (if b then x else y) ≡ y
+if_no true x y e = absurd (cc)
+if_no false x y e = refl
+
+pub not_opened : (command : Command) (mark : Mark) (c : Client) → is_about command mark c ≡ false → accepts command mark c ≡ None
+not_opened (commands.Connect x d clean) Mark.Accepted c e = ap (λ b. only_if b (Some (x, clean))) e
+not_opened _ _ c e = refl
+
+subscribed_same : (command : Command) (mark : Mark) (c : Client) (held : List Subscription) → is_about command mark c ≡ false → subscribed command mark c held ≡ held
+subscribed_same (commands.Packet x (packets.Subscribe s)) (Mark.Granted d which) c held e = if_no (same_client d c) _ held e
+subscribed_same (commands.Packet x (packets.Unsubscribe u)) (Mark.Handled d) c held e = if_no (same_client d c) _ held e
+subscribed_same _ _ c held e = refl
+
+received_same : (command : Command) (mark : Mark) (c : Client) (ids : List ℕ) → is_about command mark c ≡ false → received_by command mark c ids ≡ ids
+received_same (commands.Packet x (packets.Publish p)) (Mark.Taken d) c ids e = absurd (cc)
+received_same (commands.Packet x (packets.Pubrel id)) (Mark.Handled d) c ids e = if_no (same_client d c) _ ids e
+received_same _ _ c ids e = refl
+
+answered_same : (command : Command) (mark : Mark) (c : Client) (fs : List Flight) → is_about command mark c ≡ false → answered_flights command mark c fs ≡ fs
+answered_same (commands.Packet x (packets.Puback i)) (Mark.Handled d) c fs e = if_no (same_client d c) _ fs e
+answered_same (commands.Packet x (packets.Pubrec i)) (Mark.Handled d) c fs e = if_no (same_client d c) _ fs e
+answered_same (commands.Packet x (packets.Pubcomp i)) (Mark.Handled d) c fs e = if_no (same_client d c) _ fs e
+answered_same _ _ c fs e = refl
+
+no_copies : (command : Command) (mark : Mark) (content : Content) (c : Client) (held : List Subscription) → is_about command mark c ≡ false → copies_with command mark content c held ≡ []
+no_copies (commands.Packet x (packets.Publish p)) (Mark.Taken d) content c held e = absurd (cc)
+no_copies (commands.Packet x (packets.Subscribe s)) (Mark.Granted d which) content c held e = if_no (same_client d c) _ [] e
+no_copies _ _ content c held e = refl
+
+-- a Start ends each connection, and only it changes the window
+pub no_start : (command : Command) (mark : Mark) (x : ConnectionName) → ends command mark x ≡ false → is_start command ≡ false
+no_start (commands.Packet y packet) mark x e = refl
+no_start (commands.Connect y d clean) mark x e = refl
+no_start (commands.Lost y) mark x e = refl
+no_start (commands.Start ballot) mark x e = absurd (cc)
+
+pub same_window : (limits : Limits) (later : ℕ) → IsWindow limits later → (place : Place) (past : Past) → is_start place.command ≡ false → window_at limits (place ∷ past) ≡ window_at limits past
+same_window limits later follows place past e = follows place past ∙ if_no (is_start place.command) later (limits.window past) e
+
+queue_stays : (w : ℕ) (connection : Option ConnectionName) (fs : List Flight) (ms : List Publication) → ((x : ConnectionName) → connection ≡ Some x → Quiet w fs ms) →
+    filled_on connection w fs ms ≡ record { in_flight = fs; waiting = ms }
+queue_stays w None fs ms quiet = refl
+queue_stays w (Some x) fs ms quiet = quiet_filled w fs ms (quiet x refl)
+
+-- what is kept, with these parts
+abbrev pub parts : ℕ → Kept → Bool → List Subscription → List ℕ → List Flight → List Publication → Option Kept
+parts w kept over held ids fs ms =
+    only_if (not (kept.clean && over))
+    (Some (record {
+      clean = kept.clean;
+      connection = only_if (not over) kept.connection;
+      subscriptions = held;
+      received = ids;
+      queue = filled_on (only_if (not over) kept.connection) w fs ms;
+    }))
+
+still_there : (clean : Bool) (kept : Kept) → only_if (not (clean && false)) (Some kept) ≡ Some kept
+still_there true kept = refl
+still_there false kept = refl
+
+pub kept_stays : (w : ℕ) (place : Place) (content : Content) (c : Client) (kept : Kept) → ends_any place kept.connection ≡ false → is_about place.command place.mark c ≡ false →
+    ((x : ConnectionName) → kept.connection ≡ Some x → Quiet w kept.queue.in_flight kept.queue.waiting) →
+    kept_after w place content c (Some kept) ≡ Some kept
+kept_stays w place content c kept not_ended not_about quiet =
+    ap (λ opened. kept_by w place content c opened (Some kept)) (not_opened place.command place.mark c not_about)
+    ∙ ap (λ over. parts w kept over (subscribed place.command place.mark c kept.subscriptions) (received_by place.command place.mark c kept.received)
+    (answered_flights place.command place.mark c kept.queue.in_flight) (kept.queue.waiting ++ queued (copies_with place.command place.mark content c kept.subscriptions))) not_ended
+    ∙ ap₂ (λ held ids. parts w kept false held ids (answered_flights place.command place.mark c kept.queue.in_flight) (kept.queue.waiting ++ queued (copies_with place.command place.mark content c kept.subscriptions)))
+    (subscribed_same place.command place.mark c kept.subscriptions not_about) (received_same place.command place.mark c kept.received not_about)
+    ∙ ap₂ (λ fs ps. parts w kept false kept.subscriptions kept.received fs (kept.queue.waiting ++ queued ps))
+    (answered_same place.command place.mark c kept.queue.in_flight not_about) (no_copies place.command place.mark content c kept.subscriptions not_about)
+    ∙ ap (λ ms. parts w kept false kept.subscriptions kept.received kept.queue.in_flight ms) (append_none kept.queue.waiting)
+    ∙ still_there kept.clean (record {
+      clean = kept.clean;
+      connection = kept.connection;
+      subscriptions = kept.subscriptions;
+      received = kept.received;
+      queue = filled_on kept.connection w kept.queue.in_flight kept.queue.waiting;
+    })
+    ∙ ap (λ q. Some (record { clean = kept.clean; connection = kept.connection; subscriptions = kept.subscriptions; received = kept.received; queue = q }))
+    (queue_stays w kept.connection kept.queue.in_flight kept.queue.waiting quiet)
+
+-- ---- of a past
+
+-- what is kept after a place that does not touch it, of plain values
+pub stays_with : (limits : Limits) (later : ℕ) → IsWindow limits later → (place : Place) (past : Past) (c : Client) (clean : Bool) →
+    touches place c (current_connection past c) ≡ false →
+    kept_after (window_at limits (place ∷ past)) place (retained_publications past) c
+    (kept_with (length past) (Some clean) (current_connection past c) (subscriptions_of past c) (received_of past c) (entries_of limits past c))
+    ≡ kept_with (length past) (Some clean) (current_connection past c) (subscriptions_of past c) (received_of past c) (entries_of limits past c)
+stays_with limits later follows place past c clean untouched =
+    let h = or_parts (ends_any place (current_connection past c)) (is_about place.command place.mark c) untouched in
+    kept_stays (window_at limits (place ∷ past)) place (retained_publications past) c
+    (record { clean = clean; connection = current_connection past c; subscriptions = subscriptions_of past c; received = received_of past c; queue = queue_of (length past) (entries_of limits past c) })
+    h.0 h.1
+    (λ x e. subst (λ (w : ℕ). Quiet w (flights_below (length past) (entries_of limits past c)) (waiting_of (entries_of limits past c)))
+    (sym (same_window limits later follows place past (no_start place.command place.mark x (ap (any_connection (ends place.command place.mark)) (sym e) ∙ h.0))))
+    (quiet_queue limits past c x e))
+
+-- a session after a place, by whether it is touched
+abbrev pub left_with : ℕ → Place → Content → Client → Option Kept → Option Kept
+left_with w place content c None = None
+left_with w place content c (Some kept) = session_after w place content c kept
+
+pub left_is : (limits : Limits) (later : ℕ) → IsWindow limits later → (place : Place) (past : Past) (c : Client) → accepts place.command place.mark c ≡ None →
+    left_with (window_at limits (place ∷ past)) place (retained_publications past) c (kept_of limits past c)
+    ≡ kept_after (window_at limits (place ∷ past)) place (retained_publications past) c (kept_of limits past c)
+left_is limits later follows place past c not_accepted = by (session_of past c)
+  where
+    touched : (b : Bool) (clean : Bool) → touches place c (current_connection past c) ≡ b →
+        (if b then kept_after (window_at limits (place ∷ past)) place (retained_publications past) c
+        (kept_with (length past) (Some clean) (current_connection past c) (subscriptions_of past c) (received_of past c) (entries_of limits past c))
+        else kept_with (length past) (Some clean) (current_connection past c) (subscriptions_of past c) (received_of past c) (entries_of limits past c))
+        ≡ kept_after (window_at limits (place ∷ past)) place (retained_publications past) c
+        (kept_with (length past) (Some clean) (current_connection past c) (subscriptions_of past c) (received_of past c) (entries_of limits past c))
+    touched true clean e = refl
+    touched false clean e = sym (stays_with limits later follows place past c clean e)
+
+    by : (session : Option Bool) →
+        left_with (window_at limits (place ∷ past)) place (retained_publications past) c
+        (kept_with (length past) session (current_connection past c) (subscriptions_of past c) (received_of past c) (entries_of limits past c))
+        ≡ kept_after (window_at limits (place ∷ past)) place (retained_publications past) c
+        (kept_with (length past) session (current_connection past c) (subscriptions_of past c) (received_of past c) (entries_of limits past c))
+    by None = sym (ap (λ opened. kept_by (window_at limits (place ∷ past)) place (retained_publications past) c opened None) not_accepted)
+    by (Some clean) = touched (touches place c (current_connection past c)) clean refl

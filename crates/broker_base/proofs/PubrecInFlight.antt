@@ -1,0 +1,220 @@
+-- What PUBREC does to the entries is what it does to the queue: the entry comes behind those released before
+-- (MQTT 4.3.3).
+use Rattle.std.proofs.Common.{◌≡◌, ℕ, ◌+◌, ◌<◌, ◌≤◌, zero, suc, Bool, true, false, not, ◌&&◌, ◌||◌, ◌==◌, if◌then◌else◌, List, [], ◌∷◌, ◌++◌, map, filter, refl, ap, ap₂, ◌∙◌, sym, arith}
+use Rattle.std.specs.List.{list_any}
+use Rattle.std.proofs.lemmas.List.{map-append, append_assoc}
+use Rattle.std.proofs.lemmas.List.Elements.{filter-append}
+use Rattle.std.proofs.lemmas.List.Folds.{list_any-append}
+use Rattle.session_base.specs.declared.awaits.Awaits.TheVariants as waits_for
+use Rattle.session_base.specs.Publication.{is_acknowledged}
+use Rattle.session_base.specs.Queue.{Flight, awaited, is_pubrec, awaits_pubrec, is_released, ids_of, released_with, on_pubrec}
+use Rattle.broker_base.specs.Entries.{Entry}
+use Rattle.broker_base.specs.Readings.{released_at, released_below, busy_ids}
+use Rattle.broker_base.specs.Times.{at_pubrec}
+use Rattle.broker_base.specs.Kept.{sent_flights, released_flight, flights_below}
+use Rattle.broker_base.proofs.CountedIdentifiers.{one_if, count}
+use Rattle.broker_base.proofs.SoundEntries.{IsBelow, Sound}
+use Rattle.broker_base.proofs.StartsInFlight.{append_none}
+use Rattle.broker_base.proofs.AnswersInFlight.{filter_out, awaits_pubrec_is, not_released}
+
+other_place : (release n : ℕ) → release < n → (release == n) ≡ false
+other_place release n h = grind arith
+
+later_place : (n t : ℕ) → t < n → (n == t) ≡ false
+later_place n t h = grind arith
+
+same_place : (n : ℕ) → (n == n) ≡ true
+same_place n = grind arith
+
+-- ---- the sent ones
+
+pub sent_pubrec : (n i : ℕ) (es : List Entry) → sent_flights (map (at_pubrec n i) es) ≡ filter (λ flight. not (awaits_pubrec i flight)) (sent_flights es)
+sent_pubrec n i [] = refl
+sent_pubrec n i (Entry.Waits made p ∷ es) = sent_pubrec n i es
+sent_pubrec n i (Entry.Started made p id start ∷ es) =
+    one ((i == id) && not (is_acknowledged p.qos))
+    ∙ ap (λ xs. if (i == id) && not (is_acknowledged p.qos) then xs else (id, awaited p) ∷ xs) (sent_pubrec n i es)
+    ∙ sym (filter_out (awaits_pubrec i) (id, awaited p) (sent_flights es) ((i == id) && not (is_acknowledged p.qos)) (awaits_pubrec_is i id p))
+  where
+    one : (b : Bool) → sent_flights ((if b then Entry.Released made p id start n else Entry.Started made p id start) ∷ map (at_pubrec n i) es)
+        ≡ (if b then sent_flights (map (at_pubrec n i) es) else (id, awaited p) ∷ sent_flights (map (at_pubrec n i) es))
+    one true = refl
+    one false = refl
+sent_pubrec n i (Entry.Released made p id start release ∷ es) = sent_pubrec n i es
+sent_pubrec n i (Entry.Finished made p id start release finish ∷ es) = sent_pubrec n i es
+
+-- ---- the released ones
+
+-- nothing is released at n, where all places are below
+pub none_released : (n : ℕ) (es : List Entry) → IsBelow n es → released_at n es ≡ []
+none_released n [] h = refl
+none_released n (Entry.Waits made p ∷ es) h = none_released n es h.1
+none_released n (Entry.Started made p id start ∷ es) h = none_released n es h.2
+none_released n (Entry.Released made p id start release ∷ es) h = rw (other_place release n h.2, none_released n es h.3) refl
+none_released n (Entry.Finished made p id start release finish ∷ es) h = none_released n es h.1
+
+pub released_more : (n : ℕ) (es : List Entry) → IsBelow n es → released_below (suc n) es ≡ released_below n es
+released_more n es h = ap (λ ids. released_below n es ++ ids) (none_released n es h) ∙ append_none (released_below n es)
+
+pub flights_more : (n : ℕ) (es : List Entry) → IsBelow n es → flights_below (suc n) es ≡ flights_below n es
+flights_more n es h = ap (λ ids. map released_flight ids ++ sent_flights es) (released_more n es h)
+
+released_at_before : (t n i : ℕ) (es : List Entry) → t < n → released_at t (map (at_pubrec n i) es) ≡ released_at t es
+released_at_before t n i [] h = refl
+released_at_before t n i (Entry.Waits made p ∷ es) h = released_at_before t n i es h
+released_at_before t n i (Entry.Started made p id start ∷ es) h = one ((i == id) && not (is_acknowledged p.qos)) ∙ released_at_before t n i es h
+  where
+    one : (b : Bool) → released_at t ((if b then Entry.Released made p id start n else Entry.Started made p id start) ∷ map (at_pubrec n i) es)
+        ≡ released_at t (map (at_pubrec n i) es)
+    one true = rw (later_place n t h) refl
+    one false = refl
+released_at_before t n i (Entry.Released made p id start release ∷ es) h = ap (λ xs. if release == t then id ∷ xs else xs) (released_at_before t n i es h)
+released_at_before t n i (Entry.Finished made p id start release finish ∷ es) h = released_at_before t n i es h
+
+released_before : (t n i : ℕ) (es : List Entry) → t ≤ n → released_below t (map (at_pubrec n i) es) ≡ released_below t es
+released_before zero n i es h = refl
+released_before (suc t) n i es h =
+    ap₂ (λ xs ys. xs ++ ys) (released_before t n i es (omega (arith, h))) (released_at_before t n i es (omega (arith, h)))
+
+-- those that are released now
+ids_if : (b : Bool) (i : ℕ) (flight : Flight) (fs : List Flight) → awaits_pubrec i flight ≡ b →
+    ids_of (filter (awaits_pubrec i) (flight ∷ fs)) ≡ (if b then flight.0 ∷ ids_of (filter (awaits_pubrec i) fs) else ids_of (filter (awaits_pubrec i) fs))
+ids_if true i flight fs e = rw e refl
+ids_if false i flight fs e = rw e refl
+
+released_now : (n i : ℕ) (es : List Entry) → IsBelow n es → released_at n (map (at_pubrec n i) es) ≡ ids_of (filter (awaits_pubrec i) (sent_flights es))
+released_now n i [] h = refl
+released_now n i (Entry.Waits made p ∷ es) h = released_now n i es h.1
+released_now n i (Entry.Started made p id start ∷ es) h =
+    one ((i == id) && not (is_acknowledged p.qos))
+    ∙ ap (λ xs. if (i == id) && not (is_acknowledged p.qos) then id ∷ xs else xs) (released_now n i es h.2)
+    ∙ sym (ids_if ((i == id) && not (is_acknowledged p.qos)) i (id, awaited p) (sent_flights es) (awaits_pubrec_is i id p))
+  where
+    one : (b : Bool) → released_at n ((if b then Entry.Released made p id start n else Entry.Started made p id start) ∷ map (at_pubrec n i) es)
+        ≡ (if b then id ∷ released_at n (map (at_pubrec n i) es) else released_at n (map (at_pubrec n i) es))
+    one true = rw (same_place n) refl
+    one false = refl
+released_now n i (Entry.Released made p id start release ∷ es) h = rw (other_place release n h.2) (released_now n i es h.3)
+released_now n i (Entry.Finished made p id start release finish ∷ es) h = released_now n i es h.1
+
+-- ---- one at most waits for this PUBREC
+
+test_of : (i : ℕ) (fs : List Flight) → count (λ id. i == id) (ids_of fs) ≡ 0 → filter (awaits_pubrec i) fs ≡ []
+test_of i [] h = refl
+test_of i (flight ∷ fs) h =
+    elim (i == flight.0) as (λ (b : Bool). one_if b + count (λ id. i == id) (ids_of fs) ≡ 0 → (if b && is_pubrec flight.1 then flight ∷ filter (awaits_pubrec i) fs else filter (awaits_pubrec i) fs) ≡ []) [
+      | true ↦ λ e. absurd (omega (arith, e))
+      | false ↦ λ e. test_of i fs (omega (arith, e))
+    ] h
+
+-- what waits for PUBREC i: none, or one with the identifier i
+pub data Found (i : ℕ) (fs : List Flight) : Type 0 where
+  Nothing : filter (awaits_pubrec i) fs ≡ [] → list_any (awaits_pubrec i) fs ≡ false → Found i fs
+  JustOne : ids_of (filter (awaits_pubrec i) fs) ≡ i ∷ [] → list_any (awaits_pubrec i) fs ≡ true → Found i fs
+
+is_pubrec_now : (i id : ℕ) (b : Bool) → ((i == id) && b) ≡ true → i ≡ id
+is_pubrec_now i id b e = elim (i == id) as (λ (c : Bool). (i == id) ≡ c → (c && b) ≡ true → i ≡ id) [ true ↦ λ same e. grind arith | false ↦ λ same e. absurd (cc) ] refl e
+
+pub find : (i : ℕ) (fs : List Flight) → count (λ id. i == id) (ids_of fs) ≤ 1 → Found i fs
+find i [] h = Found.Nothing refl refl
+find i (flight ∷ fs) h =
+    elim (awaits_pubrec i flight) as (λ (b : Bool). awaits_pubrec i flight ≡ b → Found i (flight ∷ fs)) [
+      | true ↦ λ e. let same : i ≡ flight.0 = is_pubrec_now i flight.0 (is_pubrec flight.1) e in
+          let none : count (λ id. i == id) (ids_of fs) ≡ 0 = only (i == flight.0) (grind arith) h in
+          Found.JustOne (ids_if true i flight fs e ∙ ap₂ (λ id ids. id ∷ ids) (sym same) (ap ids_of (test_of i fs none))) (ap (λ b. b || list_any (awaits_pubrec i) fs) e)
+      | false ↦ λ e. rest (find i fs (fewer (i == flight.0) h)) e
+    ] refl
+  where
+    only : (b : Bool) → b ≡ true → one_if b + count (λ id. i == id) (ids_of fs) ≤ 1 → count (λ id. i == id) (ids_of fs) ≡ 0
+    only true e k = omega (arith, k)
+    only false e k = absurd (cc)
+
+    fewer : (b : Bool) → one_if b + count (λ id. i == id) (ids_of fs) ≤ 1 → count (λ id. i == id) (ids_of fs) ≤ 1
+    fewer true k = omega (arith, k)
+    fewer false k = omega (arith, k)
+
+    rest : Found i fs → awaits_pubrec i flight ≡ false → Found i (flight ∷ fs)
+    rest (Found.Nothing a b) e = Found.Nothing (rw (e, a) refl) (rw (e, b) refl)
+    rest (Found.JustOne a b) e = Found.JustOne (ids_if false i flight fs e ∙ a) (rw (e, b) refl)
+
+-- ---- the queue
+
+no_filter : {A : Type 0} (p : A → Bool) (q : A → Bool) (xs : List A) → filter p xs ≡ [] → filter (λ x. not (p x)) xs ≡ xs
+no_filter p q [] e = refl
+no_filter p q (x ∷ xs) e =
+    elim (p x) as (λ (b : Bool). (if b then x ∷ filter p xs else filter p xs) ≡ [] → (if not b then x ∷ filter (λ y. not (p y)) xs else filter (λ y. not (p y)) xs) ≡ x ∷ xs) [
+      | true ↦ λ e. absurd (cc)
+      | false ↦ λ e. ap (λ ys. x ∷ ys) (no_filter p q xs e)
+    ] e
+
+pub released_all : (ids : List ℕ) → filter is_released (map released_flight ids) ≡ map released_flight ids
+released_all [] = refl
+released_all (id ∷ ids) = ap (λ xs. released_flight id ∷ xs) (released_all ids)
+
+pub released_of_sent : (es : List Entry) → filter is_released (sent_flights es) ≡ []
+released_of_sent [] = refl
+released_of_sent (Entry.Waits made p ∷ es) = released_of_sent es
+released_of_sent (Entry.Started made p id start ∷ es) = rw (not_released p) (released_of_sent es)
+released_of_sent (Entry.Released made p id start release ∷ es) = released_of_sent es
+released_of_sent (Entry.Finished made p id start release finish ∷ es) = released_of_sent es
+
+others_of_released : (i : ℕ) (ids : List ℕ) → filter (λ flight. not (is_released flight) && not (awaits_pubrec i flight)) (map released_flight ids) ≡ []
+others_of_released i [] = refl
+others_of_released i (id ∷ ids) = others_of_released i ids
+
+others_of_sent : (i : ℕ) (es : List Entry) →
+    filter (λ flight. not (is_released flight) && not (awaits_pubrec i flight)) (sent_flights es) ≡ filter (λ flight. not (awaits_pubrec i flight)) (sent_flights es)
+others_of_sent i [] = refl
+others_of_sent i (Entry.Waits made p ∷ es) = others_of_sent i es
+others_of_sent i (Entry.Started made p id start ∷ es) = rw (not_released p, others_of_sent i es) refl
+others_of_sent i (Entry.Released made p id start release ∷ es) = others_of_sent i es
+others_of_sent i (Entry.Finished made p id start release finish ∷ es) = others_of_sent i es
+
+none_of_released : (i : ℕ) (ids : List ℕ) → list_any (awaits_pubrec i) (map released_flight ids) ≡ false
+none_of_released i [] = refl
+none_of_released i (id ∷ ids) = ap (λ b. b || list_any (awaits_pubrec i) (map released_flight ids)) (no (i == id)) ∙ none_of_released i ids
+  where
+    no : (b : Bool) → (b && false) ≡ false
+    no true = refl
+    no false = refl
+
+any_in_flight : (t i : ℕ) (es : List Entry) → list_any (awaits_pubrec i) (flights_below t es) ≡ list_any (awaits_pubrec i) (sent_flights es)
+any_in_flight t i es =
+    list_any-append (awaits_pubrec i) (map released_flight (released_below t es)) (sent_flights es)
+    ∙ ap (λ b. b || list_any (awaits_pubrec i) (sent_flights es)) (none_of_released i (released_below t es))
+
+released_with_is : (t i : ℕ) (es : List Entry) → released_with i (flights_below t es)
+    ≡ map released_flight (released_below t es) ++ (i, waits_for.Pubcomp) ∷ filter (λ flight. not (awaits_pubrec i flight)) (sent_flights es)
+released_with_is t i es =
+    ap₂ (λ xs ys. xs ++ (i, waits_for.Pubcomp) ∷ ys)
+    (filter-append is_released (map released_flight (released_below t es)) (sent_flights es)
+    ∙ ap₂ (λ xs ys. xs ++ ys) (released_all (released_below t es)) (released_of_sent es) ∙ append_none (map released_flight (released_below t es)))
+    (filter-append (λ flight. not (is_released flight) && not (awaits_pubrec i flight)) (map released_flight (released_below t es)) (sent_flights es)
+    ∙ ap₂ (λ xs ys. xs ++ ys) (others_of_released i (released_below t es)) (others_of_sent i es))
+
+count_sent : (test : ℕ → Bool) (es : List Entry) → count test (ids_of (sent_flights es)) ≤ count test (busy_ids es)
+count_sent test [] = omega arith
+count_sent test (Entry.Waits made p ∷ es) = count_sent test es
+count_sent test (Entry.Started made p id start ∷ es) = omega (arith, count_sent test es)
+count_sent test (Entry.Released made p id start release ∷ es) = omega (arith, count_sent test es)
+count_sent test (Entry.Finished made p id start release finish ∷ es) = count_sent test es
+
+pub flights_pubrec : (n i : ℕ) (es : List Entry) → Sound n es → flights_below (suc n) (map (at_pubrec n i) es) ≡ on_pubrec i (flights_below n es)
+flights_pubrec n i es s =
+    ap₂ (λ xs ys. map released_flight xs ++ ys)
+    (ap₂ (λ xs ys. xs ++ ys) (released_before n n i es (omega arith)) (released_now n i es s.below)) (sent_pubrec n i es)
+    ∙ by (find i (sent_flights es) (omega (arith, count_sent (λ id. i == id) es, s.unique i)))
+  where
+    by : Found i (sent_flights es) →
+        map released_flight (released_below n es ++ ids_of (filter (awaits_pubrec i) (sent_flights es))) ++ filter (λ flight. not (awaits_pubrec i flight)) (sent_flights es)
+        ≡ on_pubrec i (flights_below n es)
+    by (Found.Nothing a b) =
+        ap₂ (λ xs ys. map released_flight xs ++ ys) (ap (λ xs. released_below n es ++ ids_of xs) a ∙ append_none (released_below n es))
+        (no_filter (awaits_pubrec i) (awaits_pubrec i) (sent_flights es) a)
+        ∙ sym (ap (λ b. if b then released_with i (flights_below n es) else flights_below n es) (any_in_flight n i es ∙ b))
+    by (Found.JustOne a b) =
+        ap (λ xs. map released_flight (released_below n es ++ xs) ++ filter (λ flight. not (awaits_pubrec i flight)) (sent_flights es)) a
+        ∙ ap (λ xs. xs ++ filter (λ flight. not (awaits_pubrec i flight)) (sent_flights es)) (map-append released_flight (released_below n es) (i ∷ []))
+        ∙ append_assoc (map released_flight (released_below n es)) ((i, waits_for.Pubcomp) ∷ []) (filter (λ flight. not (awaits_pubrec i flight)) (sent_flights es))
+        ∙ sym (released_with_is n i es)
+        ∙ sym (ap (λ b. if b then released_with i (flights_below n es) else flights_below n es) (any_in_flight n i es ∙ b))

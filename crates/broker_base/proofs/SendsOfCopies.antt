@@ -1,0 +1,199 @@
+-- What a connected client is sent of the copies that a place makes is what its queue sends, copy by copy
+-- (MQTT 3.3.5, 3.8.4, 4.6).
+use Rattle.std.proofs.Common.{◌≡◌, ℕ, ◌<◌, ◌≤◌, Bool, true, false, ◌⊎◌, inl, inr, ◌==◌, nat_lt, if◌then◌else◌, List, [], ◌∷◌, ◌++◌, length, map, refl, ap, ap₂, ◌∙◌, sym, arith}
+use Rattle.std.specs.Prelude.{take, drop}
+use Rattle.std.proofs.lemmas.List.{length-map}
+use Rattle.packet.specs.declared.packet.Packet.TheVariants as packets
+use Rattle.session_base.specs.declared.publication.Publication.{Publication}
+use Rattle.session_base.specs.Publication.{publish_of, is_answered}
+use Rattle.session_base.specs.Identifiers.{least_free}
+use Rattle.session_base.specs.Queue.{Flight, ids_of, started_flight, fill}
+use Rattle.session_base.specs.Sending.{fill_sends, copies_sent}
+use Rattle.broker_base.specs.Connection.{ConnectionName}
+use Rattle.broker_base.specs.Entries.{Entry, queued}
+use Rattle.broker_base.specs.Readings.{made_at, waiting_of, busy_ids}
+use Rattle.broker_base.specs.Times.{start_all}
+use Rattle.broker_base.specs.Sends.{publish, all_started, handed}
+use Rattle.broker_base.specs.declared.command.Answer.TheVariants.{Send}
+use Rattle.broker_base.proofs.CountedIdentifiers.{count, SameIds, same_length, same_least}
+use Rattle.broker_base.proofs.SoundEntries.{IsBelow, AllWait, InOrder}
+use Rattle.broker_base.proofs.SoundStarts.{busy_waits}
+use Rattle.broker_base.proofs.StartsInFlight.{same_next, moved}
+
+-- ---- a full window
+
+pub fill_full : (w : ℕ) (fs : List Flight) (ps : List Publication) → w ≤ length fs → fill w fs ps ≡ record { in_flight = fs; waiting = ps }
+fill_full w fs [] h = refl
+fill_full w fs (p ∷ ps) h = ap (λ b. if b then fill w (fs ++ started_flight fs p ∷ []) ps else record { in_flight = fs; waiting = p ∷ ps }) (full (length fs) w h)
+  where
+    full : (k w : ℕ) → w ≤ k → nat_lt k w ≡ false
+    full k w h = grind arith
+
+pub sends_full : (w : ℕ) (fs : List Flight) (ps : List Publication) → w ≤ length fs → fill_sends w fs ps ≡ []
+sends_full w fs [] h = refl
+sends_full w fs (p ∷ ps) h = ap (λ b. if b then packets.Publish (publish_of false (least_free (ids_of fs)) p) ∷ fill_sends w (fs ++ started_flight fs p ∷ []) ps else []) (full (length fs) w h)
+  where
+    full : (k w : ℕ) → w ≤ k → nat_lt k w ≡ false
+    full k w h = grind arith
+
+pub starts_full : (w n : ℕ) (ids : List ℕ) (ps : List Publication) → w ≤ length ids → start_all w n ids (map (Entry.Waits n) ps) ≡ map (Entry.Waits n) ps
+starts_full w n ids [] h = refl
+starts_full w n ids (p ∷ ps) h =
+    ap (λ b. if b then Entry.Started n p (least_free ids) n ∷ start_all w n (least_free ids ∷ ids) (map (Entry.Waits n) ps) else Entry.Waits n p ∷ map (Entry.Waits n) ps) (full (length ids) w h)
+  where
+    full : (k w : ℕ) → w ≤ k → nat_lt k w ≡ false
+    full k w h = grind arith
+
+-- ---- copy by copy
+
+this_place : (n : ℕ) → (n == n) ≡ true
+this_place n = grind arith
+
+within : (k w : ℕ) → nat_lt k w ≡ true → k < w
+within k w e = grind arith
+
+beyond : (k w : ℕ) → nat_lt k w ≡ false → w ≤ k
+beyond k w e = grind arith
+
+-- nothing waits, or the window is full
+abbrev pub Quiet : ℕ → List Flight → List Publication → Type 0
+Quiet w fs ps = (ps ≡ []) ⊎ (w ≤ length fs)
+
+queued_yes : (p : Publication) (ps : List Publication) → is_answered p.qos ≡ true → queued (p ∷ ps) ≡ p ∷ queued ps
+queued_yes p ps e = rw e refl
+
+queued_no : (p : Publication) (ps : List Publication) → is_answered p.qos ≡ false → queued (p ∷ ps) ≡ queued ps
+queued_no p ps e = rw e refl
+
+-- where the window is open: the copy starts
+sent_now : (x : ConnectionName) (w n : ℕ) (fs : List Flight) (p : Publication) → length fs < w →
+    fill_sends w fs ([] ++ p ∷ []) ≡ packets.Publish (publish_of false (least_free (ids_of fs)) p) ∷ []
+sent_now x w n fs p h = ap (λ b. if b then packets.Publish (publish_of false (least_free (ids_of fs)) p) ∷ [] else []) (is_open (length fs) w h)
+  where
+    is_open : (k w : ℕ) → k < w → nat_lt k w ≡ true
+    is_open k w h = grind arith
+
+filled_now : (w : ℕ) (fs : List Flight) (p : Publication) → length fs < w →
+    fill w fs ([] ++ p ∷ []) ≡ record { in_flight = fs ++ started_flight fs p ∷ []; waiting = [] }
+filled_now w fs p h = ap (λ b. if b then record { in_flight = fs ++ started_flight fs p ∷ []; waiting = [] } else record { in_flight = fs; waiting = p ∷ [] }) (is_open (length fs) w h)
+  where
+    is_open : (k w : ℕ) → k < w → nat_lt k w ≡ true
+    is_open k w h = grind arith
+
+same_size : (fs : List Flight) (ids : List ℕ) → SameIds (ids_of fs) ids → length fs ≡ length ids
+same_size fs ids same = sym (length-map fs (λ (flight : Flight). flight.0)) ∙ same_length (ids_of fs) ids same
+
+-- by whether the window is open
+handed_open : (x : ConnectionName) (w n : ℕ) (ids : List ℕ) (fs : List Flight) (ms : List Publication) (p : Publication) (copies : List Publication) →
+    SameIds (ids_of fs) ids → Quiet w fs ms → nat_lt (length ids) w ≡ true →
+    handed x n copies (start_all w n (least_free ids ∷ ids) (map (Entry.Waits n) (queued copies)))
+    ≡ map (Send x) (copies_sent w copies (record { in_flight = fs ++ started_flight fs p ∷ []; waiting = [] })) →
+    all_started x n (Entry.Started n p (least_free ids) n ∷ []) ++ handed x n copies (start_all w n (least_free ids ∷ ids) (map (Entry.Waits n) (queued copies)))
+    ≡ map (Send x) (fill_sends w fs (ms ++ p ∷ []) ++ copies_sent w copies (fill w fs (ms ++ p ∷ [])))
+handed_open x w n ids fs ms p copies same (inl e) is_open rest =
+    rw (this_place n)
+    (ap₂ (λ id answers. publish x false id p ∷ answers) (sym (same_least (ids_of fs) ids same)) rest
+    ∙ sym (ap₂ (λ first queue. map (Send x) (first ++ copies_sent w copies queue))
+    (ap (λ ps. fill_sends w fs (ps ++ p ∷ [])) e ∙ sent_now x w n fs p smaller)
+    (ap (λ ps. fill w fs (ps ++ p ∷ [])) e ∙ filled_now w fs p smaller)))
+  where
+    smaller : length fs < w
+    smaller = omega (arith, same_size fs ids same, within (length ids) w is_open)
+handed_open x w n ids fs ms p copies same (inr e) is_open rest = absurd (omega (arith, same_size fs ids same, within (length ids) w is_open, e))
+
+handed_shut : (x : ConnectionName) (w n : ℕ) (ids : List ℕ) (fs : List Flight) (ms : List Publication) (p : Publication) (copies : List Publication) →
+    SameIds (ids_of fs) ids → nat_lt (length ids) w ≡ false →
+    handed x n copies (start_all w n ids (map (Entry.Waits n) (queued copies)))
+    ≡ map (Send x) (copies_sent w copies (record { in_flight = fs; waiting = ms ++ p ∷ [] })) →
+    all_started x n (Entry.Waits n p ∷ []) ++ handed x n copies (map (Entry.Waits n) (queued copies))
+    ≡ map (Send x) (fill_sends w fs (ms ++ p ∷ []) ++ copies_sent w copies (fill w fs (ms ++ p ∷ [])))
+handed_shut x w n ids fs ms p copies same shut rest =
+    ap (λ es. handed x n copies es) (sym (starts_full w n ids (queued copies) (beyond (length ids) w shut)))
+    ∙ rest
+    ∙ sym (ap₂ (λ first queue. map (Send x) (first ++ copies_sent w copies queue)) (sends_full w fs (ms ++ p ∷ []) full) (fill_full w fs (ms ++ p ∷ []) full))
+  where
+    full : w ≤ length fs
+    full = omega (arith, same_size fs ids same, beyond (length ids) w shut)
+
+pub handed_is : (x : ConnectionName) (w n : ℕ) (ids : List ℕ) (fs : List Flight) (ms copies : List Publication) → SameIds (ids_of fs) ids → Quiet w fs ms →
+    handed x n copies (start_all w n ids (map (Entry.Waits n) (queued copies))) ≡ map (Send x) (copies_sent w copies (record { in_flight = fs; waiting = ms }))
+handed_is x w n ids fs ms [] same quiet = refl
+handed_is x w n ids fs ms (p ∷ copies) same quiet =
+    by (is_answered p.qos) refl
+    (λ qs. handed_is x w n ids fs qs copies same)
+    (handed_is x w n (least_free ids ∷ ids) (fs ++ started_flight fs p ∷ []) [] copies (same_next fs ids p same) (inl refl))
+  where
+    one : (b : Bool) → nat_lt (length ids) w ≡ b →
+        ((qs : List Publication) → Quiet w fs qs → handed x n copies (start_all w n ids (map (Entry.Waits n) (queued copies))) ≡ map (Send x) (copies_sent w copies (record { in_flight = fs; waiting = qs }))) →
+        (handed x n copies (start_all w n (least_free ids ∷ ids) (map (Entry.Waits n) (queued copies))) ≡ map (Send x) (copies_sent w copies (record { in_flight = fs ++ started_flight fs p ∷ []; waiting = [] }))) →
+        all_started x n (take 1 (if b then Entry.Started n p (least_free ids) n ∷ start_all w n (least_free ids ∷ ids) (map (Entry.Waits n) (queued copies)) else Entry.Waits n p ∷ map (Entry.Waits n) (queued copies)))
+        ++ handed x n copies (drop 1 (if b then Entry.Started n p (least_free ids) n ∷ start_all w n (least_free ids ∷ ids) (map (Entry.Waits n) (queued copies)) else Entry.Waits n p ∷ map (Entry.Waits n) (queued copies)))
+        ≡ map (Send x) (fill_sends w fs (ms ++ p ∷ []) ++ copies_sent w copies (fill w fs (ms ++ p ∷ [])))
+    one true is_open shut_rest open_rest = handed_open x w n ids fs ms p copies same quiet is_open open_rest
+    one false shut shut_rest open_rest =
+        handed_shut x w n ids fs ms p copies same shut (shut_rest (ms ++ p ∷ []) (inr (omega (arith, same_size fs ids same, beyond (length ids) w shut))))
+
+    by : (b : Bool) → is_answered p.qos ≡ b →
+        ((qs : List Publication) → Quiet w fs qs → handed x n copies (start_all w n ids (map (Entry.Waits n) (queued copies))) ≡ map (Send x) (copies_sent w copies (record { in_flight = fs; waiting = qs }))) →
+        (handed x n copies (start_all w n (least_free ids ∷ ids) (map (Entry.Waits n) (queued copies))) ≡ map (Send x) (copies_sent w copies (record { in_flight = fs ++ started_flight fs p ∷ []; waiting = [] }))) →
+        (if b then all_started x n (take 1 (start_all w n ids (map (Entry.Waits n) (if b then p ∷ queued copies else queued copies)))) ++ handed x n copies (drop 1 (start_all w n ids (map (Entry.Waits n) (if b then p ∷ queued copies else queued copies))))
+        else publish x false 0 p ∷ handed x n copies (start_all w n ids (map (Entry.Waits n) (if b then p ∷ queued copies else queued copies))))
+        ≡ map (Send x) (if b then fill_sends w fs (ms ++ p ∷ []) ++ copies_sent w copies (fill w fs (ms ++ p ∷ [])) else packets.Publish (publish_of false 0 p) ∷ copies_sent w copies (record { in_flight = fs; waiting = ms }))
+    by true e shut_rest open_rest = one (nat_lt (length ids) w) refl shut_rest open_rest
+    by false e shut_rest open_rest = ap (λ answers. publish x false 0 p ∷ answers) (shut_rest ms quiet)
+
+-- ---- the entries that a place made
+
+-- the identifiers in use when a start comes to the end of the entries
+abbrev pub busy_from : List ℕ → List Entry → List ℕ
+busy_from ids [] = ids
+busy_from ids (Entry.Waits made p ∷ es) = ids
+busy_from ids (Entry.Started made p id start ∷ es) = busy_from (id ∷ ids) es
+busy_from ids (Entry.Released made p id start release ∷ es) = busy_from (id ∷ ids) es
+busy_from ids (Entry.Finished made p id start release finish ∷ es) = busy_from ids es
+
+older : (made n : ℕ) → made < n → (made == n) ≡ false
+older made n h = grind arith
+
+made_new : (n : ℕ) (ps : List Publication) → made_at n (map (Entry.Waits n) ps) ≡ map (Entry.Waits n) ps
+made_new n [] = refl
+made_new n (p ∷ ps) = rw (this_place n) (ap (λ es. Entry.Waits n p ∷ es) (made_new n ps))
+
+made_started : (w n : ℕ) (ids : List ℕ) (ps : List Publication) → made_at n (start_all w n ids (map (Entry.Waits n) ps)) ≡ start_all w n ids (map (Entry.Waits n) ps)
+made_started w n ids [] = refl
+made_started w n ids (p ∷ ps) = by (nat_lt (length ids) w) (made_started w n (least_free ids ∷ ids) ps)
+  where
+    by : (b : Bool) → made_at n (start_all w n (least_free ids ∷ ids) (map (Entry.Waits n) ps)) ≡ start_all w n (least_free ids ∷ ids) (map (Entry.Waits n) ps) →
+        made_at n (if b then Entry.Started n p (least_free ids) n ∷ start_all w n (least_free ids ∷ ids) (map (Entry.Waits n) ps) else Entry.Waits n p ∷ map (Entry.Waits n) ps)
+        ≡ (if b then Entry.Started n p (least_free ids) n ∷ start_all w n (least_free ids ∷ ids) (map (Entry.Waits n) ps) else Entry.Waits n p ∷ map (Entry.Waits n) ps)
+    by true e = rw (this_place n) (ap (λ es. Entry.Started n p (least_free ids) n ∷ es) e)
+    by false e = rw (this_place n) (ap (λ es. Entry.Waits n p ∷ es) (made_new n ps))
+
+made_waits : (n : ℕ) (es : List Entry) (ps : List Publication) → AllWait es → IsBelow n es → made_at n (es ++ map (Entry.Waits n) ps) ≡ map (Entry.Waits n) ps
+made_waits n [] ps h below = made_new n ps
+made_waits n (Entry.Waits made p ∷ es) ps h below = rw (older made n below.0) (made_waits n es ps h below.1)
+made_waits n (Entry.Started made p id start ∷ es) ps h below = absurd h
+made_waits n (Entry.Released made p id start release ∷ es) ps h below = absurd h
+made_waits n (Entry.Finished made p id start release finish ∷ es) ps h below = absurd h
+
+pub made_here : (w n : ℕ) (ids : List ℕ) (es : List Entry) (ps : List Publication) → IsBelow n es → InOrder es → (waiting_of es ≡ []) ⊎ (w ≤ length (busy_from ids es)) →
+    made_at n (start_all w n ids (es ++ map (Entry.Waits n) ps)) ≡ start_all w n (busy_from ids es) (map (Entry.Waits n) ps)
+made_here w n ids [] ps below order quiet = made_started w n ids ps
+made_here w n ids (Entry.Waits made p ∷ es) ps below order (inl e) = absurd (cc)
+made_here w n ids (Entry.Waits made p ∷ es) ps below order (inr full) =
+    ap (λ b. made_at n (if b then Entry.Started made p (least_free ids) n ∷ start_all w n (least_free ids ∷ ids) (es ++ map (Entry.Waits n) ps) else Entry.Waits made p ∷ (es ++ map (Entry.Waits n) ps))) (shut (length ids) w full)
+    ∙ made_waits n (Entry.Waits made p ∷ es) ps order below
+    ∙ sym (starts_full w n ids ps full)
+  where
+    shut : (k w : ℕ) → w ≤ k → nat_lt k w ≡ false
+    shut k w h = grind arith
+made_here w n ids (Entry.Started made p id start ∷ es) ps below order quiet = rw (older made n below.0) (made_here w n (id ∷ ids) es ps below.2 order quiet)
+made_here w n ids (Entry.Released made p id start release ∷ es) ps below order quiet = rw (older made n below.0) (made_here w n (id ∷ ids) es ps below.3 order quiet)
+made_here w n ids (Entry.Finished made p id start release finish ∷ es) ps below order quiet = rw (older made n below.0) (made_here w n ids es ps below.1 order quiet)
+
+pub busy_from_is : (ids : List ℕ) (es : List Entry) → InOrder es → SameIds (busy_ids es ++ ids) (busy_from ids es)
+busy_from_is ids [] h test = refl
+busy_from_is ids (Entry.Waits made p ∷ es) h test = ap (λ xs. count test (xs ++ ids)) (busy_waits es h)
+busy_from_is ids (Entry.Started made p id start ∷ es) h test = moved test id (busy_ids es) ids ∙ busy_from_is (id ∷ ids) es h test
+busy_from_is ids (Entry.Released made p id start release ∷ es) h test = moved test id (busy_ids es) ids ∙ busy_from_is (id ∷ ids) es h test
+busy_from_is ids (Entry.Finished made p id start release finish ∷ es) h test = busy_from_is ids es h test

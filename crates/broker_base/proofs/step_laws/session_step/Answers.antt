@@ -1,0 +1,5 @@
+use Rattle.broker_base.proofs.KeptAfter.{kept_step}
+use Rattle.broker_base.proofs.step_laws.session_step.Goals as goal
+
+pub returns : goal.returns
+returns c = kept_step

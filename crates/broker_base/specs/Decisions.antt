@@ -1,0 +1,77 @@
+-- What becomes of a command, as the state decides (MQTT 3.1.4, 3.8.4, 4.3.3, 4.8).
+use Rattle.std.specs.Prelude.{Bool, false, not, ◌&&◌, ◌||◌, ◌==◌, nat_lt, nat_le, if◌then◌else◌, length, Option, Some, None, is_some, is_none, option_map}
+use Rattle.std.specs.List.{list_any}
+use Rattle.packet.specs.declared.delivery.Delivery.{Delivery}
+use Rattle.packet.specs.declared.delivery.Delivery.TheVariants as deliveries
+use Rattle.packet.specs.declared.packet.Packet.{Packet}
+use Rattle.packet.specs.declared.packet.Packet.TheVariants as packets
+use Rattle.retained.specs.Retained.{Content, is_empty, kept_of}
+use Rattle.session_base.specs.declared.publication.Publication.{Publication}
+use Rattle.session_base.specs.Publication.{publication_of, lower_qos}
+use Rattle.session_base.specs.Identifiers.{has_id}
+use Rattle.session_base.specs.Queue.{room}
+use Rattle.broker_base.specs.Place.{Client, Mark, Place, Limits}
+use Rattle.broker_base.specs.Subscriptions.{granted_qos}
+use Rattle.broker_base.specs.Marks.{is_queued_at, grants}
+use Rattle.broker_base.specs.Kept.{Kept}
+use Rattle.broker_base.specs.State.{State, session_in, owner_in}
+use Rattle.broker_base.specs.declared.command.Command.{Command}
+use Rattle.broker_base.specs.declared.command.Command.TheVariants as commands
+
+-- whether a session would have to queue the publication and is full
+abbrev pub is_full_for : Limits → Publication → Client × Kept → Bool
+is_full_for limits p row =
+    is_queued_at (option_map (lower_qos p.qos) (granted_qos p.topic row.1.subscriptions))
+    && (room limits.entries row.1.queue == 0)
+
+-- whether a publication is to be retained on a topic more than the limit
+abbrev pub is_one_topic_over : Limits → Content → Publication → Bool
+is_one_topic_over limits content p =
+    p.retain && not (is_empty p.payload) && is_none (kept_of p.topic content) && nat_le limits.retained (length content)
+
+-- a publication is refused whole where one session has no room for it, or where it cannot be retained
+abbrev pub refuses : Limits → State → Publication → Bool
+refuses limits state p =
+    list_any (is_full_for limits p) state.sessions || is_one_topic_over limits state.retained p
+
+-- whether a delivery is another try of one that the session took
+abbrev pub is_again : Kept → Delivery → Bool
+is_again kept (deliveries.ExactlyOnce dup id) = has_id id kept.received
+is_again kept _ = false
+
+-- a packet on the current connection of this session
+abbrev pub owned_mark : Limits → State → Client × Kept → Packet → Mark
+owned_mark limits state owner (packets.Publish p) =
+    if is_again owner.1 p.delivery then Mark.Repeat owner.0 else
+    if refuses limits state (publication_of p) then Mark.Refused owner.0 else Mark.Taken owner.0
+owned_mark limits state owner (packets.Subscribe s) =
+    Mark.Granted owner.0 (grants limits state.retained owner.1.subscriptions (room limits.entries owner.1.queue) s.filters)
+owned_mark limits state owner (packets.Connect connect) = Mark.Leaves owner.0
+owned_mark limits state owner (packets.Connack connack) = Mark.Leaves owner.0
+owned_mark limits state owner (packets.Suback suback) = Mark.Leaves owner.0
+owned_mark limits state owner (packets.Unsuback id) = Mark.Leaves owner.0
+owned_mark limits state owner packets.Pingresp = Mark.Leaves owner.0
+owned_mark limits state owner packets.Disconnect = Mark.Leaves owner.0
+owned_mark limits state owner _ = Mark.Handled owner.0
+
+-- a packet counts on a current connection alone
+abbrev pub packet_mark_in : Limits → State → Packet → Option (Client × Kept) → Mark
+packet_mark_in limits state packet (Some owner) = owned_mark limits state owner packet
+packet_mark_in limits state packet None = Mark.NoPart
+
+-- a Connect on a current connection is a violation; any other is accepted where a session is kept or may begin
+abbrev pub connect_mark_in : Limits → State → Client → Option (Client × Kept) → Mark
+connect_mark_in limits state c (Some owner) = Mark.Leaves owner.0
+connect_mark_in limits state c None =
+    if is_some (session_in c state.sessions) || nat_lt (length state.sessions) limits.sessions then Mark.Accepted else Mark.Full
+
+-- what becomes of a command in this state
+abbrev pub mark_in : Limits → State → Command → Mark
+mark_in limits state (commands.Packet x packet) = packet_mark_in limits state packet (owner_in x state.sessions)
+mark_in limits state (commands.Connect x c clean) = connect_mark_in limits state c (owner_in x state.sessions)
+mark_in limits state (commands.Lost x) = Mark.NoPart
+mark_in limits state (commands.Start ballot) = Mark.NoPart
+
+-- the command with its mark
+abbrev pub place_in : Limits → State → Command → Place
+place_in limits state command = record { command = command; mark = mark_in limits state command }

@@ -1,0 +1,81 @@
+-- The broker's step: the state and the answers after one more command (MQTT 3.1.4, 3.3.1.3, 4.1, 4.3, 4.4).
+use Rattle.std.specs.Prelude.{◌≡◌, ℕ, Bool, true, false, ◌||◌, if◌then◌else◌, List, [], ◌∷◌, Option, Some}
+use Rattle.retained.specs.Retained.{Content}
+use Rattle.broker_base.specs.Connection.{ConnectionName}
+use Rattle.broker_base.specs.Place.{Client, same_client, Mark, Place, Past, Limits}
+use Rattle.broker_base.specs.Past.{ends_any}
+use Rattle.broker_base.specs.Retained.{retained_by}
+use Rattle.broker_base.specs.Commands.{is_start}
+use Rattle.broker_base.specs.Kept.{Kept}
+use Rattle.broker_base.specs.KeptStep.{kept_after, kept_connected}
+use Rattle.broker_base.specs.State.{Sessions, State, keyed, session_in, put_session}
+use Rattle.broker_base.specs.Decisions.{place_in}
+use Rattle.broker_base.specs.StepAnswers.{answers_by_state}
+use Rattle.broker_base.specs.declared.command.Command.{Command}
+use Rattle.broker_base.specs.declared.command.Command.TheVariants as commands
+use Rattle.broker_base.specs.declared.command.Answer.{Answer}
+
+-- whether a command is about this client's session, apart from the end of its connection
+abbrev pub is_about : Command → Mark → Client → Bool
+is_about (commands.Connect x d clean) Mark.Accepted c = same_client d c
+is_about command (Mark.Taken d) c = true
+is_about command (Mark.Granted d which) c = same_client d c
+is_about command (Mark.Handled d) c = same_client d c
+is_about _ _ c = false
+
+-- whether a place touches a client's session with this connection; every other stays as it is
+abbrev pub touches : Place → Client → Option ConnectionName → Bool
+touches place c connection = ends_any place connection || is_about place.command place.mark c
+
+-- a session after a place, if it is left
+abbrev pub session_after : ℕ → Place → Content → Client → Kept → Option Kept
+session_after window place content c kept =
+    if touches place c kept.connection then kept_after window place content c (Some kept) else Some kept
+
+-- the sessions that were there before it
+abbrev pub sessions_left : ℕ → Place → Content → Sessions → Sessions
+sessions_left window place content (row ∷ rows) =
+    keyed row.0 (session_after window place content row.0 row.1) (sessions_left window place content rows)
+sessions_left window place content [] = []
+
+-- and with that of the client of an accepted Connect
+abbrev pub sessions_with : ℕ → Place → Content → Sessions → Command → Mark → Sessions
+sessions_with window place content rows (commands.Connect x c clean) Mark.Accepted =
+    put_session c (kept_connected window place content c (x, clean) (session_in c rows))
+    (sessions_left window place content rows)
+sessions_with window place content rows command mark = sessions_left window place content rows
+
+-- the window after a command: this one from a Start on
+abbrev pub window_after : ℕ → Command → ℕ → ℕ
+window_after later command window = if is_start command then later else window
+
+-- the state and the answers after a command that has this mark
+abbrev pub step_at : ℕ → Place → State → State × List Answer
+step_at window place state = (
+  record {
+    window = window;
+    sessions = sessions_with window place state.retained state.sessions place.command place.mark;
+    retained = retained_by place.command place.mark state.retained;
+  },
+  answers_by_state window place state place.command place.mark,
+)
+
+-- one more command, where the window from a Start on is `later`
+abbrev pub step : Limits → ℕ → State → Command → State × List Answer
+step limits later state command = step_at (window_after later command state.window) (place_in limits state command) state
+
+-- the state after more commands, oldest first
+abbrev pub state_from : Limits → ℕ → State → List Command → State
+state_from limits later state (command ∷ commands) = state_from limits later (step limits later state command).0 commands
+state_from limits later state [] = state
+
+-- and the answers to them, place by place
+abbrev pub steps_from : Limits → ℕ → State → List Command → List (List Answer)
+steps_from limits later state (command ∷ commands) =
+    (step limits later state command).1 ∷ steps_from limits later (step limits later state command).0 commands
+steps_from limits later state [] = []
+
+-- the window of these limits changes at a Start alone, and is `later` from the first one on
+abbrev pub IsWindow : Limits → ℕ → Type 0
+IsWindow limits later =
+    (place : Place) → (past : Past) → limits.window (place ∷ past) ≡ window_after later place.command (limits.window past)

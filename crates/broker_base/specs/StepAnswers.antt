@@ -1,0 +1,101 @@
+-- What the broker answers to a command, from the state before it (MQTT 3.1.4, 3.2, 3.3.4, 3.8.4, 4.3, 4.4).
+use Rattle.std.specs.Prelude.{ℕ, Bool, not, ◌||◌, if◌then◌else◌, List, [], ◌∷◌, ◌++◌, map, flat_map, Option, Some, None, option_map}
+use Rattle.packet.specs.declared.packet.Packet.{Packet}
+use Rattle.packet.specs.declared.packet.Packet.TheVariants as packets
+use Rattle.retained.specs.Retained.{Content}
+use Rattle.session_base.specs.Queue.{on_puback, on_pubrec, on_pubcomp}
+use Rattle.session_base.specs.Sending.{fill_sends, resend, pubrec_sends, copies_sent}
+use Rattle.broker_base.specs.Connection.{ConnectionName}
+use Rattle.broker_base.specs.Place.{Client, Mark, Place}
+use Rattle.broker_base.specs.Past.{begins_session}
+use Rattle.broker_base.specs.Answers.{closed, welcome, turned_away, acknowledged, codes_of}
+use Rattle.broker_base.specs.Kept.{Kept}
+use Rattle.broker_base.specs.KeptStep.{copies_with}
+use Rattle.broker_base.specs.State.{State, session_in}
+use Rattle.broker_base.specs.declared.command.Command.{Command}
+use Rattle.broker_base.specs.declared.command.Command.TheVariants as commands
+use Rattle.broker_base.specs.declared.command.Answer.{Answer}
+use Rattle.broker_base.specs.declared.command.Answer.TheVariants.{Send, Close}
+
+-- packets to a client that is connected
+abbrev pub sent_on : Option ConnectionName → List Packet → List Answer
+sent_on (Some x) packets = map (Send x) packets
+sent_on None packets = []
+
+-- what a session's client is sent of the copies that a place makes for it
+abbrev pub copies_answered : ℕ → Place → Content → Client × Kept → List Answer
+copies_answered window place content row =
+    sent_on row.1.connection
+    (copies_sent window (copies_with place.command place.mark content row.0 row.1.subscriptions) row.1.queue)
+
+-- the same of a client's session, if it has one
+abbrev pub copies_to : ℕ → Place → Content → Client → Option Kept → List Answer
+copies_to window place content c (Some kept) = copies_answered window place content (c, kept)
+copies_to window place content c None = []
+
+-- only while a session's client is connected
+abbrev pub while_connected : Option ConnectionName → List Packet → List Packet
+while_connected (Some x) packets = packets
+while_connected None packets = []
+
+-- what a client's packet makes its session send on x: what starts behind a PUBACK or PUBCOMP, and PUBREL behind PUBREC
+abbrev pub handled_sends : ℕ → Packet → Kept → List Packet
+handled_sends window (packets.Puback id) kept =
+    while_connected kept.connection (fill_sends window (on_puback id kept.queue.in_flight) kept.queue.waiting)
+handled_sends window (packets.Pubcomp id) kept =
+    while_connected kept.connection (fill_sends window (on_pubcomp id kept.queue.in_flight) kept.queue.waiting)
+handled_sends window (packets.Pubrec id) kept = pubrec_sends id (on_pubrec id kept.queue.in_flight)
+handled_sends window _ kept = []
+
+-- of a client's session, if it has one
+abbrev pub handled_of : ℕ → Packet → Option Kept → List Packet
+handled_of window packet (Some kept) = handled_sends window packet kept
+handled_of window packet None = []
+
+-- the answers to a packet that is no PUBLISH and no SUBSCRIBE, and ends nothing
+abbrev pub handled_in : ℕ → ConnectionName → Option Kept → Packet → List Answer
+handled_in window x old (packets.Unsubscribe u) = Send x (packets.Unsuback u.id) ∷ []
+handled_in window x old (packets.Pubrel id) = Send x (packets.Pubcomp id) ∷ []
+handled_in window x old packets.Pingreq = Send x packets.Pingresp ∷ []
+handled_in window x old packet = map (Send x) (handled_of window packet old)
+
+-- the answers to a packet, by its mark
+abbrev pub packet_answers_in : ℕ → Place → State → ConnectionName → Packet → Mark → List Answer
+packet_answers_in window place state x (packets.Publish p) (Mark.Taken c) =
+    acknowledged x p.delivery ++ flat_map (copies_answered window place state.retained) state.sessions
+packet_answers_in window place state x (packets.Publish p) (Mark.Repeat c) = acknowledged x p.delivery
+packet_answers_in window place state x (packets.Subscribe s) (Mark.Granted c which) =
+    Send x (packets.Suback (record { id = s.id; codes = codes_of s.filters which }))
+    ∷ copies_to window place state.retained c (session_in c state.sessions)
+packet_answers_in window place state x packet (Mark.Handled c) = handled_in window x (session_in c state.sessions) packet
+packet_answers_in window place state x packet (Mark.Leaves c) = Close x ∷ []
+packet_answers_in window place state x packet (Mark.Refused c) = Close x ∷ []
+packet_answers_in window place state x packet _ = []
+
+-- the connection of a session that there may be
+abbrev pub connection_of : Option Kept → Option ConnectionName
+connection_of (Some kept) = kept.connection
+connection_of None = None
+
+-- what a client that comes back is sent: what is in flight, then what starts; nothing where its session begins
+abbrev pub resumed : ℕ → Bool → Option Kept → List Packet
+resumed window clean (Some kept) =
+    if clean || kept.clean then []
+    else resend kept.queue.in_flight ++ fill_sends window kept.queue.in_flight kept.queue.waiting
+resumed window clean None = []
+
+-- the answers to a Connect, by its mark
+abbrev pub connect_answers_in : ℕ → ConnectionName → Bool → Option Kept → Mark → List Answer
+connect_answers_in window x clean old Mark.Accepted =
+    closed (connection_of old)
+    ++ welcome x (not (begins_session clean (option_map (λ (kept : Kept). kept.clean) old))) ∷ map (Send x) (resumed window clean old)
+connect_answers_in window x clean old Mark.Full = turned_away x ∷ Close x ∷ []
+connect_answers_in window x clean old _ = Close x ∷ []
+
+-- the answers at a place, with this window from then on
+abbrev pub answers_by_state : ℕ → Place → State → Command → Mark → List Answer
+answers_by_state window place state (commands.Packet x packet) mark = packet_answers_in window place state x packet mark
+answers_by_state window place state (commands.Connect x c clean) mark =
+    connect_answers_in window x clean (session_in c state.sessions) mark
+answers_by_state window place state (commands.Lost x) mark = []
+answers_by_state window place state (commands.Start ballot) mark = []

@@ -1,0 +1,71 @@
+-- Laws of the step: one command at a time it gives what the definitions say of the whole list of commands.
+use Rattle.std.specs.Prelude.{◌≡◌, ℕ, false, List, [], ◌∷◌, Some, None}
+use Rattle.broker_base.specs.Place.{Client, Place, Past, Limits}
+use Rattle.broker_base.specs.Past.{accepts}
+use Rattle.broker_base.specs.Retained.{retained_publications}
+use Rattle.broker_base.specs.Times.{window_at}
+use Rattle.broker_base.specs.Marks.{mark_of}
+use Rattle.broker_base.specs.Commands.{place_of, past_of, limits_from, usual_limits}
+use Rattle.broker_base.specs.Answers.{answers_of, answers_from}
+use Rattle.broker_base.specs.Kept.{Kept, kept_of}
+use Rattle.broker_base.specs.KeptStep.{kept_after}
+use Rattle.broker_base.specs.State.{empty_state, state_of, session_in}
+use Rattle.broker_base.specs.Decisions.{mark_in}
+use Rattle.broker_base.specs.Step.{touches, step, state_from, steps_from, IsWindow}
+use Rattle.broker_base.specs.declared.command.Command.{Command}
+
+-- after one more place, whatever its mark, what is kept of each client's session is the step of what was kept
+abbrev pub StepsEachSession : Type 0
+StepsEachSession =
+    (limits : Limits) → (place : Place) → (past : Past) → (c : Client) →
+    kept_of limits (place ∷ past) c
+    ≡ kept_after (window_at limits (place ∷ past)) place (retained_publications past) c (kept_of limits past c)
+
+-- a session that a place does not touch stays as it is
+abbrev pub OthersStay : Type 0
+OthersStay =
+    (limits : Limits) → (later : ℕ) → IsWindow limits later →
+    (place : Place) → (past : Past) → (c : Client) → (kept : Kept) →
+    kept_of limits past c ≡ Some kept → touches place c kept.connection ≡ false →
+    kept_of limits (place ∷ past) c ≡ Some kept
+
+-- a client that has no session gets one by an accepted Connect alone
+abbrev pub NoneBegins : Type 0
+NoneBegins =
+    (limits : Limits) → (place : Place) → (past : Past) → (c : Client) →
+    kept_of limits past c ≡ None → accepts place.command place.mark c ≡ None →
+    kept_of limits (place ∷ past) c ≡ None
+
+-- the state has each client's session under its name
+abbrev pub FindsEachSession : Type 0
+FindsEachSession =
+    (limits : Limits) → (past : Past) → (c : Client) →
+    session_in c (state_of limits past).sessions ≡ kept_of limits past c
+
+-- the state decides what becomes of a command as the past does
+abbrev pub DecidesAsThePast : Type 0
+DecidesAsThePast =
+    (limits : Limits) → (past : Past) → (command : Command) →
+    mark_in limits (state_of limits past) command ≡ mark_of limits past command
+
+-- the step of the state that a past stands for is the state that it stands for with one more place, and the
+-- answers at that place
+abbrev pub StepStandsFor : Type 0
+StepStandsFor =
+    (limits : Limits) → (later : ℕ) → IsWindow limits later → (past : Past) → (command : Command) →
+    step limits later (state_of limits past) command
+    ≡ (state_of limits (place_of limits past command ∷ past), answers_of limits past command)
+
+-- step by step, from the empty state, a list of commands gives the state that it stands for, and its answers
+abbrev pub ListStandsFor : Type 0
+ListStandsFor =
+    (limits : Limits) → (later : ℕ) → IsWindow limits later → (commands : List Command) →
+    (state_from limits later (empty_state (limits.window [])) commands ≡ state_of limits (past_of limits commands))
+    × (steps_from limits later (empty_state (limits.window [])) commands ≡ answers_from limits [] commands)
+
+-- so it is for a broker whose window was this one at first, and is 64 from the first Start on
+abbrev pub UsualListStandsFor : Type 0
+UsualListStandsFor =
+    (first : ℕ) → (commands : List Command) →
+    (state_from usual_limits 64 (empty_state first) commands ≡ state_of (limits_from first) (past_of (limits_from first) commands))
+    × (steps_from usual_limits 64 (empty_state first) commands ≡ answers_from (limits_from first) [] commands)

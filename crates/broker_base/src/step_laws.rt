@@ -1,0 +1,45 @@
+// Laws of the step: functions that do nothing, whose contracts are the laws.
+
+ghost use Rattle.broker_base.specs.StepLaws.{
+  StepsEachSession,
+  OthersStay,
+  NoneBegins,
+  FindsEachSession,
+  DecidesAsThePast,
+  StepStandsFor,
+  ListStandsFor,
+  UsualListStandsFor,
+};
+
+/// One more command, whatever becomes of it, changes what is kept of each client's session as the
+/// step of one session says.
+pub fn session_step()
+    ensures { StepsEachSession }
+{}
+
+/// A command leaves as it is each session that it does not touch, and begins none but that of the
+/// client of an accepted Connect.
+pub fn others_stay()
+    ensures stays { OthersStay }
+    ensures none_begins { NoneBegins }
+{}
+
+/// The state that a past stands for has each session under its client, and decides what becomes of
+/// a command as the past does.
+pub fn decisions_stand_for()
+    ensures sessions { FindsEachSession }
+    ensures marks { DecidesAsThePast }
+{}
+
+/// One step of the state that a past stands for gives the state that it stands for with the command
+/// added, and the answers to the command.
+pub fn step_stands_for()
+    ensures { StepStandsFor }
+{}
+
+/// A list of commands, taken step by step from the empty state, gives the state that it stands for,
+/// and its answers.
+pub fn list_stands_for()
+    ensures every { ListStandsFor }
+    ensures usual { UsualListStandsFor }
+{}

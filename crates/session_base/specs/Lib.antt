@@ -1,0 +1,4 @@
+pub mod Publication
+pub mod Identifiers
+pub mod Queue
+pub mod Sending

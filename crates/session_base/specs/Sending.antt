@@ -1,0 +1,44 @@
+-- The packets that a client is sent of its queue (MQTT 3.3.1.1, 4.3, 4.4).
+use Rattle.std.specs.Prelude.{ℕ, Bool, true, false, nat_lt, if◌then◌else◌, List, [], ◌∷◌, ◌++◌, length, map}
+use Rattle.packet.specs.declared.packet.Packet.{Packet}
+use Rattle.packet.specs.declared.packet.Packet.TheVariants as packets
+use Rattle.session_base.specs.declared.publication.Publication.{Publication}
+use Rattle.session_base.specs.declared.awaits.Awaits.{Awaits}
+use Rattle.session_base.specs.declared.awaits.Awaits.TheVariants as waits_for
+use Rattle.session_base.specs.Publication.{publish_of, is_answered}
+use Rattle.session_base.specs.Identifiers.{least_free}
+use Rattle.session_base.specs.Queue.{Flight, Queue, ids_of, started_flight, awaits_pubcomp, enqueue, filled}
+use Rattle.std.specs.List.{list_any}
+
+-- what a fill sends: each publication that starts, with DUP 0 (MQTT 3.3.1.1)
+abbrev pub fill_sends : ℕ → List Flight → List Publication → List Packet
+fill_sends window in_flight (p ∷ waiting) =
+    if nat_lt (length in_flight) window
+    then packets.Publish (publish_of false (started_flight in_flight p).0 p)
+      ∷ fill_sends window (in_flight ++ started_flight in_flight p ∷ []) waiting
+    else []
+fill_sends window in_flight [] = []
+
+-- what a client that comes back is sent of an entry: PUBREL for a released one, else PUBLISH with DUP 1 (MQTT 4.4)
+abbrev pub sent_anew : ℕ → Awaits → Packet
+sent_anew id (waits_for.Puback p) = packets.Publish (publish_of true id p)
+sent_anew id (waits_for.Pubrec p) = packets.Publish (publish_of true id p)
+sent_anew id waits_for.Pubcomp = packets.Pubrel id
+
+-- and of all that is in flight, in its order
+abbrev pub resend : List Flight → List Packet
+resend = map (λ flight. sent_anew flight.0 flight.1)
+
+-- PUBREC is answered by PUBREL where it released an entry, and where the entry was released before (MQTT 4.3.3)
+abbrev pub pubrec_sends : ℕ → List Flight → List Packet
+pubrec_sends id after =
+    if list_any (λ flight. awaits_pubcomp id flight) after then packets.Pubrel id ∷ [] else []
+
+-- What a connected client is sent of copies that come one by one: each of QoS 0 at once, and what starts behind
+-- each other that is enqueued.
+abbrev pub copies_sent : ℕ → List Publication → Queue → List Packet
+copies_sent window (p ∷ copies) queue =
+    if is_answered p.qos
+    then fill_sends window queue.in_flight (enqueue p queue).waiting ++ copies_sent window copies (filled window (enqueue p queue))
+    else packets.Publish (publish_of false 0 p) ∷ copies_sent window copies queue
+copies_sent window [] queue = []
