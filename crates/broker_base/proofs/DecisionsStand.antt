@@ -26,7 +26,7 @@ use Rattle.broker_base.specs.State.{keyed, table, owner_in, state_of}
 use Rattle.broker_base.specs.Decisions.{is_full_for, refuses, is_again, owned_mark, packet_mark_in, connect_mark_in, mark_in}
 use Rattle.broker_base.specs.declared.command.Command.{Command}
 use Rattle.broker_base.specs.declared.command.Command.TheVariants as commands
-use Rattle.broker_base.proofs.CountedIdentifiers.{same_length}
+use Rattle.session_base.proofs.CountedIdentifiers.{same_length}
 use Rattle.broker_base.proofs.SoundEntries.{Sound}
 use Rattle.broker_base.proofs.StartsInFlight.{same_ids}
 use Rattle.broker_base.proofs.KeptAfter.{sound_entries}

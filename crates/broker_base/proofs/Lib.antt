@@ -1,5 +1,4 @@
 pub mod AnswersInFlight
-pub mod CountedIdentifiers
 pub mod SoundEntries
 pub mod SoundStarts
 pub mod PubrecInFlight
