@@ -14,3 +14,16 @@ pub mod SessionsAfter
 pub mod DecisionsStand
 pub mod AnswersStand
 pub mod StepByStep
+pub mod CurrentIsLastAccepted
+pub mod RepeatIsUnreleased
+pub mod NothingWaits
+pub mod EntriesGrow
+pub mod TakenPublishAddsOne
+pub mod PacketOfNobody
+pub mod LeastFree
+pub mod IdentifiersApart
+pub mod IdentifiersInWindow
+pub mod StartsWhereItMay
+pub mod FilterHasLastGranting
+pub mod EntersOnce
+pub mod AnswersAreAddressed

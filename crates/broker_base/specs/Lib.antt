@@ -22,3 +22,12 @@ pub mod Commands
 pub mod Sends
 pub mod Answers
 pub mod RowWords
+pub mod Rows
+pub mod MoreRows
+pub mod Laws
+pub mod EntryLaws
+pub mod QuietLaws
+pub mod IdentifierLaws
+pub mod StartLaws
+pub mod OriginLaws
+pub mod AnswerLaws

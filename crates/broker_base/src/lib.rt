@@ -4,11 +4,24 @@
 
 mod command;
 mod connection_id;
+mod laws;
+mod rows;
 mod sized_packet;
 mod step_laws;
 
 pub use command::{Answer, Command};
 pub use connection_id::ConnectionId;
+pub use laws::{
+    answers_are_addressed, current_is_last_accepted, enters_once, entries_only_grow,
+    filter_has_last_granting, identifiers_are_distinct, nothing_waits_in_vain,
+    packet_of_nobody_is_nothing, repeat_is_unreleased, starts_where_it_may, taken_publish_adds_one,
+};
+pub use rows::{
+    a_full_queue_keeps_the_order, a_repeat_before_pubrel, a_second_connection_takes_over,
+    connect_is_answered, ping_unsubscribe_and_violations, puback_frees_its_identifier,
+    publish_reaches_the_subscriber, pubrel_twice, retained_at_subscribe, subscribe_is_granted,
+    two_filters_one_publication, window_of_64,
+};
 pub use sized_packet::{SizedPacket, TooLarge};
 pub use step_laws::{
     decisions_stand_for, list_stands_for, others_stay, session_step, step_stands_for,
