@@ -25,7 +25,7 @@ use Rattle.broker_base.specs.KeptStep.{answered_flights}
 use Rattle.broker_base.specs.StepAnswers.{copies_to, while_connected, connection_of, resumed}
 use Rattle.broker_base.specs.declared.command.Command.{Command}
 use Rattle.broker_base.specs.declared.command.Answer.TheVariants.{Send}
-use Rattle.broker_base.proofs.CountedIdentifiers.{count, SameIds, same_length}
+use Rattle.session_base.proofs.CountedIdentifiers.{count, SameIds, same_length}
 use Rattle.broker_base.proofs.SoundEntries.{Sound}
 use Rattle.broker_base.proofs.AnswersInFlight.{awaits_no_pubcomp}
 use Rattle.broker_base.proofs.PubrecInFlight.{flights_pubrec}

@@ -25,7 +25,7 @@ use Rattle.broker_base.proofs.SessionsInOrder.{same_self}
 use Rattle.broker_base.proofs.SessionsAfter.{at, session_is}
 use Rattle.broker_base.proofs.OthersStay.{same_window}
 use Rattle.broker_base.proofs.AnswersOfSessions.{deliveries_are, fills_behind, starts_are, pubrels_behind, pubrec_is, closed_is, resumed_is}
-use Rattle.broker_base.proofs.DecisionsStand.{kept_now}
+use Rattle.broker_base.proofs.KeptAfter.{kept_now}
 
 -- a packet that leaves nothing ends no connection
 not_ending : (x : ConnectionName) (connection : Option ConnectionName) → any_connection (λ y. same_connection x y && false) connection ≡ false

@@ -26,10 +26,10 @@ use Rattle.broker_base.specs.State.{keyed, table, owner_in, state_of}
 use Rattle.broker_base.specs.Decisions.{is_full_for, refuses, is_again, owned_mark, packet_mark_in, connect_mark_in, mark_in}
 use Rattle.broker_base.specs.declared.command.Command.{Command}
 use Rattle.broker_base.specs.declared.command.Command.TheVariants as commands
-use Rattle.broker_base.proofs.CountedIdentifiers.{same_length}
+use Rattle.session_base.proofs.CountedIdentifiers.{same_length}
 use Rattle.broker_base.proofs.SoundEntries.{Sound}
 use Rattle.broker_base.proofs.StartsInFlight.{same_ids}
-use Rattle.broker_base.proofs.KeptAfter.{sound_entries}
+use Rattle.broker_base.proofs.KeptAfter.{kept_now, sound_entries}
 use Rattle.broker_base.proofs.SessionsAfter.{session_is}
 
 -- ---- room
@@ -51,11 +51,6 @@ pub room_is : (limits : Limits) (past : Past) (c : Client) → room limits.entri
 room_is limits past c = ap (λ k. limits.entries - k) (held_is (length past) (entries_of limits past c) (sound_entries limits past c))
 
 -- ---- publications
-
--- what is kept of a client that has a session
-abbrev pub kept_now : Limits → Past → Client → Bool → Kept
-kept_now limits past c clean =
-    record { clean = clean; connection = current_connection past c; subscriptions = subscriptions_of past c; received = received_of past c; queue = queue_of (length past) (entries_of limits past c) }
 
 full_in : (limits : Limits) (past : Past) (p : Publication) (ds : List Client) →
     list_any (is_full_for limits p) (table (kept_of limits past) ds) ≡ list_any (lacks_room limits past p) (filter (λ c. is_some (session_of past c)) ds)

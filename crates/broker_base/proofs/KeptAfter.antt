@@ -132,6 +132,17 @@ abbrev pub kept_with : ℕ → Option Bool → Option ConnectionName → List Su
 kept_with n session connection held ids es =
     option_map (λ clean. record { clean = clean; connection = connection; subscriptions = held; received = ids; queue = queue_of n es }) session
 
+-- what is kept of a client that has a session
+abbrev pub kept_now : Limits → Past → Client → Bool → Kept
+kept_now limits past c clean =
+    record {
+      clean = clean;
+      connection = current_connection past c;
+      subscriptions = subscriptions_of past c;
+      received = received_of past c;
+      queue = queue_of (length past) (entries_of limits past c);
+    }
+
 none_in_flight : (n : ℕ) → released_below n [] ≡ []
 none_in_flight zero = refl
 none_in_flight (suc n) = append_none (released_below n []) ∙ none_in_flight n

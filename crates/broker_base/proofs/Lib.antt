@@ -2,7 +2,6 @@ pub mod AnswersAreAddressed
 pub mod AnswersInFlight
 pub mod AnswersOfSessions
 pub mod AnswersStand
-pub mod CountedIdentifiers
 pub mod CurrentIsLastAccepted
 pub mod DecisionsStand
 pub mod EntersOnce

@@ -9,10 +9,13 @@ use Rattle.session_base.specs.Queue.{Flight}
 use Rattle.broker_base.specs.Connection.{ConnectionName}
 use Rattle.broker_base.specs.Place.{Client, same_client, Mark, Place, Past, Limits, only_if}
 use Rattle.broker_base.specs.Past.{accepts, any_connection, ends, ends_any, current_connection, session_of}
-use Rattle.broker_base.specs.Subscriptions.{subscribed, subscriptions_of}
+use Rattle.session_base.specs.Publication.{publication_of, lower_qos}
+use Rattle.packet.specs.declared.qos.QoS.{QoS}
+use Rattle.std.specs.Prelude.{option_map, is_some}
+use Rattle.broker_base.specs.Subscriptions.{granted_qos, subscribed, subscriptions_of}
 use Rattle.broker_base.specs.Received.{received_by, received_of}
 use Rattle.broker_base.specs.Retained.{retained_publications}
-use Rattle.broker_base.specs.Entries.{queued}
+use Rattle.broker_base.specs.Entries.{copy_of, queued}
 use Rattle.broker_base.specs.Readings.{waiting_of}
 use Rattle.broker_base.specs.Times.{window_at, entries_of}
 use Rattle.broker_base.specs.Commands.{is_start}
@@ -23,35 +26,40 @@ use Rattle.broker_base.specs.declared.command.Command.{Command}
 use Rattle.broker_base.specs.declared.command.Command.TheVariants as commands
 use Rattle.broker_base.proofs.StartsInFlight.{append_none}
 use Rattle.broker_base.proofs.SendsOfCopies.{Quiet}
-use Rattle.broker_base.proofs.KeptAfter.{kept_with}
+use Rattle.broker_base.proofs.KeptAfter.{kept_with, kept_now}
 use Rattle.broker_base.proofs.QuietPasts.{quiet_queue, quiet_filled}
 
 if_no : {A : Type 0} (b : Bool) (x y : A) → b ≡ false → (if b then x else y) ≡ y
 if_no true x y e = absurd (cc)
 if_no false x y e = refl
 
-pub not_opened : (command : Command) (mark : Mark) (c : Client) → is_about command mark c ≡ false → accepts command mark c ≡ None
-not_opened (commands.Connect x d clean) Mark.Accepted c e = ap (λ b. only_if b (Some (x, clean))) e
-not_opened _ _ c e = refl
+pub not_opened : (command : Command) (mark : Mark) (c : Client) (held : List Subscription) → is_about command mark c held ≡ false → accepts command mark c ≡ None
+not_opened (commands.Connect x d clean) Mark.Accepted c held e = ap (λ b. only_if b (Some (x, clean))) e
+not_opened _ _ c held e = refl
 
-subscribed_same : (command : Command) (mark : Mark) (c : Client) (held : List Subscription) → is_about command mark c ≡ false → subscribed command mark c held ≡ held
+subscribed_same : (command : Command) (mark : Mark) (c : Client) (held : List Subscription) → is_about command mark c held ≡ false → subscribed command mark c held ≡ held
 subscribed_same (commands.Packet x (packets.Subscribe s)) (Mark.Granted d which) c held e = if_no (same_client d c) _ held e
 subscribed_same (commands.Packet x (packets.Unsubscribe u)) (Mark.Handled d) c held e = if_no (same_client d c) _ held e
 subscribed_same _ _ c held e = refl
 
-received_same : (command : Command) (mark : Mark) (c : Client) (ids : List ℕ) → is_about command mark c ≡ false → received_by command mark c ids ≡ ids
-received_same (commands.Packet x (packets.Publish p)) (Mark.Taken d) c ids e = absurd (cc)
-received_same (commands.Packet x (packets.Pubrel id)) (Mark.Handled d) c ids e = if_no (same_client d c) _ ids e
-received_same _ _ c ids e = refl
+received_same : (command : Command) (mark : Mark) (c : Client) (held : List Subscription) (ids : List ℕ) → is_about command mark c held ≡ false → received_by command mark c ids ≡ ids
+received_same (commands.Packet x (packets.Publish p)) (Mark.Taken d) c held ids e = if_no (same_client d c) _ ids (or_parts (same_client d c) (is_some (granted_qos p.topic held)) e).0
+received_same (commands.Packet x (packets.Pubrel id)) (Mark.Handled d) c held ids e = if_no (same_client d c) _ ids e
+received_same _ _ c held ids e = refl
 
-answered_same : (command : Command) (mark : Mark) (c : Client) (fs : List Flight) → is_about command mark c ≡ false → answered_flights command mark c fs ≡ fs
-answered_same (commands.Packet x (packets.Puback i)) (Mark.Handled d) c fs e = if_no (same_client d c) _ fs e
-answered_same (commands.Packet x (packets.Pubrec i)) (Mark.Handled d) c fs e = if_no (same_client d c) _ fs e
-answered_same (commands.Packet x (packets.Pubcomp i)) (Mark.Handled d) c fs e = if_no (same_client d c) _ fs e
-answered_same _ _ c fs e = refl
+answered_same : (command : Command) (mark : Mark) (c : Client) (held : List Subscription) (fs : List Flight) → is_about command mark c held ≡ false → answered_flights command mark c fs ≡ fs
+answered_same (commands.Packet x (packets.Puback i)) (Mark.Handled d) c held fs e = if_no (same_client d c) _ fs e
+answered_same (commands.Packet x (packets.Pubrec i)) (Mark.Handled d) c held fs e = if_no (same_client d c) _ fs e
+answered_same (commands.Packet x (packets.Pubcomp i)) (Mark.Handled d) c held fs e = if_no (same_client d c) _ fs e
+answered_same _ _ c held fs e = refl
 
-no_copies : (command : Command) (mark : Mark) (content : Content) (c : Client) (held : List Subscription) → is_about command mark c ≡ false → copies_with command mark content c held ≡ []
-no_copies (commands.Packet x (packets.Publish p)) (Mark.Taken d) content c held e = absurd (cc)
+no_copies : (command : Command) (mark : Mark) (content : Content) (c : Client) (held : List Subscription) → is_about command mark c held ≡ false → copies_with command mark content c held ≡ []
+no_copies (commands.Packet x (packets.Publish p)) (Mark.Taken d) content c held e =
+    none (granted_qos p.topic held) (or_parts (same_client d c) (is_some (granted_qos p.topic held)) e).1
+  where
+    none : (found : Option QoS) → is_some found ≡ false → copy_of (publication_of p) (option_map (lower_qos (publication_of p).qos) found) ≡ []
+    none (Some qos) e = absurd (cc)
+    none None e = refl
 no_copies (commands.Packet x (packets.Subscribe s)) (Mark.Granted d which) content c held e = if_no (same_client d c) _ [] e
 no_copies _ _ content c held e = refl
 
@@ -86,17 +94,17 @@ still_there : (clean : Bool) (kept : Kept) → only_if (not (clean && false)) (S
 still_there true kept = refl
 still_there false kept = refl
 
-pub kept_stays : (w : ℕ) (place : Place) (content : Content) (c : Client) (kept : Kept) → ends_any place kept.connection ≡ false → is_about place.command place.mark c ≡ false →
+pub kept_stays : (w : ℕ) (place : Place) (content : Content) (c : Client) (kept : Kept) → ends_any place kept.connection ≡ false → is_about place.command place.mark c kept.subscriptions ≡ false →
     ((x : ConnectionName) → kept.connection ≡ Some x → Quiet w kept.queue.in_flight kept.queue.waiting) →
     kept_after w place content c (Some kept) ≡ Some kept
 kept_stays w place content c kept not_ended not_about quiet =
-    ap (λ opened. kept_by w place content c opened (Some kept)) (not_opened place.command place.mark c not_about)
+    ap (λ opened. kept_by w place content c opened (Some kept)) (not_opened place.command place.mark c kept.subscriptions not_about)
     ∙ ap (λ over. parts w kept over (subscribed place.command place.mark c kept.subscriptions) (received_by place.command place.mark c kept.received)
     (answered_flights place.command place.mark c kept.queue.in_flight) (kept.queue.waiting ++ queued (copies_with place.command place.mark content c kept.subscriptions))) not_ended
     ∙ ap₂ (λ held ids. parts w kept false held ids (answered_flights place.command place.mark c kept.queue.in_flight) (kept.queue.waiting ++ queued (copies_with place.command place.mark content c kept.subscriptions)))
-    (subscribed_same place.command place.mark c kept.subscriptions not_about) (received_same place.command place.mark c kept.received not_about)
+    (subscribed_same place.command place.mark c kept.subscriptions not_about) (received_same place.command place.mark c kept.subscriptions kept.received not_about)
     ∙ ap₂ (λ fs ps. parts w kept false kept.subscriptions kept.received fs (kept.queue.waiting ++ queued ps))
-    (answered_same place.command place.mark c kept.queue.in_flight not_about) (no_copies place.command place.mark content c kept.subscriptions not_about)
+    (answered_same place.command place.mark c kept.subscriptions kept.queue.in_flight not_about) (no_copies place.command place.mark content c kept.subscriptions not_about)
     ∙ ap (λ ms. parts w kept false kept.subscriptions kept.received kept.queue.in_flight ms) (append_none kept.queue.waiting)
     ∙ still_there kept.clean (record {
       clean = kept.clean;
@@ -112,12 +120,12 @@ kept_stays w place content c kept not_ended not_about quiet =
 
 -- what is kept after a place that does not touch it, of plain values
 pub stays_with : (limits : Limits) (later : ℕ) → IsWindow limits later → (place : Place) (past : Past) (c : Client) (clean : Bool) →
-    touches place c (current_connection past c) ≡ false →
+    touches place c (kept_now limits past c clean) ≡ false →
     kept_after (window_at limits (place ∷ past)) place (retained_publications past) c
     (kept_with (length past) (Some clean) (current_connection past c) (subscriptions_of past c) (received_of past c) (entries_of limits past c))
     ≡ kept_with (length past) (Some clean) (current_connection past c) (subscriptions_of past c) (received_of past c) (entries_of limits past c)
 stays_with limits later follows place past c clean untouched =
-    let h = or_parts (ends_any place (current_connection past c)) (is_about place.command place.mark c) untouched in
+    let h = or_parts (ends_any place (current_connection past c)) (is_about place.command place.mark c (subscriptions_of past c)) untouched in
     kept_stays (window_at limits (place ∷ past)) place (retained_publications past) c
     (record { clean = clean; connection = current_connection past c; subscriptions = subscriptions_of past c; received = received_of past c; queue = queue_of (length past) (entries_of limits past c) })
     h.0 h.1
@@ -135,7 +143,7 @@ pub left_is : (limits : Limits) (later : ℕ) → IsWindow limits later → (pla
     ≡ kept_after (window_at limits (place ∷ past)) place (retained_publications past) c (kept_of limits past c)
 left_is limits later follows place past c not_accepted = by (session_of past c)
   where
-    touched : (b : Bool) (clean : Bool) → touches place c (current_connection past c) ≡ b →
+    touched : (b : Bool) (clean : Bool) → touches place c (kept_now limits past c clean) ≡ b →
         (if b then kept_after (window_at limits (place ∷ past)) place (retained_publications past) c
         (kept_with (length past) (Some clean) (current_connection past c) (subscriptions_of past c) (received_of past c) (entries_of limits past c))
         else kept_with (length past) (Some clean) (current_connection past c) (subscriptions_of past c) (received_of past c) (entries_of limits past c))
@@ -150,4 +158,4 @@ left_is limits later follows place past c not_accepted = by (session_of past c)
         ≡ kept_after (window_at limits (place ∷ past)) place (retained_publications past) c
         (kept_with (length past) session (current_connection past c) (subscriptions_of past c) (received_of past c) (entries_of limits past c))
     by None = sym (ap (λ opened. kept_by (window_at limits (place ∷ past)) place (retained_publications past) c opened None) not_accepted)
-    by (Some clean) = touched (touches place c (current_connection past c)) clean refl
+    by (Some clean) = touched (touches place c (kept_now limits past c clean)) clean refl

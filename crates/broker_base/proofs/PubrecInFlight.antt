@@ -12,7 +12,7 @@ use Rattle.broker_base.specs.Entries.{Entry}
 use Rattle.broker_base.specs.Readings.{released_at, released_below, busy_ids}
 use Rattle.broker_base.specs.Times.{at_pubrec}
 use Rattle.broker_base.specs.Kept.{sent_flights, released_flight, flights_below}
-use Rattle.broker_base.proofs.CountedIdentifiers.{one_if, count}
+use Rattle.session_base.proofs.CountedIdentifiers.{one_if, count}
 use Rattle.broker_base.proofs.SoundEntries.{IsBelow, Sound}
 use Rattle.broker_base.proofs.StartsInFlight.{append_none}
 use Rattle.broker_base.proofs.AnswersInFlight.{filter_out, awaits_pubrec_is, not_released}

@@ -15,7 +15,7 @@ use Rattle.broker_base.specs.Readings.{made_at, waiting_of, busy_ids}
 use Rattle.broker_base.specs.Times.{start_all}
 use Rattle.broker_base.specs.Sends.{publish, all_started, handed}
 use Rattle.broker_base.specs.declared.command.Answer.TheVariants.{Send}
-use Rattle.broker_base.proofs.CountedIdentifiers.{count, SameIds, same_length, same_least}
+use Rattle.session_base.proofs.CountedIdentifiers.{count, SameIds, same_length, same_least}
 use Rattle.broker_base.proofs.SoundEntries.{IsBelow, AllWait, InOrder}
 use Rattle.broker_base.proofs.SoundStarts.{busy_waits}
 use Rattle.broker_base.proofs.StartsInFlight.{same_next, moved}

@@ -20,7 +20,7 @@ use Rattle.broker_base.specs.Kept.{sent_flights, released_flight, flights_below}
 use Rattle.broker_base.specs.declared.command.Command.{Command}
 use Rattle.broker_base.specs.declared.command.Command.TheVariants as commands
 use Rattle.broker_base.specs.declared.command.Answer.TheVariants.{Send}
-use Rattle.broker_base.proofs.CountedIdentifiers.{count, SameIds, same_length, same_least}
+use Rattle.session_base.proofs.CountedIdentifiers.{count, SameIds, same_length, same_least}
 use Rattle.broker_base.proofs.SoundEntries.{IsBelow, AllWait, InOrder}
 use Rattle.broker_base.proofs.SoundStarts.{busy_waits}
 use Rattle.broker_base.proofs.StartsInFlight.{append_none, same_next, moved, same_ids, released_started}

@@ -5,7 +5,7 @@ use Rattle.session_base.specs.Publication.{is_acknowledged}
 use Rattle.broker_base.specs.Entries.{Entry}
 use Rattle.broker_base.specs.Readings.{busy_ids}
 use Rattle.broker_base.specs.Times.{at_puback, at_pubrec, at_pubcomp}
-use Rattle.broker_base.proofs.CountedIdentifiers.{one_if, count}
+use Rattle.session_base.proofs.CountedIdentifiers.{one_if, count}
 
 -- each place in an entry is below n
 abbrev pub IsBelow : ℕ → List Entry → Type 0

@@ -6,7 +6,7 @@ use Rattle.broker_base.specs.Connection.{ConnectionName}
 use Rattle.broker_base.specs.Entries.{Entry}
 use Rattle.broker_base.specs.Readings.{busy_ids}
 use Rattle.broker_base.specs.Times.{start_all, started}
-use Rattle.broker_base.proofs.CountedIdentifiers.{one_if, count, least_is_free}
+use Rattle.session_base.proofs.CountedIdentifiers.{one_if, count, least_is_free}
 use Rattle.broker_base.proofs.SoundEntries.{IsBelow, AllWait, InOrder, Sound}
 
 -- ---- new entries

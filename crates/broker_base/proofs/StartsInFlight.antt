@@ -10,7 +10,7 @@ use Rattle.broker_base.specs.Readings.{released_at, released_below, waiting_of, 
 use Rattle.broker_base.specs.Times.{start_all, started}
 use Rattle.broker_base.specs.Kept.{sent_flights, released_flight, flights_below, queue_of}
 use Rattle.broker_base.specs.KeptStep.{filled_on}
-use Rattle.broker_base.proofs.CountedIdentifiers.{one_if, count, count-append, SameIds, same_length, same_least}
+use Rattle.session_base.proofs.CountedIdentifiers.{one_if, count, count-append, SameIds, same_length, same_least}
 use Rattle.broker_base.proofs.SoundEntries.{IsBelow, AllWait, InOrder}
 use Rattle.broker_base.proofs.SoundStarts.{busy_waits}
 

@@ -16,7 +16,7 @@ use Rattle.broker_base.specs.Step.{touches, step, step_at, state_from, steps_fro
 use Rattle.broker_base.specs.StepLaws.{OthersStay, NoneBegins, StepStandsFor, ListStandsFor, UsualListStandsFor}
 use Rattle.broker_base.specs.declared.command.Command.{Command}
 use Rattle.broker_base.specs.declared.command.Answer.{Answer}
-use Rattle.broker_base.proofs.KeptAfter.{kept_with, kept_step}
+use Rattle.broker_base.proofs.KeptAfter.{kept_with, kept_now, kept_step}
 use Rattle.broker_base.proofs.OthersStay.{stays_with}
 use Rattle.broker_base.proofs.SessionsAfter.{sessions_are}
 use Rattle.broker_base.proofs.DecisionsStand.{mark_is}
@@ -33,14 +33,14 @@ others limits later follows place past c kept is untouched = by (session_of past
     by (Some clean) e =
         let now : kept_of limits past c ≡ kept_with (length past) (Some clean) (current_connection past c) (subscriptions_of past c) (received_of past c) (entries_of limits past c)
         = ap (λ o. kept_with (length past) o (current_connection past c) (subscriptions_of past c) (received_of past c) (entries_of limits past c)) e in
-        let same : current_connection past c ≡ kept.connection = connection_same _ kept (sym now ∙ is) in
+        let same : kept_now limits past c clean ≡ kept = value_same (kept_now limits past c clean) kept (sym now ∙ is) in
         kept_step limits place past c
         ∙ ap (kept_after (window_at limits (place ∷ past)) place (retained_publications past) c) now
         ∙ stays_with limits later follows place past c clean (ap (touches place c) same ∙ untouched)
         ∙ sym now ∙ is
       where
-        connection_same : (k : Kept) (kept : Kept) → Some k ≡ Some kept → k.connection ≡ kept.connection
-        connection_same k kept e = cc
+        value_same : (k : Kept) (kept : Kept) → Some k ≡ Some kept → k ≡ kept
+        value_same k kept e = cc
 
 pub none_begins : NoneBegins
 none_begins limits place past c none not_accepted =

@@ -1,4 +1,5 @@
 pub mod StepLaws
+pub mod StepRows
 pub mod State
 pub mod Decisions
 pub mod StepAnswers

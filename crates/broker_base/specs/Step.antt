@@ -1,9 +1,12 @@
 -- The broker's step: the state and the answers after one more command (MQTT 3.1.4, 3.3.1.3, 4.1, 4.3, 4.4).
-use Rattle.std.specs.Prelude.{◌≡◌, ℕ, Bool, true, false, ◌||◌, if◌then◌else◌, List, [], ◌∷◌, Option, Some}
+use Rattle.std.specs.Prelude.{◌≡◌, ℕ, Bool, true, false, ◌||◌, if◌then◌else◌, List, [], ◌∷◌, Option, Some, is_some}
+use Rattle.packet.specs.declared.subscribe.Subscription.{Subscription}
+use Rattle.packet.specs.declared.packet.Packet.TheVariants as packets
 use Rattle.retained.specs.Retained.{Content}
 use Rattle.broker_base.specs.Connection.{ConnectionName}
 use Rattle.broker_base.specs.Place.{Client, same_client, Mark, Place, Past, Limits}
 use Rattle.broker_base.specs.Past.{ends_any}
+use Rattle.broker_base.specs.Subscriptions.{granted_qos}
 use Rattle.broker_base.specs.Retained.{retained_by}
 use Rattle.broker_base.specs.Commands.{is_start}
 use Rattle.broker_base.specs.Kept.{Kept}
@@ -15,22 +18,25 @@ use Rattle.broker_base.specs.declared.command.Command.{Command}
 use Rattle.broker_base.specs.declared.command.Command.TheVariants as commands
 use Rattle.broker_base.specs.declared.command.Answer.{Answer}
 
--- whether a command is about this client's session, apart from the end of its connection
-abbrev pub is_about : Command → Mark → Client → Bool
-is_about (commands.Connect x d clean) Mark.Accepted c = same_client d c
-is_about command (Mark.Taken d) c = true
-is_about command (Mark.Granted d which) c = same_client d c
-is_about command (Mark.Handled d) c = same_client d c
-is_about _ _ c = false
+-- Whether a command is about this client's session with these subscriptions, apart from the end of its
+-- connection: its client sent it, or a taken publication matches one of them.
+abbrev pub is_about : Command → Mark → Client → List Subscription → Bool
+is_about (commands.Connect x d clean) Mark.Accepted c held = same_client d c
+is_about (commands.Packet x (packets.Publish p)) (Mark.Taken d) c held =
+    same_client d c || is_some (granted_qos p.topic held)
+is_about command (Mark.Granted d which) c held = same_client d c
+is_about command (Mark.Handled d) c held = same_client d c
+is_about _ _ c held = false
 
--- whether a place touches a client's session with this connection; every other stays as it is
-abbrev pub touches : Place → Client → Option ConnectionName → Bool
-touches place c connection = ends_any place connection || is_about place.command place.mark c
+-- whether a place touches a client's session; every other stays as it is
+abbrev pub touches : Place → Client → Kept → Bool
+touches place c kept =
+    ends_any place kept.connection || is_about place.command place.mark c kept.subscriptions
 
 -- a session after a place, if it is left
 abbrev pub session_after : ℕ → Place → Content → Client → Kept → Option Kept
 session_after window place content c kept =
-    if touches place c kept.connection then kept_after window place content c (Some kept) else Some kept
+    if touches place c kept then kept_after window place content c (Some kept) else Some kept
 
 -- the sessions that were there before it
 abbrev pub sessions_left : ℕ → Place → Content → Sessions → Sessions

@@ -26,7 +26,7 @@ abbrev pub OthersStay : Type 0
 OthersStay =
     (limits : Limits) → (later : ℕ) → IsWindow limits later →
     (place : Place) → (past : Past) → (c : Client) → (kept : Kept) →
-    kept_of limits past c ≡ Some kept → touches place c kept.connection ≡ false →
+    kept_of limits past c ≡ Some kept → touches place c kept ≡ false →
     kept_of limits (place ∷ past) c ≡ Some kept
 
 -- a client that has no session gets one by an accepted Connect alone

@@ -10,6 +10,7 @@ ghost use Rattle.broker_base.specs.StepLaws.{
   ListStandsFor,
   UsualListStandsFor,
 };
+ghost use Rattle.broker_base.specs.StepRows.{StepsRefuseAndGoOn, StepsKeepTheOrder, StepsWidenTheWindow};
 
 /// One more command, whatever becomes of it, changes what is kept of each client's session as the
 /// step of one session says.
@@ -42,4 +43,12 @@ pub fn step_stands_for()
 pub fn list_stands_for()
     ensures every { ListStandsFor }
     ensures usual { UsualListStandsFor }
+{}
+
+/// Three worked rows, computed step by step: a full queue, the order on a later connection, and a
+/// window that grows.
+pub fn rows_step_by_step()
+    ensures full_queue { StepsRefuseAndGoOn }
+    ensures order { StepsKeepTheOrder }
+    ensures window { StepsWidenTheWindow }
 {}

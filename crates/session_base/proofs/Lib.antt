@@ -1,0 +1,3 @@
+pub mod CountedIdentifiers
+pub mod FillsOfQueues
+pub mod AnswersOfClients

@@ -2,3 +2,4 @@ pub mod Publication
 pub mod Identifiers
 pub mod Queue
 pub mod Sending
+pub mod Laws

@@ -4,7 +4,7 @@ use Rattle.std.specs.List.{list_any}
 use Rattle.session_base.specs.declared.publication.Publication.{Publication}
 use Rattle.session_base.specs.declared.awaits.Awaits.{Awaits}
 use Rattle.session_base.specs.declared.awaits.Awaits.TheVariants as waits_for
-use Rattle.session_base.specs.Publication.{is_acknowledged, is_answered}
+use Rattle.session_base.specs.Publication.{is_acknowledged}
 use Rattle.session_base.specs.Identifiers.{least_free}
 
 -- an entry in flight: its Packet Identifier, and what it waits for

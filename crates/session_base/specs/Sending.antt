@@ -1,13 +1,12 @@
 -- The packets that a client is sent of its queue (MQTT 3.3.1.1, 4.3, 4.4).
-use Rattle.std.specs.Prelude.{ℕ, Bool, true, false, nat_lt, if◌then◌else◌, List, [], ◌∷◌, ◌++◌, length, map}
+use Rattle.std.specs.Prelude.{ℕ, true, false, nat_lt, if◌then◌else◌, List, [], ◌∷◌, ◌++◌, length, map}
 use Rattle.packet.specs.declared.packet.Packet.{Packet}
 use Rattle.packet.specs.declared.packet.Packet.TheVariants as packets
 use Rattle.session_base.specs.declared.publication.Publication.{Publication}
 use Rattle.session_base.specs.declared.awaits.Awaits.{Awaits}
 use Rattle.session_base.specs.declared.awaits.Awaits.TheVariants as waits_for
 use Rattle.session_base.specs.Publication.{publish_of, is_answered}
-use Rattle.session_base.specs.Identifiers.{least_free}
-use Rattle.session_base.specs.Queue.{Flight, Queue, ids_of, started_flight, awaits_pubcomp, enqueue, filled}
+use Rattle.session_base.specs.Queue.{Flight, Queue, started_flight, awaits_pubcomp, enqueue, filled}
 use Rattle.std.specs.List.{list_any}
 
 -- what a fill sends: each publication that starts, with DUP 0 (MQTT 3.3.1.1)
@@ -15,7 +14,7 @@ abbrev pub fill_sends : ℕ → List Flight → List Publication → List Packet
 fill_sends window in_flight (p ∷ waiting) =
     if nat_lt (length in_flight) window
     then packets.Publish (publish_of false (started_flight in_flight p).0 p)
-      ∷ fill_sends window (in_flight ++ started_flight in_flight p ∷ []) waiting
+    ∷ fill_sends window (in_flight ++ started_flight in_flight p ∷ []) waiting
     else []
 fill_sends window in_flight [] = []
 

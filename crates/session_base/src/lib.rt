@@ -3,7 +3,11 @@
 #![tactic(auto)]
 
 mod awaits;
+mod laws;
 mod publication;
 
 pub use awaits::Awaits;
+pub use laws::{
+    fill_takes_what_waits, fills_join, other_answers_change_nothing, resend_keeps_the_order,
+};
 pub use publication::Publication;

@@ -67,7 +67,7 @@ same_least ids others same =
 split_one : (i id : ℕ) → one_if (nat_le i id) ≡ one_if (i == id) + one_if (nat_le (suc i) id)
 split_one i id = grind arith
 
-split_count : (i : ℕ) (ids : List ℕ) → count (nat_le i) ids ≡ count (λ id. i == id) ids + count (nat_le (suc i)) ids
+pub split_count : (i : ℕ) (ids : List ℕ) → count (nat_le i) ids ≡ count (λ id. i == id) ids + count (nat_le (suc i)) ids
 split_count i [] = refl
 split_count i (id ∷ ids) = omega (arith, split_one i id, split_count i ids)
 
@@ -79,7 +79,7 @@ free_found (suc fuel) i ids few =
       | false ↦ λ e. not_counted i ids e
     ] refl
 
-count_few : (test : ℕ → Bool) (ids : List ℕ) → count test ids ≤ length ids
+pub count_few : (test : ℕ → Bool) (ids : List ℕ) → count test ids ≤ length ids
 count_few test [] = omega arith
 count_few test (id ∷ ids) = elim (test id) as (λ b. one_if b + count test ids ≤ suc (length ids)) [ true ↦ omega (arith, count_few test ids) | false ↦ omega (arith, count_few test ids) ]
 

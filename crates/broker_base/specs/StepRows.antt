@@ -1,0 +1,43 @@
+-- Worked rows, computed by the step: full queues, identifiers and the window.
+use Rattle.std.specs.Prelude.{◌≡◌, ℕ, true, false, List, [], ◌∷◌, ◌++◌, codes}
+use Rattle.packet.specs.declared.delivery.Delivery.TheVariants as deliveries
+use Rattle.packet.specs.declared.packet.Packet.TheVariants as packets
+use Rattle.broker_base.specs.Place.{Limits}
+use Rattle.broker_base.specs.Commands.{usual_limits}
+use Rattle.broker_base.specs.State.{empty_state}
+use Rattle.broker_base.specs.Step.{state_from, steps_from}
+use Rattle.broker_base.specs.RowWords.{nth, b, connect, gets, sends, connack, publish, numbers, delivered, small}
+use Rattle.broker_base.specs.MoreRows.{held_two, publishes_xyz, makes_room, routed, seventy}
+use Rattle.broker_base.specs.declared.command.Command.{Command}
+use Rattle.broker_base.specs.declared.command.Command.TheVariants as commands
+use Rattle.broker_base.specs.declared.command.Answer.{Answer}
+use Rattle.broker_base.specs.declared.command.Answer.TheVariants.{Close}
+
+-- the steps from the empty state, whose window is this one at first and the later one from a Start on, give these
+-- answers to the next commands
+abbrev pub StepsGive : Limits → ℕ → ℕ → List Command → List Command → List (List Answer) → Type 0
+StepsGive limits first later earlier next answers =
+    steps_from limits later (state_from limits later (empty_state first) earlier) next ≡ answers
+
+-- a full queue refuses y; once there is room, each is answered, and the subscriber gets y and z
+abbrev pub StepsRefuseAndGoOn : Type 0
+StepsRefuseAndGoOn =
+    StepsGive (small 3 16) 16 16 (held_two ++ publishes_xyz 2 false ++ makes_room) (publishes_xyz 4 true)
+    ((sends 4 (packets.Pubrec 1) ∷ [])
+    ∷ (sends 4 (packets.Pubrec 2) ∷ sends 3 (publish (deliveries.ExactlyOnce false 1) false (codes "y")) ∷ [])
+    ∷ (sends 4 (packets.Pubrec 3) ∷ sends 3 (publish (deliveries.ExactlyOnce false 2) false (codes "z")) ∷ []) ∷ [])
+
+-- the 17th publication goes out with the identifier that PUBACK frees, and comes last on the next connection
+abbrev pub StepsKeepTheOrder : Type 0
+StepsKeepTheOrder =
+    StepsGive (small 100 16) 16 16 (routed 17) (gets 1 (packets.Puback 5) ∷ connect 3 b ∷ [])
+    (delivered 1 false (5 ∷ [])
+    ∷ (Close (nth 1) ∷ sends 3 (connack true)
+    ∷ delivered 3 true (numbers 4 1 ++ numbers 11 6 ++ 5 ∷ [])) ∷ [])
+
+-- a broker whose window was 16 at first sends 16, and 64 once a new ballot has begun
+abbrev pub StepsWidenTheWindow : Type 0
+StepsWidenTheWindow =
+    StepsGive usual_limits 16 64 seventy (connect 3 b ∷ commands.Start 2 ∷ connect 4 b ∷ [])
+    ((sends 3 (connack true) ∷ delivered 3 false (numbers 16 1)) ∷ []
+    ∷ (sends 4 (connack true) ∷ delivered 4 true (numbers 16 1) ++ delivered 4 false (numbers 48 17)) ∷ [])

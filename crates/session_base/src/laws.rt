@@ -1,0 +1,46 @@
+// Laws of a client's queue. The calls do nothing; their contracts are the laws.
+
+ghost use Rattle.session_base.specs.Laws.{
+  IsLeastFree,
+  FillKeepsApart,
+  FillIsDone,
+  FillStaysWithin,
+  FillKeepsOrder,
+  FillSendsWhatStarts,
+  FillsJoin,
+  OtherAnswersChangeNothing,
+  SecondPubrecChangesNothing,
+  ReleasedComesLast,
+  KeepsReleasedFirst,
+  ResendsInOrder,
+};
+
+/// A fill starts what waits in its order, with free identifiers, until nothing waits or the window
+/// is full; and it sends what it starts.
+pub fn fill_takes_what_waits()
+    ensures done { FillIsDone }
+    ensures within { FillStaysWithin }
+    ensures order { FillKeepsOrder }
+    ensures sends { FillSendsWhatStarts }
+    ensures least { IsLeastFree }
+    ensures apart { FillKeepsApart }
+{}
+
+/// Two fills, one behind the other, are one.
+pub fn fills_join()
+    ensures { FillsJoin }
+{}
+
+/// An answer of the client for which no entry waits changes nothing, and so does a second PUBREC.
+pub fn other_answers_change_nothing()
+    ensures others { OtherAnswersChangeNothing }
+    ensures second { SecondPubrecChangesNothing }
+{}
+
+/// Released entries come first, in the order of their release, and a client that comes back is sent
+/// the queue in its order.
+pub fn resend_keeps_the_order()
+    ensures last { ReleasedComesLast }
+    ensures first { KeepsReleasedFirst }
+    ensures order { ResendsInOrder }
+{}
