@@ -1,5 +1,5 @@
 -- The step of the state that a past stands for; and so, command by command, of every list.
-use Rattle.std.proofs.Common.{◌≡◌, ℕ, Bool, Option, Some, None, List, [], ◌∷◌, length, refl, ap, ap₂, ◌∙◌, sym}
+use Rattle.std.proofs.Common.{◌≡◌, ℕ, Bool, true, false, if◌then◌else◌, Option, Some, None, List, [], ◌∷◌, length, refl, ap, ap₂, ◌∙◌, sym}
 use Rattle.broker_base.specs.Place.{Mark, Place, Past, Limits}
 use Rattle.broker_base.specs.Past.{current_connection, session_of}
 use Rattle.broker_base.specs.Owner.{named}
@@ -7,13 +7,13 @@ use Rattle.broker_base.specs.Subscriptions.{subscriptions_of}
 use Rattle.broker_base.specs.Received.{received_of}
 use Rattle.broker_base.specs.Retained.{retained_publications}
 use Rattle.broker_base.specs.Times.{window_at, entries_of}
-use Rattle.broker_base.specs.Commands.{place_of, past_from, limits_from, usual_limits}
+use Rattle.broker_base.specs.Commands.{place_of, past_from, is_start, limits_from, usual_limits}
 use Rattle.broker_base.specs.Answers.{answers_at, answers_of, answers_from}
 use Rattle.broker_base.specs.Kept.{Kept, kept_of}
 use Rattle.broker_base.specs.KeptStep.{kept_by, kept_after}
 use Rattle.broker_base.specs.State.{State, empty_state, state_of}
 use Rattle.broker_base.specs.Step.{touches, step, step_at, state_from, steps_from, IsWindow}
-use Rattle.broker_base.specs.StepLaws.{OthersStay, NoneBegins, StepStandsFor, ListStandsFor, UsualListStandsFor}
+use Rattle.broker_base.specs.StepLaws.{OthersStay, NoneBegins, StepStandsFor, ListStandsFor, UsualListStandsFor, GrowingListStandsFor}
 use Rattle.broker_base.specs.declared.command.Command.{Command}
 use Rattle.broker_base.specs.declared.command.Answer.{Answer}
 use Rattle.broker_base.proofs.KeptAfter.{kept_with, kept_now, kept_step}
@@ -90,8 +90,12 @@ lists_stand limits later follows commands = (
   ap (λ state. steps_from limits later state commands) (sym (empty_stands limits)) ∙ answers_all limits later follows [] commands,
 )
 
-usual_window : (first : ℕ) → IsWindow (limits_from first) 64
-usual_window first place past = refl
+growing_window : (first : ℕ) → IsWindow (limits_from first) 64
+growing_window first place past = refl
+
+steady : (n : ℕ) (b : Bool) → n ≡ (if b then n else n)
+steady n true = refl
+steady n false = refl
 
 -- the step asks of the limits no window
 same_states : (first : ℕ) (state : State) (commands : List Command) → state_from usual_limits 64 state commands ≡ state_from (limits_from first) 64 state commands
@@ -103,7 +107,13 @@ same_answers first state [] = refl
 same_answers first state (command ∷ commands) =
     ap (λ rest. (step (limits_from first) 64 state command).1 ∷ rest) (same_answers first (step (limits_from first) 64 state command).0 commands)
 
-pub usual_lists_stand : UsualListStandsFor
-usual_lists_stand first commands =
-    let stands = lists_stand (limits_from first) 64 (usual_window first) commands in
+pub growing_lists_stand : GrowingListStandsFor
+growing_lists_stand first commands =
+    let stands = lists_stand (limits_from first) 64 (growing_window first) commands in
     (same_states first (empty_state first) commands ∙ stands.0, same_answers first (empty_state first) commands ∙ stands.1)
+
+steady_window : IsWindow usual_limits 16
+steady_window place past = steady 16 (is_start place.command)
+
+pub usual_lists_stand : UsualListStandsFor
+usual_lists_stand commands = lists_stand usual_limits 16 steady_window commands

@@ -63,9 +63,17 @@ ListStandsFor =
     (state_from limits later (empty_state (limits.window [])) commands ≡ state_of limits (past_of limits commands))
     × (steps_from limits later (empty_state (limits.window [])) commands ≡ answers_from limits [] commands)
 
--- so it is for a broker whose window was this one at first, and is 64 from the first Start on
+-- so it is for this broker
 abbrev pub UsualListStandsFor : Type 0
 UsualListStandsFor =
+    (commands : List Command) →
+    (state_from usual_limits 16 (empty_state 16) commands ≡ state_of usual_limits (past_of usual_limits commands))
+    × (steps_from usual_limits 16 (empty_state 16) commands ≡ answers_from usual_limits [] commands)
+
+-- and for one whose window was this one at first, and is 64 from the first Start on
+abbrev pub GrowingListStandsFor : Type 0
+GrowingListStandsFor =
     (first : ℕ) → (commands : List Command) →
-    (state_from usual_limits 64 (empty_state first) commands ≡ state_of (limits_from first) (past_of (limits_from first) commands))
+    (state_from usual_limits 64 (empty_state first) commands
+    ≡ state_of (limits_from first) (past_of (limits_from first) commands))
     × (steps_from usual_limits 64 (empty_state first) commands ≡ answers_from (limits_from first) [] commands)

@@ -9,6 +9,7 @@ ghost use Rattle.broker_base.specs.StepLaws.{
   StepStandsFor,
   ListStandsFor,
   UsualListStandsFor,
+  GrowingListStandsFor,
 };
 ghost use Rattle.broker_base.specs.StepRows.{StepsRefuseAndGoOn, StepsKeepTheOrder, StepsWidenTheWindow};
 
@@ -43,6 +44,7 @@ pub fn step_stands_for()
 pub fn list_stands_for()
     ensures every { ListStandsFor }
     ensures usual { UsualListStandsFor }
+    ensures growing { GrowingListStandsFor }
 {}
 
 /// Three worked rows, computed step by step: a full queue, the order on a later connection, and a
