@@ -10,6 +10,7 @@ use Rattle.packet.specs.declared.packet.Packet.{Packet}
 use Rattle.packet.specs.declared.packet.Packet.TheVariants as packets
 use Rattle.packet.specs.Verdict.{verdict}
 use Rattle.world_base.specs.declared.connection.Connection.{Connection}
+use Rattle.world_base.specs.declared.connection.Stage.TheVariants.{Failed}
 use Rattle.world_base.specs.declared.front.Front.{Front}
 use Rattle.world_base.specs.declared.front.Front.TheVariants as fronts
 use Rattle.world_base.specs.Connections.{asked, closed}
@@ -49,6 +50,10 @@ IsFault (Err (stops.Malformed kind)) = Unit {0}
 IsFault (Err (stops.Refused code)) = ⊥
 IsFault (Ok (packets.Connect connect, rest)) = ⊥
 IsFault (Ok _) = Unit {0}
+
+-- closed for want of memory, and the broker is still to hear that it is lost
+abbrev pub failing : Connection → Connection
+failing c = record (closed c) { stage = Failed }
 
 -- what stands at the front of the bytes of a connection, and what is left of them
 abbrev pub Reads : List ℕ → Front → List ℕ → Type 0

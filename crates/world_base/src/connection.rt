@@ -1,9 +1,9 @@
 // One connection of a node.
 
-ghost use Rattle.std.specs.Prelude.{◌≡◌, ◌++◌, true, OnOk, OnErr};
+ghost use Rattle.std.specs.Prelude.{◌≡◌, ◌++◌, false, true, OnOk, OnErr};
 ghost use Rattle.world_base.specs.Connections.{closed, fresh, handed, holding, is_at, is_first, is_listed, is_open_at, is_open_named, is_over, is_proposed, putting};
 ghost use Rattle.world_base.specs.Handing.{answer_of};
-ghost use Rattle.world_base.specs.Inside.{Begins, Follows};
+ghost use Rattle.world_base.specs.Inside.{Begins, Follows, failing};
 ghost use Rattle.world_base.specs.Spelling.{spelling};
 ghost use Rattle.world_base.specs.Reading.{refused};
 
@@ -160,9 +160,10 @@ impl Connection {
         self.pending.put(packet)
     }
 
-    // Refuses its CONNECT with a code: whether the answer found memory.
+    // Refuses its CONNECT with a code: whether the answer found memory. It is closed in any case.
     pub fn refuse(&mut self, code: RefusalCode) -> bool
-        ensures { result ≡ true → self.new ≡ refused code self.old }
+        ensures whole { result ≡ true → self.new ≡ refused code self.old }
+        ensures lost { result ≡ false → self.new ≡ closed self.old }
     {
         let put = self.put(&Packet::Connack(Connack::Refused(code)));
         self.close();
@@ -172,7 +173,8 @@ impl Connection {
     // Puts a packet out, or closes the connection as failed where there is no memory: whether there
     // was.
     pub fn send(&mut self, packet: &Packet) -> bool
-        ensures { result ≡ true → self.new ≡ putting (spelling packet.now) self.old }
+        ensures whole { result ≡ true → self.new ≡ putting (spelling packet.now) self.old }
+        ensures lost { result ≡ false → self.new ≡ failing self.old }
     {
         if self.put(packet).is_err() {
             self.close();

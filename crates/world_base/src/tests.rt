@@ -2,6 +2,8 @@
 
 mod two_nodes;
 
+ghost use Rattle.std.specs.Prelude.{◌≤◌};
+
 use crate::{Handed, Item, NodeCore, Piece, Port};
 use ballot::{Config, Effect, Members};
 use connecting_base::{Command, Output};
@@ -19,7 +21,10 @@ const ACCEPTED: [u8; 4] = [0x20, 0x02, 0x00, 0x00];
 const NONE: [u8; 0] = [];
 
 // Opens a node of a ballot whose primary is node 1.
-fn opened(alloc: Global, id: u8, members: &[u8]) -> Result<NodeCore, Fail> {
+fn opened(alloc: Global, id: u8, members: &[u8]) -> Result<NodeCore, Fail>
+    requires low { 1 ≤ id }
+    requires high { id ≤ 15 }
+{
     let config = Config {
         members: Members::from_slice(alloc, members)?,
         primary: 1,
@@ -44,7 +49,8 @@ fn send(
     at: usize,
 ) -> Result<(), Fail> {
     take(rt, alloc, node, Item::Opened(Port(port), 0));
-    for part in [&bytes[..at], &bytes[at..]] {
+    let (front, back) = bytes.split_at(at.min(bytes.len()));
+    for part in [front, back] {
         let piece = Piece::from_slice(alloc, part)?;
         take(rt, alloc, node, Item::Bytes(Port(port), piece, 0));
     }

@@ -6,7 +6,6 @@ use ballot::{Body, Effect, Message};
 use connecting_base::{Command, Output};
 use std::alloc::Global;
 use std::collections::VecDeque;
-use std::process::Abort;
 use std::test::Fail;
 
 // The nodes, the messages that are on their way, oldest first, and how many were sent.
@@ -92,42 +91,27 @@ fn answer_waits_for_the_backup(rt: HostRuntime) -> Result<(), Fail> {
     Ok(())
 }
 
-// The one message that a step hands out.
-fn only(
-    rt: &impl Abort,
-    effects: &mut Vec<Effect<Command, Output>>,
-) -> Result<(u8, Message<Command>), Fail> {
-    assert_eq!(rt; effects.len(), 1);
-    match effects.pop() {
-        Some(Effect::To(receiver, message)) => Ok((receiver, message)),
-        _ => Err(Fail::new("an output was handed out")),
-    }
-}
-
 #[test]
 fn append_held_commit(rt: HostRuntime) -> Result<(), Fail> {
     let alloc = rt.alloc();
     let mut pair = Pair::new(alloc)?;
-    let mut effects = Vec::new(alloc);
-    let piece = Piece::from_slice(alloc, &CONNECT)?;
-    pair.one.step(Item::Bytes(Port(1), piece, 0), &mut effects);
-    let append = only(&rt, &mut effects)?;
+    pair.connect()?;
+    let (receiver, append) = pair.under_way.front().ok_or_else(|| Fail::new("none"))?;
     let first = matches!(
-        &append.1.body,
+        &append.body,
         Body::Append(1, 0, Command::Connect(_, _, false))
     );
-    assert!(rt; append.0 == 2 && append.1.from == 1 && first);
+    assert!(rt; *receiver == 2 && append.from == 1 && first);
     expect(&rt, alloc, &mut pair.one, 1, &NONE, Handed::Open)?;
-    pair.two.step(Item::Peer(append.1), &mut effects);
-    let held = only(&rt, &mut effects)?;
-    let both = matches!(&held.1.body, Body::Held(1, 1));
-    assert!(rt; held.0 == 1 && held.1.from == 2 && both);
-    pair.one.step(Item::Peer(held.1), &mut effects);
-    let commit = only(&rt, &mut effects)?;
-    let told = matches!(&commit.1.body, Body::Commit(1, 1));
-    assert!(rt; commit.0 == 2 && commit.1.from == 1 && told);
+    pair.deliver()?;
+    let (receiver, held) = pair.under_way.front().ok_or_else(|| Fail::new("none"))?;
+    assert!(rt; *receiver == 1 && held.from == 2 && matches!(&held.body, Body::Held(1, 1)));
+    pair.deliver()?;
+    let (receiver, commit) = pair.under_way.front().ok_or_else(|| Fail::new("none"))?;
+    let told = matches!(&commit.body, Body::Commit(1, 1));
+    assert!(rt; *receiver == 2 && commit.from == 1 && told);
     expect(&rt, alloc, &mut pair.one, 1, &ACCEPTED, Handed::Open)?;
-    assert_eq!(rt; pair.counts(), (0, 1, 0, 0));
+    assert_eq!(rt; (pair.under_way.len(), pair.counts()), (1, (3, 1, 0, 0)));
     Ok(())
 }
 

@@ -7,7 +7,7 @@ pub returns-else-not-whole : goal.returns-else-not-whole
 returns-else-not-whole c = λ _.
     rw (← c.self.view_is) (named_there c.args.name (putting (spelling c.args.packet.now)) _ c.place_of.result c.in-Some.index
     c.index_mut.result.now _ (rw (← c.self.view_is) at c.place_of.ensures) c.in-Some.is c.index_mut.ensures.value
-    (c.send-whole.ensures c.if-not-whole.false))
+    (c.send-whole.ensures.whole c.if-not-whole.false))
 
 pub returns-in_default : goal.returns-in_default
 returns-in_default c = λ _.
