@@ -11,3 +11,6 @@ pub use laws::{
     fill_takes_what_waits, fills_join, other_answers_change_nothing, resend_keeps_the_order,
 };
 pub use publication::Publication;
+
+#[cfg(test)]
+mod tests;
