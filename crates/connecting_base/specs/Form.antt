@@ -1,6 +1,6 @@
 -- The bytes to which a table of sessions is frozen, form 1. Numbers are big-endian, a text has its length in
 -- two bytes before it. The lists of subscriptions, received identifiers, entries and retained messages are
--- empty for now.
+-- empty.
 use Rattle.std.specs.Prelude.{ℕ, Bool, false, not, ◌==◌, ◌&&◌, ◌||◌, nat_le, nat_lt, zero, suc, if◌then◌else◌, List, [], ◌∷◌, ◌++◌, length, Option, Some, None, Result, Ok, Err}
 use Rattle.std.specs.Int.{w64, to_be_bytes, from_be_bytes}
 use Rattle.std.specs.List.{list_all, flat_map}

@@ -2,8 +2,7 @@
 
 use crate::connection_id::ConnectionId;
 
-/// What the broker keeps of a client's session (MQTT 4.1), for now without its subscriptions and
-/// messages.
+/// What the broker keeps of a client's session (MQTT 4.1), without subscriptions and messages.
 #[derive(Clone, Copy, Debug, PartialEq, Eq)]
 pub struct SessionState {
     /// Whether the session ends with its connection: the CleanSession flag of its CONNECT.

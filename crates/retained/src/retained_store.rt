@@ -48,6 +48,7 @@ impl RetainedStore {
         self.topics.len()
     }
 
+    /// Whether no topic is kept.
     pub fn is_empty(&self) -> bool
         ensures { IsTrue result ↔ (self.now ≡ []) }
     {

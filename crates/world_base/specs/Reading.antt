@@ -68,7 +68,7 @@ begins_with port core (Some c) =
 unfoldable pub begins : Port → CoreState → Turn
 begins port core = begins_with port core (open_at port core)
 
--- for now nothing may come behind it
+-- nothing may come behind it, since the machine knows no packet
 abbrev pub reads_on : Port → CoreState → Result (Packet × List ℕ) Stop → Turn
 reads_on port core (Err stops.More) = quiet core
 reads_on port core _ = ends port core

@@ -41,7 +41,7 @@ pub struct Connection {
 }
 
 impl Connection {
-    // A connection that was just opened.
+    /// A connection that was just opened.
     pub fn new(alloc: Global, port: Port, name: ConnectionId) -> Connection
         ensures { result ≡ fresh port name }
     {
@@ -54,56 +54,56 @@ impl Connection {
         }
     }
 
-    // Whether it is of this port.
+    /// Whether it is of this port.
     pub fn is_at(&self, port: Port) -> bool
         ensures { result ≡ is_at port self.now }
     {
         self.port.0 == port.0
     }
 
-    // Whether this is the open connection of a port.
+    /// Whether this is the open connection of a port.
     pub fn is_open_at(&self, port: Port) -> bool
         ensures { result ≡ is_open_at port self.now }
     {
         !self.is_over() && self.port.0 == port.0
     }
 
-    // Whether this is the open connection of a name.
+    /// Whether this is the open connection of a name.
     pub fn is_open_named(&self, name: ConnectionId) -> bool
         ensures { result ≡ is_open_named name self.now }
     {
         !self.is_over() && self.name == name
     }
 
-    // Whether it is closed.
+    /// Whether it is closed.
     pub fn is_over(&self) -> bool
         ensures { result ≡ is_over self.now.stage }
     {
         matches!(self.stage, Stage::Over | Stage::Failed)
     }
 
-    // Whether its first packet is awaited.
+    /// Whether its first packet is awaited.
     pub fn is_first(&self) -> bool
         ensures { result ≡ is_first self.now.stage }
     {
         self.stage == Stage::Awaits
     }
 
-    // Whether its CONNECT became a command, and it is open.
+    /// Whether its CONNECT became a command, and it is open.
     pub fn is_proposed(&self) -> bool
         ensures { result ≡ is_proposed self.now.stage }
     {
         self.stage == Stage::Proposed
     }
 
-    // Whether it is listed: it is open, or has bytes to hand over.
+    /// Whether it is listed: it is open, or has bytes to hand over.
     pub fn is_listed(&self) -> bool
         ensures { result ≡ is_listed self.now }
     {
         !self.is_over() || !self.pending.is_empty()
     }
 
-    // Whether more may be put out for it.
+    /// Whether more may be put out for it.
     pub fn answer(&self) -> Handed
         ensures { result ≡ answer_of (Some self.now) }
     {
@@ -114,7 +114,7 @@ impl Connection {
         }
     }
 
-    // Holds bytes that came. Where memory is wanting nothing changes.
+    /// Holds bytes that came. Where memory is wanting nothing changes.
     pub fn hold(&mut self, piece: &Piece) -> Result<(), Memory>
         ensures ok { OnOk result (self.new ≡ holding piece.now self.old) }
         ensures err { OnErr result (self.new ≡ self.old) }
@@ -122,8 +122,8 @@ impl Connection {
         self.unread.add(piece)
     }
 
-    // Reads its first packet. Where that is none that may come first the connection is closed, a
-    // CONNECT that is refused with a code being answered before.
+    /// Reads its first packet. Where that is none that may come first the connection is closed, a
+    /// CONNECT that is refused with a code being answered before.
     pub fn begin(&mut self) -> Front
         ensures { Begins self.old result self.new }
     {
@@ -141,7 +141,7 @@ impl Connection {
         front
     }
 
-    // Reads what came behind its first packet: all but less than a packet closes the connection.
+    /// Reads what came behind its first packet: all but less than a packet closes the connection.
     pub fn follow(&mut self) -> Front
         ensures { Follows self.old result self.new }
     {
@@ -152,7 +152,7 @@ impl Connection {
         front
     }
 
-    // Puts a packet out. Where memory is wanting nothing changes.
+    /// Puts a packet out. Where memory is wanting nothing changes.
     pub fn put(&mut self, packet: &Packet) -> Result<(), Memory>
         ensures ok { OnOk result (self.new ≡ putting (spelling packet.now) self.old) }
         ensures err { OnErr result (self.new ≡ self.old) }
@@ -160,7 +160,7 @@ impl Connection {
         self.pending.put(packet)
     }
 
-    // Refuses its CONNECT with a code: whether the answer found memory. It is closed in any case.
+    /// Refuses its CONNECT with a code: whether the answer found memory. It is closed in any case.
     pub fn refuse(&mut self, code: RefusalCode) -> bool
         ensures whole { result ≡ true → self.new ≡ refused code self.old }
         ensures lost { result ≡ false → self.new ≡ closed self.old }
@@ -170,8 +170,8 @@ impl Connection {
         put.is_ok()
     }
 
-    // Puts a packet out, or closes the connection as failed where there is no memory: whether there
-    // was.
+    /// Puts a packet out, or closes the connection as failed where there is no memory: whether there
+    /// was.
     pub fn send(&mut self, packet: &Packet) -> bool
         ensures whole { result ≡ true → self.new ≡ putting (spelling packet.now) self.old }
         ensures lost { result ≡ false → self.new ≡ failing self.old }
@@ -184,7 +184,7 @@ impl Connection {
         true
     }
 
-    // Hands over what was put out, behind what `out` holds. Where memory is wanting nothing changes.
+    /// Hands over what was put out, behind what `out` holds. Where memory is wanting nothing changes.
     pub fn hand_over(&mut self, out: &mut Vec<u8>) -> Result<(), Memory>
         ensures bytes { OnOk result (out.new.items ≡ out.old.items ++ self.old.pending) }
         ensures ok { OnOk result (self.new ≡ handed self.old) }
@@ -196,7 +196,7 @@ impl Connection {
         Ok(())
     }
 
-    // Closes it. What was put out before is still handed over.
+    /// Closes it. What was put out before is still handed over.
     pub fn close(&mut self)
         ensures { self.new ≡ closed self.old }
     {

@@ -95,7 +95,7 @@ impl Serving {
         self.replica.status()
     }
 
-    // Whether the node serves clients.
+    /// Whether the node serves clients.
     pub fn serves(&self) -> bool
         ensures { result ≡ serves self.now.core }
     {
@@ -103,21 +103,21 @@ impl Serving {
         status.role.is_active() && !status.stopped
     }
 
-    // Where the open connection of a port stands in the list.
+    /// Where the open connection of a port stands in the list.
     pub fn place_at(&self, port: Port) -> Option<usize>
         ensures { result ≡ position (is_open_at port) self.now.core.connections }
     {
         self.connections.iter().position(|c| c.is_open_at(port))
     }
 
-    // Where the open connection of a name stands in the list.
+    /// Where the open connection of a name stands in the list.
     pub fn place_of(&self, name: ConnectionId) -> Option<usize>
         ensures { result ≡ position (is_open_named name) self.now.core.connections }
     {
         self.connections.iter().position(|c| c.is_open_named(name))
     }
 
-    // Closes the open connection of a port.
+    /// Closes the open connection of a port.
     pub fn close(&mut self, port: Port)
         ensures { self.new ≡ record self.old { core = changes port closed self.old.core } }
     {
@@ -126,7 +126,7 @@ impl Serving {
         }
     }
 
-    // Adds bytes that came to those of the open connection of a port: whether there was memory.
+    /// Adds bytes that came to those of the open connection of a port: whether there was memory.
     pub fn add(&mut self, port: Port, piece: &Piece) -> bool
         ensures ok { result ≡ true →
             self.new ≡ record self.old { core = changes port (holding piece.now) self.old.core } }
@@ -138,7 +138,7 @@ impl Serving {
         }
     }
 
-    // Closes the open connection of a name.
+    /// Closes the open connection of a name.
     pub fn close_named(&mut self, name: ConnectionId)
         ensures { self.new ≡ record self.old {
           core = changes_named name closed self.old.core;
@@ -149,7 +149,7 @@ impl Serving {
         }
     }
 
-    // Puts a packet out on the open connection of a name, which is closed where there is no memory.
+    /// Puts a packet out on the open connection of a name, which is closed where there is no memory.
     pub fn send(&mut self, name: ConnectionId, packet: &Packet)
         ensures { Does self.old self.new
             (changes_named name (putting (spelling packet.now)) self.old.core) }
@@ -171,7 +171,7 @@ impl Serving {
         ConnectionId::new(self.replica.status().ballot, self.accepted + 1)
     }
 
-    // Accepts a connection.
+    /// Accepts a connection.
     pub fn open(&mut self, port: Port)
         ensures { Does self.old self.new (opens port self.old.core) }
     {
@@ -192,8 +192,8 @@ impl Serving {
         self.accepted += 1;
     }
 
-    // Closes all connections where the node no longer serves clients, and takes closed ones with
-    // nothing to hand over off the list.
+    /// Closes all connections where the node no longer serves clients, and takes closed ones with
+    /// nothing to hand over off the list.
     pub fn settle(&mut self)
         ensures { self.new ≡ record self.old { core = settled self.old.core } }
     {

@@ -30,7 +30,7 @@ impl Model for Unread {
 }
 
 impl Unread {
-    // No bytes.
+    /// No bytes.
     pub fn new(alloc: Global) -> Unread
         ensures { result ≡ [] }
     {
@@ -40,7 +40,7 @@ impl Unread {
         }
     }
 
-    // Adds bytes that came. Where memory is wanting nothing changes.
+    /// Adds bytes that came. Where memory is wanting nothing changes.
     pub fn add(&mut self, piece: &Piece) -> Result<(), Memory>
         ensures ok { OnOk result (self.new ≡ self.old ++ piece.now) }
         ensures err { OnErr result (self.new ≡ self.old) }
@@ -51,7 +51,7 @@ impl Unread {
         }
     }
 
-    // Reads the packet at the front. At a fault nothing is left.
+    /// Reads the packet at the front. At a fault nothing is left.
     pub fn next(&mut self) -> Front
         ensures { Reads self.old result self.new }
     {
@@ -71,7 +71,7 @@ impl Unread {
         }
     }
 
-    // Drops all bytes.
+    /// Drops all bytes.
     pub fn clear(&mut self)
         ensures { self.new ≡ [] }
     {
