@@ -1,68 +1,13 @@
 -- What PUBACK and PUBCOMP do to the entries is what they do to the queue (MQTT 4.3.2, 4.3.3).
 use Rattle.std.proofs.Common.{◌≡◌, ℕ, zero, suc, Bool, true, false, not, ◌&&◌, ◌==◌, if◌then◌else◌, Some, None, List, [], ◌∷◌, ◌++◌, map, filter, refl, ap, ap₂, ◌∙◌, sym}
 use Rattle.std.proofs.lemmas.List.Elements.{filter-append}
-use Rattle.session_base.specs.declared.publication.Publication.{Publication}
-use Rattle.session_base.specs.declared.awaits.Awaits.TheVariants as waits_for
 use Rattle.session_base.specs.Publication.{is_acknowledged}
-use Rattle.session_base.specs.Queue.{awaited, is_puback, is_pubrec, is_pubcomp, awaits_puback, awaits_pubrec, awaits_pubcomp, on_puback, on_pubcomp}
+use Rattle.session_base.specs.Queue.{awaited, awaits_puback, awaits_pubcomp, on_puback, on_pubcomp}
 use Rattle.broker_base.specs.Entries.{Entry}
-use Rattle.broker_base.specs.Readings.{released_at, released_below, waiting_of}
-use Rattle.broker_base.specs.Times.{at_puback, at_pubrec, at_pubcomp}
+use Rattle.broker_base.specs.Readings.{released_at, released_below}
+use Rattle.broker_base.specs.Times.{at_puback, at_pubcomp}
 use Rattle.broker_base.specs.Kept.{sent_flights, released_flight, flights_below}
-
--- ---- lists
-
--- what a filter does with the first element, by the test's answer
-pub filter_out : {A : Type 0} (test : A → Bool) (x : A) (xs : List A) (b : Bool) → test x ≡ b →
-    filter (λ y. not (test y)) (x ∷ xs) ≡ (if b then filter (λ y. not (test y)) xs else x ∷ filter (λ y. not (test y)) xs)
-filter_out test x xs true e = rw e refl
-filter_out test x xs false e = rw e refl
-
--- a filter behind a map
-pub filter_map_is : {A B : Type 0} (f : A → B) (p : B → Bool) (q : A → Bool) → ((x : A) → p (f x) ≡ q x) → (xs : List A) → filter p (map f xs) ≡ map f (filter q xs)
-filter_map_is f p q h [] = refl
-filter_map_is f p q h (x ∷ xs) =
-    rw (h x, filter_map_is f p q h xs)
-    elim (q x) as (λ b. (if b then f x ∷ map f (filter q xs) else map f (filter q xs)) ≡ map f (if b then x ∷ filter q xs else filter q xs)) [ true ↦ refl | false ↦ refl ]
-
--- a filter that lets all pass
-pub filter_all_is : {A : Type 0} (p : A → Bool) → ((x : A) → p x ≡ true) → (xs : List A) → filter p xs ≡ xs
-filter_all_is p h [] = refl
-filter_all_is p h (x ∷ xs) = rw (h x, filter_all_is p h xs) refl
-
--- ---- what a sent entry waits for
-
-puback_by : (b : Bool) (p : Publication) → is_puback (if b then waits_for.Puback p else waits_for.Pubrec p) ≡ b
-puback_by true p = refl
-puback_by false p = refl
-
-pubrec_by : (b : Bool) (p : Publication) → is_pubrec (if b then waits_for.Puback p else waits_for.Pubrec p) ≡ not b
-pubrec_by true p = refl
-pubrec_by false p = refl
-
-pubcomp_by : (b : Bool) (p : Publication) → is_pubcomp (if b then waits_for.Puback p else waits_for.Pubrec p) ≡ false
-pubcomp_by true p = refl
-pubcomp_by false p = refl
-
-pub awaits_puback_is : (i id : ℕ) (p : Publication) → awaits_puback i (id, awaited p) ≡ ((i == id) && is_acknowledged p.qos)
-awaits_puback_is i id p = ap (λ b. (i == id) && b) (puback_by (is_acknowledged p.qos) p)
-
-pub awaits_pubrec_is : (i id : ℕ) (p : Publication) → awaits_pubrec i (id, awaited p) ≡ ((i == id) && not (is_acknowledged p.qos))
-awaits_pubrec_is i id p = ap (λ b. (i == id) && b) (pubrec_by (is_acknowledged p.qos) p)
-
-pub not_released : (p : Publication) → is_pubcomp (awaited p) ≡ false
-not_released p = pubcomp_by (is_acknowledged p.qos) p
-
-and_no : (b : Bool) → (b && false) ≡ false
-and_no true = refl
-and_no false = refl
-
-and_yes : (b : Bool) → (b && true) ≡ b
-and_yes true = refl
-and_yes false = refl
-
-pub awaits_no_pubcomp : (i id : ℕ) (p : Publication) → awaits_pubcomp i (id, awaited p) ≡ false
-awaits_no_pubcomp i id p = ap (λ b. (i == id) && b) (not_released p) ∙ and_no (i == id)
+use Rattle.broker_base.proofs.WhatFlightsAwait.{filter_out, filter_map_is, awaits_puback_is, and_no, and_yes, awaits_no_pubcomp}
 
 -- ---- PUBACK
 
@@ -166,41 +111,3 @@ flights_pubcomp t n i es =
     ∙ ap (λ xs. xs ++ on_pubcomp i (sent_flights es))
     (sym (filter_map_is released_flight (λ flight. not (awaits_pubcomp i flight)) (λ id. not (i == id)) (λ id. ap not (and_yes (i == id))) (released_below t es)))
     ∙ sym (filter-append (λ flight. not (awaits_pubcomp i flight)) (map released_flight (released_below t es)) (sent_flights es))
-
--- ---- what waits
-
-pub waiting_puback : (n i : ℕ) (es : List Entry) → waiting_of (map (at_puback n i) es) ≡ waiting_of es
-waiting_puback n i [] = refl
-waiting_puback n i (Entry.Waits made p ∷ es) = ap (λ ps. p ∷ ps) (waiting_puback n i es)
-waiting_puback n i (Entry.Started made p id start ∷ es) = one ((i == id) && is_acknowledged p.qos) ∙ waiting_puback n i es
-  where
-    one : (b : Bool) → waiting_of ((if b then Entry.Finished made p id start None n else Entry.Started made p id start) ∷ map (at_puback n i) es)
-        ≡ waiting_of (map (at_puback n i) es)
-    one true = refl
-    one false = refl
-waiting_puback n i (Entry.Released made p id start release ∷ es) = waiting_puback n i es
-waiting_puback n i (Entry.Finished made p id start release finish ∷ es) = waiting_puback n i es
-
-pub waiting_pubrec : (n i : ℕ) (es : List Entry) → waiting_of (map (at_pubrec n i) es) ≡ waiting_of es
-waiting_pubrec n i [] = refl
-waiting_pubrec n i (Entry.Waits made p ∷ es) = ap (λ ps. p ∷ ps) (waiting_pubrec n i es)
-waiting_pubrec n i (Entry.Started made p id start ∷ es) = one ((i == id) && not (is_acknowledged p.qos)) ∙ waiting_pubrec n i es
-  where
-    one : (b : Bool) → waiting_of ((if b then Entry.Released made p id start n else Entry.Started made p id start) ∷ map (at_pubrec n i) es)
-        ≡ waiting_of (map (at_pubrec n i) es)
-    one true = refl
-    one false = refl
-waiting_pubrec n i (Entry.Released made p id start release ∷ es) = waiting_pubrec n i es
-waiting_pubrec n i (Entry.Finished made p id start release finish ∷ es) = waiting_pubrec n i es
-
-pub waiting_pubcomp : (n i : ℕ) (es : List Entry) → waiting_of (map (at_pubcomp n i) es) ≡ waiting_of es
-waiting_pubcomp n i [] = refl
-waiting_pubcomp n i (Entry.Waits made p ∷ es) = ap (λ ps. p ∷ ps) (waiting_pubcomp n i es)
-waiting_pubcomp n i (Entry.Started made p id start ∷ es) = waiting_pubcomp n i es
-waiting_pubcomp n i (Entry.Released made p id start release ∷ es) = one (i == id) ∙ waiting_pubcomp n i es
-  where
-    one : (b : Bool) → waiting_of ((if b then Entry.Finished made p id start (Some release) n else Entry.Released made p id start release) ∷ map (at_pubcomp n i) es)
-        ≡ waiting_of (map (at_pubcomp n i) es)
-    one true = refl
-    one false = refl
-waiting_pubcomp n i (Entry.Finished made p id start release finish ∷ es) = waiting_pubcomp n i es

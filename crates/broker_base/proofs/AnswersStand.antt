@@ -1,123 +1,22 @@
 -- The answers that the state gives at a place are those that the past gives.
-use Rattle.std.proofs.Common.{◌≡◌, ℕ, Bool, true, false, not, ◌&&◌, if◌then◌else◌, Option, Some, None, List, [], ◌∷◌, ◌++◌, length, map, filter, refl, ap, ap₂, ◌∙◌, sym}
-use Rattle.std.specs.Prelude.{option_map, is_some, flat_map}
-use Rattle.packet.specs.declared.packet.Packet.{Packet}
-use Rattle.packet.specs.declared.packet.Packet.TheVariants as packets
-use Rattle.packet.specs.declared.publish.Publish.{Publish}
-use Rattle.session_base.specs.Queue.{on_puback, on_pubcomp}
-use Rattle.session_base.specs.Sending.{fill_sends}
-use Rattle.broker_base.specs.Connection.{ConnectionName, same_connection}
+use Rattle.std.proofs.Common.{◌≡◌, ℕ, Bool, not, Option, Some, None, ◌∷◌, ◌++◌, refl, ap, ap₂, ◌∙◌, sym}
+use Rattle.std.specs.Prelude.{option_map}
+use Rattle.broker_base.specs.Connection.{ConnectionName}
 use Rattle.broker_base.specs.Place.{Client, Mark, Place, Past, Limits, only_if}
-use Rattle.broker_base.specs.Past.{any_connection, current_connection, session_of, is_beginning, begins_session}
-use Rattle.broker_base.specs.Owner.{named}
-use Rattle.broker_base.specs.Retained.{retained_publications}
-use Rattle.broker_base.specs.Times.{at_pubrec, window_at, entries_of}
-use Rattle.broker_base.specs.Sends.{deliveries_to}
-use Rattle.broker_base.specs.Answers.{welcome, acknowledged, codes_of, handled, packet_answers, connect_answers, answers_by, answers_at}
+use Rattle.broker_base.specs.Past.{session_of, is_beginning, begins_session}
+use Rattle.broker_base.specs.Times.{window_at}
+use Rattle.broker_base.specs.Answers.{welcome, connect_answers, answers_by, answers_at}
 use Rattle.broker_base.specs.Kept.{Kept, kept_of}
-use Rattle.broker_base.specs.State.{keyed, table, state_of}
+use Rattle.broker_base.specs.State.{state_of}
 use Rattle.broker_base.specs.Step.{IsWindow}
-use Rattle.broker_base.specs.StepAnswers.{copies_answered, copies_to, while_connected, handled_of, handled_in, packet_answers_in, connect_answers_in, answers_by_state}
+use Rattle.broker_base.specs.StepAnswers.{connect_answers_in, answers_by_state}
 use Rattle.broker_base.specs.declared.command.Command.{Command}
 use Rattle.broker_base.specs.declared.command.Command.TheVariants as commands
-use Rattle.broker_base.specs.declared.command.Answer.TheVariants.{Send}
-use Rattle.broker_base.proofs.SessionsInOrder.{same_self}
+use Rattle.broker_base.proofs.ClientsInOrder.{same_self}
 use Rattle.broker_base.proofs.SessionsAfter.{at, session_is}
-use Rattle.broker_base.proofs.OthersStay.{same_window}
-use Rattle.broker_base.proofs.AnswersOfSessions.{deliveries_are, fills_behind, starts_are, pubrels_behind, pubrec_is, closed_is, resumed_is}
+use Rattle.broker_base.proofs.ComingBack.{closed_is, resumed_is}
 use Rattle.broker_base.proofs.KeptAfter.{kept_now}
-
--- a packet that leaves nothing ends no connection
-not_ending : (x : ConnectionName) (connection : Option ConnectionName) → any_connection (λ y. same_connection x y && false) connection ≡ false
-not_ending x None = refl
-not_ending x (Some y) = no (same_connection x y)
-  where
-    no : (b : Bool) → (b && false) ≡ false
-    no true = refl
-    no false = refl
-
--- ---- a taken PUBLISH
-
-to_all : (limits : Limits) (later : ℕ) → IsWindow limits later → (past : Past) (x : ConnectionName) (p : Publish) (owner : Client) (ds : List Client) →
-    flat_map (copies_answered (window_at limits (at (commands.Packet x (packets.Publish p)) (Mark.Taken owner) ∷ past)) (at (commands.Packet x (packets.Publish p)) (Mark.Taken owner)) (retained_publications past)) (table (kept_of limits past) ds)
-    ≡ flat_map (deliveries_to limits (at (commands.Packet x (packets.Publish p)) (Mark.Taken owner)) past) (filter (λ c. is_some (session_of past c)) ds)
-to_all limits later follows past x p owner [] = refl
-to_all limits later follows past x p owner (d ∷ ds) =
-    by (session_of past d) (to_all limits later follows past x p owner ds)
-    (sym (deliveries_are limits (at (commands.Packet x (packets.Publish p)) (Mark.Taken owner)) past d refl (not_ending x (current_connection past d)) refl
-    (same_window limits later follows (at (commands.Packet x (packets.Publish p)) (Mark.Taken owner)) past refl)))
-  where
-    place : Place
-    place = at (commands.Packet x (packets.Publish p)) (Mark.Taken owner)
-
-    by : (session : Option Bool) →
-        flat_map (copies_answered (window_at limits (at (commands.Packet x (packets.Publish p)) (Mark.Taken owner) ∷ past)) (at (commands.Packet x (packets.Publish p)) (Mark.Taken owner)) (retained_publications past)) (table (kept_of limits past) ds)
-        ≡ flat_map (deliveries_to limits (at (commands.Packet x (packets.Publish p)) (Mark.Taken owner)) past) (filter (λ c. is_some (session_of past c)) ds) →
-        copies_to (window_at limits (at (commands.Packet x (packets.Publish p)) (Mark.Taken owner) ∷ past)) (at (commands.Packet x (packets.Publish p)) (Mark.Taken owner)) (retained_publications past) d (option_map (kept_now limits past d) session)
-        ≡ deliveries_to limits (at (commands.Packet x (packets.Publish p)) (Mark.Taken owner)) past d →
-        flat_map (copies_answered (window_at limits (at (commands.Packet x (packets.Publish p)) (Mark.Taken owner) ∷ past)) (at (commands.Packet x (packets.Publish p)) (Mark.Taken owner)) (retained_publications past))
-        (keyed d (option_map (kept_now limits past d) session) (table (kept_of limits past) ds))
-        ≡ flat_map (deliveries_to limits (at (commands.Packet x (packets.Publish p)) (Mark.Taken owner)) past)
-        (if is_some session then d ∷ filter (λ c. is_some (session_of past c)) ds else filter (λ c. is_some (session_of past c)) ds)
-    by None e here = e
-    by (Some clean) e here = ap₂ (λ xs ys. xs ++ ys) here e
-
--- ---- the client's answers
-
-behind_puback : (w : ℕ) (x : ConnectionName) (c : Client) (i : ℕ) (old : Option Kept) →
-    fills_behind w (commands.Packet x (packets.Puback i)) (Mark.Handled c) c old ≡ handled_of w (packets.Puback i) old
-behind_puback w x c i None = refl
-behind_puback w x c i (Some kept) =
-    ap (λ b. while_connected kept.connection (fill_sends w (if b then on_puback i kept.queue.in_flight else kept.queue.in_flight) kept.queue.waiting)) (same_self c)
-
-behind_pubcomp : (w : ℕ) (x : ConnectionName) (c : Client) (i : ℕ) (old : Option Kept) →
-    fills_behind w (commands.Packet x (packets.Pubcomp i)) (Mark.Handled c) c old ≡ handled_of w (packets.Pubcomp i) old
-behind_pubcomp w x c i None = refl
-behind_pubcomp w x c i (Some kept) =
-    ap (λ b. while_connected kept.connection (fill_sends w (if b then on_pubcomp i kept.queue.in_flight else kept.queue.in_flight) kept.queue.waiting)) (same_self c)
-
-behind_pubrec : (w : ℕ) (i : ℕ) (old : Option Kept) → pubrels_behind i old ≡ handled_of w (packets.Pubrec i) old
-behind_pubrec w i None = refl
-behind_pubrec w i (Some kept) = refl
-
-nothing : (x : ConnectionName) (w : ℕ) (packet : Packet) (old : Option Kept) → ((kept : Kept) → handled_of w packet (Some kept) ≡ []) → map (Send x) (handled_of w packet old) ≡ []
-nothing x w packet None h = refl
-nothing x w packet (Some kept) h = ap (map (Send x)) (h kept)
-
-handled_are : (limits : Limits) (later : ℕ) → IsWindow limits later → (past : Past) (x : ConnectionName) (c : Client) (packet : Packet) →
-    handled_in (window_at limits (at (commands.Packet x packet) (Mark.Handled c) ∷ past)) x (kept_of limits past c) packet
-    ≡ handled limits (at (commands.Packet x packet) (Mark.Handled c)) past x c packet
-handled_are limits later follows past x c (packets.Unsubscribe u) = refl
-handled_are limits later follows past x c (packets.Pubrel id) = refl
-handled_are limits later follows past x c packets.Pingreq = refl
-handled_are limits later follows past x c (packets.Puback i) =
-    ap (map (Send x)) (sym (behind_puback (window_at limits (at (commands.Packet x (packets.Puback i)) (Mark.Handled c) ∷ past)) x c i (kept_of limits past c)))
-    ∙ sym (starts_are limits (at (commands.Packet x (packets.Puback i)) (Mark.Handled c)) past c x refl (not_ending x (current_connection past c)) refl)
-handled_are limits later follows past x c (packets.Pubcomp i) =
-    ap (map (Send x)) (sym (behind_pubcomp (window_at limits (at (commands.Packet x (packets.Pubcomp i)) (Mark.Handled c) ∷ past)) x c i (kept_of limits past c)))
-    ∙ sym (starts_are limits (at (commands.Packet x (packets.Pubcomp i)) (Mark.Handled c)) past c x refl (not_ending x (current_connection past c)) refl)
-handled_are limits later follows past x c (packets.Pubrec i) =
-    ap (map (Send x)) (sym (behind_pubrec (window_at limits (at (commands.Packet x (packets.Pubrec i)) (Mark.Handled c) ∷ past)) i (kept_of limits past c)))
-    ∙ sym (pubrec_is limits (at (commands.Packet x (packets.Pubrec i)) (Mark.Handled c)) past c x i refl (not_ending x (current_connection past c)) refl
-    (ap (λ b. if b then map (at_pubrec (length past) i) (entries_of limits past c) else entries_of limits past c) (same_self c)))
-handled_are limits later follows past x c packet =
-    nothing x (window_at limits (at (commands.Packet x packet) (Mark.Handled c) ∷ past)) packet (kept_of limits past c) (λ kept. refl)
-
-packet_answers_are : (limits : Limits) (later : ℕ) → IsWindow limits later → (past : Past) (x : ConnectionName) (packet : Packet) (mark : Mark) →
-    packet_answers_in (window_at limits (at (commands.Packet x packet) mark ∷ past)) (at (commands.Packet x packet) mark) (state_of limits past) x packet mark
-    ≡ packet_answers limits (at (commands.Packet x packet) mark) past x packet mark
-packet_answers_are limits later follows past x (packets.Publish p) (Mark.Taken c) =
-    ap (λ answers. acknowledged x p.delivery ++ answers) (to_all limits later follows past x p c (named past))
-packet_answers_are limits later follows past x (packets.Publish p) (Mark.Repeat c) = refl
-packet_answers_are limits later follows past x (packets.Subscribe s) (Mark.Granted c which) =
-    ap (λ answers. Send x (packets.Suback (record { id = s.id; codes = codes_of s.filters which })) ∷ answers)
-    (ap (copies_to (window_at limits (at (commands.Packet x (packets.Subscribe s)) (Mark.Granted c which) ∷ past)) (at (commands.Packet x (packets.Subscribe s)) (Mark.Granted c which)) (retained_publications past) c) (session_is limits past c)
-    ∙ sym (deliveries_are limits (at (commands.Packet x (packets.Subscribe s)) (Mark.Granted c which)) past c refl (not_ending x (current_connection past c)) refl
-    (same_window limits later follows (at (commands.Packet x (packets.Subscribe s)) (Mark.Granted c which)) past refl)))
-packet_answers_are limits later follows past x packet (Mark.Handled c) =
-    ap (λ old. handled_in (window_at limits (at (commands.Packet x packet) (Mark.Handled c) ∷ past)) x old packet) (session_is limits past c)
-    ∙ handled_are limits later follows past x c packet
-packet_answers_are limits later follows past x packet mark = refl
+use Rattle.broker_base.proofs.PacketAnswersStand.{packet_answers_are}
 
 -- ---- a Connect
 

@@ -15,9 +15,9 @@ use Rattle.broker_base.specs.Kept.{flights_below}
 use Rattle.session_base.proofs.CountedIdentifiers.{same_length}
 use Rattle.broker_base.proofs.SoundEntries.{InOrder, Sound}
 use Rattle.broker_base.proofs.SoundStarts.{order_waits, sound_new}
-use Rattle.broker_base.proofs.StartsInFlight.{same_ids}
+use Rattle.broker_base.proofs.IdentifiersInFlight.{same_ids}
 use Rattle.broker_base.proofs.SendsOfCopies.{Quiet, fill_full}
-use Rattle.broker_base.proofs.KeptAfter.{sound_entries, sound_answered}
+use Rattle.broker_base.proofs.QueueAfter.{sound_entries, sound_answered}
 
 -- ---- quiet
 

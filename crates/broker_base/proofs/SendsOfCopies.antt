@@ -11,14 +11,11 @@ use Rattle.session_base.specs.Queue.{Flight, ids_of, started_flight, fill}
 use Rattle.session_base.specs.Sending.{fill_sends, copies_sent}
 use Rattle.broker_base.specs.Connection.{ConnectionName}
 use Rattle.broker_base.specs.Entries.{Entry, queued}
-use Rattle.broker_base.specs.Readings.{made_at, waiting_of, busy_ids}
 use Rattle.broker_base.specs.Times.{start_all}
 use Rattle.broker_base.specs.Sends.{publish, all_started, handed}
 use Rattle.broker_base.specs.declared.command.Answer.TheVariants.{Send}
-use Rattle.session_base.proofs.CountedIdentifiers.{count, SameIds, same_length, same_least}
-use Rattle.broker_base.proofs.SoundEntries.{IsBelow, AllWait, InOrder}
-use Rattle.broker_base.proofs.SoundStarts.{busy_waits}
-use Rattle.broker_base.proofs.StartsInFlight.{same_next, moved}
+use Rattle.session_base.proofs.CountedIdentifiers.{SameIds, same_length, same_least}
+use Rattle.broker_base.proofs.StartsInFlight.{same_next}
 
 -- ---- a full window
 
@@ -46,7 +43,7 @@ starts_full w n ids (p ∷ ps) h =
 
 -- ---- copy by copy
 
-this_place : (n : ℕ) → (n == n) ≡ true
+pub this_place : (n : ℕ) → (n == n) ≡ true
 this_place n = grind arith
 
 within : (k w : ℕ) → nat_lt k w ≡ true → k < w
@@ -141,59 +138,3 @@ handed_is x w n ids fs ms (p ∷ copies) same quiet =
         ≡ map (Send x) (if b then fill_sends w fs (ms ++ p ∷ []) ++ copies_sent w copies (fill w fs (ms ++ p ∷ [])) else packets.Publish (publish_of false 0 p) ∷ copies_sent w copies (record { in_flight = fs; waiting = ms }))
     by true e shut_rest open_rest = one (nat_lt (length ids) w) refl shut_rest open_rest
     by false e shut_rest open_rest = ap (λ answers. publish x false 0 p ∷ answers) (shut_rest ms quiet)
-
--- ---- the entries that a place made
-
--- the identifiers in use when a start comes to the end of the entries
-abbrev pub busy_from : List ℕ → List Entry → List ℕ
-busy_from ids [] = ids
-busy_from ids (Entry.Waits made p ∷ es) = ids
-busy_from ids (Entry.Started made p id start ∷ es) = busy_from (id ∷ ids) es
-busy_from ids (Entry.Released made p id start release ∷ es) = busy_from (id ∷ ids) es
-busy_from ids (Entry.Finished made p id start release finish ∷ es) = busy_from ids es
-
-older : (made n : ℕ) → made < n → (made == n) ≡ false
-older made n h = grind arith
-
-made_new : (n : ℕ) (ps : List Publication) → made_at n (map (Entry.Waits n) ps) ≡ map (Entry.Waits n) ps
-made_new n [] = refl
-made_new n (p ∷ ps) = rw (this_place n) (ap (λ es. Entry.Waits n p ∷ es) (made_new n ps))
-
-made_started : (w n : ℕ) (ids : List ℕ) (ps : List Publication) → made_at n (start_all w n ids (map (Entry.Waits n) ps)) ≡ start_all w n ids (map (Entry.Waits n) ps)
-made_started w n ids [] = refl
-made_started w n ids (p ∷ ps) = by (nat_lt (length ids) w) (made_started w n (least_free ids ∷ ids) ps)
-  where
-    by : (b : Bool) → made_at n (start_all w n (least_free ids ∷ ids) (map (Entry.Waits n) ps)) ≡ start_all w n (least_free ids ∷ ids) (map (Entry.Waits n) ps) →
-        made_at n (if b then Entry.Started n p (least_free ids) n ∷ start_all w n (least_free ids ∷ ids) (map (Entry.Waits n) ps) else Entry.Waits n p ∷ map (Entry.Waits n) ps)
-        ≡ (if b then Entry.Started n p (least_free ids) n ∷ start_all w n (least_free ids ∷ ids) (map (Entry.Waits n) ps) else Entry.Waits n p ∷ map (Entry.Waits n) ps)
-    by true e = rw (this_place n) (ap (λ es. Entry.Started n p (least_free ids) n ∷ es) e)
-    by false e = rw (this_place n) (ap (λ es. Entry.Waits n p ∷ es) (made_new n ps))
-
-made_waits : (n : ℕ) (es : List Entry) (ps : List Publication) → AllWait es → IsBelow n es → made_at n (es ++ map (Entry.Waits n) ps) ≡ map (Entry.Waits n) ps
-made_waits n [] ps h below = made_new n ps
-made_waits n (Entry.Waits made p ∷ es) ps h below = rw (older made n below.0) (made_waits n es ps h below.1)
-made_waits n (Entry.Started made p id start ∷ es) ps h below = absurd h
-made_waits n (Entry.Released made p id start release ∷ es) ps h below = absurd h
-made_waits n (Entry.Finished made p id start release finish ∷ es) ps h below = absurd h
-
-pub made_here : (w n : ℕ) (ids : List ℕ) (es : List Entry) (ps : List Publication) → IsBelow n es → InOrder es → (waiting_of es ≡ []) ⊎ (w ≤ length (busy_from ids es)) →
-    made_at n (start_all w n ids (es ++ map (Entry.Waits n) ps)) ≡ start_all w n (busy_from ids es) (map (Entry.Waits n) ps)
-made_here w n ids [] ps below order quiet = made_started w n ids ps
-made_here w n ids (Entry.Waits made p ∷ es) ps below order (inl e) = absurd (cc)
-made_here w n ids (Entry.Waits made p ∷ es) ps below order (inr full) =
-    ap (λ b. made_at n (if b then Entry.Started made p (least_free ids) n ∷ start_all w n (least_free ids ∷ ids) (es ++ map (Entry.Waits n) ps) else Entry.Waits made p ∷ (es ++ map (Entry.Waits n) ps))) (shut (length ids) w full)
-    ∙ made_waits n (Entry.Waits made p ∷ es) ps order below
-    ∙ sym (starts_full w n ids ps full)
-  where
-    shut : (k w : ℕ) → w ≤ k → nat_lt k w ≡ false
-    shut k w h = grind arith
-made_here w n ids (Entry.Started made p id start ∷ es) ps below order quiet = rw (older made n below.0) (made_here w n (id ∷ ids) es ps below.2 order quiet)
-made_here w n ids (Entry.Released made p id start release ∷ es) ps below order quiet = rw (older made n below.0) (made_here w n (id ∷ ids) es ps below.3 order quiet)
-made_here w n ids (Entry.Finished made p id start release finish ∷ es) ps below order quiet = rw (older made n below.0) (made_here w n ids es ps below.1 order quiet)
-
-pub busy_from_is : (ids : List ℕ) (es : List Entry) → InOrder es → SameIds (busy_ids es ++ ids) (busy_from ids es)
-busy_from_is ids [] h test = refl
-busy_from_is ids (Entry.Waits made p ∷ es) h test = ap (λ xs. count test (xs ++ ids)) (busy_waits es h)
-busy_from_is ids (Entry.Started made p id start ∷ es) h test = moved test id (busy_ids es) ids ∙ busy_from_is (id ∷ ids) es h test
-busy_from_is ids (Entry.Released made p id start release ∷ es) h test = moved test id (busy_ids es) ids ∙ busy_from_is (id ∷ ids) es h test
-busy_from_is ids (Entry.Finished made p id start release finish ∷ es) h test = busy_from_is ids es h test

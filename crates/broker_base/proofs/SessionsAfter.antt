@@ -16,7 +16,8 @@ use Rattle.broker_base.specs.Step.{sessions_left, sessions_with, IsWindow}
 use Rattle.broker_base.specs.declared.command.Command.{Command}
 use Rattle.broker_base.specs.declared.command.Command.TheVariants as commands
 use Rattle.broker_base.proofs.KeptAfter.{kept_with, kept_step}
-use Rattle.broker_base.proofs.SessionsInOrder.{IsNamed, same_self, rising_named, session_is_named, session_found, put_is}
+use Rattle.broker_base.proofs.ClientsInOrder.{IsNamed, same_self, rising_named, session_is_named}
+use Rattle.broker_base.proofs.SessionsInOrder.{session_found, put_is}
 use Rattle.broker_base.proofs.OthersStay.{left_with, left_is}
 
 -- the session of a client is found in the table

@@ -1,9 +1,8 @@
 -- The broker's step: the state and the answers after one more command (MQTT 3.1.4, 3.3.1.3, 4.1, 4.3, 4.4).
-use Rattle.std.specs.Prelude.{◌≡◌, ℕ, Bool, true, false, ◌||◌, if◌then◌else◌, List, [], ◌∷◌, Option, Some, is_some}
+use Rattle.std.specs.Prelude.{◌≡◌, ℕ, Bool, false, ◌||◌, if◌then◌else◌, List, [], ◌∷◌, Option, Some, is_some}
 use Rattle.packet.specs.declared.subscribe.Subscription.{Subscription}
 use Rattle.packet.specs.declared.packet.Packet.TheVariants as packets
 use Rattle.retained.specs.Retained.{Content}
-use Rattle.broker_base.specs.Connection.{ConnectionName}
 use Rattle.broker_base.specs.Place.{Client, same_client, Mark, Place, Past, Limits}
 use Rattle.broker_base.specs.Past.{ends_any}
 use Rattle.broker_base.specs.Subscriptions.{granted_qos}

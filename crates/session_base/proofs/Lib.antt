@@ -1,3 +1,5 @@
 pub mod CountedIdentifiers
+pub mod IdentifiersOfFills
 pub mod FillsOfQueues
 pub mod AnswersOfClients
+pub mod OrderInFlight

@@ -1,4 +1,5 @@
-use Rattle.session_base.proofs.FillsOfQueues.{fill_done, fill_within, fill_order, fill_sends_starts, least_free_is, fill_apart}
+use Rattle.session_base.proofs.FillsOfQueues.{fill_done, fill_within, fill_order, fill_sends_starts}
+use Rattle.session_base.proofs.IdentifiersOfFills.{least_free_is, fill_apart}
 use Rattle.session_base.proofs.laws.fill_takes_what_waits.Goals as goal
 
 pub returns : goal.returns

@@ -1,86 +1,37 @@
--- What a place sends to the client of a session, as what is kept of the session says.
-use Rattle.std.proofs.Common.{◌≡◌, ℕ, ◌<◌, ◌≤◌, zero, suc, Bool, true, false, ◌&&◌, ◌||◌, ◌⊎◌, inl, inr, ◌==◌, if◌then◌else◌, Option, Some, None, List, [], ◌∷◌, ◌++◌, length, map, refl, ap, ap₂, ◌∙◌, sym, subst, arith}
+-- What is sent behind a client's answer, as what is kept of its session says.
+use Rattle.std.proofs.Common.{◌≡◌, ℕ, ◌<◌, zero, suc, Bool, true, false, ◌&&◌, ◌||◌, ◌==◌, if◌then◌else◌, Option, Some, None, List, [], ◌∷◌, ◌++◌, length, map, refl, ap, ap₂, ◌∙◌, sym, arith}
 use Rattle.std.specs.List.{list_any}
 use Rattle.std.proofs.lemmas.List.Folds.{list_any-append}
-use Rattle.packet.specs.declared.subscribe.Subscription.{Subscription}
 use Rattle.packet.specs.declared.packet.Packet.{Packet}
 use Rattle.packet.specs.declared.packet.Packet.TheVariants as packets
-use Rattle.session_base.specs.declared.publication.Publication.{Publication}
 use Rattle.session_base.specs.Identifiers.{has_id}
-use Rattle.session_base.specs.Queue.{awaits_pubcomp, ids_of, on_pubrec}
-use Rattle.session_base.specs.Sending.{fill_sends, resend, pubrec_sends, copies_sent}
+use Rattle.session_base.specs.Queue.{awaits_pubcomp, on_pubrec}
+use Rattle.session_base.specs.Sending.{fill_sends, pubrec_sends}
 use Rattle.broker_base.specs.Connection.{ConnectionName}
 use Rattle.broker_base.specs.Place.{Client, Mark, Place, Past, Limits}
-use Rattle.broker_base.specs.Past.{accepts, ends_any, current_connection, session_of, newest_session, newest_connection, is_beginning, in_session}
+use Rattle.broker_base.specs.Past.{accepts, ends_any, current_connection, session_of}
 use Rattle.broker_base.specs.Subscriptions.{subscriptions_of}
 use Rattle.broker_base.specs.Received.{received_of}
-use Rattle.broker_base.specs.Retained.{retained_publications}
 use Rattle.broker_base.specs.Entries.{Entry, copies_at, queued}
-use Rattle.broker_base.specs.Readings.{made_at, released_below, waiting_of, busy_ids}
-use Rattle.broker_base.specs.Times.{at_pubrec, answered_by, start_all, started, window_at, entries_of}
-use Rattle.broker_base.specs.Sends.{all_started, resent, handed, handed_to, deliveries_to}
-use Rattle.broker_base.specs.Answers.{closed}
-use Rattle.broker_base.specs.Kept.{Kept, sent_flights, released_flight, flights_below, queue_of, kept_of}
+use Rattle.broker_base.specs.Readings.{released_below, waiting_of, busy_ids}
+use Rattle.broker_base.specs.Times.{at_pubrec, answered_by, started, window_at, entries_of}
+use Rattle.broker_base.specs.Sends.{all_started}
+use Rattle.broker_base.specs.Kept.{Kept, sent_flights, released_flight, flights_below, kept_of}
 use Rattle.broker_base.specs.KeptStep.{answered_flights}
-use Rattle.broker_base.specs.StepAnswers.{copies_to, while_connected, connection_of, resumed}
+use Rattle.broker_base.specs.StepAnswers.{while_connected}
 use Rattle.broker_base.specs.declared.command.Command.{Command}
 use Rattle.broker_base.specs.declared.command.Answer.TheVariants.{Send}
-use Rattle.session_base.proofs.CountedIdentifiers.{count, SameIds, same_length}
+use Rattle.session_base.proofs.CountedIdentifiers.{count}
 use Rattle.broker_base.proofs.SoundEntries.{Sound}
-use Rattle.broker_base.proofs.AnswersInFlight.{awaits_no_pubcomp}
+use Rattle.broker_base.proofs.WhatFlightsAwait.{awaits_no_pubcomp}
 use Rattle.broker_base.proofs.PubrecInFlight.{flights_pubrec}
-use Rattle.broker_base.proofs.StartsInFlight.{append_none, same_ids, released_started}
-use Rattle.broker_base.proofs.SendsOfStarts.{StartedBefore, before_below, before_answered, starts_sent, resent_is}
-use Rattle.broker_base.proofs.SendsOfCopies.{Quiet, handed_is, busy_from, busy_from_is, made_here}
-use Rattle.broker_base.proofs.KeptAfter.{sound_entries, sound_answered, flights_answered, waiting_answered, copies_are, kept_with}
-use Rattle.broker_base.proofs.QuietPasts.{QuietEntries, quiet_entries, quiet_queue, no_connection, entries_next, entries_none}
-
--- ---- copies
-
-pub delivered : (x : ConnectionName) (w n : ℕ) (es : List Entry) (copies : List Publication) → Sound n es → QuietEntries w es → Quiet w (flights_below n es) (waiting_of es) →
-    handed x n copies (made_at n (start_all w n [] (es ++ map (Entry.Waits n) (queued copies)))) ≡ map (Send x) (copies_sent w copies (queue_of n es))
-delivered x w n es copies s quiet quiet_flights =
-    ap (handed x n copies) (made_here w n [] es (queued copies) s.below s.in_order (by quiet))
-    ∙ handed_is x w n (busy_from [] es) (flights_below n es) (waiting_of es) copies same quiet_flights
-  where
-    same : SameIds (ids_of (flights_below n es)) (busy_from [] es)
-    same test = same_ids n es s.below test ∙ ap (count test) (sym (append_none (busy_ids es))) ∙ busy_from_is [] es s.in_order test
-
-    size : length (busy_ids es) ≡ length (busy_from [] es)
-    size = same_length (busy_ids es) (busy_from [] es) (λ test. ap (count test) (sym (append_none (busy_ids es))) ∙ busy_from_is [] es s.in_order test)
-
-    by : QuietEntries w es → (waiting_of es ≡ []) ⊎ (w ≤ length (busy_from [] es))
-    by (inl e) = inl e
-    by (inr h) = inr (omega (arith, h, size))
-
--- by the session and the connection
-copies_by_kept : (limits : Limits) (place : Place) (past : Past) (c : Client) (session : Option Bool) (connection : Option ConnectionName) →
-    session_of past c ≡ session → current_connection past c ≡ connection →
-    accepts place.command place.mark c ≡ None → ends_any place (current_connection past c) ≡ false →
-    answered_by place.command place.mark (length past) c (entries_of limits past c) ≡ entries_of limits past c →
-    window_at limits (place ∷ past) ≡ window_at limits past →
-    handed_to connection (length past) (copies_at place past c) (made_at (length past) (entries_of limits (place ∷ past) c))
-    ≡ copies_to (window_at limits (place ∷ past)) place (retained_publications past) c
-    (kept_with (length past) session connection (subscriptions_of past c) (received_of past c) (entries_of limits past c))
-copies_by_kept limits place past c None None is_session is_connection not_opened not_ended no_answer same_window = refl
-copies_by_kept limits place past c None (Some x) is_session is_connection not_opened not_ended no_answer same_window =
-    absurd (let none : current_connection past c ≡ None = no_connection past c is_session in cc)
-copies_by_kept limits place past c (Some clean) None is_session is_connection not_opened not_ended no_answer same_window = refl
-copies_by_kept limits place past c (Some clean) (Some x) is_session is_connection not_opened not_ended no_answer same_window =
-    ap (λ es. handed x (length past) (copies_at place past c) (made_at (length past) es))
-    (entries_next limits place past c clean not_opened not_ended is_session
-    ∙ ap₂ (λ connection es. started (window_at limits (place ∷ past)) (length past) connection (es ++ map (Entry.Waits (length past)) (queued (copies_at place past c)))) is_connection no_answer)
-    ∙ delivered x (window_at limits (place ∷ past)) (length past) (entries_of limits past c) (copies_at place past c) (sound_entries limits past c)
-    (subst (λ (w : ℕ). QuietEntries w (entries_of limits past c)) (sym same_window) (quiet_entries limits past c x is_connection))
-    (subst (λ (w : ℕ). Quiet w (flights_below (length past) (entries_of limits past c)) (waiting_of (entries_of limits past c))) (sym same_window) (quiet_queue limits past c x is_connection))
-    ∙ ap (λ ps. map (Send x) (copies_sent (window_at limits (place ∷ past)) ps (queue_of (length past) (entries_of limits past c)))) (copies_are place.command place.mark past c)
-
-pub deliveries_are : (limits : Limits) (place : Place) (past : Past) (c : Client) →
-    accepts place.command place.mark c ≡ None → ends_any place (current_connection past c) ≡ false →
-    answered_by place.command place.mark (length past) c (entries_of limits past c) ≡ entries_of limits past c →
-    window_at limits (place ∷ past) ≡ window_at limits past →
-    deliveries_to limits place past c ≡ copies_to (window_at limits (place ∷ past)) place (retained_publications past) c (kept_of limits past c)
-deliveries_are limits place past c = copies_by_kept limits place past c (session_of past c) (current_connection past c) refl refl
+use Rattle.broker_base.proofs.IdentifiersInFlight.{append_none, same_ids}
+use Rattle.broker_base.proofs.StartsInFlight.{released_started}
+use Rattle.broker_base.proofs.EntriesStartedBefore.{StartedBefore, before_below, before_answered}
+use Rattle.broker_base.proofs.SendsOfStarts.{starts_sent}
+use Rattle.broker_base.proofs.QueueAfter.{sound_entries, sound_answered, flights_answered, waiting_answered}
+use Rattle.broker_base.proofs.KeptAfter.{kept_with}
+use Rattle.broker_base.proofs.QuietPasts.{entries_next, entries_none}
 
 -- ---- the client's answers
 
@@ -170,7 +121,7 @@ released_anyway : (t w n : ℕ) (connection : Option ConnectionName) (es : List 
 released_anyway t w n None es = refl
 released_anyway t w n (Some x) es = released_started t w n [] es
 
-none_released_ever : (t : ℕ) → released_below t [] ≡ []
+pub none_released_ever : (t : ℕ) → released_below t [] ≡ []
 none_released_ever zero = refl
 none_released_ever (suc t) = append_none (released_below t []) ∙ none_released_ever t
 
@@ -208,40 +159,3 @@ pub pubrec_is : (limits : Limits) (place : Place) (past : Past) (c : Client) (x 
     (if has_id i (released_below (suc (length past)) (entries_of limits (place ∷ past) c)) then Send x (packets.Pubrel i) ∷ [] else [])
     ≡ map (Send x) (pubrels_behind i (kept_of limits past c))
 pubrec_is limits place past c x i = pubrec_by_kept limits place past c x i (session_of past c) refl
-
--- ---- a Connect
-
-pub closed_is : (limits : Limits) (past : Past) (c : Client) → closed (current_connection past c) ≡ closed (connection_of (kept_of limits past c))
-closed_is limits past c = by (session_of past c) refl
-  where
-    by : (session : Option Bool) → session_of past c ≡ session →
-        closed (current_connection past c) ≡ closed (connection_of (kept_with (length past) session (current_connection past c) (subscriptions_of past c) (received_of past c) (entries_of limits past c)))
-    by None e = ap closed (no_connection past c e)
-    by (Some clean) e = refl
-
-resumed_by : (x : ConnectionName) (w n : ℕ) (clean over : Bool) (session : Option Bool) (connection : Option ConnectionName) (held : List Subscription) (ids : List ℕ) (es : List Entry) → Sound n es →
-    resent x n (in_session (newest_session (Some (x, clean)) over session) (is_beginning (Some (x, clean)) session) []
-    (started w n (newest_connection (Some (x, clean)) over connection) (es ++ map (Entry.Waits n) [])))
-    ≡ map (Send x) (resumed w clean (kept_with n session connection held ids es))
-resumed_by x w n clean over None connection held ids es s = ap (λ ids. map (λ id. Send x (packets.Pubrel id)) ids ++ [] ++ []) (none_released_ever n)
-resumed_by x w n clean over (Some old) connection held ids es s = by (clean || old)
-  where
-    by : (b : Bool) →
-        resent x n (in_session (Some clean) b [] (start_all w n [] (es ++ map (Entry.Waits n) [])))
-        ≡ map (Send x) (if b then [] else resend (flights_below n es) ++ fill_sends w (flights_below n es) (waiting_of es))
-    by true = ap (λ ids. map (λ id. Send x (packets.Pubrel id)) ids ++ [] ++ []) (none_released_ever n)
-    by false = ap (λ others. resent x n (start_all w n [] others)) (append_none es) ∙ resent_is x w n es s.below s.in_order
-
-pub resumed_is : (limits : Limits) (past : Past) (c : Client) (x : ConnectionName) (clean : Bool) (place : Place) →
-    accepts place.command place.mark c ≡ Some (x, clean) → copies_at place past c ≡ [] →
-    answered_by place.command place.mark (length past) c (entries_of limits past c) ≡ entries_of limits past c →
-    resent x (length past) (entries_of limits (place ∷ past) c) ≡ map (Send x) (resumed (window_at limits (place ∷ past)) clean (kept_of limits past c))
-unfolding entries_of session_of current_connection
-resumed_is limits past c x clean place opens no_copies no_answer =
-    ap (λ opened. resent x (length past) (in_session (newest_session opened (ends_any place (current_connection past c)) (session_of past c)) (is_beginning opened (session_of past c)) []
-    (started (window_at limits (place ∷ past)) (length past) (newest_connection opened (ends_any place (current_connection past c)) (current_connection past c))
-    (answered_by place.command place.mark (length past) c (entries_of limits past c) ++ map (Entry.Waits (length past)) (queued (copies_at place past c)))))) opens
-    ∙ ap₂ (λ es ps. resent x (length past) (in_session (newest_session (Some (x, clean)) (ends_any place (current_connection past c)) (session_of past c)) (is_beginning (Some (x, clean)) (session_of past c)) []
-    (started (window_at limits (place ∷ past)) (length past) (newest_connection (Some (x, clean)) (ends_any place (current_connection past c)) (current_connection past c)) (es ++ map (Entry.Waits (length past)) (queued ps))))) no_answer no_copies
-    ∙ resumed_by x (window_at limits (place ∷ past)) (length past) clean (ends_any place (current_connection past c)) (session_of past c) (current_connection past c)
-    (subscriptions_of past c) (received_of past c) (entries_of limits past c) (sound_entries limits past c)
