@@ -17,6 +17,7 @@ pub mod EntriesOfPlaces
 pub mod QuietPasts
 pub mod CopiesOfSessions
 pub mod AnswersBehind
+pub mod PubrelsBehind
 pub mod ComingBack
 pub mod ClientsInOrder
 pub mod SessionsInOrder
@@ -41,3 +42,4 @@ pub mod StartsWhereItMay
 pub mod FilterHasLastGranting
 pub mod EntersOnce
 pub mod AnswersAreAddressed
+pub mod QueuesStayQuiet
