@@ -1,32 +1,24 @@
 -- What is sent behind a client's answer, as what is kept of its session says.
-use Rattle.std.proofs.Common.{◌≡◌, ℕ, ◌<◌, zero, suc, Bool, true, false, ◌&&◌, ◌||◌, ◌==◌, if◌then◌else◌, Option, Some, None, List, [], ◌∷◌, ◌++◌, length, map, refl, ap, ap₂, ◌∙◌, sym, arith}
-use Rattle.std.specs.List.{list_any}
-use Rattle.std.proofs.lemmas.List.Folds.{list_any-append}
+use Rattle.std.proofs.Common.{◌≡◌, ℕ, ◌<◌, suc, Bool, false, ◌==◌, Option, Some, None, List, [], ◌∷◌, ◌++◌, length, map, refl, ap, ap₂, ◌∙◌, sym, arith}
 use Rattle.packet.specs.declared.packet.Packet.{Packet}
-use Rattle.packet.specs.declared.packet.Packet.TheVariants as packets
-use Rattle.session_base.specs.Identifiers.{has_id}
-use Rattle.session_base.specs.Queue.{awaits_pubcomp, on_pubrec}
-use Rattle.session_base.specs.Sending.{fill_sends, pubrec_sends}
+use Rattle.session_base.specs.Sending.{fill_sends}
 use Rattle.broker_base.specs.Connection.{ConnectionName}
 use Rattle.broker_base.specs.Place.{Client, Mark, Place, Past, Limits}
 use Rattle.broker_base.specs.Past.{accepts, ends_any, current_connection, session_of}
 use Rattle.broker_base.specs.Subscriptions.{subscriptions_of}
 use Rattle.broker_base.specs.Received.{received_of}
 use Rattle.broker_base.specs.Entries.{Entry, copies_at, queued}
-use Rattle.broker_base.specs.Readings.{released_below, waiting_of, busy_ids}
-use Rattle.broker_base.specs.Times.{at_pubrec, answered_by, started, window_at, entries_of}
+use Rattle.broker_base.specs.Readings.{waiting_of, busy_ids}
+use Rattle.broker_base.specs.Times.{answered_by, started, window_at, entries_of}
 use Rattle.broker_base.specs.Sends.{all_started}
-use Rattle.broker_base.specs.Kept.{Kept, sent_flights, released_flight, flights_below, kept_of}
+use Rattle.broker_base.specs.Kept.{Kept, flights_below, kept_of}
 use Rattle.broker_base.specs.KeptStep.{answered_flights}
 use Rattle.broker_base.specs.StepAnswers.{while_connected}
 use Rattle.broker_base.specs.declared.command.Command.{Command}
 use Rattle.broker_base.specs.declared.command.Answer.TheVariants.{Send}
 use Rattle.session_base.proofs.CountedIdentifiers.{count}
 use Rattle.broker_base.proofs.SoundEntries.{Sound}
-use Rattle.broker_base.proofs.WhatFlightsAwait.{awaits_no_pubcomp}
-use Rattle.broker_base.proofs.PubrecInFlight.{flights_pubrec}
 use Rattle.broker_base.proofs.IdentifiersInFlight.{append_none, same_ids}
-use Rattle.broker_base.proofs.StartsInFlight.{released_started}
 use Rattle.broker_base.proofs.EntriesStartedBefore.{StartedBefore, before_below, before_answered}
 use Rattle.broker_base.proofs.SendsOfStarts.{starts_sent}
 use Rattle.broker_base.proofs.QueueAfter.{sound_entries, sound_answered, flights_answered, waiting_answered}

@@ -43,3 +43,8 @@ pub mod FilterHasLastGranting
 pub mod EntersOnce
 pub mod AnswersAreAddressed
 pub mod QueuesStayQuiet
+pub mod SessionsStayByClient
+pub mod ConnectionsOfSessions
+pub mod NoneOpensApart
+pub mod ConnectionsStayApart
+pub mod StatesStaySound

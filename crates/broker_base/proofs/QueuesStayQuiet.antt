@@ -1,23 +1,21 @@
 -- A step leaves each connected client's queue quiet: it is filled where it may change, and stays where not.
-use Rattle.std.proofs.Common.{◌≡◌, ℕ, ◌≤◌, Bool, true, false, not, ◌&&◌, ◌||◌, ◌⊎◌, inl, inr, if◌then◌else◌, Option, Some, None, List, [], ◌∷◌, ◌++◌, length, refl, ap, ◌∙◌, sym, subst}
+use Rattle.std.proofs.Common.{◌≡◌, ℕ, ◌≤◌, Bool, true, false, not, ◌&&◌, ◌||◌, ◌⊎◌, inl, inr, if◌then◌else◌, Option, Some, None, [], ◌∷◌, length, refl, ap, ◌∙◌, sym, subst}
 use Rattle.std.proofs.lemmas.Bool.{or_parts}
 use Rattle.std.specs.declared.cmp.Ordering.{Ordering}
 use Rattle.std.specs.declared.cmp.Ordering.TheVariants.{Less, Equal, Greater}
 use Rattle.std.specs.Ordering.{match_ordering}
 use Rattle.retained.specs.Retained.{Content}
-use Rattle.session_base.specs.declared.publication.Publication.{Publication}
-use Rattle.session_base.specs.Queue.{Flight, Queue}
 use Rattle.session_base.proofs.FillsOfQueues.{fill_done}
 use Rattle.broker_base.specs.Connection.{ConnectionName}
-use Rattle.broker_base.specs.Place.{Client, by_bytes, Mark, Place, only_if}
+use Rattle.broker_base.specs.Place.{Client, by_bytes, Mark, Place, Limits, only_if}
 use Rattle.broker_base.specs.Past.{accepts, any_connection, ends, ends_any}
 use Rattle.broker_base.specs.Commands.{is_start}
 use Rattle.broker_base.specs.Kept.{Kept}
-use Rattle.broker_base.specs.KeptStep.{filled_on, kept_on, kept_anew, kept_connected, kept_later, kept_by, kept_after}
-use Rattle.broker_base.specs.State.{Sessions, keyed, session_in, put_session}
+use Rattle.broker_base.specs.KeptStep.{kept_on, kept_anew, kept_connected, kept_by, kept_after}
+use Rattle.broker_base.specs.State.{Sessions, State, keyed, session_in, put_session}
 use Rattle.broker_base.specs.Decisions.{place_in}
-use Rattle.broker_base.specs.Step.{is_about, touches, session_after, sessions_left, sessions_with, window_after}
-use Rattle.broker_base.specs.StateLaws.{IsQuiet, AllQuiet, StaysQuiet}
+use Rattle.broker_base.specs.Step.{is_about, touches, session_after, sessions_left, sessions_with, window_after, step}
+use Rattle.broker_base.specs.StateLaws.{IsQuiet, AllQuiet}
 use Rattle.broker_base.specs.declared.command.Command.{Command}
 use Rattle.broker_base.specs.declared.command.Command.TheVariants as commands
 use Rattle.broker_base.proofs.UntouchedStays.{no_start}
@@ -51,7 +49,7 @@ quiet_by w place content c (Some opened) old = quiet_connected w place content c
 quiet_by w place content c None None = tt
 quiet_by w place content c None (Some old) =
     quiet_only w (not (old.clean && ends_any place old.connection)) _
-      (quiet_on w place content c old.clean (only_if (not (ends_any place old.connection)) old.connection) old)
+    (quiet_on w place content c old.clean (only_if (not (ends_any place old.connection)) old.connection) old)
 
 quiet_same : (v w : ℕ) (place : Place) (kept : Kept) → (is_start place.command ≡ false → w ≡ v) → ends_any place kept.connection ≡ false → IsQuiet v kept → IsQuiet w kept
 quiet_same v w place kept window not_ended (inl none) = inl none
@@ -60,7 +58,7 @@ quiet_same v w place kept window not_ended (inr quiet) = by kept.connection refl
     by : (connection : Option ConnectionName) → kept.connection ≡ connection → IsQuiet w kept
     by None e = inl e
     by (Some x) e = inr (subst (λ (k : ℕ). (kept.queue.waiting ≡ []) ⊎ (k ≤ length kept.queue.in_flight))
-      (sym (window (no_start place.command place.mark x (ap (any_connection (ends place.command place.mark)) (sym e) ∙ not_ended)))) quiet)
+        (sym (window (no_start place.command place.mark x (ap (any_connection (ends place.command place.mark)) (sym e) ∙ not_ended)))) quiet)
 
 quiet_row : (v w : ℕ) (place : Place) (content : Content) (c : Client) (kept : Kept) → (is_start place.command ≡ false → w ≡ v) → IsQuiet v kept →
     QuietIf w (session_after w place content c kept)
@@ -79,7 +77,7 @@ quiet_left : (v w : ℕ) (place : Place) (content : Content) (rows : Sessions) �
 quiet_left v w place content [] window h = tt
 quiet_left v w place content (row ∷ rows) window h =
     quiet_keyed w row.0 (session_after w place content row.0 row.1) (sessions_left w place content rows)
-      (quiet_row v w place content row.0 row.1 window h.0) (quiet_left v w place content rows window h.1)
+    (quiet_row v w place content row.0 row.1 window h.0) (quiet_left v w place content rows window h.1)
 
 quiet_put : (w : ℕ) (c : Client) (kept : Kept) (rows : Sessions) → IsQuiet w kept → AllQuiet w rows → AllQuiet w (put_session c kept rows)
 quiet_put w c kept [] h k = (h, tt)
@@ -94,15 +92,16 @@ quiet_with : (v w : ℕ) (place : Place) (content : Content) (rows : Sessions) (
     AllQuiet w (sessions_with w place content rows command mark)
 quiet_with v w place content rows (commands.Connect x c clean) Mark.Accepted h =
     quiet_put w c (kept_connected w place content c (x, clean) (session_in c rows)) (sessions_left w place content rows)
-      (quiet_connected w place content c (x, clean) (session_in c rows)) h
+    (quiet_connected w place content c (x, clean) (session_in c rows)) h
 quiet_with v w place content rows command mark h = h
 
 not_start : (b : Bool) (later window : ℕ) → b ≡ false → (if b then later else window) ≡ window
 not_start true later window e = absurd (cc)
 not_start false later window e = refl
 
-pub stays_quiet : StaysQuiet
+pub stays_quiet : (limits : Limits) (later : ℕ) (state : State) (command : Command) → AllQuiet state.window state.sessions →
+    AllQuiet (step limits later state command).0.window (step limits later state command).0.sessions
 stays_quiet limits later state command h =
     quiet_with state.window (window_after later command state.window) (place_in limits state command) state.retained state.sessions command (place_in limits state command).mark
-      (quiet_left state.window (window_after later command state.window) (place_in limits state command) state.retained state.sessions
-        (λ e. not_start (is_start command) later state.window e) h)
+    (quiet_left state.window (window_after later command state.window) (place_in limits state command) state.retained state.sessions
+    (λ e. not_start (is_start command) later state.window e) h)
