@@ -5,6 +5,8 @@ pub mod AnswersStand
 pub mod AnswersStaySound
 pub mod ClientsInOrder
 pub mod ComingBack
+pub mod ConnectionsOfSessions
+pub mod ConnectionsStayApart
 pub mod CopiesOfSessions
 pub mod CurrentIsLastAccepted
 pub mod DecisionsStand
@@ -18,12 +20,15 @@ pub mod IdentifiersInFlight
 pub mod IdentifiersInWindow
 pub mod KeptAfter
 pub mod LeastFree
+pub mod NoneOpensApart
 pub mod NothingWaits
 pub mod OthersStay
 pub mod PacketAnswersStand
 pub mod PacketOfNobody
 pub mod PubrecInFlight
+pub mod PubrelsBehind
 pub mod QueueAfter
+pub mod QueuesStayQuiet
 pub mod QuietPasts
 pub mod ReleasesInFlight
 pub mod RepeatIsUnreleased
@@ -32,10 +37,12 @@ pub mod SendsOfCopies
 pub mod SendsOfStarts
 pub mod SessionsAfter
 pub mod SessionsInOrder
+pub mod SessionsStayByClient
 pub mod SoundEntries
 pub mod SoundStarts
 pub mod StartsInFlight
 pub mod StartsWhereItMay
+pub mod StatesStaySound
 pub mod StepByStep
 pub mod TakenPublishAddsOne
 pub mod UntouchedStays

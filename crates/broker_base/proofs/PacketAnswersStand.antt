@@ -24,7 +24,8 @@ use Rattle.broker_base.proofs.ClientsInOrder.{same_self}
 use Rattle.broker_base.proofs.SessionsAfter.{at, session_is}
 use Rattle.broker_base.proofs.UntouchedStays.{same_window}
 use Rattle.broker_base.proofs.CopiesOfSessions.{deliveries_are}
-use Rattle.broker_base.proofs.AnswersBehind.{fills_behind, starts_are, pubrels_behind, pubrec_is}
+use Rattle.broker_base.proofs.AnswersBehind.{fills_behind, starts_are}
+use Rattle.broker_base.proofs.PubrelsBehind.{pubrels_behind, pubrec_is}
 use Rattle.broker_base.proofs.KeptAfter.{kept_now}
 
 -- a packet that leaves nothing ends no connection

@@ -1,3 +1,4 @@
+pub mod StateLaws
 pub mod StepLaws
 pub mod StepRows
 pub mod State

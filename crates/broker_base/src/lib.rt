@@ -25,5 +25,5 @@ pub use rows::{
 pub use sized_packet::{SizedPacket, TooLarge};
 pub use step_laws::{
     decisions_stand_for, list_stands_for, others_stay, rows_step_by_step, session_step,
-    step_stands_for,
+    states_stay_sound, step_stands_for,
 };

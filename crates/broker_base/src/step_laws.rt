@@ -11,6 +11,7 @@ ghost use Rattle.broker_base.specs.StepLaws.{
   UsualListStandsFor,
   GrowingListStandsFor,
 };
+ghost use Rattle.broker_base.specs.StateLaws.{StaysSound, ListsAreSound};
 ghost use Rattle.broker_base.specs.StepRows.{StepsRefuseAndGoOn, StepsKeepTheOrder, StepsWidenTheWindow};
 
 /// One more command, whatever becomes of it, changes what is kept of each client's session as the
@@ -45,6 +46,13 @@ pub fn list_stands_for()
     ensures every { ListStandsFor }
     ensures usual { UsualListStandsFor }
     ensures growing { GrowingListStandsFor }
+{}
+
+/// A step keeps the sessions by the bytes of their clients, each connection that of one session at
+/// most, and each connected client's queue with nothing waiting or a full window.
+pub fn states_stay_sound()
+    ensures step { StaysSound }
+    ensures lists { ListsAreSound }
 {}
 
 /// Three worked rows, computed step by step: a full queue, the order on a later connection, and a

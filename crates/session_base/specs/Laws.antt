@@ -1,6 +1,5 @@
--- Laws of a client's queue: what a fill, a resending and the client's answers keep (MQTT 4.3, 4.4, 4.6).
-use Rattle.std.specs.Prelude.{◌≡◌, ℕ, ◌≤◌, ◌<◌, suc, true, false, ◌⊎◌, List, [], ◌∷◌, ◌++◌, length, map, filter, take, drop}
-use Rattle.std.specs.List.{list_any}
+-- Laws of a fill: what it takes, with which identifiers, and what it sends (MQTT 4.3, 4.4, 4.6).
+use Rattle.std.specs.Prelude.{◌≡◌, ℕ, ◌≤◌, ◌<◌, suc, true, false, ◌⊎◌, List, [], ◌∷◌, ◌++◌, length, map, take, drop}
 use Rattle.packet.specs.declared.packet.Packet.{Packet}
 use Rattle.packet.specs.declared.packet.Packet.TheVariants as packets
 use Rattle.session_base.specs.declared.publication.Publication.{Publication}
@@ -8,8 +7,8 @@ use Rattle.session_base.specs.declared.awaits.Awaits.{Awaits}
 use Rattle.session_base.specs.declared.awaits.Awaits.TheVariants as waits_for
 use Rattle.session_base.specs.Publication.{publish_of}
 use Rattle.session_base.specs.Identifiers.{has_id, least_free}
-use Rattle.session_base.specs.Queue.{Flight, ids_of, is_released, awaits_puback, awaits_pubrec, awaits_pubcomp, on_puback, on_pubrec, on_pubcomp, fill}
-use Rattle.session_base.specs.Sending.{fill_sends, resend}
+use Rattle.session_base.specs.Queue.{Flight, ids_of, fill}
+use Rattle.session_base.specs.Sending.{fill_sends}
 
 -- no identifier comes twice
 abbrev pub IsDistinct : List ℕ → Type 0
@@ -22,17 +21,6 @@ publications_of ((id, waits_for.Puback p) ∷ flights) = p ∷ publications_of f
 publications_of ((id, waits_for.Pubrec p) ∷ flights) = p ∷ publications_of flights
 publications_of ((id, waits_for.Pubcomp) ∷ flights) = publications_of flights
 publications_of [] = []
-
--- none of these is released
-abbrev pub NoneReleased : List Flight → Type 0
-NoneReleased (flight ∷ flights) = (is_released flight ≡ false) × NoneReleased flights
-NoneReleased [] = Unit {0}
-
--- the released entries come before all others
-abbrev pub IsReleasedFirst : List Flight → Type 0
-IsReleasedFirst (flight ∷ flights) =
-    ((is_released flight ≡ true) × IsReleasedFirst flights) ⊎ NoneReleased (flight ∷ flights)
-IsReleasedFirst [] = Unit {0}
 
 -- an entry that starts is sent with DUP 0
 abbrev pub first_sent : ℕ → Awaits → Packet
@@ -92,42 +80,3 @@ FillsJoin =
     (fill window first.in_flight (first.waiting ++ more) ≡ fill window flights (waiting ++ more))
     × (fill_sends window flights waiting ++ fill_sends window first.in_flight (first.waiting ++ more)
     ≡ fill_sends window flights (waiting ++ more))
-
--- ---- the client's answers
-
--- an answer for which no entry waits changes nothing
-abbrev pub OtherAnswersChangeNothing : Type 0
-OtherAnswersChangeNothing =
-    (id : ℕ) → (flights : List Flight) →
-    (list_any (awaits_puback id) flights ≡ false → on_puback id flights ≡ flights)
-    × (list_any (awaits_pubrec id) flights ≡ false → on_pubrec id flights ≡ flights)
-    × (list_any (awaits_pubcomp id) flights ≡ false → on_pubcomp id flights ≡ flights)
-
--- a second PUBREC changes nothing
-abbrev pub SecondPubrecChangesNothing : Type 0
-SecondPubrecChangesNothing =
-    (id : ℕ) → (flights : List Flight) → on_pubrec id (on_pubrec id flights) ≡ on_pubrec id flights
-
--- a released entry comes directly behind those that were released before
-abbrev pub ReleasedComesLast : Type 0
-ReleasedComesLast =
-    (id : ℕ) → (flights : List Flight) → list_any (awaits_pubrec id) flights ≡ true →
-    filter is_released (on_pubrec id flights) ≡ filter is_released flights ++ (id, waits_for.Pubcomp) ∷ []
-
--- ---- the order in flight
-
--- whatever happens, the released entries come first
-abbrev pub KeepsReleasedFirst : Type 0
-KeepsReleasedFirst =
-    (flights : List Flight) → IsReleasedFirst flights →
-    ((id : ℕ) → IsReleasedFirst (on_puback id flights)) × ((id : ℕ) → IsReleasedFirst (on_pubrec id flights))
-    × ((id : ℕ) → IsReleasedFirst (on_pubcomp id flights))
-    × ((window : ℕ) → (waiting : List Publication) → IsReleasedFirst (fill window flights waiting).in_flight)
-
--- a resending goes along the queue in its order, with PUBREL for a released entry and PUBLISH with DUP 1 for any other
-abbrev pub ResendsInOrder : Type 0
-ResendsInOrder =
-    ((flights others : List Flight) → resend (flights ++ others) ≡ resend flights ++ resend others)
-    × ((id : ℕ) → resend ((id, waits_for.Pubcomp) ∷ []) ≡ packets.Pubrel id ∷ [])
-    × ((id : ℕ) → (p : Publication) → resend ((id, waits_for.Puback p) ∷ []) ≡ packets.Publish (publish_of true id p) ∷ [])
-    × ((id : ℕ) → (p : Publication) → resend ((id, waits_for.Pubrec p) ∷ []) ≡ packets.Publish (publish_of true id p) ∷ [])

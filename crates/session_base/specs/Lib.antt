@@ -3,3 +3,4 @@ pub mod Identifiers
 pub mod Queue
 pub mod Sending
 pub mod Laws
+pub mod OrderLaws

@@ -1,19 +1,7 @@
 // Laws of a client's queue. The calls do nothing; their contracts are the laws.
 
-ghost use Rattle.session_base.specs.Laws.{
-  IsLeastFree,
-  FillKeepsApart,
-  FillIsDone,
-  FillStaysWithin,
-  FillKeepsOrder,
-  FillSendsWhatStarts,
-  FillsJoin,
-  OtherAnswersChangeNothing,
-  SecondPubrecChangesNothing,
-  ReleasedComesLast,
-  KeepsReleasedFirst,
-  ResendsInOrder,
-};
+ghost use Rattle.session_base.specs.Laws.{IsLeastFree, FillKeepsApart, FillIsDone, FillStaysWithin, FillKeepsOrder, FillSendsWhatStarts, FillsJoin};
+ghost use Rattle.session_base.specs.OrderLaws.{OtherAnswersChangeNothing, SecondPubrecChangesNothing, ReleasedComesLast, KeepsReleasedFirst, ResendsInOrder};
 
 /// A fill starts what waits in its order, with free identifiers, until nothing waits or the window
 /// is full; and it sends what it starts.

@@ -1,0 +1,5 @@
+use Rattle.broker_base.proofs.StatesStaySound.{stays_sound, lists_are_sound}
+use Rattle.broker_base.proofs.step_laws.states_stay_sound.Goals as goal
+
+pub returns : goal.returns
+returns c = record { step = stays_sound; lists = lists_are_sound }
