@@ -2,23 +2,14 @@
 -- agree.
 use Rattle.std.specs.Prelude.{ℕ, true, ◌+◌, ◌≡◌, ◌⊎◌, List, [], ◌∷◌, ◌++◌, length, take, slice_get, Option, Some, None}
 use Rattle.machine.specs.Machine.{Rules}
-use Rattle.ballot_base.specs.declared.message.Body.TheVariants.{Held}
-use Rattle.ballot_base.specs.declared.config.Config.{Config}
-use Rattle.ballot_base.specs.Replica.{ReplicaState}
-use Rattle.ballot_base.specs.Serving.{outputs_from}
+use Rattle.ballot.specs.Body.TheVariants.{Held}
+use Rattle.ballot.specs.Config.{Config}
+use Rattle.ballot.specs.Replica.{ReplicaState}
+use Rattle.ballot.specs.Serving.{outputs_from}
 use Rattle.master.specs.declared.event.Event.{Event}
 use Rattle.master.specs.Group.{World, outputs, can_open, opening_world}
 use Rattle.master.specs.Steps.{Happens}
-
--- one of a list
-pub data In {X : Type 0} (x : X) : List X → Type 0 where
-  here : {xs : List X} → In x (x ∷ xs)
-  there : {y : X} {xs : List X} → In x xs → In x (y ∷ xs)
-
--- a beginning of a list
-pub record IsPrefixOf {X : Type 0} (xs ys : List X) : Type 0 where
-  pub rest : List X
-  pub is : ys ≡ xs ++ rest
+use Rattle.lists.specs.Lists.{In, IsPrefixOf}
 
 -- the log of a node, if it is there
 abbrev pub log_of : {C : Type 0} → Option (ReplicaState C) → List C

@@ -1,9 +1,9 @@
 -- What a node reads of a connection, and how a connection ends (MQTT 3.1.4, 3.2, 4.8).
 use Rattle.std.specs.Prelude.{ℕ, if◌then◌else◌, List, Option, Some, None, Result, Ok, Err}
 use Rattle.std.specs.List.{find}
-use Rattle.packet_base.specs.declared.stop.Stop.{Stop}
-use Rattle.packet_base.specs.declared.stop.Stop.TheVariants as stops
-use Rattle.packet_base.specs.declared.refusal_code.RefusalCode.{RefusalCode}
+use Rattle.packet.specs.Stop.{Stop}
+use Rattle.packet.specs.Stop.TheVariants as stops
+use Rattle.packet.specs.RefusalCode.{RefusalCode}
 use Rattle.packet.specs.declared.packet.Packet.{Packet}
 use Rattle.packet.specs.declared.packet.Packet.TheVariants as packets
 use Rattle.packet.specs.declared.connect.Connect.{Connect}
@@ -15,7 +15,7 @@ use Rattle.world_base.specs.declared.item.Port.{Port}
 use Rattle.world_base.specs.declared.connection.Connection.{Connection}
 use Rattle.world_base.specs.Connections.{is_open_at, is_first, is_proposed, asked, closed, putting, changed}
 use Rattle.world_base.specs.Core.{CoreState, Turn}
-use Rattle.world_base.specs.Spelling.{spelling}
+use Rattle.packet.specs.Spelling.{spelling}
 use Rattle.world_base.specs.Turns.{quiet, proposes, has_room}
 
 abbrev pub open_at : Port → CoreState → Option Connection

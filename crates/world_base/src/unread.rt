@@ -5,8 +5,8 @@ ghost use Rattle.world_base.specs.Inside.{Reads};
 
 use crate::front::Front;
 use crate::piece::Piece;
+use ballot::Memory;
 use cutter::{CutError, Cutter};
-use machine::Memory;
 use packet::{DecodeFault, Packet};
 use std::alloc::Global;
 use std::marker::Model;
