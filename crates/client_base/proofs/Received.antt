@@ -106,7 +106,7 @@ stays_publish id p (deliveries.ExactlyOnce dup other) state e =
 
 stays_first : (id : ℕ) (packet : Packet) (state : ClientState) → has_id id state.received ≡ true → Stays id (Call.Receives packet) (on_first packet state)
 stays_first id (packets.Connack (connacks.Accepted false)) state e = inr (inr refl)
-stays_first id (packets.Connack (connacks.Accepted true)) state e = inl (either_state id (state.session == 0) _ state e e)
+stays_first id (packets.Connack (connacks.Accepted true)) state e = inl e
 stays_first id (packets.Connack (connacks.Refused code)) state e = inl e
 stays_first id _ state e = inl e
 

@@ -9,6 +9,7 @@ use Rattle.packet.specs.declared.packet.Packet.TheVariants as packets
 use Rattle.packet.specs.Delivery.{delivery_qos}
 use Rattle.session_base.specs.Publication.{is_acknowledged}
 use Rattle.session_base.specs.Identifiers.{has_id}
+use Rattle.client_base.specs.declared.accepted.Accepted.{Accepted}
 use Rattle.client_base.specs.declared.error.ClientError.{ClientError}
 use Rattle.client_base.specs.declared.kept_publication.KeptPublication.{KeptPublication}
 use Rattle.client_base.specs.declared.request.Request.{Request}
@@ -31,13 +32,14 @@ ending cause state = record { state = lost state; writes = []; refusal = Some ca
 
 -- ---- publications of others
 
+-- what is accepted of a PUBLISH, in the session of this number
+abbrev pub accepted_of : ℕ → Publish → Accepted
+accepted_of session p =
+    record { session = session; qos = delivery_qos p.delivery; retain = p.retain; topic = p.topic; payload = p.payload }
+
 -- the publication is accepted, in the session that lasts
 abbrev pub accepting : Publish → ClientState → ClientState
-accepting p state =
-    record state {
-      accepted = state.accepted
-          ++ record { session = state.session; qos = delivery_qos p.delivery; retain = p.retain; topic = p.topic; payload = p.payload } ∷ [];
-    }
+accepting p state = record state { accepted = state.accepted ++ accepted_of state.session p ∷ [] }
 
 -- QoS 0 and 1 are accepted each time, QoS 2 once while its identifier is kept (MQTT 4.3)
 abbrev pub on_publish : Publish → Delivery → ClientState → Turn

@@ -44,7 +44,7 @@ discarded state =
 
 -- the first session has number 1
 abbrev pub numbered : ClientState → ClientState
-numbered state = if state.session == 0 then record state { session = 1 } else state
+numbered state = record state { session = if state.session == 0 then 1 else state.session }
 
 -- CONNACK 0: what is kept goes out, then what was not sent yet (MQTT 3.2.2, 4.4)
 abbrev pub confirmed : Bool → ClientState → Turn

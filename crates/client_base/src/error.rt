@@ -3,7 +3,7 @@
 ghost use Rattle.std.specs.Prelude.{◌≡◌};
 ghost use Rattle.client_base.specs.Numbers.{client_number};
 
-use std::alloc::AllocError;
+use std::alloc::{AllocError, AllocFailed};
 use std::error::Error;
 use std::fmt;
 use topics::MalformedKind;
@@ -67,6 +67,16 @@ impl From<AllocError> for ClientError {
     ghost from_gives = { λ _ error. error ≡ Memory };
 
     fn from(_error: AllocError) -> ClientError {
+        ClientError::Memory
+    }
+}
+
+impl<T: Drop> From<AllocFailed<T>> for ClientError {
+    ghost use Rattle.client_base.specs.declared.error.ClientError.TheVariants.{Memory};
+
+    ghost from_gives = { λ _ error. error ≡ Memory };
+
+    fn from(_error: AllocFailed<T>) -> ClientError {
         ClientError::Memory
     }
 }
