@@ -3,7 +3,8 @@ use Rattle.std.proofs.Common.{◌≡◌, ℕ, ◌≤◌, ◌<◌, Bool, true, fa
 use Rattle.std.proofs.lemmas.Bool.{both_ways, cases_lt}
 use Rattle.std.specs.List.{list_any}
 use Rattle.std.proofs.lemmas.List.Folds.{list_any-append}
-use Rattle.session_base.specs.Identifiers.{has_id, least_free}
+use Rattle.lists.specs.Lists.{has_id}
+use Rattle.session_base.specs.Identifiers.{least_free}
 use Rattle.session_base.specs.Laws.{IsLeastFree}
 use Rattle.client_base.specs.State.{ClientState, id_of_request, ids_of_kept, used_ids}
 

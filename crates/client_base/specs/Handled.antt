@@ -7,7 +7,7 @@ use Rattle.packet.specs.declared.packet.Packet.{Packet}
 use Rattle.packet.specs.declared.packet.Packet.TheVariants as packets
 use Rattle.session_base.specs.declared.publication.Publication.{Publication}
 use Rattle.session_base.specs.Publication.{publication_of, is_acknowledged}
-use Rattle.session_base.specs.Identifiers.{has_id}
+use Rattle.lists.specs.Lists.{has_id}
 use Rattle.client_base.specs.declared.request.Request.{Request}
 use Rattle.client_base.specs.Answered.{without_id, is_subscribe, is_unsubscribe}
 use Rattle.client_base.specs.Keeper.{Own, Keeper, Side}
