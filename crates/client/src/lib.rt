@@ -12,5 +12,8 @@ mod readers;
 mod reading;
 mod writing;
 
-pub use client_base::{Accepted, ClientError};
+pub use client_base::{Accepted, ClientError, KeptPublication, Request, Stage};
 pub use client_core::ClientCore;
+
+#[cfg(test)]
+mod tests;

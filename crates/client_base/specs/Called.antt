@@ -63,23 +63,24 @@ abbrev pub unsubscribe_of : List ℕ → Keeper → Packet
 unsubscribe_of filter keeper =
     packets.Unsubscribe (record { id = least_free (ids_in_use keeper); filters = filter ∷ [] })
 
--- ---- the step: a call that is not refused, or a packet, on the connection that was opened last
+-- ---- the step: a call that is not refused, or a packet, on the connection that was opened last; one that it opens
+-- gets the fresh name
 
-abbrev pub keeper_goes : {Name : Type 0} → Call → Side Name → Side Name
-keeper_goes Call.Opens side = opened 0 side.connection.name side.keeper
-keeper_goes (Call.Publishes p) side =
+abbrev pub keeper_goes : {Name : Type 0} → Name → Call → Side Name → Side Name
+keeper_goes fresh Call.Opens side = opened 0 fresh side.keeper
+keeper_goes fresh (Call.Publishes p) side =
     record { keeper = adds_own p side.keeper; connection = writes (written_for p side.keeper) side.connection }
-keeper_goes (Call.Subscribes filter qos) side =
+keeper_goes fresh (Call.Subscribes filter qos) side =
     record {
       keeper = asks (requests.Subscribes (least_free (ids_in_use side.keeper))) side.keeper;
       connection = writes (plain (subscribe_of filter qos side.keeper) ∷ []) side.connection;
     }
-keeper_goes (Call.Unsubscribes filter) side =
+keeper_goes fresh (Call.Unsubscribes filter) side =
     record {
       keeper = asks (requests.Unsubscribes (least_free (ids_in_use side.keeper))) side.keeper;
       connection = writes (plain (unsubscribe_of filter side.keeper) ∷ []) side.connection;
     }
-keeper_goes (Call.Receives packet) side = handled packet side
-keeper_goes Call.Loses side = record side { keeper = lost side.keeper }
-keeper_goes Call.Disconnects side =
+keeper_goes fresh (Call.Receives packet) side = handled packet side
+keeper_goes fresh Call.Loses side = record side { keeper = lost side.keeper }
+keeper_goes fresh Call.Disconnects side =
     record { keeper = lost side.keeper; connection = writes (disconnects side.keeper) side.connection }

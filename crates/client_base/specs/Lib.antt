@@ -9,3 +9,4 @@ pub mod Written
 pub mod Handled
 pub mod Called
 pub mod History
+pub mod HistoryLaws
