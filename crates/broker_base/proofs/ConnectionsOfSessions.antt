@@ -73,7 +73,7 @@ pub nobodys_put : (y : ConnectionName) (c : Client) (kept : Kept) (rows : Sessio
 nobodys_put y c kept [] h k = (h, tt)
 nobodys_put y c kept (row ∷ rows) h k = by (by_bytes c row.0) (nobodys_put y c kept rows h k.1)
   where
-    by : (o : Ordering) → IsNobodys y (put_session c kept rows) → IsNobodys y (match_ordering o ((c, kept) ∷ row ∷ rows) ((c, kept) ∷ rows) (row ∷ put_session c kept rows))
+    by : (o : Ordering) → IsNobodys y (put_session c kept rows) → IsNobodys y (match_ordering o ((c, kept) ∷ row ∷ rows) ((row.0, kept) ∷ rows) (row ∷ put_session c kept rows))
     by Less more = (h, k)
     by Equal more = (h, k.1)
     by Greater more = (k.0, more)

@@ -12,10 +12,11 @@ use Rattle.broker_base.specs.KeptStep.{kept_on, kept_anew, kept_connected}
 use Rattle.broker_base.specs.State.{Sessions, State, keyed, session_in, put_session, owner_in}
 use Rattle.broker_base.specs.Decisions.{connect_mark_in, mark_in}
 use Rattle.broker_base.specs.Step.{session_after, sessions_left, sessions_with}
-use Rattle.broker_base.specs.StateLaws.{ComesBefore, AreByClient, IsNobodys, AreApart}
+use Rattle.broker_base.specs.StateLaws.{AreByClient, IsNobodys, AreApart}
 use Rattle.broker_base.specs.declared.command.Command.{Command}
 use Rattle.broker_base.specs.declared.command.Command.TheVariants as commands
-use Rattle.broker_base.proofs.SessionsStayByClient.{before_more, before_left, put_first}
+use Rattle.std.specs.List.Sorted.{IsStrictlySortedBy}
+use Rattle.broker_base.proofs.SessionsStayByClient.{ComesBefore, before_more, before_left, put_first}
 use Rattle.broker_base.proofs.ClientsInOrder.{equal_is}
 use Rattle.broker_base.proofs.ConnectionsOfSessions.{same_turned, nobodys_left, nobodys_put, OnOld, old_after, apart_keyed}
 use Rattle.broker_base.proofs.NoneOpensApart.{NoneOpens, nobodys_kept, apart_left}
@@ -39,6 +40,7 @@ other_opens x y clean false opened a is e h = absurd (let f : None ≡ Some a = 
 pub apart_put : (x : ConnectionName) (c : Client) (clean : Bool) (kept : Kept) (w : ℕ) (place : Place) (content : Content) (rows : Sessions) →
     ((d : Client) → accepts place.command place.mark d ≡ only_if (same_client c d) (Some (x, clean))) → kept.connection ≡ Some x →
     AreByClient rows → AreApart rows → IsNobodys x rows → AreApart (put_session c kept (sessions_left w place content rows))
+unfolding IsStrictlySortedBy
 apart_put x c clean kept w place content [] is on by_client apart nobodys = (λ y e. tt, tt)
 apart_put x c clean kept w place content (row ∷ rows) is on by_client apart nobodys =
     by (by_bytes c row.0) refl (apart_put x c clean kept w place content rows is on by_client.1 apart.1 nobodys.1)
@@ -61,14 +63,14 @@ apart_put x c clean kept w place content (row ∷ rows) is on by_client apart no
         AreApart (put_session c kept (keyed row.0 o (sessions_left w place content rows)))
     replaced e None before k = k
     replaced e (Some other) before k =
-        subst (λ (o : Ordering). AreApart (match_ordering o ((c, kept) ∷ (row.0, other) ∷ sessions_left w place content rows) ((c, kept) ∷ sessions_left w place content rows) ((row.0, other) ∷ put_session c kept (sessions_left w place content rows)))) (sym e)
+        subst (λ (o : Ordering). AreApart (match_ordering o ((c, kept) ∷ (row.0, other) ∷ sessions_left w place content rows) ((row.0, kept) ∷ sessions_left w place content rows) ((row.0, other) ∷ put_session c kept (sessions_left w place content rows)))) (sym e)
         (subst AreApart (put_first c kept (sessions_left w place content rows) (before_left c w place content rows before)) k)
 
     behind : by_bytes c row.0 ≡ Greater → (o : Option Kept) → OnOld row.1.connection o → AreApart (put_session c kept (sessions_left w place content rows)) →
         AreApart (put_session c kept (keyed row.0 o (sessions_left w place content rows)))
     behind e None old k = k
     behind e (Some other) old k =
-        subst (λ (o : Ordering). AreApart (match_ordering o ((c, kept) ∷ (row.0, other) ∷ sessions_left w place content rows) ((c, kept) ∷ sessions_left w place content rows) ((row.0, other) ∷ put_session c kept (sessions_left w place content rows)))) (sym e)
+        subst (λ (o : Ordering). AreApart (match_ordering o ((c, kept) ∷ (row.0, other) ∷ sessions_left w place content rows) ((row.0, kept) ∷ sessions_left w place content rows) ((row.0, other) ∷ put_session c kept (sessions_left w place content rows)))) (sym e)
         (apart_keyed row.1.connection row.0 (Some other) (put_session c kept (sessions_left w place content rows)) old
         (λ y on_y. let apart_y : same_connection y x ≡ false = same_turned y x ∙ sym (ap (any_connection (same_connection x)) on_y) ∙ nobodys.0 in
         nobodys_put y c kept (sessions_left w place content rows) (ap (any_connection (same_connection y)) on ∙ apart_y)

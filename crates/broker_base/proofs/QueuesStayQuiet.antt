@@ -83,7 +83,7 @@ quiet_put : (w : ℕ) (c : Client) (kept : Kept) (rows : Sessions) → IsQuiet w
 quiet_put w c kept [] h k = (h, tt)
 quiet_put w c kept (row ∷ rows) h k = by (by_bytes c row.0) (quiet_put w c kept rows h k.1)
   where
-    by : (o : Ordering) → AllQuiet w (put_session c kept rows) → AllQuiet w (match_ordering o ((c, kept) ∷ row ∷ rows) ((c, kept) ∷ rows) (row ∷ put_session c kept rows))
+    by : (o : Ordering) → AllQuiet w (put_session c kept rows) → AllQuiet w (match_ordering o ((c, kept) ∷ row ∷ rows) ((row.0, kept) ∷ rows) (row ∷ put_session c kept rows))
     by Less more = (h, k)
     by Equal more = (h, k.1)
     by Greater more = (k.0, more)

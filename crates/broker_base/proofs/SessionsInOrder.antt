@@ -62,7 +62,7 @@ put_above c kept f (d ∷ ds) h = by (f d) (put_above c kept f ds h.1)
   where
     by : (o : Option Kept) → put_session c kept (table f ds) ≡ (c, kept) ∷ table f ds → put_session c kept (keyed d o (table f ds)) ≡ (c, kept) ∷ keyed d o (table f ds)
     by None e = e
-    by (Some other) e = ap (λ o. match_ordering o ((c, kept) ∷ (d, other) ∷ table f ds) ((c, kept) ∷ table f ds) ((d, other) ∷ put_session c kept (table f ds))) h.0
+    by (Some other) e = ap (λ o. match_ordering o ((c, kept) ∷ (d, other) ∷ table f ds) ((d, kept) ∷ table f ds) ((d, other) ∷ put_session c kept (table f ds))) h.0
 
 table_above : (f g : Client → Option Kept) (c : Client) (ds : List Client) → ((d : Client) → same_client c d ≡ false → f d ≡ g d) → IsAbove c ds → table f ds ≡ table g ds
 table_above f g c [] same h = refl
@@ -78,7 +78,9 @@ put_is f g c kept (d ∷ ds) is same h = by (by_bytes c d) refl (put_is f g c ke
       where
         at : (o : Option Kept) → put_session c kept (keyed d o (table g ds)) ≡ (c, kept) ∷ table g ds
         at None = put_above c kept g ds (subst (λ (b : Client). IsAbove b ds) (sym (equal_is c d e)) h.0)
-        at (Some other) = ap (λ o. match_ordering o ((c, kept) ∷ (d, other) ∷ table g ds) ((c, kept) ∷ table g ds) ((d, other) ∷ put_session c kept (table g ds))) e
+        at (Some other) =
+            ap (λ o. match_ordering o ((c, kept) ∷ (d, other) ∷ table g ds) ((d, kept) ∷ table g ds) ((d, other) ∷ put_session c kept (table g ds))) e
+            ∙ ap (λ b. (b, kept) ∷ table g ds) (sym (equal_is c d e))
 
     greater : by_bytes c d ≡ Greater → table f (insert_client c ds) ≡ put_session c kept (table g ds) →
         keyed d (f d) (table f (insert_client c ds)) ≡ put_session c kept (keyed d (g d) (table g ds))
@@ -86,7 +88,7 @@ put_is f g c kept (d ∷ ds) is same h = by (by_bytes c d) refl (put_is f g c ke
       where
         at : (o : Option Kept) → put_session c kept (keyed d o (table g ds)) ≡ keyed d o (put_session c kept (table g ds))
         at None = refl
-        at (Some other) = ap (λ o. match_ordering o ((c, kept) ∷ (d, other) ∷ table g ds) ((c, kept) ∷ table g ds) ((d, other) ∷ put_session c kept (table g ds))) e
+        at (Some other) = ap (λ o. match_ordering o ((c, kept) ∷ (d, other) ∷ table g ds) ((d, kept) ∷ table g ds) ((d, other) ∷ put_session c kept (table g ds))) e
 
     by : (o : Ordering) → by_bytes c d ≡ o → table f (insert_client c ds) ≡ put_session c kept (table g ds) →
         table f (match_ordering o (c ∷ d ∷ ds) (d ∷ ds) (d ∷ insert_client c ds)) ≡ put_session c kept (keyed d (g d) (table g ds))

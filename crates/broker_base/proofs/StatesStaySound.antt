@@ -1,5 +1,6 @@
 -- A step keeps a state sound, and so the state of every list of commands is.
 use Rattle.std.proofs.Common.{ℕ, List, [], ◌∷◌, refl}
+use Rattle.std.specs.List.Sorted.{IsStrictlySortedBy}
 use Rattle.broker_base.specs.Place.{Limits}
 use Rattle.broker_base.specs.State.{State, empty_state}
 use Rattle.broker_base.specs.Decisions.{place_in, mark_in}
@@ -22,4 +23,5 @@ sound_from limits later state [] s = s
 sound_from limits later state (command ∷ commands) s = sound_from limits later (step limits later state command).0 commands (stays_sound limits later state command s)
 
 pub lists_are_sound : ListsAreSound
+unfolding IsStrictlySortedBy
 lists_are_sound limits later window commands = sound_from limits later (empty_state window) commands (record { by_client = tt; apart = tt; quiet = tt })

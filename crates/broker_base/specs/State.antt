@@ -1,9 +1,10 @@
 -- What a broker keeps of all its clients, and what a past says that it is (MQTT 4.1).
 use Rattle.std.specs.Prelude.{ℕ, if◌then◌else◌, List, [], ◌∷◌, Option, Some, None}
-use Rattle.std.specs.Ordering.{match_ordering}
+use Rattle.std.specs.BTreeMap.{insert_entry, is_at}
+use Rattle.std.specs.Map.{lookup}
 use Rattle.retained.specs.Retained.{Content}
 use Rattle.broker_base.specs.Connection.{ConnectionName, same_connection}
-use Rattle.broker_base.specs.Place.{Client, by_bytes, same_client, Past, Limits}
+use Rattle.broker_base.specs.Place.{Client, by_bytes, Past, Limits}
 use Rattle.broker_base.specs.Past.{any_connection}
 use Rattle.broker_base.specs.Owner.{named}
 use Rattle.broker_base.specs.Retained.{retained_publications}
@@ -38,14 +39,11 @@ table session [] = []
 
 -- the session of a client
 abbrev pub session_in : Client → Sessions → Option Kept
-session_in c (row ∷ rows) = if same_client c row.0 then Some row.1 else session_in c rows
-session_in c [] = None
+session_in c rows = lookup (is_at (by_bytes c)) rows
 
 -- a client's session in the place of the one that it had, or in its place by bytes
 abbrev pub put_session : Client → Kept → Sessions → Sessions
-put_session c kept (row ∷ rows) =
-    match_ordering (by_bytes c row.0) ((c, kept) ∷ row ∷ rows) ((c, kept) ∷ rows) (row ∷ put_session c kept rows)
-put_session c kept [] = (c, kept) ∷ []
+put_session c kept rows = insert_entry by_bytes rows c kept
 
 -- the session whose current connection x is, with its client
 abbrev pub owner_in : ConnectionName → Sessions → Option (Client × Kept)

@@ -1,8 +1,9 @@
 -- What the sessions of a state meet, and a step keeps: quiet queues, and a connection of one session at most.
-use Rattle.std.specs.declared.cmp.Ordering.TheVariants.{Less}
 use Rattle.std.specs.Prelude.{◌≡◌, ℕ, ◌≤◌, ◌⊎◌, false, List, [], ◌∷◌, length, Some, None}
+use Rattle.std.specs.List.Sorted.{IsStrictlySortedBy}
+use Rattle.std.specs.Map.{keys_of}
 use Rattle.broker_base.specs.Connection.{ConnectionName, same_connection}
-use Rattle.broker_base.specs.Place.{Client, by_bytes, Limits}
+use Rattle.broker_base.specs.Place.{by_bytes, Limits}
 use Rattle.broker_base.specs.Past.{any_connection}
 use Rattle.broker_base.specs.Kept.{Kept}
 use Rattle.broker_base.specs.State.{Sessions, State, empty_state}
@@ -18,15 +19,9 @@ abbrev pub AllQuiet : ℕ → Sessions → Type 0
 AllQuiet window (row ∷ rows) = IsQuiet window row.1 × AllQuiet window rows
 AllQuiet window [] = Unit {0}
 
--- the client comes before each of these by its bytes
-abbrev pub ComesBefore : Client → Sessions → Type 0
-ComesBefore c (row ∷ rows) = (by_bytes c row.0 ≡ Less) × ComesBefore c rows
-ComesBefore c [] = Unit {0}
-
 -- the sessions come by the bytes of their clients, each client once
 abbrev pub AreByClient : Sessions → Type 0
-AreByClient (row ∷ rows) = ComesBefore row.0 rows × AreByClient rows
-AreByClient [] = Unit {0}
+AreByClient rows = IsStrictlySortedBy by_bytes (keys_of rows)
 
 -- x is the connection of none of these
 abbrev pub IsNobodys : ConnectionName → Sessions → Type 0
