@@ -1,7 +1,7 @@
 -- After one more command what is kept of a client's session is the step of what was kept before, for every place.
 use Rattle.std.proofs.Common.{◌≡◌, ℕ, zero, suc, Bool, true, false, not, ◌&&◌, ◌||◌, if◌then◌else◌, Option, Some, None, List, [], ◌∷◌, ◌++◌, length, map, refl, ap, ◌∙◌}
 use Rattle.std.specs.Prelude.{option_map}
-use Rattle.packet.specs.declared.subscribe.Subscription.{Subscription}
+use Rattle.session_base.specs.Subscriptions.{HeldFilter}
 use Rattle.retained.specs.Retained.{Content}
 use Rattle.session_base.specs.declared.publication.Publication.{Publication}
 use Rattle.broker_base.specs.Connection.{ConnectionName}
@@ -22,7 +22,7 @@ use Rattle.broker_base.proofs.QueueAfter.{sound_entries, queue_after, copies_are
 -- ---- the record
 
 -- what is kept, of plain values
-abbrev pub kept_with : ℕ → Option Bool → Option ConnectionName → List Subscription → List ℕ → List Entry → Option Kept
+abbrev pub kept_with : ℕ → Option Bool → Option ConnectionName → List HeldFilter → List ℕ → List Entry → Option Kept
 kept_with n session connection held ids es =
     option_map (λ clean. record { clean = clean; connection = connection; subscriptions = held; received = ids; queue = queue_of n es }) session
 
@@ -45,7 +45,7 @@ anew : (n : ℕ) (opened : ConnectionName × Bool) → kept_with n (Some opened.
 anew n opened = ap (λ ids. Some (record { clean = opened.1; connection = Some opened.0; subscriptions = []; received = []; queue = record { in_flight = map released_flight ids ++ []; waiting = [] } })) (none_in_flight n)
 
 -- the place's values, from those below
-abbrev pub kept_next : ℕ → Place → ℕ → Client → Option (ConnectionName × Bool) → Option Bool → Option ConnectionName → List Subscription → List ℕ → List Entry → List Publication → Option Kept
+abbrev pub kept_next : ℕ → Place → ℕ → Client → Option (ConnectionName × Bool) → Option Bool → Option ConnectionName → List HeldFilter → List ℕ → List Entry → List Publication → Option Kept
 kept_next w place n c opened session connection held ids es ps =
     kept_with (suc n) (newest_session opened (ends_any place connection) session) (newest_connection opened (ends_any place connection) connection)
     (in_session (newest_session opened (ends_any place connection) session) (is_beginning opened session) [] (subscribed place.command place.mark c held))
@@ -54,7 +54,7 @@ kept_next w place n c opened session connection held ids es ps =
     (started w n (newest_connection opened (ends_any place connection) connection) (answered_by place.command place.mark n c es ++ map (Entry.Waits n) ps)))
 
 next_is : (w : ℕ) (place : Place) (content : Content) (n : ℕ) (c : Client) (opened : Option (ConnectionName × Bool)) (session : Option Bool) (connection : Option ConnectionName)
-    (held : List Subscription) (ids : List ℕ) (es : List Entry) → Sound n es →
+    (held : List HeldFilter) (ids : List ℕ) (es : List Entry) → Sound n es →
     kept_next w place n c opened session connection held ids es (queued (copies_with place.command place.mark content c held))
     ≡ kept_by w place content c opened (kept_with n session connection held ids es)
 next_is w place content n c None None connection held ids es s = refl

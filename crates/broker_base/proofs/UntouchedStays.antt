@@ -1,7 +1,7 @@
 -- What a command is not about stays, of plain values.
 use Rattle.std.proofs.Common.{◌≡◌, ℕ, Bool, true, false, not, ◌&&◌, if◌then◌else◌, Option, Some, None, List, [], ◌∷◌, ◌++◌, refl, ap, ap₂, ◌∙◌}
 use Rattle.std.proofs.lemmas.Bool.{or_parts}
-use Rattle.packet.specs.declared.subscribe.Subscription.{Subscription}
+use Rattle.session_base.specs.Subscriptions.{HeldFilter, granted_qos}
 use Rattle.packet.specs.declared.packet.Packet.TheVariants as packets
 use Rattle.retained.specs.Retained.{Content}
 use Rattle.session_base.specs.declared.publication.Publication.{Publication}
@@ -12,7 +12,7 @@ use Rattle.broker_base.specs.Past.{accepts, ends, ends_any}
 use Rattle.session_base.specs.Publication.{publication_of, lower_qos}
 use Rattle.packet.specs.declared.qos.QoS.{QoS}
 use Rattle.std.specs.Prelude.{option_map, is_some}
-use Rattle.broker_base.specs.Subscriptions.{granted_qos, subscribed}
+use Rattle.broker_base.specs.Subscriptions.{subscribed}
 use Rattle.broker_base.specs.Received.{received_by}
 use Rattle.broker_base.specs.Entries.{copy_of, queued}
 use Rattle.broker_base.specs.Times.{window_at}
@@ -30,27 +30,27 @@ if_no : {A : Type 0} (b : Bool) (x y : A) → b ≡ false → (if b then x else 
 if_no true x y e = absurd (cc)
 if_no false x y e = refl
 
-pub not_opened : (command : Command) (mark : Mark) (c : Client) (held : List Subscription) → is_about command mark c held ≡ false → accepts command mark c ≡ None
+pub not_opened : (command : Command) (mark : Mark) (c : Client) (held : List HeldFilter) → is_about command mark c held ≡ false → accepts command mark c ≡ None
 not_opened (commands.Connect x d clean) Mark.Accepted c held e = ap (λ b. only_if b (Some (x, clean))) e
 not_opened _ _ c held e = refl
 
-subscribed_same : (command : Command) (mark : Mark) (c : Client) (held : List Subscription) → is_about command mark c held ≡ false → subscribed command mark c held ≡ held
+subscribed_same : (command : Command) (mark : Mark) (c : Client) (held : List HeldFilter) → is_about command mark c held ≡ false → subscribed command mark c held ≡ held
 subscribed_same (commands.Packet x (packets.Subscribe s)) (Mark.Granted d which) c held e = if_no (same_client d c) _ held e
 subscribed_same (commands.Packet x (packets.Unsubscribe u)) (Mark.Handled d) c held e = if_no (same_client d c) _ held e
 subscribed_same _ _ c held e = refl
 
-received_same : (command : Command) (mark : Mark) (c : Client) (held : List Subscription) (ids : List ℕ) → is_about command mark c held ≡ false → received_by command mark c ids ≡ ids
+received_same : (command : Command) (mark : Mark) (c : Client) (held : List HeldFilter) (ids : List ℕ) → is_about command mark c held ≡ false → received_by command mark c ids ≡ ids
 received_same (commands.Packet x (packets.Publish p)) (Mark.Taken d) c held ids e = if_no (same_client d c) _ ids (or_parts (same_client d c) (is_some (granted_qos p.topic held)) e).0
 received_same (commands.Packet x (packets.Pubrel id)) (Mark.Handled d) c held ids e = if_no (same_client d c) _ ids e
 received_same _ _ c held ids e = refl
 
-answered_same : (command : Command) (mark : Mark) (c : Client) (held : List Subscription) (fs : List Flight) → is_about command mark c held ≡ false → answered_flights command mark c fs ≡ fs
+answered_same : (command : Command) (mark : Mark) (c : Client) (held : List HeldFilter) (fs : List Flight) → is_about command mark c held ≡ false → answered_flights command mark c fs ≡ fs
 answered_same (commands.Packet x (packets.Puback i)) (Mark.Handled d) c held fs e = if_no (same_client d c) _ fs e
 answered_same (commands.Packet x (packets.Pubrec i)) (Mark.Handled d) c held fs e = if_no (same_client d c) _ fs e
 answered_same (commands.Packet x (packets.Pubcomp i)) (Mark.Handled d) c held fs e = if_no (same_client d c) _ fs e
 answered_same _ _ c held fs e = refl
 
-no_copies : (command : Command) (mark : Mark) (content : Content) (c : Client) (held : List Subscription) → is_about command mark c held ≡ false → copies_with command mark content c held ≡ []
+no_copies : (command : Command) (mark : Mark) (content : Content) (c : Client) (held : List HeldFilter) → is_about command mark c held ≡ false → copies_with command mark content c held ≡ []
 no_copies (commands.Packet x (packets.Publish p)) (Mark.Taken d) content c held e =
     none (granted_qos p.topic held) (or_parts (same_client d c) (is_some (granted_qos p.topic held)) e).1
   where
@@ -76,7 +76,7 @@ queue_stays w None fs ms quiet = refl
 queue_stays w (Some x) fs ms quiet = quiet_filled w fs ms (quiet x refl)
 
 -- what is kept, with these parts
-abbrev pub parts : ℕ → Kept → Bool → List Subscription → List ℕ → List Flight → List Publication → Option Kept
+abbrev pub parts : ℕ → Kept → Bool → List HeldFilter → List ℕ → List Flight → List Publication → Option Kept
 parts w kept over held ids fs ms =
     only_if (not (kept.clean && over))
     (Some (record {

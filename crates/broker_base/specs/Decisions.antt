@@ -11,7 +11,7 @@ use Rattle.session_base.specs.Publication.{publication_of, lower_qos}
 use Rattle.session_base.specs.Identifiers.{has_id}
 use Rattle.session_base.specs.Queue.{room}
 use Rattle.broker_base.specs.Place.{Client, Mark, Place, Limits}
-use Rattle.broker_base.specs.Subscriptions.{granted_qos}
+use Rattle.session_base.specs.Subscriptions.{granted_qos}
 use Rattle.broker_base.specs.Marks.{is_queued_at, grants}
 use Rattle.broker_base.specs.Kept.{Kept}
 use Rattle.broker_base.specs.State.{State, session_in, owner_in}

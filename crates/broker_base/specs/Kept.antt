@@ -1,6 +1,6 @@
 -- What a broker keeps of one client's session, and what a past says that it is (MQTT 3.1.2.4, 4.1, 4.4).
 use Rattle.std.specs.Prelude.{ℕ, Bool, List, [], ◌∷◌, ◌++◌, length, map, Option, option_map}
-use Rattle.packet.specs.declared.subscribe.Subscription.{Subscription}
+use Rattle.session_base.specs.Subscriptions.{HeldFilter}
 use Rattle.session_base.specs.declared.awaits.Awaits.TheVariants as waits_for
 use Rattle.session_base.specs.Queue.{Flight, Queue, awaited}
 use Rattle.broker_base.specs.Connection.{ConnectionName}
@@ -16,7 +16,7 @@ use Rattle.broker_base.specs.Times.{entries_of}
 pub record Kept : Type 0 where
   pub clean : Bool
   pub connection : Option ConnectionName
-  pub subscriptions : List Subscription
+  pub subscriptions : List HeldFilter
   pub received : List ℕ  -- identifiers of QoS 2 publications without a PUBREL
   pub queue : Queue
 

@@ -1,15 +1,15 @@
 -- What one more command makes of a client's session (MQTT 3.1.2.4, 3.1.4, 3.3.5, 3.8.4, 4.3, 4.4, 4.6).
 use Rattle.std.specs.Prelude.{ℕ, Bool, not, ◌&&◌, ◌||◌, if◌then◌else◌, List, [], ◌++◌, Option, Some, None, option_map}
-use Rattle.packet.specs.declared.subscribe.Subscription.{Subscription}
 use Rattle.packet.specs.declared.packet.Packet.TheVariants as packets
 use Rattle.retained.specs.Retained.{Content}
 use Rattle.session_base.specs.declared.publication.Publication.{Publication}
 use Rattle.session_base.specs.Publication.{publication_of, lower_qos}
+use Rattle.session_base.specs.Subscriptions.{HeldFilter, granted_qos}
 use Rattle.session_base.specs.Queue.{Flight, Queue, empty_queue, on_puback, on_pubrec, on_pubcomp, fill}
 use Rattle.broker_base.specs.Connection.{ConnectionName}
 use Rattle.broker_base.specs.Place.{Client, same_client, Mark, Place, only_if}
 use Rattle.broker_base.specs.Past.{accepts, ends_any}
-use Rattle.broker_base.specs.Subscriptions.{granted_of, granted_qos, subscribed}
+use Rattle.broker_base.specs.Subscriptions.{granted_of, subscribed}
 use Rattle.broker_base.specs.Received.{received_by}
 use Rattle.broker_base.specs.Entries.{copy_of, copies_for_all, queued}
 use Rattle.broker_base.specs.Kept.{Kept}
@@ -17,7 +17,7 @@ use Rattle.broker_base.specs.declared.command.Command.{Command}
 use Rattle.broker_base.specs.declared.command.Command.TheVariants as commands
 
 -- the copies that a command makes for a session with these subscriptions
-abbrev pub copies_with : Command → Mark → Content → Client → List Subscription → List Publication
+abbrev pub copies_with : Command → Mark → Content → Client → List HeldFilter → List Publication
 copies_with (commands.Packet x (packets.Publish p)) (Mark.Taken d) content c held =
     copy_of (publication_of p) (option_map (lower_qos (publication_of p).qos) (granted_qos (publication_of p).topic held))
 copies_with (commands.Packet x (packets.Subscribe s)) (Mark.Granted d which) content c held =

@@ -1,11 +1,10 @@
 -- The broker's step: the state and the answers after one more command (MQTT 3.1.4, 3.3.1.3, 4.1, 4.3, 4.4).
 use Rattle.std.specs.Prelude.{◌≡◌, ℕ, Bool, false, ◌||◌, if◌then◌else◌, List, [], ◌∷◌, Option, Some, is_some}
-use Rattle.packet.specs.declared.subscribe.Subscription.{Subscription}
 use Rattle.packet.specs.declared.packet.Packet.TheVariants as packets
 use Rattle.retained.specs.Retained.{Content}
 use Rattle.broker_base.specs.Place.{Client, same_client, Mark, Place, Past, Limits}
 use Rattle.broker_base.specs.Past.{ends_any}
-use Rattle.broker_base.specs.Subscriptions.{granted_qos}
+use Rattle.session_base.specs.Subscriptions.{HeldFilter, granted_qos}
 use Rattle.broker_base.specs.Retained.{retained_by}
 use Rattle.broker_base.specs.Commands.{is_start}
 use Rattle.broker_base.specs.Kept.{Kept}
@@ -19,7 +18,7 @@ use Rattle.broker_base.specs.declared.command.Answer.{Answer}
 
 -- Whether a command is about this client's session with these subscriptions, apart from the end of its
 -- connection: its client sent it, or a taken publication matches one of them.
-abbrev pub is_about : Command → Mark → Client → List Subscription → Bool
+abbrev pub is_about : Command → Mark → Client → List HeldFilter → Bool
 is_about (commands.Connect x d clean) Mark.Accepted c held = same_client d c
 is_about (commands.Packet x (packets.Publish p)) (Mark.Taken d) c held =
     same_client d c || is_some (granted_qos p.topic held)

@@ -1,5 +1,6 @@
 pub mod Publication
 pub mod Identifiers
+pub mod Subscriptions
 pub mod Queue
 pub mod Sending
 pub mod Laws
