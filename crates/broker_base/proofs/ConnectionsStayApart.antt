@@ -7,8 +7,8 @@ use Rattle.retained.specs.Retained.{Content}
 use Rattle.broker_base.specs.Connection.{ConnectionName, same_connection}
 use Rattle.broker_base.specs.Place.{Client, by_bytes, same_client, Mark, Place, Limits, only_if}
 use Rattle.broker_base.specs.Past.{accepts, any_connection}
-use Rattle.broker_base.specs.Kept.{Kept}
-use Rattle.broker_base.specs.KeptStep.{kept_on, kept_anew, kept_connected}
+use Rattle.broker_base.specs.ClientSession.{ClientSession}
+use Rattle.broker_base.specs.SessionStep.{kept_on, kept_anew, kept_connected}
 use Rattle.broker_base.specs.State.{Sessions, State, keyed, session_in, put_session, owner_in}
 use Rattle.broker_base.specs.Decisions.{connect_mark_in, mark_in}
 use Rattle.broker_base.specs.Step.{session_after, sessions_left, sessions_with}
@@ -37,7 +37,7 @@ other_opens x y clean true opened a is e h = ap (same_connection y) (ap_first (s
     ap_first f = cc
 other_opens x y clean false opened a is e h = absurd (let f : None ≡ Some a = sym is ∙ e in cc)
 
-pub apart_put : (x : ConnectionName) (c : Client) (clean : Bool) (kept : Kept) (w : ℕ) (place : Place) (content : Content) (rows : Sessions) →
+pub apart_put : (x : ConnectionName) (c : Client) (clean : Bool) (kept : ClientSession) (w : ℕ) (place : Place) (content : Content) (rows : Sessions) →
     ((d : Client) → accepts place.command place.mark d ≡ only_if (same_client c d) (Some (x, clean))) → kept.connection ≡ Some x →
     AreByClient rows → AreApart rows → IsNobodys x rows → AreApart (put_session c kept (sessions_left w place content rows))
 unfolding IsStrictlySortedBy
@@ -59,14 +59,14 @@ apart_put x c clean kept w place content (row ∷ rows) is on by_client apart no
           apart_left w place content others (none_opens x c clean place others is before) others_apart,
         )
 
-    replaced : by_bytes c row.0 ≡ Equal → (o : Option Kept) → ComesBefore c rows → AreApart (put_session c kept (sessions_left w place content rows)) →
+    replaced : by_bytes c row.0 ≡ Equal → (o : Option ClientSession) → ComesBefore c rows → AreApart (put_session c kept (sessions_left w place content rows)) →
         AreApart (put_session c kept (keyed row.0 o (sessions_left w place content rows)))
     replaced e None before k = k
     replaced e (Some other) before k =
         subst (λ (o : Ordering). AreApart (match_ordering o ((c, kept) ∷ (row.0, other) ∷ sessions_left w place content rows) ((row.0, kept) ∷ sessions_left w place content rows) ((row.0, other) ∷ put_session c kept (sessions_left w place content rows)))) (sym e)
         (subst AreApart (put_first c kept (sessions_left w place content rows) (before_left c w place content rows before)) k)
 
-    behind : by_bytes c row.0 ≡ Greater → (o : Option Kept) → OnOld row.1.connection o → AreApart (put_session c kept (sessions_left w place content rows)) →
+    behind : by_bytes c row.0 ≡ Greater → (o : Option ClientSession) → OnOld row.1.connection o → AreApart (put_session c kept (sessions_left w place content rows)) →
         AreApart (put_session c kept (keyed row.0 o (sessions_left w place content rows)))
     behind e None old k = k
     behind e (Some other) old k =
@@ -94,11 +94,11 @@ owner_none x (row ∷ rows) e =
       | false ↦ λ same f. (same, owner_none x rows f)
     ] refl e
 
-accepted_none : (limits : Limits) (state : State) (c : Client) (owner : Option (Client × Kept)) → Mark.Accepted ≡ connect_mark_in limits state c owner → owner ≡ None
+accepted_none : (limits : Limits) (state : State) (c : Client) (owner : Option (Client × ClientSession)) → Mark.Accepted ≡ connect_mark_in limits state c owner → owner ≡ None
 accepted_none limits state c None e = refl
 accepted_none limits state c (Some row) e = absurd (cc)
 
-on_opened : (w : ℕ) (place : Place) (content : Content) (c : Client) (opened : ConnectionName × Bool) (old : Option Kept) → (kept_connected w place content c opened old).connection ≡ Some opened.0
+on_opened : (w : ℕ) (place : Place) (content : Content) (c : Client) (opened : ConnectionName × Bool) (old : Option ClientSession) → (kept_connected w place content c opened old).connection ≡ Some opened.0
 on_opened w place content c opened None = refl
 on_opened w place content c opened (Some old) =
     elim (opened.1 || old.clean) as (λ (b : Bool). (if b then kept_anew opened else kept_on w place content c opened.1 (Some opened.0) old).connection ≡ Some opened.0) [ true ↦ refl | false ↦ refl ]

@@ -10,7 +10,7 @@ use Rattle.session_base.specs.Queue.{Flight, is_pubrec, awaits_pubrec, is_releas
 use Rattle.broker_base.specs.Entries.{Entry}
 use Rattle.broker_base.specs.Readings.{released_below, busy_ids}
 use Rattle.broker_base.specs.Times.{at_pubrec}
-use Rattle.broker_base.specs.Kept.{sent_flights, released_flight, flights_below}
+use Rattle.broker_base.specs.ClientSession.{sent_flights, released_flight, flights_below}
 use Rattle.session_base.proofs.CountedIdentifiers.{one_if, count}
 use Rattle.broker_base.proofs.SoundEntries.{Sound}
 use Rattle.broker_base.proofs.IdentifiersInFlight.{append_none}

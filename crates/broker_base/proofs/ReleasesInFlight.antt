@@ -5,7 +5,7 @@ use Rattle.session_base.specs.Queue.{Flight, awaited, awaits_pubrec, ids_of}
 use Rattle.broker_base.specs.Entries.{Entry}
 use Rattle.broker_base.specs.Readings.{released_at, released_below}
 use Rattle.broker_base.specs.Times.{at_pubrec}
-use Rattle.broker_base.specs.Kept.{sent_flights, released_flight, flights_below}
+use Rattle.broker_base.specs.ClientSession.{sent_flights, released_flight, flights_below}
 use Rattle.broker_base.proofs.SoundEntries.{IsBelow}
 use Rattle.broker_base.proofs.IdentifiersInFlight.{append_none}
 use Rattle.broker_base.proofs.WhatFlightsAwait.{filter_out, awaits_pubrec_is}

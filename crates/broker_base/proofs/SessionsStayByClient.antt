@@ -9,8 +9,8 @@ use Rattle.std.specs.Map.{keys_of}
 use Rattle.std.proofs.lemmas.Cmp.{nat_list_cmp_total}
 use Rattle.retained.specs.Retained.{Content}
 use Rattle.broker_base.specs.Place.{Client, by_bytes, Mark, Place}
-use Rattle.broker_base.specs.Kept.{Kept}
-use Rattle.broker_base.specs.KeptStep.{kept_connected}
+use Rattle.broker_base.specs.ClientSession.{ClientSession}
+use Rattle.broker_base.specs.SessionStep.{kept_connected}
 use Rattle.broker_base.specs.State.{Sessions, keyed, session_in, put_session}
 use Rattle.broker_base.specs.Step.{session_after, sessions_left, sessions_with}
 use Rattle.broker_base.specs.StateLaws.{AreByClient}
@@ -26,7 +26,7 @@ pub before_more : (b c : Client) (rows : Sessions) → by_bytes b c ≡ Less →
 before_more b c [] less h = tt
 before_more b c (row ∷ rows) less h = (nat_list_cmp_total.trans b c row.0 less h.0, before_more b c rows less h.1)
 
-before_keyed : (b c : Client) (o : Option Kept) (rows : Sessions) → by_bytes b c ≡ Less → ComesBefore b rows → ComesBefore b (keyed c o rows)
+before_keyed : (b c : Client) (o : Option ClientSession) (rows : Sessions) → by_bytes b c ≡ Less → ComesBefore b rows → ComesBefore b (keyed c o rows)
 before_keyed b c None rows less h = h
 before_keyed b c (Some kept) rows less h = (less, h)
 
@@ -35,7 +35,7 @@ before_left b w place content [] h = tt
 before_left b w place content (row ∷ rows) h =
     before_keyed b row.0 (session_after w place content row.0 row.1) (sessions_left w place content rows) h.0 (before_left b w place content rows h.1)
 
-keyed_by_client : (c : Client) (o : Option Kept) (rows : Sessions) → ComesBefore c rows → AreByClient rows → AreByClient (keyed c o rows)
+keyed_by_client : (c : Client) (o : Option ClientSession) (rows : Sessions) → ComesBefore c rows → AreByClient rows → AreByClient (keyed c o rows)
 unfolding IsStrictlySortedBy
 keyed_by_client c None rows h k = k
 keyed_by_client c (Some kept) rows h k = (h, k)
@@ -47,7 +47,7 @@ left_by_client w place content (row ∷ rows) h =
     keyed_by_client row.0 (session_after w place content row.0 row.1) (sessions_left w place content rows)
     (before_left row.0 w place content rows h.0) (left_by_client w place content rows h.1)
 
-before_put : (b c : Client) (kept : Kept) (rows : Sessions) → by_bytes b c ≡ Less → ComesBefore b rows → ComesBefore b (put_session c kept rows)
+before_put : (b c : Client) (kept : ClientSession) (rows : Sessions) → by_bytes b c ≡ Less → ComesBefore b rows → ComesBefore b (put_session c kept rows)
 before_put b c kept [] less h = (less, tt)
 before_put b c kept (row ∷ rows) less h = by (by_bytes c row.0) (before_put b c kept rows less h.1)
   where
@@ -56,7 +56,7 @@ before_put b c kept (row ∷ rows) less h = by (by_bytes c row.0) (before_put b 
     by Equal more = h
     by Greater more = (h.0, more)
 
-pub put_by_client : (c : Client) (kept : Kept) (rows : Sessions) → AreByClient rows → AreByClient (put_session c kept rows)
+pub put_by_client : (c : Client) (kept : ClientSession) (rows : Sessions) → AreByClient rows → AreByClient (put_session c kept rows)
 unfolding IsStrictlySortedBy
 put_by_client c kept [] h = (tt, tt)
 put_by_client c kept (row ∷ rows) h = by (by_bytes c row.0) refl (put_by_client c kept rows h.1)
@@ -75,6 +75,6 @@ stays_by_client w place content rows (commands.Connect x c clean) Mark.Accepted 
 stays_by_client w place content rows command mark h = left_by_client w place content rows h
 
 -- a client before all others comes first
-pub put_first : (c : Client) (kept : Kept) (rows : Sessions) → ComesBefore c rows → put_session c kept rows ≡ (c, kept) ∷ rows
+pub put_first : (c : Client) (kept : ClientSession) (rows : Sessions) → ComesBefore c rows → put_session c kept rows ≡ (c, kept) ∷ rows
 put_first c kept [] h = refl
 put_first c kept (row ∷ rows) h = ap (λ o. match_ordering o ((c, kept) ∷ row ∷ rows) ((row.0, kept) ∷ rows) (row ∷ put_session c kept rows)) h.0

@@ -17,8 +17,8 @@ use Rattle.broker_base.specs.Received.{received_by}
 use Rattle.broker_base.specs.Entries.{copy_of, queued}
 use Rattle.broker_base.specs.Times.{window_at}
 use Rattle.broker_base.specs.Commands.{is_start}
-use Rattle.broker_base.specs.Kept.{Kept}
-use Rattle.broker_base.specs.KeptStep.{copies_with, answered_flights, filled_on, kept_by, kept_after}
+use Rattle.broker_base.specs.ClientSession.{ClientSession}
+use Rattle.broker_base.specs.SessionStep.{copies_with, answered_flights, filled_on, kept_by, kept_after}
 use Rattle.broker_base.specs.Step.{is_about, IsWindow}
 use Rattle.broker_base.specs.declared.command.Command.{Command}
 use Rattle.broker_base.specs.declared.command.Command.TheVariants as commands
@@ -76,39 +76,43 @@ queue_stays w None fs ms quiet = refl
 queue_stays w (Some x) fs ms quiet = quiet_filled w fs ms (quiet x refl)
 
 -- what is kept, with these parts
-abbrev pub parts : ℕ → Kept → Bool → List HeldFilter → List ℕ → List Flight → List Publication → Option Kept
+abbrev pub parts : ℕ → ClientSession → Bool → List HeldFilter → List ℕ → List Flight → List Publication → Option ClientSession
 parts w kept over held ids fs ms =
     only_if (not (kept.clean && over))
     (Some (record {
       clean = kept.clean;
       connection = only_if (not over) kept.connection;
-      subscriptions = held;
-      received = ids;
-      queue = filled_on (only_if (not over) kept.connection) w fs ms;
+      state = record {
+        subscriptions = held;
+        received = ids;
+        queue = filled_on (only_if (not over) kept.connection) w fs ms;
+      };
     }))
 
-still_there : (clean : Bool) (kept : Kept) → only_if (not (clean && false)) (Some kept) ≡ Some kept
+still_there : (clean : Bool) (kept : ClientSession) → only_if (not (clean && false)) (Some kept) ≡ Some kept
 still_there true kept = refl
 still_there false kept = refl
 
-pub kept_stays : (w : ℕ) (place : Place) (content : Content) (c : Client) (kept : Kept) → ends_any place kept.connection ≡ false → is_about place.command place.mark c kept.subscriptions ≡ false →
-    ((x : ConnectionName) → kept.connection ≡ Some x → Quiet w kept.queue.in_flight kept.queue.waiting) →
+pub kept_stays : (w : ℕ) (place : Place) (content : Content) (c : Client) (kept : ClientSession) → ends_any place kept.connection ≡ false → is_about place.command place.mark c kept.state.subscriptions ≡ false →
+    ((x : ConnectionName) → kept.connection ≡ Some x → Quiet w kept.state.queue.in_flight kept.state.queue.waiting) →
     kept_after w place content c (Some kept) ≡ Some kept
 kept_stays w place content c kept not_ended not_about quiet =
-    ap (λ opened. kept_by w place content c opened (Some kept)) (not_opened place.command place.mark c kept.subscriptions not_about)
-    ∙ ap (λ over. parts w kept over (subscribed place.command place.mark c kept.subscriptions) (received_by place.command place.mark c kept.received)
-    (answered_flights place.command place.mark c kept.queue.in_flight) (kept.queue.waiting ++ queued (copies_with place.command place.mark content c kept.subscriptions))) not_ended
-    ∙ ap₂ (λ held ids. parts w kept false held ids (answered_flights place.command place.mark c kept.queue.in_flight) (kept.queue.waiting ++ queued (copies_with place.command place.mark content c kept.subscriptions)))
-    (subscribed_same place.command place.mark c kept.subscriptions not_about) (received_same place.command place.mark c kept.subscriptions kept.received not_about)
-    ∙ ap₂ (λ fs ps. parts w kept false kept.subscriptions kept.received fs (kept.queue.waiting ++ queued ps))
-    (answered_same place.command place.mark c kept.subscriptions kept.queue.in_flight not_about) (no_copies place.command place.mark content c kept.subscriptions not_about)
-    ∙ ap (λ ms. parts w kept false kept.subscriptions kept.received kept.queue.in_flight ms) (append_none kept.queue.waiting)
+    ap (λ opened. kept_by w place content c opened (Some kept)) (not_opened place.command place.mark c kept.state.subscriptions not_about)
+    ∙ ap (λ over. parts w kept over (subscribed place.command place.mark c kept.state.subscriptions) (received_by place.command place.mark c kept.state.received)
+    (answered_flights place.command place.mark c kept.state.queue.in_flight) (kept.state.queue.waiting ++ queued (copies_with place.command place.mark content c kept.state.subscriptions))) not_ended
+    ∙ ap₂ (λ held ids. parts w kept false held ids (answered_flights place.command place.mark c kept.state.queue.in_flight) (kept.state.queue.waiting ++ queued (copies_with place.command place.mark content c kept.state.subscriptions)))
+    (subscribed_same place.command place.mark c kept.state.subscriptions not_about) (received_same place.command place.mark c kept.state.subscriptions kept.state.received not_about)
+    ∙ ap₂ (λ fs ps. parts w kept false kept.state.subscriptions kept.state.received fs (kept.state.queue.waiting ++ queued ps))
+    (answered_same place.command place.mark c kept.state.subscriptions kept.state.queue.in_flight not_about) (no_copies place.command place.mark content c kept.state.subscriptions not_about)
+    ∙ ap (λ ms. parts w kept false kept.state.subscriptions kept.state.received kept.state.queue.in_flight ms) (append_none kept.state.queue.waiting)
     ∙ still_there kept.clean (record {
       clean = kept.clean;
       connection = kept.connection;
-      subscriptions = kept.subscriptions;
-      received = kept.received;
-      queue = filled_on kept.connection w kept.queue.in_flight kept.queue.waiting;
+      state = record {
+        subscriptions = kept.state.subscriptions;
+        received = kept.state.received;
+        queue = filled_on kept.connection w kept.state.queue.in_flight kept.state.queue.waiting;
+      };
     })
-    ∙ ap (λ q. Some (record { clean = kept.clean; connection = kept.connection; subscriptions = kept.subscriptions; received = kept.received; queue = q }))
-    (queue_stays w kept.connection kept.queue.in_flight kept.queue.waiting quiet)
+    ∙ ap (λ q. Some (record { clean = kept.clean; connection = kept.connection; state = record { subscriptions = kept.state.subscriptions; received = kept.state.received; queue = q } }))
+    (queue_stays w kept.connection kept.state.queue.in_flight kept.state.queue.waiting quiet)

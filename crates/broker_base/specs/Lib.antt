@@ -5,8 +5,8 @@ pub mod State
 pub mod Decisions
 pub mod StepAnswers
 pub mod Step
-pub mod Kept
-pub mod KeptStep
+pub mod ClientSession
+pub mod SessionStep
 pub mod Connection
 pub mod Sized
 pub mod Logged

@@ -5,15 +5,15 @@ use Rattle.std.specs.Map.{keys_of}
 use Rattle.broker_base.specs.Connection.{ConnectionName, same_connection}
 use Rattle.broker_base.specs.Place.{by_bytes, Limits}
 use Rattle.broker_base.specs.Past.{any_connection}
-use Rattle.broker_base.specs.Kept.{Kept}
+use Rattle.broker_base.specs.ClientSession.{ClientSession}
 use Rattle.broker_base.specs.State.{Sessions, State, empty_state}
 use Rattle.broker_base.specs.Step.{step, state_from}
 use Rattle.broker_base.specs.declared.command.Command.{Command}
 
 -- a connected client's queue has nothing waiting, or its window is full
-abbrev pub IsQuiet : ℕ → Kept → Type 0
+abbrev pub IsQuiet : ℕ → ClientSession → Type 0
 IsQuiet window kept =
-    (kept.connection ≡ None) ⊎ ((kept.queue.waiting ≡ []) ⊎ (window ≤ length kept.queue.in_flight))
+    (kept.connection ≡ None) ⊎ ((kept.state.queue.waiting ≡ []) ⊎ (window ≤ length kept.state.queue.in_flight))
 
 abbrev pub AllQuiet : ℕ → Sessions → Type 0
 AllQuiet window (row ∷ rows) = IsQuiet window row.1 × AllQuiet window rows

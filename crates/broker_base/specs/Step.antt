@@ -7,8 +7,8 @@ use Rattle.broker_base.specs.Past.{ends_any}
 use Rattle.session_base.specs.Subscriptions.{HeldFilter, granted_qos}
 use Rattle.broker_base.specs.Retained.{retained_by}
 use Rattle.broker_base.specs.Commands.{is_start}
-use Rattle.broker_base.specs.Kept.{Kept}
-use Rattle.broker_base.specs.KeptStep.{kept_after, kept_connected}
+use Rattle.broker_base.specs.ClientSession.{ClientSession}
+use Rattle.broker_base.specs.SessionStep.{kept_after, kept_connected}
 use Rattle.broker_base.specs.State.{Sessions, State, keyed, session_in, put_session}
 use Rattle.broker_base.specs.Decisions.{place_in}
 use Rattle.broker_base.specs.StepAnswers.{answers_by_state}
@@ -27,12 +27,12 @@ is_about command (Mark.Handled d) c held = same_client d c
 is_about _ _ c held = false
 
 -- whether a place touches a client's session; every other stays as it is
-abbrev pub touches : Place → Client → Kept → Bool
+abbrev pub touches : Place → Client → ClientSession → Bool
 touches place c kept =
-    ends_any place kept.connection || is_about place.command place.mark c kept.subscriptions
+    ends_any place kept.connection || is_about place.command place.mark c kept.state.subscriptions
 
 -- a session after a place, if it is left
-abbrev pub session_after : ℕ → Place → Content → Client → Kept → Option Kept
+abbrev pub session_after : ℕ → Place → Content → Client → ClientSession → Option ClientSession
 session_after window place content c kept =
     if touches place c kept then kept_after window place content c (Some kept) else Some kept
 

@@ -5,14 +5,15 @@ use Rattle.retained.specs.Retained.{Content}
 use Rattle.session_base.specs.declared.publication.Publication.{Publication}
 use Rattle.session_base.specs.Publication.{publication_of, lower_qos}
 use Rattle.session_base.specs.Subscriptions.{HeldFilter, granted_qos}
-use Rattle.session_base.specs.Queue.{Flight, Queue, empty_queue, on_puback, on_pubrec, on_pubcomp, fill}
+use Rattle.session_base.specs.Session.{empty_session}
+use Rattle.session_base.specs.Queue.{Flight, Queue, on_puback, on_pubrec, on_pubcomp, fill}
 use Rattle.broker_base.specs.Connection.{ConnectionName}
 use Rattle.broker_base.specs.Place.{Client, same_client, Mark, Place, only_if}
 use Rattle.broker_base.specs.Past.{accepts, ends_any}
 use Rattle.broker_base.specs.Subscriptions.{granted_of, subscribed}
 use Rattle.broker_base.specs.Received.{received_by}
 use Rattle.broker_base.specs.Entries.{copy_of, copies_for_all, queued}
-use Rattle.broker_base.specs.Kept.{Kept}
+use Rattle.broker_base.specs.ClientSession.{ClientSession}
 use Rattle.broker_base.specs.declared.command.Command.{Command}
 use Rattle.broker_base.specs.declared.command.Command.TheVariants as commands
 
@@ -40,44 +41,46 @@ filled_on (Some x) window flights waiting = fill window flights waiting
 filled_on None window flights waiting = record { in_flight = flights; waiting = waiting }
 
 -- a session goes on, with this flag and connection: the answer is done, the copies are queued, the window is filled
-abbrev pub kept_on : ℕ → Place → Content → Client → Bool → Option ConnectionName → Kept → Kept
+abbrev pub kept_on : ℕ → Place → Content → Client → Bool → Option ConnectionName → ClientSession → ClientSession
 kept_on window place content c clean connection old =
     record {
       clean = clean;
       connection = connection;
-      subscriptions = subscribed place.command place.mark c old.subscriptions;
-      received = received_by place.command place.mark c old.received;
-      queue = filled_on connection window
-          (answered_flights place.command place.mark c old.queue.in_flight)
-          (old.queue.waiting ++ queued (copies_with place.command place.mark content c old.subscriptions));
+      state = record {
+        subscriptions = subscribed place.command place.mark c old.state.subscriptions;
+        received = received_by place.command place.mark c old.state.received;
+        queue = filled_on connection window
+            (answered_flights place.command place.mark c old.state.queue.in_flight)
+            (old.state.queue.waiting ++ queued (copies_with place.command place.mark content c old.state.subscriptions));
+      };
     }
 
 -- a session begins on a connection, with nothing in it
-abbrev pub kept_anew : ConnectionName × Bool → Kept
+abbrev pub kept_anew : ConnectionName × Bool → ClientSession
 kept_anew opened =
-    record { clean = opened.1; connection = Some opened.0; subscriptions = []; received = []; queue = empty_queue }
+    record { clean = opened.1; connection = Some opened.0; state = empty_session }
 
 -- an accepted Connect of the client: a session that is not clean goes on where the Connect is not clean
-abbrev pub kept_connected : ℕ → Place → Content → Client → ConnectionName × Bool → Option Kept → Kept
+abbrev pub kept_connected : ℕ → Place → Content → Client → ConnectionName × Bool → Option ClientSession → ClientSession
 kept_connected window place content c opened None = kept_anew opened
 kept_connected window place content c opened (Some old) =
     if opened.1 || old.clean then kept_anew opened
     else kept_on window place content c opened.1 (Some opened.0) old
 
 -- any other command: the connection may end, and a clean session with it
-abbrev pub kept_later : ℕ → Place → Content → Client → Option Kept → Option Kept
+abbrev pub kept_later : ℕ → Place → Content → Client → Option ClientSession → Option ClientSession
 kept_later window place content c None = None
 kept_later window place content c (Some old) =
     only_if (not (old.clean && ends_any place old.connection))
     (Some (kept_on window place content c old.clean (only_if (not (ends_any place old.connection)) old.connection) old))
 
 -- by what the command opens for the client
-abbrev pub kept_by : ℕ → Place → Content → Client → Option (ConnectionName × Bool) → Option Kept → Option Kept
+abbrev pub kept_by : ℕ → Place → Content → Client → Option (ConnectionName × Bool) → Option ClientSession → Option ClientSession
 kept_by window place content c (Some opened) old = Some (kept_connected window place content c opened old)
 kept_by window place content c None old = kept_later window place content c old
 
 -- what is kept of the client's session after a place, with this window from then on and this content of the
 -- retained publications before it
-abbrev pub kept_after : ℕ → Place → Content → Client → Option Kept → Option Kept
+abbrev pub kept_after : ℕ → Place → Content → Client → Option ClientSession → Option ClientSession
 kept_after window place content c old =
     kept_by window place content c (accepts place.command place.mark c) old
