@@ -12,7 +12,7 @@ use Rattle.broker_base.specs.Readings.{waiting_of, busy_ids}
 use Rattle.broker_base.specs.Times.{answered_by, started, window_at, entries_of}
 use Rattle.broker_base.specs.Sends.{all_started}
 use Rattle.broker_base.specs.ClientSession.{ClientSession, flights_below, client_session}
-use Rattle.broker_base.specs.SessionStep.{answered_flights}
+use Rattle.broker_base.proofs.FillingAlways.{answered_flights}
 use Rattle.broker_base.specs.StepAnswers.{while_connected}
 use Rattle.broker_base.specs.declared.command.Command.{Command}
 use Rattle.broker_base.specs.declared.command.Answer.TheVariants.{Send}

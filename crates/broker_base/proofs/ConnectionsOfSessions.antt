@@ -8,7 +8,7 @@ use Rattle.broker_base.specs.Connection.{ConnectionName, same_connection}
 use Rattle.broker_base.specs.Place.{Client, by_bytes, Place, only_if}
 use Rattle.broker_base.specs.Past.{accepts, any_connection, ends_any}
 use Rattle.broker_base.specs.ClientSession.{ClientSession}
-use Rattle.broker_base.specs.SessionStep.{kept_on, kept_anew, kept_connected, kept_by, kept_after}
+use Rattle.broker_base.specs.SessionStep.{kept_anew, kept_resumed, kept_connected, kept_by, kept_after}
 use Rattle.broker_base.specs.State.{Sessions, keyed, put_session}
 use Rattle.broker_base.specs.Step.{touches, session_after, sessions_left}
 use Rattle.broker_base.specs.StateLaws.{IsNobodys, AreApart}
@@ -35,16 +35,16 @@ not_left : (y : ConnectionName) (b : Bool) (connection : Option ConnectionName) 
 not_left y true connection h = h
 not_left y false connection h = refl
 
-not_connected : (y : ConnectionName) (w : ℕ) (place : Place) (content : Content) (c : Client) (opened : ConnectionName × Bool) (old : Option ClientSession) →
-    same_connection y opened.0 ≡ false → NotOn y (Some (kept_connected w place content c opened old))
-not_connected y w place content c opened None h = h
-not_connected y w place content c opened (Some old) h =
-    elim (opened.1 || old.clean) as (λ (b : Bool). NotOn y (Some (if b then kept_anew opened else kept_on w place content c opened.1 (Some opened.0) old))) [ true ↦ h | false ↦ h ]
+not_connected : (y : ConnectionName) (w : ℕ) (opened : ConnectionName × Bool) (old : Option ClientSession) →
+    same_connection y opened.0 ≡ false → NotOn y (Some (kept_connected w opened old))
+not_connected y w opened None h = h
+not_connected y w opened (Some old) h =
+    elim (opened.1 || old.clean) as (λ (b : Bool). NotOn y (Some (if b then kept_anew opened else kept_resumed w opened old))) [ true ↦ h | false ↦ h ]
 
 not_by : (y : ConnectionName) (w : ℕ) (place : Place) (content : Content) (c : Client) (opened : Option (ConnectionName × Bool)) (old : ClientSession) →
     ((a : ConnectionName × Bool) → opened ≡ Some a → same_connection y a.0 ≡ false) → any_connection (same_connection y) old.connection ≡ false →
     NotOn y (kept_by w place content c opened (Some old))
-not_by y w place content c (Some a) old other h = not_connected y w place content c a (Some old) (other a refl)
+not_by y w place content c (Some a) old other h = not_connected y w a (Some old) (other a refl)
 not_by y w place content c None old other h =
     not_only y (not (old.clean && ends_any place old.connection)) _ (not_left y (not (ends_any place old.connection)) old.connection h)
 

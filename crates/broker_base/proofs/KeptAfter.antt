@@ -14,7 +14,8 @@ use Rattle.broker_base.specs.Entries.{Entry, queued}
 use Rattle.broker_base.specs.Readings.{released_below}
 use Rattle.broker_base.specs.Times.{answered_by, started, window_at, entries_of}
 use Rattle.broker_base.specs.ClientSession.{ClientSession, released_flight, queue_of, client_session}
-use Rattle.broker_base.specs.SessionStep.{copies_with, kept_on, kept_anew, kept_by, kept_after}
+use Rattle.broker_base.specs.SessionStep.{copies_with, kept_anew}
+use Rattle.broker_base.proofs.FillingAlways.{filled_kept, filled_by, filled_after}
 use Rattle.broker_base.proofs.SoundEntries.{Sound}
 use Rattle.broker_base.proofs.IdentifiersInFlight.{append_none}
 use Rattle.broker_base.proofs.QueueAfter.{sound_entries, queue_after, copies_are}
@@ -58,7 +59,7 @@ kept_next w place n c opened session connection held ids es ps =
 next_is : (w : ℕ) (place : Place) (content : Content) (n : ℕ) (c : Client) (opened : Option (ConnectionName × Bool)) (session : Option Bool) (connection : Option ConnectionName)
     (held : List HeldFilter) (ids : List ℕ) (es : List Entry) → Sound n es →
     kept_next w place n c opened session connection held ids es (queued (copies_with place.command place.mark content c held))
-    ≡ kept_by w place content c opened (kept_with n session connection held ids es)
+    ≡ filled_by w place content c opened (kept_with n session connection held ids es)
 next_is w place content n c None None connection held ids es s = refl
 next_is w place content n c None (Some clean) connection held ids es s = by (clean && ends_any place connection)
   where
@@ -68,7 +69,7 @@ next_is w place content n c None (Some clean) connection held ids es s = by (cle
         (in_session (only_if (not b) (Some clean)) false [] (received_by place.command place.mark c ids))
         (in_session (only_if (not b) (Some clean)) false []
         (started w n (only_if (not (ends_any place connection)) connection) (answered_by place.command place.mark n c es ++ map (Entry.Waits n) (queued (copies_with place.command place.mark content c held)))))
-        ≡ only_if (not b) (Some (kept_on w place content c clean (only_if (not (ends_any place connection)) connection)
+        ≡ only_if (not b) (Some (filled_kept w place content c clean (only_if (not (ends_any place connection)) connection)
         (record { clean = clean; connection = connection; state = record { subscriptions = held; received = ids; queue = queue_of n es } })))
     by true = refl
     by false = ap (λ q. Some (record { clean = clean; connection = only_if (not (ends_any place connection)) connection; state = record { subscriptions = subscribed place.command place.mark c held; received = received_by place.command place.mark c ids; queue = q } }))
@@ -82,16 +83,16 @@ next_is w place content n c (Some opened) (Some clean) connection held ids es s 
         (in_session (Some opened.1) b [] (received_by place.command place.mark c ids))
         (in_session (Some opened.1) b []
         (started w n (Some opened.0) (answered_by place.command place.mark n c es ++ map (Entry.Waits n) (queued (copies_with place.command place.mark content c held)))))
-        ≡ Some (if b then kept_anew opened else kept_on w place content c opened.1 (Some opened.0)
+        ≡ Some (if b then kept_anew opened else filled_kept w place content c opened.1 (Some opened.0)
         (record { clean = clean; connection = connection; state = record { subscriptions = held; received = ids; queue = queue_of n es } }))
     by true = anew (suc n) opened
     by false = ap (λ q. Some (record { clean = opened.1; connection = Some opened.0; state = record { subscriptions = subscribed place.command place.mark c held; received = received_by place.command place.mark c ids; queue = q } }))
         (queue_after w place.command place.mark n c (Some opened.0) es (queued (copies_with place.command place.mark content c held)) s)
 
-pub kept_step : (limits : Limits) (place : Place) (past : Past) (c : Client) →
-    client_session limits (place ∷ past) c ≡ kept_after (window_at limits (place ∷ past)) place (retained_publications past) c (client_session limits past c)
+pub filled_step : (limits : Limits) (place : Place) (past : Past) (c : Client) →
+    client_session limits (place ∷ past) c ≡ filled_after (window_at limits (place ∷ past)) place (retained_publications past) c (client_session limits past c)
 unfolding current_connection session_of subscriptions_of received_of entries_of
-kept_step limits place past c =
+filled_step limits place past c =
     ap (λ ps. kept_next (window_at limits (place ∷ past)) place (length past) c (accepts place.command place.mark c) (session_of past c) (current_connection past c)
     (subscriptions_of past c) (received_of past c) (entries_of limits past c) (queued ps))
     (copies_are place.command place.mark past c)

@@ -1,21 +1,18 @@
 -- A session that a place does not touch stays as it is.
-use Rattle.std.proofs.Common.{◌≡◌, ℕ, Bool, true, false, if◌then◌else◌, Option, Some, None, ◌∷◌, length, refl, ap, ◌∙◌, sym, subst}
+use Rattle.std.proofs.Common.{◌≡◌, ℕ, Bool, true, false, if◌then◌else◌, Option, Some, None, ◌∷◌, length, refl, ap, sym}
 use Rattle.std.proofs.lemmas.Bool.{or_parts}
 use Rattle.retained.specs.Retained.{Content}
 use Rattle.broker_base.specs.Place.{Client, Place, Past, Limits}
-use Rattle.broker_base.specs.Past.{accepts, any_connection, ends, ends_any, current_connection, session_of}
+use Rattle.broker_base.specs.Past.{accepts, ends_any, current_connection, session_of}
 use Rattle.broker_base.specs.Subscriptions.{subscriptions_of}
 use Rattle.broker_base.specs.Received.{received_of}
 use Rattle.broker_base.specs.Retained.{retained_publications}
-use Rattle.broker_base.specs.Readings.{waiting_of}
 use Rattle.broker_base.specs.Times.{window_at, entries_of}
-use Rattle.broker_base.specs.ClientSession.{ClientSession, flights_below, queue_of, client_session}
+use Rattle.broker_base.specs.ClientSession.{ClientSession, queue_of, client_session}
 use Rattle.broker_base.specs.SessionStep.{kept_by, kept_after}
 use Rattle.broker_base.specs.Step.{is_about, touches, session_after, IsWindow}
-use Rattle.broker_base.proofs.SendsOfCopies.{Quiet}
 use Rattle.broker_base.proofs.KeptAfter.{kept_with, kept_now}
-use Rattle.broker_base.proofs.QuietPasts.{quiet_queue}
-use Rattle.broker_base.proofs.UntouchedStays.{no_start, same_window, kept_stays}
+use Rattle.broker_base.proofs.UntouchedStays.{kept_stays}
 
 -- ---- of a past
 
@@ -30,9 +27,6 @@ stays_with limits later follows place past c clean untouched =
     kept_stays (window_at limits (place ∷ past)) place (retained_publications past) c
     (record { clean = clean; connection = current_connection past c; state = record { subscriptions = subscriptions_of past c; received = received_of past c; queue = queue_of (length past) (entries_of limits past c) } })
     h.0 h.1
-    (λ x e. subst (λ (w : ℕ). Quiet w (flights_below (length past) (entries_of limits past c)) (waiting_of (entries_of limits past c)))
-    (sym (same_window limits later follows place past (no_start place.command place.mark x (ap (any_connection (ends place.command place.mark)) (sym e) ∙ h.0))))
-    (quiet_queue limits past c x e))
 
 -- a session after a place, by whether it is touched
 abbrev pub left_with : ℕ → Place → Content → Client → Option ClientSession → Option ClientSession

@@ -15,7 +15,8 @@ use Rattle.broker_base.specs.State.{Sessions, keyed, table, session_in, put_sess
 use Rattle.broker_base.specs.Step.{sessions_left, sessions_with, IsWindow}
 use Rattle.broker_base.specs.declared.command.Command.{Command}
 use Rattle.broker_base.specs.declared.command.Command.TheVariants as commands
-use Rattle.broker_base.proofs.KeptAfter.{kept_with, kept_step}
+use Rattle.broker_base.proofs.KeptAfter.{kept_with}
+use Rattle.broker_base.proofs.PastsAtRest.{kept_step}
 use Rattle.broker_base.proofs.ClientsInOrder.{IsNamed, same_self, rising_named, session_is_named}
 use Rattle.broker_base.proofs.SessionsInOrder.{session_found, put_is}
 use Rattle.broker_base.proofs.OthersStay.{left_with, left_is}
@@ -48,21 +49,21 @@ left_next : (limits : Limits) (later : ℕ) → IsWindow limits later → (place
 left_next limits later follows place past none =
     table_left (window_at limits (place ∷ past)) place (retained_publications past) (client_session limits past) (named past)
     ∙ table_same (λ c. left_with (window_at limits (place ∷ past)) place (retained_publications past) c (client_session limits past c)) (client_session limits (place ∷ past)) (named past)
-    (λ c. left_is limits later follows place past c (none c) ∙ sym (kept_step limits place past c))
+    (λ c. left_is limits later follows place past c (none c) ∙ sym (kept_step limits later follows place past c))
 
 abbrev pub at : Command → Mark → Place
 at command mark = record { command = command; mark = mark }
 
 sessions_opened : (limits : Limits) (later : ℕ) → IsWindow limits later → (past : Past) (x : ConnectionName) (c : Client) (clean : Bool) (place : Place) (w : ℕ) →
     place ≡ at (commands.Connect x c clean) Mark.Accepted → w ≡ window_at limits (place ∷ past) →
-    put_session c (kept_connected w place (retained_publications past) c (x, clean) (session_in c (table (client_session limits past) (named past))))
+    put_session c (kept_connected w (x, clean) (session_in c (table (client_session limits past) (named past))))
     (sessions_left w place (retained_publications past) (table (client_session limits past) (named past)))
     ≡ table (client_session limits (place ∷ past)) (insert_client c (named past))
 sessions_opened limits later follows past x c clean place w is window =
-    ap₂ (λ old rows. put_session c (kept_connected w place (retained_publications past) c (x, clean) old) rows)
+    ap₂ (λ old rows. put_session c (kept_connected w (x, clean) old) rows)
     (session_is limits past c) (table_left w place (retained_publications past) (client_session limits past) (named past))
     ∙ sym (put_is (client_session limits (place ∷ past)) (λ d. left_with w place (retained_publications past) d (client_session limits past d)) c
-    (kept_connected w place (retained_publications past) c (x, clean) (client_session limits past c)) (named past)
+    (kept_connected w (x, clean) (client_session limits past c)) (named past)
     (step c ∙ ap (λ opened. kept_by w place (retained_publications past) c opened (client_session limits past c))
     (ap (λ (p : Place). accepts p.command p.mark c) is ∙ ap (λ b. only_if b (Some (x, clean))) (same_self c)))
     (λ d other. step d ∙ sym (ap (λ v. left_with v place (retained_publications past) d (client_session limits past d)) window
@@ -71,7 +72,7 @@ sessions_opened limits later follows past x c clean place w is window =
     (rising_named past))
   where
     step : (d : Client) → client_session limits (place ∷ past) d ≡ kept_after w place (retained_publications past) d (client_session limits past d)
-    step d = kept_step limits place past d ∙ ap (λ v. kept_after v place (retained_publications past) d (client_session limits past d)) (sym window)
+    step d = kept_step limits later follows place past d ∙ ap (λ v. kept_after v place (retained_publications past) d (client_session limits past d)) (sym window)
 
 sessions_by : (limits : Limits) (later : ℕ) → IsWindow limits later → (past : Past) (command : Command) (mark : Mark) →
     sessions_with (window_at limits (at command mark ∷ past)) (at command mark) (retained_publications past) (table (client_session limits past) (named past)) command mark

@@ -71,7 +71,7 @@ pub stays_by_client : (w : ℕ) (place : Place) (content : Content) (rows : Sess
     AreByClient (sessions_with w place content rows command mark)
 unfolding IsStrictlySortedBy
 stays_by_client w place content rows (commands.Connect x c clean) Mark.Accepted h =
-    put_by_client c (kept_connected w place content c (x, clean) (session_in c rows)) (sessions_left w place content rows) (left_by_client w place content rows h)
+    put_by_client c (kept_connected w (x, clean) (session_in c rows)) (sessions_left w place content rows) (left_by_client w place content rows h)
 stays_by_client w place content rows command mark h = left_by_client w place content rows h
 
 -- a client before all others comes first

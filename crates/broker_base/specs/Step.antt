@@ -45,7 +45,7 @@ sessions_left window place content [] = []
 -- and with that of the client of an accepted Connect
 abbrev pub sessions_with : ℕ → Place → Content → Sessions → Command → Mark → Sessions
 sessions_with window place content rows (commands.Connect x c clean) Mark.Accepted =
-    put_session c (kept_connected window place content c (x, clean) (session_in c rows))
+    put_session c (kept_connected window (x, clean) (session_in c rows))
     (sessions_left window place content rows)
 sessions_with window place content rows command mark = sessions_left window place content rows
 

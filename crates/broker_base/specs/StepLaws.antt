@@ -17,7 +17,7 @@ use Rattle.broker_base.specs.declared.command.Command.{Command}
 -- after one more place, whatever its mark, what is kept of each client's session is the step of what was kept
 abbrev pub StepsEachSession : Type 0
 StepsEachSession =
-    (limits : Limits) → (place : Place) → (past : Past) → (c : Client) →
+    (limits : Limits) → (later : ℕ) → IsWindow limits later → (place : Place) → (past : Past) → (c : Client) →
     client_session limits (place ∷ past) c
     ≡ kept_after (window_at limits (place ∷ past)) place (retained_publications past) c (client_session limits past c)
 

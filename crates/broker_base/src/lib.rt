@@ -24,6 +24,6 @@ pub use rows::{
 };
 pub use sized_packet::{SizedPacket, TooLarge};
 pub use step_laws::{
-    decisions_stand_for, list_stands_for, others_stay, rows_step_by_step, session_step,
-    states_stay_sound, step_stands_for,
+    decisions_stand_for, entries_start_where_they_are_sent, list_stands_for, others_stay,
+    rows_step_by_step, session_step, states_stay_sound, step_stands_for,
 };
