@@ -26,6 +26,9 @@ pub mod Answers
 pub mod RowWords
 pub mod Rows
 pub mod MoreRows
+pub mod LimitRows
+pub mod QosRows
+pub mod SessionRows
 pub mod Laws
 pub mod EntryLaws
 pub mod QuietLaws
