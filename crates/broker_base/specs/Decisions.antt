@@ -19,8 +19,8 @@ use Rattle.broker_base.specs.declared.command.Command.{Command}
 use Rattle.broker_base.specs.declared.command.Command.TheVariants as commands
 
 -- whether a session would have to queue the publication and is full
-abbrev pub lacks_room_in : Limits → Publication → Client × ClientSession → Bool
-lacks_room_in limits p row =
+abbrev pub is_full_for : Limits → Publication → Client × ClientSession → Bool
+is_full_for limits p row =
     is_queued_at (option_map (lower_qos p.qos) (granted_qos p.topic row.1.state.subscriptions))
     && (room limits.entries row.1.state.queue == 0)
 
@@ -32,7 +32,7 @@ is_one_topic_over limits content p =
 -- a publication is refused whole where one session has no room for it, or where it cannot be retained
 abbrev pub refuses : Limits → State → Publication → Bool
 refuses limits state p =
-    list_any (lacks_room_in limits p) state.sessions || is_one_topic_over limits state.retained p
+    list_any (is_full_for limits p) state.sessions || is_one_topic_over limits state.retained p
 
 -- whether a delivery is another try of one that the session took
 abbrev pub is_again : ClientSession → Delivery → Bool
