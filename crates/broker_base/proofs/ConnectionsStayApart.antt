@@ -3,7 +3,7 @@ use Rattle.std.proofs.Common.{◌≡◌, ℕ, Bool, true, false, ◌||◌, if◌
 use Rattle.std.specs.declared.cmp.Ordering.{Ordering}
 use Rattle.std.specs.declared.cmp.Ordering.TheVariants.{Less, Equal, Greater}
 use Rattle.std.specs.Ordering.{is_eq, match_ordering}
-use Rattle.retained.specs.Retained.{Content}
+use Rattle.retained.specs.Retained.{RetainedTopics}
 use Rattle.broker_base.specs.Connection.{ConnectionName, same_connection}
 use Rattle.broker_base.specs.Place.{Client, by_bytes, same_client, Mark, Place, Limits, only_if}
 use Rattle.broker_base.specs.Past.{accepts, any_connection}
@@ -37,7 +37,7 @@ other_opens x y clean true opened a is e h = ap (same_connection y) (ap_first (s
     ap_first f = cc
 other_opens x y clean false opened a is e h = absurd (let f : None ≡ Some a = sym is ∙ e in cc)
 
-pub apart_put : (x : ConnectionName) (c : Client) (clean : Bool) (kept : ClientSession) (w : ℕ) (place : Place) (content : Content) (rows : Sessions) →
+pub apart_put : (x : ConnectionName) (c : Client) (clean : Bool) (kept : ClientSession) (w : ℕ) (place : Place) (content : RetainedTopics) (rows : Sessions) →
     ((d : Client) → accepts place.command place.mark d ≡ only_if (same_client c d) (Some (x, clean))) → kept.connection ≡ Some x →
     AreByClient rows → AreApart rows → IsNobodys x rows → AreApart (put_session c kept (sessions_left w place content rows))
 unfolding IsStrictlySortedBy

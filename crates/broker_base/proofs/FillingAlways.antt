@@ -2,7 +2,7 @@
 -- the same, since there a connected client's queue is quiet.
 use Rattle.std.proofs.Common.{ℕ, Bool, not, ◌&&◌, ◌||◌, if◌then◌else◌, List, ◌++◌, Option, Some, None}
 use Rattle.packet.specs.declared.packet.Packet.TheVariants as packets
-use Rattle.retained.specs.Retained.{Content}
+use Rattle.retained.specs.Retained.{RetainedTopics}
 use Rattle.session_base.specs.Queue.{Flight, on_puback, on_pubrec, on_pubcomp}
 use Rattle.broker_base.specs.Connection.{ConnectionName}
 use Rattle.broker_base.specs.Place.{Client, same_client, Mark, Place, only_if}
@@ -26,7 +26,7 @@ answered_flights (commands.Packet x (packets.Pubcomp id)) (Mark.Handled d) c fli
 answered_flights _ _ c flights = flights
 
 -- a session goes on: the answer is done, the copies are queued, the window is filled
-abbrev pub filled_kept : ℕ → Place → Content → Client → Bool → Option ConnectionName → ClientSession → ClientSession
+abbrev pub filled_kept : ℕ → Place → RetainedTopics → Client → Bool → Option ConnectionName → ClientSession → ClientSession
 filled_kept window place content c clean connection old =
     record {
       clean = clean;
@@ -40,22 +40,22 @@ filled_kept window place content c clean connection old =
       };
     }
 
-abbrev pub filled_connected : ℕ → Place → Content → Client → ConnectionName × Bool → Option ClientSession → ClientSession
+abbrev pub filled_connected : ℕ → Place → RetainedTopics → Client → ConnectionName × Bool → Option ClientSession → ClientSession
 filled_connected window place content c opened None = kept_anew opened
 filled_connected window place content c opened (Some old) =
     if opened.1 || old.clean then kept_anew opened
     else filled_kept window place content c opened.1 (Some opened.0) old
 
-abbrev pub filled_later : ℕ → Place → Content → Client → Option ClientSession → Option ClientSession
+abbrev pub filled_later : ℕ → Place → RetainedTopics → Client → Option ClientSession → Option ClientSession
 filled_later window place content c None = None
 filled_later window place content c (Some old) =
     only_if (not (old.clean && ends_any place old.connection))
     (Some (filled_kept window place content c old.clean (only_if (not (ends_any place old.connection)) old.connection) old))
 
-abbrev pub filled_by : ℕ → Place → Content → Client → Option (ConnectionName × Bool) → Option ClientSession → Option ClientSession
+abbrev pub filled_by : ℕ → Place → RetainedTopics → Client → Option (ConnectionName × Bool) → Option ClientSession → Option ClientSession
 filled_by window place content c (Some opened) old = Some (filled_connected window place content c opened old)
 filled_by window place content c None old = filled_later window place content c old
 
-abbrev pub filled_after : ℕ → Place → Content → Client → Option ClientSession → Option ClientSession
+abbrev pub filled_after : ℕ → Place → RetainedTopics → Client → Option ClientSession → Option ClientSession
 filled_after window place content c old =
     filled_by window place content c (accepts place.command place.mark c) old

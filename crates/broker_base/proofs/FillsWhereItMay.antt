@@ -2,7 +2,7 @@
 -- Connect, behind PUBACK and PUBCOMP, and behind each copy that is enqueued.
 use Rattle.std.proofs.Common.{◌≡◌, ℕ, ◌≤◌, Bool, true, false, not, ◌&&◌, ◌||◌, inl, inr, if◌then◌else◌, Option, Some, None, List, [], ◌++◌, length, refl, ap, ◌∙◌, sym, subst}
 use Rattle.packet.specs.declared.packet.Packet.TheVariants as packets
-use Rattle.retained.specs.Retained.{Content}
+use Rattle.retained.specs.Retained.{RetainedTopics}
 use Rattle.session_base.specs.declared.publication.Publication.{Publication}
 use Rattle.session_base.specs.Laws.{IsQuietQueue}
 use Rattle.session_base.specs.Subscriptions.{HeldFilter}
@@ -58,7 +58,7 @@ releases w i true (Some x) fs ms h =
     ∙ fill_quiet w (on_pubrec i fs) ms (still_quiet w fs (on_pubrec i fs) ms ((h x refl).1 i) (h x refl).0)
 releases w i false (Some x) fs ms h = ap (fill w fs) (append_none ms) ∙ fill_quiet w fs ms (h x refl).0
 
-queues_same : (w : ℕ) (command : Command) (mark : Mark) (content : Content) (c : Client) (connection : Option ConnectionName) (held : List HeldFilter) (fs : List Flight) (ms : List Publication) →
+queues_same : (w : ℕ) (command : Command) (mark : Mark) (content : RetainedTopics) (c : Client) (connection : Option ConnectionName) (held : List HeldFilter) (fs : List Flight) (ms : List Publication) →
     ((x : ConnectionName) → connection ≡ Some x → IsAtRest w fs ms) →
     filled_on connection w (answered_flights command mark c fs) (ms ++ queued (copies_with command mark content c held))
     ≡ copied_queue w connection (copies_with command mark content c held) (answered_queue w command mark c connection (record { in_flight = fs; waiting = ms }))
@@ -75,7 +75,7 @@ RestsAt w place (Some old) =
     (x : ConnectionName) → only_if (not (ends_any place old.connection)) old.connection ≡ Some x → IsAtRest w old.state.queue.in_flight old.state.queue.waiting
 RestsAt w place None = Unit {0}
 
-later_same : (w : ℕ) (place : Place) (content : Content) (c : Client) (old : Option ClientSession) → RestsAt w place old →
+later_same : (w : ℕ) (place : Place) (content : RetainedTopics) (c : Client) (old : Option ClientSession) → RestsAt w place old →
     filled_later w place content c old ≡ kept_later w place content c old
 later_same w place content c None h = refl
 later_same w place content c (Some old) h =
@@ -90,7 +90,7 @@ later_same w place content c (Some old) h =
     })))
     (queues_same w place.command place.mark content c (only_if (not (ends_any place old.connection)) old.connection) old.state.subscriptions old.state.queue.in_flight old.state.queue.waiting h)
 
-connected_same : (w : ℕ) (content : Content) (c d : Client) (x : ConnectionName) (clean : Bool) (old : Option ClientSession) →
+connected_same : (w : ℕ) (content : RetainedTopics) (c d : Client) (x : ConnectionName) (clean : Bool) (old : Option ClientSession) →
     filled_by w (record { command = commands.Connect x d clean; mark = Mark.Accepted }) content c (Some (x, clean)) old
     ≡ kept_by w (record { command = commands.Connect x d clean; mark = Mark.Accepted }) content c (Some (x, clean)) old
 connected_same w content c d x clean None = refl
@@ -105,7 +105,7 @@ connected_same w content c d x clean (Some old) =
       })) (append_none old.state.queue.waiting)
     ]
 
-after_by : (w : ℕ) (command : Command) (mark : Mark) (content : Content) (c : Client) (old : Option ClientSession) → RestsAt w (record { command = command; mark = mark }) old →
+after_by : (w : ℕ) (command : Command) (mark : Mark) (content : RetainedTopics) (c : Client) (old : Option ClientSession) → RestsAt w (record { command = command; mark = mark }) old →
     filled_after w (record { command = command; mark = mark }) content c old ≡ kept_after w (record { command = command; mark = mark }) content c old
 after_by w (commands.Connect x d clean) Mark.Accepted content c old h =
     elim (same_client d c) as (λ (b : Bool).
@@ -116,6 +116,6 @@ after_by w (commands.Connect x d clean) Mark.Accepted content c old h =
     ]
 after_by w command mark content c old h = later_same w (record { command = command; mark = mark }) content c old h
 
-pub after_same : (w : ℕ) (place : Place) (content : Content) (c : Client) (old : Option ClientSession) → RestsAt w place old →
+pub after_same : (w : ℕ) (place : Place) (content : RetainedTopics) (c : Client) (old : Option ClientSession) → RestsAt w place old →
     filled_after w place content c old ≡ kept_after w place content c old
 after_same w place content c old h = after_by w place.command place.mark content c old h

@@ -1,7 +1,8 @@
 -- After one more command what is kept of a client's session is the step of what was kept before: in every past a
 -- connected client's queue is quiet, and its identifiers are distinct.
 use Rattle.std.proofs.Common.{◌≡◌, ℕ, ◌≤◌, Bool, true, false, not, ◌==◌, Option, Some, None, List, ◌∷◌, length, refl, ap, ◌∙◌, sym, subst}
-use Rattle.session_base.specs.Laws.{IsDistinct, IsQuietQueue}
+use Rattle.lists.specs.Lists.{IsDistinct}
+use Rattle.session_base.specs.Laws.{IsQuietQueue}
 use Rattle.session_base.specs.Queue.{ids_of}
 use Rattle.session_base.proofs.IdentifiersStayApart.{distinct, pubrec_length}
 use Rattle.broker_base.specs.Connection.{ConnectionName}

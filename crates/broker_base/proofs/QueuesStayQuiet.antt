@@ -3,10 +3,11 @@
 use Rattle.std.proofs.Common.{◌≡◌, ℕ, Bool, true, false, not, ◌&&◌, ◌||◌, inl, inr, if◌then◌else◌, Option, Some, None, List, [], ◌∷◌, refl, ap, ◌∙◌, sym, subst}
 use Rattle.std.proofs.lemmas.Bool.{or_parts}
 use Rattle.packet.specs.declared.packet.Packet.TheVariants as packets
-use Rattle.retained.specs.Retained.{Content}
+use Rattle.retained.specs.Retained.{RetainedTopics}
 use Rattle.session_base.specs.declared.publication.Publication.{Publication}
 use Rattle.session_base.specs.Publication.{is_answered}
-use Rattle.session_base.specs.Laws.{IsDistinct, IsQuietQueue}
+use Rattle.lists.specs.Lists.{IsDistinct}
+use Rattle.session_base.specs.Laws.{IsQuietQueue}
 use Rattle.session_base.specs.Queue.{Queue, ids_of, on_puback, on_pubrec, on_pubcomp, enqueue, filled, copies_left}
 use Rattle.session_base.proofs.FillsOfQueues.{fill_done}
 use Rattle.session_base.proofs.IdentifiersStayApart.{pubrec_length}
@@ -19,7 +20,7 @@ use Rattle.broker_base.specs.SessionStep.{copies_with, answered_queue, kept_on, 
 use Rattle.broker_base.specs.State.{Sessions, State}
 use Rattle.broker_base.specs.Decisions.{place_in}
 use Rattle.broker_base.specs.Step.{is_about, touches, session_after, window_after, step}
-use Rattle.broker_base.specs.StateLaws.{IsSoundSession, IsQuiet, AllSound, AllQuiet}
+use Rattle.broker_base.specs.StateLaws.{IsSoundSession, HasQuietQueue, AllSound, AllQuiet}
 use Rattle.broker_base.specs.declared.command.Command.{Command}
 use Rattle.broker_base.specs.declared.command.Command.TheVariants as commands
 use Rattle.broker_base.proofs.UntouchedStays.{no_start}
@@ -56,31 +57,31 @@ answer_quiet w command mark c x q a h = h
 
 -- ---- a session
 
-quiet_on : (w : ℕ) (place : Place) (content : Content) (c : Client) (connection : Option ConnectionName) (old : ClientSession) → IsDistinct (ids_of old.state.queue.in_flight) →
-    ((x : ConnectionName) → connection ≡ Some x → QuietNow w old.state.queue) → IsQuiet w (kept_on w place content c connection old)
+quiet_on : (w : ℕ) (place : Place) (content : RetainedTopics) (c : Client) (connection : Option ConnectionName) (old : ClientSession) → IsDistinct (ids_of old.state.queue.in_flight) →
+    ((x : ConnectionName) → connection ≡ Some x → QuietNow w old.state.queue) → HasQuietQueue w (kept_on w place content c connection old)
 quiet_on w place content c None old a h = inl refl
 quiet_on w place content c (Some x) old a h =
     inr (copies_quiet w (copies_with place.command place.mark content c old.state.subscriptions) (answered_queue w place.command place.mark c (Some x) old.state.queue)
     (answer_quiet w place.command place.mark c x old.state.queue a (h x refl)))
 
-quiet_connected : (w : ℕ) (opened : ConnectionName × Bool) (old : Option ClientSession) → IsQuiet w (kept_connected w opened old)
+quiet_connected : (w : ℕ) (opened : ConnectionName × Bool) (old : Option ClientSession) → HasQuietQueue w (kept_connected w opened old)
 quiet_connected w opened None = inr (inl refl)
 quiet_connected w opened (Some old) =
-    elim (opened.1 || old.clean) as (λ (b : Bool). IsQuiet w (if b then kept_anew opened else kept_resumed w opened old)) [
+    elim (opened.1 || old.clean) as (λ (b : Bool). HasQuietQueue w (if b then kept_anew opened else kept_resumed w opened old)) [
       | true ↦ inr (inl refl)
       | false ↦ inr (fill_done w old.state.queue.in_flight old.state.queue.waiting)
     ]
 
-quiet_only : (w : ℕ) (b : Bool) (kept : ClientSession) → IsQuiet w kept → If (IsQuiet w) (only_if b (Some kept))
+quiet_only : (w : ℕ) (b : Bool) (kept : ClientSession) → HasQuietQueue w kept → If (HasQuietQueue w) (only_if b (Some kept))
 quiet_only w true kept h = h
 quiet_only w false kept h = tt
 
 -- where its connection stays, the window does, and so does what was quiet
-quiet_same : (v w : ℕ) (place : Place) (kept : ClientSession) → (is_start place.command ≡ false → w ≡ v) → IsQuiet v kept →
+quiet_same : (v w : ℕ) (place : Place) (kept : ClientSession) → (is_start place.command ≡ false → w ≡ v) → HasQuietQueue v kept →
     (x : ConnectionName) → only_if (not (ends_any place kept.connection)) kept.connection ≡ Some x → QuietNow w kept.state.queue
 quiet_same v w place kept window quiet x e = by (ends_any place kept.connection) refl e quiet
   where
-    by : (over : Bool) → ends_any place kept.connection ≡ over → only_if (not over) kept.connection ≡ Some x → IsQuiet v kept → QuietNow w kept.state.queue
+    by : (over : Bool) → ends_any place kept.connection ≡ over → only_if (not over) kept.connection ≡ Some x → HasQuietQueue v kept → QuietNow w kept.state.queue
     by true ended f k = absurd (cc)
     by false ended f (inl none) = absurd (let g : None ≡ Some x = sym none ∙ f in cc)
     by false ended f (inr k) =
@@ -89,26 +90,26 @@ quiet_same v w place kept window quiet x e = by (ends_any place kept.connection)
 
 -- a session that is sound, and quiet in this window
 abbrev pub Both : ℕ → ClientSession → Type 0
-Both w kept = IsSoundSession kept × IsQuiet w kept
+Both w kept = IsSoundSession kept × HasQuietQueue w kept
 
-quiet_by : (v w : ℕ) (place : Place) (content : Content) (c : Client) (opened : Option (ConnectionName × Bool)) (old : ClientSession) → (is_start place.command ≡ false → w ≡ v) → Both v old →
-    If (IsQuiet w) (kept_by w place content c opened (Some old))
+quiet_by : (v w : ℕ) (place : Place) (content : RetainedTopics) (c : Client) (opened : Option (ConnectionName × Bool)) (old : ClientSession) → (is_start place.command ≡ false → w ≡ v) → Both v old →
+    If (HasQuietQueue w) (kept_by w place content c opened (Some old))
 quiet_by v w place content c (Some opened) old window h = quiet_connected w opened (Some old)
 quiet_by v w place content c None old window h =
     quiet_only w (not (old.clean && ends_any place old.connection)) _
     (quiet_on w place content c (only_if (not (ends_any place old.connection)) old.connection) old h.0.identifiers (quiet_same v w place old window h.1))
 
-untouched_quiet : (v w : ℕ) (place : Place) (kept : ClientSession) → (is_start place.command ≡ false → w ≡ v) → ends_any place kept.connection ≡ false → IsQuiet v kept → IsQuiet w kept
+untouched_quiet : (v w : ℕ) (place : Place) (kept : ClientSession) → (is_start place.command ≡ false → w ≡ v) → ends_any place kept.connection ≡ false → HasQuietQueue v kept → HasQuietQueue w kept
 untouched_quiet v w place kept window not_ended quiet = by kept.connection refl
   where
-    by : (connection : Option ConnectionName) → kept.connection ≡ connection → IsQuiet w kept
+    by : (connection : Option ConnectionName) → kept.connection ≡ connection → HasQuietQueue w kept
     by None e = inl e
     by (Some x) e = inr (quiet_same v w place kept window quiet x (ap (λ b. only_if (not b) kept.connection) not_ended ∙ e))
 
-quiet_row : (v w : ℕ) (place : Place) (content : Content) (c : Client) (kept : ClientSession) → (is_start place.command ≡ false → w ≡ v) → Both v kept →
-    If (IsQuiet w) (session_after w place content c kept)
+quiet_row : (v w : ℕ) (place : Place) (content : RetainedTopics) (c : Client) (kept : ClientSession) → (is_start place.command ≡ false → w ≡ v) → Both v kept →
+    If (HasQuietQueue w) (session_after w place content c kept)
 quiet_row v w place content c kept window h =
-    elim (touches place c kept) as (λ (b : Bool). touches place c kept ≡ b → If (IsQuiet w) (if b then kept_after w place content c (Some kept) else Some kept)) [
+    elim (touches place c kept) as (λ (b : Bool). touches place c kept ≡ b → If (HasQuietQueue w) (if b then kept_after w place content c (Some kept) else Some kept)) [
       | true ↦ λ e. quiet_by v w place content c (accepts place.command place.mark c) kept window h
       | false ↦ λ e. untouched_quiet v w place kept window (or_parts (ends_any place kept.connection) (is_about place.command place.mark c kept.state.subscriptions) e).0 h.1
     ] refl
@@ -127,8 +128,8 @@ pub stays_quiet : (limits : Limits) (later : ℕ) (state : State) (command : Com
     AllQuiet (step limits later state command).0.window (step limits later state command).0.sessions
 stays_quiet limits later state command sound h =
     let rows : AllRows (Both state.window) state.sessions = both_rows state.window state.sessions sound h in
-    all_with (Both state.window) (IsQuiet (window_after later command state.window)) (window_after later command state.window) (place_in limits state command) state.retained state.sessions command (place_in limits state command).mark
+    all_with (Both state.window) (HasQuietQueue (window_after later command state.window)) (window_after later command state.window) (place_in limits state command) state.retained state.sessions command (place_in limits state command).mark
     (λ opened old k. quiet_connected (window_after later command state.window) opened old) rows
-    (all_left (Both state.window) (IsQuiet (window_after later command state.window)) (window_after later command state.window) (place_in limits state command) state.retained
+    (all_left (Both state.window) (HasQuietQueue (window_after later command state.window)) (window_after later command state.window) (place_in limits state command) state.retained
     (λ c kept k. quiet_row state.window (window_after later command state.window) (place_in limits state command) state.retained c kept (λ e. not_start (is_start command) later state.window e) k)
     state.sessions rows)

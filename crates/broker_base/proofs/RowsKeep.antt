@@ -4,7 +4,7 @@ use Rattle.std.specs.declared.cmp.Ordering.{Ordering}
 use Rattle.std.specs.declared.cmp.Ordering.TheVariants.{Less, Equal, Greater}
 use Rattle.std.specs.Ordering.{is_eq, match_ordering}
 use Rattle.std.specs.List.{AllByRecursion}
-use Rattle.retained.specs.Retained.{Content}
+use Rattle.retained.specs.Retained.{RetainedTopics}
 use Rattle.broker_base.specs.Connection.{ConnectionName}
 use Rattle.broker_base.specs.Place.{Client, by_bytes, Mark, Place}
 use Rattle.broker_base.specs.ClientSession.{ClientSession}
@@ -26,7 +26,7 @@ all_keyed : (P : ClientSession → Type 0) (c : Client) (o : Option ClientSessio
 all_keyed P c None rows h k = k
 all_keyed P c (Some kept) rows h k = (h, k)
 
-pub all_left : (P Q : ClientSession → Type 0) (w : ℕ) (place : Place) (content : Content) →
+pub all_left : (P Q : ClientSession → Type 0) (w : ℕ) (place : Place) (content : RetainedTopics) →
     ((c : Client) (kept : ClientSession) → P kept → If Q (session_after w place content c kept)) →
     (rows : Sessions) → AllRows P rows → AllRows Q (sessions_left w place content rows)
 all_left P Q w place content one [] h = tt
@@ -53,7 +53,7 @@ all_found P c (row ∷ rows) h = by (by_bytes c row.0) (all_found P c rows h.1)
     by Equal k = h.0
     by Greater k = k
 
-pub all_with : (P Q : ClientSession → Type 0) (w : ℕ) (place : Place) (content : Content) (rows : Sessions) (command : Command) (mark : Mark) →
+pub all_with : (P Q : ClientSession → Type 0) (w : ℕ) (place : Place) (content : RetainedTopics) (rows : Sessions) (command : Command) (mark : Mark) →
     ((opened : ConnectionName × Bool) (old : Option ClientSession) → If P old → Q (kept_connected w opened old)) →
     AllRows P rows → AllRows Q (sessions_left w place content rows) → AllRows Q (sessions_with w place content rows command mark)
 all_with P Q w place content rows (commands.Connect x c clean) Mark.Accepted connected k h =

@@ -7,7 +7,7 @@ use Rattle.std.specs.List.{AllByRecursion}
 use Rattle.std.specs.List.Sorted.{IsStrictlySortedBy}
 use Rattle.std.specs.Map.{keys_of}
 use Rattle.std.proofs.lemmas.Cmp.{nat_list_cmp_total}
-use Rattle.retained.specs.Retained.{Content}
+use Rattle.retained.specs.Retained.{RetainedTopics}
 use Rattle.broker_base.specs.Place.{Client, by_bytes, Mark, Place}
 use Rattle.broker_base.specs.ClientSession.{ClientSession}
 use Rattle.broker_base.specs.SessionStep.{kept_connected}
@@ -30,7 +30,7 @@ before_keyed : (b c : Client) (o : Option ClientSession) (rows : Sessions) → b
 before_keyed b c None rows less h = h
 before_keyed b c (Some kept) rows less h = (less, h)
 
-pub before_left : (b : Client) (w : ℕ) (place : Place) (content : Content) (rows : Sessions) → ComesBefore b rows → ComesBefore b (sessions_left w place content rows)
+pub before_left : (b : Client) (w : ℕ) (place : Place) (content : RetainedTopics) (rows : Sessions) → ComesBefore b rows → ComesBefore b (sessions_left w place content rows)
 before_left b w place content [] h = tt
 before_left b w place content (row ∷ rows) h =
     before_keyed b row.0 (session_after w place content row.0 row.1) (sessions_left w place content rows) h.0 (before_left b w place content rows h.1)
@@ -40,7 +40,7 @@ unfolding IsStrictlySortedBy
 keyed_by_client c None rows h k = k
 keyed_by_client c (Some kept) rows h k = (h, k)
 
-pub left_by_client : (w : ℕ) (place : Place) (content : Content) (rows : Sessions) → AreByClient rows → AreByClient (sessions_left w place content rows)
+pub left_by_client : (w : ℕ) (place : Place) (content : RetainedTopics) (rows : Sessions) → AreByClient rows → AreByClient (sessions_left w place content rows)
 unfolding IsStrictlySortedBy
 left_by_client w place content [] h = tt
 left_by_client w place content (row ∷ rows) h =
@@ -67,7 +67,7 @@ put_by_client c kept (row ∷ rows) h = by (by_bytes c row.0) refl (put_by_clien
     by Equal e more = h
     by Greater e more = (before_put row.0 c kept rows (greater_turned c row.0 e) h.0, more)
 
-pub stays_by_client : (w : ℕ) (place : Place) (content : Content) (rows : Sessions) (command : Command) (mark : Mark) → AreByClient rows →
+pub stays_by_client : (w : ℕ) (place : Place) (content : RetainedTopics) (rows : Sessions) (command : Command) (mark : Mark) → AreByClient rows →
     AreByClient (sessions_with w place content rows command mark)
 unfolding IsStrictlySortedBy
 stays_by_client w place content rows (commands.Connect x c clean) Mark.Accepted h =

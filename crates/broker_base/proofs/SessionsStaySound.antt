@@ -1,10 +1,10 @@
 -- A step keeps each session sound: its identifiers in flight distinct, its released entries first.
 use Rattle.std.proofs.Common.{ℕ, Bool, true, false, not, ◌&&◌, ◌||◌, if◌then◌else◌, Option, Some, None, List, [], ◌∷◌}
 use Rattle.packet.specs.declared.packet.Packet.TheVariants as packets
-use Rattle.retained.specs.Retained.{Content}
+use Rattle.retained.specs.Retained.{RetainedTopics}
 use Rattle.session_base.specs.declared.publication.Publication.{Publication}
 use Rattle.session_base.specs.Publication.{is_answered}
-use Rattle.session_base.specs.Laws.{IsDistinct}
+use Rattle.lists.specs.Lists.{IsDistinct}
 use Rattle.session_base.specs.OrderLaws.{IsReleasedFirst}
 use Rattle.session_base.specs.Queue.{Flight, Queue, ids_of, on_puback, on_pubrec, on_pubcomp, enqueue, fill, filled, copies_left}
 use Rattle.session_base.proofs.IdentifiersOfFills.{fill_apart}
@@ -67,7 +67,7 @@ copied_fly w None copies q h = h
 
 -- ---- a session
 
-sound_on : (w : ℕ) (place : Place) (content : Content) (c : Client) (connection : Option ConnectionName) (old : ClientSession) → IsSoundSession old → IsSoundSession (kept_on w place content c connection old)
+sound_on : (w : ℕ) (place : Place) (content : RetainedTopics) (c : Client) (connection : Option ConnectionName) (old : ClientSession) → IsSoundSession old → IsSoundSession (kept_on w place content c connection old)
 sound_on w place content c connection old h =
     let k : Flies (kept_on w place content c connection old).state.queue.in_flight
     = copied_fly w connection (copies_with place.command place.mark content c old.state.subscriptions) (answered_queue w place.command place.mark c connection old.state.queue)
@@ -86,14 +86,14 @@ sound_only : (b : Bool) (kept : ClientSession) → IsSoundSession kept → If Is
 sound_only true kept h = h
 sound_only false kept h = tt
 
-sound_by : (w : ℕ) (place : Place) (content : Content) (c : Client) (opened : Option (ConnectionName × Bool)) (old : ClientSession) → IsSoundSession old →
+sound_by : (w : ℕ) (place : Place) (content : RetainedTopics) (c : Client) (opened : Option (ConnectionName × Bool)) (old : ClientSession) → IsSoundSession old →
     If IsSoundSession (kept_by w place content c opened (Some old))
 sound_by w place content c (Some opened) old h = sound_connected w opened (Some old) h
 sound_by w place content c None old h =
     sound_only (not (old.clean && ends_any place old.connection)) (kept_on w place content c (only_if (not (ends_any place old.connection)) old.connection) old)
     (sound_on w place content c (only_if (not (ends_any place old.connection)) old.connection) old h)
 
-sound_row : (w : ℕ) (place : Place) (content : Content) (c : Client) (kept : ClientSession) → IsSoundSession kept → If IsSoundSession (session_after w place content c kept)
+sound_row : (w : ℕ) (place : Place) (content : RetainedTopics) (c : Client) (kept : ClientSession) → IsSoundSession kept → If IsSoundSession (session_after w place content c kept)
 sound_row w place content c kept h =
     elim (touches place c kept) as (λ (b : Bool). If IsSoundSession (if b then kept_after w place content c (Some kept) else Some kept)) [
       | true ↦ sound_by w place content c (accepts place.command place.mark c) kept h

@@ -3,7 +3,7 @@ use Rattle.std.proofs.Common.{◌≡◌, ℕ, Bool, true, false, not, ◌&&◌, 
 use Rattle.std.proofs.lemmas.Bool.{or_parts}
 use Rattle.session_base.specs.Subscriptions.{HeldFilter, granted_qos}
 use Rattle.packet.specs.declared.packet.Packet.TheVariants as packets
-use Rattle.retained.specs.Retained.{Content}
+use Rattle.retained.specs.Retained.{RetainedTopics}
 use Rattle.session_base.specs.Queue.{Queue}
 use Rattle.broker_base.specs.Connection.{ConnectionName}
 use Rattle.broker_base.specs.Place.{Client, same_client, Mark, Place, Past, Limits, only_if}
@@ -48,7 +48,7 @@ answered_same w (commands.Packet x (packets.Pubrec i)) (Mark.Handled d) c held c
 answered_same w (commands.Packet x (packets.Pubcomp i)) (Mark.Handled d) c held connection q e = if_no (same_client d c) _ q e
 answered_same w _ _ c held connection q e = refl
 
-no_copies : (command : Command) (mark : Mark) (content : Content) (c : Client) (held : List HeldFilter) → is_about command mark c held ≡ false → copies_with command mark content c held ≡ []
+no_copies : (command : Command) (mark : Mark) (content : RetainedTopics) (c : Client) (held : List HeldFilter) → is_about command mark c held ≡ false → copies_with command mark content c held ≡ []
 no_copies (commands.Packet x (packets.Publish p)) (Mark.Taken d) content c held e =
     none (granted_qos p.topic held) (or_parts (same_client d c) (is_some (granted_qos p.topic held)) e).1
   where
@@ -86,7 +86,7 @@ still_there : (clean : Bool) (kept : ClientSession) → only_if (not (clean && f
 still_there true kept = refl
 still_there false kept = refl
 
-pub kept_stays : (w : ℕ) (place : Place) (content : Content) (c : Client) (kept : ClientSession) → ends_any place kept.connection ≡ false → is_about place.command place.mark c kept.state.subscriptions ≡ false →
+pub kept_stays : (w : ℕ) (place : Place) (content : RetainedTopics) (c : Client) (kept : ClientSession) → ends_any place kept.connection ≡ false → is_about place.command place.mark c kept.state.subscriptions ≡ false →
     kept_after w place content c (Some kept) ≡ Some kept
 kept_stays w place content c kept not_ended not_about =
     ap (λ opened. kept_by w place content c opened (Some kept)) (not_opened place.command place.mark c kept.state.subscriptions not_about)

@@ -1,6 +1,6 @@
 -- Worked rows: the limits of a broker, and what is answered where one is met (MQTT 3.1.4, 3.2.2.3, 3.9.3, 4.8).
 use Rattle.std.specs.Prelude.{◌≡◌, ℕ, true, false, List, [], ◌∷◌, ◌++◌, codes}
-use Rattle.packet_base.specs.declared.refusal_code.RefusalCode.TheVariants as refusals
+use Rattle.packet.specs.RefusalCode.TheVariants as refusals
 use Rattle.packet.specs.declared.connack.Connack.TheVariants as connacks
 use Rattle.packet.specs.declared.qos.QoS.TheVariants as levels
 use Rattle.packet.specs.declared.delivery.Delivery.TheVariants as deliveries
@@ -11,7 +11,7 @@ use Rattle.broker_base.specs.Commands.{limits_with, usual_limits}
 use Rattle.broker_base.specs.RowWords.{Gives, a, b, nth, connect, gets, sends, connack, small, publish_on, asks, asked_at, published_on}
 use Rattle.broker_base.specs.declared.command.Command.{Command}
 use Rattle.broker_base.specs.declared.command.Command.TheVariants as commands
-use Rattle.broker_base.specs.declared.command.Answer.TheVariants.{Close}
+use Rattle.broker_base.specs.declared.command.Output.TheVariants.{Close}
 
 -- 4,096 sessions, 64 subscriptions and 4,096 unfinished entries of each, 16,384 retained topics, whatever the window,
 -- which is 16

@@ -9,18 +9,18 @@ use Rattle.packet.specs.declared.packet.Packet.TheVariants as packets
 use Rattle.broker_base.specs.Commands.{usual_limits}
 use Rattle.broker_base.specs.RowWords.{Gives, a, b, nth, connect, gets, sends, connack, publish, subscribe, suback, subscribed_at}
 use Rattle.broker_base.specs.declared.command.Command.{Command}
-use Rattle.broker_base.specs.declared.command.Answer.{Answer}
-use Rattle.broker_base.specs.declared.command.Answer.TheVariants.{Close}
+use Rattle.broker_base.specs.declared.command.Output.{Output}
+use Rattle.broker_base.specs.declared.command.Output.TheVariants.{Close}
 
 -- ---- the lower QoS of two (MQTT 3.8.4)
 
 -- b has subscribed at this QoS; a sends x with this delivery, and these are the answers
-abbrev pub Delivers : QoS → Delivery → List Answer → Type 0
+abbrev pub Delivers : QoS → Delivery → List Output → Type 0
 Delivers granted sent answers =
     Gives usual_limits (subscribed_at granted) (gets 2 (publish sent false (codes "x")) ∷ []) (answers ∷ [])
 
 -- to b
-abbrev pub to_b : Delivery → Answer
+abbrev pub to_b : Delivery → Output
 to_b delivery = sends 1 (publish delivery false (codes "x"))
 
 -- what is sent is answered by its own QoS and identifier; what is delivered has the lower of both
@@ -39,7 +39,7 @@ LowerQosIsDelivered =
 -- ---- what is retained (MQTT 3.3.1.3)
 
 -- a sends these; then b subscribes to t/# at this QoS, and is sent this behind SUBACK
-abbrev pub Retains : List Command → QoS → List Answer → Type 0
+abbrev pub Retains : List Command → QoS → List Output → Type 0
 Retains sent asked answers =
     Gives usual_limits (connect 2 a ∷ sent ++ connect 1 b ∷ []) (gets 1 (subscribe 3 asked) ∷ [])
     ((sends 1 (suback 3 asked) ∷ answers) ∷ [])
@@ -49,7 +49,7 @@ abbrev pub sent_by_a : Delivery → Bool → List ℕ → Command
 sent_by_a delivery retain payload = gets 2 (publish delivery retain payload)
 
 -- to b, with RETAIN 1
-abbrev pub retained_to_b : Delivery → List ℕ → List Answer
+abbrev pub retained_to_b : Delivery → List ℕ → List Output
 retained_to_b delivery payload = sends 1 (publish delivery true payload) ∷ []
 
 -- it keeps its own QoS, 0 included, and comes at the lower of that and the one that is asked for

@@ -1,7 +1,7 @@
 -- What one more command makes of a client's session (MQTT 3.1.2.4, 3.1.4, 3.3.5, 3.8.4, 4.3, 4.4, 4.6).
 use Rattle.std.specs.Prelude.{ℕ, Bool, not, ◌&&◌, ◌||◌, if◌then◌else◌, List, [], Option, Some, None, option_map}
 use Rattle.packet.specs.declared.packet.Packet.TheVariants as packets
-use Rattle.retained.specs.Retained.{Content}
+use Rattle.retained.specs.Retained.{RetainedTopics}
 use Rattle.session_base.specs.declared.publication.Publication.{Publication}
 use Rattle.session_base.specs.Publication.{publication_of, lower_qos}
 use Rattle.session_base.specs.Subscriptions.{HeldFilter, granted_qos}
@@ -18,7 +18,7 @@ use Rattle.broker_base.specs.declared.command.Command.{Command}
 use Rattle.broker_base.specs.declared.command.Command.TheVariants as commands
 
 -- the copies that a command makes for a session with these subscriptions
-abbrev pub copies_with : Command → Mark → Content → Client → List HeldFilter → List Publication
+abbrev pub copies_with : Command → Mark → RetainedTopics → Client → List HeldFilter → List Publication
 copies_with (commands.Packet x (packets.Publish p)) (Mark.Taken d) content c held =
     copy_of (publication_of p) (option_map (lower_qos (publication_of p).qos) (granted_qos (publication_of p).topic held))
 copies_with (commands.Packet x (packets.Subscribe s)) (Mark.Granted d which) content c held =
@@ -46,7 +46,7 @@ copied_queue window (Some x) copies queue = copies_left window copies queue
 copied_queue window None copies queue = copies_waiting copies queue
 
 -- a session goes on behind a command that is no accepted Connect of its client, with this connection or none
-abbrev pub kept_on : ℕ → Place → Content → Client → Option ConnectionName → ClientSession → ClientSession
+abbrev pub kept_on : ℕ → Place → RetainedTopics → Client → Option ConnectionName → ClientSession → ClientSession
 kept_on window place content c connection old =
     record {
       clean = old.clean;
@@ -84,19 +84,19 @@ kept_connected window opened (Some old) =
     if opened.1 || old.clean then kept_anew opened else kept_resumed window opened old
 
 -- any other command: the connection may end, and a clean session with it
-abbrev pub kept_later : ℕ → Place → Content → Client → Option ClientSession → Option ClientSession
+abbrev pub kept_later : ℕ → Place → RetainedTopics → Client → Option ClientSession → Option ClientSession
 kept_later window place content c None = None
 kept_later window place content c (Some old) =
     only_if (not (old.clean && ends_any place old.connection))
     (Some (kept_on window place content c (only_if (not (ends_any place old.connection)) old.connection) old))
 
 -- by what the command opens for the client
-abbrev pub kept_by : ℕ → Place → Content → Client → Option (ConnectionName × Bool) → Option ClientSession → Option ClientSession
+abbrev pub kept_by : ℕ → Place → RetainedTopics → Client → Option (ConnectionName × Bool) → Option ClientSession → Option ClientSession
 kept_by window place content c (Some opened) old = Some (kept_connected window opened old)
 kept_by window place content c None old = kept_later window place content c old
 
 -- what is kept of the client's session after a place, with this window from then on and this content of the
 -- retained publications before it
-abbrev pub kept_after : ℕ → Place → Content → Client → Option ClientSession → Option ClientSession
+abbrev pub kept_after : ℕ → Place → RetainedTopics → Client → Option ClientSession → Option ClientSession
 kept_after window place content c old =
     kept_by window place content c (accepts place.command place.mark c) old

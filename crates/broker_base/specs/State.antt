@@ -2,7 +2,7 @@
 use Rattle.std.specs.Prelude.{ℕ, if◌then◌else◌, List, [], ◌∷◌, Option, Some, None}
 use Rattle.std.specs.BTreeMap.{insert_entry, is_at}
 use Rattle.std.specs.Map.{lookup}
-use Rattle.retained.specs.Retained.{Content}
+use Rattle.retained.specs.Retained.{RetainedTopics}
 use Rattle.broker_base.specs.Connection.{ConnectionName, same_connection}
 use Rattle.broker_base.specs.Place.{Client, by_bytes, Past, Limits}
 use Rattle.broker_base.specs.Past.{any_connection}
@@ -19,7 +19,7 @@ Sessions = List (Client × ClientSession)
 pub record State : Type 0 where
   pub window : ℕ
   pub sessions : Sessions
-  pub retained : Content
+  pub retained : RetainedTopics
 
 -- a broker that began empty, with this window
 abbrev pub empty_state : ℕ → State

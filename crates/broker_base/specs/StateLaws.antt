@@ -5,7 +5,8 @@ use Rattle.std.specs.List.{AllByRecursion}
 use Rattle.std.specs.List.Sorted.{IsStrictlySortedBy}
 use Rattle.std.specs.Map.{keys_of}
 use Rattle.session_base.specs.Queue.{ids_of}
-use Rattle.session_base.specs.Laws.{IsDistinct, IsQuietQueue}
+use Rattle.lists.specs.Lists.{IsDistinct}
+use Rattle.session_base.specs.Laws.{IsQuietQueue}
 use Rattle.session_base.specs.OrderLaws.{IsReleasedFirst}
 use Rattle.broker_base.specs.Connection.{ConnectionName, same_connection}
 use Rattle.broker_base.specs.Place.{by_bytes, Limits}
@@ -23,8 +24,8 @@ pub record IsSoundSession (kept : ClientSession) : Type 0 where
   pub released_first : IsReleasedFirst kept.state.queue.in_flight
 
 -- a connected client's queue has nothing waiting, or its window is full
-abbrev pub IsQuiet : ℕ → ClientSession → Type 0
-IsQuiet window kept =
+abbrev pub HasQuietQueue : ℕ → ClientSession → Type 0
+HasQuietQueue window kept =
     (kept.connection ≡ None) ⊎ IsQuietQueue window kept.state.queue.in_flight kept.state.queue.waiting
 
 -- ---- all sessions
@@ -33,7 +34,7 @@ abbrev pub AllSound : Sessions → Type 0
 AllSound rows = AllByRecursion (λ row. IsSoundSession row.1) rows
 
 abbrev pub AllQuiet : ℕ → Sessions → Type 0
-AllQuiet window rows = AllByRecursion (λ row. IsQuiet window row.1) rows
+AllQuiet window rows = AllByRecursion (λ row. HasQuietQueue window row.1) rows
 
 -- the sessions come by the bytes of their clients, each client once
 abbrev pub AreByClient : Sessions → Type 0

@@ -5,7 +5,7 @@ use Rattle.packet.specs.declared.packet.Packet.TheVariants as packets
 use Rattle.session_base.specs.declared.publication.Publication.{Publication}
 use Rattle.session_base.specs.declared.awaits.Awaits.TheVariants as waits_for
 use Rattle.session_base.specs.Publication.{publish_of}
-use Rattle.session_base.specs.Laws.{IsDistinct}
+use Rattle.lists.specs.Lists.{IsDistinct}
 use Rattle.session_base.specs.Queue.{Flight, ids_of, is_released, awaits_puback, awaits_pubrec, awaits_pubcomp, on_puback, on_pubrec, on_pubcomp, fill}
 use Rattle.session_base.specs.Sending.{resend}
 
