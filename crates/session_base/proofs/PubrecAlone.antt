@@ -47,4 +47,3 @@ find i (flight ∷ fs) h =
     rest : Found i fs → awaits_pubrec i flight ≡ false → Found i (flight ∷ fs)
     rest (Found.Nothing a b) e = Found.Nothing (rw (e, a) refl) (rw (e, b) refl)
     rest (Found.JustOne a b) e = Found.JustOne (ids_if false i flight fs e ∙ a) (rw (e, b) refl)
-

@@ -6,15 +6,10 @@ use Rattle.session_base.specs.declared.publication.Publication.{Publication}
 use Rattle.session_base.specs.declared.awaits.Awaits.{Awaits}
 use Rattle.session_base.specs.declared.awaits.Awaits.TheVariants as waits_for
 use Rattle.session_base.specs.Publication.{publish_of, is_answered}
-use Rattle.lists.specs.Lists.{has_id}
+use Rattle.lists.specs.Lists.{has_id, IsDistinct}
 use Rattle.session_base.specs.Identifiers.{least_free}
 use Rattle.session_base.specs.Queue.{Flight, ids_of, fill, copies_left}
 use Rattle.session_base.specs.Sending.{fill_sends}
-
--- no identifier comes twice
-abbrev pub IsDistinct : List ℕ → Type 0
-IsDistinct (id ∷ ids) = (has_id id ids ≡ false) × IsDistinct ids
-IsDistinct [] = Unit {0}
 
 -- the publications in flight: a released entry has none left
 abbrev pub publications_of : List Flight → List Publication
