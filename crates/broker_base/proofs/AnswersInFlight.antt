@@ -6,7 +6,7 @@ use Rattle.session_base.specs.Queue.{awaited, awaits_puback, awaits_pubcomp, on_
 use Rattle.broker_base.specs.Entries.{Entry}
 use Rattle.broker_base.specs.Readings.{released_at, released_below}
 use Rattle.broker_base.specs.Times.{at_puback, at_pubcomp}
-use Rattle.broker_base.specs.Kept.{sent_flights, released_flight, flights_below}
+use Rattle.broker_base.specs.ClientSession.{sent_flights, released_flight, flights_below}
 use Rattle.broker_base.proofs.WhatFlightsAwait.{filter_out, filter_map_is, awaits_puback_is, and_no, and_yes, awaits_no_pubcomp}
 
 -- ---- PUBACK

@@ -13,7 +13,7 @@ use Rattle.broker_base.specs.Entries.{Entry, copies_at, queued}
 use Rattle.broker_base.specs.Readings.{made_at, waiting_of, busy_ids}
 use Rattle.broker_base.specs.Times.{answered_by, start_all, started, window_at, entries_of}
 use Rattle.broker_base.specs.Sends.{handed, handed_to, deliveries_to}
-use Rattle.broker_base.specs.Kept.{flights_below, queue_of, kept_of}
+use Rattle.broker_base.specs.ClientSession.{flights_below, queue_of, client_session}
 use Rattle.broker_base.specs.StepAnswers.{copies_to}
 use Rattle.broker_base.specs.declared.command.Output.TheVariants.{Send}
 use Rattle.session_base.proofs.CountedIdentifiers.{count, SameIds, same_length}
@@ -69,5 +69,5 @@ pub deliveries_are : (limits : Limits) (place : Place) (past : Past) (c : Client
     accepts place.command place.mark c ≡ None → ends_any place (current_connection past c) ≡ false →
     answered_by place.command place.mark (length past) c (entries_of limits past c) ≡ entries_of limits past c →
     window_at limits (place ∷ past) ≡ window_at limits past →
-    deliveries_to limits place past c ≡ copies_to (window_at limits (place ∷ past)) place (retained_publications past) c (kept_of limits past c)
+    deliveries_to limits place past c ≡ copies_to (window_at limits (place ∷ past)) place (retained_publications past) c (client_session limits past c)
 deliveries_are limits place past c = copies_by_kept limits place past c (session_of past c) (current_connection past c) refl refl

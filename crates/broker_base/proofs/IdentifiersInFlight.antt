@@ -5,7 +5,7 @@ use Rattle.session_base.specs.declared.publication.Publication.{Publication}
 use Rattle.session_base.specs.Queue.{Flight, ids_of}
 use Rattle.broker_base.specs.Entries.{Entry}
 use Rattle.broker_base.specs.Readings.{released_at, released_below, busy_ids}
-use Rattle.broker_base.specs.Kept.{sent_flights, released_flight, flights_below}
+use Rattle.broker_base.specs.ClientSession.{sent_flights, released_flight, flights_below}
 use Rattle.session_base.proofs.CountedIdentifiers.{one_if, count, count-append, SameIds}
 use Rattle.broker_base.proofs.SoundEntries.{IsBelow}
 

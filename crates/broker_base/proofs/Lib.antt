@@ -48,3 +48,8 @@ pub mod TakenPublishAddsOne
 pub mod UntouchedStays
 pub mod WaitingStays
 pub mod WhatFlightsAwait
+pub mod FillingAlways
+pub mod FillsWhereItMay
+pub mod PastsAtRest
+pub mod RowsKeep
+pub mod SessionsStaySound

@@ -1,6 +1,6 @@
 -- A packet of a connection that is nobody's current one: nothing changes, and nothing is given.
 use Rattle.std.proofs.Common.{◌≡◌, ℕ, ◌≤◌, Bool, true, false, not, ◌&&◌, nat_lt, if◌then◌else◌, List, [], ◌∷◌, length, Option, Some, None, ◌⊎◌, inl, inr, refl, sym, ◌∙◌, ap, arith, append-nil}
-use Rattle.packet.specs.declared.subscribe.Subscription.{Subscription}
+use Rattle.session_base.specs.Subscriptions.{HeldFilter}
 use Rattle.packet.specs.declared.packet.Packet.{Packet}
 use Rattle.packet.specs.declared.packet.Packet.TheVariants as packets
 use Rattle.retained.specs.Retained.{RetainedTopics}
@@ -22,7 +22,7 @@ use Rattle.broker_base.proofs.NothingWaits.{IsFull, full-at}
 abbrev pub nobodys : ConnectionName → Packet → Place
 nobodys x packet = record { command = commands.Packet x packet; mark = Mark.NoPart }
 
-no-subscription : (packet : Packet) (x : ConnectionName) (c : Client) (held : List Subscription) → subscribed (commands.Packet x packet) Mark.NoPart c held ≡ held
+no-subscription : (packet : Packet) (x : ConnectionName) (c : Client) (held : List HeldFilter) → subscribed (commands.Packet x packet) Mark.NoPart c held ≡ held
 no-subscription (packets.Connect q) x c held = refl
 no-subscription (packets.Connack q) x c held = refl
 no-subscription (packets.Publish p) x c held = refl

@@ -1,61 +1,22 @@
 -- What PUBREC does to the entries is what it does to the queue: the entry comes behind those released before
 -- (MQTT 4.3.3).
-use Rattle.std.proofs.Common.{◌≡◌, ℕ, ◌+◌, ◌≤◌, suc, Bool, true, false, not, ◌&&◌, ◌||◌, ◌==◌, if◌then◌else◌, List, [], ◌∷◌, ◌++◌, map, filter, refl, ap, ap₂, ◌∙◌, sym, arith}
+use Rattle.std.proofs.Common.{◌≡◌, ℕ, ◌≤◌, suc, Bool, true, false, not, ◌&&◌, ◌||◌, ◌==◌, if◌then◌else◌, List, [], ◌∷◌, ◌++◌, map, filter, refl, ap, ap₂, ◌∙◌, sym, arith}
 use Rattle.std.specs.List.{list_any}
 use Rattle.std.proofs.lemmas.List.{map-append, append_assoc}
 use Rattle.std.proofs.lemmas.List.Elements.{filter-append}
 use Rattle.std.proofs.lemmas.List.Folds.{list_any-append}
 use Rattle.session_base.specs.declared.awaits.Awaits.TheVariants as waits_for
-use Rattle.session_base.specs.Queue.{Flight, is_pubrec, awaits_pubrec, is_released, ids_of, released_with, on_pubrec}
+use Rattle.session_base.specs.Queue.{awaits_pubrec, is_released, ids_of, released_with, on_pubrec}
 use Rattle.broker_base.specs.Entries.{Entry}
 use Rattle.broker_base.specs.Readings.{released_below, busy_ids}
 use Rattle.broker_base.specs.Times.{at_pubrec}
-use Rattle.broker_base.specs.Kept.{sent_flights, released_flight, flights_below}
-use Rattle.session_base.proofs.CountedIdentifiers.{one_if, count}
+use Rattle.broker_base.specs.ClientSession.{sent_flights, released_flight, flights_below}
+use Rattle.session_base.proofs.CountedIdentifiers.{count}
+use Rattle.session_base.proofs.PubrecAlone.{Found, find}
 use Rattle.broker_base.proofs.SoundEntries.{Sound}
 use Rattle.broker_base.proofs.IdentifiersInFlight.{append_none}
 use Rattle.broker_base.proofs.WhatFlightsAwait.{not_released}
-use Rattle.broker_base.proofs.ReleasesInFlight.{sent_pubrec, released_before, ids_if, released_now}
-
--- ---- one at most waits for this PUBREC
-
-test_of : (i : ℕ) (fs : List Flight) → count (λ id. i == id) (ids_of fs) ≡ 0 → filter (awaits_pubrec i) fs ≡ []
-test_of i [] h = refl
-test_of i (flight ∷ fs) h =
-    elim (i == flight.0) as (λ (b : Bool). one_if b + count (λ id. i == id) (ids_of fs) ≡ 0 → (if b && is_pubrec flight.1 then flight ∷ filter (awaits_pubrec i) fs else filter (awaits_pubrec i) fs) ≡ []) [
-      | true ↦ λ e. absurd (omega (arith, e))
-      | false ↦ λ e. test_of i fs (omega (arith, e))
-    ] h
-
--- what waits for PUBREC i: none, or one with the identifier i
-pub data Found (i : ℕ) (fs : List Flight) : Type 0 where
-  Nothing : filter (awaits_pubrec i) fs ≡ [] → list_any (awaits_pubrec i) fs ≡ false → Found i fs
-  JustOne : ids_of (filter (awaits_pubrec i) fs) ≡ i ∷ [] → list_any (awaits_pubrec i) fs ≡ true → Found i fs
-
-is_pubrec_now : (i id : ℕ) (b : Bool) → ((i == id) && b) ≡ true → i ≡ id
-is_pubrec_now i id b e = elim (i == id) as (λ (c : Bool). (i == id) ≡ c → (c && b) ≡ true → i ≡ id) [ true ↦ λ same e. grind arith | false ↦ λ same e. absurd (cc) ] refl e
-
-pub find : (i : ℕ) (fs : List Flight) → count (λ id. i == id) (ids_of fs) ≤ 1 → Found i fs
-find i [] h = Found.Nothing refl refl
-find i (flight ∷ fs) h =
-    elim (awaits_pubrec i flight) as (λ (b : Bool). awaits_pubrec i flight ≡ b → Found i (flight ∷ fs)) [
-      | true ↦ λ e. let same : i ≡ flight.0 = is_pubrec_now i flight.0 (is_pubrec flight.1) e in
-          let none : count (λ id. i == id) (ids_of fs) ≡ 0 = only (i == flight.0) (grind arith) h in
-          Found.JustOne (ids_if true i flight fs e ∙ ap₂ (λ id ids. id ∷ ids) (sym same) (ap ids_of (test_of i fs none))) (ap (λ b. b || list_any (awaits_pubrec i) fs) e)
-      | false ↦ λ e. rest (find i fs (fewer (i == flight.0) h)) e
-    ] refl
-  where
-    only : (b : Bool) → b ≡ true → one_if b + count (λ id. i == id) (ids_of fs) ≤ 1 → count (λ id. i == id) (ids_of fs) ≡ 0
-    only true e k = omega (arith, k)
-    only false e k = absurd (cc)
-
-    fewer : (b : Bool) → one_if b + count (λ id. i == id) (ids_of fs) ≤ 1 → count (λ id. i == id) (ids_of fs) ≤ 1
-    fewer true k = omega (arith, k)
-    fewer false k = omega (arith, k)
-
-    rest : Found i fs → awaits_pubrec i flight ≡ false → Found i (flight ∷ fs)
-    rest (Found.Nothing a b) e = Found.Nothing (rw (e, a) refl) (rw (e, b) refl)
-    rest (Found.JustOne a b) e = Found.JustOne (ids_if false i flight fs e ∙ a) (rw (e, b) refl)
+use Rattle.broker_base.proofs.ReleasesInFlight.{sent_pubrec, released_before, released_now}
 
 -- ---- the queue
 

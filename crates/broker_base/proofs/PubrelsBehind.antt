@@ -15,7 +15,7 @@ use Rattle.broker_base.specs.Received.{received_of}
 use Rattle.broker_base.specs.Entries.{Entry, copies_at, queued}
 use Rattle.broker_base.specs.Readings.{released_below}
 use Rattle.broker_base.specs.Times.{at_pubrec, answered_by, started, window_at, entries_of}
-use Rattle.broker_base.specs.Kept.{Kept, sent_flights, released_flight, flights_below, kept_of}
+use Rattle.broker_base.specs.ClientSession.{ClientSession, sent_flights, released_flight, flights_below, client_session}
 use Rattle.broker_base.specs.declared.command.Output.TheVariants.{Send}
 use Rattle.broker_base.proofs.WhatFlightsAwait.{awaits_no_pubcomp}
 use Rattle.broker_base.proofs.PubrecInFlight.{flights_pubrec}
@@ -61,8 +61,8 @@ none_released_ever zero = refl
 none_released_ever (suc t) = append_none (released_below t []) ∙ none_released_ever t
 
 -- the identifiers of released entries behind a PUBREC, if there is a session
-abbrev pub pubrels_behind : ℕ → Option Kept → List Packet
-pubrels_behind i (Some kept) = pubrec_sends i (on_pubrec i kept.queue.in_flight)
+abbrev pub pubrels_behind : ℕ → Option ClientSession → List Packet
+pubrels_behind i (Some kept) = pubrec_sends i (on_pubrec i kept.state.queue.in_flight)
 pubrels_behind i None = []
 
 pubrec_by_kept : (limits : Limits) (place : Place) (past : Past) (c : Client) (x : ConnectionName) (i : ℕ) (session : Option Bool) → session_of past c ≡ session →
@@ -92,5 +92,5 @@ pub pubrec_is : (limits : Limits) (place : Place) (past : Past) (c : Client) (x 
     accepts place.command place.mark c ≡ None → ends_any place (current_connection past c) ≡ false → copies_at place past c ≡ [] →
     answered_by place.command place.mark (length past) c (entries_of limits past c) ≡ map (at_pubrec (length past) i) (entries_of limits past c) →
     (if has_id i (released_below (suc (length past)) (entries_of limits (place ∷ past) c)) then Send x (packets.Pubrel i) ∷ [] else [])
-    ≡ map (Send x) (pubrels_behind i (kept_of limits past c))
+    ≡ map (Send x) (pubrels_behind i (client_session limits past c))
 pubrec_is limits place past c x i = pubrec_by_kept limits place past c x i (session_of past c) refl

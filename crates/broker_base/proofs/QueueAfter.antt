@@ -11,8 +11,9 @@ use Rattle.broker_base.specs.Retained.{retained_publications}
 use Rattle.broker_base.specs.Entries.{Entry, copies_by, copies_at, queued}
 use Rattle.broker_base.specs.Readings.{released_at, released_below, waiting_of}
 use Rattle.broker_base.specs.Times.{answered_by, started, window_at, entries_of}
-use Rattle.broker_base.specs.Kept.{sent_flights, released_flight, flights_below, queue_of}
-use Rattle.broker_base.specs.KeptStep.{copies_with, answered_flights, filled_on}
+use Rattle.broker_base.specs.ClientSession.{sent_flights, released_flight, flights_below, queue_of}
+use Rattle.broker_base.specs.SessionStep.{copies_with, filled_on}
+use Rattle.broker_base.proofs.FillingAlways.{answered_flights}
 use Rattle.broker_base.specs.declared.command.Command.{Command}
 use Rattle.broker_base.specs.declared.command.Command.TheVariants as commands
 use Rattle.broker_base.proofs.SoundEntries.{Sound, sound_none}

@@ -11,7 +11,7 @@ use Rattle.broker_base.specs.Past.{accepts, ends_any, newest_connection, current
 use Rattle.broker_base.specs.Entries.{Entry, copies_at, queued}
 use Rattle.broker_base.specs.Readings.{waiting_of, busy_ids}
 use Rattle.broker_base.specs.Times.{answered_by, start_all, started, window_at, entries_of}
-use Rattle.broker_base.specs.Kept.{flights_below}
+use Rattle.broker_base.specs.ClientSession.{flights_below}
 use Rattle.session_base.proofs.CountedIdentifiers.{same_length}
 use Rattle.broker_base.proofs.SoundEntries.{InOrder, Sound}
 use Rattle.broker_base.proofs.SoundStarts.{order_waits, sound_new}

@@ -1,11 +1,12 @@
 -- What a PUBREC makes of the sent and of the released entries (MQTT 4.3.3).
 use Rattle.std.proofs.Common.{◌≡◌, ℕ, ◌<◌, ◌≤◌, zero, suc, Bool, true, false, not, ◌&&◌, ◌==◌, if◌then◌else◌, List, [], ◌∷◌, ◌++◌, map, filter, refl, ap, ap₂, ◌∙◌, sym, arith}
 use Rattle.session_base.specs.Publication.{is_acknowledged}
-use Rattle.session_base.specs.Queue.{Flight, awaited, awaits_pubrec, ids_of}
+use Rattle.session_base.specs.Queue.{awaited, awaits_pubrec, ids_of}
+use Rattle.session_base.proofs.PubrecAlone.{ids_if}
 use Rattle.broker_base.specs.Entries.{Entry}
 use Rattle.broker_base.specs.Readings.{released_at, released_below}
 use Rattle.broker_base.specs.Times.{at_pubrec}
-use Rattle.broker_base.specs.Kept.{sent_flights, released_flight, flights_below}
+use Rattle.broker_base.specs.ClientSession.{sent_flights, released_flight, flights_below}
 use Rattle.broker_base.proofs.SoundEntries.{IsBelow}
 use Rattle.broker_base.proofs.IdentifiersInFlight.{append_none}
 use Rattle.broker_base.proofs.WhatFlightsAwait.{filter_out, awaits_pubrec_is}
@@ -68,12 +69,6 @@ pub released_before : (t n i : ℕ) (es : List Entry) → t ≤ n → released_b
 released_before zero n i es h = refl
 released_before (suc t) n i es h =
     ap₂ (λ xs ys. xs ++ ys) (released_before t n i es (omega (arith, h))) (released_at_before t n i es (omega (arith, h)))
-
--- those that are released now
-pub ids_if : (b : Bool) (i : ℕ) (flight : Flight) (fs : List Flight) → awaits_pubrec i flight ≡ b →
-    ids_of (filter (awaits_pubrec i) (flight ∷ fs)) ≡ (if b then flight.0 ∷ ids_of (filter (awaits_pubrec i) fs) else ids_of (filter (awaits_pubrec i) fs))
-ids_if true i flight fs e = rw e refl
-ids_if false i flight fs e = rw e refl
 
 pub released_now : (n i : ℕ) (es : List Entry) → IsBelow n es → released_at n (map (at_pubrec n i) es) ≡ ids_of (filter (awaits_pubrec i) (sent_flights es))
 released_now n i [] h = refl

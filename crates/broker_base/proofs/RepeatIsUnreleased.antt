@@ -1,12 +1,17 @@
 -- A PUBLISH at QoS 2 is a repeat exactly where the last word on its identifier is a taken PUBLISH.
-use Rattle.std.proofs.Common.{◌≡◌, ℕ, Bool, true, false, not, ◌&&◌, ◌||◌, ◌==◌, nat_lt, if◌then◌else◌, List, [], ◌∷◌, Option, Some, None, refl, ◌∙◌, ap, arith}
+use Rattle.std.proofs.Common.{◌≡◌, ℕ, Bool, true, false, not, ◌&&◌, ◌||◌, ◌==◌, if◌then◌else◌, List, [], ◌∷◌, Option, Some, None, refl, ◌∙◌, ap, arith}
+use Rattle.std.specs.declared.cmp.Ordering.{Ordering}
+use Rattle.std.specs.declared.cmp.Ordering.TheVariants.{Less, Equal, Greater}
+use Rattle.std.specs.Ordering.{nat_cmp, match_ordering}
+use Rattle.std.proofs.lemmas.Map.Lookups.{exact_unsigned}
 use Rattle.packet.specs.declared.delivery.Delivery.{Delivery}
 use Rattle.packet.specs.declared.delivery.Delivery.TheVariants as deliveries
 use Rattle.packet.specs.declared.packet.Packet.TheVariants as packets
 use Rattle.broker_base.specs.Place.{Client, same_client, Mark}
 use Rattle.broker_base.specs.Past.{session_of, begins, in_session}
 use Rattle.lists.specs.Lists.{has_id}
-use Rattle.broker_base.specs.Received.{without_id, with_id, receives, received_by, received_of}
+use Rattle.session_base.specs.Identifiers.{with_id, without_id}
+use Rattle.broker_base.specs.Received.{receives, received_by, received_of}
 use Rattle.broker_base.specs.Laws.{brings, says_of, newest, ends_in_publish, RepeatIsUnreleased}
 use Rattle.broker_base.specs.declared.command.Command.{Command}
 use Rattle.broker_base.specs.declared.command.Command.TheVariants as commands
@@ -24,16 +29,16 @@ twice-or true y = refl
 twice-or false y = refl
 
 with-by : (id i other : ℕ) (others : List ℕ) → has_id id (with_id i others) ≡ (id == i) || has_id id others
-    → (less same : Bool) → (i == other) ≡ same
-    → has_id id (if less then i ∷ other ∷ others else if same then other ∷ others else other ∷ with_id i others) ≡ (id == i) || ((id == other) || has_id id others)
-with-by id i other others ih true same e = refl
-with-by id i other others ih false true e = rw (same-number i other e) (twice-or (id == other) (has_id id others))
-with-by id i other others ih false false e = ap (λ z. (id == other) || z) ih ∙ swap-or (id == other) (id == i) (has_id id others)
+    → (o : Ordering) → nat_cmp i other ≡ o
+    → has_id id (match_ordering o (i ∷ other ∷ others) (other ∷ others) (other ∷ with_id i others)) ≡ (id == i) || ((id == other) || has_id id others)
+with-by id i other others ih Less e = refl
+with-by id i other others ih Equal e = rw (exact_unsigned i other e) (twice-or (id == other) (has_id id others))
+with-by id i other others ih Greater e = ap (λ z. (id == other) || z) ih ∙ swap-or (id == other) (id == i) (has_id id others)
 
 -- an identifier that comes in is there, and the others are as they were
 has-with : (id i : ℕ) (ids : List ℕ) → has_id id (with_id i ids) ≡ (id == i) || has_id id ids
 has-with id i [] = refl
-has-with id i (other ∷ others) = with-by id i other others (has-with id i others) (nat_lt i other) (i == other) refl
+has-with id i (other ∷ others) = with-by id i other others (has-with id i others) (nat_cmp i other) refl
 
 without-by : (id i other : ℕ) (others : List ℕ) → has_id id (without_id i others) ≡ not (id == i) && has_id id others
     → (same : Bool) → (i == other) ≡ same

@@ -8,8 +8,8 @@ use Rattle.broker_base.specs.Connection.{ConnectionName}
 use Rattle.broker_base.specs.Entries.{Entry}
 use Rattle.broker_base.specs.Readings.{released_at, released_below, waiting_of, busy_ids}
 use Rattle.broker_base.specs.Times.{start_all, started}
-use Rattle.broker_base.specs.Kept.{sent_flights, released_flight, flights_below, queue_of}
-use Rattle.broker_base.specs.KeptStep.{filled_on}
+use Rattle.broker_base.specs.ClientSession.{sent_flights, released_flight, flights_below, queue_of}
+use Rattle.broker_base.specs.SessionStep.{filled_on}
 use Rattle.session_base.proofs.CountedIdentifiers.{one_if, count, count-append, SameIds, same_length, same_least}
 use Rattle.broker_base.proofs.SoundEntries.{IsBelow, AllWait, InOrder}
 use Rattle.broker_base.proofs.SoundStarts.{busy_waits}

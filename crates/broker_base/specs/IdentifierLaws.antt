@@ -1,8 +1,7 @@
 -- What readers may want to know of the identifiers of a session's entries (MQTT 2.3.1, 4.6).
-use Rattle.std.specs.Prelude.{◌≡◌, ◌≤◌, ℕ, false, List, [], ◌∷◌}
+use Rattle.std.specs.Prelude.{◌≤◌, ℕ, List, [], ◌∷◌}
 use Rattle.std.specs.List.{AllByRecursion}
 use Rattle.broker_base.specs.Place.{Client, Place, Past, Limits}
-use Rattle.lists.specs.Lists.{has_id}
 use Rattle.broker_base.specs.Entries.{Entry}
 use Rattle.broker_base.specs.Readings.{busy_ids}
 use Rattle.broker_base.specs.Times.{entries_of, window_at}

@@ -11,6 +11,7 @@ use Rattle.broker_base.specs.Place.{Client, same_client, Mark, Place, Past}
 use Rattle.broker_base.specs.Past.{accepts, ends, current_connection, session_of, begins, in_session}
 use Rattle.broker_base.specs.Subscriptions.{granted_of, subscriptions_of}
 use Rattle.lists.specs.Lists.{has_id}
+use Rattle.session_base.specs.Subscriptions.{HeldFilter}
 use Rattle.broker_base.specs.Received.{received_of}
 use Rattle.broker_base.specs.declared.command.Command.{Command}
 use Rattle.broker_base.specs.declared.command.Command.TheVariants as commands
@@ -71,8 +72,8 @@ RepeatIsUnreleased =
 -- ---- subscriptions
 
 -- the QoS at which a filter stands in a session's list
-abbrev pub qos_asked : List ℕ → List Subscription → Option QoS
-qos_asked f (s ∷ more) = if bytes_eq f s.filter then Some s.qos else qos_asked f more
+abbrev pub qos_asked : List ℕ → List HeldFilter → Option QoS
+qos_asked f (held ∷ more) = if bytes_eq f held.0 then Some held.1 else qos_asked f more
 qos_asked f [] = None
 
 -- the first of two, else the second

@@ -5,8 +5,8 @@ pub mod State
 pub mod Decisions
 pub mod StepAnswers
 pub mod Step
-pub mod Kept
-pub mod KeptStep
+pub mod ClientSession
+pub mod SessionStep
 pub mod Connection
 pub mod Sized
 pub mod Logged
@@ -26,6 +26,9 @@ pub mod Answers
 pub mod RowWords
 pub mod Rows
 pub mod MoreRows
+pub mod LimitRows
+pub mod QosRows
+pub mod SessionRows
 pub mod Laws
 pub mod EntryLaws
 pub mod QuietLaws

@@ -11,7 +11,8 @@ use Rattle.broker_base.specs.Past.{session_of}
 use Rattle.broker_base.specs.Owner.{clients, owner_of}
 use Rattle.session_base.specs.declared.publication.Publication.{Publication}
 use Rattle.session_base.specs.Publication.{publication_of, is_answered}
-use Rattle.broker_base.specs.Subscriptions.{with_subscription, subscriptions_of, effective_qos}
+use Rattle.session_base.specs.Subscriptions.{HeldFilter, with_subscription}
+use Rattle.broker_base.specs.Subscriptions.{as_held, subscriptions_of, effective_qos}
 use Rattle.broker_base.specs.Received.{is_repeat}
 use Rattle.broker_base.specs.Retained.{retained_publications, is_retained_over}
 use Rattle.broker_base.specs.Entries.{copies_for, queued}
@@ -37,20 +38,20 @@ is_refused limits past p = list_any (lacks_room limits past p) (clients past) ||
 -- ---- filters of a SUBSCRIBE
 
 -- whether one more filter would be a subscription too many: an identical one is only replaced
-abbrev pub is_one_too_many : Limits → List Subscription → Subscription → Bool
+abbrev pub is_one_too_many : Limits → List HeldFilter → Subscription → Bool
 is_one_too_many limits held new =
-    not (list_any (λ s. bytes_eq new.filter s.filter) held) && nat_le limits.subscriptions (length held)
+    not (list_any (λ old. bytes_eq new.filter old.0) held) && nat_le limits.subscriptions (length held)
 
 -- how many entries it makes: the retained publications that it is sent at QoS 1 or 2
 abbrev pub entries_for : RetainedTopics → Subscription → ℕ
 entries_for content new = length (queued (copies_for content new))
 
 -- which filters are granted, in turn, with the subscriptions held so far and the room left
-abbrev pub grants : Limits → RetainedTopics → List Subscription → ℕ → List Subscription → List Bool
+abbrev pub grants : Limits → RetainedTopics → List HeldFilter → ℕ → List Subscription → List Bool
 grants limits content held room (new ∷ more) =
     if is_one_too_many limits held new || nat_lt room (entries_for content new)
     then false ∷ grants limits content held room more
-    else true ∷ grants limits content (with_subscription new held) (room - entries_for content new) more
+    else true ∷ grants limits content (with_subscription (as_held new) held) (room - entries_for content new) more
 grants limits content held room [] = []
 
 -- ---- marks

@@ -1,24 +1,14 @@
 -- The identifiers of QoS 2 publications that a session received and does not have a PUBREL for (MQTT 4.3.3).
-use Rattle.std.specs.Prelude.{ℕ, Bool, true, false, not, ◌==◌, nat_lt, if◌then◌else◌, List, [], ◌∷◌, filter}
+use Rattle.std.specs.Prelude.{ℕ, Bool, true, false, if◌then◌else◌, List, [], ◌∷◌}
 use Rattle.packet.specs.declared.delivery.Delivery.{Delivery}
 use Rattle.packet.specs.declared.delivery.Delivery.TheVariants as deliveries
 use Rattle.packet.specs.declared.packet.Packet.TheVariants as packets
 use Rattle.lists.specs.Lists.{has_id}
+use Rattle.session_base.specs.Identifiers.{with_id, without_id}
 use Rattle.broker_base.specs.Place.{Client, same_client, Mark, Past}
 use Rattle.broker_base.specs.Past.{session_of, begins, in_session}
 use Rattle.broker_base.specs.declared.command.Command.{Command}
 use Rattle.broker_base.specs.declared.command.Command.TheVariants as commands
-
--- without the identifier
-abbrev pub without_id : ℕ → List ℕ → List ℕ
-without_id id = filter (λ other. not (id == other))
-
--- with the identifier, once, in rising order
-abbrev pub with_id : ℕ → List ℕ → List ℕ
-with_id id (other ∷ others) =
-    if nat_lt id other then id ∷ other ∷ others else
-    if id == other then other ∷ others else other ∷ with_id id others
-with_id id [] = id ∷ []
 
 -- a publication at QoS 2 comes with its identifier
 abbrev pub receives : Delivery → List ℕ → List ℕ

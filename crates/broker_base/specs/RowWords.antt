@@ -1,12 +1,14 @@
 -- Words for the worked rows: clients, connections, packets, and what is answered.
-use Rattle.std.specs.Prelude.{◌≡◌, ℕ, zero, suc, Bool, false, List, [], ◌∷◌, map, codes}
+use Rattle.std.specs.Prelude.{◌≡◌, ℕ, zero, suc, Bool, true, false, List, [], ◌∷◌, map, codes}
 use Rattle.packet.specs.declared.qos.QoS.{QoS}
 use Rattle.packet.specs.declared.delivery.Delivery.{Delivery}
 use Rattle.packet.specs.declared.delivery.Delivery.TheVariants as deliveries
 use Rattle.packet.specs.declared.connack.Connack.TheVariants as connacks
 use Rattle.packet.specs.declared.suback.SubackCode.TheVariants as answers
+use Rattle.packet.specs.declared.subscribe.Subscription.{Subscription}
 use Rattle.packet.specs.declared.packet.Packet.{Packet}
 use Rattle.packet.specs.declared.packet.Packet.TheVariants as packets
+use Rattle.session_base.specs.Publication.{delivery_at}
 use Rattle.broker_base.specs.Connection.{ConnectionName}
 use Rattle.broker_base.specs.Place.{Client, Limits}
 use Rattle.broker_base.specs.Commands.{past_of}
@@ -84,3 +86,20 @@ delivered n dup = map (λ id. sends n (publish (deliveries.AtLeastOnce dup id) f
 abbrev pub small : ℕ → ℕ → Limits
 small entries window =
     record { sessions = 4; subscriptions = 4; entries = entries; retained = 4; window = λ past. window }
+
+-- a PUBLISH on this topic, with RETAIN and payload
+abbrev pub publish_on : List ℕ → Delivery → Bool → List ℕ → Packet
+publish_on topic delivery retain payload =
+    packets.Publish (record { topic = topic; delivery = delivery; retain = retain; payload = payload })
+
+-- filters, all asked for at this QoS
+abbrev pub asked_at : QoS → List (List ℕ) → List Subscription
+asked_at qos = map (λ filter. record { filter = filter; qos = qos })
+
+-- a SUBSCRIBE to them
+abbrev pub asks : ℕ → List Subscription → Packet
+asks id filters = packets.Subscribe (record { id = id; filters = filters })
+
+-- a sends x on each of these topics at this QoS on connection 2, with RETAIN 1 and the identifier 1
+abbrev pub published_on : QoS → List (List ℕ) → List Command
+published_on qos = map (λ topic. gets 2 (publish_on topic (delivery_at qos false 1) true (codes "x")))

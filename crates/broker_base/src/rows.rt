@@ -2,6 +2,9 @@
 
 ghost use Rattle.broker_base.specs.Rows.{ConnectIsAnswered, SecondConnectionTakesOver, OlderConnectionIsSilent, SubscribeIsGranted, PublishReachesTheSubscriber, RepeatBeforePubrel, DupAfterPubrel, PubrelTwice, RetainedAtSubscribe, TwoFiltersOnePublication};
 ghost use Rattle.broker_base.specs.MoreRows.{FullQueueRefuses, FullQueueGoesOn, FullQueueKeepsTheOrder, PingAndUnsubscribe, ViolationsClose, PubackFreesItsIdentifier, WideWindowSendsAll, WindowOf64, WindowGrowsAtStart};
+ghost use Rattle.broker_base.specs.LimitRows.{LimitsAre, FifthSessionIsRefused, FifthFilterIsRefused, FifthTopicIsRefused, RoomIsLessWhatEarlierFiltersNeed, ConnectOnACurrentConnection};
+ghost use Rattle.broker_base.specs.QosRows.{LowerQosIsDelivered, RetainedAtTheLowerQos, LastIsRetained, ExactlyOnceIsSentAgain, CopiesComeByClient};
+ghost use Rattle.broker_base.specs.SessionRows.{SessionsBegin, SessionsEnd, PlacesStandInSessions, EntriesHaveTheirPlaces, NewOnce, LastConnectionIsLive};
 
 /// A first CONNECT gets CONNACK 0 without a session.
 pub fn connect_is_answered()
@@ -73,4 +76,56 @@ pub fn window_of_64()
     ensures wide { WideWindowSendsAll }
     ensures seventy { WindowOf64 }
     ensures grows { WindowGrowsAtStart }
+{}
+
+/// A broker holds 4,096 sessions, 64 subscriptions and 4,096 unfinished entries of each, and 16,384
+/// retained topics; and one more of each is refused (MQTT 3.2.2.3, 3.9.3).
+pub fn limits_are_met()
+    ensures numbers { LimitsAre }
+    ensures sessions { FifthSessionIsRefused }
+    ensures subscriptions { FifthFilterIsRefused }
+    ensures topics { FifthTopicIsRefused }
+    ensures room { RoomIsLessWhatEarlierFiltersNeed }
+{}
+
+/// A publication is answered by its own QoS and identifier, and delivered at the lower of its QoS and
+/// the granted one, to each client in turn (MQTT 3.3.5, 3.8.4).
+pub fn lower_qos_is_delivered()
+    ensures lower { LowerQosIsDelivered }
+    ensures order { CopiesComeByClient }
+{}
+
+/// The last publication with RETAIN 1 is retained at its own QoS, and comes at the lower of that and
+/// the one that is asked for (MQTT 3.3.1.3).
+pub fn last_publication_is_retained()
+    ensures qos { RetainedAtTheLowerQos }
+    ensures last { LastIsRetained }
+{}
+
+/// A client that comes back is sent what it has not answered: PUBLISH with DUP 1, or PUBREL
+/// (MQTT 4.4).
+pub fn exactly_once_is_sent_again()
+    ensures { ExactlyOnceIsSentAgain }
+{}
+
+/// A session begins at an accepted Connect that finds none, or is clean, or finds a clean one, and a
+/// clean one ends with its connection (MQTT 3.1.2.4).
+pub fn sessions_begin_and_end()
+    ensures begin { SessionsBegin }
+    ensures end { SessionsEnd }
+    ensures places { PlacesStandInSessions }
+{}
+
+/// Which connection counts: the last accepted one of a client, and no other, also where it sends a
+/// second CONNECT (MQTT 3.1.0, 3.1.4).
+pub fn last_connection_is_live()
+    ensures live { LastConnectionIsLive }
+    ensures violation { ConnectOnACurrentConnection }
+{}
+
+/// Each entry has the places at which it was made, started, was released and finished, and a QoS 2
+/// publication is new once (MQTT 4.3).
+pub fn entries_have_their_places()
+    ensures places { EntriesHaveTheirPlaces }
+    ensures new { NewOnce }
 {}

@@ -1,6 +1,6 @@
 -- What a broker keeps of one client's session, and what a past says that it is (MQTT 3.1.2.4, 4.1, 4.4).
 use Rattle.std.specs.Prelude.{ℕ, Bool, List, [], ◌∷◌, ◌++◌, length, map, Option, option_map}
-use Rattle.packet.specs.declared.subscribe.Subscription.{Subscription}
+use Rattle.session_base.specs.Session.{SessionState}
 use Rattle.session_base.specs.declared.awaits.Awaits.TheVariants as waits_for
 use Rattle.session_base.specs.Queue.{Flight, Queue, awaited}
 use Rattle.broker_base.specs.Connection.{ConnectionName}
@@ -12,13 +12,11 @@ use Rattle.broker_base.specs.Entries.{Entry}
 use Rattle.broker_base.specs.Readings.{released_below, waiting_of}
 use Rattle.broker_base.specs.Times.{entries_of}
 
--- a session: its CleanSession flag, the connection on which its client is served, and what stands in it
-pub record Kept : Type 0 where
+-- a client's session: its CleanSession flag, the connection on which the client is served, and what stands in it
+pub record ClientSession : Type 0 where
   pub clean : Bool
   pub connection : Option ConnectionName
-  pub subscriptions : List Subscription
-  pub received : List ℕ  -- identifiers of QoS 2 publications without a PUBREL
-  pub queue : Queue
+  pub state : SessionState
 
 -- the entries that are sent and neither released nor finished, in flight
 abbrev pub sent_flights : List Entry → List Flight
@@ -40,14 +38,16 @@ abbrev pub queue_of : ℕ → List Entry → Queue
 queue_of n entries = record { in_flight = flights_below n entries; waiting = waiting_of entries }
 
 -- what a past says of a client's session, if it has one
-abbrev pub kept_of : Limits → Past → Client → Option Kept
-kept_of limits past c =
+abbrev pub client_session : Limits → Past → Client → Option ClientSession
+client_session limits past c =
     option_map
     (λ clean. record {
       clean = clean;
       connection = current_connection past c;
-      subscriptions = subscriptions_of past c;
-      received = received_of past c;
-      queue = queue_of (length past) (entries_of limits past c);
+      state = record {
+        subscriptions = subscriptions_of past c;
+        received = received_of past c;
+        queue = queue_of (length past) (entries_of limits past c);
+      };
     })
     (session_of past c)
