@@ -1,3 +1,4 @@
+pub mod Applying
 pub mod Changing
 pub mod Config
 pub mod Losses

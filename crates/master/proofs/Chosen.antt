@@ -212,9 +212,9 @@ prefix_of_take {X = X} (suc n) (x ∷ xs) (y ∷ ys) p short =
     record { rest = q.rest; is = ap (λ z. z ∷ take n ys) a ∙ ap (λ us. x ∷ us) q.is }
 
 -- what a member ever told begins the primary's log
-told_in_log : {S C O : Type 0} (rules : Rules S C O) (config : Config) (p : ℕ) (w : World C O) (past : List (World C O)) (n : ℕ) (told : List C) →
+told_in_log : {S C O : Type 0} (rules : Rules S C O) (config : Config) (p : ℕ) (w : World S C O) (past : List (World S C O)) (n : ℕ) (told : List C) →
     Lawful config p → Past rules config (w ∷ past) → HasTold config (w ∷ past) n told → IsPrefixOf told (log_at w p)
-told_in_log {C = C} rules config p w past n told l came (as_primary v i e same) =
+told_in_log {S = S} {C = C} rules config p w past n told l came (as_primary v i e same) =
     subst (λ (us : List C). IsPrefixOf us (log_at w p)) same
     (prefix_then (log_front rules config p v n (past_sound_at rules config p v w past l.primary l.member came i))
     ((past_extends rules config p v w past l.primary l.member came i).logs p))
@@ -224,18 +224,18 @@ told_in_log rules config p w past n told l came (by_held v receiver i sent front
     ((past_extends rules config p v w past l.primary l.member came i).logs p))
 
 -- and its length was sent, unless it is the primary
-told_was_sent : {S C O : Type 0} (rules : Rules S C O) (config : Config) (p : ℕ) (w : World C O) (past : List (World C O)) (n : ℕ) (told : List C) →
+told_was_sent : {S C O : Type 0} (rules : Rules S C O) (config : Config) (p : ℕ) (w : World S C O) (past : List (World S C O)) (n : ℕ) (told : List C) →
     Lawful config p → Past rules config (w ∷ past) → (n + 1 ≡ config.primary → ⊥) → HasTold config (w ∷ past) n told →
     (k : ℕ) × (told_from None (n + 1) w.sent ≡ Some k) × (length told ≤ k)
 told_was_sent rules config p w past n told l came ne (as_primary v i e same) = absurd (ne e)
-told_was_sent {C = C} rules config p w past n told l came ne (by_held v receiver i sent front) =
+told_was_sent {S = S} {C = C} rules config p w past n told l came ne (by_held v receiver i sent front) =
     told_from-in None (n + 1) w.sent _ (length told) (told_in-own C (n + 1) (length told))
     ((past_extends rules config p v w past l.primary l.member came i).sent _ sent)
 
 -- the members have told the agreed length
-all_told : {S C O : Type 0} (rules : Rules S C O) (config : Config) (p : ℕ) (w : World C O) →
+all_told : {S C O : Type 0} (rules : Rules S C O) (config : Config) (p : ℕ) (w : World S C O) →
     Lawful config p → AllTold config p w (least_told config.primary w.sent (length (log_at w p)) config.members)
-all_told {C = C} {O = O} rules config p w l n i = by_primary (cases_eq (n + 1) config.primary)
+all_told {S = S} {C = C} {O = O} rules config p w l n i = by_primary (cases_eq (n + 1) config.primary)
   where
     by_told : (o : Option ℕ) → told_from None (n + 1) w.sent ≡ o →
         least_told config.primary w.sent (length (log_at w p)) config.members ≤ bounded (least_told config.primary w.sent (length (log_at w p)) config.members) o →
@@ -257,10 +257,10 @@ all_told {C = C} {O = O} rules config p w l n i = by_primary (cases_eq (n + 1) c
         (least_told-member config.primary w.sent (length (log_at w p)) config.members (n + 1) i ne)
 
 -- the front of the primary's log that all have told is the agreed list
-agreed_at : {S C O : Type 0} (rules : Rules S C O) (config : Config) (p : ℕ) (w : World C O) (past : List (World C O)) →
+agreed_at : {S C O : Type 0} (rules : Rules S C O) (config : Config) (p : ℕ) (w : World S C O) (past : List (World S C O)) →
     Lawful config p → Past rules config (w ∷ past) →
     IsAgreed config (w ∷ past) (take (least_told config.primary w.sent (length (log_at w p)) config.members) (log_at w p))
-agreed_at {C = C} {O = O} rules config p w past l came =
+agreed_at {S = S} {C = C} {O = O} rules config p w past l came =
     record {
       chosen = by_length (least_told config.primary w.sent (length (log_at w p)) config.members) (all_told rules config p w l);
       longest = λ ys chosen. longest ys chosen (chosen p (subst (λ k. In k config.members) l.primary (any_in config.primary config.members l.member)));
@@ -287,15 +287,15 @@ agreed_at {C = C} {O = O} rules config p w past l came =
         prefix_of_take (least_told config.primary w.sent (length (log_at w p)) config.members) ys (log_at w p) whole
         (least_told-most config.primary w.sent (length (log_at w p)) config.members (length ys) (prefix_length whole) (sent_by ys chosen))
 
-pub agreed_is : {S C O : Type 0} (rules : Rules S C O) (config : Config) (w : World C O) (past : List (World C O)) →
+pub agreed_is : {S C O : Type 0} (rules : Rules S C O) (config : Config) (w : World S C O) (past : List (World S C O)) →
     Past rules config (w ∷ past) → IsAgreed config (w ∷ past) (take (agreed_length config w) (log_at w (config.primary - 1)))
 agreed_is rules config w past came =
     agreed_at rules config (config.primary - 1) w past (lawful_config config (past_lawful rules config (w ∷ past) came)) came
 
 -- there is one agreed list
-pub one_agreed : {C O : Type 0} (config : Config) (past : List (World C O)) (xs ys : List C) →
+pub one_agreed : {S C O : Type 0} (config : Config) (past : List (World S C O)) (xs ys : List C) →
     IsAgreed config past xs → IsAgreed config past ys → length xs ≡ length ys
-one_agreed {C = C} {O = O} config past xs ys a b =
+one_agreed {S = S} {C = C} {O = O} config past xs ys a b =
     let c = at_most xs ys a.chosen b in let d = at_most ys xs b.chosen a in omega (arith, c, d)
   where
     at_most : (xs ys : List C) → (xs ≡ []) ⊎ IsChosen config past xs → IsAgreed config past ys → length xs ≤ length ys

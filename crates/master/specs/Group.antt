@@ -1,6 +1,7 @@
 -- Group.antt: nodes in one ballot, all messages that they ever sent, and how they open.
 use Rattle.std.specs.Prelude.{ℕ, zero, suc, Bool, ◌+◌, List, [], ◌∷◌, ◌++◌, slice_set, ◌&&◌, nat_le}
 use Rattle.std.specs.List.{list_all}
+use Rattle.machine.specs.Machine.{Rules}
 use Rattle.ballot_base.specs.Config.{is_lawful}
 use Rattle.ballot_base.specs.declared.config.Config.{Config}
 use Rattle.ballot_base.specs.declared.message.Message.{Message}
@@ -10,15 +11,15 @@ use Rattle.ballot_base.specs.Replica.{ReplicaState, opening}
 
 -- the nodes, number n + 1 at place n, the messages with their receivers in the order of sending,
 -- and the outputs that left with their places
-pub record World (C O : Type 0) : Type 0 where
-  pub nodes : List (ReplicaState C)
+pub record World (S C O : Type 0) : Type 0 where
+  pub nodes : List (ReplicaState S C)
   pub sent : List (ℕ × Message C)
   pub left : List (ℕ × O)
 
 -- a group: its configuration, its world, and the number of its steps in which memory was wanting
-pub record GroupState (C O : Type 0) : Type 0 where
+pub record GroupState (S C O : Type 0) : Type 0 where
   pub config : Config
-  pub world : World C O
+  pub world : World S C O
   pub losses : ℕ
 
 -- up to 15 nodes open in a lawful configuration whose members are among them
@@ -28,13 +29,14 @@ can_open nodes config =
     && (is_lawful config.members config.primary
     && list_all (λ member. nat_le member nodes) config.members)
 
-abbrev pub opening_nodes : (C : Type 0) → ℕ → Config → List (ReplicaState C)
-opening_nodes C zero config = []
-opening_nodes C (suc n) config = opening_nodes C n config ++ opening C (n + 1) config ∷ []
+abbrev pub opening_nodes : {S C O : Type 0} → Rules S C O → ℕ → Config → List (ReplicaState S C)
+opening_nodes rules zero config = []
+opening_nodes rules (suc n) config =
+    opening_nodes rules n config ++ opening rules (n + 1) config ∷ []
 
-abbrev pub opening_world : (C O : Type 0) → ℕ → Config → World C O
-opening_world C O nodes config =
-    record { nodes = opening_nodes C nodes config; sent = []; left = [] }
+abbrev pub opening_world : {S C O : Type 0} → Rules S C O → ℕ → Config → World S C O
+opening_world rules nodes config =
+    record { nodes = opening_nodes rules nodes config; sent = []; left = [] }
 
 -- the messages among effects, and the outputs
 abbrev pub messages : {C O : Type 0} → List (Effect C O) → List (ℕ × Message C)
@@ -48,7 +50,8 @@ outputs (To receiver message ∷ effects) = outputs effects
 outputs (Out place output ∷ effects) = (place, output) ∷ outputs effects
 
 -- a world in which the node at a place became another and handed out effects
-abbrev pub moved : {C O : Type 0} → World C O → ℕ → ReplicaState C → List (Effect C O) → World C O
+abbrev pub moved : {S C O : Type 0} →
+    World S C O → ℕ → ReplicaState S C → List (Effect C O) → World S C O
 moved w n new given =
     record {
       nodes = slice_set w.nodes n new;
