@@ -10,17 +10,19 @@ use Rattle.ballot_base.specs.Replica.{ReplicaState}
 use Rattle.ballot_base.specs.Losses.{halted}
 use Rattle.master.specs.declared.event.Event.{Event}
 use Rattle.master.specs.declared.event.Event.TheVariants.{Propose, Deliver, Tick, Crash}
-use Rattle.master.specs.Group.{World}
+use Rattle.agreement.specs.World.{World}
 use Rattle.master.specs.Exact.{Turn, running, unless_stopped, can_take, taking, stopping, takes, comes, turn}
 use Rattle.master.specs.Steps.{Happens}
 use Rattle.master.specs.Steps.Happens.{nothing_happens, goes}
 use Rattle.ballot_base.specs.Losses.{Loses}
 use Rattle.ballot_base.specs.Protocol.{Input, step_in_one_ballot}
 use Rattle.ballot_base.specs.Protocol.Input.{Receives, Proposes, Ticks}
-use Rattle.master.specs.Agreement.{In, IsPrefixOf, log_of, outputs_of, HasTold, IsChosen, IsAgreed, Agreement}
-use Rattle.master.specs.Agreement.In.{here}
+use Rattle.agreement.specs.Lists.{In, IsPrefixOf}
+use Rattle.agreement.specs.World.{log_of}
+use Rattle.master.specs.Agreement.{outputs_of, HasTold, IsChosen, IsAgreed, Agreement}
+use Rattle.agreement.specs.Lists.In.{here}
 use Rattle.master.specs.Agreement.HasTold.{as_primary, by_held}
-use Rattle.master.proofs.Lists.{prefix_same, prefix_take, prefix_either, take_prefix, in_at}
+use Rattle.agreement.proofs.Lists.{prefix_same, prefix_take, prefix_either, take_prefix, in_at}
 use Rattle.master.proofs.Sound.{log_at, committed_of, Told, AllTold, IsSound, Extends, extends_same, moved_extends}
 use Rattle.master.proofs.Sound.Told.{told_nothing, told_as_primary, told_by_held}
 use Rattle.master.proofs.Rows.{Owes, owes_halted, lossy_sound}

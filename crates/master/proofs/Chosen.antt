@@ -9,12 +9,14 @@ use Rattle.ballot_base.specs.declared.message.Message.{Message}
 use Rattle.ballot_base.specs.declared.message.Body.{Body}
 use Rattle.ballot_base.specs.declared.message.Body.TheVariants.{NewBallot, Join, State, Install, Installed, Activate, Activated, Superseded, Append, Held, Commit}
 use Rattle.ballot_base.specs.Config.{is_lawful, are_rising}
-use Rattle.master.specs.Group.{World}
-use Rattle.master.specs.Agreement.{In, IsPrefixOf, Past, HasTold, IsChosen, IsAgreed}
-use Rattle.master.specs.Agreement.In.{here, there}
+use Rattle.agreement.specs.World.{World}
+use Rattle.agreement.specs.Lists.{In, IsPrefixOf}
+use Rattle.master.specs.Agreement.{Past, HasTold, IsChosen, IsAgreed}
+use Rattle.agreement.specs.Lists.In.{here, there}
 use Rattle.master.specs.Agreement.HasTold.{as_primary, by_held}
 use Rattle.master.specs.Inside.{held_in_one, told_in, more_told, told_from, bounded, least_told, agreed_length}
-use Rattle.master.proofs.Lists.{prefix_then, prefix_length}
+use Rattle.agreement.proofs.LawfulConfigs.{Lawful, lawful_config, any_in}
+use Rattle.agreement.proofs.Lists.{prefix_then, prefix_length}
 use Rattle.master.proofs.Sound.{log_at, Told, AllTold}
 use Rattle.master.proofs.Sound.Told.{told_nothing, told_as_primary, told_by_held}
 use Rattle.master.proofs.Agreed.{log_front, all_told_chosen}
@@ -160,46 +162,6 @@ least_told-most {C = C} primary sent least (x ∷ members) j below all =
     (λ e. least_told-most primary sent least members j below (λ m i. all m (there i)))
     (λ e. least_told-most primary sent (bounded least (told_from None x sent)) members j
     (bounded-ge j least (told_from None x sent) below (all x here (λ h. let t = eq-eqb x primary h in cc))) (λ m i. all m (there i)))
-
--- members rise from above 0, and the primary is one of them
-rising_above : (last : ℕ) (members : List ℕ) (m : ℕ) → are_rising last members ≡ true → In m members → last < m
-rising_above last [] m rising i = elim i [ ]
-rising_above last (x ∷ members) m rising here =
-    let a = and_parts (nat_lt last m && nat_le m 15) (are_rising m members) rising in
-    let b = and_parts (nat_lt last m) (nat_le m 15) a.0 in ltb-true last m b.0
-rising_above last (x ∷ members) m rising (there i) =
-    let a = and_parts (nat_lt last x && nat_le x 15) (are_rising x members) rising in
-    let b = and_parts (nat_lt last x) (nat_le x 15) a.0 in
-    let c = ltb-true last x b.0 in let d = rising_above x members m a.1 i in omega (arith, c, d)
-
-any_in : (k : ℕ) (members : List ℕ) → list_any (λ member. member == k) members ≡ true → In k members
-any_in k [] any = cc
-any_in k (m ∷ members) any =
-    by_first (any_in k members) (or_cases (m == k) (list_any (λ member. member == k) members) any)
-  where
-    by_first : (list_any (λ member. member == k) members ≡ true → In k members) →
-        ((m == k) ≡ true) ⊎ (list_any (λ member. member == k) members ≡ true) → In k (m ∷ members)
-    by_first f (inl e) = subst (λ x. In k (x ∷ members)) (sym (eqb-true m k e)) here
-    by_first f (inr h) = there (f h)
-
--- what a lawful configuration gives
-pub record Lawful (config : Config) (p : ℕ) : Type 0 where
-  pub primary : config.primary ≡ p + 1
-  pub member : list_any (λ member. member == config.primary) config.members ≡ true
-  pub positive : (m : ℕ) → In m config.members → 0 < m
-
-pub lawful_config : (config : Config) → is_lawful config.members config.primary ≡ true → Lawful config (config.primary - 1)
-lawful_config config lawful =
-    let a = and_parts (are_rising 0 config.members)
-    (nat_le 1 (length config.members) && (nat_le (length config.members) 7 && list_any (λ member. member == config.primary) config.members)) lawful in
-    let b = and_parts (nat_le 1 (length config.members)) (nat_le (length config.members) 7 && list_any (λ member. member == config.primary) config.members) a.1 in
-    let c = and_parts (nat_le (length config.members) 7) (list_any (λ member. member == config.primary) config.members) b.1 in
-    let positive = rising_above 0 config.members config.primary a.0 (any_in config.primary config.members c.1) in
-    record {
-      primary = omega (arith, positive);
-      member = c.1;
-      positive = λ m i. rising_above 0 config.members m a.0 i;
-    }
 
 -- a beginning that is short enough is one of the front
 prefix_of_take : {X : Type 0} (n : ℕ) (xs ys : List X) → IsPrefixOf xs ys → length xs ≤ n → IsPrefixOf xs (take n ys)

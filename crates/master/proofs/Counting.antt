@@ -13,7 +13,8 @@ use Rattle.ballot_base.specs.Replica.{ReplicaState, is_active, status_of}
 use Rattle.ballot_base.specs.Serving.{most_places}
 use Rattle.master.specs.declared.event.Event.{Event}
 use Rattle.master.specs.declared.event.Event.TheVariants.{Deliver}
-use Rattle.master.specs.Group.{World, GroupState, moved}
+use Rattle.agreement.specs.World.{World, moved}
+use Rattle.master.specs.Group.{GroupState}
 use Rattle.master.specs.Exact.{Turn, running, can_take, taking, stopping, takes, comes, turn, behind, group_step}
 use Rattle.master.specs.Steps.{Happens, StepsBy, LosesNothing}
 use Rattle.master.specs.Steps.Happens.{nothing_happens, goes}

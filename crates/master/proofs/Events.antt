@@ -17,10 +17,11 @@ use Rattle.ballot_base.specs.Protocol.Input.{Receives, Ticks}
 use Rattle.ballot_base.proofs.AppliesInOrder.{replay_goes_on}
 use Rattle.ballot_base.proofs.StepRows.{commit_at-goes, commit_at-stays, added-is, proposed-adds, proposed-not_active, proposed-full}
 use Rattle.ballot_base.proofs.MessageRows.{raised_mark-member, on_append-elsewhere, on_append-gap, on_append-takes, on_held-elsewhere, on_held-raises, on_commit-elsewhere, on_commit-past, on_commit-takes, ticked-active, on_tick_active-is}
-use Rattle.master.specs.Group.{World, messages, outputs}
-use Rattle.master.specs.Agreement.{In, IsPrefixOf, outputs_of}
-use Rattle.master.specs.Agreement.In.{here, there}
-use Rattle.master.proofs.Lists.{take_prefix, prefix_same, prefix_then, prefix_push, prefix_next, prefix_length, get_pushed, in_append, messages-append, outputs-append, outputs_of_messages, said_to_marked}
+use Rattle.agreement.specs.World.{World, messages, outputs}
+use Rattle.agreement.specs.Lists.{In, IsPrefixOf}
+use Rattle.master.specs.Agreement.{outputs_of}
+use Rattle.agreement.specs.Lists.In.{here, there}
+use Rattle.agreement.proofs.Lists.{take_prefix, prefix_same, prefix_then, prefix_push, prefix_next, prefix_length, get_pushed, in_append, messages-append, outputs-append, outputs_of_messages, said_to_marked}
 use Rattle.master.proofs.Sound.{log_at, Told, AllTold, Says, IsSoundNode, IsSound, Extends, told_less, all_told_kept, node_kept}
 use Rattle.master.proofs.Sound.Told.{told_by_held}
 use Rattle.master.proofs.Rows.{Owes, owes_nothing, owes_commit, left_of_primary}

@@ -10,9 +10,11 @@ use Rattle.ballot_base.specs.declared.status.Mark.{Mark}
 use Rattle.ballot_base.specs.declared.status.Role.TheVariants.{Active}
 use Rattle.ballot_base.specs.Replica.{ReplicaState, Counted, opening, opening_member, others, marks_at}
 use Rattle.ballot_base.specs.Config.{is_lawful}
-use Rattle.master.specs.Group.{World, opening_nodes, opening_world}
-use Rattle.master.specs.Agreement.{In, IsPrefixOf, log_of, outputs_of, IsOpening, Past, HasTold, IsChosen, IsAgreed, Agreement}
-use Rattle.master.specs.Agreement.In.{here, there}
+use Rattle.agreement.specs.World.{World, opening_nodes, opening_world}
+use Rattle.agreement.specs.Lists.{In, IsPrefixOf}
+use Rattle.agreement.specs.World.{log_of}
+use Rattle.master.specs.Agreement.{outputs_of, IsOpening, Past, HasTold, IsChosen, IsAgreed, Agreement}
+use Rattle.agreement.specs.Lists.In.{here, there}
 use Rattle.master.specs.Agreement.Past.{began, went_on}
 use Rattle.master.specs.Agreement.HasTold.{as_primary, by_held}
 use Rattle.master.proofs.Sound.{log_at, committed_of, AllTold, IsSoundNode, IsSound, Extends, extends_same, extends_then}

@@ -17,10 +17,12 @@ use Rattle.ballot_base.specs.Applying.{outputs_from, outputs_between, outputs_to
 use Rattle.ballot_base.specs.Serving.{least, commit_at}
 use Rattle.ballot_base.proofs.AppliesInOrder.{outputs_from-append, replay_goes_on}
 use Rattle.ballot_base.proofs.StepRows.{commit_at-stays, commit_at-goes, least-le}
-use Rattle.master.specs.Group.{World, messages, outputs, moved}
-use Rattle.master.specs.Agreement.{In, IsPrefixOf, log_of, outputs_of}
-use Rattle.master.specs.Agreement.In.{here, there}
-use Rattle.master.proofs.Lists.{prefix_same, get_set, get_set_other, messages-append, outputs-append, thinned_outputs, thinned_messages, outputs_of_messages, said_to_marked}
+use Rattle.agreement.specs.World.{World, messages, outputs, moved}
+use Rattle.agreement.specs.Lists.{In, IsPrefixOf}
+use Rattle.agreement.specs.World.{log_of}
+use Rattle.master.specs.Agreement.{outputs_of}
+use Rattle.agreement.specs.Lists.In.{here, there}
+use Rattle.agreement.proofs.Lists.{prefix_same, get_set, get_set_other, messages-append, outputs-append, thinned_outputs, thinned_messages, outputs_of_messages, said_to_marked}
 use Rattle.master.proofs.Sound.{log_at, committed_of, Told, AllTold, Says, IsSoundNode, IsSound, Extends, LeftIs, told_less, node_kept, moved_extends, moved_sound}
 use Rattle.master.proofs.Sound.Told.{told_as_primary}
 

@@ -6,15 +6,18 @@ use Rattle.ballot_base.specs.declared.config.Config.{Config}
 use Rattle.ballot_base.specs.Losses.{one_more}
 use Rattle.ballot_base.proofs.ThinnedEffects.{Thinned-same}
 use Rattle.master.specs.declared.event.Event.{Event}
-use Rattle.master.specs.Group.{World, GroupState}
+use Rattle.agreement.specs.World.{World}
+use Rattle.master.specs.Group.{GroupState}
 use Rattle.master.specs.Exact.{Turn, turn, behind, group_step, group_run}
 use Rattle.master.specs.Steps.{Happens, Run, StepsBy, LosesNothing}
 use Rattle.master.specs.Steps.Happens.{nothing_happens, goes}
 use Rattle.master.specs.Steps.Run.{ends, goes_on}
-use Rattle.master.specs.Agreement.{IsPrefixOf, Past, IsChosen, AgreesAfter}
+use Rattle.agreement.specs.Lists.{IsPrefixOf}
+use Rattle.master.specs.Agreement.{Past, IsChosen, AgreesAfter}
 use Rattle.master.specs.Agreement.Past.{went_on}
 use Rattle.master.proofs.Opening.{agreement, chosen_stays, past_lawful}
-use Rattle.master.proofs.Chosen.{lawful_config, agreed_is}
+use Rattle.master.proofs.Chosen.{agreed_is}
+use Rattle.agreement.proofs.LawfulConfigs.{lawful_config}
 use Rattle.master.proofs.Counting.{steps_exactly}
 
 -- what is seen of a group behind some events

@@ -10,9 +10,11 @@ use Rattle.ballot_base.specs.declared.message.Body.TheVariants.{NewBallot, Join,
 use Rattle.ballot_base.specs.declared.message.Effect.{Effect}
 use Rattle.ballot_base.specs.declared.status.Mark.{Mark}
 use Rattle.ballot_base.specs.Replica.{ReplicaState, is_active, is_backup}
-use Rattle.master.specs.Group.{World, messages, moved}
-use Rattle.master.specs.Agreement.{In, IsPrefixOf, log_of, outputs_of}
-use Rattle.master.proofs.Lists.{prefix_same, prefix_then, prefix_get, prefix_length, get_set, get_set_other, in_left, in_append}
+use Rattle.agreement.specs.World.{World, messages, moved}
+use Rattle.agreement.specs.Lists.{In, IsPrefixOf}
+use Rattle.agreement.specs.World.{log_of}
+use Rattle.master.specs.Agreement.{outputs_of}
+use Rattle.agreement.proofs.Lists.{prefix_same, prefix_then, prefix_get, prefix_length, get_set, get_set_other, in_left, in_append}
 
 -- the log of the node at a place, and how much it has applied
 abbrev pub log_at : {S C O : Type 0} → World S C O → ℕ → List C

@@ -15,7 +15,7 @@ use Rattle.ballot_base.proofs.ThinnedEffects.{Thinned-same}
 use Rattle.ballot_base.specs.declared.config.Config.{Config}
 use Rattle.ballot_base.specs.declared.status.Status.{Status}
 use Rattle.ballot_base.specs.Replica.{status_of}
-use Rattle.master.specs.Group.{World, messages, outputs, moved, opening_nodes, opening_world}
+use Rattle.agreement.specs.World.{World, messages, outputs, moved, opening_nodes, opening_world}
 use Rattle.master.specs.Exact.{running, unless_stopped}
 use Rattle.master.specs.Inside.{RunsAt, TookIn, Parted, TookTurn}
 

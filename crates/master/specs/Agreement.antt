@@ -7,23 +7,9 @@ use Rattle.ballot_base.specs.declared.config.Config.{Config}
 use Rattle.ballot_base.specs.Replica.{ReplicaState}
 use Rattle.ballot_base.specs.Applying.{outputs_from}
 use Rattle.master.specs.declared.event.Event.{Event}
-use Rattle.master.specs.Group.{World, outputs, can_open, opening_world}
+use Rattle.agreement.specs.Lists.{In, IsPrefixOf}
+use Rattle.agreement.specs.World.{log_of, World, outputs, can_open, opening_world}
 use Rattle.master.specs.Steps.{Happens}
-
--- one of a list
-pub data In {X : Type 0} (x : X) : List X → Type 0 where
-  here : {xs : List X} → In x (x ∷ xs)
-  there : {y : X} {xs : List X} → In x xs → In x (y ∷ xs)
-
--- a beginning of a list
-pub record IsPrefixOf {X : Type 0} (xs ys : List X) : Type 0 where
-  pub rest : List X
-  pub is : ys ≡ xs ++ rest
-
--- the log of a node, if it is there
-abbrev pub log_of : {S C : Type 0} → Option (ReplicaState S C) → List C
-log_of None = []
-log_of (Some r) = r.log
 
 -- a group as it opens: nodes 1, 2, .. in a configuration, with no message and no output
 pub record IsOpening {S C O : Type 0} (rules : Rules S C O) (config : Config) (w : World S C O) :

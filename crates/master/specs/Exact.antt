@@ -10,7 +10,7 @@ use Rattle.ballot_base.specs.Sending.{Outcome}
 use Rattle.ballot_base.specs.Serving.{most_places}
 use Rattle.master.specs.declared.event.Event.{Event}
 use Rattle.master.specs.declared.event.Event.TheVariants.{Propose, Deliver, Tick, Crash}
-use Rattle.master.specs.Group.{World, moved}
+use Rattle.agreement.specs.World.{World, moved}
 
 -- the node of a number, if it is there and has not stopped
 abbrev pub unless_stopped : {S C : Type 0} → Option (ReplicaState S C) → Option (ReplicaState S C)

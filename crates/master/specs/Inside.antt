@@ -14,8 +14,9 @@ use Rattle.ballot_base.specs.Replica.{ReplicaState}
 use Rattle.ballot_base.specs.Sending.{Outcome}
 use Rattle.master.specs.declared.turning.Taken.{Taken}
 use Rattle.master.specs.declared.turning.Taken.TheVariants.{Received, Proposed, Ticked}
-use Rattle.master.specs.Agreement.{log_of}
-use Rattle.master.specs.Group.{World, GroupState, messages, outputs, moved}
+use Rattle.agreement.specs.World.{log_of}
+use Rattle.agreement.specs.World.{World, messages, outputs, moved}
+use Rattle.master.specs.Group.{GroupState}
 use Rattle.master.specs.Exact.{Turn, running}
 
 -- the node of a number runs, at a place

@@ -5,7 +5,8 @@ use Rattle.ballot_base.specs.declared.message.Effect.{Effect}
 use Rattle.ballot_base.specs.Losses.{Loses, one_more}
 use Rattle.ballot_base.specs.Replica.{ReplicaState}
 use Rattle.master.specs.declared.event.Event.{Event}
-use Rattle.master.specs.Group.{World, GroupState, moved}
+use Rattle.agreement.specs.World.{World, moved}
+use Rattle.master.specs.Group.{GroupState}
 use Rattle.master.specs.Exact.{Turn, turn, group_step}
 
 -- what an event may do: nothing, or the step that it comes to, perhaps with losses

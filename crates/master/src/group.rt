@@ -6,7 +6,7 @@ ghost use Rattle.ballot_base.specs.Protocol.{step_in_one_ballot};
 ghost use Rattle.ballot_base.specs.Losses.{one_more};
 ghost use Rattle.ballot_base.specs.Replica.{ReplicaState};
 ghost use Rattle.master.specs.Agreement.{IsOpening, Past, IsAgreed, AgreesAfter};
-ghost use Rattle.master.specs.Group.{World, can_open, opening_world};
+ghost use Rattle.agreement.specs.World.{World, can_open, opening_world};
 ghost use Rattle.master.specs.Exact.{turn, group_step, group_run, running};
 ghost use Rattle.master.specs.Inside.{RunsAt, TookTurn, agreed_length, input_of, primary_log};
 ghost use Rattle.master.specs.Steps.{Run, StepsBy, LosesNothing};
@@ -34,7 +34,8 @@ pub struct Group<M: Machine> {
 
 impl<M: Machine> Model for Group<M> {
     ghost use Rattle.std.specs.Prelude.{◌≡◌, [], map};
-    ghost use Rattle.master.specs.Group.{GroupState, messages, outputs};
+    ghost use Rattle.master.specs.Group.{GroupState};
+    ghost use Rattle.agreement.specs.World.{messages, outputs};
 
     ghost Value = { GroupState M M.Command M.Output };
 

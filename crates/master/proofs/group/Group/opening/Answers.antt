@@ -1,7 +1,8 @@
 use Rattle.std.proofs.Common.{◌≡◌, ap, sym, ◌∙◌, arith}
 use Rattle.machine.specs.Machine.{rules_by}
 use Rattle.ballot_base.specs.Replica.{Counted}
-use Rattle.master.specs.Group.{GroupState, World}
+use Rattle.master.specs.Group.{GroupState}
+use Rattle.agreement.specs.World.{World}
 use Rattle.master.proofs.Opening.{opened_more}
 use Rattle.master.proofs.Turns.{opened_group}
 use Rattle.master.proofs.group.Group.opening.Goals as goal

@@ -1,7 +1,7 @@
 use Rattle.std.proofs.Common.{◌≡◌, map}
 use Rattle.machine.specs.Machine.{rules_by}
 use Rattle.ballot_base.specs.Replica.{Counted}
-use Rattle.master.specs.Group.{opening_nodes}
+use Rattle.agreement.specs.World.{opening_nodes}
 use Rattle.master.proofs.group.Group.opening.Given as goal
 
 abbrev pub invariant-loop-at : goal.invariant-loop-at

@@ -10,9 +10,9 @@ use Rattle.ballot_base.specs.declared.status.Mark.{Mark}
 use Rattle.ballot_base.specs.Losses.{Thinned}
 use Rattle.ballot_base.specs.Losses.Thinned.{none, keeps, loses}
 use Rattle.ballot_base.specs.Sending.{message_to_marked}
-use Rattle.master.specs.Group.{messages, outputs}
-use Rattle.master.specs.Agreement.{In, IsPrefixOf}
-use Rattle.master.specs.Agreement.In.{here, there}
+use Rattle.agreement.specs.World.{messages, outputs}
+use Rattle.agreement.specs.Lists.{In, IsPrefixOf}
+use Rattle.agreement.specs.Lists.In.{here, there}
 
 pub prefix_same : {X : Type 0} (xs : List X) → IsPrefixOf xs xs
 prefix_same xs = record { rest = []; is = sym (append-nil xs) }
