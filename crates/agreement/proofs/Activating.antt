@@ -3,18 +3,18 @@ use Rattle.std.proofs.Common.{◌≡◌, ℕ, ◌+◌, ◌≤◌, ◌⊎◌, inl
 use Rattle.std.specs.Prelude.{slice_get, nat_lt, nat_le, ◌&&◌, ◌==◌}
 use Rattle.std.proofs.lemmas.Bool.{cases_Bool, and_parts, leb-true, eqb-true}
 use Rattle.machine.specs.Machine.{Rules, replay}
-use Rattle.ballot_base.proofs.AppliesInOrder.{replay_goes_on}
-use Rattle.ballot_base.specs.Applying.{applied_to}
-use Rattle.ballot_base.specs.declared.message.Body.TheVariants.{Activated}
-use Rattle.ballot_base.specs.declared.status.Mark.{Mark}
-use Rattle.ballot_base.specs.declared.status.Role.TheVariants.{Active}
-use Rattle.ballot_base.specs.Replica.{ReplicaState, is_installing, others, marks_at}
-use Rattle.ballot_base.specs.Sending.{Outcome}
-use Rattle.ballot_base.specs.Serving.{most_places}
-use Rattle.ballot_base.specs.Changing.{on_activated}
+use Rattle.ballot.proofs.AppliesInOrder.{replay_goes_on}
+use Rattle.ballot.specs.Applying.{applied_to}
+use Rattle.ballot.specs.Body.TheVariants.{Activated}
+use Rattle.ballot.specs.Progress.{Progress}
+use Rattle.ballot.specs.Role.TheVariants.{Active}
+use Rattle.ballot.specs.Replica.{ReplicaState, is_installing, others, progress_at}
+use Rattle.ballot.specs.Sending.{Outcome}
+use Rattle.ballot.specs.Serving.{most_places}
+use Rattle.ballot.specs.Changing.{on_activated}
 use Rattle.agreement.specs.World.{World}
-use Rattle.agreement.specs.Lists.{In, IsPrefixOf}
-use Rattle.agreement.specs.Lists.In.{here, there}
+use Rattle.lists.specs.Lists.{In, IsPrefixOf}
+use Rattle.lists.specs.Lists.In.{here, there}
 use Rattle.agreement.specs.Ballots.{Given, History, Told}
 use Rattle.agreement.specs.Ballots.Applied.{in_ballot}
 use Rattle.agreement.specs.Keeps.{KeepsAdding}
@@ -29,16 +29,16 @@ use Rattle.agreement.proofs.Quiet.{keeps_nothing}
 use Rattle.agreement.proofs.Sealing.{chosen_told}
 use Rattle.agreement.proofs.RolesAndRows.{role_installing, on_activated-stays, on_activated-adds}
 
--- the marks that are made for some members
-pub mark_of : (held : ℕ) (ms : List ℕ) (mark : Mark) → In mark (marks_at held ms) → In mark.member ms × (mark.held ≡ held)
-mark_of held [] mark i = elim i [ ]
-mark_of held (m ∷ ms) mark here = (here, refl)
-mark_of held (m ∷ ms) mark (there i) = let z = mark_of held ms mark i in (there z.0, z.1)
+-- the progress that are made for some members
+pub reached_of : (held : ℕ) (ms : List ℕ) (reached : Progress) → In reached (progress_at held ms) → In reached.member ms × (reached.held ≡ held)
+reached_of held [] reached i = elim i [ ]
+reached_of held (m ∷ ms) reached here = (here, refl)
+reached_of held (m ∷ ms) reached (there i) = let z = reached_of held ms reached i in (there z.0, z.1)
 
-pub marked_in : (held : ℕ) (ms : List ℕ) (m : ℕ) → In m ms → (mark : Mark) × In mark (marks_at held ms) × (mark.member ≡ m)
-marked_in held [] m i = elim i [ ]
-marked_in held (x ∷ ms) m here = (record { member = x; held = held }, here, refl)
-marked_in held (x ∷ ms) m (there i) = let z = marked_in held ms m i in (z.0, there z.1, z.2)
+pub followed_in : (held : ℕ) (ms : List ℕ) (m : ℕ) → In m ms → (reached : Progress) × In reached (progress_at held ms) × (reached.member ≡ m)
+followed_in held [] m i = elim i [ ]
+followed_in held (x ∷ ms) m here = (record { member = x; held = held }, here, refl)
+followed_in held (x ∷ ms) m (there i) = let z = followed_in held ms m i in (z.0, there z.1, z.2)
 
 -- a list with no item
 none_of : {X : Type 0} (xs : List X) → length xs ≤ 0 → xs ≡ []
@@ -48,7 +48,7 @@ none_of (x ∷ xs) short = absurd (omega (arith, short))
 -- the new primary leads, where all members hold its log
 activated_leads : {S C O : Type 0} (rules : Rules S C O) (w : World S C O) (h : History C) (n : ℕ) (r : ReplicaState S C) →
     IsSound rules w h → slice_get w.nodes n ≡ Some r → IsInstalling w h n r → r.lacking ≡ [] → In r.joined h.activated →
-    Leading w h n (record (applied_to rules r (length r.log)) { role = Active; marks = marks_at (length r.log) (others r.id r.members) })
+    Leading w h n (record (applied_to rules r (length r.log)) { role = Active; progress = progress_at (length r.log) (others r.id r.members) })
 activated_leads {S = S} {C = C} rules w h n r s stands j none active =
     record {
       role = refl;
@@ -66,14 +66,14 @@ activated_leads {S = S} {C = C} rules w h n r s stands j none active =
       applied = in_ballot r.joined (length j.line.base) j.line active (omega arith) j.lined all
           (subst (λ k. IsPrefixOf (take (length r.log) r.log) (take k j.line.list)) (ap length j.base) (takes (length r.log) list));
       covered = λ m i. by_member m (others_in r.id r.members m i);
-      marked = λ mark i. let z = mark_of (length r.log) (others r.id r.members) mark i in let e = ap length j.base in let f = z.1 in (
-        in_others r.id r.members mark.member z.0,
+      followed = λ reached i. let z = reached_of (length r.log) (others r.id r.members) reached i in let e = ap length j.base in let f = z.1 in (
+        in_others r.id r.members reached.member z.0,
         omega (arith, e, f),
         omega (arith, f),
-        subst (λ k. Told w h mark.member r.joined k) (sym e ∙ sym f)
-            (chosen_told w h r.joined (length j.line.base) j.leads.0 mark.member all j.leads.1 (subst (λ ms. In mark.member ms) j.leads.3 (in_others r.id r.members mark.member z.0))),
+        subst (λ k. Told w h reached.member r.joined k) (sym e ∙ sym f)
+            (chosen_told w h r.joined (length j.line.base) j.leads.0 reached.member all j.leads.1 (subst (λ ms. In reached.member ms) j.leads.3 (in_others r.id r.members reached.member z.0))),
       );
-      others = λ mark i e. not_others r.id r.members mark.member (mark_of (length r.log) (others r.id r.members) mark i).0 (e ∙ sym t.id);
+      others = λ reached i e. not_others r.id r.members reached.member (reached_of (length r.log) (others r.id r.members) reached i).0 (e ∙ sym t.id);
     }
   where
     t : IsSoundNode w h n r
@@ -87,9 +87,9 @@ activated_leads {S = S} {C = C} rules w h n r s stands j none active =
         (t.primary_log j.leads.0 j.line (ap h.given j.own ∙ j.leads.1) j.leads.2 (ap h.line j.own ∙ j.lined))
 
     by_member : (m : ℕ) → (m ≡ r.id) ⊎ In m (others r.id r.members) →
-        (m ≡ n + 1) ⊎ ((mark : Mark) × In mark (marks_at (length r.log) (others r.id r.members)) × (mark.member ≡ m))
+        (m ≡ n + 1) ⊎ ((reached : Progress) × In reached (progress_at (length r.log) (others r.id r.members)) × (reached.member ≡ m))
     by_member m (inl e) = inl (e ∙ t.id)
-    by_member m (inr i) = inr (marked_in (length r.log) (others r.id r.members) m i)
+    by_member m (inr i) = inr (followed_in (length r.log) (others r.id r.members) m i)
 
 -- an Activated that comes
 pub keeps_activated : {S C O : Type 0} (rules : Rules S C O) (w : World S C O) (h : History C) (n : ℕ) (r : ReplicaState S C)
@@ -114,7 +114,7 @@ keeps_activated {S = S} {C = C} {O = O} rules w h n r from b s stands ran sent =
         (adds_less rules w h n (λ c x. (c ≡ r.joined) × (x ≡ rules.start_of b)) (λ c x. x ≡ rules.start_of c) _
         (λ c x z. z.1 ∙ ap rules.start_of (sym (eqb-true r.joined b a.0) ∙ sym z.0))
         (keeps_added rules w h n r
-        (record (applied_to rules r (length r.log)) { role = Active; marks = marks_at (length r.log) (others r.id r.members) }) (rules.start_of b)
+        (record (applied_to rules r (length r.log)) { role = Active; progress = progress_at (length r.log) (others r.id r.members) }) (rules.start_of b)
         s stands
         (activated_leads rules w h n r s stands (t.installing (role_installing r.role a.1)) none
         (subst (λ c. In c h.activated) (sym (eqb-true r.joined b a.0)) said.3))

@@ -4,14 +4,14 @@ use Rattle.std.proofs.lemmas.Bool.{cases_lt}
 use Rattle.std.proofs.lemmas.List.{length-take-le}
 use Rattle.machine.specs.Machine.{Rules}
 use Rattle.agreement.specs.World.{World}
-use Rattle.agreement.specs.Lists.{In, IsPrefixOf}
-use Rattle.agreement.specs.Lists.In.{here, there}
+use Rattle.lists.specs.Lists.{In, IsPrefixOf}
+use Rattle.lists.specs.Lists.In.{here, there}
 use Rattle.agreement.specs.Agreed.{IsAgreedIn}
 use Rattle.agreement.specs.Ballots.{Given, Line, History, Told, IsChosenIn, IsChain}
 use Rattle.agreement.specs.MasterState.{MasterState, IsMaster}
 use Rattle.agreement.specs.Sound.{IsSound}
 use Rattle.agreement.specs.ToldLengths.{told_length, least_of, chosen_length}
-use Rattle.agreement.proofs.Lists.{prefix_then, prefix_take, take_prefix}
+use Rattle.lists.proofs.Beginnings.{prefix_then, prefix_take, take_prefix}
 use Rattle.agreement.proofs.Apart.{chosen_within}
 use Rattle.agreement.proofs.Assigning.{at_most_newest}
 use Rattle.agreement.proofs.Framing.{within_of}

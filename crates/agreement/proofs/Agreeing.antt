@@ -4,17 +4,17 @@ use Rattle.std.specs.Prelude.{slice_get}
 use Rattle.std.proofs.lemmas.Bool.{cases_lt}
 use Rattle.std.proofs.lemmas.List.{length-take-le}
 use Rattle.machine.specs.Machine.{Rules}
-use Rattle.ballot_base.specs.Replica.{ReplicaState}
+use Rattle.ballot.specs.Replica.{ReplicaState}
 use Rattle.agreement.specs.World.{World}
-use Rattle.agreement.specs.Lists.{In, IsPrefixOf}
-use Rattle.agreement.specs.Lists.In.{here}
+use Rattle.lists.specs.Lists.{In, IsPrefixOf}
+use Rattle.lists.specs.Lists.In.{here}
 use Rattle.agreement.specs.Agreed.{ChosenList, IsAgreedIn, Agrees}
 use Rattle.agreement.specs.Ballots.{Given, Line, History, Told, Sealed, IsChosenIn, IsChain, Applied}
 use Rattle.agreement.specs.Ballots.Applied.{nothing, in_ballot}
 use Rattle.agreement.specs.Keeps.{GoesOn}
 use Rattle.agreement.specs.MasterState.{MasterState, IsMaster}
 use Rattle.agreement.specs.Sound.{Segment, IsSoundNode, IsSound}
-use Rattle.agreement.proofs.Lists.{prefix_then, prefix_either, prefix_length, prefix_take, take_prefix}
+use Rattle.lists.proofs.Beginnings.{prefix_then, prefix_either, prefix_length, prefix_take, take_prefix}
 use Rattle.agreement.proofs.Apart.{chosen_within}
 use Rattle.agreement.proofs.Assigning.{at_most_newest}
 use Rattle.agreement.proofs.Framing.{within_of}

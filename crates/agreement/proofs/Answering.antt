@@ -3,19 +3,20 @@ use Rattle.std.proofs.Common.{◌≡◌, ℕ, ◌+◌, ◌<◌, ◌≤◌, ◌�
 use Rattle.std.specs.Prelude.{slice_get, nat_lt, nat_le, ◌&&◌, ◌||◌, ◌==◌}
 use Rattle.std.proofs.lemmas.Bool.{cases_Bool, and_parts, or_cases, ltb-true, leb-true, eqb-true}
 use Rattle.machine.specs.Machine.{Rules}
-use Rattle.ballot_base.specs.declared.message.Body.TheVariants.{Install, Installed}
-use Rattle.ballot_base.specs.declared.message.Effect.{Effect}
-use Rattle.ballot_base.specs.Replica.{ReplicaState}
-use Rattle.ballot_base.specs.Sending.{Outcome, message_to}
-use Rattle.ballot_base.specs.Changing.{on_install}
+use Rattle.ballot.specs.Body.TheVariants.{Install, Installed}
+use Rattle.ballot.specs.Effect.{Effect}
+use Rattle.ballot.specs.Replica.{ReplicaState}
+use Rattle.ballot.specs.Sending.{Outcome, message_to}
+use Rattle.ballot.specs.Changing.{on_install}
 use Rattle.agreement.specs.World.{World, moved}
-use Rattle.agreement.specs.Lists.{In, IsPrefixOf}
+use Rattle.lists.specs.Lists.{In, IsPrefixOf}
 use Rattle.agreement.specs.Ballots.{Given, Line, History, Told, Extends, IsWithin}
 use Rattle.agreement.specs.Keeps.LineAdds.{as_it_was}
 use Rattle.agreement.specs.Keeps.{Keeps}
 use Rattle.agreement.specs.Moves.{Moves, with_lines}
 use Rattle.agreement.specs.Sound.{IsSoundNode, IsSound}
-use Rattle.agreement.proofs.Lists.{prefix_length, thinned_messages}
+use Rattle.lists.proofs.Beginnings.{prefix_length}
+use Rattle.agreement.proofs.Effects.{thinned_messages}
 use Rattle.agreement.proofs.Framing.{within_of, move_extends}
 use Rattle.agreement.proofs.Installs.{InstallHeard, Sends, install_heard, installed_sends, installed_says, install_taken}
 use Rattle.agreement.proofs.Later.{told_kept, applied_kept, of_kept}
@@ -63,8 +64,8 @@ same_node {S = S} {C = C} {O = O} w h n r given q within s =
         begun = a.begun;
         above = a.above;
         covered = a.covered;
-        marked = λ mark j. let z = a.marked mark j in
-            (z.0, z.1, z.2, told_kept w v h i mark.member r.joined mark.held x z.3);
+        followed = λ reached j. let z = a.followed reached j in
+            (z.0, z.1, z.2, told_kept w v h i reached.member r.joined reached.held x z.3);
         others = a.others;
       };
     }

@@ -3,10 +3,10 @@ use Rattle.std.proofs.Common.{◌≡◌, ℕ, ◌<◌, ◌≤◌, ◌⊎◌, inl
 use Rattle.std.proofs.lemmas.Bool.{cases_lt}
 use Rattle.std.proofs.lemmas.List.{length-take-le}
 use Rattle.agreement.specs.World.{World}
-use Rattle.agreement.specs.Lists.{In}
+use Rattle.lists.specs.Lists.{In}
 use Rattle.agreement.specs.Ballots.{Line, History, IsChosenIn, AreBallots, AreLines, IsWithin}
 use Rattle.agreement.specs.Sound.{Segment}
-use Rattle.agreement.proofs.Lists.{prefix_length}
+use Rattle.lists.proofs.Beginnings.{prefix_length}
 use Rattle.agreement.proofs.Sealing.{chosen_told}
 use Rattle.agreement.proofs.Taking.{activated_base}
 

@@ -3,22 +3,23 @@ use Rattle.std.proofs.Common.{◌≡◌, ℕ, ◌+◌, ◌<◌, ◌≤◌, ◌�
 use Rattle.std.specs.Prelude.{slice_get}
 use Rattle.std.proofs.lemmas.Bool.{cases_Bool, cases_eq, cases_lt, eq-eqb, ne_eqb}
 use Rattle.machine.specs.Machine.{Rules}
-use Rattle.ballot_base.specs.declared.message.Message.{Message}
-use Rattle.ballot_base.specs.declared.message.Body.TheVariants.{Append, Held}
-use Rattle.ballot_base.specs.Replica.{ReplicaState}
-use Rattle.ballot_base.specs.Sending.{Outcome, message_to}
-use Rattle.ballot_base.specs.Serving.{follows, extended, on_append}
-use Rattle.ballot_base.proofs.MessageRows.{on_append-elsewhere, on_append-gap, on_append-takes}
+use Rattle.ballot.specs.Message.{Message}
+use Rattle.ballot.specs.Body.TheVariants.{Append, Held}
+use Rattle.ballot.specs.Replica.{ReplicaState}
+use Rattle.ballot.specs.Sending.{Outcome, message_to}
+use Rattle.ballot.specs.Serving.{follows, extended, on_append}
+use Rattle.ballot.proofs.MessageRows.{on_append-elsewhere, on_append-gap, on_append-takes}
 use Rattle.agreement.specs.World.{World, messages, moved}
-use Rattle.agreement.specs.Lists.{In, IsPrefixOf}
-use Rattle.agreement.specs.Lists.In.{here, there}
+use Rattle.lists.specs.Lists.{In, IsPrefixOf}
+use Rattle.lists.specs.Lists.In.{here, there}
 use Rattle.agreement.specs.Ballots.{Given, Line, History, Applied, Extends}
 use Rattle.agreement.specs.Ballots.Applied.{nothing, in_ballot}
 use Rattle.agreement.specs.Keeps.LineAdds.{as_it_was}
 use Rattle.agreement.specs.Keeps.{Keeps}
 use Rattle.agreement.specs.Moves.{Moves, with_lines}
 use Rattle.agreement.specs.Sound.{Says, IsSoundNode, IsSound}
-use Rattle.agreement.proofs.Lists.{prefix_same, prefix_then, prefix_push, prefix_next, prefix_length, take_prefix, thinned_messages, thinned_outputs}
+use Rattle.lists.proofs.Beginnings.{prefix_same, prefix_then, prefix_push, prefix_next, prefix_length, take_prefix}
+use Rattle.agreement.proofs.Effects.{thinned_messages, thinned_outputs}
 use Rattle.agreement.proofs.Committing.{Follows, follows_is}
 use Rattle.agreement.proofs.Framing.{within_of, move_extends}
 use Rattle.agreement.proofs.Later.{applied_kept}

@@ -3,12 +3,12 @@ use Rattle.std.proofs.Common.{◌≡◌, ℕ, ◌+◌, ◌<◌, ◌≤◌, ◌�
 use Rattle.std.proofs.lemmas.Bool.{cases_lt}
 use Rattle.std.proofs.lemmas.List.{take-take, take-append-drop, take-append-le, drop-append-le, length-take-le}
 use Rattle.machine.specs.Machine.{Rules, replay_from}
-use Rattle.ballot_base.specs.Applying.{applied_to}
-use Rattle.ballot_base.specs.Replica.{ReplicaState}
-use Rattle.ballot_base.specs.Sending.{Outcome}
-use Rattle.ballot_base.specs.Serving.{added, least, commit_at}
-use Rattle.ballot_base.proofs.AppliesInOrder.{part_none, replay_from-append}
-use Rattle.ballot_base.proofs.StepRows.{commit_at-stays, commit_at-goes, added-is}
+use Rattle.ballot.specs.Applying.{applied_to}
+use Rattle.ballot.specs.Replica.{ReplicaState}
+use Rattle.ballot.specs.Sending.{Outcome}
+use Rattle.ballot.specs.Serving.{added, least, commit_at}
+use Rattle.ballot.proofs.AppliesInOrder.{part_none, replay_from-append}
+use Rattle.ballot.proofs.StepRows.{commit_at-stays, commit_at-goes, added-is}
 
 -- a replica behind a step has applied no less, and its machine has done the places that are new
 pub record Applies {S C O : Type 0} (rules : Rules S C O) (old new : ReplicaState S C) : Type 0 where
@@ -52,7 +52,7 @@ commit_applies {S = S} {C = C} {O = O} rules old r held same still = by_order (c
 pub added_applies : {S C O : Type 0} (rules : Rules S C O) (r : ReplicaState S C) (c : C) → Applies rules r (added rules r c).state
 added_applies {S = S} {C = C} {O = O} rules r c =
     subst (λ (o : Outcome S C O). Applies rules r o.state) (sym (added-is rules r c))
-    (commit_applies rules r (record r { log = r.log ++ c ∷ [] }) (least (length (r.log ++ c ∷ [])) r.marks) refl refl)
+    (commit_applies rules r (record r { log = r.log ++ c ∷ [] }) (least (length (r.log ++ c ∷ [])) r.progress) refl refl)
 
 -- the places from one length to a third are those up to a second, and those behind it
 parts_join : {C : Type 0} (log : List C) (from mid to : ℕ) → from ≤ mid → mid ≤ to → mid ≤ length log →

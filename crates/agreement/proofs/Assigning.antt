@@ -2,10 +2,10 @@
 use Rattle.std.proofs.Common.{◌≡◌, ℕ, ◌+◌, ◌<◌, ◌≤◌, ◌⊎◌, inl, inr, List, ◌∷◌, Some, Option, refl, ap, sym, ◌∙◌, subst, arith}
 use Rattle.std.proofs.lemmas.Bool.{cases_eq, eq-eqb, ne_eqb}
 use Rattle.machine.specs.Machine.{Rules}
-use Rattle.ballot_base.specs.declared.config.Config.{Config}
+use Rattle.ballot.specs.Config.{Config}
 use Rattle.agreement.specs.World.{World}
-use Rattle.agreement.specs.Lists.{In}
-use Rattle.agreement.specs.Lists.In.{here, there}
+use Rattle.lists.specs.Lists.{In}
+use Rattle.lists.specs.Lists.In.{here, there}
 use Rattle.agreement.specs.Ballots.{Given, History, IsChain, AreBallots, Extends}
 use Rattle.agreement.specs.Keeps.{GoesOn}
 use Rattle.agreement.specs.MasterState.{MasterState, MasterOutcome, IsMaster, assigned, tells_from_master}

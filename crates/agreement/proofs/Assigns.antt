@@ -3,11 +3,10 @@ use Rattle.std.proofs.Common.{◌≡◌, ℕ, zero, suc, ◌+◌, ◌<◌, ◌�
 use Rattle.std.specs.Prelude.{not, nat_le, ◌&&◌, ◌==◌}
 use Rattle.std.specs.List.{list_all}
 use Rattle.std.proofs.lemmas.Bool.{and_parts, cases_Bool, leb-true, leb-false}
-use Rattle.ballot_base.specs.declared.config.Config.{Config}
-use Rattle.ballot_base.specs.Config.{is_lawful}
+use Rattle.ballot.specs.Config.{Config, is_lawful}
 use Rattle.agreement.specs.World.{can_open}
-use Rattle.agreement.specs.Lists.{In}
-use Rattle.agreement.specs.Lists.In.{here, there}
+use Rattle.lists.specs.Lists.{In}
+use Rattle.lists.specs.Lists.In.{here, there}
 use Rattle.agreement.specs.Assign.{AssignRefusal, refusal, last_ballot, master_behind, AreNodes, IsServing}
 use Rattle.agreement.specs.Assign.AssignRefusal.{bad_members, ballots_spent}
 use Rattle.agreement.specs.MasterState.{MasterState, activated}

@@ -3,12 +3,12 @@ use Rattle.std.proofs.Common.{◌≡◌, ℕ, ◌<◌, ◌⊎◌, inl, inr, true
 use Rattle.std.specs.Prelude.{slice_get}
 use Rattle.std.proofs.lemmas.Bool.{cases_Bool}
 use Rattle.machine.specs.Machine.{Rules}
-use Rattle.ballot_base.specs.Protocol.{Input, replica_step}
-use Rattle.ballot_base.specs.Protocol.Input.{Receives, Proposes, Ticks}
-use Rattle.ballot_base.specs.Replica.{ReplicaState, is_active}
-use Rattle.ballot_base.proofs.StepRows.{proposed-not_active}
+use Rattle.ballot.specs.Protocol.{Input, replica_step}
+use Rattle.ballot.specs.Protocol.Input.{Receives, Proposes, Ticks}
+use Rattle.ballot.specs.Replica.{ReplicaState, is_active}
+use Rattle.ballot.proofs.StepRows.{proposed-not_active}
 use Rattle.agreement.specs.World.{World}
-use Rattle.agreement.specs.Lists.{In}
+use Rattle.lists.specs.Lists.{In}
 use Rattle.agreement.specs.Ballots.{Line, History}
 use Rattle.agreement.specs.Begun.{AreBegun, BeginsOrFollows, AreLong}
 use Rattle.agreement.specs.GroupSteps.{AddsBy, MayTake}
@@ -16,7 +16,8 @@ use Rattle.agreement.specs.Keeps.{NodeGoesOn, KeepsAdding, LineAdds}
 use Rattle.agreement.specs.Keeps.LineAdds.{as_it_was, begins_behind, adds_one}
 use Rattle.agreement.specs.Replays.{IsReplay}
 use Rattle.agreement.specs.Sound.{IsSound}
-use Rattle.agreement.proofs.Lists.{prefix_get, get_pushed}
+use Rattle.lists.proofs.Beginnings.{prefix_get}
+use Rattle.lists.proofs.Places.{get_pushed}
 use Rattle.agreement.proofs.Adding.{adds_less}
 use Rattle.agreement.proofs.Quiet.{keeps_nothing}
 use Rattle.agreement.proofs.RolesAndRows.{role_active}

@@ -3,15 +3,15 @@ use Rattle.std.proofs.Common.{◌≡◌, ℕ, ◌+◌, ◌<◌, ◌≤◌, ◌�
 use Rattle.std.specs.Prelude.{slice_get, ◌&&◌, ◌==◌}
 use Rattle.std.proofs.lemmas.Bool.{cases_Bool, cases_lt, and_parts, eqb-true}
 use Rattle.machine.specs.Machine.{Rules}
-use Rattle.ballot_base.specs.Applying.{applied_to}
-use Rattle.ballot_base.specs.declared.message.Body.TheVariants.{Commit}
-use Rattle.ballot_base.specs.declared.message.Effect.{Effect}
-use Rattle.ballot_base.specs.Replica.{ReplicaState, is_backup}
-use Rattle.ballot_base.specs.Sending.{Outcome}
-use Rattle.ballot_base.specs.Serving.{follows, on_commit}
-use Rattle.ballot_base.proofs.MessageRows.{on_commit-elsewhere, on_commit-past, on_commit-takes}
+use Rattle.ballot.specs.Applying.{applied_to}
+use Rattle.ballot.specs.Body.TheVariants.{Commit}
+use Rattle.ballot.specs.Effect.{Effect}
+use Rattle.ballot.specs.Replica.{ReplicaState, is_backup}
+use Rattle.ballot.specs.Sending.{Outcome}
+use Rattle.ballot.specs.Serving.{follows, on_commit}
+use Rattle.ballot.proofs.MessageRows.{on_commit-elsewhere, on_commit-past, on_commit-takes}
 use Rattle.agreement.specs.World.{World, moved}
-use Rattle.agreement.specs.Lists.{In, IsPrefixOf}
+use Rattle.lists.specs.Lists.{In, IsPrefixOf}
 use Rattle.agreement.specs.Ballots.{Given, Line, History, Applied}
 use Rattle.agreement.specs.Ballots.Applied.{nothing, in_ballot}
 use Rattle.agreement.specs.Keeps.{Keeps}

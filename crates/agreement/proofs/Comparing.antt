@@ -4,14 +4,14 @@ use Rattle.std.specs.Prelude.{slice_get}
 use Rattle.std.proofs.lemmas.Bool.{cases_lt}
 use Rattle.std.proofs.lemmas.List.{length-take-le}
 use Rattle.machine.specs.Machine.{Rules}
-use Rattle.ballot_base.specs.Replica.{ReplicaState}
+use Rattle.ballot.specs.Replica.{ReplicaState}
 use Rattle.agreement.specs.World.{World}
-use Rattle.agreement.specs.Lists.{In, IsPrefixOf}
+use Rattle.lists.specs.Lists.{In, IsPrefixOf}
 use Rattle.agreement.specs.Ballots.{Line, History, IsChosenIn, Applied}
 use Rattle.agreement.specs.Ballots.Applied.{nothing, in_ballot}
 use Rattle.agreement.specs.Keeps.{NodeGoesOn}
 use Rattle.agreement.specs.Sound.{IsSound}
-use Rattle.agreement.proofs.Lists.{prefix_then, prefix_either, prefix_take, take_prefix}
+use Rattle.lists.proofs.Beginnings.{prefix_then, prefix_either, prefix_take, take_prefix}
 use Rattle.agreement.proofs.Framing.{within_of}
 use Rattle.agreement.proofs.Installs.{same_front}
 use Rattle.agreement.proofs.Later.{applied_kept}

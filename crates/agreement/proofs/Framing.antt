@@ -3,15 +3,17 @@ use Rattle.std.proofs.Common.{◌≡◌, ℕ, ◌+◌, ◌<◌, ◌≤◌, ◌�
 use Rattle.std.specs.Prelude.{slice_get}
 use Rattle.std.proofs.lemmas.Bool.{cases_eq}
 use Rattle.machine.specs.Machine.{Rules}
-use Rattle.ballot_base.specs.declared.message.Effect.{Effect}
-use Rattle.ballot_base.specs.Replica.{ReplicaState}
+use Rattle.ballot.specs.Effect.{Effect}
+use Rattle.ballot.specs.Replica.{ReplicaState}
 use Rattle.agreement.specs.World.{World, messages, moved}
-use Rattle.agreement.specs.Lists.{In, IsPrefixOf}
+use Rattle.lists.specs.Lists.{In, IsPrefixOf}
 use Rattle.agreement.specs.Ballots.{Given, Line, History, Told, IsChosenIn, Sealed, AreLines, Extends, IsWithin}
 use Rattle.agreement.specs.Moves.{Moves, with_lines, LineGoesOn, TellsNow}
 use Rattle.agreement.specs.Moves.LineGoesOn.{stays, grows, begins}
 use Rattle.agreement.specs.Sound.{IsSound}
-use Rattle.agreement.proofs.Lists.{prefix_same, prefix_then, prefix_length, get_set, get_set_other, in_left}
+use Rattle.lists.proofs.Beginnings.{prefix_same, prefix_then, prefix_length}
+use Rattle.lists.proofs.Places.{get_set, get_set_other}
+use Rattle.lists.proofs.Members.{in_left}
 use Rattle.agreement.proofs.Later.{sealed_kept, chosen_kept}
 
 -- what is told of a ballot with a list lies within it

@@ -5,16 +5,17 @@ use Rattle.std.specs.List.{flat_map}
 use Rattle.std.proofs.lemmas.Grind.{flat_map-append}
 use Rattle.std.proofs.lemmas.List.{append-nil, take-take}
 use Rattle.machine.specs.Machine.{Rules, replay}
-use Rattle.ballot_base.specs.declared.message.Effect.{Effect}
-use Rattle.ballot_base.specs.Replica.{ReplicaState}
-use Rattle.ballot_base.specs.Applying.{outputs_from, outputs_between}
+use Rattle.ballot.specs.Effect.{Effect}
+use Rattle.ballot.specs.Replica.{ReplicaState}
+use Rattle.ballot.specs.Applying.{outputs_from, outputs_between}
 use Rattle.agreement.specs.World.{World, outputs, moved}
-use Rattle.agreement.specs.Lists.{In, IsPrefixOf}
-use Rattle.agreement.specs.Lists.In.{here, there}
+use Rattle.lists.specs.Lists.{In, IsPrefixOf}
+use Rattle.lists.specs.Lists.In.{here, there}
 use Rattle.agreement.specs.Ballots.{Given, Line, History, IsChosenIn, Extends, AreBallots, AreLines, IsWithin}
 use Rattle.agreement.specs.Moves.{Moves, with_lines}
 use Rattle.agreement.specs.Sound.{LeftIs, Segment, IsSound}
-use Rattle.agreement.proofs.Lists.{get_set, in_append, in_at}
+use Rattle.lists.proofs.Places.{get_set}
+use Rattle.lists.proofs.Members.{in_append, in_at}
 use Rattle.agreement.proofs.Apart.{apart_now, chosen_within}
 use Rattle.agreement.proofs.Framing.{within_of, move_extends, move_within, move_lines}
 use Rattle.agreement.proofs.Installs.{same_front}

@@ -2,12 +2,12 @@
 use Rattle.std.proofs.Common.{◌≡◌, ℕ, ◌+◌, ◌≤◌, ◌⊎◌, inl, inr, Some, refl, ◌∙◌, arith}
 use Rattle.std.specs.Prelude.{slice_get}
 use Rattle.machine.specs.Machine.{Rules}
-use Rattle.ballot_base.specs.Replica.{ReplicaState}
+use Rattle.ballot.specs.Replica.{ReplicaState}
 use Rattle.agreement.specs.World.{World}
 use Rattle.agreement.specs.Ballots.{History, Told, Extends}
 use Rattle.agreement.specs.Keeps.{GoesOn}
 use Rattle.agreement.specs.Sound.{IsSound}
-use Rattle.agreement.proofs.Lists.{prefix_same, prefix_then}
+use Rattle.lists.proofs.Beginnings.{prefix_same, prefix_then}
 
 -- nothing happened
 abbrev pub goes_same : {S C O : Type 0} (rules : Rules S C O) (w : World S C O) (h : History C) → IsSound rules w h → GoesOn rules w h w

@@ -3,9 +3,9 @@ use Rattle.std.proofs.Common.{Bool, cond, inl, ◌≡◌, ℕ, zero, suc, ◌+�
 use Rattle.std.specs.Prelude.{◌==◌}
 use Rattle.std.proofs.lemmas.List.{length-append}
 use Rattle.machine.specs.Machine.{Rules}
-use Rattle.ballot_base.specs.declared.config.Config.{Config}
-use Rattle.ballot_base.specs.declared.status.Role.TheVariants.{Active}
-use Rattle.ballot_base.specs.Replica.{ReplicaState, opening, opening_member, marks_at, others}
+use Rattle.ballot.specs.Config.{Config}
+use Rattle.ballot.specs.Role.TheVariants.{Active}
+use Rattle.ballot.specs.Replica.{ReplicaState, opening, opening_member, progress_at, others}
 use Rattle.agreement.specs.World.{can_open, opening_nodes, opening_world}
 use Rattle.agreement.specs.Assign.{IsServing}
 use Rattle.agreement.specs.Begun.{AreLong}
@@ -51,7 +51,7 @@ opening_replays {S = S} {C = C} rules nodes config n r e runs =
         by_role : (b : Bool) → IsReplay rules (cond b (record (opening_member rules id config) {
           role = Active;
           members = config.members;
-          marks = marks_at 0 (others id config.members);
+          progress = progress_at 0 (others id config.members);
         }) (opening_member rules id config))
         by_role true = refl
         by_role false = refl

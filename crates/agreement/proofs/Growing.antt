@@ -3,14 +3,14 @@ use Rattle.std.proofs.Common.{◌≡◌, ℕ, ◌+◌, ◌≤◌, ◌⊎◌, inl
 use Rattle.std.specs.Prelude.{slice_get}
 use Rattle.std.proofs.lemmas.List.{length-append}
 use Rattle.machine.specs.Machine.{Rules, replay}
-use Rattle.ballot_base.specs.declared.message.Body.TheVariants.{Append}
-use Rattle.ballot_base.specs.declared.message.Effect.{Effect}
-use Rattle.ballot_base.specs.Replica.{ReplicaState}
-use Rattle.ballot_base.specs.Sending.{Outcome, message_to_marked}
-use Rattle.ballot_base.specs.Serving.{added}
-use Rattle.ballot_base.proofs.StepRows.{added-is}
+use Rattle.ballot.specs.Body.TheVariants.{Append}
+use Rattle.ballot.specs.Effect.{Effect}
+use Rattle.ballot.specs.Replica.{ReplicaState}
+use Rattle.ballot.specs.Sending.{Outcome, message_to_followed}
+use Rattle.ballot.specs.Serving.{added}
+use Rattle.ballot.proofs.StepRows.{added-is}
 use Rattle.agreement.specs.World.{World, moved}
-use Rattle.agreement.specs.Lists.{In, IsPrefixOf}
+use Rattle.lists.specs.Lists.{In, IsPrefixOf}
 use Rattle.agreement.specs.Ballots.{Line, History, Applied}
 use Rattle.agreement.specs.Ballots.Applied.{nothing, in_ballot}
 use Rattle.agreement.specs.Keeps.{KeepsAdding, LineAdds}
@@ -18,8 +18,10 @@ use Rattle.agreement.specs.Keeps.LineAdds.{as_it_was, adds_one}
 use Rattle.agreement.specs.Moves.{Moves, with_lines, lined_at}
 use Rattle.agreement.specs.Moves.LineGoesOn.{grows}
 use Rattle.agreement.specs.Sound.{Says, IsSoundNode, IsSound}
-use Rattle.agreement.proofs.Lists.{prefix_then, prefix_push, prefix_length, get_pushed, take_prefix, outputs_of_messages}
-use Rattle.agreement.proofs.ActiveTicks.{said_to_marks}
+use Rattle.lists.proofs.Beginnings.{prefix_then, prefix_push, prefix_length, take_prefix}
+use Rattle.lists.proofs.Places.{get_pushed}
+use Rattle.agreement.proofs.Effects.{outputs_of_messages}
+use Rattle.agreement.proofs.ActiveTicks.{said_to_progress}
 use Rattle.agreement.proofs.EqualLists.{prefix_of_same}
 use Rattle.agreement.proofs.Framing.{within_of, move_extends}
 use Rattle.agreement.proofs.Joining.{IsSilent}
@@ -111,11 +113,11 @@ grown_ready {S = S} {C = C} {O = O} rules w h n old r c s stands q same_id same_
             begun = inr (let z = prefix_length base in omega (arith, z, room));
             above = q.above;
             covered = q.covered;
-            marked = λ mark j. let z = q.marked mark j in (
+            followed = λ reached j. let z = q.followed reached j in (
               z.0,
               z.1,
               z.2,
-              told_kept w (moved w n new given) h (with_lines h line) mark.member r.joined mark.held
+              told_kept w (moved w n new given) h (with_lines h line) reached.member r.joined reached.held
                   (move_extends w h line n old new given moves) z.3,
             );
             others = q.others;
@@ -140,20 +142,20 @@ pub keeps_added : {S C O : Type 0} (rules : Rules S C O) (w : World S C O) (h : 
 keeps_added {S = S} {C = C} {O = O} rules w h n old r c s stands q same_id same_joined same_held same_log up ran =
     subst (λ (o : Outcome S C O). KeepsAdding rules w h n (λ b x. (b ≡ r.joined) × (x ≡ c)) o) (sym (added-is rules r c))
     (ready_keeps rules w h (lined_at r.joined (longer q.line c) h.line) n old (record r { log = r.log ++ c ∷ [] })
-    (λ b x. (b ≡ r.joined) × (x ≡ c)) (message_to_marked O r.id (Append r.joined (length r.log) c) r.marks) s
+    (λ b x. (b ≡ r.joined) × (x ≡ c)) (message_to_followed O r.id (Append r.joined (length r.log) c) r.progress) s
     (grown_ready rules w h n old r c s stands q same_id same_joined same_held same_log up)
-    (outputs_of_messages r.id (Append r.joined (length r.log) c) r.marks) id
+    (outputs_of_messages r.id (Append r.joined (length r.log) c) r.progress) id
     (ran ∙ ap (replay rules) (sym (take_prefix r.committed (prefix_push r.log c) q.within)))
-    (said_to_marks O (λ to m. (m.from ≡ n + 1) × IsSilent m.body) r.id (Append r.joined (length r.log) c) r.marks (λ mark j. (id, tt)))
-    (λ k u given moves. said_to_marks O
+    (said_to_progress O (λ to m. (m.from ≡ n + 1) × IsSilent m.body) r.id (Append r.joined (length r.log) c) r.progress (λ reached j. (id, tt)))
+    (λ k u given moves. said_to_progress O
     (λ to m. Says (moved w n (record r { log = r.log ++ c ∷ []; committed = k; machine = u }) given)
     (with_lines h (lined_at r.joined (longer q.line c) h.line)) to m.from m.body)
-    r.id (Append r.joined (length r.log) c) r.marks
-    (λ mark j. (
+    r.id (Append r.joined (length r.log) c) r.progress
+    (λ reached j. (
       q.ballot,
       q.is_given,
       id ∙ sym q.primary,
-      (subst (λ ms. In mark.member ms) q.members (q.marked mark j).0, λ e. q.others mark j (e ∙ q.primary)),
+      (subst (λ ms. In reached.member ms) q.members (q.followed reached j).0, λ e. q.others reached j (e ∙ q.primary)),
       q.activated,
       (
         longer q.line c,

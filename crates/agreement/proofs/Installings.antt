@@ -4,15 +4,15 @@ use Rattle.std.specs.Prelude.{slice_get, not, ◌&&◌, ◌==◌}
 use Rattle.std.specs.List.{list_any}
 use Rattle.std.proofs.lemmas.Bool.{cases_Bool, cases_eq, and_parts, eqb-true, ne_eqb, eq-eqb}
 use Rattle.machine.specs.Machine.{Rules}
-use Rattle.ballot_base.specs.declared.message.Message.{Message}
-use Rattle.ballot_base.specs.declared.message.Body.TheVariants.{Installed}
-use Rattle.ballot_base.specs.declared.message.Effect.{Effect}
-use Rattle.ballot_base.specs.Replica.{ReplicaState, is_installing, others}
-use Rattle.ballot_base.specs.Sending.{Outcome}
-use Rattle.ballot_base.specs.Changing.{activates, on_installed}
+use Rattle.ballot.specs.Message.{Message}
+use Rattle.ballot.specs.Body.TheVariants.{Installed}
+use Rattle.ballot.specs.Effect.{Effect}
+use Rattle.ballot.specs.Replica.{ReplicaState, is_installing, others}
+use Rattle.ballot.specs.Sending.{Outcome}
+use Rattle.ballot.specs.Changing.{activates, on_installed}
 use Rattle.agreement.specs.World.{World, messages, outputs, moved}
-use Rattle.agreement.specs.Lists.{In}
-use Rattle.agreement.specs.Lists.In.{here, there}
+use Rattle.lists.specs.Lists.{In}
+use Rattle.lists.specs.Lists.In.{here, there}
 use Rattle.agreement.specs.Ballots.{Given, Line, History, Told, Applied, Extends}
 use Rattle.agreement.specs.Ballots.Told.{told_by_installed}
 use Rattle.agreement.specs.Ballots.Applied.{nothing, in_ballot}

@@ -3,23 +3,24 @@ use Rattle.std.proofs.Common.{◌≡◌, ℕ, zero, suc, ◌+◌, ◌<◌, ◌�
 use Rattle.std.specs.Prelude.{slice_get}
 use Rattle.std.proofs.lemmas.List.{length-take-le}
 use Rattle.machine.specs.Machine.{Rules}
-use Rattle.ballot_base.specs.declared.message.Message.{Message}
-use Rattle.ballot_base.specs.declared.message.Body.TheVariants.{Install, Installed}
-use Rattle.ballot_base.specs.declared.message.Effect.{Effect}
-use Rattle.ballot_base.specs.declared.status.Role.TheVariants.{Backup}
-use Rattle.ballot_base.specs.Losses.{Thinned}
-use Rattle.ballot_base.specs.Replica.{ReplicaState}
-use Rattle.ballot_base.specs.Sending.{message_to}
+use Rattle.ballot.specs.Message.{Message}
+use Rattle.ballot.specs.Body.TheVariants.{Install, Installed}
+use Rattle.ballot.specs.Effect.{Effect}
+use Rattle.ballot.specs.Role.TheVariants.{Backup}
+use Rattle.ballot.specs.Losses.{Thinned}
+use Rattle.ballot.specs.Replica.{ReplicaState}
+use Rattle.ballot.specs.Sending.{message_to}
 use Rattle.agreement.specs.World.{World, messages, outputs, moved}
-use Rattle.agreement.specs.Lists.{In, IsPrefixOf}
-use Rattle.agreement.specs.Lists.In.{here, there}
+use Rattle.lists.specs.Lists.{In, IsPrefixOf}
+use Rattle.lists.specs.Lists.In.{here, there}
 use Rattle.agreement.specs.Ballots.{Given, Line, History, Applied, Extends}
 use Rattle.agreement.specs.Ballots.Applied.{nothing, in_ballot}
 use Rattle.agreement.specs.Keeps.LineAdds.{as_it_was}
 use Rattle.agreement.specs.Keeps.{Keeps}
 use Rattle.agreement.specs.Moves.{Moves, with_lines}
 use Rattle.agreement.specs.Sound.{Says, IsOf, IsSoundNode, IsSound}
-use Rattle.agreement.proofs.Lists.{prefix_same, prefix_length, take_prefix, thinned_messages, thinned_outputs}
+use Rattle.lists.proofs.Beginnings.{prefix_same, prefix_length, take_prefix}
+use Rattle.agreement.proofs.Effects.{thinned_messages, thinned_outputs}
 use Rattle.agreement.proofs.Framing.{within_of, move_extends}
 use Rattle.agreement.proofs.Later.{applied_kept, of_kept}
 use Rattle.agreement.proofs.Leaving.{left_same}

@@ -2,17 +2,19 @@
 use Rattle.std.proofs.Common.{◌≡◌, ℕ, ◌+◌, ◌≤◌, ◌⊎◌, inl, inr, List, [], length, set, Some, refl, ap, sym, ◌∙◌, arith}
 use Rattle.std.specs.Prelude.{slice_get}
 use Rattle.std.proofs.lemmas.Bool.{cases_eq}
-use Rattle.ballot_base.specs.declared.message.Message.{Message}
-use Rattle.ballot_base.specs.declared.message.Body.{Body}
-use Rattle.ballot_base.specs.declared.message.Body.TheVariants.{Installed, Held}
-use Rattle.ballot_base.specs.declared.message.Effect.{Effect}
-use Rattle.ballot_base.specs.Replica.{ReplicaState}
+use Rattle.ballot.specs.Message.{Message}
+use Rattle.ballot.specs.Body.{Body}
+use Rattle.ballot.specs.Body.TheVariants.{Installed, Held}
+use Rattle.ballot.specs.Effect.{Effect}
+use Rattle.ballot.specs.Replica.{ReplicaState}
 use Rattle.agreement.specs.World.{World, messages, outputs, moved}
-use Rattle.agreement.specs.Lists.{In}
+use Rattle.lists.specs.Lists.{In}
 use Rattle.agreement.specs.Ballots.{Line, History, Told, Extends, IsWithin}
 use Rattle.agreement.specs.Ballots.Told.{told_at_opening, told_by_held, told_by_installed, told_as_primary}
 use Rattle.agreement.specs.Sound.{IsSoundNode}
-use Rattle.agreement.proofs.Lists.{prefix_same, get_set, get_set_other, in_left, in_append}
+use Rattle.lists.proofs.Beginnings.{prefix_same}
+use Rattle.lists.proofs.Places.{get_set, get_set_other}
+use Rattle.lists.proofs.Members.{in_left, in_append}
 use Rattle.agreement.proofs.Later.{told_kept, applied_kept}
 
 -- a body that tells nothing
@@ -126,8 +128,8 @@ quiet_node {S = S} {C = C} {O = O} w h n old new given q within m r s =
         begun = a.begun;
         above = a.above;
         covered = a.covered;
-        marked = λ mark j. let z = a.marked mark j in
-            (z.0, z.1, z.2, told_kept w (moved w n new given) h h mark.member r.joined mark.held x z.3);
+        followed = λ reached j. let z = a.followed reached j in
+            (z.0, z.1, z.2, told_kept w (moved w n new given) h h reached.member r.joined reached.held x z.3);
         others = a.others;
       };
     }

@@ -3,21 +3,21 @@ use Rattle.std.proofs.Common.{◌≡◌, ℕ, ◌+◌, ◌<◌, ◌≤◌, ◌�
 use Rattle.std.specs.Prelude.{slice_get, nat_lt, nat_le, ◌&&◌}
 use Rattle.std.proofs.lemmas.Bool.{cases_Bool, and_parts, ltb-true, leb-true, ltb-false}
 use Rattle.machine.specs.Machine.{Rules}
-use Rattle.ballot_base.specs.declared.message.Message.{Message}
-use Rattle.ballot_base.specs.declared.message.Body.TheVariants.{Join, State}
-use Rattle.ballot_base.specs.declared.message.Effect.{Effect}
-use Rattle.ballot_base.specs.declared.status.Role.TheVariants.{Backup}
-use Rattle.ballot_base.specs.Replica.{ReplicaState}
-use Rattle.ballot_base.specs.Sending.{Outcome, message_to}
-use Rattle.ballot_base.specs.Changing.{on_join}
+use Rattle.ballot.specs.Message.{Message}
+use Rattle.ballot.specs.Body.TheVariants.{Join, State}
+use Rattle.ballot.specs.Effect.{Effect}
+use Rattle.ballot.specs.Role.TheVariants.{Backup}
+use Rattle.ballot.specs.Replica.{ReplicaState}
+use Rattle.ballot.specs.Sending.{Outcome, message_to}
+use Rattle.ballot.specs.Changing.{on_join}
 use Rattle.agreement.specs.World.{World, messages, moved}
-use Rattle.agreement.specs.Lists.{In}
-use Rattle.agreement.specs.Lists.In.{here, there}
+use Rattle.lists.specs.Lists.{In}
+use Rattle.lists.specs.Lists.In.{here, there}
 use Rattle.agreement.specs.Ballots.{Given, History, Applied, Sealed, AreLines}
 use Rattle.agreement.specs.Ballots.Applied.{nothing, in_ballot}
 use Rattle.agreement.specs.Keeps.{Keeps}
 use Rattle.agreement.specs.Sound.{Says, IsOffered, IsSoundNode, IsSound}
-use Rattle.agreement.proofs.Lists.{get_set}
+use Rattle.lists.proofs.Places.{get_set}
 use Rattle.agreement.proofs.Framing.{within_of}
 use Rattle.agreement.proofs.Later.{joined_kept}
 use Rattle.agreement.proofs.Joining.{AreSilent, MovesQuietly, quiet_extends}

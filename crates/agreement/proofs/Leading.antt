@@ -1,10 +1,10 @@
 -- Leading.antt: a primary of an activated ballot, before a command is added.
 use Rattle.std.proofs.Common.{◌≡◌, ℕ, ◌+◌, ◌≤◌, ◌⊎◌, [], ◌∷◌, ◌++◌, length, Some}
-use Rattle.ballot_base.specs.declared.status.Mark.{Mark}
-use Rattle.ballot_base.specs.declared.status.Role.TheVariants.{Active}
-use Rattle.ballot_base.specs.Replica.{ReplicaState}
+use Rattle.ballot.specs.Progress.{Progress}
+use Rattle.ballot.specs.Role.TheVariants.{Active}
+use Rattle.ballot.specs.Replica.{ReplicaState}
 use Rattle.agreement.specs.World.{World}
-use Rattle.agreement.specs.Lists.{In}
+use Rattle.lists.specs.Lists.{In}
 use Rattle.agreement.specs.Ballots.{Given, Line, History, Told, Applied}
 use Rattle.agreement.specs.Sound.{IsActive, IsSoundNode}
 use Rattle.agreement.proofs.ActiveTicks.{active_log}
@@ -24,10 +24,10 @@ pub record Leading {S C O : Type 0} (w : World S C O) (h : History C) (n : ℕ) 
   pub above : length line.base ≤ r.committed
   pub within : r.committed ≤ length r.log
   pub applied : Applied w h r
-  pub covered : (m : ℕ) → In m r.members → (m ≡ n + 1) ⊎ ((mark : Mark) × In mark r.marks × (mark.member ≡ m))
-  pub marked : (mark : Mark) → In mark r.marks → (In mark.member r.members)
-      × (length line.base ≤ mark.held) × (r.committed ≤ mark.held) × Told w h mark.member r.joined mark.held
-  pub others : (mark : Mark) → In mark r.marks → mark.member ≡ n + 1 → ⊥
+  pub covered : (m : ℕ) → In m r.members → (m ≡ n + 1) ⊎ ((reached : Progress) × In reached r.progress × (reached.member ≡ m))
+  pub followed : (reached : Progress) → In reached r.progress → (In reached.member r.members)
+      × (length line.base ≤ reached.held) × (r.committed ≤ reached.held) × Told w h reached.member r.joined reached.held
+  pub others : (reached : Progress) → In reached r.progress → reached.member ≡ n + 1 → ⊥
 
 -- an active primary is one
 pub active_leading : {S C O : Type 0} (w : World S C O) (h : History C) (n : ℕ) (r : ReplicaState S C) → IsSoundNode w h n r →
@@ -48,7 +48,7 @@ active_leading w h n r t role a =
       within = t.within;
       applied = t.applied;
       covered = a.covered;
-      marked = a.marked;
+      followed = a.followed;
       others = a.others;
     }
 

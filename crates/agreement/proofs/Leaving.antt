@@ -4,14 +4,15 @@ use Rattle.std.specs.Prelude.{slice_get}
 use Rattle.std.proofs.lemmas.Bool.{cases_eq}
 use Rattle.std.proofs.lemmas.List.{append-nil}
 use Rattle.machine.specs.Machine.{Rules}
-use Rattle.ballot_base.specs.declared.message.Effect.{Effect}
-use Rattle.ballot_base.specs.Replica.{ReplicaState}
+use Rattle.ballot.specs.Effect.{Effect}
+use Rattle.ballot.specs.Replica.{ReplicaState}
 use Rattle.agreement.specs.World.{World, outputs, moved}
-use Rattle.agreement.specs.Lists.{In, IsPrefixOf}
+use Rattle.lists.specs.Lists.{In, IsPrefixOf}
 use Rattle.agreement.specs.Ballots.{Line, History, IsChosenIn, Extends}
 use Rattle.agreement.specs.Moves.{Moves, with_lines}
 use Rattle.agreement.specs.Sound.{LeftIs, Segment}
-use Rattle.agreement.proofs.Lists.{prefix_then, get_set, get_set_other}
+use Rattle.lists.proofs.Beginnings.{prefix_then}
+use Rattle.lists.proofs.Places.{get_set, get_set_other}
 use Rattle.agreement.proofs.Later.{chosen_kept, takes}
 use Rattle.agreement.proofs.Framing.{move_extends}
 

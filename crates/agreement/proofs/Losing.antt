@@ -2,11 +2,11 @@
 use Rattle.std.proofs.Common.{◌≡◌, ℕ, inl, inr, List, [], Some, refl, sym, subst}
 use Rattle.std.specs.Prelude.{slice_get}
 use Rattle.machine.specs.Machine.{Rules}
-use Rattle.ballot_base.specs.declared.message.Effect.{Effect}
-use Rattle.ballot_base.specs.Losses.{Loses, halted}
-use Rattle.ballot_base.specs.Losses.Thinned.{none}
-use Rattle.ballot_base.specs.Replica.{ReplicaState}
-use Rattle.ballot_base.specs.Sending.{Outcome, nothing_done}
+use Rattle.ballot.specs.Effect.{Effect}
+use Rattle.ballot.specs.Losses.{Loses, halted}
+use Rattle.ballot.specs.Losses.Thinned.{none}
+use Rattle.ballot.specs.Replica.{ReplicaState}
+use Rattle.ballot.specs.Sending.{Outcome, nothing_done}
 use Rattle.agreement.specs.World.{World, moved}
 use Rattle.agreement.specs.Ballots.{History}
 use Rattle.agreement.specs.Keeps.{NodeGoesOn, KeepsAdding}

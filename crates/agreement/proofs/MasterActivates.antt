@@ -3,11 +3,11 @@ use Rattle.std.proofs.Common.{◌≡◌, ℕ, ◌<◌, ◌≤◌, ◌⊎◌, inl
 use Rattle.std.specs.Prelude.{◌==◌}
 use Rattle.std.proofs.lemmas.Bool.{cases_Bool, eqb-true}
 use Rattle.machine.specs.Machine.{Rules}
-use Rattle.ballot_base.specs.declared.config.Config.{Config}
-use Rattle.ballot_base.specs.declared.message.Body.TheVariants.{Activate, Activated, Superseded}
+use Rattle.ballot.specs.Config.{Config}
+use Rattle.ballot.specs.Body.TheVariants.{Activate, Activated, Superseded}
 use Rattle.agreement.specs.World.{World}
-use Rattle.agreement.specs.Lists.{In}
-use Rattle.agreement.specs.Lists.In.{here, there}
+use Rattle.lists.specs.Lists.{In}
+use Rattle.lists.specs.Lists.In.{here, there}
 use Rattle.agreement.specs.Ballots.{Given, Line, History, IsChosenIn, IsChain, AreBallots, Extends}
 use Rattle.agreement.specs.MasterState.{MasterState, MasterOutcome, IsMaster, answer, activated, tells_from_master}
 use Rattle.agreement.specs.Sound.{Says, IsSound}

@@ -2,16 +2,17 @@
 use Rattle.std.proofs.Common.{◌≡◌, ℕ, ◌+◌, ◌<◌, ◌⊎◌, inl, inr, List, [], ◌∷◌, ◌++◌, length, Some, Option, refl, ap, sym, ◌∙◌, subst, arith}
 use Rattle.std.proofs.lemmas.List.{append-nil}
 use Rattle.machine.specs.Machine.{Rules}
-use Rattle.ballot_base.specs.declared.message.Message.{Message}
-use Rattle.ballot_base.specs.declared.message.Body.TheVariants.{Held, Installed}
+use Rattle.ballot.specs.Message.{Message}
+use Rattle.ballot.specs.Body.TheVariants.{Held, Installed}
 use Rattle.agreement.specs.World.{World}
-use Rattle.agreement.specs.Lists.{In}
-use Rattle.agreement.specs.Lists.In.{here, there}
+use Rattle.lists.specs.Lists.{In}
+use Rattle.lists.specs.Lists.In.{here, there}
 use Rattle.agreement.specs.Ballots.{Given, Line, History, Told, IsChosenIn, IsChain, AreBallots, Extends, IsWithin}
 use Rattle.agreement.specs.Ballots.Told.{told_at_opening, told_by_held, told_by_installed, told_as_primary}
 use Rattle.agreement.specs.MasterState.{MasterOutcome, tells_from_master}
 use Rattle.agreement.specs.Sound.{Says, IsSound}
-use Rattle.agreement.proofs.Lists.{prefix_same, in_left, in_append}
+use Rattle.lists.proofs.Beginnings.{prefix_same}
+use Rattle.lists.proofs.Members.{in_left, in_append}
 use Rattle.agreement.proofs.Framing.{within_of}
 use Rattle.agreement.proofs.Joining.{IsSilent, AreSilent}
 use Rattle.agreement.proofs.Later.{chosen_kept, sealed_kept, says_kept}

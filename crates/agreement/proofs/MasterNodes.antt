@@ -1,9 +1,9 @@
 -- MasterNodes.antt: nodes stay as they should be when ballots are given or activated.
 use Rattle.std.proofs.Common.{◌≡◌, ℕ, ◌+◌, ◌<◌, ◌≤◌, ◌⊎◌, inl, inr, List, length, Some, Option, arith}
 use Rattle.std.proofs.lemmas.Bool.{cases_lt}
-use Rattle.ballot_base.specs.Replica.{ReplicaState}
+use Rattle.ballot.specs.Replica.{ReplicaState}
 use Rattle.agreement.specs.World.{World}
-use Rattle.agreement.specs.Lists.{In}
+use Rattle.lists.specs.Lists.{In}
 use Rattle.agreement.specs.Ballots.{Given, Line, History, Told, AreLines, Extends, IsWithin}
 use Rattle.agreement.specs.Sound.{IsSoundNode}
 use Rattle.agreement.proofs.Later.{told_kept, applied_kept, of_kept}
@@ -57,8 +57,8 @@ node_with_ballots {S = S} {C = C} {O = O} w v h given activated n r x active wit
         begun = a.begun;
         above = a.above;
         covered = a.covered;
-        marked = λ mark j. let z = a.marked mark j in
-            (z.0, z.1, z.2, told_kept w v h i mark.member r.joined mark.held x z.3);
+        followed = λ reached j. let z = a.followed reached j in
+            (z.0, z.1, z.2, told_kept w v h i reached.member r.joined reached.held x z.3);
         others = a.others;
       };
     }

@@ -3,23 +3,23 @@ use Rattle.std.proofs.Common.{◌≡◌, ℕ, ◌+◌, ◌<◌, ◌≤◌, ◌�
 use Rattle.std.specs.Prelude.{slice_get}
 use Rattle.std.proofs.lemmas.Bool.{cases_lt}
 use Rattle.machine.specs.Machine.{Rules}
-use Rattle.ballot_base.specs.declared.message.Message.{Message}
-use Rattle.ballot_base.specs.declared.message.Body.{Body}
-use Rattle.ballot_base.specs.declared.message.Body.TheVariants.{NewBallot, Join}
-use Rattle.ballot_base.specs.declared.message.Effect.{Effect}
-use Rattle.ballot_base.specs.declared.status.Role.TheVariants.{Fetching}
-use Rattle.ballot_base.specs.Replica.{ReplicaState}
-use Rattle.ballot_base.specs.Sending.{Outcome, message_to_each}
-use Rattle.ballot_base.specs.Changing.{on_new_ballot}
+use Rattle.ballot.specs.Message.{Message}
+use Rattle.ballot.specs.Body.{Body}
+use Rattle.ballot.specs.Body.TheVariants.{NewBallot, Join}
+use Rattle.ballot.specs.Effect.{Effect}
+use Rattle.ballot.specs.Role.TheVariants.{Fetching}
+use Rattle.ballot.specs.Replica.{ReplicaState}
+use Rattle.ballot.specs.Sending.{Outcome, message_to_each}
+use Rattle.ballot.specs.Changing.{on_new_ballot}
 use Rattle.agreement.specs.World.{World, messages, outputs, moved}
-use Rattle.agreement.specs.Lists.{In}
-use Rattle.agreement.specs.Lists.In.{here, there}
+use Rattle.lists.specs.Lists.{In}
+use Rattle.lists.specs.Lists.In.{here, there}
 use Rattle.agreement.specs.Ballots.{Given, Line, History, Applied}
 use Rattle.agreement.specs.Ballots.Told.{told_as_primary}
 use Rattle.agreement.specs.Ballots.Applied.{nothing, in_ballot}
 use Rattle.agreement.specs.Keeps.{Keeps}
 use Rattle.agreement.specs.Sound.{Says, IsSoundNode, IsSound}
-use Rattle.agreement.proofs.Lists.{get_set}
+use Rattle.lists.proofs.Places.{get_set}
 use Rattle.agreement.proofs.Joining.{IsSilent, MovesQuietly}
 use Rattle.agreement.proofs.Quiet.{before_quiet, quiet_keeps, keeps_nothing}
 use Rattle.agreement.proofs.RolesAndRows.{on_new_ballot-joins, on_new_ballot-stays}
@@ -56,7 +56,7 @@ new_ballot_taken : {S C O : Type 0} (rules : Rules S C O) (w : World S C O) (h :
         previous = a;
         previous_members = old;
         lacking = [];
-        marks = [];
+        progress = [];
       };
       effects = message_to_each O r.id (Join b a) old;
     })
@@ -88,7 +88,7 @@ new_ballot_taken {S = S} {C = C} {O = O} rules w h n r from b a members old s st
       previous = a;
       previous_members = old;
       lacking = [];
-      marks = [];
+      progress = [];
     }
 
     node : (given : List (Effect C O)) → MovesQuietly w n r new given → IsSoundNode (moved w n new given) h n new

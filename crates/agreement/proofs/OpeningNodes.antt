@@ -5,20 +5,20 @@ use Rattle.std.specs.List.{list_any}
 use Rattle.std.proofs.lemmas.Bool.{cases_eq, eqb-true, eq-eqb, ne_eqb}
 use Rattle.machine.specs.Machine.{Rules}
 use Rattle.agreement.proofs.LawfulConfigs.{any_in}
-use Rattle.ballot_base.specs.declared.config.Config.{Config}
-use Rattle.ballot_base.specs.declared.status.Mark.{Mark}
-use Rattle.ballot_base.specs.declared.status.Role.TheVariants.{Backup, Active}
-use Rattle.ballot_base.specs.Replica.{ReplicaState, opening, others, marks_at}
+use Rattle.ballot.specs.Config.{Config}
+use Rattle.ballot.specs.Progress.{Progress}
+use Rattle.ballot.specs.Role.TheVariants.{Backup, Active}
+use Rattle.ballot.specs.Replica.{ReplicaState, opening, others, progress_at}
 use Rattle.agreement.specs.World.{opening_world}
-use Rattle.agreement.specs.Lists.{In, IsPrefixOf}
-use Rattle.agreement.specs.Lists.In.{here, there}
+use Rattle.lists.specs.Lists.{In, IsPrefixOf}
+use Rattle.lists.specs.Lists.In.{here, there}
 use Rattle.agreement.specs.Ballots.{Given, Line, Told}
 use Rattle.agreement.specs.Ballots.Told.{told_at_opening, told_by_held, told_by_installed, told_as_primary}
 use Rattle.agreement.specs.Ballots.Applied.{nothing}
 use Rattle.agreement.specs.OpeningHistory.{first_ballot, first_line, opening_history}
 use Rattle.agreement.specs.Sound.{IsSoundNode}
-use Rattle.agreement.proofs.Lists.{prefix_same}
-use Rattle.agreement.proofs.Activating.{mark_of, marked_in}
+use Rattle.lists.proofs.Beginnings.{prefix_same}
+use Rattle.agreement.proofs.Activating.{reached_of, followed_in}
 use Rattle.agreement.proofs.Installings.{in_others, others_in, not_others}
 
 -- a member is found
@@ -77,7 +77,7 @@ opens_in rules id ballot =
       previous = 0;
       previous_members = [];
       lacking = [];
-      marks = [];
+      progress = [];
       stopped = false;
     }
 
@@ -134,7 +134,7 @@ backup_opens {C = C} rules nodes config n j led way =
 -- the primary opens as it should be
 leader_opens : {S C O : Type 0} (rules : Rules S C O) (nodes : ℕ) (config : Config) (n : ℕ) → In config.primary config.members → config.primary ≡ n + 1 →
     IsSoundNode (opening_world rules nodes config) (opening_history C config) n
-    (record (opens_in rules (n + 1) 1) { role = Active; members = config.members; marks = marks_at 0 (others (n + 1) config.members) })
+    (record (opens_in rules (n + 1) 1) { role = Active; members = config.members; progress = progress_at 0 (others (n + 1) config.members) })
 leader_opens {C = C} rules nodes config n led primary =
     let t = backup_opens rules nodes config n 1 led (inl (refl, subst (λ x. In x config.members) primary led)) in
     record {
@@ -157,17 +157,17 @@ leader_opens {C = C} rules nodes config n led primary =
         begun = inl refl;
         above = omega arith;
         covered = λ m i. by_member m (others_in (n + 1) config.members m i);
-        marked = λ mark i. let z = mark_of 0 (others (n + 1) config.members) mark i in
-            let j = in_others (n + 1) config.members mark.member z.0 in
+        followed = λ reached i. let z = reached_of 0 (others (n + 1) config.members) reached i in
+            let j = in_others (n + 1) config.members reached.member z.0 in
             (j, omega arith, omega arith, told_at_opening (first_ballot config) refl z.1 refl j);
-        others = λ mark i e. not_others (n + 1) config.members mark.member (mark_of 0 (others (n + 1) config.members) mark i).0 e;
+        others = λ reached i e. not_others (n + 1) config.members reached.member (reached_of 0 (others (n + 1) config.members) reached i).0 e;
       };
     }
   where
     by_member : (m : ℕ) → (m ≡ n + 1) ⊎ In m (others (n + 1) config.members) →
-        (m ≡ n + 1) ⊎ ((mark : Mark) × In mark (marks_at 0 (others (n + 1) config.members)) × (mark.member ≡ m))
+        (m ≡ n + 1) ⊎ ((reached : Progress) × In reached (progress_at 0 (others (n + 1) config.members)) × (reached.member ≡ m))
     by_member m (inl e) = inl e
-    by_member m (inr i) = inr (marked_in 0 (others (n + 1) config.members) m i)
+    by_member m (inr i) = inr (followed_in 0 (others (n + 1) config.members) m i)
 
 -- each node opens as it should be
 pub node_opens : {S C O : Type 0} (rules : Rules S C O) (nodes : ℕ) (config : Config) (n : ℕ) → In config.primary config.members →

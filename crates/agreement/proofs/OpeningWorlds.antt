@@ -3,17 +3,17 @@ use Rattle.std.proofs.Common.{◌≡◌, ℕ, zero, suc, ◌+◌, ◌<◌, ◌�
 use Rattle.std.specs.Prelude.{slice_get}
 use Rattle.std.proofs.lemmas.List.{length-append}
 use Rattle.machine.specs.Machine.{Rules}
-use Rattle.ballot_base.specs.declared.config.Config.{Config}
-use Rattle.ballot_base.specs.Replica.{ReplicaState, opening}
+use Rattle.ballot.specs.Config.{Config}
+use Rattle.ballot.specs.Replica.{ReplicaState, opening}
 use Rattle.agreement.specs.World.{opening_nodes, opening_world}
-use Rattle.agreement.specs.Lists.{In, IsPrefixOf}
-use Rattle.agreement.specs.Lists.In.{here, there}
+use Rattle.lists.specs.Lists.{In, IsPrefixOf}
+use Rattle.lists.specs.Lists.In.{here, there}
 use Rattle.agreement.specs.Ballots.{Given, Line, IsChosenIn}
 use Rattle.agreement.specs.Ballots.Told.{told_at_opening}
 use Rattle.agreement.specs.MasterState.{IsMaster}
 use Rattle.agreement.specs.OpeningHistory.{first_ballot, first_line, opening_history, opening_master}
 use Rattle.agreement.specs.Sound.{IsSoundNode, IsSound}
-use Rattle.agreement.proofs.Lists.{prefix_same}
+use Rattle.lists.proofs.Beginnings.{prefix_same}
 use Rattle.agreement.proofs.Giving.{get_pushed_to}
 use Rattle.agreement.proofs.OpeningNodes.{first_given, first_lined, told_opens, node_opens}
 

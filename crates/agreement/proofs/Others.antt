@@ -1,13 +1,13 @@
 -- Others.antt: the nodes that did not move stay as they should be.
 use Rattle.std.proofs.Common.{◌≡◌, ℕ, ◌+◌, ◌⊎◌, inl, inr, List, length, Some, Option, sym, ◌∙◌, subst, arith}
-use Rattle.ballot_base.specs.declared.message.Effect.{Effect}
-use Rattle.ballot_base.specs.Replica.{ReplicaState}
+use Rattle.ballot.specs.Effect.{Effect}
+use Rattle.ballot.specs.Replica.{ReplicaState}
 use Rattle.agreement.specs.World.{World, moved}
-use Rattle.agreement.specs.Lists.{IsPrefixOf}
+use Rattle.lists.specs.Lists.{IsPrefixOf}
 use Rattle.agreement.specs.Ballots.{Given, Line, History, Told, Extends, IsWithin}
 use Rattle.agreement.specs.Moves.{Moves, with_lines, TellsNow}
 use Rattle.agreement.specs.Sound.{IsSoundNode}
-use Rattle.agreement.proofs.Lists.{prefix_then}
+use Rattle.lists.proofs.Beginnings.{prefix_then}
 use Rattle.agreement.proofs.Later.{told_kept, applied_kept, of_kept}
 use Rattle.agreement.proofs.Framing.{move_extends}
 
@@ -60,8 +60,8 @@ other_node {S = S} {C = C} {O = O} w h line n old new given q within m r other s
         begun = a.begun;
         above = a.above;
         covered = a.covered;
-        marked = λ mark j. let z = a.marked mark j in
-            (z.0, z.1, z.2, told_kept w v h i mark.member r.joined mark.held x z.3);
+        followed = λ reached j. let z = a.followed reached j in
+            (z.0, z.1, z.2, told_kept w v h i reached.member r.joined reached.held x z.3);
         others = a.others;
       };
     }

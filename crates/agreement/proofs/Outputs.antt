@@ -1,21 +1,21 @@
--- Outputs.antt: outputs are no messages, and the least of the marks is at most each.
+-- Outputs.antt: outputs are no messages, and the least of the progress is at most each.
 use Rattle.std.proofs.Common.{◌≡◌, ℕ, ◌+◌, ◌≤◌, min, List, [], ◌∷◌, ◌++◌, map, refl, ap, ◌∙◌, arith}
 use Rattle.machine.specs.Machine.{Rules}
-use Rattle.ballot_base.specs.declared.message.Effect.TheVariants.{Out}
-use Rattle.ballot_base.specs.declared.status.Mark.{Mark}
-use Rattle.ballot_base.specs.Applying.{outputs_from}
-use Rattle.ballot_base.specs.Serving.{least}
-use Rattle.ballot_base.proofs.StepRows.{least-le}
+use Rattle.ballot.specs.Effect.TheVariants.{Out}
+use Rattle.ballot.specs.Progress.{Progress}
+use Rattle.ballot.specs.Applying.{outputs_from}
+use Rattle.ballot.specs.Serving.{least}
+use Rattle.ballot.proofs.StepRows.{least-le}
 use Rattle.agreement.specs.World.{messages}
-use Rattle.agreement.specs.Lists.{In}
-use Rattle.agreement.specs.Lists.In.{here, there}
-use Rattle.agreement.proofs.Lists.{messages-append}
+use Rattle.lists.specs.Lists.{In}
+use Rattle.lists.specs.Lists.In.{here, there}
+use Rattle.agreement.proofs.Effects.{messages-append}
 
--- the least of the marks is at most each of them
-pub least_le_mark : (held : ℕ) (mark : Mark) (marks : List Mark) → In mark marks → least held marks ≤ mark.held
-least_le_mark held mark [] i = elim i [ ]
-least_le_mark held mark (m ∷ marks) here = let l = least-le (min held m.held) marks in omega (arith, l)
-least_le_mark held mark (m ∷ marks) (there i) = least_le_mark (min held m.held) mark marks i
+-- the least of the progress is at most each of them
+pub least_le_reached : (held : ℕ) (reached : Progress) (progress : List Progress) → In reached progress → least held progress ≤ reached.held
+least_le_reached held reached [] i = elim i [ ]
+least_le_reached held reached (m ∷ progress) here = let l = least-le (min held m.held) progress in omega (arith, l)
+least_le_reached held reached (m ∷ progress) (there i) = least_le_reached (min held m.held) reached progress i
 
 -- outputs are no messages
 outs_silent : {C O : Type 0} (place : ℕ) (os : List O) → messages {C = C} (map (Out place) os) ≡ []

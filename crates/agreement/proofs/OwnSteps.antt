@@ -4,18 +4,18 @@ use Rattle.std.specs.Prelude.{slice_get, filter}
 use Rattle.std.proofs.lemmas.Bool.{cases_lt}
 use Rattle.std.proofs.lemmas.List.Elements.{filter-append}
 use Rattle.machine.specs.Machine.{Rules}
-use Rattle.ballot_base.specs.Protocol.{Input}
-use Rattle.ballot_base.specs.Protocol.Input.{Receives, Proposes, Ticks}
-use Rattle.ballot_base.specs.Replica.{ReplicaState}
+use Rattle.ballot.specs.Protocol.{Input}
+use Rattle.ballot.specs.Protocol.Input.{Receives, Proposes, Ticks}
+use Rattle.ballot.specs.Replica.{ReplicaState}
 use Rattle.agreement.specs.World.{World}
-use Rattle.agreement.specs.Lists.{IsPrefixOf}
+use Rattle.lists.specs.Lists.{IsPrefixOf}
 use Rattle.agreement.specs.Ballots.{Line, History}
 use Rattle.agreement.specs.GroupSteps.{AddsBy}
 use Rattle.agreement.specs.Keeps.{NodeGoesOn, LineAdds}
 use Rattle.agreement.specs.Keeps.LineAdds.{as_it_was, begins_behind, adds_one}
 use Rattle.agreement.specs.Own.{commands_of, IsOfBallot, OwnLines}
 use Rattle.agreement.specs.Sound.{IsSound}
-use Rattle.agreement.proofs.Lists.{prefix_same, prefix_then}
+use Rattle.lists.proofs.Beginnings.{prefix_same, prefix_then}
 use Rattle.agreement.proofs.Owning.{own_starts, own_proposed}
 use Rattle.agreement.proofs.Sealing.{one_line}
 

@@ -4,13 +4,14 @@ use Rattle.std.specs.Prelude.{filter}
 use Rattle.std.proofs.lemmas.Bool.{cases_Bool}
 use Rattle.std.proofs.lemmas.List.{append-nil, length-append}
 use Rattle.std.proofs.lemmas.List.Elements.{filter-append}
-use Rattle.agreement.specs.Lists.{In, IsPrefixOf}
-use Rattle.agreement.specs.Lists.In.{here, there}
+use Rattle.lists.specs.Lists.{In, IsPrefixOf}
+use Rattle.lists.specs.Lists.In.{here, there}
 use Rattle.agreement.specs.Ballots.{Line, History}
 use Rattle.agreement.specs.Keeps.{LineAdds}
 use Rattle.agreement.specs.Keeps.LineAdds.{as_it_was, begins_behind, adds_one}
 use Rattle.agreement.specs.Own.{commands_of, IsOfBallot, OwnLines}
-use Rattle.agreement.proofs.Lists.{prefix_then, in_left, in_right, in_append}
+use Rattle.lists.proofs.Beginnings.{prefix_then}
+use Rattle.lists.proofs.Members.{in_left, in_right, in_append}
 use Rattle.agreement.proofs.EqualLists.{prefix_of_same}
 use Rattle.agreement.proofs.Sealing.{one_line}
 

@@ -2,19 +2,19 @@
 use Rattle.std.proofs.Common.{◌≡◌, ℕ, ◌≤◌, List, [], Some, refl, sym, ◌∙◌, subst, arith}
 use Rattle.std.specs.Prelude.{slice_get}
 use Rattle.machine.specs.Machine.{Rules}
-use Rattle.ballot_base.specs.declared.message.Message.{Message}
-use Rattle.ballot_base.specs.declared.message.Effect.{Effect}
-use Rattle.ballot_base.specs.Losses.{halted}
-use Rattle.ballot_base.specs.Replica.{ReplicaState}
-use Rattle.ballot_base.specs.Sending.{Outcome, nothing_done}
+use Rattle.ballot.specs.Message.{Message}
+use Rattle.ballot.specs.Effect.{Effect}
+use Rattle.ballot.specs.Losses.{halted}
+use Rattle.ballot.specs.Replica.{ReplicaState}
+use Rattle.ballot.specs.Sending.{Outcome, nothing_done}
 use Rattle.agreement.specs.World.{World, messages, outputs, moved}
-use Rattle.agreement.specs.Lists.{In}
+use Rattle.lists.specs.Lists.{In}
 use Rattle.agreement.specs.Ballots.{History, Applied}
 use Rattle.agreement.specs.Ballots.Applied.{nothing, in_ballot}
 use Rattle.agreement.specs.Keeps.LineAdds.{as_it_was}
 use Rattle.agreement.specs.Keeps.{Keeps}
 use Rattle.agreement.specs.Sound.{Says, IsSoundNode, IsSound}
-use Rattle.agreement.proofs.Lists.{thinned_outputs, thinned_messages}
+use Rattle.agreement.proofs.Effects.{thinned_outputs, thinned_messages}
 use Rattle.agreement.proofs.Framing.{within_of}
 use Rattle.agreement.proofs.Joining.{AreSilent, MovesQuietly, quiet_extends, quiet_node}
 use Rattle.agreement.proofs.QuietWorlds.{quiet_sound}
@@ -98,7 +98,7 @@ keeps_halted {S = S} {C = C} {O = O} rules w h n old s stands =
         begun = a.begun;
         above = a.above;
         covered = a.covered;
-        marked = a.marked;
+        followed = a.followed;
         others = a.others;
       };
     }

@@ -3,17 +3,17 @@ use Rattle.std.proofs.Common.{◌≡◌, ℕ, ◌⊎◌, inl, inr, false, List, 
 use Rattle.std.specs.Prelude.{slice_get}
 use Rattle.std.proofs.lemmas.Bool.{cases_eq}
 use Rattle.machine.specs.Machine.{Rules, replay}
-use Rattle.ballot_base.specs.declared.message.Effect.{Effect}
-use Rattle.ballot_base.specs.Losses.{Loses}
-use Rattle.ballot_base.specs.Protocol.{Input, replica_step}
-use Rattle.ballot_base.specs.Replica.{ReplicaState}
-use Rattle.ballot_base.proofs.AppliesInOrder.{replay_goes_on}
+use Rattle.ballot.specs.Effect.{Effect}
+use Rattle.ballot.specs.Losses.{Loses}
+use Rattle.ballot.specs.Protocol.{Input, replica_step}
+use Rattle.ballot.specs.Replica.{ReplicaState}
+use Rattle.ballot.proofs.AppliesInOrder.{replay_goes_on}
 use Rattle.agreement.specs.World.{World, moved}
 use Rattle.agreement.specs.Ballots.{History}
 use Rattle.agreement.specs.Keeps.{NodeGoesOn}
 use Rattle.agreement.specs.Replays.{IsReplay, AreReplays}
 use Rattle.agreement.specs.Sound.{IsSound}
-use Rattle.agreement.proofs.Lists.{get_set, get_set_other}
+use Rattle.lists.proofs.Places.{get_set, get_set_other}
 use Rattle.agreement.proofs.Applies.{Applies}
 use Rattle.agreement.proofs.Comparing.{applied_stays}
 use Rattle.agreement.proofs.StepApplies.{step_applies}

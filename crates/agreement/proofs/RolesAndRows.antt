@@ -4,14 +4,14 @@ use Rattle.std.specs.Prelude.{nat_lt, nat_le, ◌&&◌, ◌||◌, ◌==◌}
 use Rattle.std.specs.List.{list_any}
 use Rattle.std.proofs.lemmas.Bool.{lt-ltb, le-ltb}
 use Rattle.machine.specs.Machine.{Rules}
-use Rattle.ballot_base.specs.Applying.{applied_to}
-use Rattle.ballot_base.specs.declared.message.Body.TheVariants.{Join, State, Installed}
-use Rattle.ballot_base.specs.declared.status.Role.{Role}
-use Rattle.ballot_base.specs.declared.status.Role.TheVariants.{Backup, Fetching, Installing, Active}
-use Rattle.ballot_base.specs.Replica.{ReplicaState, is_active, is_backup, is_fetching, is_installing, others, marks_at}
-use Rattle.ballot_base.specs.Sending.{nothing_done, message_to, message_to_each}
-use Rattle.ballot_base.specs.Serving.{most_places, added}
-use Rattle.ballot_base.specs.Changing.{on_new_ballot, on_join, on_install, on_superseded, installs, on_state, activates, on_installed, on_activated}
+use Rattle.ballot.specs.Applying.{applied_to}
+use Rattle.ballot.specs.Body.TheVariants.{Join, State, Installed}
+use Rattle.ballot.specs.Role.{Role}
+use Rattle.ballot.specs.Role.TheVariants.{Backup, Fetching, Installing, Active}
+use Rattle.ballot.specs.Replica.{ReplicaState, is_active, is_backup, is_fetching, is_installing, others, progress_at}
+use Rattle.ballot.specs.Sending.{nothing_done, message_to, message_to_each}
+use Rattle.ballot.specs.Serving.{most_places, added}
+use Rattle.ballot.specs.Changing.{on_new_ballot, on_join, on_install, on_superseded, installs, on_state, activates, on_installed, on_activated}
 
 -- a role by its test
 pub role_active : (r : Role) → is_active r ≡ true → r ≡ Active
@@ -48,7 +48,7 @@ pub on_new_ballot-joins : {S C : Type 0} (O : Type 0) (r : ReplicaState S C) (b 
         previous = a;
         previous_members = old;
         lacking = [];
-        marks = [];
+        progress = [];
       };
       effects = message_to_each O r.id (Join b a) old;
     }
@@ -148,7 +148,7 @@ on_activated-stays rules r b e = rw e refl
 pub on_activated-adds : {S C O : Type 0} (rules : Rules S C O) (r : ReplicaState S C) (b : ℕ) →
     ((r.joined == b && is_installing r.role) && (nat_le (length r.lacking) 0 && nat_lt (length r.log) most_places)) ≡ true →
     on_activated rules r b ≡ added rules
-    (record (applied_to rules r (length r.log)) { role = Active; marks = marks_at (length r.log) (others r.id r.members) })
+    (record (applied_to rules r (length r.log)) { role = Active; progress = progress_at (length r.log) (others r.id r.members) })
     (rules.start_of b)
 unfolding on_activated
 on_activated-adds rules r b e = rw e refl

@@ -1,10 +1,10 @@
 -- RunsGoOn.antt: every run of a sound group keeps it sound: its history goes on, its machines are replays, its ballots begin with their starts.
 use Rattle.std.proofs.Common.{◌≡◌, ℕ, inl, [], Option, refl, ap, sym, ◌∙◌}
 use Rattle.machine.specs.Machine.{Rules}
-use Rattle.ballot_base.specs.declared.config.Config.{Config}
-use Rattle.ballot_base.specs.Losses.Thinned.{none}
-use Rattle.ballot_base.specs.Protocol.Input.{Ticks}
-use Rattle.ballot_base.specs.Protocol.{replica_step}
+use Rattle.ballot.specs.Config.{Config}
+use Rattle.ballot.specs.Losses.Thinned.{none}
+use Rattle.ballot.specs.Protocol.Input.{Ticks}
+use Rattle.ballot.specs.Protocol.{replica_step}
 use Rattle.agreement.specs.World.{World}
 use Rattle.agreement.specs.Ballots.{Line, History}
 use Rattle.agreement.specs.Begun.{AreBegun, BeginsOrFollows, AreLong}
@@ -17,7 +17,7 @@ use Rattle.agreement.specs.MasterState.{MasterState, IsMaster}
 use Rattle.agreement.specs.OpeningHistory.{opening_history}
 use Rattle.agreement.specs.Replays.{AreReplays}
 use Rattle.agreement.specs.Sound.{IsSound}
-use Rattle.agreement.proofs.Lists.{prefix_same, prefix_then}
+use Rattle.lists.proofs.Beginnings.{prefix_same, prefix_then}
 use Rattle.agreement.proofs.Assigning.{assign_goes_on}
 use Rattle.agreement.proofs.Begins.{begun_lines, keeps_begun}
 use Rattle.agreement.proofs.Going.{goes_same, goes_then}

@@ -2,13 +2,13 @@
 use Rattle.std.proofs.Common.{◌≡◌, ℕ, ◌+◌, ◌<◌, ◌≤◌, ◌⊎◌, inl, inr, List, [], ◌∷◌, length, take, Some, Option, refl, ap, sym, ◌∙◌, subst, arith}
 use Rattle.std.specs.Prelude.{slice_get}
 use Rattle.std.proofs.lemmas.Bool.{cases_lt}
-use Rattle.ballot_base.specs.Replica.{ReplicaState}
+use Rattle.ballot.specs.Replica.{ReplicaState}
 use Rattle.agreement.specs.World.{World}
-use Rattle.agreement.specs.Lists.{In, IsPrefixOf}
-use Rattle.agreement.specs.Lists.In.{here, there}
+use Rattle.lists.specs.Lists.{In, IsPrefixOf}
+use Rattle.lists.specs.Lists.In.{here, there}
 use Rattle.agreement.specs.Sound.{IsOffered}
 use Rattle.agreement.specs.Ballots.{Given, Line, History, Told, IsChosenIn, Sealed, IsChain, AreBallots, AreLines, IsPlaced}
-use Rattle.agreement.proofs.Lists.{prefix_then, prefix_take, take_prefix}
+use Rattle.lists.proofs.Beginnings.{prefix_then, prefix_take, take_prefix}
 
 -- there is one list of a ballot
 pub one_line : {C : Type 0} (o : Option (Line C)) (l m : Line C) → o ≡ Some l → o ≡ Some m → l ≡ m

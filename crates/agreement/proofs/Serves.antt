@@ -2,10 +2,10 @@
 use Rattle.std.proofs.Common.{◌≡◌, ℕ, zero, suc, ◌+◌, ◌<◌, List, [], ◌∷◌, length, Some, None, Option, refl, sym, subst, arith}
 use Rattle.std.specs.Prelude.{slice_get}
 use Rattle.std.proofs.lemmas.List.{length-set}
-use Rattle.ballot_base.specs.Losses.{halted}
+use Rattle.ballot.specs.Losses.{halted}
 use Rattle.machine.specs.Machine.{Rules}
 use Rattle.agreement.specs.World.{World}
-use Rattle.agreement.specs.Lists.{In}
+use Rattle.lists.specs.Lists.{In}
 use Rattle.agreement.specs.Agreed.{IsAgreedIn}
 use Rattle.agreement.specs.Assign.{AssignRefusal, refusal, master_behind, world_behind, ServingStep, ServingRun, IsServing, Holds}
 use Rattle.agreement.specs.Assign.ServingStep.{serving_takes, serving_stops, serving_assigns, serving_hears, serving_assigns_unheard, serving_hears_unanswered}

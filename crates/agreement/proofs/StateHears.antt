@@ -1,9 +1,9 @@
 -- StateHears.antt: what a fetching primary knows when a State of its ballot comes.
 use Rattle.std.proofs.Common.{◌≡◌, ℕ, ◌+◌, ◌<◌, inl, inr, List, Some, None, ap, sym, ◌∙◌}
-use Rattle.ballot_base.specs.declared.message.Body.TheVariants.{State}
-use Rattle.ballot_base.specs.Replica.{ReplicaState}
+use Rattle.ballot.specs.Body.TheVariants.{State}
+use Rattle.ballot.specs.Replica.{ReplicaState}
 use Rattle.agreement.specs.World.{World}
-use Rattle.agreement.specs.Lists.{IsPrefixOf}
+use Rattle.lists.specs.Lists.{IsPrefixOf}
 use Rattle.agreement.specs.Ballots.{Given, Line, History, Sealed}
 use Rattle.agreement.specs.Sound.{Says, IsOf, IsOffered, IsFetching}
 

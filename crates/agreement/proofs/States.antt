@@ -3,13 +3,13 @@ use Rattle.std.proofs.Common.{◌≡◌, ℕ, ◌+◌, ◌≤◌, ◌⊎◌, inl
 use Rattle.std.specs.Prelude.{slice_get, nat_le, ◌&&◌, ◌==◌}
 use Rattle.std.proofs.lemmas.Bool.{cases_Bool, and_parts, leb-true, eqb-true}
 use Rattle.machine.specs.Machine.{Rules}
-use Rattle.ballot_base.specs.declared.message.Body.TheVariants.{State}
-use Rattle.ballot_base.specs.declared.status.Role.TheVariants.{Installing}
-use Rattle.ballot_base.specs.Replica.{ReplicaState, is_fetching, others}
-use Rattle.ballot_base.specs.Sending.{Outcome}
-use Rattle.ballot_base.specs.Changing.{installs, on_state}
+use Rattle.ballot.specs.Body.TheVariants.{State}
+use Rattle.ballot.specs.Role.TheVariants.{Installing}
+use Rattle.ballot.specs.Replica.{ReplicaState, is_fetching, others}
+use Rattle.ballot.specs.Sending.{Outcome}
+use Rattle.ballot.specs.Changing.{installs, on_state}
 use Rattle.agreement.specs.World.{World, moved}
-use Rattle.agreement.specs.Lists.{In, IsPrefixOf}
+use Rattle.lists.specs.Lists.{In, IsPrefixOf}
 use Rattle.agreement.specs.Ballots.{Given, Line, History, Told, Applied, Extends}
 use Rattle.agreement.specs.Ballots.Applied.{nothing, in_ballot}
 use Rattle.agreement.specs.Ballots.Told.{told_as_primary}
@@ -18,7 +18,8 @@ use Rattle.agreement.specs.Keeps.LineAdds.{as_it_was, begins_behind}
 use Rattle.agreement.specs.Moves.{Moves, with_lines, lined_at}
 use Rattle.agreement.specs.Moves.LineGoesOn.{begins}
 use Rattle.agreement.specs.Sound.{IsInstalling, IsSoundNode, IsSound}
-use Rattle.agreement.proofs.Lists.{prefix_same, thinned_messages, thinned_outputs}
+use Rattle.lists.proofs.Beginnings.{prefix_same}
+use Rattle.agreement.proofs.Effects.{thinned_messages, thinned_outputs}
 use Rattle.agreement.proofs.Framing.{within_of, move_extends}
 use Rattle.agreement.proofs.Installings.{in_others, others_in, not_others}
 use Rattle.agreement.proofs.Installs.{same_front}

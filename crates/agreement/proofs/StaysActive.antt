@@ -4,12 +4,12 @@ use Rattle.std.specs.Prelude.{nat_lt, nat_le, ◌&&◌, ◌||◌, ◌==◌}
 use Rattle.std.specs.List.{list_any}
 use Rattle.std.proofs.lemmas.Bool.{cases_Bool}
 use Rattle.machine.specs.Machine.{Rules}
-use Rattle.ballot_base.specs.declared.status.Role.TheVariants.{Active}
-use Rattle.ballot_base.specs.Replica.{ReplicaState, is_fetching, is_installing}
-use Rattle.ballot_base.specs.Sending.{Outcome}
-use Rattle.ballot_base.specs.Changing.{on_new_ballot, on_join, on_install, on_superseded, on_state, on_installed}
-use Rattle.ballot_base.specs.Serving.{on_append, on_held, on_commit, commit, commit_at, added, least, raised, follows, leads}
-use Rattle.ballot_base.proofs.StepRows.{added-is}
+use Rattle.ballot.specs.Role.TheVariants.{Active}
+use Rattle.ballot.specs.Replica.{ReplicaState, is_fetching, is_installing}
+use Rattle.ballot.specs.Sending.{Outcome}
+use Rattle.ballot.specs.Changing.{on_new_ballot, on_join, on_install, on_superseded, on_state, on_installed}
+use Rattle.ballot.specs.Serving.{on_append, on_held, on_commit, commit, commit_at, added, least, raised, follows, leads}
+use Rattle.ballot.proofs.StepRows.{added-is}
 
 -- a node that is active behind a step was so before, in the same ballot
 abbrev pub StaysActive : {S C O : Type 0} → ReplicaState S C → Outcome S C O → Type 0
@@ -111,7 +111,7 @@ pub added_keeps : {S C O : Type 0} (rules : Rules S C O) (r : ReplicaState S C) 
     ((added rules r c).state.role ≡ r.role) × ((added rules r c).state.joined ≡ r.joined) × ((added rules r c).state.log ≡ r.log ++ c ∷ [])
 added_keeps {S = S} {C = C} {O = O} rules r c =
     let e = added-is rules r c in
-    let k = commit_keeps rules (record r { log = r.log ++ c ∷ [] }) (least (length (r.log ++ c ∷ [])) r.marks) in (
+    let k = commit_keeps rules (record r { log = r.log ++ c ∷ [] }) (least (length (r.log ++ c ∷ [])) r.progress) in (
       ap (λ (o : Outcome S C O). o.state.role) e ∙ k.0,
       ap (λ (o : Outcome S C O). o.state.joined) e ∙ k.1,
       ap (λ (o : Outcome S C O). o.state.log) e ∙ k.2,
@@ -123,5 +123,5 @@ unfolding on_held commit
 active_held rules r from b held = by_condition (cases_Bool (leads r b))
   where
     by_condition : (leads r b ≡ true) ⊎ (leads r b ≡ false) → StaysActive r (on_held rules r from b held)
-    by_condition (inl e) = rw e (λ f. let k = commit_keeps rules (record r { marks = raised from held r.marks }) (least (length r.log) (raised from held r.marks)) in (sym k.0 ∙ f, k.1))
+    by_condition (inl e) = rw e (λ f. let k = commit_keeps rules (record r { progress = raised from held r.progress }) (least (length r.log) (raised from held r.progress)) in (sym k.0 ∙ f, k.1))
     by_condition (inr e) = rw e (λ f. (f, refl))

@@ -3,18 +3,18 @@ use Rattle.std.proofs.Common.{◌≡◌, ℕ, ◌<◌, ◌≤◌, ◌⊎◌, inl
 use Rattle.std.specs.Prelude.{nat_lt, nat_le, ◌&&◌, ◌==◌}
 use Rattle.std.proofs.lemmas.Bool.{cases_Bool, cases_lt, and_parts}
 use Rattle.machine.specs.Machine.{Rules}
-use Rattle.ballot_base.specs.Applying.{applied_to}
-use Rattle.ballot_base.specs.declared.message.Body.{Body}
-use Rattle.ballot_base.specs.declared.message.Body.TheVariants.{NewBallot, Join, State, Install, Installed, Activate, Activated, Superseded, Append, Held, Commit}
-use Rattle.ballot_base.specs.declared.status.Role.{Role}
-use Rattle.ballot_base.specs.declared.status.Role.TheVariants.{Backup, Fetching, Installing, Active}
-use Rattle.ballot_base.specs.Protocol.{Input, received, ticked, replica_step}
-use Rattle.ballot_base.specs.Protocol.Input.{Receives, Proposes, Ticks}
-use Rattle.ballot_base.specs.Replica.{ReplicaState, is_active, is_installing, others, marks_at}
-use Rattle.ballot_base.specs.Sending.{Outcome}
-use Rattle.ballot_base.specs.Serving.{most_places, proposed, on_tick_active}
-use Rattle.ballot_base.proofs.StepRows.{proposed-adds, proposed-not_active, proposed-full}
-use Rattle.ballot_base.specs.Changing.{on_activated}
+use Rattle.ballot.specs.Applying.{applied_to}
+use Rattle.ballot.specs.Body.{Body}
+use Rattle.ballot.specs.Body.TheVariants.{NewBallot, Join, State, Install, Installed, Activate, Activated, Superseded, Append, Held, Commit}
+use Rattle.ballot.specs.Role.{Role}
+use Rattle.ballot.specs.Role.TheVariants.{Backup, Fetching, Installing, Active}
+use Rattle.ballot.specs.Protocol.{Input, received, ticked, replica_step}
+use Rattle.ballot.specs.Protocol.Input.{Receives, Proposes, Ticks}
+use Rattle.ballot.specs.Replica.{ReplicaState, is_active, is_installing, others, progress_at}
+use Rattle.ballot.specs.Sending.{Outcome}
+use Rattle.ballot.specs.Serving.{most_places, proposed, on_tick_active}
+use Rattle.ballot.proofs.StepRows.{proposed-adds, proposed-not_active, proposed-full}
+use Rattle.ballot.specs.Changing.{on_activated}
 use Rattle.agreement.proofs.RolesAndRows.{role_active, role_installing, on_activated-stays, on_activated-adds}
 use Rattle.agreement.proofs.StaysActive.{StaysActive, active_new_ballot, active_join, active_state, active_install, active_installed, active_superseded, active_append, active_held, active_commit, added_keeps}
 
@@ -38,7 +38,7 @@ activated_begins {S = S} {C = C} {O = O} rules r b =
         let p = and_parts (r.joined == b && is_installing r.role) (nat_le (length r.lacking) 0 && nat_lt (length r.log) most_places) e in
         let a = and_parts (r.joined == b) (is_installing r.role) p.0 in
         let f = on_activated-adds rules r b e in
-        let k = added_keeps rules (record (applied_to rules r (length r.log)) { role = Active; marks = marks_at (length r.log) (others r.id r.members) }) (rules.start_of b) in
+        let k = added_keeps rules (record (applied_to rules r (length r.log)) { role = Active; progress = progress_at (length r.log) (others r.id r.members) }) (rules.start_of b) in
         inr (record {
           command = rules.start_of b;
           role = role_installing r.role a.1;

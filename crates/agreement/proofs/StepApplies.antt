@@ -4,18 +4,18 @@ use Rattle.std.specs.Prelude.{nat_lt, nat_le, ◌&&◌, ◌||◌, ◌==◌}
 use Rattle.std.specs.List.{list_any}
 use Rattle.std.proofs.lemmas.Bool.{cases_Bool, cases_lt}
 use Rattle.machine.specs.Machine.{Rules}
-use Rattle.ballot_base.specs.Applying.{applied_to}
-use Rattle.ballot_base.specs.Changing.{on_new_ballot, on_join, on_install, on_superseded, on_state, on_installed, on_activated}
-use Rattle.ballot_base.specs.declared.message.Body.{Body}
-use Rattle.ballot_base.specs.declared.message.Body.TheVariants.{NewBallot, Join, State, Install, Installed, Activate, Activated, Superseded, Append, Held, Commit}
-use Rattle.ballot_base.specs.declared.status.Role.{Role}
-use Rattle.ballot_base.specs.declared.status.Role.TheVariants.{Backup, Fetching, Installing, Active}
-use Rattle.ballot_base.specs.Protocol.{Input, received, ticked, replica_step}
-use Rattle.ballot_base.specs.Protocol.Input.{Receives, Proposes, Ticks}
-use Rattle.ballot_base.specs.Replica.{ReplicaState, is_fetching, is_installing, is_active, others, marks_at}
-use Rattle.ballot_base.specs.Sending.{Outcome}
-use Rattle.ballot_base.specs.Serving.{most_places, proposed, follows, leads, least, raised, commit, on_append, on_held, on_commit, on_tick_active}
-use Rattle.ballot_base.proofs.StepRows.{proposed-adds, proposed-full, proposed-not_active}
+use Rattle.ballot.specs.Applying.{applied_to}
+use Rattle.ballot.specs.Changing.{on_new_ballot, on_join, on_install, on_superseded, on_state, on_installed, on_activated}
+use Rattle.ballot.specs.Body.{Body}
+use Rattle.ballot.specs.Body.TheVariants.{NewBallot, Join, State, Install, Installed, Activate, Activated, Superseded, Append, Held, Commit}
+use Rattle.ballot.specs.Role.{Role}
+use Rattle.ballot.specs.Role.TheVariants.{Backup, Fetching, Installing, Active}
+use Rattle.ballot.specs.Protocol.{Input, received, ticked, replica_step}
+use Rattle.ballot.specs.Protocol.Input.{Receives, Proposes, Ticks}
+use Rattle.ballot.specs.Replica.{ReplicaState, is_fetching, is_installing, is_active, others, progress_at}
+use Rattle.ballot.specs.Sending.{Outcome}
+use Rattle.ballot.specs.Serving.{most_places, proposed, follows, leads, least, raised, commit, on_append, on_held, on_commit, on_tick_active}
+use Rattle.ballot.proofs.StepRows.{proposed-adds, proposed-full, proposed-not_active}
 use Rattle.agreement.proofs.Applies.{Applies, applies_nothing, applies_to, commit_applies, added_applies, added_behind}
 use Rattle.agreement.proofs.RolesAndRows.{on_activated-stays, on_activated-adds}
 use Rattle.agreement.proofs.StaysActive.{added_keeps}
@@ -106,7 +106,7 @@ held_applies rules r from b held = by_condition (cases_Bool (leads r b))
   where
     by_condition : (leads r b ≡ true) ⊎ (leads r b ≡ false) → Applies rules r (on_held rules r from b held).state
     by_condition (inl e) =
-        rw e (commit_applies rules r (record r { marks = raised from held r.marks }) (least (length r.log) (raised from held r.marks)) refl refl)
+        rw e (commit_applies rules r (record r { progress = raised from held r.progress }) (least (length r.log) (raised from held r.progress)) refl refl)
     by_condition (inr e) = rw e (applies_nothing rules r r refl refl)
 
 -- Commit
@@ -126,7 +126,7 @@ activated_applies {S = S} {C = C} {O = O} rules r b within =
     by_condition (cases_Bool ((r.joined == b && is_installing r.role) && (nat_le (length r.lacking) 0 && nat_lt (length r.log) most_places)))
   where
     active : ReplicaState S C
-    active = record (applied_to rules r (length r.log)) { role = Active; marks = marks_at (length r.log) (others r.id r.members) }
+    active = record (applied_to rules r (length r.log)) { role = Active; progress = progress_at (length r.log) (others r.id r.members) }
 
     first : Applies rules r active
     first = let a = applies_to rules r r (length r.log) refl refl within in record { up = a.up; machine = a.machine }

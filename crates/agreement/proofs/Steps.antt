@@ -2,13 +2,13 @@
 use Rattle.std.proofs.Common.{◌≡◌, ℕ, ◌+◌, List, Some, Option, refl, ap, sym, ◌∙◌, subst}
 use Rattle.std.specs.Prelude.{slice_get}
 use Rattle.machine.specs.Machine.{Rules}
-use Rattle.ballot_base.specs.declared.message.Body.{Body}
-use Rattle.ballot_base.specs.declared.message.Body.TheVariants.{NewBallot, Join, State, Install, Installed, Activate, Activated, Superseded, Append, Held, Commit}
-use Rattle.ballot_base.specs.Protocol.{Input, received, replica_step}
-use Rattle.ballot_base.specs.Protocol.Input.{Receives, Proposes, Ticks}
-use Rattle.ballot_base.specs.Replica.{ReplicaState}
+use Rattle.ballot.specs.Body.{Body}
+use Rattle.ballot.specs.Body.TheVariants.{NewBallot, Join, State, Install, Installed, Activate, Activated, Superseded, Append, Held, Commit}
+use Rattle.ballot.specs.Protocol.{Input, received, replica_step}
+use Rattle.ballot.specs.Protocol.Input.{Receives, Proposes, Ticks}
+use Rattle.ballot.specs.Replica.{ReplicaState}
 use Rattle.agreement.specs.World.{World}
-use Rattle.agreement.specs.Lists.{In}
+use Rattle.lists.specs.Lists.{In}
 use Rattle.agreement.specs.Ballots.{Line, History}
 use Rattle.agreement.specs.GroupSteps.{AddsBy, MayTake}
 use Rattle.agreement.specs.Keeps.{GoesOn, NodeGoesOn, KeepsAdding}
@@ -18,7 +18,7 @@ use Rattle.agreement.specs.MasterState.{MasterState, MasterOutcome, IsMaster, te
 use Rattle.agreement.specs.Moves.{with_lines}
 use Rattle.agreement.specs.Replays.{IsReplay}
 use Rattle.agreement.specs.Sound.{IsSound}
-use Rattle.agreement.proofs.Lists.{prefix_same}
+use Rattle.lists.proofs.Beginnings.{prefix_same}
 use Rattle.agreement.proofs.ActiveTicks.{keeps_tick_active}
 use Rattle.agreement.proofs.Activating.{keeps_activated}
 use Rattle.agreement.proofs.Adding.{adds_less}

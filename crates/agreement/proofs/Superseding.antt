@@ -3,11 +3,11 @@ use Rattle.std.proofs.Common.{◌≡◌, ℕ, ◌⊎◌, inl, inr, true, false, 
 use Rattle.std.specs.Prelude.{slice_get, ◌&&◌, ◌==◌}
 use Rattle.std.proofs.lemmas.Bool.{cases_Bool}
 use Rattle.machine.specs.Machine.{Rules}
-use Rattle.ballot_base.specs.declared.message.Effect.{Effect}
-use Rattle.ballot_base.specs.declared.status.Role.TheVariants.{Backup}
-use Rattle.ballot_base.specs.Replica.{ReplicaState, is_installing}
-use Rattle.ballot_base.specs.Sending.{Outcome}
-use Rattle.ballot_base.specs.Changing.{on_superseded}
+use Rattle.ballot.specs.Effect.{Effect}
+use Rattle.ballot.specs.Role.TheVariants.{Backup}
+use Rattle.ballot.specs.Replica.{ReplicaState, is_installing}
+use Rattle.ballot.specs.Sending.{Outcome}
+use Rattle.ballot.specs.Changing.{on_superseded}
 use Rattle.agreement.specs.World.{World, moved}
 use Rattle.agreement.specs.Ballots.{History, Applied}
 use Rattle.agreement.specs.Ballots.Applied.{nothing, in_ballot}

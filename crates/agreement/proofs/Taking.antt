@@ -1,13 +1,13 @@
 -- Taking.antt: a sealed list has all that a node applied that may take it.
 use Rattle.std.proofs.Common.{◌≡◌, ℕ, ◌+◌, ◌<◌, ◌≤◌, ◌⊎◌, inl, inr, List, [], ◌∷◌, length, take, Some, refl, ap, sym, ◌∙◌, subst, arith}
 use Rattle.std.proofs.lemmas.Bool.{cases_lt}
-use Rattle.ballot_base.specs.Replica.{ReplicaState}
+use Rattle.ballot.specs.Replica.{ReplicaState}
 use Rattle.agreement.specs.World.{World}
-use Rattle.agreement.specs.Lists.{In, IsPrefixOf}
-use Rattle.agreement.specs.Lists.In.{here, there}
+use Rattle.lists.specs.Lists.{In, IsPrefixOf}
+use Rattle.lists.specs.Lists.In.{here, there}
 use Rattle.agreement.specs.Ballots.{Given, Line, History, IsChosenIn, Sealed, IsChain, AreBallots, AreLines, IsPlaced, Applied}
 use Rattle.agreement.specs.Ballots.Applied.{nothing, in_ballot}
-use Rattle.agreement.proofs.Lists.{prefix_then}
+use Rattle.lists.proofs.Beginnings.{prefix_then}
 use Rattle.agreement.proofs.Sealing.{sealed_bounds, before_base, base_is, chosen_told}
 
 -- older ballots are lower

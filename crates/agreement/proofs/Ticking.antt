@@ -2,19 +2,19 @@
 use Rattle.std.proofs.Common.{◌≡◌, ℕ, ◌+◌, List, [], ◌∷◌, Some, Option, refl, ap, sym, ◌∙◌, subst, arith}
 use Rattle.std.specs.Prelude.{slice_get}
 use Rattle.machine.specs.Machine.{Rules}
-use Rattle.ballot_base.specs.declared.message.Message.{Message}
-use Rattle.ballot_base.specs.declared.message.Body.TheVariants.{Join, Install}
-use Rattle.ballot_base.specs.declared.message.Effect.{Effect}
-use Rattle.ballot_base.specs.declared.status.Role.{Role}
-use Rattle.ballot_base.specs.declared.status.Role.TheVariants.{Backup, Fetching, Installing, Active}
-use Rattle.ballot_base.specs.Replica.{ReplicaState}
-use Rattle.ballot_base.specs.Sending.{message_to_each}
-use Rattle.ballot_base.specs.Changing.{on_tick_fetching, installs}
-use Rattle.ballot_base.specs.Serving.{on_tick_active}
-use Rattle.ballot_base.specs.Protocol.{ticked}
+use Rattle.ballot.specs.Message.{Message}
+use Rattle.ballot.specs.Body.TheVariants.{Join, Install}
+use Rattle.ballot.specs.Effect.{Effect}
+use Rattle.ballot.specs.Role.{Role}
+use Rattle.ballot.specs.Role.TheVariants.{Backup, Fetching, Installing, Active}
+use Rattle.ballot.specs.Replica.{ReplicaState}
+use Rattle.ballot.specs.Sending.{message_to_each}
+use Rattle.ballot.specs.Changing.{on_tick_fetching, installs}
+use Rattle.ballot.specs.Serving.{on_tick_active}
+use Rattle.ballot.specs.Protocol.{ticked}
 use Rattle.agreement.specs.World.{World, messages, outputs, moved}
-use Rattle.agreement.specs.Lists.{In}
-use Rattle.agreement.specs.Lists.In.{here, there}
+use Rattle.lists.specs.Lists.{In}
+use Rattle.lists.specs.Lists.In.{here, there}
 use Rattle.agreement.specs.Ballots.{Given, History}
 use Rattle.agreement.specs.Keeps.{Keeps}
 use Rattle.agreement.specs.Sound.{Says, IsFetching, IsInstalling, IsActive, IsSound}

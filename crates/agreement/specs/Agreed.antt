@@ -2,10 +2,10 @@
 use Rattle.std.specs.Prelude.{ℕ, ◌+◌, ◌<◌, ◌≤◌, ◌≡◌, ◌⊎◌, List, [], length, take, slice_get, Some}
 use Rattle.std.specs.List.{flat_map}
 use Rattle.machine.specs.Machine.{Rules}
-use Rattle.ballot_base.specs.Replica.{ReplicaState}
-use Rattle.ballot_base.specs.Applying.{outputs_between}
+use Rattle.ballot.specs.Replica.{ReplicaState}
+use Rattle.ballot.specs.Applying.{outputs_between}
 use Rattle.agreement.specs.World.{World, outputs}
-use Rattle.agreement.specs.Lists.{In, IsPrefixOf}
+use Rattle.lists.specs.Lists.{In, IsPrefixOf}
 use Rattle.agreement.specs.Ballots.{Line, History, IsChosenIn}
 use Rattle.agreement.specs.MasterState.{MasterState}
 use Rattle.agreement.specs.Sound.{Segment}

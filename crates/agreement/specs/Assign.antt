@@ -1,14 +1,14 @@
 -- Assign.antt: the master refuses bad members and spent ballots, and a group in which each Assign is answered so.
 use Rattle.std.specs.Prelude.{ℕ, ◌+◌, ◌^◌, ◌<◌, ◌≡◌, false, not, List, [], slice_get, length, nat_le, Option, Some, None, if◌then◌else◌}
 use Rattle.machine.specs.Machine.{Rules}
-use Rattle.ballot_base.specs.declared.config.Config.{Config}
-use Rattle.ballot_base.specs.declared.message.Body.TheVariants.{Activate}
-use Rattle.ballot_base.specs.declared.message.Effect.{Effect}
-use Rattle.ballot_base.specs.Losses.{Loses, halted}
-use Rattle.ballot_base.specs.Protocol.{Input, replica_step}
-use Rattle.ballot_base.specs.Replica.{ReplicaState}
+use Rattle.ballot.specs.Config.{Config}
+use Rattle.ballot.specs.Body.TheVariants.{Activate}
+use Rattle.ballot.specs.Effect.{Effect}
+use Rattle.ballot.specs.Losses.{Loses, halted}
+use Rattle.ballot.specs.Protocol.{Input, replica_step}
+use Rattle.ballot.specs.Replica.{ReplicaState}
 use Rattle.agreement.specs.World.{World, can_open, moved}
-use Rattle.agreement.specs.Lists.{In, IsPrefixOf}
+use Rattle.lists.specs.Lists.{In, IsPrefixOf}
 use Rattle.agreement.specs.GroupSteps.{MayTake}
 use Rattle.agreement.specs.MasterState.{MasterState, assigned, activated, tells_from_master}
 

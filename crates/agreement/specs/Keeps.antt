@@ -1,11 +1,11 @@
 -- Keeps.antt: a world goes on soundly, and so it does behind an outcome of a node, with messages missing or not.
 use Rattle.std.specs.Prelude.{ℕ, ◌≡◌, List, [], ◌∷◌, ◌++◌, Some, None}
 use Rattle.machine.specs.Machine.{Rules}
-use Rattle.ballot_base.specs.declared.message.Effect.{Effect}
-use Rattle.ballot_base.specs.Losses.{Thinned}
-use Rattle.ballot_base.specs.Sending.{Outcome}
+use Rattle.ballot.specs.Effect.{Effect}
+use Rattle.ballot.specs.Losses.{Thinned}
+use Rattle.ballot.specs.Sending.{Outcome}
 use Rattle.agreement.specs.World.{World, moved}
-use Rattle.agreement.specs.Lists.{In, IsPrefixOf}
+use Rattle.lists.specs.Lists.{In, IsPrefixOf}
 use Rattle.agreement.specs.Ballots.{Given, Line, History, Extends}
 use Rattle.agreement.specs.Moves.{with_lines}
 use Rattle.agreement.specs.Sound.{IsSound}

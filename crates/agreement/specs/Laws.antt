@@ -1,12 +1,12 @@
 -- Laws.antt: what holds of every group whose master answers each Assign, from its opening on.
 use Rattle.std.specs.Prelude.{ℕ, true, ◌≡◌, List, length}
 use Rattle.machine.specs.Machine.{Rules}
-use Rattle.ballot_base.specs.declared.config.Config.{Config}
+use Rattle.ballot.specs.Config.{Config}
 use Rattle.agreement.specs.Agreed.{IsAgreedIn, Agrees}
 use Rattle.agreement.specs.Assign.{ServingRun, IsServing, Holds}
 use Rattle.agreement.specs.Ballots.{History}
 use Rattle.agreement.specs.Begun.{AreBegun, AreLong}
-use Rattle.agreement.specs.Lists.{IsPrefixOf}
+use Rattle.lists.specs.Lists.{IsPrefixOf}
 use Rattle.agreement.specs.MasterState.{MasterState, IsMaster}
 use Rattle.agreement.specs.OpeningHistory.{opening_master}
 use Rattle.agreement.specs.Replays.{AreReplays}

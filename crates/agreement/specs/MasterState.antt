@@ -1,9 +1,9 @@
 -- MasterState.antt: what the master keeps, what it does on Assign and Activate, and what its fields say.
 use Rattle.std.specs.Prelude.{ℕ, ◌+◌, ◌<◌, ◌≤◌, ◌≡◌, ◌==◌, List, [], ◌∷◌, ◌++◌, Option, Some, None, if◌then◌else◌}
-use Rattle.ballot_base.specs.declared.config.Config.{Config}
-use Rattle.ballot_base.specs.declared.message.Body.{Body}
-use Rattle.ballot_base.specs.declared.message.Body.TheVariants.{NewBallot, Activated, Superseded}
-use Rattle.ballot_base.specs.Sending.{master}
+use Rattle.ballot.specs.Config.{Config}
+use Rattle.ballot.specs.Body.{Body}
+use Rattle.ballot.specs.Body.TheVariants.{NewBallot, Activated, Superseded}
+use Rattle.ballot.specs.Sending.{master}
 use Rattle.agreement.specs.World.{World}
 use Rattle.agreement.specs.Ballots.{Given, History}
 

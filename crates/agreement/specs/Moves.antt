@@ -1,9 +1,9 @@
 -- Moves.antt: what is to be known of a move of one node, so that all that does not name the node is kept.
 use Rattle.std.specs.Prelude.{ℕ, ◌+◌, ◌≤◌, ◌≡◌, ◌⊎◌, ◌==◌, List, length, slice_get, Option, Some, None, if◌then◌else◌}
-use Rattle.ballot_base.specs.declared.message.Effect.{Effect}
-use Rattle.ballot_base.specs.Replica.{ReplicaState}
+use Rattle.ballot.specs.Effect.{Effect}
+use Rattle.ballot.specs.Replica.{ReplicaState}
 use Rattle.agreement.specs.World.{World, moved}
-use Rattle.agreement.specs.Lists.{In, IsPrefixOf}
+use Rattle.lists.specs.Lists.{In, IsPrefixOf}
 use Rattle.agreement.specs.Ballots.{Given, Line, History, Told, Sealed}
 
 -- the history with other lists

@@ -1,6 +1,6 @@
 -- OpeningHistory.antt: the history and the master of a group that opens.
 use Rattle.std.specs.Prelude.{◌==◌, [], ◌∷◌, Some, None, if◌then◌else◌}
-use Rattle.ballot_base.specs.declared.config.Config.{Config}
+use Rattle.ballot.specs.Config.{Config}
 use Rattle.agreement.specs.Ballots.{Given, Line, History}
 use Rattle.agreement.specs.MasterState.{MasterState}
 

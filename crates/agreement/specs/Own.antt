@@ -1,6 +1,6 @@
 -- Own.antt: the commands that were proposed in one ballot stand in each log in the order of their proposals.
 use Rattle.std.specs.Prelude.{ℕ, Bool, true, false, ◌≡◌, List, [], ◌∷◌, filter, Some}
-use Rattle.agreement.specs.Lists.{In, IsPrefixOf}
+use Rattle.lists.specs.Lists.{In, IsPrefixOf}
 use Rattle.agreement.specs.Ballots.{Line, History}
 
 -- the commands of proposals; each has the ballot in which a primary's log took it

@@ -4,15 +4,15 @@
 use Rattle.std.specs.Prelude.{ℕ, ◌+◌, ◌<◌, ◌≤◌, ◌≡◌, ◌⊎◌, List, [], length, take, slice_get, Some, None}
 use Rattle.std.specs.List.{flat_map}
 use Rattle.machine.specs.Machine.{Rules}
-use Rattle.ballot_base.specs.declared.message.Message.{Message}
-use Rattle.ballot_base.specs.declared.message.Body.{Body}
-use Rattle.ballot_base.specs.declared.message.Body.TheVariants.{NewBallot, Join, State, Install, Installed, Activate, Activated, Superseded, Append, Held, Commit}
-use Rattle.ballot_base.specs.declared.status.Mark.{Mark}
-use Rattle.ballot_base.specs.declared.status.Role.TheVariants.{Fetching, Installing, Active}
-use Rattle.ballot_base.specs.Replica.{ReplicaState}
-use Rattle.ballot_base.specs.Applying.{outputs_between}
+use Rattle.ballot.specs.Message.{Message}
+use Rattle.ballot.specs.Body.{Body}
+use Rattle.ballot.specs.Body.TheVariants.{NewBallot, Join, State, Install, Installed, Activate, Activated, Superseded, Append, Held, Commit}
+use Rattle.ballot.specs.Progress.{Progress}
+use Rattle.ballot.specs.Role.TheVariants.{Fetching, Installing, Active}
+use Rattle.ballot.specs.Replica.{ReplicaState}
+use Rattle.ballot.specs.Applying.{outputs_between}
 use Rattle.agreement.specs.World.{World, outputs}
-use Rattle.agreement.specs.Lists.{In, IsPrefixOf}
+use Rattle.lists.specs.Lists.{In, IsPrefixOf}
 use Rattle.agreement.specs.Ballots.{Given, Line, History, Told, IsChosenIn, Sealed, AreBallots, AreLines, IsPlaced, Applied}
 
 -- the node of a number has joined at least a ballot
@@ -99,10 +99,10 @@ pub record IsActive {S C O : Type 0} (w : World S C O) (h : History C) (n : ℕ)
   pub begun : (line.base ≡ []) ⊎ (length line.base < length r.log)
   pub above : length line.base ≤ r.committed
   pub covered : (m : ℕ) → In m r.members →
-      (m ≡ n + 1) ⊎ ((mark : Mark) × In mark r.marks × (mark.member ≡ m))
-  pub marked : (mark : Mark) → In mark r.marks → (In mark.member r.members)
-      × (length line.base ≤ mark.held) × (r.committed ≤ mark.held) × Told w h mark.member r.joined mark.held
-  pub others : (mark : Mark) → In mark r.marks → mark.member ≡ n + 1 → ⊥
+      (m ≡ n + 1) ⊎ ((reached : Progress) × In reached r.progress × (reached.member ≡ m))
+  pub followed : (reached : Progress) → In reached r.progress → (In reached.member r.members)
+      × (length line.base ≤ reached.held) × (r.committed ≤ reached.held) × Told w h reached.member r.joined reached.held
+  pub others : (reached : Progress) → In reached r.progress → reached.member ≡ n + 1 → ⊥
 
 -- a node is as it should be
 pub record IsSoundNode {S C O : Type 0} (w : World S C O) (h : History C) (n : ℕ) (r : ReplicaState S C) :

@@ -4,7 +4,7 @@ use Rattle.std.specs.Result.{MatchResult, IsErrOf}
 use Rattle.std.proofs.lemmas.List.{append-nil}
 use Rattle.ballot_base.specs.declared.message.Effect.{Effect}
 use Rattle.machine.specs.Machine.{Rules}
-use Rattle.ballot_base.specs.Replica.{ReplicaState, Counted, is_active}
+use Rattle.ballot_base.specs.Replica.{ReplicaState, CountedReplica, is_active}
 use Rattle.ballot_base.specs.Losses.{Done, Stepped, Steps, one_more}
 use Rattle.ballot_base.specs.Sending.{Outcome, nothing_done}
 use Rattle.ballot_base.specs.Serving.{added, most_places, proposed}
@@ -14,7 +14,7 @@ use Rattle.ballot.specs.declared.error.ProposeError.TheVariants.{NotActive, LogF
 use Rattle.ballot.specs.Inside.{Lacks}
 
 -- what a step leaves as it is was done
-pub stays_step : {S C O : Type 0} (rules : Rules S C O) (old : Counted S C) (o : Outcome S C O) (out : List (Effect C O)) →
+pub stays_step : {S C O : Type 0} (rules : Rules S C O) (old : CountedReplica S C) (o : Outcome S C O) (out : List (Effect C O)) →
     o ≡ nothing_done O old.state → Stepped rules old o old out out
 stays_step {S = S} {C = C} {O = O} rules old o out e =
     record {
@@ -24,7 +24,7 @@ stays_step {S = S} {C = C} {O = O} rules old o out e =
     }
 
 -- a step that was done with messages missing is one with losses
-pub done_steps : {S C O : Type 0} {rules : Rules S C O} {old : Counted S C} {o : Outcome S C O} {new : Counted S C} {before behind : List (Effect C O)} →
+pub done_steps : {S C O : Type 0} {rules : Rules S C O} {old : CountedReplica S C} {o : Outcome S C O} {new : CountedReplica S C} {before behind : List (Effect C O)} →
     Done old o new before behind → Stepped rules old o new before behind
 done_steps {S = S} {C = C} {rules = rules} {old = old} {o = o} {new = new} d =
     record {
@@ -39,8 +39,8 @@ done_steps {S = S} {C = C} {rules = rules} {old = old} {o = o} {new = new} d =
     by_count (inr e) = inr (inl (d.state, d.thinned), e)
 
 -- each answer of a proposal is that of a step
-pub answered_steps : {S C O T : Type 0} {rules : Rules S C O} (result : Result T ProposeError) {old : Counted S C} {o : Outcome S C O}
-    {new : Counted S C} {before behind : List (Effect C O)} →
+pub answered_steps : {S C O T : Type 0} {rules : Rules S C O} (result : Result T ProposeError) {old : CountedReplica S C} {o : Outcome S C O}
+    {new : CountedReplica S C} {before behind : List (Effect C O)} →
     MatchResult result (λ _. Done old o new before behind) (λ e. Lacks rules e old new) →
     OnErr result (behind ≡ before) → Stepped rules old o new before behind
 answered_steps (Ok x) d same = done_steps d
@@ -50,18 +50,18 @@ answered_steps {S = S} {C = C} (Err Memory) {old = old} {new = new} {before = be
     record {
       given = [];
       appended = same ∙ sym (append-nil before);
-      steps = inr (inr (inl (ap (λ (z : Counted S C). z.state) d, refl)), ap (λ (z : Counted S C). z.losses) d);
+      steps = inr (inr (inl (ap (λ (z : CountedReplica S C). z.state) d, refl)), ap (λ (z : CountedReplica S C). z.losses) d);
     }
 answered_steps {S = S} {C = C} (Err Halted) {old = old} {new = new} {before = before} d same =
     record {
       given = [];
       appended = same ∙ sym (append-nil before);
-      steps = inr (inr (inr (ap (λ (z : Counted S C). z.state) d, refl)), ap (λ (z : Counted S C). z.losses) d);
+      steps = inr (inr (inr (ap (λ (z : CountedReplica S C). z.state) d, refl)), ap (λ (z : CountedReplica S C). z.losses) d);
     }
 
 -- an active primary with room adds what is proposed
-pub answered_proposed : {S C O T : Type 0} (rules : Rules S C O) (old : Counted S C) (command : C)
-    (result : Result T ProposeError) (new : Counted S C) (before behind : List (Effect C O)) →
+pub answered_proposed : {S C O T : Type 0} (rules : Rules S C O) (old : CountedReplica S C) (command : C)
+    (result : Result T ProposeError) (new : CountedReplica S C) (before behind : List (Effect C O)) →
     is_active old.state.role ≡ true → length old.state.log < most_places →
     MatchResult result (λ _. Done old (added rules old.state command) new before behind) (λ e. Lacks rules e old new) →
     OnErr result (behind ≡ before) → Stepped rules old (proposed rules old.state command) new before behind
@@ -70,8 +70,8 @@ answered_proposed {S = S} {C = C} {O = O} rules old command result new before be
     (sym (proposed-adds rules old.state command active room)) (answered_steps result d same)
 
 -- the replica stopped exactly where Halted is answered
-pub answered_halted : {S C O T : Type 0} (rules : Rules S C O) (result : Result T ProposeError) (old : Counted S C) (o : Outcome S C O)
-    (new : Counted S C) (before behind : List (Effect C O)) →
+pub answered_halted : {S C O T : Type 0} (rules : Rules S C O) (result : Result T ProposeError) (old : CountedReplica S C) (o : Outcome S C O)
+    (new : CountedReplica S C) (before behind : List (Effect C O)) →
     MatchResult result (λ _. Done old o new before behind) (λ e. Lacks rules e old new) →
     old.state.stopped ≡ false → o.state.stopped ≡ old.state.stopped →
     (IsErrOf result Halted → new.state.stopped ≡ true) × (new.state.stopped ≡ true → IsErrOf result Halted)
@@ -81,7 +81,7 @@ answered_halted {S = S} {C = C} rules (Ok x) old o new before behind d running k
 answered_halted rules (Err NotActive) old o new before behind d running kept = absurd d
 answered_halted rules (Err LogFull) old o new before behind d running kept = absurd d
 answered_halted {S = S} {C = C} rules (Err Memory) old o new before behind d running kept =
-    let e : new.state.stopped ≡ false = ap (λ (z : Counted S C). z.state.stopped) d ∙ running in
+    let e : new.state.stopped ≡ false = ap (λ (z : CountedReplica S C). z.state.stopped) d ∙ running in
     (λ h. cc, λ h. cc)
 answered_halted {S = S} {C = C} rules (Err Halted) old o new before behind d running kept =
-    (λ h. ap (λ (z : Counted S C). z.state.stopped) d, λ h. refl)
+    (λ h. ap (λ (z : CountedReplica S C). z.state.stopped) d, λ h. refl)

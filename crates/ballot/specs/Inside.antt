@@ -3,7 +3,7 @@ use Rattle.std.specs.Prelude.{◌≡◌, ◌⊎◌, Bool, true, List, [], ◌++�
 use Rattle.machine.specs.Machine.{Rules}
 use Rattle.ballot_base.specs.declared.message.Effect.{Effect}
 use Rattle.ballot_base.specs.Losses.{Thinned, Loses, IsQuiet, halted, one_more}
-use Rattle.ballot_base.specs.Replica.{Counted}
+use Rattle.ballot_base.specs.Replica.{CountedReplica}
 use Rattle.ballot_base.specs.Sending.{Outcome}
 use Rattle.ballot.specs.declared.error.ProposeError.{ProposeError}
 use Rattle.ballot.specs.declared.error.ProposeError.TheVariants.{NotActive, LogFull, Memory, Halted}
@@ -19,8 +19,8 @@ pub record Sends {C O : Type 0} (old new wanted : List (Effect C O)) (whole : Bo
 
 -- the step was done, or one with losses that were counted, and only where there was something to
 -- lose
-pub record Went {S C O : Type 0} (rules : Rules S C O) (old : Counted S C) (outcome : Outcome S C O)
-    (new : Counted S C) (before behind : List (Effect C O)) : Type 0 where
+pub record Went {S C O : Type 0} (rules : Rules S C O) (old : CountedReplica S C) (outcome : Outcome S C O)
+    (new : CountedReplica S C) (before behind : List (Effect C O)) : Type 0 where
   pub given : List (Effect C O)
   pub appended : behind ≡ before ++ given
   pub way : ((new.state ≡ outcome.state) × (given ≡ outcome.effects) × (new.losses ≡ old.losses))
@@ -35,7 +35,7 @@ pub record Grows {C O : Type 0} (old new : List (Effect C O)) : Type 0 where
 
 -- what a proposal that found no memory leaves
 abbrev pub Lacks : {S C O : Type 0} →
-    Rules S C O → ProposeError → Counted S C → Counted S C → Type 0
+    Rules S C O → ProposeError → CountedReplica S C → CountedReplica S C → Type 0
 Lacks rules NotActive old new = ⊥
 Lacks rules LogFull old new = ⊥
 Lacks rules Memory old new = new ≡ record old { losses = one_more old.losses }

@@ -2,8 +2,9 @@
 
 ghost use Rattle.std.specs.Prelude.{◌≡◌, ◌≤◌, ◌<◌, ◌↔◌, ◌⊎◌, true, false, [], length, IfOk, OnOk, OnErr, IsErr, IsErrOf, MatchResult, if◌then◌else◌};
 ghost use Rattle.machine.specs.Machine.{rules_by};
-ghost use Rattle.ballot.specs.Inside.{Sends, Grows, Lacks, Went};
-ghost use Rattle.ballot_base.specs.Config.{is_lawful};
+ghost use Rattle.ballot.specs.Inside.{Sends, Lacks, Went};
+ghost use Rattle.lists.specs.Lists.{IsPrefixOf};
+ghost use Rattle.ballot_base.specs.LawfulConfig.{is_lawful};
 ghost use Rattle.ballot_base.specs.Losses.{Stepped, Done, IsQuiet, halted, one_more};
 ghost use Rattle.ballot_base.specs.Replica.{is_active, opening, status_of};
 ghost use Rattle.ballot_base.specs.Protocol.{step_in_one_ballot};
@@ -12,10 +13,10 @@ ghost use Rattle.ballot_base.specs.Serving.{added, commit_at, follows, leads, mo
 
 use crate::applying::{apply_dropping, apply_places};
 use crate::error::{OpeningError, ProposeError};
-use crate::marking::{least_held, least_raised, marks_of_others, raise};
+use crate::progress::{least_held, least_raised, progress_of_others, raise};
 use crate::sending::{send, send_appends, send_behind, send_commits};
 use crate::taking::{counted, take_in};
-use ballot_base::{Body, Config, Effect, Mark, Message, Role, Status};
+use ballot_base::{Body, Config, Effect, Progress, Message, Role, Status};
 use machine::{Halted, Machine};
 use std::alloc::Global;
 use std::marker::Model;
@@ -35,7 +36,7 @@ pub struct Replica<M: Machine> {
     held_in: u64,
     role: Role,
     members: Vec<u8>,
-    marks: Vec<Mark>,
+    progress: Vec<Progress>,
     log: Vec<M::Command>,
     committed: u64,
     machine: M,
@@ -45,9 +46,9 @@ pub struct Replica<M: Machine> {
 
 impl<M: Machine> Model for Replica<M> {
     ghost use Rattle.std.specs.Prelude.{◌≤◌, [], length, if◌then◌else◌};
-    ghost use Rattle.ballot_base.specs.Replica.{ReplicaState, Counted};
+    ghost use Rattle.ballot_base.specs.Replica.{ReplicaState, CountedReplica};
 
-    ghost Value = { Counted M M.Command };
+    ghost Value = { CountedReplica M M.Command };
 
     ghost view = { λ r.
         record {
@@ -64,7 +65,7 @@ impl<M: Machine> Model for Replica<M> {
             previous = 0;
             previous_members = [];
             lacking = [];
-            marks = r.marks.items;
+            progress = r.progress.items;
             stopped = r.stopped;
           };
           losses = r.losses;
@@ -99,7 +100,7 @@ impl<M: Machine> Replica<M> {
             held_in: ballot,
             role: Role::Backup,
             members: Vec::new(alloc),
-            marks: Vec::new(alloc),
+            progress: Vec::new(alloc),
             log: Vec::new(alloc),
             committed: 0,
             machine,
@@ -109,7 +110,7 @@ impl<M: Machine> Replica<M> {
         if id == config.primary {
             replica.role = Role::Active;
             replica.members = Vec::from_slice(alloc, members)?;
-            replica.marks = marks_of_others(alloc, 0, id, members)?;
+            replica.progress = progress_of_others(alloc, 0, id, members)?;
         }
         Ok(replica)
     }
@@ -223,7 +224,7 @@ impl<M: Machine> Replica<M> {
             self.joined,
             place,
             &command,
-            &self.marks,
+            &self.progress,
             out,
         );
         if self.log.push(command).is_err() {
@@ -231,7 +232,7 @@ impl<M: Machine> Replica<M> {
             self.losses = self.losses.saturating_add(1);
             return Err(ProposeError::Memory);
         }
-        let held = least_held(self.log.len() as u64, &self.marks);
+        let held = least_held(self.log.len() as u64, &self.progress);
         match self.commit_at(held, out) {
             Ok(told) => {
                 self.count(sent && told);
@@ -271,7 +272,7 @@ impl<M: Machine> Replica<M> {
               state = halted (rules_by M.opening M.start_of M.after M.gives) self.old.state;
             }) }
         ensures needed { OnErr result (self.old.state.committed < held) }
-        ensures err { OnErr result (Grows out.old.items out.new.items) }
+        ensures err { OnErr result (IsPrefixOf out.old.items out.new.items) }
     {
         if held <= self.committed {
             return Ok(true);
@@ -280,7 +281,7 @@ impl<M: Machine> Replica<M> {
         match apply_places(self.alloc, &mut self.machine, &self.log, from, held, out) {
             Ok(()) => {
                 self.committed = held;
-                Ok(send_commits(self.id, self.joined, held, &self.marks, out))
+                Ok(send_commits(self.id, self.joined, held, &self.progress, out))
             }
             Err(halted) => {
                 self.stopped = true;
@@ -313,10 +314,10 @@ impl<M: Machine> Replica<M> {
             self.id,
             self.joined,
             &self.log,
-            &self.marks,
+            &self.progress,
             out,
         );
-        let told = send_commits(self.id, self.joined, self.committed, &self.marks, out);
+        let told = send_commits(self.id, self.joined, self.committed, &self.progress, out);
         self.losses = counted(self.losses, behind && told);
     }
 

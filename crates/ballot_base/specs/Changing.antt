@@ -9,7 +9,7 @@ use Rattle.ballot_base.specs.declared.status.Role.TheVariants.{Backup, Fetching,
 use Rattle.ballot_base.specs.Sending.{Outcome, nothing_done, message_to, message_to_each, master}
 use Rattle.ballot_base.specs.Applying.{applied_to}
 use Rattle.ballot_base.specs.Serving.{most_places, added}
-use Rattle.ballot_base.specs.Replica.{ReplicaState, is_fetching, is_installing, others, marks_at}
+use Rattle.ballot_base.specs.Replica.{ReplicaState, is_fetching, is_installing, others, progress_at}
 
 -- a new primary asks the earlier ballot's members, itself included where it is one, for their logs
 unfoldable pub on_new_ballot : {S C : Type 0} (O : Type 0) →
@@ -24,7 +24,7 @@ on_new_ballot O r ballot members previous previous_members =
         previous = previous;
         previous_members = previous_members;
         lacking = [];
-        marks = [];
+        progress = [];
       };
       effects = message_to_each O r.id (Join ballot previous) previous_members;
     }
@@ -97,7 +97,7 @@ unfoldable pub on_activated : {S C O : Type 0} → Rules S C O → ReplicaState 
 on_activated {O = O} rules r ballot =
     let active = record (applied_to rules r (length r.log)) {
       role = Active;
-      marks = marks_at (length r.log) (others r.id r.members);
+      progress = progress_at (length r.log) (others r.id r.members);
     } in
     if (r.joined == ballot && is_installing r.role)
     && (nat_le (length r.lacking) 0 && nat_lt (length r.log) most_places)

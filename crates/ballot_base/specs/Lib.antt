@@ -1,6 +1,6 @@
 pub mod Applying
 pub mod Changing
-pub mod Config
+pub mod LawfulConfig
 pub mod Losses
 pub mod Protocol
 pub mod Replica

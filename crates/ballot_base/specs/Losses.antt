@@ -4,7 +4,7 @@ use Rattle.machine.specs.Machine.{Rules}
 use Rattle.ballot_base.specs.declared.message.Message.{Message}
 use Rattle.ballot_base.specs.declared.message.Effect.{Effect}
 use Rattle.ballot_base.specs.declared.message.Effect.TheVariants.{To}
-use Rattle.ballot_base.specs.Replica.{ReplicaState, Counted}
+use Rattle.ballot_base.specs.Replica.{ReplicaState, CountedReplica}
 use Rattle.ballot_base.specs.Sending.{Outcome}
 
 -- the first list is the second with some messages missing; no output is
@@ -32,13 +32,13 @@ one_more losses = min (losses + 1) (2 ^ 64 - 1)
 
 -- the step itself, or a step with losses that was counted
 abbrev pub Steps : {S C O : Type 0} → Rules S C O →
-    Counted S C → Outcome S C O → Counted S C → List (Effect C O) → Type 0
+    CountedReplica S C → Outcome S C O → CountedReplica S C → List (Effect C O) → Type 0
 Steps rules old outcome new given =
     ((new.state ≡ outcome.state) × (given ≡ outcome.effects) × (new.losses ≡ old.losses))
     ⊎ (Loses rules old.state outcome new.state given × (new.losses ≡ one_more old.losses))
 
 -- the step was done, perhaps with messages missing, which was counted
-pub record Done {S C O : Type 0} (old : Counted S C) (outcome : Outcome S C O) (new : Counted S C)
+pub record Done {S C O : Type 0} (old : CountedReplica S C) (outcome : Outcome S C O) (new : CountedReplica S C)
     (before behind : List (Effect C O)) : Type 0 where
   pub given : List (Effect C O)
   pub appended : behind ≡ before ++ given
@@ -55,8 +55,8 @@ pub record IsQuiet {S C O : Type 0} (old : ReplicaState S C) (outcome : Outcome 
   pub same_committed : outcome.state.committed ≡ old.committed
 
 -- a call's effects were appended behind what was there, and they are those of the step
-pub record Stepped {S C O : Type 0} (rules : Rules S C O) (old : Counted S C)
-    (outcome : Outcome S C O) (new : Counted S C) (before behind : List (Effect C O)) : Type 0 where
+pub record Stepped {S C O : Type 0} (rules : Rules S C O) (old : CountedReplica S C)
+    (outcome : Outcome S C O) (new : CountedReplica S C) (before behind : List (Effect C O)) : Type 0 where
   pub given : List (Effect C O)
   pub appended : behind ≡ before ++ given
   pub steps : Steps rules old outcome new given

@@ -2,7 +2,7 @@
 use Rattle.std.specs.Prelude.{ℕ, Bool, true, false, List, [], length, filter, map, not, ◌==◌, if◌then◌else◌}
 use Rattle.machine.specs.Machine.{Rules}
 use Rattle.ballot_base.specs.declared.config.Config.{Config}
-use Rattle.ballot_base.specs.declared.status.Mark.{Mark}
+use Rattle.ballot_base.specs.declared.status.Progress.{Progress}
 use Rattle.ballot_base.specs.declared.status.Role.{Role}
 use Rattle.ballot_base.specs.declared.status.Role.TheVariants.{Backup, Fetching, Installing, Active}
 use Rattle.ballot_base.specs.declared.status.Status.{Status}
@@ -28,11 +28,11 @@ pub record ReplicaState (S C : Type 0) : Type 0 where
   pub previous : ℕ
   pub previous_members : List ℕ
   pub lacking : List ℕ
-  pub marks : List Mark
+  pub progress : List Progress
   pub stopped : Bool
 
 -- a replica with the number of its calls in which memory was wanting, up to 2^64 - 1
-pub record Counted (S C : Type 0) : Type 0 where
+pub record CountedReplica (S C : Type 0) : Type 0 where
   pub state : ReplicaState S C
   pub losses : ℕ
 
@@ -65,9 +65,9 @@ is_installing Active = false
 abbrev pub others : ℕ → List ℕ → List ℕ
 others id members = filter (λ member. not (member == id)) members
 
--- a mark for each of some members
-abbrev pub marks_at : ℕ → List ℕ → List Mark
-marks_at held members = map (λ member. record { member = member; held = held }) members
+-- a progress for each of some members
+abbrev pub progress_at : ℕ → List ℕ → List Progress
+progress_at held members = map (λ member. record { member = member; held = held }) members
 
 -- the members of ballot 1 have joined it with an empty log; other nodes are backups of no ballot
 abbrev pub opening_member : {S C O : Type 0} → Rules S C O → ℕ → Config → ReplicaState S C
@@ -86,18 +86,18 @@ opening_member rules id config =
       previous = 0;
       previous_members = [];
       lacking = [];
-      marks = [];
+      progress = [];
       stopped = false;
     }
 
--- how a node opens: the primary of ballot 1 is active at once, with mark 0 for each other member
+-- how a node opens: the primary of ballot 1 is active at once, with progress 0 for each other member
 abbrev pub opening : {S C O : Type 0} → Rules S C O → ℕ → Config → ReplicaState S C
 opening rules id config =
     if id == config.primary
     then record (opening_member rules id config) {
       role = Active;
       members = config.members;
-      marks = marks_at 0 (others id config.members);
+      progress = progress_at 0 (others id config.members);
     }
     else opening_member rules id config
 

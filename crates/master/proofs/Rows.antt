@@ -4,39 +4,40 @@ use Rattle.std.specs.Prelude.{slice_get}
 use Rattle.std.proofs.lemmas.Bool.{cases_eq, cases_lt}
 use Rattle.std.proofs.lemmas.List.{append-nil, take-take, take-append-drop, length-take-le}
 use Rattle.machine.specs.Machine.{Rules, replay}
-use Rattle.ballot_base.specs.declared.config.Config.{Config}
-use Rattle.ballot_base.specs.declared.message.Message.{Message}
-use Rattle.ballot_base.specs.declared.message.Body.TheVariants.{Commit}
-use Rattle.ballot_base.specs.declared.message.Effect.{Effect}
-use Rattle.ballot_base.specs.declared.message.Effect.TheVariants.{Out}
-use Rattle.ballot_base.specs.declared.status.Mark.{Mark}
-use Rattle.ballot_base.specs.Replica.{ReplicaState, is_active}
-use Rattle.ballot_base.specs.Losses.{Loses, halted}
-use Rattle.ballot_base.specs.Sending.{Outcome, nothing_done, message_to_marked}
-use Rattle.ballot_base.specs.Applying.{outputs_from, outputs_between, outputs_to}
-use Rattle.ballot_base.specs.Serving.{least, commit_at}
-use Rattle.ballot_base.proofs.AppliesInOrder.{outputs_from-append, replay_goes_on}
-use Rattle.ballot_base.proofs.StepRows.{commit_at-stays, commit_at-goes, least-le}
-use Rattle.agreement.specs.World.{World, messages, outputs, moved}
-use Rattle.agreement.specs.Lists.{In, IsPrefixOf}
-use Rattle.agreement.specs.World.{log_of}
+use Rattle.ballot.specs.Config.{Config}
+use Rattle.ballot.specs.Message.{Message}
+use Rattle.ballot.specs.Body.TheVariants.{Commit}
+use Rattle.ballot.specs.Effect.{Effect}
+use Rattle.ballot.specs.Effect.TheVariants.{Out}
+use Rattle.ballot.specs.Progress.{Progress}
+use Rattle.ballot.specs.Replica.{ReplicaState, is_active}
+use Rattle.ballot.specs.Losses.{Loses, halted}
+use Rattle.ballot.specs.Sending.{Outcome, nothing_done, message_to_followed}
+use Rattle.ballot.specs.Applying.{outputs_from, outputs_between, outputs_to}
+use Rattle.ballot.specs.Serving.{least, commit_at}
+use Rattle.ballot.proofs.AppliesInOrder.{outputs_from-append, replay_goes_on}
+use Rattle.ballot.proofs.StepRows.{commit_at-stays, commit_at-goes, least-le}
+use Rattle.agreement.specs.World.{World, messages, outputs, moved, log_of}
+use Rattle.lists.specs.Lists.{In, IsPrefixOf}
 use Rattle.master.specs.Agreement.{outputs_of}
-use Rattle.agreement.specs.Lists.In.{here, there}
-use Rattle.agreement.proofs.Lists.{prefix_same, get_set, get_set_other, messages-append, outputs-append, thinned_outputs, thinned_messages, outputs_of_messages, said_to_marked}
-use Rattle.master.proofs.Sound.{log_at, committed_of, Told, AllTold, Says, IsSoundNode, IsSound, Extends, LeftIs, told_less, node_kept, moved_extends, moved_sound}
+use Rattle.lists.specs.Lists.In.{here, there}
+use Rattle.lists.proofs.Beginnings.{prefix_same}
+use Rattle.lists.proofs.Places.{get_set, get_set_other}
+use Rattle.agreement.proofs.Effects.{messages-append, outputs-append, thinned_outputs, thinned_messages, outputs_of_messages, said_to_followed}
+use Rattle.master.proofs.Sound.{log_at, committed_of, Told, AllTold, Says, IsSoundNode, IsSound, HasGrown, LeftIs, told_less, node_kept, moved_extends, moved_sound}
 use Rattle.master.proofs.Sound.Told.{told_as_primary}
 
 -- a state is sound for node n in any later world that has its log
 abbrev pub Fits : {S C O : Type 0} → Rules S C O → Config → ℕ → World S C O → ℕ → ReplicaState S C → Type 0
 Fits {S = S} {C = C} {O = O} rules config p w n r =
-    (v : World S C O) → Extends w v → log_at v n ≡ r.log → IsSoundNode rules config p v n r
+    (v : World S C O) → HasGrown w v → log_at v n ≡ r.log → IsSoundNode rules config p v n r
 
 -- what is to be shown of an outcome of node n
 pub record Owes {S C O : Type 0} (rules : Rules S C O) (config : Config) (p : ℕ) (w : World S C O) (n : ℕ)
     (old : ReplicaState S C) (o : Outcome S C O) : Type 0 where
   pub grown : IsPrefixOf old.log o.state.log
   pub fits : Fits rules config p w n o.state
-  pub says : (v : World S C O) → Extends w v → log_at v n ≡ o.state.log →
+  pub says : (v : World S C O) → HasGrown w v → log_at v n ≡ o.state.log →
       (receiver : ℕ) (m : Message C) → In (receiver, m) (messages o.effects) → Says config p v m.from m.body
   pub left_here : n ≡ p → w.left ++ outputs o.effects ≡ outputs_of rules (take o.state.committed o.state.log)
   pub left_elsewhere : (n ≡ p → ⊥) → outputs o.effects ≡ []
@@ -115,7 +116,7 @@ lossy_sound {S = S} {C = C} {O = O} rules config p w n old o new given sound sta
           front = s.front;
           within = s.within;
           committed = s.committed;
-          marked = s.marked;
+          followed = s.followed;
           covered = s.covered;
           machine = λ h. cc;
         })
@@ -151,7 +152,7 @@ owes_halted {S = S} {C = C} {O = O} rules config p w n old sound stands =
         front = s.front;
         within = s.within;
         committed = s.committed;
-        marked = s.marked;
+        followed = s.followed;
         covered = s.covered;
         machine = λ h. cc;
       };
@@ -160,11 +161,11 @@ owes_halted {S = S} {C = C} {O = O} rules config p w n old sound stands =
       left_elsewhere = λ h. refl;
     }
 
--- the least of the marks is at most each of them
-pub least_le_mark : (held : ℕ) (mark : Mark) (marks : List Mark) → In mark marks → least held marks ≤ mark.held
-least_le_mark held mark [] i = elim i [ ]
-least_le_mark held mark (m ∷ marks) here = let l = least-le (min held m.held) marks in omega (arith, l)
-least_le_mark held mark (m ∷ marks) (there i) = least_le_mark (min held m.held) mark marks i
+-- the least of the progress is at most each of them
+pub least_le_reached : (held : ℕ) (reached : Progress) (progress : List Progress) → In reached progress → least held progress ≤ reached.held
+least_le_reached held reached [] i = elim i [ ]
+least_le_reached held reached (m ∷ progress) here = let l = least-le (min held m.held) progress in omega (arith, l)
+least_le_reached held reached (m ∷ progress) (there i) = least_le_reached (min held m.held) reached progress i
 
 -- the outputs of the places from one length to another come behind those before
 outputs_of-take : {S C O : Type 0} (rules : Rules S C O) (log : List C) (from to : ℕ) → from ≤ to → to ≤ length log →
@@ -180,19 +181,19 @@ outputs_of-take {C = C} {O = O} rules log from to rising within =
     ∙ ap (λ k. outputs_of rules (take from log)
     ++ outputs (outputs_from rules (replay rules (take from log)) k (drop from (take to log)))) place
 
--- every member holds what all marks say
+-- every member holds what all progress say
 pub all_hold : {S C O : Type 0} (rules : Rules S C O) (config : Config) (p : ℕ) (w v : World S C O) (r : ReplicaState S C) →
     IsSoundNode rules config p v p r → is_active r.role ≡ true → log_at v p ≡ r.log →
-    AllTold config p v (least (length r.log) r.marks)
-all_hold rules config p w v r s active l n i = by_mark (s.covered active n i)
+    AllTold config p v (least (length r.log) r.progress)
+all_hold rules config p w v r s active l n i = by_reached (s.covered active n i)
   where
-    by_mark : (n ≡ p) ⊎ ((mark : Mark) × In mark r.marks × (mark.member ≡ n + 1)) →
-        Told v p n (least (length r.log) r.marks)
-    by_mark (inl e) =
-        let a = least-le (length r.log) r.marks in let b = ap length l in told_as_primary e (omega (arith, a, b))
-    by_mark (inr (mark, j, e)) =
-        told_less v p n mark.held (least (length r.log) r.marks) (least_le_mark (length r.log) mark r.marks j)
-        (s.marked mark j n e)
+    by_reached : (n ≡ p) ⊎ ((reached : Progress) × In reached r.progress × (reached.member ≡ n + 1)) →
+        Told v p n (least (length r.log) r.progress)
+    by_reached (inl e) =
+        let a = least-le (length r.log) r.progress in let b = ap length l in told_as_primary e (omega (arith, a, b))
+    by_reached (inr (reached, j, e)) =
+        told_less v p n reached.held (least (length r.log) r.progress) (least_le_reached (length r.log) reached r.progress j)
+        (s.followed reached j n e)
 
 -- outputs are no messages
 messages_of_outputs : {C O : Type 0} (place : ℕ) (os : List O) → messages {C = C} (map (Out place) os) ≡ []
@@ -210,32 +211,32 @@ messages_of_outputs_from {C = C} rules s place (c ∷ log) =
 -- what a commit says is so
 commit_says : {S C O : Type 0} (rules : Rules S C O) (config : Config) (p : ℕ) (v : World S C O) (r : ReplicaState S C) (k : ℕ) →
     r.joined ≡ 1 → AllTold config p v k → (receiver : ℕ) (m : Message C) →
-    In (receiver, m) (messages (outputs_to rules r k ++ message_to_marked O r.id (Commit r.joined k) r.marks)) →
+    In (receiver, m) (messages (outputs_to rules r k ++ message_to_followed O r.id (Commit r.joined k) r.progress)) →
     Says config p v m.from m.body
 commit_says {S = S} {C = C} {O = O} rules config p v r k joined all receiver m i =
-    said_to_marked O (λ (y : ℕ × Message C). Says config p v y.1.from y.1.body) r.id (Commit r.joined k) r.marks
+    said_to_followed O (λ (y : ℕ × Message C). Says config p v y.1.from y.1.body) r.id (Commit r.joined k) r.progress
     (λ receiver. (joined, all)) (receiver, m)
     (subst (λ (us : List (ℕ × Message C)). In (receiver, m) us) e i)
   where
-    e : messages (outputs_to rules r k ++ message_to_marked O r.id (Commit r.joined k) r.marks)
-        ≡ messages (message_to_marked O r.id (Commit r.joined k) r.marks)
-    e = messages-append (outputs_to rules r k) (message_to_marked O r.id (Commit r.joined k) r.marks)
-        ∙ ap (λ us. us ++ messages (message_to_marked O r.id (Commit r.joined k) r.marks))
+    e : messages (outputs_to rules r k ++ message_to_followed O r.id (Commit r.joined k) r.progress)
+        ≡ messages (message_to_followed O r.id (Commit r.joined k) r.progress)
+    e = messages-append (outputs_to rules r k) (message_to_followed O r.id (Commit r.joined k) r.progress)
+        ∙ ap (λ us. us ++ messages (message_to_followed O r.id (Commit r.joined k) r.progress))
         (messages_of_outputs_from rules r.machine r.committed (drop r.committed (take k r.log)))
 
 -- a commit of what all hold, by a primary whose log is r.log
 pub owes_commit : {S C O : Type 0} (rules : Rules S C O) (config : Config) (p : ℕ) (w : World S C O)
     (old r : ReplicaState S C) → is_active r.role ≡ true → r.joined ≡ 1 → IsPrefixOf old.log r.log →
     Fits rules config p w p r → r.committed ≤ length r.log → r.machine ≡ replay rules (take r.committed r.log) → w.left ≡ outputs_of rules (take r.committed r.log) →
-    Owes rules config p w p old (commit_at rules r (least (length r.log) r.marks))
+    Owes rules config p w p old (commit_at rules r (least (length r.log) r.progress))
 owes_commit {S = S} {C = C} {O = O} rules config p w old r active joined grown fits within machine left =
-    by_order (cases_lt r.committed (least (length r.log) r.marks))
+    by_order (cases_lt r.committed (least (length r.log) r.progress))
   where
-    by_order : (r.committed < least (length r.log) r.marks) ⊎ (least (length r.log) r.marks ≤ r.committed) →
-        Owes rules config p w p old (commit_at rules r (least (length r.log) r.marks))
+    by_order : (r.committed < least (length r.log) r.progress) ⊎ (least (length r.log) r.progress ≤ r.committed) →
+        Owes rules config p w p old (commit_at rules r (least (length r.log) r.progress))
     by_order (inl above) =
         subst (λ (z : Outcome S C O). Owes rules config p w p old z)
-        (sym (commit_at-goes rules r (least (length r.log) r.marks) above))
+        (sym (commit_at-goes rules r (least (length r.log) r.progress) above))
         (record {
           grown = grown;
           fits = λ v x l. let s = fits v x l in record {
@@ -243,26 +244,26 @@ owes_commit {S = S} {C = C} {O = O} rules config p w old r active joined grown f
             leads = s.leads;
             follows = s.follows;
             front = s.front;
-            within = least-le (length r.log) r.marks;
+            within = least-le (length r.log) r.progress;
             committed = all_hold rules config p w v r s active l;
-            marked = s.marked;
+            followed = s.followed;
             covered = s.covered;
-            machine = λ h. replay_goes_on rules r.machine r.log r.committed (least (length r.log) r.marks) (omega arith) machine;
+            machine = λ h. replay_goes_on rules r.machine r.log r.committed (least (length r.log) r.progress) (omega arith) machine;
           };
           says = λ v x l receiver m i.
-              commit_says rules config p v r (least (length r.log) r.marks) joined (all_hold rules config p w v r (fits v x l) active l) receiver m i;
+              commit_says rules config p v r (least (length r.log) r.progress) joined (all_hold rules config p w v r (fits v x l) active l) receiver m i;
           left_here = λ h.
-              ap (λ us. w.left ++ us) (outputs-append (outputs_to rules r (least (length r.log) r.marks)) (message_to_marked O r.id (Commit r.joined (least (length r.log) r.marks)) r.marks))
-              ∙ ap (λ us. w.left ++ (outputs (outputs_to rules r (least (length r.log) r.marks)) ++ us)) (outputs_of_messages r.id (Commit r.joined (least (length r.log) r.marks)) r.marks)
-              ∙ ap (λ us. w.left ++ us) (append-nil (outputs (outputs_to rules r (least (length r.log) r.marks))))
-              ∙ ap (λ us. us ++ outputs (outputs_to rules r (least (length r.log) r.marks))) left
-              ∙ ap (λ s. outputs_of rules (take r.committed r.log) ++ outputs (outputs_from rules s r.committed (drop r.committed (take (least (length r.log) r.marks) r.log)))) machine
-              ∙ sym (outputs_of-take rules r.log r.committed (least (length r.log) r.marks) (omega arith) (least-le (length r.log) r.marks));
+              ap (λ us. w.left ++ us) (outputs-append (outputs_to rules r (least (length r.log) r.progress)) (message_to_followed O r.id (Commit r.joined (least (length r.log) r.progress)) r.progress))
+              ∙ ap (λ us. w.left ++ (outputs (outputs_to rules r (least (length r.log) r.progress)) ++ us)) (outputs_of_messages r.id (Commit r.joined (least (length r.log) r.progress)) r.progress)
+              ∙ ap (λ us. w.left ++ us) (append-nil (outputs (outputs_to rules r (least (length r.log) r.progress))))
+              ∙ ap (λ us. us ++ outputs (outputs_to rules r (least (length r.log) r.progress))) left
+              ∙ ap (λ s. outputs_of rules (take r.committed r.log) ++ outputs (outputs_from rules s r.committed (drop r.committed (take (least (length r.log) r.progress) r.log)))) machine
+              ∙ sym (outputs_of-take rules r.log r.committed (least (length r.log) r.progress) (omega arith) (least-le (length r.log) r.progress));
           left_elsewhere = λ h. absurd (h refl);
         })
     by_order (inr below) =
         subst (λ (z : Outcome S C O). Owes rules config p w p old z)
-        (sym (commit_at-stays rules r (least (length r.log) r.marks) below))
+        (sym (commit_at-stays rules r (least (length r.log) r.progress) below))
         (record {
           grown = grown;
           fits = fits;

@@ -3,18 +3,19 @@ use Rattle.std.proofs.Common.{◌≡◌, ℕ, ◌+◌, ◌≤◌, ◌⊎◌, inl
 use Rattle.std.specs.Prelude.{slice_get}
 use Rattle.std.proofs.lemmas.Bool.{cases_eq}
 use Rattle.machine.specs.Machine.{Rules, replay}
-use Rattle.ballot_base.specs.declared.config.Config.{Config}
-use Rattle.ballot_base.specs.declared.message.Message.{Message}
-use Rattle.ballot_base.specs.declared.message.Body.{Body}
-use Rattle.ballot_base.specs.declared.message.Body.TheVariants.{NewBallot, Join, State, Install, Installed, Activate, Activated, Superseded, Append, Held, Commit}
-use Rattle.ballot_base.specs.declared.message.Effect.{Effect}
-use Rattle.ballot_base.specs.declared.status.Mark.{Mark}
-use Rattle.ballot_base.specs.Replica.{ReplicaState, is_active, is_backup}
-use Rattle.agreement.specs.World.{World, messages, moved}
-use Rattle.agreement.specs.Lists.{In, IsPrefixOf}
-use Rattle.agreement.specs.World.{log_of}
+use Rattle.ballot.specs.Config.{Config}
+use Rattle.ballot.specs.Message.{Message}
+use Rattle.ballot.specs.Body.{Body}
+use Rattle.ballot.specs.Body.TheVariants.{NewBallot, Join, State, Install, Installed, Activate, Activated, Superseded, Append, Held, Commit}
+use Rattle.ballot.specs.Effect.{Effect}
+use Rattle.ballot.specs.Progress.{Progress}
+use Rattle.ballot.specs.Replica.{ReplicaState, is_active, is_backup}
+use Rattle.agreement.specs.World.{World, messages, moved, log_of}
+use Rattle.lists.specs.Lists.{In, IsPrefixOf}
 use Rattle.master.specs.Agreement.{outputs_of}
-use Rattle.agreement.proofs.Lists.{prefix_same, prefix_then, prefix_get, prefix_length, get_set, get_set_other, in_left, in_append}
+use Rattle.lists.proofs.Beginnings.{prefix_same, prefix_then, prefix_get, prefix_length}
+use Rattle.lists.proofs.Places.{get_set, get_set_other}
+use Rattle.lists.proofs.Members.{in_left, in_append}
 
 -- the log of the node at a place, and how much it has applied
 abbrev pub log_at : {S C O : Type 0} → World S C O → ℕ → List C
@@ -59,9 +60,9 @@ pub record IsSoundNode {S C O : Type 0} (rules : Rules S C O) (config : Config) 
   pub front : IsPrefixOf r.log (log_at w p)
   pub within : r.committed ≤ length r.log
   pub committed : AllTold config p w r.committed
-  pub marked : (mark : Mark) → In mark r.marks → (m : ℕ) → mark.member ≡ m + 1 → Told w p m mark.held
+  pub followed : (reached : Progress) → In reached r.progress → (m : ℕ) → reached.member ≡ m + 1 → Told w p m reached.held
   pub covered : is_active r.role ≡ true → (m : ℕ) → In (m + 1) config.members →
-      (m ≡ p) ⊎ ((mark : Mark) × In mark r.marks × (mark.member ≡ m + 1))
+      (m ≡ p) ⊎ ((reached : Progress) × In reached r.progress × (reached.member ≡ m + 1))
   pub machine : r.stopped ≡ false → r.machine ≡ replay rules (take r.committed r.log)
 
 -- what holds of a world
@@ -71,11 +72,11 @@ pub record IsSound {S C O : Type 0} (rules : Rules S C O) (config : Config) (p :
   pub left : w.left ≡ outputs_of rules (take (committed_of (slice_get w.nodes p)) (log_at w p))
 
 -- logs and messages only grow
-pub record Extends {S C O : Type 0} (w v : World S C O) : Type 0 where
+pub record HasGrown {S C O : Type 0} (w v : World S C O) : Type 0 where
   pub logs : (n : ℕ) → IsPrefixOf (log_at w n) (log_at v n)
   pub sent : (x : ℕ × Message C) → In x w.sent → In x v.sent
 
-pub told_kept : {S C O : Type 0} (w v : World S C O) (p n k : ℕ) → Extends w v → Told w p n k → Told v p n k
+pub told_kept : {S C O : Type 0} (w v : World S C O) (p n k : ℕ) → HasGrown w v → Told w p n k → Told v p n k
 told_kept w v p n k x (told_nothing e) = told_nothing e
 told_kept w v p n k x (told_as_primary e within) =
     let l = prefix_length (x.logs p) in told_as_primary e (omega arith)
@@ -88,11 +89,11 @@ told_less w p n k j less (told_as_primary e within) = told_as_primary e (omega a
 told_less w p n k j less (told_by_held receiver held i below) = told_by_held receiver held i (omega arith)
 
 pub all_told_kept : {S C O : Type 0} (config : Config) (p : ℕ) (w v : World S C O) (k : ℕ) →
-    Extends w v → AllTold config p w k → AllTold config p v k
+    HasGrown w v → AllTold config p w k → AllTold config p v k
 all_told_kept config p w v k x told n i = told_kept w v p n k x (told n i)
 
 pub says_kept : {S C O : Type 0} (config : Config) (p : ℕ) (w v : World S C O) (from : ℕ) (body : Body C) →
-    Extends w v → Says config p w from body → Says config p v from body
+    HasGrown w v → Says config p w from body → Says config p v from body
 says_kept config p w v from (Append ballot place command) x s = (s.0, prefix_get place command (x.logs p) s.1)
 says_kept config p w v from (Held ballot held) x s =
     let l = prefix_length (x.logs s.1.0) in (s.0, (s.1.0, s.1.1, omega (arith, l, s.1.2)))
@@ -107,7 +108,7 @@ says_kept config p w v from (Activated b) x s = s
 says_kept config p w v from (Superseded b) x s = s
 
 pub node_kept : {S C O : Type 0} (rules : Rules S C O) (config : Config) (p : ℕ) (w v : World S C O) (n : ℕ) (r : ReplicaState S C) →
-    Extends w v → IsSoundNode rules config p w n r → IsSoundNode rules config p v n r
+    HasGrown w v → IsSoundNode rules config p w n r → IsSoundNode rules config p v n r
 node_kept rules config p w v n r x s =
     record {
       id = s.id;
@@ -116,20 +117,20 @@ node_kept rules config p w v n r x s =
       front = prefix_then s.front (x.logs p);
       within = s.within;
       committed = all_told_kept config p w v r.committed x s.committed;
-      marked = λ mark i m e. told_kept w v p m mark.held x (s.marked mark i m e);
+      followed = λ reached i m e. told_kept w v p m reached.held x (s.followed reached i m e);
       covered = s.covered;
       machine = s.machine;
     }
 
-pub extends_same : {S C O : Type 0} (w : World S C O) → Extends w w
+pub extends_same : {S C O : Type 0} (w : World S C O) → HasGrown w w
 extends_same w = record { logs = λ n. prefix_same (log_at w n); sent = λ x i. i }
 
-pub extends_then : {S C O : Type 0} {u w v : World S C O} → Extends u w → Extends w v → Extends u v
+pub extends_then : {S C O : Type 0} {u w v : World S C O} → HasGrown u w → HasGrown w v → HasGrown u v
 extends_then x y = record { logs = λ n. prefix_then (x.logs n) (y.logs n); sent = λ m i. y.sent m (x.sent m i) }
 
 -- a world in which one node's log grew extends the one before
 pub moved_extends : {S C O : Type 0} (w : World S C O) (n : ℕ) (old new : ReplicaState S C) (given : List (Effect C O)) →
-    slice_get w.nodes n ≡ Some old → IsPrefixOf old.log new.log → Extends w (moved w n new given)
+    slice_get w.nodes n ≡ Some old → IsPrefixOf old.log new.log → HasGrown w (moved w n new given)
 moved_extends {S = S} {C = C} {O = O} w n old new given stands grown =
     record { logs = λ m. by_place m (cases_eq m n); sent = λ x i. in_left (messages given) i }
   where
@@ -162,7 +163,7 @@ moved_sound {S = S} {C = C} {O = O} rules config p w n old new given sound stand
       left = left;
     }
   where
-    x : Extends w (moved w n new given)
+    x : HasGrown w (moved w n new given)
     x = moved_extends w n old new given stands grown
 
     by_sent : (receiver : ℕ) (m : Message C) → In (receiver, m) w.sent ⊎ In (receiver, m) (messages given) →

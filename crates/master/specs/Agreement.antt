@@ -2,12 +2,12 @@
 -- agree.
 use Rattle.std.specs.Prelude.{ℕ, true, ◌+◌, ◌≡◌, ◌⊎◌, List, [], ◌∷◌, ◌++◌, length, take, slice_get, Option, Some, None}
 use Rattle.machine.specs.Machine.{Rules}
-use Rattle.ballot_base.specs.declared.message.Body.TheVariants.{Held}
-use Rattle.ballot_base.specs.declared.config.Config.{Config}
-use Rattle.ballot_base.specs.Replica.{ReplicaState}
-use Rattle.ballot_base.specs.Applying.{outputs_from}
+use Rattle.ballot.specs.Body.TheVariants.{Held}
+use Rattle.ballot.specs.Config.{Config}
+use Rattle.ballot.specs.Replica.{ReplicaState}
+use Rattle.ballot.specs.Applying.{outputs_from}
 use Rattle.master.specs.declared.event.Event.{Event}
-use Rattle.agreement.specs.Lists.{In, IsPrefixOf}
+use Rattle.lists.specs.Lists.{In, IsPrefixOf}
 use Rattle.agreement.specs.World.{log_of, World, outputs, can_open, opening_world}
 use Rattle.master.specs.Steps.{Happens}
 

@@ -1,6 +1,6 @@
 -- Group.antt: a group of nodes in one ballot.
 use Rattle.std.specs.Prelude.{ℕ}
-use Rattle.ballot_base.specs.declared.config.Config.{Config}
+use Rattle.ballot.specs.Config.{Config}
 use Rattle.agreement.specs.World.{World}
 
 -- a group: its configuration, its world, and the number of its steps in which memory was wanting

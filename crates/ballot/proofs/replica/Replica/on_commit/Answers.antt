@@ -1,6 +1,6 @@
 use Rattle.std.proofs.Common.{◌≡◌, false, cond, take, drop, ap, ◌≤◌, ◌<◌, length, refl, sym, ◌∙◌, arith}
 use Rattle.machine.specs.Machine.{rules_by}
-use Rattle.ballot_base.specs.Replica.{Counted}
+use Rattle.ballot_base.specs.Replica.{CountedReplica}
 use Rattle.ballot_base.proofs.MessageRows.{on_commit-elsewhere, on_commit-past}
 use Rattle.ballot.proofs.PlacesApplied.{shown_applied}
 use Rattle.ballot.proofs.MessagesTaken.{went_same, commit_known, commit_taken, commit_halted}
@@ -32,7 +32,7 @@ returns-in-Ok-clause-went g c =
     let within : c.args.held ≤ length c.args.self.now.state.log =
     rw (← c.self.view_is) (omega (arith, c.self.inside.log.ok.0)) in
     let above : c.args.self.now.state.committed < c.args.held = rw (← c.self.view_is) c.if-held-self.false in
-    let running : c.self.inside.stopped ≡ false = ap (λ (z : Counted _ _). z.state.stopped) c.self.view_is ∙ c.requires in
+    let running : c.self.inside.stopped ≡ false = ap (λ (z : CountedReplica _ _). z.state.stopped) c.self.view_is ∙ c.requires in
     commit_taken steps c.args.self.now _ c.args.ballot c.args.held
     (cond c.self.inside.stopped g.M.Machine.opening c.apply_dropping.new.machine)
     (sym c.follows.ensures ∙ c.if-not-follows.false) within above

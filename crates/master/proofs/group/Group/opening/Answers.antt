@@ -1,6 +1,6 @@
 use Rattle.std.proofs.Common.{◌≡◌, ap, sym, ◌∙◌, arith}
 use Rattle.machine.specs.Machine.{rules_by}
-use Rattle.ballot_base.specs.Replica.{Counted}
+use Rattle.ballot.specs.Replica.{CountedReplica}
 use Rattle.master.specs.Group.{GroupState}
 use Rattle.agreement.specs.World.{World}
 use Rattle.master.proofs.Opening.{opened_more}
@@ -11,7 +11,7 @@ pub loop-at-preserved : goal.loop-at-preserved
 loop-at-preserved g c =
     let rules = rules_by g.M.Machine.opening g.M.Machine.start_of g.M.Machine.after g.M.Machine.gives in
     opened_more rules c.args.config c.loop-at.opened.items c.push.new.self.items c.in_ok-new.field-0 c.loop-at.at
-    c.loop-at.invariant (ap (λ (z : Counted _ _). z.state) c.in_ok-new.ensures.ok) c.in_ok-push.ensures.items
+    c.loop-at.invariant (ap (λ (z : CountedReplica _ _). z.state) c.in_ok-new.ensures.ok) c.in_ok-push.ensures.items
 
 pub returns-clause-ok : goal.returns-clause-ok
 returns-clause-ok g c =
