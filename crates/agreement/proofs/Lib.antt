@@ -28,7 +28,7 @@ pub mod LawfulConfigs
 pub mod Leading
 pub mod Leaving
 pub mod Lining
-pub mod Lists
+pub mod Effects
 pub mod LongActive
 pub mod Losing
 pub mod MasterActivates

@@ -5,7 +5,6 @@ pub mod Begun
 pub mod GroupSteps
 pub mod Keeps
 pub mod Laws
-pub mod Lists
 pub mod MasterState
 pub mod Moves
 pub mod OpeningHistory

@@ -28,11 +28,6 @@ pub record Went {S C O : Type 0} (rules : Rules S C O) (old : CountedReplica S C
       × (new.losses ≡ one_more old.losses)
       × (IsQuiet old.state outcome → ⊥))
 
--- something was appended
-pub record Grows {C O : Type 0} (old new : List (Effect C O)) : Type 0 where
-  pub rest : List (Effect C O)
-  pub appended : new ≡ old ++ rest
-
 -- what a proposal that found no memory leaves
 abbrev pub Lacks : {S C O : Type 0} →
     Rules S C O → ProposeError → CountedReplica S C → CountedReplica S C → Type 0

@@ -15,4 +15,8 @@ pub use node::Node;
 pub use node_state::NodeState;
 pub use running::run_connection;
 pub use service::Service;
-pub use world_base::{Config, Handed, Item, Members, OpeningError, Piece, Port, Status};
+pub use node_base::{Counted, PIECE_BYTES, Written};
+pub use world_base::{
+    Command, Config, ConnectionId, Effect, Handed, Item, Members, Memory, Message, NodeCore, OpeningError, Output,
+    Piece, Port, Status,
+};

@@ -8,7 +8,7 @@ ghost use Rattle.ballot.specs.Replica.{status_of};
 ghost use Rattle.world_base.specs.Connections.{closed, holding, is_open_at, is_open_named, putting};
 ghost use Rattle.world_base.specs.Core.{opening_core, serves};
 ghost use Rattle.world_base.specs.Inside.{Does};
-ghost use Rattle.world_base.specs.Spelling.{spelling};
+ghost use Rattle.packet.specs.Spelling.{spelling};
 ghost use Rattle.world_base.specs.Reading.{changes, refused};
 ghost use Rattle.world_base.specs.Step.{next_name, opens, settled};
 ghost use Rattle.world_base.specs.Turns.{changes_named};

@@ -1,5 +1,5 @@
 use Rattle.world_base.specs.Connections.{putting}
-use Rattle.world_base.specs.Spelling.{spelling}
+use Rattle.packet.specs.Spelling.{spelling}
 use Rattle.world_base.proofs.Changes.{named_there, named_nowhere}
 use Rattle.world_base.proofs.serving.Serving.send.Goals as goal
 
