@@ -3,7 +3,8 @@ use Rattle.std.proofs.Common.{◌≡◌, ℕ, zero, suc, ◌+◌, ◌<◌, ◌�
 use Rattle.std.specs.Prelude.{not, nat_le, ◌&&◌, ◌==◌}
 use Rattle.std.specs.List.{list_all}
 use Rattle.std.proofs.lemmas.Bool.{and_parts, cases_Bool, leb-true, leb-false}
-use Rattle.ballot.specs.Config.{Config, is_lawful}
+use Rattle.ballot.specs.LawfulConfig.{is_lawful}
+use Rattle.ballot.specs.Config.{Config}
 use Rattle.agreement.specs.World.{can_open}
 use Rattle.lists.specs.Lists.{In}
 use Rattle.lists.specs.Lists.In.{here, there}

@@ -2,7 +2,8 @@
 use Rattle.std.specs.Prelude.{Option, Some, None, ℕ, zero, suc, Bool, ◌+◌, List, [], ◌∷◌, ◌++◌, slice_set, ◌&&◌, nat_le}
 use Rattle.std.specs.List.{list_all}
 use Rattle.machine.specs.Machine.{Rules}
-use Rattle.ballot.specs.Config.{is_lawful, Config}
+use Rattle.ballot.specs.LawfulConfig.{is_lawful}
+use Rattle.ballot.specs.Config.{Config}
 use Rattle.ballot.specs.Message.{Message}
 use Rattle.ballot.specs.Effect.{Effect}
 use Rattle.ballot.specs.Effect.TheVariants.{To, Out}
