@@ -8,7 +8,7 @@ use Rattle.ballot.specs.Progress.{Progress}
 use Rattle.ballot.specs.Losses.{Thinned}
 use Rattle.ballot.specs.Losses.Thinned.{none, keeps, loses}
 use Rattle.ballot.specs.Sending.{message_to_followed}
-use Rattle.master.specs.Group.{messages, outputs}
+use Rattle.agreement.specs.World.{messages, outputs}
 use Rattle.lists.specs.Lists.{In}
 use Rattle.lists.specs.Lists.In.{here, there}
 

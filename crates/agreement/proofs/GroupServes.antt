@@ -1,0 +1,98 @@
+-- GroupServes.antt: a group whose master answers each Assign serves from its opening on, and its nodes agree on an agreed list that one of them holds.
+use Rattle.std.proofs.Common.{Bool, cond, inl, ◌≡◌, ℕ, zero, suc, ◌+◌, true, false, [], ◌∷◌, length, refl, sym, subst, arith}
+use Rattle.std.specs.Prelude.{◌==◌}
+use Rattle.std.proofs.lemmas.List.{length-append}
+use Rattle.machine.specs.Machine.{Rules}
+use Rattle.ballot.specs.Config.{Config}
+use Rattle.ballot.specs.Role.TheVariants.{Active}
+use Rattle.ballot.specs.Replica.{ReplicaState, opening, opening_member, progress_at, others}
+use Rattle.agreement.specs.World.{can_open, opening_nodes, opening_world}
+use Rattle.agreement.specs.Assign.{IsServing}
+use Rattle.agreement.specs.Begun.{AreLong}
+use Rattle.agreement.specs.Laws.{OpensServing, RunsServing, NodesAgree}
+use Rattle.agreement.specs.OpeningHistory.{opening_history, opening_master}
+use Rattle.agreement.specs.Replays.{IsReplay, AreReplays}
+use Rattle.agreement.specs.Sound.{IsSound}
+use Rattle.agreement.proofs.AgreedExists.{agreed_exists}
+use Rattle.agreement.proofs.Agreeing.{sound_agrees, agreed_grows}
+use Rattle.agreement.proofs.Assigns.{can_open_is}
+use Rattle.agreement.proofs.RunsGoOn.{run_goes_on, opening_begun}
+use Rattle.agreement.proofs.OpeningNodes.{first_given}
+use Rattle.agreement.proofs.OpeningWorlds.{opens_node, opening_sound, opening_is_master}
+use Rattle.agreement.proofs.Serves.{serving_run, serving_kept, serves_held}
+
+-- how many nodes open
+nodes_open : {S C O : Type 0} (rules : Rules S C O) (nodes : ℕ) (config : Config) → length (opening_nodes rules nodes config) ≡ nodes
+nodes_open rules zero config = refl
+nodes_open rules (suc n) config =
+    let e = nodes_open rules n config in omega (arith, e, length-append (opening_nodes rules n config) (opening rules (n + 1) config ∷ []))
+
+-- a group that opens
+pub opening_serves : {S C O : Type 0} (rules : Rules S C O) (nodes : ℕ) (config : Config) → can_open nodes config ≡ true →
+    IsServing (length (opening_world rules nodes config).nodes) (opening_master config)
+opening_serves rules nodes config e =
+    subst (λ j. IsServing j (opening_master config)) (sym (nodes_open rules nodes config))
+    (record { members = (can_open_is nodes config e).1; waiting = λ b c f. cc; given = omega arith })
+
+-- the first ballot alone has an active primary
+opening_long : {S C O : Type 0} (rules : Rules S C O) (nodes : ℕ) (config : Config) →
+    IsSound rules (opening_world rules nodes config) (opening_history C config) → AreLong (opening_world rules nodes config) (opening_history C config)
+opening_long {C = C} rules nodes config s n r e active =
+    let a = (s.nodes n r e).active active in inl (first_given C config r.joined a.leads.0 a.leads.1).0
+
+-- machines open as replays of nothing
+opening_replays : {S C O : Type 0} (rules : Rules S C O) (nodes : ℕ) (config : Config) → AreReplays rules (opening_world rules nodes config)
+opening_replays {S = S} {C = C} rules nodes config n r e runs =
+    subst (λ (x : ReplicaState S C). IsReplay rules x) (opens_node rules nodes config n r e) (opens_replay rules (n + 1) config)
+  where
+    opens_replay : {S C O : Type 0} (rules : Rules S C O) (id : ℕ) (config : Config) → IsReplay rules (opening rules id config)
+    opens_replay rules id config = by_role (id == config.primary)
+      where
+        by_role : (b : Bool) → IsReplay rules (cond b (record (opening_member rules id config) {
+          role = Active;
+          members = config.members;
+          progress = progress_at 0 (others id config.members);
+        }) (opening_member rules id config))
+        by_role true = refl
+        by_role false = refl
+
+-- a group serves as it opens
+pub opens_serving : {S C O : Type 0} (rules : Rules S C O) → OpensServing rules
+opens_serving {C = C} rules nodes config e =
+    let first = opening_sound rules nodes config (can_open_is nodes config e).0 in (
+      opening_history C config,
+      record {
+        sound = first;
+        master = opening_is_master C config;
+        replays = opening_replays rules nodes config;
+        serving = opening_serves rules nodes config e;
+        begun = opening_begun rules.start_of config;
+        long = opening_long rules nodes config first;
+      },
+    )
+
+-- it serves behind every run, and what is agreed only grows
+pub runs_serving : {S C O : Type 0} (rules : Rules S C O) → RunsServing rules
+runs_serving rules m k w v h s run =
+    let a = run_goes_on rules m k w v h s.sound s.long s.replays s.master (serving_run rules m k w v run) in (
+      a.group.goes_on.history,
+      record {
+        sound = a.group.goes_on.sound;
+        master = a.group.master;
+        replays = a.replays;
+        serving = serving_kept rules m k w v run s.serving;
+        begun = a.begun s.begun;
+        long = a.long;
+      },
+      λ xs ys before behind. agreed_grows rules w v h xs ys a.group.goes_on before behind,
+    )
+
+-- while it serves the nodes agree on the agreed list
+pub nodes_agree : {S C O : Type 0} (rules : Rules S C O) → NodesAgree rules
+nodes_agree rules m w h s =
+    let xs = agreed_exists rules m w h s.sound s.master in (
+      xs.0,
+      xs.1,
+      sound_agrees rules m w h xs.0 s.sound s.master xs.1,
+      serves_held rules m w h xs.0 s.sound s.master s.serving xs.1,
+    )

@@ -1,0 +1,128 @@
+-- RunsGoOn.antt: every run of a sound group keeps it sound: its history goes on, its machines are replays, its ballots begin with their starts.
+use Rattle.std.proofs.Common.{◌≡◌, ℕ, inl, [], Option, refl, ap, sym, ◌∙◌}
+use Rattle.machine.specs.Machine.{Rules}
+use Rattle.ballot.specs.Config.{Config}
+use Rattle.ballot.specs.Losses.Thinned.{none}
+use Rattle.ballot.specs.Protocol.Input.{Ticks}
+use Rattle.ballot.specs.Protocol.{replica_step}
+use Rattle.agreement.specs.World.{World}
+use Rattle.agreement.specs.Ballots.{Line, History}
+use Rattle.agreement.specs.Begun.{AreBegun, BeginsOrFollows, AreLong}
+use Rattle.agreement.specs.GroupSteps.{AddsBy, GroupStep, GroupRun}
+use Rattle.agreement.specs.GroupSteps.GroupStep.{takes, stops, assigns, hears, assigns_unheard, hears_unanswered}
+use Rattle.agreement.specs.GroupSteps.GroupRun.{ends, goes_on}
+use Rattle.agreement.specs.Keeps.{NodeGoesOn, LineAdds}
+use Rattle.agreement.specs.Keeps.LineAdds.{as_it_was, begins_behind, adds_one}
+use Rattle.agreement.specs.MasterState.{MasterState, IsMaster}
+use Rattle.agreement.specs.OpeningHistory.{opening_history}
+use Rattle.agreement.specs.Replays.{AreReplays}
+use Rattle.agreement.specs.Sound.{IsSound}
+use Rattle.lists.proofs.Beginnings.{prefix_same, prefix_then}
+use Rattle.agreement.proofs.Assigning.{assign_goes_on}
+use Rattle.agreement.proofs.Begins.{begun_lines, keeps_begun}
+use Rattle.agreement.proofs.Going.{goes_same, goes_then}
+use Rattle.agreement.proofs.LongActive.{long_moved, long_same, loses_begins}
+use Rattle.agreement.proofs.Losing.{lossy_goes_on}
+use Rattle.agreement.proofs.MasterActivates.{activate_goes_on}
+use Rattle.agreement.proofs.OpeningNodes.{first_lined}
+use Rattle.agreement.proofs.OwnSteps.{own_goes_on}
+use Rattle.agreement.proofs.Quiet.{keeps_halted}
+use Rattle.agreement.proofs.ReplaysKept.{replays_moved, step_replays}
+use Rattle.agreement.proofs.Steps.{GroupGoesOn, by_history, by_master, by_lost}
+
+-- a group goes on soundly, its machines are replays, and its ballots still begin with their starts
+pub record RunGoesOn {S C O : Type 0} (rules : Rules S C O) (w : World S C O) (h : History C) (m : MasterState) (v : World S C O) : Type 0 where
+  pub group : GroupGoesOn rules w h m v
+  pub long : AreLong v group.goes_on.history
+  pub replays : AreReplays rules v
+  pub begun : AreBegun rules.start_of h → AreBegun rules.start_of group.goes_on.history
+
+-- a list takes what it may, and begins or follows; so it takes what it may
+may_add : {C : Type 0} (adds more : ℕ → C → Type 0) (h : History C) (b : ℕ) (k : Line C) → LineAdds (λ x c. adds x c × more x c) h b k →
+    LineAdds adds h b k
+may_add adds more h b k (as_it_was e) = as_it_was e
+may_add adds more h b k (begins_behind g p e unlined before front) = begins_behind g p e unlined before front
+may_add adds more h b k (adds_one l c e same a) = adds_one l c e same a.0
+
+-- behind a move of a node that adds so
+abbrev node_may : {S C O : Type 0} (rules : Rules S C O) (w v : World S C O) (h : History C) (adds more : ℕ → C → Type 0) →
+    NodeGoesOn rules w h (λ x c. adds x c × more x c) v → NodeGoesOn rules w h adds v
+node_may rules w v h adds more g =
+    record {
+      history = g.history;
+      extends = g.extends;
+      active = g.active;
+      sound = g.sound;
+      ballots = g.ballots;
+      added = λ b k e. may_add adds more h b k (g.added b k e);
+    }
+
+-- the master changes no list
+begun_same : {C : Type 0} (start_of : ℕ → C) (h i : History C) → i.line ≡ h.line → AreBegun start_of h → AreBegun start_of i
+begun_same {C = C} start_of h i e begun b k f = begun b k (ap (λ (g : ℕ → Option (Line C)). g b) (sym e) ∙ f)
+
+-- whatever happens
+pub group_goes_on : {S C O : Type 0} (rules : Rules S C O) (m k : MasterState) (w v : World S C O) (h : History C) →
+    IsSound rules w h → AreLong w h → AreReplays rules w → IsMaster m h → GroupStep rules m w k v → RunGoesOn rules w h k v
+group_goes_on rules m k w v h s long all master (takes n r input {new = new} {given = given} stands runs may loses) =
+    let g = lossy_goes_on rules w h n r (λ b c. AddsBy rules r input b c × BeginsOrFollows rules.start_of h b c) (replica_step rules r input) _ _ s stands
+    (keeps_begun rules w h n r input s long stands (all n r stands runs) may) loses in
+    let x = node_may rules w _ h (AddsBy rules r input) (BeginsOrFollows rules.start_of h) g in
+    record {
+      group = by_history rules w _ h m _ master x (λ rows own. own_goes_on rules w _ h r input rows x own);
+      long = long_moved rules w _ h _ n r new given s stands g long refl (loses_begins rules r input _ _ loses);
+      replays = step_replays rules w h n r input new given _ s g stands runs all loses;
+      begun = λ begun. begun_lines rules w _ h _ (λ b c a. a.1) s g begun;
+    }
+group_goes_on rules m k w v h s long all master (stops n r stands) =
+    let g = keeps_halted rules w h n r s stands [] none in
+    record {
+      group = by_history rules w _ h m _ master g (λ rows own. own_goes_on rules w _ h r Ticks rows g own);
+      long = long_moved rules w _ h _ n r _ [] s stands g long refl (inl (λ f. (f, refl)));
+      replays = replays_moved rules w n r _ [] stands all (λ going. cc);
+      begun = λ begun. begun_lines rules w _ h _ (λ b c a. absurd a) s g begun;
+    }
+group_goes_on rules m k w v h s long all master (assigns config member) =
+    let a = assign_goes_on rules m w h config s master member in
+    record { group = by_master rules w h m _ a; long = long_same w h a.goes_on.history a.lists long; replays = all; begun = λ begun. begun_same rules.start_of h a.goes_on.history a.lists begun }
+group_goes_on rules m k w v h s long all master (hears from b sent) =
+    let a = activate_goes_on rules m w h b from s master sent m.waiting refl in
+    record { group = by_master rules w h m _ a; long = long_same w h a.goes_on.history a.lists long; replays = all; begun = λ begun. begun_same rules.start_of h a.goes_on.history a.lists begun }
+group_goes_on rules m k w v h s long all master (assigns_unheard config member) =
+    let a = assign_goes_on rules m w h config s master member in
+    record { group = by_lost rules w h m _ a; long = long_same w h a.lost.history a.lost_lists long; replays = all; begun = λ begun. begun_same rules.start_of h a.lost.history a.lost_lists begun }
+group_goes_on rules m k w v h s long all master (hears_unanswered from b sent) =
+    let a = activate_goes_on rules m w h b from s master sent m.waiting refl in
+    record { group = by_lost rules w h m _ a; long = long_same w h a.lost.history a.lost_lists long; replays = all; begun = λ begun. begun_same rules.start_of h a.lost.history a.lost_lists begun }
+
+-- a run goes on so
+pub run_goes_on : {S C O : Type 0} (rules : Rules S C O) (m k : MasterState) (w v : World S C O) (h : History C) →
+    IsSound rules w h → AreLong w h → AreReplays rules w → IsMaster m h → GroupRun rules m w k v → RunGoesOn rules w h k v
+run_goes_on rules m k w v h s long all master ends =
+    record {
+      group = record { goes_on = goes_same rules w h s; master = master; own = λ rows o. record { later = rows; grows = prefix_same rows; own = o } };
+      long = long;
+      replays = all;
+      begun = λ begun. begun;
+    }
+run_goes_on rules m k w v h s long all master (goes_on step run) =
+    let x = group_goes_on rules m _ w _ h s long all master step in
+    let a = x.group in
+    let y = run_goes_on rules _ k _ v a.goes_on.history a.goes_on.sound x.long x.replays a.master run in
+    let b = y.group in
+    record {
+      group = record {
+        goes_on = goes_then rules w _ v h a.goes_on b.goes_on;
+        master = b.master;
+        own = λ rows o.
+            let p = a.own rows o in let q = b.own p.later p.own in
+            record { later = q.later; grows = prefix_then p.grows q.grows; own = q.own };
+      };
+      long = y.long;
+      replays = y.replays;
+      begun = λ begun. y.begun (x.begun begun);
+    }
+
+-- a group opens so
+pub opening_begun : {C : Type 0} (start_of : ℕ → C) (config : Config) → AreBegun start_of (opening_history C config)
+opening_begun {C = C} start_of config b l e = inl (first_lined C config b l e).0

@@ -1,0 +1,98 @@
+-- Serves.antt: in a group whose master answers each Assign, some member of the active ballot is a node that holds the agreed list.
+use Rattle.std.proofs.Common.{◌≡◌, ℕ, zero, suc, ◌+◌, ◌<◌, List, [], ◌∷◌, length, Some, None, Option, refl, sym, subst, arith}
+use Rattle.std.specs.Prelude.{slice_get}
+use Rattle.std.proofs.lemmas.List.{length-set}
+use Rattle.ballot.specs.Losses.{halted}
+use Rattle.machine.specs.Machine.{Rules}
+use Rattle.agreement.specs.World.{World}
+use Rattle.lists.specs.Lists.{In}
+use Rattle.agreement.specs.Agreed.{IsAgreedIn}
+use Rattle.agreement.specs.Assign.{AssignRefusal, refusal, master_behind, world_behind, ServingStep, ServingRun, IsServing, Holds}
+use Rattle.agreement.specs.Assign.ServingStep.{serving_takes, serving_stops, serving_assigns, serving_hears, serving_assigns_unheard, serving_hears_unanswered}
+use Rattle.agreement.specs.Assign.ServingRun.{serving_ends, serving_goes_on}
+use Rattle.agreement.specs.Ballots.{Given, History}
+use Rattle.agreement.specs.GroupSteps.{GroupRun}
+use Rattle.agreement.specs.GroupSteps.GroupStep.{takes, stops, assigns, hears, assigns_unheard, hears_unanswered}
+use Rattle.agreement.specs.GroupSteps.GroupRun.{ends, goes_on}
+use Rattle.agreement.specs.MasterState.{MasterState, IsMaster}
+use Rattle.agreement.specs.Sound.{IsSound}
+use Rattle.agreement.proofs.Agreeing.{sound_agrees}
+use Rattle.agreement.proofs.Assigns.{can_open_is, not_refused, serving_assigned, serving_activated}
+
+-- a step goes on to a run
+behind_step : {S C O : Type 0} (rules : Rules S C O) (m : MasterState) (w : World S C O) (k l : MasterState) (v u : World S C O) → ServingStep rules m w k v →
+    GroupRun rules k v l u → GroupRun rules m w l u
+behind_step rules m w k l v u (serving_takes n r input stands runs may loses) run = goes_on (takes n r input stands runs may loses) run
+behind_step rules m w k l v u (serving_stops n r stands) run = goes_on (stops n r stands) run
+behind_step rules m w k l v u (serving_hears from b sent) run = goes_on (hears from b sent) run
+behind_step rules m w k l v u (serving_hears_unanswered from b sent) run = goes_on (hears_unanswered from b sent) run
+behind_step {S = S} {C = C} rules m w k l v u (serving_assigns config) run = by_refusal (refusal (length w.nodes) m config) refl run
+  where
+    by_refusal : (o : Option AssignRefusal) → refusal (length w.nodes) m config ≡ o →
+        GroupRun rules (master_behind C m config o) (world_behind m w config o) l u → GroupRun rules m w l u
+    by_refusal (Some why) e run = run
+    by_refusal None e run = goes_on (assigns config (can_open_is (length w.nodes) config (not_refused (length w.nodes) m config e).0).0) run
+behind_step {S = S} {C = C} rules m w k l v u (serving_assigns_unheard config) run = by_refusal (refusal (length w.nodes) m config) refl run
+  where
+    by_refusal : (o : Option AssignRefusal) → refusal (length w.nodes) m config ≡ o →
+        GroupRun rules (master_behind C m config o) w l u → GroupRun rules m w l u
+    by_refusal (Some why) e run = run
+    by_refusal None e run = goes_on (assigns_unheard config (can_open_is (length w.nodes) config (not_refused (length w.nodes) m config e).0).0) run
+
+-- such a run is one of the group
+pub serving_run : {S C O : Type 0} (rules : Rules S C O) (m k : MasterState) (w v : World S C O) → ServingRun rules m w k v → GroupRun rules m w k v
+serving_run rules m k w v serving_ends = ends
+serving_run rules m k w v (serving_goes_on step run) = behind_step rules m w _ k _ v step (serving_run rules _ k _ v run)
+
+-- a step keeps how many nodes there are, and that members are nodes
+serving_step : {S C O : Type 0} (rules : Rules S C O) (m : MasterState) (w : World S C O) (k : MasterState) (v : World S C O) → ServingStep rules m w k v →
+    IsServing (length w.nodes) m → IsServing (length v.nodes) k
+serving_step rules m w k v (serving_takes n r input {new = new} stands runs may loses) s =
+    subst (λ j. IsServing j m) (sym (length-set w.nodes n new)) s
+serving_step rules m w k v (serving_stops n r stands) s =
+    subst (λ j. IsServing j m) (sym (length-set w.nodes n (halted rules r))) s
+serving_step {S = S} {C = C} rules m w k v (serving_hears from b sent) s = serving_activated C (length w.nodes) m b from m.waiting refl s
+serving_step {S = S} {C = C} rules m w k v (serving_hears_unanswered from b sent) s = serving_activated C (length w.nodes) m b from m.waiting refl s
+serving_step {S = S} {C = C} {O = O} rules m w k v (serving_assigns config) s = by_refusal (refusal (length w.nodes) m config) refl
+  where
+    by_refusal : (o : Option AssignRefusal) → refusal (length w.nodes) m config ≡ o →
+        IsServing (length (world_behind m w config o).nodes) (master_behind C m config o)
+    by_refusal (Some why) e = s
+    by_refusal None e = serving_assigned C (length w.nodes) m config None e s
+serving_step {S = S} {C = C} rules m w k v (serving_assigns_unheard config) s =
+    serving_assigned C (length w.nodes) m config (refusal (length w.nodes) m config) refl s
+
+-- and so does a run
+pub serving_kept : {S C O : Type 0} (rules : Rules S C O) (m k : MasterState) (w v : World S C O) → ServingRun rules m w k v →
+    IsServing (length w.nodes) m → IsServing (length v.nodes) k
+serving_kept rules m k w v serving_ends s = s
+serving_kept rules m k w v (serving_goes_on step run) s = serving_kept rules _ k _ v run (serving_step rules m w _ _ step s)
+
+-- there is a node at each place below their number
+node_there : {X : Type 0} (xs : List X) (n : ℕ) → n < length xs → (x : X) × (slice_get xs n ≡ Some x)
+node_there [] n low = absurd (omega (arith, low))
+node_there (x ∷ xs) zero low = (x, refl)
+node_there (x ∷ xs) (suc n) low = node_there xs n (omega (arith, low))
+
+-- the primary of the active ballot is a member that is a node, and holds the agreed list
+pub serves_held : {S C O : Type 0} (rules : Rules S C O) (m : MasterState) (w : World S C O) (h : History C) (xs : List C) → IsSound rules w h →
+    IsMaster m h → IsServing (length w.nodes) m → IsAgreedIn w h xs → Holds m w xs
+serves_held {S = S} {C = C} {O = O} rules m w h xs s k serving agreed = by_number (serving.members g.0.primary member)
+  where
+    g : (g : Given) × (h.given m.active ≡ Some g) × (g.members ≡ m.members)
+    g = k.active_members
+
+    member : In k.active_members.0.primary m.members
+    member = subst (λ ms. In k.active_members.0.primary ms) k.active_members.2 (s.ballots.led m.active k.active_members.0 k.active_members.1)
+
+    by_number : (n : ℕ) × (k.active_members.0.primary ≡ n + 1) × (n < length w.nodes) → Holds m w xs
+    by_number (n, is, low) =
+        let z = node_there w.nodes n low in
+        let i : In (n + 1) m.members = subst (λ x. In x m.members) is member in
+        record {
+          node = n;
+          replica = z.0;
+          stands = z.1;
+          member = i;
+          held = (sound_agrees rules m w h xs s k agreed).held n z.0 z.1 i;
+        }

@@ -1,0 +1,15 @@
+pub mod Agreed
+pub mod Assign
+pub mod Ballots
+pub mod Begun
+pub mod GroupSteps
+pub mod Keeps
+pub mod Laws
+pub mod MasterState
+pub mod Moves
+pub mod OpeningHistory
+pub mod Own
+pub mod Replays
+pub mod Sound
+pub mod ToldLengths
+pub mod World
