@@ -1,0 +1,137 @@
+-- A PUBLISH at QoS 2 is a repeat exactly where the last word on its identifier is a taken PUBLISH.
+use Rattle.std.proofs.Common.{◌≡◌, ℕ, Bool, true, false, not, ◌&&◌, ◌||◌, ◌==◌, if◌then◌else◌, List, [], ◌∷◌, Option, Some, None, refl, ◌∙◌, ap, arith}
+use Rattle.std.specs.declared.cmp.Ordering.{Ordering}
+use Rattle.std.specs.declared.cmp.Ordering.TheVariants.{Less, Equal, Greater}
+use Rattle.std.specs.Ordering.{nat_cmp, match_ordering}
+use Rattle.std.proofs.lemmas.Map.Lookups.{exact_unsigned}
+use Rattle.packet.specs.declared.delivery.Delivery.{Delivery}
+use Rattle.packet.specs.declared.delivery.Delivery.TheVariants as deliveries
+use Rattle.packet.specs.declared.packet.Packet.TheVariants as packets
+use Rattle.broker_model.specs.Place.{Client, same_client, Mark}
+use Rattle.broker_model.specs.Past.{session_of, begins, in_session}
+use Rattle.lists.specs.Lists.{has_id}
+use Rattle.session_base.specs.Identifiers.{with_id, without_id}
+use Rattle.broker_model.specs.Received.{receives, received_by, received_of}
+use Rattle.broker_model.specs.Laws.{brings, says_of, newest, ends_in_publish, RepeatIsUnreleased}
+use Rattle.broker_model.specs.declared.command.Command.{Command}
+use Rattle.broker_model.specs.declared.command.Command.TheVariants as commands
+
+same-number : (i j : ℕ) → (i == j) ≡ true → i ≡ j
+same-number i j e = grind arith
+
+swap-or : (x y z : Bool) → x || (y || z) ≡ y || (x || z)
+swap-or true true z = refl
+swap-or true false z = refl
+swap-or false y z = refl
+
+twice-or : (x y : Bool) → x || y ≡ x || (x || y)
+twice-or true y = refl
+twice-or false y = refl
+
+with-by : (id i other : ℕ) (others : List ℕ) → has_id id (with_id i others) ≡ (id == i) || has_id id others
+    → (o : Ordering) → nat_cmp i other ≡ o
+    → has_id id (match_ordering o (i ∷ other ∷ others) (other ∷ others) (other ∷ with_id i others)) ≡ (id == i) || ((id == other) || has_id id others)
+with-by id i other others ih Less e = refl
+with-by id i other others ih Equal e = rw (exact_unsigned i other e) (twice-or (id == other) (has_id id others))
+with-by id i other others ih Greater e = ap (λ z. (id == other) || z) ih ∙ swap-or (id == other) (id == i) (has_id id others)
+
+-- an identifier that comes in is there, and the others are as they were
+has-with : (id i : ℕ) (ids : List ℕ) → has_id id (with_id i ids) ≡ (id == i) || has_id id ids
+has-with id i [] = refl
+has-with id i (other ∷ others) = with-by id i other others (has-with id i others) (nat_cmp i other) refl
+
+without-by : (id i other : ℕ) (others : List ℕ) → has_id id (without_id i others) ≡ not (id == i) && has_id id others
+    → (same : Bool) → (i == other) ≡ same
+    → has_id id (if not same then other ∷ without_id i others else without_id i others) ≡ not (id == i) && ((id == other) || has_id id others)
+without-by id i other others ih true e = rw (← same-number i other e) (ih ∙ gone (id == i) (has_id id others))
+  where
+    gone : (x y : Bool) → not x && y ≡ not x && (x || y)
+    gone true y = refl
+    gone false y = refl
+without-by id i other others ih false e = ap (λ z. (id == other) || z) ih ∙ apart (id == i) refl
+  where
+    apart : (x : Bool) → (id == i) ≡ x → (id == other) || (not x && has_id id others) ≡ not x && ((id == other) || has_id id others)
+    apart true f = differs (id == other) refl
+      where
+        differs : (y : Bool) → (id == other) ≡ y → y || false ≡ false
+        differs true g = grind arith
+        differs false g = refl
+    apart false f = refl
+
+-- an identifier that is given up is not there, and the others are as they were
+has-without : (id i : ℕ) (ids : List ℕ) → has_id id (without_id i ids) ≡ not (id == i) && has_id id ids
+has-without id i [] = false-and (id == i)
+  where
+    false-and : (x : Bool) → false ≡ not x && false
+    false-and true = refl
+    false-and false = refl
+has-without id i (other ∷ others) = without-by id i other others (has-without id i others) (i == other) refl
+
+publish-by : (b : Bool) (delivery : Delivery) (id : ℕ) (ids : List ℕ)
+    → has_id id (if b then receives delivery ids else ids) ≡ newest (if b && brings id delivery then Some true else None) (has_id id ids)
+publish-by true (deliveries.ExactlyOnce dup i) id ids = has-with id i ids ∙ comes (id == i)
+  where
+    comes : (x : Bool) → x || has_id id ids ≡ newest (if x then Some true else None) (has_id id ids)
+    comes true = refl
+    comes false = refl
+publish-by true (deliveries.AtLeastOnce dup i) id ids = refl
+publish-by true deliveries.AtMostOnce id ids = refl
+publish-by false delivery id ids = refl
+
+pubrel-by : (b : Bool) (i id : ℕ) (ids : List ℕ)
+    → has_id id (if b then without_id i ids else ids) ≡ newest (if b && (id == i) then Some false else None) (has_id id ids)
+pubrel-by true i id ids = has-without id i ids ∙ goes (id == i)
+  where
+    goes : (x : Bool) → not x && has_id id ids ≡ newest (if x then Some false else None) (has_id id ids)
+    goes true = refl
+    goes false = refl
+pubrel-by false i id ids = refl
+
+word-by : (k : Command) (m : Mark) (c : Client) (id : ℕ) (ids : List ℕ) → has_id id (received_by k m c ids) ≡ newest (says_of k m c id) (has_id id ids)
+word-by (commands.Packet x (packets.Connect q)) m c id ids = refl
+word-by (commands.Packet x (packets.Connack q)) m c id ids = refl
+word-by (commands.Packet x (packets.Publish p)) Mark.NoPart c id ids = refl
+word-by (commands.Packet x (packets.Publish p)) Mark.Accepted c id ids = refl
+word-by (commands.Packet x (packets.Publish p)) Mark.Full c id ids = refl
+word-by (commands.Packet x (packets.Publish p)) (Mark.Leaves d) c id ids = refl
+word-by (commands.Packet x (packets.Publish p)) (Mark.Refused d) c id ids = refl
+word-by (commands.Packet x (packets.Publish p)) (Mark.Repeat d) c id ids = refl
+word-by (commands.Packet x (packets.Publish p)) (Mark.Taken d) c id ids = publish-by (same_client d c) p.delivery id ids
+word-by (commands.Packet x (packets.Publish p)) (Mark.Granted d which) c id ids = refl
+word-by (commands.Packet x (packets.Publish p)) (Mark.Handled d) c id ids = refl
+word-by (commands.Packet x (packets.Puback i)) m c id ids = refl
+word-by (commands.Packet x (packets.Pubrec i)) m c id ids = refl
+word-by (commands.Packet x (packets.Pubrel i)) Mark.NoPart c id ids = refl
+word-by (commands.Packet x (packets.Pubrel i)) Mark.Accepted c id ids = refl
+word-by (commands.Packet x (packets.Pubrel i)) Mark.Full c id ids = refl
+word-by (commands.Packet x (packets.Pubrel i)) (Mark.Leaves d) c id ids = refl
+word-by (commands.Packet x (packets.Pubrel i)) (Mark.Refused d) c id ids = refl
+word-by (commands.Packet x (packets.Pubrel i)) (Mark.Repeat d) c id ids = refl
+word-by (commands.Packet x (packets.Pubrel i)) (Mark.Taken d) c id ids = refl
+word-by (commands.Packet x (packets.Pubrel i)) (Mark.Granted d which) c id ids = refl
+word-by (commands.Packet x (packets.Pubrel i)) (Mark.Handled d) c id ids = pubrel-by (same_client d c) i id ids
+word-by (commands.Packet x (packets.Pubcomp i)) m c id ids = refl
+word-by (commands.Packet x (packets.Subscribe s)) m c id ids = refl
+word-by (commands.Packet x (packets.Suback q)) m c id ids = refl
+word-by (commands.Packet x (packets.Unsubscribe u)) m c id ids = refl
+word-by (commands.Packet x (packets.Unsuback i)) m c id ids = refl
+word-by (commands.Packet x packets.Pingreq) m c id ids = refl
+word-by (commands.Packet x packets.Pingresp) m c id ids = refl
+word-by (commands.Packet x packets.Disconnect) m c id ids = refl
+word-by (commands.Connect x d clean) m c id ids = refl
+word-by (commands.Lost x) m c id ids = refl
+word-by (commands.Start ballot) m c id ids = refl
+
+in-session : (session : Option Bool) (beginning : Bool) (id : ℕ) (ids : List ℕ) → has_id id (in_session session beginning [] ids) ≡ in_session session beginning false (has_id id ids)
+in-session (Some clean) true id ids = refl
+in-session (Some clean) false id ids = refl
+in-session None b id ids = refl
+
+pub repeat_is_unreleased : RepeatIsUnreleased
+unfolding received_of ends_in_publish
+repeat_is_unreleased [] c id = refl
+repeat_is_unreleased (place ∷ past) c id =
+    in-session (session_of (place ∷ past) c) (begins place past c) id (received_by place.command place.mark c (received_of past c))
+    ∙ ap (in_session (session_of (place ∷ past) c) (begins place past c) false)
+    (word-by place.command place.mark c id (received_of past c)
+    ∙ ap (newest (says_of place.command place.mark c id)) (repeat_is_unreleased past c id))
