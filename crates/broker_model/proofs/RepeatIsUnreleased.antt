@@ -11,65 +11,15 @@ use Rattle.broker_model.specs.Place.{Client, same_client, Mark}
 use Rattle.broker_model.specs.Past.{session_of, begins, in_session}
 use Rattle.lists.specs.Lists.{has_id}
 use Rattle.session_base.specs.Identifiers.{with_id, without_id}
+use Rattle.session_base.proofs.KeptIdentifiers.{has_with, has_without}
 use Rattle.broker_model.specs.Received.{receives, received_by, received_of}
 use Rattle.broker_model.specs.Laws.{brings, says_of, newest, ends_in_publish, RepeatIsUnreleased}
 use Rattle.broker_model.specs.declared.command.Command.{Command}
 use Rattle.broker_model.specs.declared.command.Command.TheVariants as commands
 
-same-number : (i j : ℕ) → (i == j) ≡ true → i ≡ j
-same-number i j e = grind arith
-
-swap-or : (x y z : Bool) → x || (y || z) ≡ y || (x || z)
-swap-or true true z = refl
-swap-or true false z = refl
-swap-or false y z = refl
-
-twice-or : (x y : Bool) → x || y ≡ x || (x || y)
-twice-or true y = refl
-twice-or false y = refl
-
-with-by : (id i other : ℕ) (others : List ℕ) → has_id id (with_id i others) ≡ (id == i) || has_id id others
-    → (o : Ordering) → nat_cmp i other ≡ o
-    → has_id id (match_ordering o (i ∷ other ∷ others) (other ∷ others) (other ∷ with_id i others)) ≡ (id == i) || ((id == other) || has_id id others)
-with-by id i other others ih Less e = refl
-with-by id i other others ih Equal e = rw (exact_unsigned i other e) (twice-or (id == other) (has_id id others))
-with-by id i other others ih Greater e = ap (λ z. (id == other) || z) ih ∙ swap-or (id == other) (id == i) (has_id id others)
-
--- an identifier that comes in is there, and the others are as they were
-has-with : (id i : ℕ) (ids : List ℕ) → has_id id (with_id i ids) ≡ (id == i) || has_id id ids
-has-with id i [] = refl
-has-with id i (other ∷ others) = with-by id i other others (has-with id i others) (nat_cmp i other) refl
-
-without-by : (id i other : ℕ) (others : List ℕ) → has_id id (without_id i others) ≡ not (id == i) && has_id id others
-    → (same : Bool) → (i == other) ≡ same
-    → has_id id (if not same then other ∷ without_id i others else without_id i others) ≡ not (id == i) && ((id == other) || has_id id others)
-without-by id i other others ih true e = rw (← same-number i other e) (ih ∙ gone (id == i) (has_id id others))
-  where
-    gone : (x y : Bool) → not x && y ≡ not x && (x || y)
-    gone true y = refl
-    gone false y = refl
-without-by id i other others ih false e = ap (λ z. (id == other) || z) ih ∙ apart (id == i) refl
-  where
-    apart : (x : Bool) → (id == i) ≡ x → (id == other) || (not x && has_id id others) ≡ not x && ((id == other) || has_id id others)
-    apart true f = differs (id == other) refl
-      where
-        differs : (y : Bool) → (id == other) ≡ y → y || false ≡ false
-        differs true g = grind arith
-        differs false g = refl
-    apart false f = refl
-
--- an identifier that is given up is not there, and the others are as they were
-has-without : (id i : ℕ) (ids : List ℕ) → has_id id (without_id i ids) ≡ not (id == i) && has_id id ids
-has-without id i [] = false-and (id == i)
-  where
-    false-and : (x : Bool) → false ≡ not x && false
-    false-and true = refl
-    false-and false = refl
-has-without id i (other ∷ others) = without-by id i other others (has-without id i others) (i == other) refl
-
 publish-by : (b : Bool) (delivery : Delivery) (id : ℕ) (ids : List ℕ)
     → has_id id (if b then receives delivery ids else ids) ≡ newest (if b && brings id delivery then Some true else None) (has_id id ids)
-publish-by true (deliveries.ExactlyOnce dup i) id ids = has-with id i ids ∙ comes (id == i)
+publish-by true (deliveries.ExactlyOnce dup i) id ids = has_with id i ids ∙ comes (id == i)
   where
     comes : (x : Bool) → x || has_id id ids ≡ newest (if x then Some true else None) (has_id id ids)
     comes true = refl
@@ -80,7 +30,7 @@ publish-by false delivery id ids = refl
 
 pubrel-by : (b : Bool) (i id : ℕ) (ids : List ℕ)
     → has_id id (if b then without_id i ids else ids) ≡ newest (if b && (id == i) then Some false else None) (has_id id ids)
-pubrel-by true i id ids = has-without id i ids ∙ goes (id == i)
+pubrel-by true i id ids = has_without id i ids ∙ goes (id == i)
   where
     goes : (x : Bool) → not x && has_id id ids ≡ newest (if x then Some false else None) (has_id id ids)
     goes true = refl

@@ -6,3 +6,4 @@ pub mod OrderInFlight
 pub mod CopiesOneByOne
 pub mod PubrecAlone
 pub mod IdentifiersStayApart
+pub mod KeptIdentifiers
