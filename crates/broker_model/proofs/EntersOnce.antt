@@ -51,7 +51,7 @@ times-answered : (n m : ℕ) (f : Entry → Entry) → Answering m f → (es : L
 times-answered n m f a [] = refl
 times-answered n m f a (e ∷ es) = ap (λ z. one_if z + times n (map f es)) (same-kind n m f a e) ∙ ap (λ z. one_if (is_from_publish n e) + z) (times-answered n m f a es)
 
-times-more : (n : ℕ) (es more : List Entry) → times n (es ++ more) ≡ times n es + times n more
+pub times-more : (n : ℕ) (es more : List Entry) → times n (es ++ more) ≡ times n es + times n more
 times-more n [] more = omega arith
 times-more n (e ∷ es) more = let h = times-more n es more in omega (arith, h)
 
@@ -68,7 +68,7 @@ times-start n w m busy (Entry.Started made p id start ∷ es) = ap (λ z. one_if
 times-start n w m busy (Entry.Released made p id start release ∷ es) = ap (λ z. one_if (is_from_publish n (Entry.Waits made p)) + z) (times-start n w m (id ∷ busy) es)
 times-start n w m busy (Entry.Finished made p id start release finish ∷ es) = ap (λ z. one_if (is_from_publish n (Entry.Waits made p)) + z) (times-start n w m busy es)
 
-times-started : (n w m : ℕ) (current : Option ConnectionName) (es : List Entry) → times n (started w m current es) ≡ times n es
+pub times-started : (n w m : ℕ) (current : Option ConnectionName) (es : List Entry) → times n (started w m current es) ≡ times n es
 times-started n w m None es = refl
 times-started n w m (Some x) es = times-start n w m [] es
 
@@ -167,7 +167,7 @@ abbrev pub MadeBelow : ℕ → List Entry → Type 0
 MadeBelow n [] = Unit {0}
 MadeBelow n (e ∷ es) = (made_of e < n) × MadeBelow n es
 
-none-yet : (n : ℕ) (es : List Entry) → MadeBelow n es → times n es ≡ 0
+pub none-yet : (n : ℕ) (es : List Entry) → MadeBelow n es → times n es ≡ 0
 none-yet n [] h = refl
 none-yet n (e ∷ es) h =
     let g = other-place (made_of e == n) (not (publication_in e).retain) (let l = h.0 in grind (arith, l)) in
@@ -267,7 +267,7 @@ count-by : (b : Bool) (e : Entry) (es : List Entry) (n : ℕ) → length es ≡ 
 count-by true e es n h = omega (arith, h)
 count-by false e es n h = omega (arith, h)
 
-count : (n : ℕ) (es : List Entry) → length (filter (is_from_publish n) es) ≡ times n es
+pub count : (n : ℕ) (es : List Entry) → length (filter (is_from_publish n) es) ≡ times n es
 count n [] = refl
 count n (e ∷ es) = count-by (is_from_publish n e) e (filter (is_from_publish n) es) (times n es) (count n es)
 

@@ -18,3 +18,4 @@ pub mod StartsWhereItMay
 pub mod TakenPublishAddsOne
 pub mod WaitingStays
 pub mod WhatFlightsAwait
+pub mod PublicationEnters

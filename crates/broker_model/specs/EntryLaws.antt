@@ -11,6 +11,7 @@ use Rattle.session_base.specs.Publication.{publication_of}
 use Rattle.broker_model.specs.Subscriptions.{effective_qos}
 use Rattle.broker_model.specs.Marks.{is_queued_at}
 use Rattle.broker_model.specs.Entries.{Entry, is_unfinished}
+use Rattle.broker_model.specs.OriginLaws.{is_from_publish}
 use Rattle.broker_model.specs.Times.{entries_of, window_at}
 use Rattle.broker_model.specs.declared.command.Command.TheVariants as commands
 
@@ -67,3 +68,10 @@ TakenPublishAddsOne =
     → is_some (session_of (taken x p d ∷ past) c) ≡ true
     → length (entries_of limits (taken x p d ∷ past) c)
     ≡ length (entries_of limits past c) + (if is_queued_at (effective_qos past c (publication_of p)) then 1 else 0)
+
+-- at the place where it is taken, a publication enters exactly the sessions with an effective QoS of 1 or 2, once (MQTT 3.3.5)
+abbrev pub PublicationEnters : Type 0
+PublicationEnters =
+    (limits : Limits) (past : Past) (x : ConnectionName) (p : Publish) (d c : Client)
+    → length (filter (is_from_publish (length past)) (entries_of limits (taken x p d ∷ past) c))
+    ≡ (if is_queued_at (effective_qos past c (publication_of p)) then 1 else 0)

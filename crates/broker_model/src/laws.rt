@@ -1,7 +1,7 @@
 // Laws of the definitions, each the contract of a function that does nothing.
 
 ghost use Rattle.broker_model.specs.Laws.{CurrentIsLastAccepted, FilterHasLastGranting, RepeatIsUnreleased};
-ghost use Rattle.broker_model.specs.EntryLaws.{NothingWaitsInVain, EntriesOnlyGrow, TakenPublishAddsOne};
+ghost use Rattle.broker_model.specs.EntryLaws.{NothingWaitsInVain, EntriesOnlyGrow, PublicationEnters, TakenPublishAddsOne};
 ghost use Rattle.broker_model.specs.IdentifierLaws.{IdentifiersAreDistinct, IdentifiersAreInTheWindow, IdentifiersAreTo16, StartedComeFirst};
 ghost use Rattle.broker_model.specs.OriginLaws.{EntersOnce};
 ghost use Rattle.broker_model.specs.QuietLaws.{PacketOfNobodyIsNothing, WindowIsSteady};
@@ -51,6 +51,12 @@ pub fn identifiers_are_distinct()
 /// (MQTT 3.3.5).
 pub fn taken_publish_adds_one()
     ensures { TakenPublishAddsOne }
+{}
+
+/// At the place where it is taken, a publication enters exactly the sessions with an effective QoS of
+/// 1 or 2, once each (MQTT 3.3.5).
+pub fn publication_enters()
+    ensures { PublicationEnters }
 {}
 
 /// A publication enters a session at most once, also where several filters match or it is sent

@@ -13,7 +13,8 @@ pub use connection_id::ConnectionId;
 pub use laws::{
     answers_are_addressed, current_is_last_accepted, enters_once, entries_only_grow,
     filter_has_last_granting, identifiers_are_distinct, nothing_waits_in_vain,
-    packet_of_nobody_is_nothing, repeat_is_unreleased, starts_where_it_may, taken_publish_adds_one,
+    packet_of_nobody_is_nothing, publication_enters, repeat_is_unreleased, starts_where_it_may,
+    taken_publish_adds_one,
 };
 pub use rows::{
     a_full_queue_keeps_the_order, a_repeat_before_pubrel, a_second_connection_takes_over,
