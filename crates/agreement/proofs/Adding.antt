@@ -25,4 +25,5 @@ adds_less rules w h n adds more o f keeps given thinned =
       sound = g.sound;
       ballots = g.ballots;
       added = λ b k e. line_less adds more h b k f (g.added b k e);
+      tells = g.tells;
     }

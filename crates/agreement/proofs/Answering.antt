@@ -17,7 +17,7 @@ use Rattle.agreement.specs.Moves.{Moves, with_lines}
 use Rattle.agreement.specs.Sound.{IsSoundNode, IsSound}
 use Rattle.lists.proofs.Beginnings.{prefix_length}
 use Rattle.agreement.proofs.Effects.{thinned_messages}
-use Rattle.agreement.proofs.Framing.{within_of, move_extends}
+use Rattle.agreement.proofs.Framing.{tells_here, within_of, move_extends}
 use Rattle.agreement.proofs.Installs.{InstallHeard, Sends, install_heard, installed_sends, installed_says, install_taken}
 use Rattle.agreement.proofs.Later.{told_kept, applied_kept, of_kept}
 use Rattle.agreement.proofs.Leaving.{left_same}
@@ -97,6 +97,7 @@ install_answered {S = S} {C = C} {O = O} rules w h n r from b log s stands q joi
       active = λ c j. j;
       ballots = refl;
       added = λ b k e. as_it_was e;
+      tells = λ m b k t. tells_here w h h.line n r r given moves m b k t;
       sound = move_sound rules w h h.line n r r given s moves (same_node w h n r given moves (within_of rules w h s) t)
           (λ to m i. installed_says w (moved w n r given) h (with_lines h h.line) n from b r.id log q t.id
           (move_extends w h h.line n r r given moves) to m (thinned_messages thinned (to, m) i))

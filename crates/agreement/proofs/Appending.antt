@@ -21,7 +21,7 @@ use Rattle.agreement.specs.Sound.{Says, IsSoundNode, IsSound}
 use Rattle.lists.proofs.Beginnings.{prefix_same, prefix_then, prefix_push, prefix_next, prefix_length, take_prefix}
 use Rattle.agreement.proofs.Effects.{thinned_messages, thinned_outputs}
 use Rattle.agreement.proofs.Committing.{Follows, follows_is}
-use Rattle.agreement.proofs.Framing.{within_of, move_extends}
+use Rattle.agreement.proofs.Framing.{tells_here, within_of, move_extends}
 use Rattle.agreement.proofs.Later.{applied_kept}
 use Rattle.agreement.proofs.Leaving.{left_same}
 use Rattle.agreement.proofs.Moved.{move_sound}
@@ -70,6 +70,7 @@ append_taken {S = S} {C = C} {O = O} rules w h n r from b place c s stands (q, i
       active = λ c j. j;
       ballots = refl;
       added = λ b k e. as_it_was e;
+      tells = λ m b k t. tells_here w h h.line n r new given moves m b k t;
       sound = move_sound rules w h h.line n r new given s moves node
           (λ to m i. says to m (thinned_messages thinned (to, m) i))
           (left_same rules w h h.line n r new given moves (thinned_outputs thinned) s.left);

@@ -11,7 +11,7 @@ use Rattle.agreement.specs.Keeps.{GoesOn}
 use Rattle.agreement.specs.MasterState.{MasterState, MasterOutcome, IsMaster, assigned, tells_from_master}
 use Rattle.agreement.specs.Moves.{given_at}
 use Rattle.agreement.specs.Sound.{IsSound}
-use Rattle.agreement.proofs.MasterMoves.{with_ballots, chain_more, master_goes_on, master_lost}
+use Rattle.agreement.proofs.MasterMoves.{ToldBack, with_ballots, chain_more, master_goes_on, master_lost}
 use Rattle.agreement.proofs.Taking.{chain_falls}
 
 -- the ballot that was given, and the others
@@ -36,6 +36,16 @@ pub at_most_newest : {C : Type 0} (h : History C) (b : ℕ) (older : List ℕ) �
 at_most_newest h b older chain c here = omega arith
 at_most_newest h b older chain c (there i) = let z = chain_falls h b older chain c i in omega (arith, z)
 
+-- a ballot was given before, or waits now with this configuration
+abbrev pub GivenNow : {C : Type 0} → History C → MasterState → History C → Type 0
+GivenNow h k i =
+    (b : ℕ) (g : Given) → i.given b ≡ Some g →
+    (h.given b ≡ Some g) ⊎ ((config : Config) × (k.waiting ≡ Some (b, config)) × (g.members ≡ config.members) × (g.primary ≡ config.primary))
+
+-- a ballot was activated before, or is the active one now
+abbrev pub ActivatedNow : {C : Type 0} → History C → MasterState → History C → Type 0
+ActivatedNow h k i = (b : ℕ) → In b i.activated → In b h.activated ⊎ (k.active ≡ b)
+
 -- the master has given a ballot, and tells its primary
 pub record Assigned {S C O : Type 0} (rules : Rules S C O) (m : MasterState) (w : World S C O) (h : History C) (o : MasterOutcome C) : Type 0 where
   pub goes_on : GoesOn rules w h (tells_from_master w o)
@@ -46,6 +56,13 @@ pub record Assigned {S C O : Type 0} (rules : Rules S C O) (m : MasterState) (w 
   pub lost : GoesOn rules w h w
   pub lost_master : IsMaster o.state lost.history
   pub lost_lists : lost.history.line ≡ h.line
+  -- nothing more is told, and what is given or activated anew stands in the master's fields
+  pub told : ToldBack w h (tells_from_master w o) goes_on.history
+  pub gives : GivenNow h o.state goes_on.history
+  pub activates : ActivatedNow h o.state goes_on.history
+  pub lost_told : ToldBack w h w lost.history
+  pub lost_gives : GivenNow h o.state lost.history
+  pub lost_activates : ActivatedNow h o.state lost.history
 
 -- a configuration whose primary is a member is given a ballot
 pub assign_goes_on : {S C O : Type 0} (rules : Rules S C O) (m : MasterState) (w : World S C O) (h : History C) (config : Config) →
@@ -58,10 +75,23 @@ assign_goes_on {S = S} {C = C} {O = O} rules m w h config s k member =
       lost = record { history = with_ballots h given h.activated; extends = gone.1; active = λ c j. j; sound = gone.0 };
       lost_master = is_master;
       lost_lists = refl;
+      told = whole.2;
+      gives = λ b g e. given_now b g (given_cases (m.given + 1) new h.given b g e);
+      activates = λ b j. inl j;
+      lost_told = gone.2;
+      lost_gives = λ b g e. given_now b g (given_cases (m.given + 1) new h.given b g e);
+      lost_activates = λ b j. inl j;
     }
   where
     new : Given
     new = record { members = config.members; primary = config.primary; previous = m.active }
+
+    given_now : (b : ℕ) (g : Given) → ((b ≡ m.given + 1) × (new ≡ g)) ⊎ (h.given b ≡ Some g) →
+        (h.given b ≡ Some g) ⊎ ((c : Config) × (◌≡◌ {A = Option (ℕ × Config)} (Some (m.given + 1, config)) (Some (b, c)))
+        × (g.members ≡ c.members) × (g.primary ≡ c.primary))
+    given_now b g (inr e) = inl e
+    given_now b g (inl (same, e)) =
+        inr (config, ap (λ x. Some (x, config)) (sym same), sym (ap (λ (y : Given). y.members) e), sym (ap (λ (y : Given). y.primary) e))
 
     given : ℕ → Option Given
     given = given_at (m.given + 1) new h.given
@@ -147,11 +177,13 @@ assign_goes_on {S = S} {C = C} {O = O} rules m w h config s k member =
 
     gone : IsSound rules w (with_ballots h (given_at (m.given + 1) new h.given) h.activated)
         × Extends w h w (with_ballots h (given_at (m.given + 1) new h.given) h.activated)
+        × ToldBack w h w (with_ballots h (given_at (m.given + 1) new h.given) h.activated)
     gone = master_lost rules w h (given_at (m.given + 1) new h.given) h.activated s more
         (λ c g e. (numbered c g e).0) (λ c j. j) ballots s.lines.told
 
     whole : IsSound rules (tells_from_master w (assigned C m config)) (with_ballots h (given_at (m.given + 1) new h.given) h.activated)
         × Extends w h (tells_from_master w (assigned C m config)) (with_ballots h (given_at (m.given + 1) new h.given) h.activated)
+        × ToldBack w h (tells_from_master w (assigned C m config)) (with_ballots h (given_at (m.given + 1) new h.given) h.activated)
     whole = master_goes_on rules w h (assigned C m config) (given_at (m.given + 1) new h.given) h.activated s tt more
         (λ c g e. (numbered c g e).0) (λ c j. j) ballots s.lines.told (
           new,

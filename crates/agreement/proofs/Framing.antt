@@ -7,7 +7,7 @@ use Rattle.ballot.specs.Effect.{Effect}
 use Rattle.ballot.specs.Replica.{ReplicaState}
 use Rattle.agreement.specs.World.{World, messages, moved}
 use Rattle.lists.specs.Lists.{In, IsPrefixOf}
-use Rattle.agreement.specs.Ballots.{Given, Line, History, Told, IsChosenIn, Sealed, AreLines, Extends, IsWithin}
+use Rattle.agreement.specs.Ballots.{TellsHere, Given, Line, History, Told, IsChosenIn, Sealed, AreLines, Extends, IsWithin}
 use Rattle.agreement.specs.Moves.{Moves, with_lines, LineGoesOn, TellsNow}
 use Rattle.agreement.specs.Moves.LineGoesOn.{stays, grows, begins}
 use Rattle.agreement.specs.Sound.{IsSound}
@@ -145,3 +145,14 @@ move_lines {S = S} {C = C} {O = O} w h line n old new given q within s =
     still b k (stays e) = s.still b k e
     still b k (grows l e same more active) = inl active
     still b k (begins g none same given t p) = inr same
+
+-- what is newly told behind a move is told by the node that moved
+pub tells_here : {S C O : Type 0} (w : World S C O) (h : History C) (line : ℕ → Option (Line C)) (n : ℕ)
+    (old new : ReplicaState S C) (given : List (Effect C O)) → Moves w h line n old new given → (m b k : ℕ) →
+    Told (moved w n new given) (with_lines h line) m b k → Told w h m b k ⊎ TellsHere (moved w n new given) m b k
+tells_here {S = S} {C = C} {O = O} w h line n old new given q m b k t = by_teller (q.tells m b k t)
+  where
+    by_teller : Told w h m b k ⊎ ((m ≡ n + 1) × TellsNow line old new b k) → Told w h m b k ⊎ TellsHere (moved w n new given) m b k
+    by_teller (inl before) = inl before
+    by_teller (inr (one, l)) =
+        inr (record { node = n; replica = new; number = one; stands = get_set w.nodes n old new q.stands; held = l.held; short = l.short })

@@ -21,7 +21,7 @@ use Rattle.agreement.specs.Moves.{Moves, with_lines}
 use Rattle.agreement.specs.Sound.{Says, IsOf, IsSoundNode, IsSound}
 use Rattle.lists.proofs.Beginnings.{prefix_same, prefix_length, take_prefix}
 use Rattle.agreement.proofs.Effects.{thinned_messages, thinned_outputs}
-use Rattle.agreement.proofs.Framing.{within_of, move_extends}
+use Rattle.agreement.proofs.Framing.{tells_here, within_of, move_extends}
 use Rattle.agreement.proofs.Later.{applied_kept, of_kept}
 use Rattle.agreement.proofs.Leaving.{left_same}
 use Rattle.agreement.proofs.Moved.{move_sound}
@@ -115,6 +115,7 @@ install_taken {S = S} {C = C} {O = O} rules w h n r from b log s stands q low be
       active = λ c j. j;
       ballots = refl;
       added = λ b k e. as_it_was e;
+      tells = λ m b k t. tells_here w h h.line n r new given moves m b k t;
       sound = move_sound rules w h h.line n r new given s moves node
           (λ to m i. installed_says w (moved w n new given) h (with_lines h h.line) n from b r.id log q t.id
           (move_extends w h h.line n r new given moves) to m (thinned_messages thinned (to, m) i))

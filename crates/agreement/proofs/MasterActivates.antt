@@ -13,7 +13,7 @@ use Rattle.agreement.specs.MasterState.{MasterState, MasterOutcome, IsMaster, an
 use Rattle.agreement.specs.Sound.{Says, IsSound}
 use Rattle.agreement.proofs.Assigning.{Assigned}
 use Rattle.agreement.proofs.Joining.{IsSilent}
-use Rattle.agreement.proofs.MasterMoves.{with_ballots, chain_more, master_goes_on, master_lost}
+use Rattle.agreement.proofs.MasterMoves.{ToldBack, with_ballots, chain_more, master_goes_on, master_lost}
 
 -- a ballot that does not wait is answered
 answer_goes_on : {S C O : Type 0} (rules : Rules S C O) (m : MasterState) (w : World S C O) (h : History C) (b from : ℕ) →
@@ -26,6 +26,12 @@ answer_goes_on {S = S} {C = C} {O = O} rules m w h b from s k (g, is_of, sender,
       lost = record { history = h; extends = gone.1; active = λ c j. j; sound = gone.0 };
       lost_master = k;
       lost_lists = refl;
+      told = whole.2;
+      gives = λ c x e. inl e;
+      activates = λ c j. inl j;
+      lost_told = gone.2;
+      lost_gives = λ c x e. inl e;
+      lost_activates = λ c j. inl j;
     }
   where
     silent : (t : Bool) → IsSilent {C = C} (cond t (Activated b) (Superseded b))
@@ -41,10 +47,11 @@ answer_goes_on {S = S} {C = C} {O = O} rules m w h b from s k (g, is_of, sender,
     )
     says false e = (g, is_of.given, sender)
 
-    gone : IsSound rules w h × Extends w h w h
+    gone : IsSound rules w h × Extends w h w h × ToldBack w h w h
     gone = master_lost rules w h h.given h.activated s (λ c x e. e) (λ c x e. (k.numbered c x e).0) (λ c j. j) s.ballots s.lines.told
 
     whole : IsSound rules (tells_from_master w (answer C m b from)) h × Extends w h (tells_from_master w (answer C m b from)) h
+        × ToldBack w h (tells_from_master w (answer C m b from)) h
     whole = master_goes_on rules w h (answer C m b from) h.given h.activated s (silent (b == m.active)) (λ c x e. e)
         (λ c x e. (k.numbered c x e).0) (λ c j. j) s.ballots s.lines.told (says (b == m.active) refl)
 
@@ -64,8 +71,18 @@ waiting_goes_on {S = S} {C = C} {O = O} rules m w h b from config s k (g, is_of,
       lost = record { history = with_ballots h h.given (b ∷ h.activated); extends = gone.1; active = λ c j. there j; sound = gone.0 };
       lost_master = is_master;
       lost_lists = refl;
+      told = whole.2;
+      gives = λ c y e. inl e;
+      activates = λ c j. activated_now c j;
+      lost_told = gone.2;
+      lost_gives = λ c y e. inl e;
+      lost_activates = λ c j. activated_now c j;
     }
   where
+    activated_now : (c : ℕ) → In c (b ∷ h.activated) → In c h.activated ⊎ (b ≡ c)
+    activated_now c here = inr refl
+    activated_now c (there j) = inl j
+
     x : (b ≡ m.given) × (m.active < b) × ((y : Given) × (h.given b ≡ Some y) × (y.previous ≡ m.active)
         × (y.members ≡ config.members) × (y.primary ≡ config.primary))
     x = k.waits b config waits
@@ -120,10 +137,12 @@ waiting_goes_on {S = S} {C = C} {O = O} rules m w h b from config s k (g, is_of,
     }
 
     gone : IsSound rules w (with_ballots h h.given (b ∷ h.activated)) × Extends w h w (with_ballots h h.given (b ∷ h.activated))
+        × ToldBack w h w (with_ballots h h.given (b ∷ h.activated))
     gone = master_lost rules w h h.given (b ∷ h.activated) s (λ c y e. e) (λ c y e. (k.numbered c y e).0) (λ c j. there j) ballots told
 
     whole : IsSound rules (tells_from_master w outcome) (with_ballots h h.given (b ∷ h.activated))
         × Extends w h (tells_from_master w outcome) (with_ballots h h.given (b ∷ h.activated))
+        × ToldBack w h (tells_from_master w outcome) (with_ballots h h.given (b ∷ h.activated))
     whole = master_goes_on rules w h outcome h.given (b ∷ h.activated) s tt (λ c y e. e) (λ c y e. (k.numbered c y e).0) (λ c j. there j) ballots told
         (g, is_of.given, sender, here)
 

@@ -37,6 +37,10 @@ chain_has_one h [] c = absurd c
 chain_has_one h (b ∷ []) c = subst (λ x. In 1 (x ∷ [])) (sym c) here
 chain_has_one h (b ∷ (p ∷ older)) c = there (chain_has_one h (p ∷ older) c.1)
 
+-- nothing more is told
+abbrev pub ToldBack : {S C O : Type 0} → World S C O → History C → World S C O → History C → Type 0
+ToldBack w h v i = (m b k : ℕ) → Told v i m b k → Told w h m b k
+
 -- messages of the master, perhaps none
 pub master_sends : {S C O : Type 0} (rules : Rules S C O) (w : World S C O) (h : History C) (extra : List (ℕ × Message C))
     (given : ℕ → Option Given) (activated : List ℕ) → IsSound rules w h → AreSilent extra →
@@ -48,6 +52,7 @@ pub master_sends : {S C O : Type 0} (rules : Rules S C O) (w : World S C O) (h :
     Says (record w { sent = w.sent ++ extra }) (with_ballots h given activated) to m.from m.body) →
     IsSound rules (record w { sent = w.sent ++ extra }) (with_ballots h given activated)
     × Extends w h (record w { sent = w.sent ++ extra }) (with_ballots h given activated)
+    × ToldBack w h (record w { sent = w.sent ++ extra }) (with_ballots h given activated)
 master_sends {S = S} {C = C} {O = O} rules w h extra given activated s silent more positive active ballots told says = (
   record {
     ballots = ballots;
@@ -73,6 +78,7 @@ master_sends {S = S} {C = C} {O = O} rules w h extra given activated s silent mo
     };
   },
   extends,
+  told_back,
 )
   where
     v : World S C O
@@ -142,6 +148,7 @@ pub master_goes_on : {S C O : Type 0} (rules : Rules S C O) (w : World S C O) (h
     Says (tells_from_master w o) (with_ballots h given activated) o.receiver 0 o.body →
     IsSound rules (tells_from_master w o) (with_ballots h given activated)
     × Extends w h (tells_from_master w o) (with_ballots h given activated)
+    × ToldBack w h (tells_from_master w o) (with_ballots h given activated)
 master_goes_on {S = S} {C = C} rules w h o given activated s silent more positive active ballots told says =
     master_sends rules w h ((o.receiver, record { from = 0; body = o.body }) ∷ []) given activated s by_silent more positive active ballots told by_says
   where
@@ -162,7 +169,9 @@ pub master_lost : {S C O : Type 0} (rules : Rules S C O) (w : World S C O) (h : 
     ((c : ℕ) → In c h.activated → In c activated) → AreBallots (with_ballots h given activated) →
     ((c : ℕ) → In c activated → (l : Line C) × (h.line c ≡ Some l) × IsChosenIn w h c (length l.base)) →
     IsSound rules w (with_ballots h given activated) × Extends w h w (with_ballots h given activated)
+    × ToldBack w h w (with_ballots h given activated)
 master_lost {S = S} {C = C} {O = O} rules w h given activated s more positive active ballots told =
     subst (λ (us : List (ℕ × Message C)). IsSound rules (record w { sent = us }) (with_ballots h given activated)
-    × Extends w h (record w { sent = us }) (with_ballots h given activated)) (append-nil w.sent)
+    × Extends w h (record w { sent = us }) (with_ballots h given activated)
+    × ToldBack w h (record w { sent = us }) (with_ballots h given activated)) (append-nil w.sent)
     (master_sends rules w h [] given activated s (λ to m i. elim i [ ]) more positive active ballots told (λ to m i. elim i [ ]))

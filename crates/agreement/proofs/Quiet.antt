@@ -1,5 +1,5 @@
 -- Quiet.antt: steps that tell nothing and give no output, steps that do nothing, and a node that stops.
-use Rattle.std.proofs.Common.{◌≡◌, ℕ, ◌≤◌, List, [], Some, refl, sym, ◌∙◌, subst, arith}
+use Rattle.std.proofs.Common.{inl, ◌≡◌, ℕ, ◌≤◌, List, [], Some, refl, sym, ◌∙◌, subst, arith}
 use Rattle.std.specs.Prelude.{slice_get}
 use Rattle.machine.specs.Machine.{Rules}
 use Rattle.ballot.specs.Message.{Message}
@@ -16,7 +16,7 @@ use Rattle.agreement.specs.Keeps.{Keeps}
 use Rattle.agreement.specs.Sound.{Says, IsSoundNode, IsSound}
 use Rattle.agreement.proofs.Effects.{thinned_outputs, thinned_messages}
 use Rattle.agreement.proofs.Framing.{within_of}
-use Rattle.agreement.proofs.Joining.{AreSilent, MovesQuietly, quiet_extends, quiet_node}
+use Rattle.agreement.proofs.Joining.{told_back, AreSilent, MovesQuietly, quiet_extends, quiet_node}
 use Rattle.agreement.proofs.QuietWorlds.{quiet_sound}
 
 -- the node of a quiet step before it, seen in the world behind it
@@ -40,6 +40,7 @@ quiet_keeps {S = S} {C = C} {O = O} rules w h n old o s stands rises committed s
       active = λ b i. i;
       ballots = refl;
       added = λ b k e. as_it_was e;
+      tells = λ m b k t. inl (told_back w h n old o.state given moves m b k t);
       sound = quiet_sound rules w h n old o.state given s (within_of rules w h s) moves (node given moves)
           (λ to m i. says given moves to m (thinned_messages thinned (to, m) i));
     }

@@ -23,7 +23,7 @@ use Rattle.agreement.specs.Sound.{Says, IsActive, IsSoundNode, IsSound}
 use Rattle.lists.proofs.Members.{in_append}
 use Rattle.agreement.proofs.Effects.{messages-append, outputs-append, outputs_of_messages, thinned_messages, thinned_outputs}
 use Rattle.agreement.proofs.ActiveTicks.{said_to_progress, active_chosen, active_log, followed_other}
-use Rattle.agreement.proofs.Framing.{move_extends}
+use Rattle.agreement.proofs.Framing.{tells_here, move_extends}
 use Rattle.agreement.proofs.Giving.{left_more}
 use Rattle.agreement.proofs.Joining.{IsSilent}
 use Rattle.agreement.proofs.Later.{takes}
@@ -100,6 +100,7 @@ ready_keeps {S = S} {C = C} {O = O} rules w h line n old r adds firsts s q dumb 
           active = λ c j. j;
           ballots = refl;
           added = q.added;
+          tells = λ m b j t. tells_here w h line n old r given moves m b j t;
           sound = move_sound rules w h line n old r given s moves (q.node r.committed r.machine given moves)
               (λ to m i. says r.committed r.machine given moves to m
               (subst (λ (us : List (Effect C O)). In (to, m) (messages us)) (append-nil firsts) (thinned_messages thinned (to, m) i)))
@@ -119,6 +120,7 @@ ready_keeps {S = S} {C = C} {O = O} rules w h line n old r adds firsts s q dumb 
           active = λ c j. j;
           ballots = refl;
           added = q.added;
+          tells = λ m b j t. tells_here w h line n old new given moves m b j t;
           sound = move_sound rules w h line n old new given s moves
               (committed_node rules (moved w n new given) (with_lines h line) n r (q.node k new.machine given moves) q.role k (omega (arith, above)) within followed)
               (λ to m i. by_part to m (split to m (thinned_messages thinned (to, m) i)))

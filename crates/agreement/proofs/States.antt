@@ -20,7 +20,7 @@ use Rattle.agreement.specs.Moves.LineGoesOn.{begins}
 use Rattle.agreement.specs.Sound.{IsInstalling, IsSoundNode, IsSound}
 use Rattle.lists.proofs.Beginnings.{prefix_same}
 use Rattle.agreement.proofs.Effects.{thinned_messages, thinned_outputs}
-use Rattle.agreement.proofs.Framing.{within_of, move_extends}
+use Rattle.agreement.proofs.Framing.{tells_here, within_of, move_extends}
 use Rattle.agreement.proofs.Installings.{in_others, others_in, not_others}
 use Rattle.agreement.proofs.Installs.{same_front}
 use Rattle.agreement.proofs.Later.{applied_kept, of_kept}
@@ -49,6 +49,7 @@ state_taken {S = S} {C = C} {O = O} rules w h n r xs s stands q long given thinn
       active = λ c j. j;
       ballots = refl;
       added = λ b k e. by_line b k (lined_cases r.joined begun h.line b k e);
+      tells = λ m b k t. tells_here w h line n r new given moves m b k t;
       sound = move_sound rules w h line n r new given s moves node
           (λ to m i. says_installs v (with_lines h line) n new t.id installing (others r.id r.members) refl to m
           (thinned_messages thinned (to, m) i))

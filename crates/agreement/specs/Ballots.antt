@@ -33,6 +33,15 @@ pub data Told {S C O : Type 0} (w : World S C O) (h : History C) (m b k : ℕ) :
   told_as_primary : (g : Given) (l : Line C) → h.given b ≡ Some g → g.primary ≡ m →
       h.line b ≡ Some l → k ≤ length l.list → Told w h m b k
 
+-- a node tells of the ballot in which it holds its log, and no more than its log has
+pub record TellsHere {S C O : Type 0} (v : World S C O) (m b k : ℕ) : Type 0 where
+  pub node : ℕ
+  pub replica : ReplicaState S C
+  pub number : m ≡ node + 1
+  pub stands : slice_get v.nodes node ≡ Some replica
+  pub held : b ≡ replica.held_in
+  pub short : k ≤ length replica.log
+
 -- every member of the ballot has told k places
 abbrev pub IsChosenIn : {S C O : Type 0} → World S C O → History C → ℕ → ℕ → Type 0
 IsChosenIn w h b k = (g : Given) × (h.given b ≡ Some g) × ((m : ℕ) → In m g.members → Told w h m b k)

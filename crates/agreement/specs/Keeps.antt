@@ -1,12 +1,12 @@
 -- Keeps.antt: a world goes on soundly, and so it does behind an outcome of a node, with messages missing or not.
-use Rattle.std.specs.Prelude.{ℕ, ◌≡◌, List, [], ◌∷◌, ◌++◌, Some, None}
+use Rattle.std.specs.Prelude.{◌⊎◌, ℕ, ◌≡◌, List, [], ◌∷◌, ◌++◌, Some, None}
 use Rattle.machine.specs.Machine.{Rules}
 use Rattle.ballot.specs.Effect.{Effect}
 use Rattle.ballot.specs.Losses.{Thinned}
 use Rattle.ballot.specs.Sending.{Outcome}
 use Rattle.agreement.specs.World.{World, moved}
 use Rattle.lists.specs.Lists.{In, IsPrefixOf}
-use Rattle.agreement.specs.Ballots.{Given, Line, History, Extends}
+use Rattle.agreement.specs.Ballots.{Told, TellsHere, Given, Line, History, Extends}
 use Rattle.agreement.specs.Moves.{with_lines}
 use Rattle.agreement.specs.Sound.{IsSound}
 
@@ -33,6 +33,8 @@ pub record NodeGoesOn {S C O : Type 0} (rules : Rules S C O) (w : World S C O) (
   pub sound : IsSound rules v history
   pub ballots : history ≡ with_lines h history.line
   pub added : (b : ℕ) (k : Line C) → history.line b ≡ Some k → LineAdds adds h b k
+  -- what is told was told before, or is told now by a node that holds it
+  pub tells : (m b k : ℕ) → Told v history m b k → Told w h m b k ⊎ TellsHere v m b k
 
 -- whichever of its messages are lost, the outcome of a node's step is sound, and adds no more than it may
 abbrev pub KeepsAdding : {S C O : Type 0} → Rules S C O → World S C O → History C → ℕ → (ℕ → C → Type 0) → Outcome S C O → Type 0
