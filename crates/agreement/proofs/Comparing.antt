@@ -38,7 +38,7 @@ chosen_either {S = S} {C = C} rules w h b d k j l m s x y e f c g = by_order (ca
         (subst (λ (u : Line C). IsPrefixOf (take k l.list) u.list) one (prefix_take k l.list)) (prefix_take j m.list)
 
 -- two beginnings of one list, the shorter first
-front_of_longer : {X : Type 0} (xs ys zs : List X) → IsPrefixOf xs zs → IsPrefixOf ys zs → length xs ≤ length ys → IsPrefixOf xs ys
+pub front_of_longer : {X : Type 0} (xs ys zs : List X) → IsPrefixOf xs zs → IsPrefixOf ys zs → length xs ≤ length ys → IsPrefixOf xs ys
 front_of_longer {X = X} xs ys zs p q short =
     subst (λ (us : List X). IsPrefixOf us ys) (sym (take_prefix (length xs) q short) ∙ sym (whole (length xs) xs zs p refl))
     (prefix_take (length xs) ys)

@@ -12,11 +12,11 @@ pub mod Assigns
 pub mod Begins
 pub mod Committing
 pub mod Comparing
+pub mod Effects
 pub mod EqualLists
 pub mod Framing
 pub mod Giving
 pub mod Going
-pub mod GroupServes
 pub mod Growing
 pub mod Holding
 pub mod Installings
@@ -28,7 +28,6 @@ pub mod LawfulConfigs
 pub mod Leading
 pub mod Leaving
 pub mod Lining
-pub mod Effects
 pub mod LongActive
 pub mod Losing
 pub mod MasterActivates
@@ -38,11 +37,15 @@ pub mod MostTold
 pub mod Moved
 pub mod NewBallots
 pub mod OpeningNodes
+pub mod OpeningServes
 pub mod OpeningWorlds
 pub mod Others
 pub mod Outputs
 pub mod OwnSteps
 pub mod Owning
+pub mod PastAgrees
+pub mod PastGrows
+pub mod PastKnown
 pub mod Proposing
 pub mod Quiet
 pub mod QuietWorlds

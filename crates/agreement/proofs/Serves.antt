@@ -1,5 +1,5 @@
 -- Serves.antt: in a group whose master answers each Assign, some member of the active ballot is a node that holds the agreed list.
-use Rattle.std.proofs.Common.{◌≡◌, ℕ, zero, suc, ◌+◌, ◌<◌, List, [], ◌∷◌, length, Some, None, Option, refl, sym, subst, arith}
+use Rattle.std.proofs.Common.{◌⊎◌, inl, inr, ◌≡◌, ℕ, zero, suc, ◌+◌, ◌<◌, List, [], ◌∷◌, length, Some, None, Option, refl, sym, subst, arith}
 use Rattle.std.specs.Prelude.{slice_get}
 use Rattle.std.proofs.lemmas.List.{length-set}
 use Rattle.ballot.specs.Losses.{halted}
@@ -11,7 +11,7 @@ use Rattle.agreement.specs.Assign.{AssignRefusal, refusal, master_behind, world_
 use Rattle.agreement.specs.Assign.ServingStep.{serving_takes, serving_stops, serving_assigns, serving_hears, serving_assigns_unheard, serving_hears_unanswered}
 use Rattle.agreement.specs.Assign.ServingRun.{serving_ends, serving_goes_on}
 use Rattle.agreement.specs.Ballots.{Given, History}
-use Rattle.agreement.specs.GroupSteps.{GroupRun}
+use Rattle.agreement.specs.GroupSteps.{GroupStep, GroupRun}
 use Rattle.agreement.specs.GroupSteps.GroupStep.{takes, stops, assigns, hears, assigns_unheard, hears_unanswered}
 use Rattle.agreement.specs.GroupSteps.GroupRun.{ends, goes_on}
 use Rattle.agreement.specs.MasterState.{MasterState, IsMaster}
@@ -39,13 +39,33 @@ behind_step {S = S} {C = C} rules m w k l v u (serving_assigns_unheard config) r
     by_refusal (Some why) e run = run
     by_refusal None e run = goes_on (assigns_unheard config (can_open_is (length w.nodes) config (not_refused (length w.nodes) m config e).0).0) run
 
+-- a step of such a group changes nothing, or is one of the group
+pub one_step : {S C O : Type 0} (rules : Rules S C O) (m : MasterState) (w : World S C O) (k : MasterState) (v : World S C O) → ServingStep rules m w k v →
+    ((k ≡ m) × (v ≡ w)) ⊎ GroupStep rules m w k v
+one_step rules m w k v (serving_takes n r input stands runs may loses) = inr (takes n r input stands runs may loses)
+one_step rules m w k v (serving_stops n r stands) = inr (stops n r stands)
+one_step rules m w k v (serving_hears from b sent) = inr (hears from b sent)
+one_step rules m w k v (serving_hears_unanswered from b sent) = inr (hears_unanswered from b sent)
+one_step {S = S} {C = C} {O = O} rules m w k v (serving_assigns config) = by_refusal (refusal (length w.nodes) m config) refl
+  where
+    by_refusal : (o : Option AssignRefusal) → refusal (length w.nodes) m config ≡ o →
+        ((master_behind C m config o ≡ m) × (world_behind m w config o ≡ w)) ⊎ GroupStep rules m w (master_behind C m config o) (world_behind m w config o)
+    by_refusal (Some why) e = inl (refl, refl)
+    by_refusal None e = inr (assigns config (can_open_is (length w.nodes) config (not_refused (length w.nodes) m config e).0).0)
+one_step {S = S} {C = C} {O = O} rules m w k v (serving_assigns_unheard config) = by_refusal (refusal (length w.nodes) m config) refl
+  where
+    by_refusal : (o : Option AssignRefusal) → refusal (length w.nodes) m config ≡ o →
+        ((master_behind C m config o ≡ m) × (w ≡ w)) ⊎ GroupStep rules m w (master_behind C m config o) w
+    by_refusal (Some why) e = inl (refl, refl)
+    by_refusal None e = inr (assigns_unheard config (can_open_is (length w.nodes) config (not_refused (length w.nodes) m config e).0).0)
+
 -- such a run is one of the group
 pub serving_run : {S C O : Type 0} (rules : Rules S C O) (m k : MasterState) (w v : World S C O) → ServingRun rules m w k v → GroupRun rules m w k v
 serving_run rules m k w v serving_ends = ends
 serving_run rules m k w v (serving_goes_on step run) = behind_step rules m w _ k _ v step (serving_run rules _ k _ v run)
 
 -- a step keeps how many nodes there are, and that members are nodes
-serving_step : {S C O : Type 0} (rules : Rules S C O) (m : MasterState) (w : World S C O) (k : MasterState) (v : World S C O) → ServingStep rules m w k v →
+pub serving_step : {S C O : Type 0} (rules : Rules S C O) (m : MasterState) (w : World S C O) (k : MasterState) (v : World S C O) → ServingStep rules m w k v →
     IsServing (length w.nodes) m → IsServing (length v.nodes) k
 serving_step rules m w k v (serving_takes n r input {new = new} stands runs may loses) s =
     subst (λ j. IsServing j m) (sym (length-set w.nodes n new)) s

@@ -9,7 +9,9 @@ pub mod MasterState
 pub mod Moves
 pub mod OpeningHistory
 pub mod Own
+pub mod Past
 pub mod Replays
+pub mod Serves
 pub mod Sound
 pub mod ToldLengths
 pub mod World

@@ -1,4 +1,4 @@
--- GroupServes.antt: a group whose master answers each Assign serves from its opening on, and its nodes agree on an agreed list that one of them holds.
+-- GroupServes.antt: a group opens as it should be.
 use Rattle.std.proofs.Common.{Bool, cond, inl, ◌≡◌, ℕ, zero, suc, ◌+◌, true, false, [], ◌∷◌, length, refl, sym, subst, arith}
 use Rattle.std.specs.Prelude.{◌==◌}
 use Rattle.std.proofs.lemmas.List.{length-append}
@@ -9,7 +9,7 @@ use Rattle.ballot.specs.Replica.{ReplicaState, opening, opening_member, progress
 use Rattle.agreement.specs.World.{can_open, opening_nodes, opening_world}
 use Rattle.agreement.specs.Assign.{IsServing}
 use Rattle.agreement.specs.Begun.{AreLong}
-use Rattle.agreement.specs.Laws.{OpensServing, RunsServing, NodesAgree}
+use Rattle.agreement.specs.Serves.{Serves}
 use Rattle.agreement.specs.OpeningHistory.{opening_history, opening_master}
 use Rattle.agreement.specs.Replays.{IsReplay, AreReplays}
 use Rattle.agreement.specs.Sound.{IsSound}
@@ -57,42 +57,15 @@ opening_replays {S = S} {C = C} rules nodes config n r e runs =
         by_role false = refl
 
 -- a group serves as it opens
-pub opens_serving : {S C O : Type 0} (rules : Rules S C O) → OpensServing rules
-opens_serving {C = C} rules nodes config e =
-    let first = opening_sound rules nodes config (can_open_is nodes config e).0 in (
-      opening_history C config,
-      record {
-        sound = first;
-        master = opening_is_master C config;
-        replays = opening_replays rules nodes config;
-        serving = opening_serves rules nodes config e;
-        begun = opening_begun rules.start_of config;
-        long = opening_long rules nodes config first;
-      },
-    )
-
--- it serves behind every run, and what is agreed only grows
-pub runs_serving : {S C O : Type 0} (rules : Rules S C O) → RunsServing rules
-runs_serving rules m k w v h s run =
-    let a = run_goes_on rules m k w v h s.sound s.long s.replays s.master (serving_run rules m k w v run) in (
-      a.group.goes_on.history,
-      record {
-        sound = a.group.goes_on.sound;
-        master = a.group.master;
-        replays = a.replays;
-        serving = serving_kept rules m k w v run s.serving;
-        begun = a.begun s.begun;
-        long = a.long;
-      },
-      λ xs ys before behind. agreed_grows rules w v h xs ys a.group.goes_on before behind,
-    )
-
--- while it serves the nodes agree on the agreed list
-pub nodes_agree : {S C O : Type 0} (rules : Rules S C O) → NodesAgree rules
-nodes_agree rules m w h s =
-    let xs = agreed_exists rules m w h s.sound s.master in (
-      xs.0,
-      xs.1,
-      sound_agrees rules m w h xs.0 s.sound s.master xs.1,
-      serves_held rules m w h xs.0 s.sound s.master s.serving xs.1,
-    )
+pub opening_is_serving : {S C O : Type 0} (rules : Rules S C O) (nodes : ℕ) (config : Config) → can_open nodes config ≡ true →
+    Serves rules (opening_master config) (opening_world rules nodes config) (opening_history C config)
+opening_is_serving {C = C} rules nodes config e =
+    let first = opening_sound rules nodes config (can_open_is nodes config e).0 in
+    record {
+      sound = first;
+      master = opening_is_master C config;
+      replays = opening_replays rules nodes config;
+      serving = opening_serves rules nodes config e;
+      begun = opening_begun rules.start_of config;
+      long = opening_long rules nodes config first;
+    }
