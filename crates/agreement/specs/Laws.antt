@@ -1,10 +1,9 @@
 -- Laws.antt: what holds of every past of a group whose master answers each Assign.
-use Rattle.std.specs.Prelude.{ℕ, List, ◌∷◌, length}
+use Rattle.std.specs.Prelude.{List, ◌∷◌}
 use Rattle.machine.specs.Machine.{Rules}
 use Rattle.lists.specs.Lists.{IsPrefixOf}
 use Rattle.ballot.specs.Config.{Config}
-use Rattle.agreement.specs.Agreed.{Agrees}
-use Rattle.agreement.specs.Assign.{Holds}
+use Rattle.agreement.specs.Agreement.{Agrees, Holds}
 use Rattle.agreement.specs.Past.{Moment, Past, IsAgreed}
 use Rattle.agreement.specs.Replays.{AreReplays}
 

@@ -6,9 +6,8 @@ use Rattle.machine.specs.Machine.{Rules}
 use Rattle.ballot.specs.Body.TheVariants.{Held, Installed}
 use Rattle.ballot.specs.Config.{Config}
 use Rattle.ballot.specs.Replica.{ReplicaState}
-use Rattle.agreement.specs.Assign.{ServingStep}
-use Rattle.agreement.specs.MasterState.{MasterState}
-use Rattle.agreement.specs.OpeningHistory.{opening_master}
+use Rattle.agreement.specs.Steps.{MayHappen}
+use Rattle.agreement.specs.MasterState.{MasterState, opening_master}
 use Rattle.agreement.specs.World.{World, can_open, opening_world}
 
 -- the master and the world
@@ -27,7 +26,7 @@ pub data Past {S C O : Type 0} (rules : Rules S C O) (config : Config) :
   began : {a : Moment S C O} (nodes : ℕ) → can_open nodes config ≡ true →
       a ≡ opening_moment rules nodes config → Past rules config (a ∷ [])
   went_on : {a b : Moment S C O} {past : List (Moment S C O)} → Past rules config (a ∷ past) →
-      ServingStep rules a.master a.world b.master b.world → Past rules config (b ∷ a ∷ past)
+      MayHappen rules a.master a.world b.master b.world → Past rules config (b ∷ a ∷ past)
 
 -- the configuration of a ballot: that of the opening for ballot 1, and else the one with which the
 -- master let the ballot wait

@@ -1,5 +1,5 @@
 use Rattle.machine.specs.Machine.{rules_by}
-use Rattle.agreement.proofs.PastGrows.{agreed_grows}
+use Rattle.agreement.proofs.Agreed.PastGrows.{agreed_grows}
 use Rattle.agreement.proofs.laws.agreed_grows.Goals as goal
 
 pub returns : goal.returns

@@ -1,5 +1,5 @@
 use Rattle.machine.specs.Machine.{rules_by}
-use Rattle.agreement.proofs.PastAgrees.{has_agreed}
+use Rattle.agreement.proofs.Agreed.PastAgrees.{has_agreed}
 use Rattle.agreement.proofs.laws.has_agreed.Goals as goal
 
 pub returns : goal.returns

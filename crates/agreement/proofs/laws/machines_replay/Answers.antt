@@ -1,5 +1,5 @@
 use Rattle.machine.specs.Machine.{rules_by}
-use Rattle.agreement.proofs.PastAgrees.{machines_replay}
+use Rattle.agreement.proofs.Agreed.PastAgrees.{machines_replay}
 use Rattle.agreement.proofs.laws.machines_replay.Goals as goal
 
 pub returns : goal.returns
