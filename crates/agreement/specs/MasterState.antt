@@ -1,5 +1,5 @@
 -- MasterState.antt: what the master keeps, and what it does on Assign and Activate.
-use Rattle.std.specs.Prelude.{ℕ, ◌+◌, ◌==◌, List, Option, Some, None, if◌then◌else◌, ◌^◌, not, nat_le}
+use Rattle.std.specs.Prelude.{ℕ, Bool, true, ◌+◌, ◌==◌, List, Option, Some, None, if◌then◌else◌, ◌^◌, not, nat_le}
 use Rattle.ballot.specs.Config.{Config}
 use Rattle.ballot.specs.Body.{Body}
 use Rattle.ballot.specs.Body.TheVariants.{NewBallot, Activated, Superseded}
@@ -22,35 +22,42 @@ pub record MasterOutcome (C : Type 0) : Type 0 where
   pub receiver : ℕ
   pub body : Body C
 
--- a lawful configuration is given the next ballot, which waits; one that waited is put out
+-- the master behind an Assign: the next ballot waits, and one that waited is put out
+abbrev pub assigning : MasterState → Config → MasterState
+assigning m config = record m { waiting = Some (m.given + 1, config); given = m.given + 1 }
+
+-- the master behind an Activate: the ballot that waits becomes the active one
+abbrev pub activating : MasterState → ℕ → Option (ℕ × Config) → MasterState
+activating m ballot None = m
+activating m ballot (Some (waiting, config)) =
+    if ballot == waiting
+    then record m { active = ballot; members = config.members; waiting = None }
+    else m
+
+-- whether a ballot is active then: it waited, or was active before. Any other was put out
+abbrev pub is_granted : MasterState → ℕ → Option (ℕ × Config) → Bool
+is_granted m ballot None = ballot == m.active
+is_granted m ballot (Some (waiting, config)) =
+    if ballot == waiting then true else ballot == m.active
+
+-- Assign: the primary is told of the ballot
 abbrev pub assigned : (C : Type 0) → MasterState → Config → MasterOutcome C
 assigned C m config =
     record {
-      state = record m { waiting = Some (m.given + 1, config); given = m.given + 1 };
+      state = assigning m config;
       receiver = config.primary;
       body = NewBallot (m.given + 1) config.members m.active m.members;
     }
 
--- a ballot that does not wait: the active one was activated, any other was put out
-abbrev pub answer : (C : Type 0) → MasterState → ℕ → ℕ → MasterOutcome C
-answer C m ballot from =
+-- Activate(ballot) from a node, which is answered
+abbrev pub activated : (C : Type 0) →
+    MasterState → ℕ → ℕ → Option (ℕ × Config) → MasterOutcome C
+activated C m ballot from waiting =
     record {
-      state = m;
+      state = activating m ballot waiting;
       receiver = from;
-      body = if ballot == m.active then Activated ballot else Superseded ballot;
+      body = if is_granted m ballot waiting then Activated ballot else Superseded ballot;
     }
-
--- Activate(ballot) from a node: the ballot that waits is activated
-abbrev pub activated : (C : Type 0) → MasterState → ℕ → ℕ → Option (ℕ × Config) → MasterOutcome C
-activated C m ballot from None = answer C m ballot from
-activated C m ballot from (Some (waiting, config)) =
-    if ballot == waiting
-    then record {
-      state = record m { active = ballot; members = config.members; waiting = None };
-      receiver = from;
-      body = Activated ballot;
-    }
-    else answer C m ballot from
 
 -- why the master refuses an Assign
 pub data AssignRefusal : Type 0 where

@@ -9,7 +9,7 @@ use Rattle.agreement.specs.World.{World}
 use Rattle.lists.specs.Lists.{In}
 use Rattle.lists.specs.Lists.In.{here, there}
 use Rattle.agreement.specs.Inside.Ballots.{Given, Line, History, IsChosenIn, IsChain, AreBallots, Extends}
-use Rattle.agreement.specs.MasterState.{MasterState, MasterOutcome, answer, activated}
+use Rattle.agreement.specs.MasterState.{MasterState, MasterOutcome, activated}
 use Rattle.agreement.specs.Inside.Masters.{IsMaster}
 use Rattle.agreement.specs.Steps.{tells_from_master}
 use Rattle.agreement.specs.Inside.Sound.{Says, IsSound}
@@ -19,7 +19,7 @@ use Rattle.agreement.proofs.Masters.MasterMoves.{ToldBack, with_ballots, chain_m
 
 -- a ballot that does not wait is answered
 answer_goes_on : {S C O : Type 0} (rules : Rules S C O) (m : MasterState) (w : World S C O) (h : History C) (b from : ℕ) →
-    IsSound rules w h → IsMaster m h → Says w h 0 from (Activate b) → Assigned rules m w h (answer C m b from)
+    IsSound rules w h → IsMaster m h → Says w h 0 from (Activate b) → Assigned rules m w h (activated C m b from None)
 answer_goes_on {S = S} {C = C} {O = O} rules m w h b from s k (g, is_of, sender, (l, lined, chosen)) =
     record {
       goes_on = record { history = h; extends = whole.1; active = λ c j. j; sound = whole.0 };
@@ -40,7 +40,7 @@ answer_goes_on {S = S} {C = C} {O = O} rules m w h b from s k (g, is_of, sender,
     silent true = tt
     silent false = tt
 
-    says : (t : Bool) → (b == m.active) ≡ t → Says (tells_from_master w (answer C m b from)) h from 0 (cond t (Activated b) (Superseded b))
+    says : (t : Bool) → (b == m.active) ≡ t → Says (tells_from_master w (activated C m b from None)) h from 0 (cond t (Activated b) (Superseded b))
     says true e = (
       g,
       is_of.given,
@@ -52,9 +52,9 @@ answer_goes_on {S = S} {C = C} {O = O} rules m w h b from s k (g, is_of, sender,
     gone : IsSound rules w h × Extends w h w h × ToldBack w h w h
     gone = master_lost rules w h h.given h.activated s (λ c x e. e) (λ c x e. (k.numbered c x e).0) (λ c j. j) s.ballots s.lines.told
 
-    whole : IsSound rules (tells_from_master w (answer C m b from)) h × Extends w h (tells_from_master w (answer C m b from)) h
-        × ToldBack w h (tells_from_master w (answer C m b from)) h
-    whole = master_goes_on rules w h (answer C m b from) h.given h.activated s (silent (b == m.active)) (λ c x e. e)
+    whole : IsSound rules (tells_from_master w (activated C m b from None)) h × Extends w h (tells_from_master w (activated C m b from None)) h
+        × ToldBack w h (tells_from_master w (activated C m b from None)) h
+    whole = master_goes_on rules w h (activated C m b from None) h.given h.activated s (silent (b == m.active)) (λ c x e. e)
         (λ c x e. (k.numbered c x e).0) (λ c j. j) s.ballots s.lines.told (says (b == m.active) refl)
 
 -- the ballot that waits is activated
