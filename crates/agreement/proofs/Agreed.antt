@@ -5,3 +5,4 @@ pub mod MostTold
 pub mod PastAgrees
 pub mod PastGrows
 pub mod PastKnown
+pub mod PastOrder

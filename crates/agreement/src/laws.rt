@@ -1,7 +1,7 @@
 // Laws of groups with changes of configuration. The calls do nothing; their contracts are the laws.
 
 ghost use Rattle.machine.specs.Machine.{rules_by};
-ghost use Rattle.agreement.specs.Laws.{AgreedGrows, HasAgreed, MachinesReplay, NodesAgree};
+ghost use Rattle.agreement.specs.Laws.{AgreedGrows, HasAgreed, KeepsTheOrder, MachinesReplay, NodesAgree};
 
 use machine::Machine;
 
@@ -27,4 +27,10 @@ pub fn agreed_grows<M: Machine>()
 /// was handed.
 pub fn machines_replay<M: Machine>()
     ensures { MachinesReplay (rules_by M.opening M.start_of M.after M.gives) }
+{}
+
+/// Of the commands that were proposed in one ballot only, each log has a beginning in the order of
+/// proposing.
+pub fn keeps_the_order<M: Machine>()
+    ensures { KeepsTheOrder (rules_by M.opening M.start_of M.after M.gives) }
 {}

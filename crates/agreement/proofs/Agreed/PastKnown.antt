@@ -11,14 +11,17 @@ use Rattle.ballot.specs.Config.{Config}
 use Rattle.ballot.specs.Replica.{ReplicaState}
 use Rattle.agreement.specs.Inside.Ballots.{Given, History, Told, TellsHere, Extends}
 use Rattle.agreement.specs.Inside.Ballots.Told.{told_at_opening, told_by_held, told_by_installed, told_as_primary}
-use Rattle.agreement.specs.Inside.GroupSteps.{GroupStep}
+use Rattle.agreement.specs.Inside.GroupSteps.{adds_of, GroupStep}
 use Rattle.agreement.specs.Inside.Serves.{Serves}
 use Rattle.agreement.specs.Inside.OpeningHistory.{first_ballot, opening_history}
+use Rattle.agreement.specs.MasterState.{MasterState}
 use Rattle.agreement.specs.Past.{Moment, Past, HasConfig, WasActive, HasTold, ToldLength, opening_moment}
 use Rattle.agreement.specs.Past.Past.{began, went_on}
 use Rattle.agreement.specs.Past.HasConfig.{opened_with, was_assigned}
 use Rattle.agreement.specs.Past.HasTold.{told_as_log, told_by_message}
-use Rattle.agreement.specs.World.{can_open}
+use Rattle.agreement.specs.Proposals.{proposal_of}
+use Rattle.agreement.specs.Steps.{MayHappen}
+use Rattle.agreement.specs.World.{World, can_open}
 use Rattle.agreement.proofs.Masters.Assigns.{can_open_is}
 use Rattle.agreement.proofs.Frame.Going.{goes_same, extends_then}
 use Rattle.agreement.proofs.Runs.OpeningServes.{opening_is_serving}
@@ -78,11 +81,24 @@ told_now {S = S} {C = C} rules config a past h n b k s configs t = by_told
         let z = configs b g is in
         inr (t.replica.log, told_as_log a t.replica z.0 here stands (sym t.held) z.1 (sym z.3 ∙ primary) refl, t.short)
 
+-- a group that serves goes on serving
+pub serves_then : {S C O : Type 0} (rules : Rules S C O) (m k : MasterState) (w v : World S C O) (h : History C) (adds : List (ℕ × C)) →
+    Serves rules m w h → (x : StepGoesOn rules w h k v adds) → MayHappen rules m w k v → Serves rules k v x.run.group.goes_on.history
+serves_then rules m k w v h adds s x step =
+    record {
+      sound = x.run.group.goes_on.sound;
+      master = x.run.group.master;
+      replays = x.run.replays;
+      serving = serving_step rules m w k v step s.serving;
+      begun = x.run.begun s.begun;
+      long = x.run.long;
+    }
+
 -- a step of the group
 known_step : {S C O : Type 0} (rules : Rules S C O) (config : Config) (a v : Moment S C O) (past : List (Moment S C O)) →
-    (q : IsKnown rules config a past) → (x : StepGoesOn rules a.world q.history v.master v.world) →
+    (adds : List (ℕ × C)) (q : IsKnown rules config a past) → (x : StepGoesOn rules a.world q.history v.master v.world adds) →
     Serves rules v.master v.world x.run.group.goes_on.history → IsKnown rules config v (a ∷ past)
-known_step {S = S} {C = C} {O = O} rules config a v past q x s =
+known_step {S = S} {C = C} {O = O} rules config a v past adds q x s =
     record {
       history = x.run.group.goes_on.history;
       serves = s;
@@ -197,21 +213,14 @@ past_known {S = S} {C = C} {O = O} rules config v (a ∷ past) (went_on came ste
     let q = past_known rules config a past came in
     by_step q (one_step rules a.master a.world v.master v.world step)
   where
-    by_step : (q : IsKnown rules config a past) → ((v.master ≡ a.master) × (v.world ≡ a.world)) ⊎ GroupStep rules a.master a.world v.master v.world →
+    by_step : (q : IsKnown rules config a past) → ((v.master ≡ a.master) × (v.world ≡ a.world))
+        ⊎ ((g : GroupStep rules a.master a.world v.master v.world) × (adds_of g ≡ proposal_of step)) →
         IsKnown rules config v (a ∷ past)
     by_step q (inl (same, still)) =
         known_same rules config a v past q
         (ap (λ m. let u : Moment S C O = record { master = m; world = v.world } in u) same
         ∙ ap (λ w. let u : Moment S C O = record { master = a.master; world = w } in u) still)
-    by_step q (inr goes) =
+    by_step q (inr (goes, taken)) =
         let s = q.serves in
         let x = group_goes_on rules a.master v.master a.world v.world q.history s.sound s.long s.replays s.master goes in
-        known_step rules config a v past q x
-        (record {
-          sound = x.run.group.goes_on.sound;
-          master = x.run.group.master;
-          replays = x.run.replays;
-          serving = serving_step rules a.master a.world v.master v.world step s.serving;
-          begun = x.run.begun s.begun;
-          long = x.run.long;
-        })
+        known_step rules config a v past (adds_of goes) q x (serves_then rules a.master v.master a.world v.world q.history (adds_of goes) s x step)

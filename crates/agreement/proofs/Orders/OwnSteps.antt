@@ -7,26 +7,28 @@ use Rattle.machine.specs.Machine.{Rules}
 use Rattle.ballot.specs.Protocol.{Input}
 use Rattle.ballot.specs.Protocol.Input.{Receives, Proposes, Ticks}
 use Rattle.ballot.specs.Replica.{ReplicaState}
+use Rattle.agreement.specs.Proposals.{proposal_by}
 use Rattle.agreement.specs.World.{World}
 use Rattle.lists.specs.Lists.{IsPrefixOf}
 use Rattle.agreement.specs.Inside.Ballots.{Line, History}
 use Rattle.agreement.specs.Inside.GroupSteps.{AddsBy}
 use Rattle.agreement.specs.Inside.Keeps.{NodeGoesOn, LineAdds}
 use Rattle.agreement.specs.Inside.Keeps.LineAdds.{as_it_was, begins_behind, adds_one}
-use Rattle.agreement.specs.Inside.Own.{commands_of, IsOfBallot, OwnLines}
+use Rattle.agreement.specs.Proposals.{commands_of, IsOfBallot}
+use Rattle.agreement.specs.Inside.Own.{OwnLines}
 use Rattle.agreement.specs.Inside.Sound.{IsSound}
-use Rattle.lists.proofs.Beginnings.{prefix_same, prefix_then}
+use Rattle.lists.proofs.Beginnings.{prefix_then}
 use Rattle.agreement.proofs.Orders.Owning.{own_starts, own_proposed}
 use Rattle.agreement.proofs.Frame.Sealing.{one_line}
 
 -- the proposals behind a step of a node: those before, or one more
-pub record OwnGoesOn {C : Type 0} (start_of : ℕ → C) (h : History C) (rows : List (ℕ × C)) : Type 0 where
+pub record OwnGoesOn {C : Type 0} (start_of : ℕ → C) (h : History C) (rows adds : List (ℕ × C)) : Type 0 where
   pub later : List (ℕ × C)
-  pub grows : IsPrefixOf rows later
+  pub way : (later ≡ rows) ⊎ (later ≡ rows ++ adds)
   pub own : OwnLines start_of h later
 
-same_rows : {C : Type 0} (start_of : ℕ → C) (h : History C) (rows : List (ℕ × C)) → OwnLines start_of h rows → OwnGoesOn start_of h rows
-same_rows start_of h rows s = record { later = rows; grows = prefix_same rows; own = s }
+same_rows : {C : Type 0} (start_of : ℕ → C) (h : History C) (rows adds : List (ℕ × C)) → OwnLines start_of h rows → OwnGoesOn start_of h rows adds
+same_rows start_of h rows adds s = record { later = rows; way = inl refl; own = s }
 
 -- lists stay there
 still_lined : {S C O : Type 0} (rules : Rules S C O) (w v : World S C O) (h : History C) (adds : ℕ → C → Type 0) →
@@ -36,9 +38,9 @@ still_lined rules w v h adds g b l e = let z = g.extends.lines b l e in (z.0, z.
 -- a proposal that was added to no list, or to that of its ballot
 own_by_proposal : {S C O : Type 0} (rules : Rules S C O) (w v : World S C O) (h : History C) (p : ℕ) (c : C) (rows : List (ℕ × C)) →
     (g : NodeGoesOn rules w h (λ b x. (b ≡ p) × (x ≡ c)) v) → OwnLines rules.start_of h rows →
-    (o : Option (Line C)) → g.history.line p ≡ o → OwnGoesOn rules.start_of g.history rows
+    (o : Option (Line C)) → g.history.line p ≡ o → OwnGoesOn rules.start_of g.history rows ((p, c) ∷ [])
 own_by_proposal {S = S} {C = C} {O = O} rules w v h p c rows g s None unlined =
-    same_rows rules.start_of g.history rows
+    same_rows rules.start_of g.history rows ((p, c) ∷ [])
     (own_starts rules.start_of (λ b x. ⊥) h g.history rows (λ b x z. absurd z) (still_lined rules w v h _ g)
     (λ b k e. by_line b k e (g.added b k e)) s)
   where
@@ -48,9 +50,9 @@ own_by_proposal {S = S} {C = C} {O = O} rules w v h p c rows g s None unlined =
     by_line b k e (adds_one l x f same (at, is)) = let z = ap g.history.line at in cc
 own_by_proposal {S = S} {C = C} {O = O} rules w v h p c rows g s (Some k) lined = by_line (g.added p k lined)
   where
-    plain : ((b : ℕ) (y : Line C) → b ≡ p → g.history.line b ≡ Some y → LineAdds (λ b x. ⊥) h b y) → OwnGoesOn rules.start_of g.history rows
+    plain : ((b : ℕ) (y : Line C) → b ≡ p → g.history.line b ≡ Some y → LineAdds (λ b x. ⊥) h b y) → OwnGoesOn rules.start_of g.history rows ((p, c) ∷ [])
     plain f =
-        same_rows rules.start_of g.history rows
+        same_rows rules.start_of g.history rows ((p, c) ∷ [])
         (own_starts rules.start_of (λ b x. ⊥) h g.history rows (λ b x z. absurd z) (still_lined rules w v h _ g)
         (λ b y e. by_added b y e (g.added b y e)) s)
       where
@@ -59,7 +61,7 @@ own_by_proposal {S = S} {C = C} {O = O} rules w v h p c rows g s (Some k) lined 
         by_added b y e (begins_behind u q z none before front) = begins_behind u q z none before front
         by_added b y e (adds_one l x z same (at, is)) = f b y at e
 
-    by_line : LineAdds (λ b x. (b ≡ p) × (x ≡ c)) h p k → OwnGoesOn rules.start_of g.history rows
+    by_line : LineAdds (λ b x. (b ≡ p) × (x ≡ c)) h p k → OwnGoesOn rules.start_of g.history rows ((p, c) ∷ [])
     by_line (as_it_was e) =
         plain (λ b y at f. as_it_was (ap h.line at ∙ e ∙ ap Some (one_line (g.history.line p) k y lined (ap g.history.line (sym at) ∙ f))))
     by_line (begins_behind u q e none before front) =
@@ -70,7 +72,7 @@ own_by_proposal {S = S} {C = C} {O = O} rules w v h p c rows g s (Some k) lined 
     by_line (adds_one l x e same (at, is)) =
         record {
           later = rows ++ (p, c) ∷ [];
-          grows = record { rest = (p, c) ∷ []; is = refl };
+          way = inr refl;
           own = own_proposed rules.start_of h g.history rows p c l k e lined (same ∙ ap (λ o. l.list ++ o ∷ []) is)
               (still_lined rules w v h _ g) g.added s;
         }
@@ -78,14 +80,14 @@ own_by_proposal {S = S} {C = C} {O = O} rules w v h p c rows g s (Some k) lined 
 -- a step of a node
 pub own_goes_on : {S C O : Type 0} (rules : Rules S C O) (w v : World S C O) (h : History C) (r : ReplicaState S C) (input : Input C)
     (rows : List (ℕ × C)) → (g : NodeGoesOn rules w h (AddsBy rules r input) v) → OwnLines rules.start_of h rows →
-    OwnGoesOn rules.start_of g.history rows
+    OwnGoesOn rules.start_of g.history rows (proposal_by r input)
 own_goes_on rules w v h r (Receives message) rows g s =
-    same_rows rules.start_of g.history rows
+    same_rows rules.start_of g.history rows []
     (own_starts rules.start_of (λ b x. x ≡ rules.start_of b) h g.history rows (λ b x e. e) (still_lined rules w v h _ g) g.added s)
 own_goes_on rules w v h r (Proposes c) rows g s =
     own_by_proposal rules w v h r.joined c rows g s (g.history.line r.joined) refl
 own_goes_on rules w v h r Ticks rows g s =
-    same_rows rules.start_of g.history rows
+    same_rows rules.start_of g.history rows []
     (own_starts rules.start_of (λ b x. ⊥) h g.history rows (λ b x z. absurd z) (still_lined rules w v h _ g) g.added s)
 
 -- what clients need of it: in each log the commands of one ballot are a beginning of those proposed in it

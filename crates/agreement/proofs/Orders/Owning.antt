@@ -9,7 +9,8 @@ use Rattle.lists.specs.Lists.In.{here, there}
 use Rattle.agreement.specs.Inside.Ballots.{Line, History}
 use Rattle.agreement.specs.Inside.Keeps.{LineAdds}
 use Rattle.agreement.specs.Inside.Keeps.LineAdds.{as_it_was, begins_behind, adds_one}
-use Rattle.agreement.specs.Inside.Own.{commands_of, IsOfBallot, OwnLines}
+use Rattle.agreement.specs.Proposals.{commands_of, IsOfBallot}
+use Rattle.agreement.specs.Inside.Own.{OwnLines}
 use Rattle.lists.proofs.Beginnings.{prefix_then}
 use Rattle.lists.proofs.Members.{in_left, in_right, in_append}
 use Rattle.agreement.proofs.Frame.EqualLists.{prefix_of_same}

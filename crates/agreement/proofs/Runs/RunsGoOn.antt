@@ -1,15 +1,16 @@
 -- RunsGoOn.antt: every run of a sound group keeps it sound: its history goes on, its machines are replays, its ballots begin with their starts.
-use Rattle.std.proofs.Common.{◌≡◌, ◌⊎◌, ℕ, inl, subst, [], Option, refl, ap, sym, ◌∙◌}
+use Rattle.std.proofs.Common.{List, ◌≡◌, ◌⊎◌, ℕ, inl, subst, [], Option, refl, ap, sym, ◌∙◌}
 use Rattle.machine.specs.Machine.{Rules}
 use Rattle.ballot.specs.Config.{Config}
 use Rattle.ballot.specs.Losses.Thinned.{none}
 use Rattle.ballot.specs.Protocol.Input.{Ticks}
 use Rattle.ballot.specs.Protocol.{replica_step}
 use Rattle.lists.specs.Lists.{In}
+use Rattle.agreement.specs.Proposals.{proposal_by}
 use Rattle.agreement.specs.World.{World}
 use Rattle.agreement.specs.Inside.Ballots.{Line, History, Told, TellsHere}
 use Rattle.agreement.specs.Inside.Begun.{AreBegun, BeginsOrFollows, AreLong}
-use Rattle.agreement.specs.Inside.GroupSteps.{AddsBy, GroupStep}
+use Rattle.agreement.specs.Inside.GroupSteps.{adds_of, AddsBy, GroupStep}
 use Rattle.agreement.specs.Inside.GroupSteps.GroupStep.{takes, stops, assigns, hears, assigns_unheard, hears_unanswered}
 use Rattle.agreement.specs.Inside.Keeps.{NodeGoesOn, LineAdds}
 use Rattle.agreement.specs.Inside.Keeps.LineAdds.{as_it_was, begins_behind, adds_one}
@@ -30,15 +31,17 @@ use Rattle.agreement.proofs.Machines.ReplaysKept.{replays_moved, step_replays}
 use Rattle.agreement.proofs.Runs.Steps.{GroupGoesOn, by_history, by_master, by_lost}
 
 -- a group goes on soundly, its machines are replays, and its ballots still begin with their starts
-pub record RunGoesOn {S C O : Type 0} (rules : Rules S C O) (w : World S C O) (h : History C) (m : MasterState) (v : World S C O) : Type 0 where
-  pub group : GroupGoesOn rules w h m v
+pub record RunGoesOn {S C O : Type 0} (rules : Rules S C O) (w : World S C O) (h : History C) (m : MasterState) (v : World S C O)
+    (adds : List (ℕ × C)) : Type 0 where
+  pub group : GroupGoesOn rules w h m v adds
   pub long : AreLong v group.goes_on.history
   pub replays : AreReplays rules v
   pub begun : AreBegun rules.start_of h → AreBegun rules.start_of group.goes_on.history
 
 -- one step, with what is newly told, given and activated in it
-pub record StepGoesOn {S C O : Type 0} (rules : Rules S C O) (w : World S C O) (h : History C) (m : MasterState) (v : World S C O) : Type 0 where
-  pub run : RunGoesOn rules w h m v
+pub record StepGoesOn {S C O : Type 0} (rules : Rules S C O) (w : World S C O) (h : History C) (m : MasterState) (v : World S C O)
+    (adds : List (ℕ × C)) : Type 0 where
+  pub run : RunGoesOn rules w h m v adds
   pub tells : (x b k : ℕ) → Told v run.group.goes_on.history x b k → Told w h x b k ⊎ TellsHere v x b k
   pub gives : GivenNow h m run.group.goes_on.history
   pub activates : ActivatedNow h m run.group.goes_on.history
@@ -70,14 +73,14 @@ begun_same {C = C} start_of h i e begun b k f = begun b k (ap (λ (g : ℕ → O
 
 -- whatever happens
 pub group_goes_on : {S C O : Type 0} (rules : Rules S C O) (m k : MasterState) (w v : World S C O) (h : History C) →
-    IsSound rules w h → AreLong w h → AreReplays rules w → IsMaster m h → GroupStep rules m w k v → StepGoesOn rules w h k v
+    IsSound rules w h → AreLong w h → AreReplays rules w → IsMaster m h → (step : GroupStep rules m w k v) → StepGoesOn rules w h k v (adds_of step)
 group_goes_on {C = C} rules m k w v h s long all master (takes n r input {new = new} {given = given} stands runs may loses) =
     let g = lossy_goes_on rules w h n r (λ b c. AddsBy rules r input b c × BeginsOrFollows rules.start_of h b c) (replica_step rules r input) _ _ s stands
     (keeps_begun rules w h n r input s long stands (all n r stands runs) may) loses in
     let x = node_may rules w _ h (AddsBy rules r input) (BeginsOrFollows rules.start_of h) g in
     record {
       run = record {
-        group = by_history rules w _ h m _ master x (λ rows own. own_goes_on rules w _ h r input rows x own);
+        group = by_history rules w _ h m _ (proposal_by r input) master x (λ rows own. own_goes_on rules w _ h r input rows x own);
       long = long_moved rules w _ h _ n r new given s stands g long refl (loses_begins rules r input _ _ loses);
       replays = step_replays rules w h n r input new given _ s g stands runs all loses;
       begun = λ begun. begun_lines rules w _ h _ (λ b c a. a.1) s g begun;
@@ -90,7 +93,7 @@ group_goes_on {C = C} rules m k w v h s long all master (stops n r stands) =
     let g = keeps_halted rules w h n r s stands [] none in
     record {
       run = record {
-        group = by_history rules w _ h m _ master g (λ rows own. own_goes_on rules w _ h r Ticks rows g own);
+        group = by_history rules w _ h m _ [] master g (λ rows own. own_goes_on rules w _ h r Ticks rows g own);
       long = long_moved rules w _ h _ n r _ [] s stands g long refl (inl (λ f. (f, refl)));
       replays = replays_moved rules w n r _ [] stands all (λ going. cc);
       begun = λ begun. begun_lines rules w _ h _ (λ b c a. absurd a) s g begun;

@@ -4,6 +4,7 @@ use Rattle.std.specs.Prelude.{slice_get}
 use Rattle.std.proofs.lemmas.List.{length-set}
 use Rattle.ballot.specs.Losses.{halted}
 use Rattle.machine.specs.Machine.{Rules}
+use Rattle.agreement.specs.Proposals.{proposal_of}
 use Rattle.agreement.specs.World.{World}
 use Rattle.lists.specs.Lists.{In}
 use Rattle.agreement.specs.Inside.Chosen.{IsAgreedIn}
@@ -13,31 +14,33 @@ use Rattle.agreement.specs.Inside.Masters.{IsServing, IsMaster}
 use Rattle.agreement.specs.Agreement.{Holds}
 use Rattle.agreement.specs.Steps.MayHappen.{node_takes, node_stops, master_assigns, master_hears, assignment_lost, answer_lost}
 use Rattle.agreement.specs.Inside.Ballots.{Given, History}
-use Rattle.agreement.specs.Inside.GroupSteps.{GroupStep}
+use Rattle.agreement.specs.Inside.GroupSteps.{adds_of, GroupStep}
 use Rattle.agreement.specs.Inside.GroupSteps.GroupStep.{takes, stops, assigns, hears, assigns_unheard, hears_unanswered}
 use Rattle.agreement.specs.Inside.Sound.{IsSound}
 use Rattle.agreement.proofs.Agreed.Agreeing.{sound_agrees}
 use Rattle.agreement.proofs.Masters.Assigns.{can_open_is, not_refused, serving_assigned, serving_activated}
 
--- a step of such a group changes nothing, or is one of the group
-pub one_step : {S C O : Type 0} (rules : Rules S C O) (m : MasterState) (w : World S C O) (k : MasterState) (v : World S C O) → MayHappen rules m w k v →
-    ((k ≡ m) × (v ≡ w)) ⊎ GroupStep rules m w k v
-one_step rules m w k v (node_takes n r input stands runs may loses) = inr (takes n r input stands runs may loses)
-one_step rules m w k v (node_stops n r stands) = inr (stops n r stands)
-one_step rules m w k v (master_hears from b sent) = inr (hears from b sent)
-one_step rules m w k v (answer_lost from b sent) = inr (hears_unanswered from b sent)
+-- a step of such a group changes nothing, or is one of the group that takes in the same proposal
+pub one_step : {S C O : Type 0} (rules : Rules S C O) (m : MasterState) (w : World S C O) (k : MasterState) (v : World S C O) →
+    (step : MayHappen rules m w k v) →
+    ((k ≡ m) × (v ≡ w)) ⊎ ((g : GroupStep rules m w k v) × (adds_of g ≡ proposal_of step))
+one_step rules m w k v (node_takes n r input stands runs may loses) = inr (takes n r input stands runs may loses, refl)
+one_step rules m w k v (node_stops n r stands) = inr (stops n r stands, refl)
+one_step rules m w k v (master_hears from b sent) = inr (hears from b sent, refl)
+one_step rules m w k v (answer_lost from b sent) = inr (hears_unanswered from b sent, refl)
 one_step {S = S} {C = C} {O = O} rules m w k v (master_assigns config) = by_refusal (refusal (length w.nodes) m config) refl
   where
     by_refusal : (o : Option AssignRefusal) → refusal (length w.nodes) m config ≡ o →
-        ((master_behind C m config o ≡ m) × (world_behind m w config o ≡ w)) ⊎ GroupStep rules m w (master_behind C m config o) (world_behind m w config o)
+        ((master_behind C m config o ≡ m) × (world_behind m w config o ≡ w))
+        ⊎ ((g : GroupStep rules m w (master_behind C m config o) (world_behind m w config o)) × (adds_of g ≡ []))
     by_refusal (Some why) e = inl (refl, refl)
-    by_refusal None e = inr (assigns config (can_open_is (length w.nodes) config (not_refused (length w.nodes) m config e).0).0)
+    by_refusal None e = inr (assigns config (can_open_is (length w.nodes) config (not_refused (length w.nodes) m config e).0).0, refl)
 one_step {S = S} {C = C} {O = O} rules m w k v (assignment_lost config) = by_refusal (refusal (length w.nodes) m config) refl
   where
     by_refusal : (o : Option AssignRefusal) → refusal (length w.nodes) m config ≡ o →
-        ((master_behind C m config o ≡ m) × (w ≡ w)) ⊎ GroupStep rules m w (master_behind C m config o) w
+        ((master_behind C m config o ≡ m) × (w ≡ w)) ⊎ ((g : GroupStep rules m w (master_behind C m config o) w) × (adds_of g ≡ []))
     by_refusal (Some why) e = inl (refl, refl)
-    by_refusal None e = inr (assigns_unheard config (can_open_is (length w.nodes) config (not_refused (length w.nodes) m config e).0).0)
+    by_refusal None e = inr (assigns_unheard config (can_open_is (length w.nodes) config (not_refused (length w.nodes) m config e).0).0, refl)
 
 -- a step keeps how many nodes there are, and that members are nodes
 pub serving_step : {S C O : Type 0} (rules : Rules S C O) (m : MasterState) (w : World S C O) (k : MasterState) (v : World S C O) → MayHappen rules m w k v →

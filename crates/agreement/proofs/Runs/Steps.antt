@@ -1,5 +1,5 @@
 -- Steps.antt: a node's step as what it may add, and what a group is behind a move of a node or of its master.
-use Rattle.std.proofs.Common.{◌≡◌, ℕ, ◌+◌, List, Some, Option, refl, ap, sym, ◌∙◌, subst}
+use Rattle.std.proofs.Common.{[], inl, ◌≡◌, ℕ, ◌+◌, List, Some, Option, refl, ap, sym, ◌∙◌, subst}
 use Rattle.std.specs.Prelude.{slice_get}
 use Rattle.machine.specs.Machine.{Rules}
 use Rattle.ballot.specs.Body.{Body}
@@ -20,7 +20,6 @@ use Rattle.agreement.specs.Inside.Masters.{IsMaster}
 use Rattle.agreement.specs.Inside.Moves.{with_lines}
 use Rattle.agreement.specs.Replays.{IsReplay}
 use Rattle.agreement.specs.Inside.Sound.{IsSound}
-use Rattle.lists.proofs.Beginnings.{prefix_same}
 use Rattle.agreement.proofs.Serving.ActiveTicks.{keeps_tick_active}
 use Rattle.agreement.proofs.Changing.Activating.{keeps_activated}
 use Rattle.agreement.proofs.Frame.Adding.{adds_less}
@@ -65,11 +64,12 @@ keeps_step rules w h n r Ticks s e ran i =
     keeps_tick rules w h n r s e (λ a. keeps_tick_active rules w h n r s e a) r.role refl
 
 -- a group goes on soundly
-pub record GroupGoesOn {S C O : Type 0} (rules : Rules S C O) (w : World S C O) (h : History C) (m : MasterState) (v : World S C O) : Type 0 where
+pub record GroupGoesOn {S C O : Type 0} (rules : Rules S C O) (w : World S C O) (h : History C) (m : MasterState) (v : World S C O)
+    (adds : List (ℕ × C)) : Type 0 where
   pub goes_on : GoesOn rules w h v
   pub master : IsMaster m goes_on.history
   -- and the order of proposals, of which it adds at most its own
-  pub own : (rows : List (ℕ × C)) → OwnLines rules.start_of h rows → OwnGoesOn rules.start_of goes_on.history rows
+  pub own : (rows : List (ℕ × C)) → OwnLines rules.start_of h rows → OwnGoesOn rules.start_of goes_on.history rows adds
 
 -- the master's fields say nothing of lists
 pub master_same : {C : Type 0} (m : MasterState) (h : History C) (line : ℕ → Option (Line C)) → IsMaster m h → IsMaster m (with_lines h line)
@@ -77,10 +77,10 @@ master_same m h line k =
     record { older = k.older; newest = k.newest; active_members = k.active_members; numbered = k.numbered; waits = k.waits }
 
 -- behind a move of a node
-abbrev pub by_history : {S C O : Type 0} (rules : Rules S C O) (w v : World S C O) (h : History C) (m : MasterState) (adds : ℕ → C → Type 0) →
+abbrev pub by_history : {S C O : Type 0} (rules : Rules S C O) (w v : World S C O) (h : History C) (m : MasterState) (adds : ℕ → C → Type 0) (news : List (ℕ × C)) →
     IsMaster m h → (g : NodeGoesOn rules w h adds v) →
-    ((rows : List (ℕ × C)) → OwnLines rules.start_of h rows → OwnGoesOn rules.start_of g.history rows) → GroupGoesOn rules w h m v
-by_history {S = S} {C = C} rules w v h m adds k g own =
+    ((rows : List (ℕ × C)) → OwnLines rules.start_of h rows → OwnGoesOn rules.start_of g.history rows news) → GroupGoesOn rules w h m v news
+by_history {S = S} {C = C} rules w v h m adds news k g own =
     record {
       goes_on = record { history = g.history; extends = g.extends; active = g.active; sound = g.sound };
       master = subst (λ (i : History C). IsMaster m i) (sym g.ballots) (master_same m h g.history.line k);
@@ -89,14 +89,14 @@ by_history {S = S} {C = C} rules w v h m adds k g own =
 
 -- behind a message of the master
 abbrev pub by_master : {S C O : Type 0} (rules : Rules S C O) (w : World S C O) (h : History C) (m : MasterState) (o : MasterOutcome C) →
-    Assigned rules m w h o → GroupGoesOn rules w h o.state (tells_from_master w o)
+    Assigned rules m w h o → GroupGoesOn rules w h o.state (tells_from_master w o) []
 by_master {S = S} {C = C} rules w h m o a =
     record {
       goes_on = a.goes_on;
       master = a.master;
       own = λ rows s. record {
         later = rows;
-        grows = prefix_same rows;
+        way = inl refl;
         own = own_starts rules.start_of (λ b c. ⊥) h a.goes_on.history rows (λ b c z. absurd z)
             (λ b l e. (l, ap (λ (f : ℕ → Option (Line C)). f b) a.lists ∙ e))
             (λ b k e. as_it_was (ap (λ (f : ℕ → Option (Line C)). f b) (sym a.lists) ∙ e)) s;
@@ -105,14 +105,14 @@ by_master {S = S} {C = C} rules w h m o a =
 
 -- and where it is lost
 abbrev pub by_lost : {S C O : Type 0} (rules : Rules S C O) (w : World S C O) (h : History C) (m : MasterState) (o : MasterOutcome C) →
-    Assigned rules m w h o → GroupGoesOn rules w h o.state w
+    Assigned rules m w h o → GroupGoesOn rules w h o.state w []
 by_lost {S = S} {C = C} rules w h m o a =
     record {
       goes_on = a.lost;
       master = a.lost_master;
       own = λ rows s. record {
         later = rows;
-        grows = prefix_same rows;
+        way = inl refl;
         own = own_starts rules.start_of (λ b c. ⊥) h a.lost.history rows (λ b c z. absurd z)
             (λ b l e. (l, ap (λ (f : ℕ → Option (Line C)). f b) a.lost_lists ∙ e))
             (λ b k e. as_it_was (ap (λ (f : ℕ → Option (Line C)). f b) (sym a.lost_lists) ∙ e)) s;

@@ -8,6 +8,7 @@ use Rattle.ballot.specs.Losses.{Loses, halted}
 use Rattle.ballot.specs.Protocol.{Input, replica_step}
 use Rattle.ballot.specs.Protocol.Input.{Receives, Proposes, Ticks}
 use Rattle.ballot.specs.Replica.{ReplicaState}
+use Rattle.agreement.specs.Proposals.{proposal_by}
 use Rattle.agreement.specs.World.{World, moved}
 use Rattle.lists.specs.Lists.{In}
 use Rattle.agreement.specs.MasterState.{MasterState, assigned, activated}
@@ -47,3 +48,13 @@ pub data GroupStep {S C O : Type 0} (rules : Rules S C O) : MasterState → Worl
   hears_unanswered : {m : MasterState} {w : World S C O} (from b : ℕ) →
       In (0, record { from = from; body = Activate b }) w.sent →
       GroupStep rules m w (activated C m b from m.waiting).state w
+
+-- the proposal that a step takes in
+abbrev pub adds_of : {S C O : Type 0} {rules : Rules S C O} {m : MasterState}
+    {w : World S C O} {k : MasterState} {v : World S C O} → GroupStep rules m w k v → List (ℕ × C)
+adds_of (takes n r input stands runs may loses) = proposal_by r input
+adds_of (stops n r stands) = []
+adds_of (assigns config member) = []
+adds_of (hears from b sent) = []
+adds_of (assigns_unheard config member) = []
+adds_of (hears_unanswered from b sent) = []
