@@ -1,46 +1,46 @@
--- Laws.antt: what holds of every group whose master answers each Assign, from its opening on.
-use Rattle.std.specs.Prelude.{ℕ, true, ◌≡◌, List, length}
+-- Laws.antt: what holds of every past of a group whose master answers each Assign.
+use Rattle.std.specs.Prelude.{ℕ, Bool, ◌≡◌, List, ◌∷◌, filter, slice_get, Some}
 use Rattle.machine.specs.Machine.{Rules}
-use Rattle.ballot.specs.Config.{Config}
-use Rattle.agreement.specs.Agreed.{IsAgreedIn, Agrees}
-use Rattle.agreement.specs.Assign.{ServingRun, IsServing, Holds}
-use Rattle.agreement.specs.Ballots.{History}
-use Rattle.agreement.specs.Begun.{AreBegun, AreLong}
 use Rattle.lists.specs.Lists.{IsPrefixOf}
-use Rattle.agreement.specs.MasterState.{MasterState, IsMaster}
-use Rattle.agreement.specs.OpeningHistory.{opening_master}
+use Rattle.ballot.specs.Config.{Config}
+use Rattle.ballot.specs.Replica.{ReplicaState}
+use Rattle.agreement.specs.Agreement.{Agrees, Holds}
+use Rattle.agreement.specs.Past.{Moment, Past, IsAgreed}
+use Rattle.agreement.specs.Proposals.{IsOfBallot, IsPartOf, commands_of, proposals_of}
 use Rattle.agreement.specs.Replays.{AreReplays}
-use Rattle.agreement.specs.Sound.{IsSound}
-use Rattle.agreement.specs.World.{World, can_open, opening_world}
 
--- a group that serves: its ballots, messages and nodes are as they should be, the members of its
--- active ballot are nodes, and each ballot's list has its start behind its base
-pub record Serves {S C O : Type 0} (rules : Rules S C O) (m : MasterState) (w : World S C O)
-    (h : History C) : Type 0 where
-  pub sound : IsSound rules w h
-  pub master : IsMaster m h
-  pub replays : AreReplays rules w
-  pub serving : IsServing (length w.nodes) m
-  pub begun : AreBegun rules.start_of h
-  pub long : AreLong w h
+-- there is an agreed list at each moment
+abbrev pub HasAgreed : {S C O : Type 0} → Rules S C O → Type 0
+HasAgreed {S} {C} {O} rules =
+    (config : Config) (a : Moment S C O) (past : List (Moment S C O)) →
+    Past rules config (a ∷ past) → (xs : List C) × IsAgreed config (a ∷ past) xs
 
--- a group serves as it opens
-abbrev pub OpensServing : {S C O : Type 0} → Rules S C O → Type 0
-OpensServing {S} {C} {O} rules =
-    (nodes : ℕ) (config : Config) → can_open nodes config ≡ true →
-    (h : History C) × Serves rules (opening_master config) (opening_world rules nodes config) h
-
--- it serves behind every run, and what was agreed in front of the run begins what is agreed then
-abbrev pub RunsServing : {S C O : Type 0} → Rules S C O → Type 0
-RunsServing {S} {C} {O} rules =
-    (m k : MasterState) (w v : World S C O) (h : History C) →
-    Serves rules m w h → ServingRun rules m w k v →
-    (i : History C) × Serves rules k v i
-    × ((xs ys : List C) → IsAgreedIn w h xs → IsAgreedIn v i ys → IsPrefixOf xs ys)
-
--- while it serves there is an agreed list; the nodes agree on it, and a member of the active ballot
--- holds it
+-- the nodes agree on it, and one of them, a member of the active ballot, holds it
 abbrev pub NodesAgree : {S C O : Type 0} → Rules S C O → Type 0
 NodesAgree {S} {C} {O} rules =
-    (m : MasterState) (w : World S C O) (h : History C) → Serves rules m w h →
-    (xs : List C) × IsAgreedIn w h xs × Agrees rules m w xs × Holds m w xs
+    (config : Config) (a : Moment S C O) (past : List (Moment S C O)) (xs : List C) →
+    Past rules config (a ∷ past) → IsAgreed config (a ∷ past) xs →
+    Agrees rules a.master a.world xs × Holds a.master a.world xs
+
+-- what is agreed begins what is agreed at the next moment
+abbrev pub AgreedGrows : {S C O : Type 0} → Rules S C O → Type 0
+AgreedGrows {S} {C} {O} rules =
+    (config : Config) (a : Moment S C O) (past : List (Moment S C O)) (xs ys : List C) →
+    IsAgreed config past xs → IsAgreed config (a ∷ past) ys → IsPrefixOf xs ys
+
+-- the machine of each node that runs is the replay of the places that it applied
+abbrev pub MachinesReplay : {S C O : Type 0} → Rules S C O → Type 0
+MachinesReplay {S} {C} {O} rules =
+    (config : Config) (a : Moment S C O) (past : List (Moment S C O)) →
+    Past rules config (a ∷ past) → AreReplays rules a.world
+
+-- of the commands that were proposed in one ballot only, each log has a beginning in the order of
+-- proposing, of those that were taken
+abbrev pub KeepsTheOrder : {S C O : Type 0} → Rules S C O → Type 0
+KeepsTheOrder {S} {C} {O} rules =
+    (config : Config) (a : Moment S C O) (past : List (Moment S C O)) →
+    (came : Past rules config (a ∷ past)) →
+    (taken : List (ℕ × C)) × IsPartOf taken (proposals_of came)
+    × ((names : C → Bool) (ballot : ℕ) → IsOfBallot rules.start_of names ballot taken →
+    (n : ℕ) (r : ReplicaState S C) → slice_get a.world.nodes n ≡ Some r →
+    IsPrefixOf (filter names r.log) (filter names (commands_of taken)))

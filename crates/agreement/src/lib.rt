@@ -4,4 +4,4 @@
 
 mod laws;
 
-pub use laws::{groups_keep_serving, groups_open_serving, nodes_agree};
+pub use laws::{agreed_grows, has_agreed, keeps_the_order, machines_replay, nodes_agree};

@@ -1,5 +1,5 @@
 use Rattle.machine.specs.Machine.{rules_by}
-use Rattle.agreement.proofs.GroupServes.{nodes_agree}
+use Rattle.agreement.proofs.Agreed.PastAgrees.{nodes_agree}
 use Rattle.agreement.proofs.laws.nodes_agree.Goals as goal
 
 pub returns : goal.returns
