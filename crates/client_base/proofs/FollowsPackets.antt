@@ -2,6 +2,7 @@
 use Rattle.std.proofs.Common.{◌≡◌, ℕ, Bool, true, false, not, ◌&&◌, ◌||◌, ◌==◌, if◌then◌else◌, List, [], ◌∷◌, ◌++◌, map, filter, None, refl, ap, sym, ◌∙◌, append-nil}
 use Rattle.std.proofs.lemmas.Bool.{both_ways}
 use Rattle.lists.specs.Lists.{has_id}
+use Rattle.lists.proofs.Identifiers.{has_append}
 use Rattle.packet.specs.declared.packet.Packet.{Packet}
 use Rattle.packet.specs.declared.packet.Packet.TheVariants as packets
 use Rattle.packet.specs.declared.delivery.Delivery.{Delivery}
@@ -16,7 +17,7 @@ use Rattle.client_base.specs.Written.{plain, writing}
 use Rattle.client_base.specs.Handled.{at_puback, takes_in}
 use Rattle.client_base.specs.History.{StandsFor, WritesMore, IsSentFirst}
 use Rattle.client_base.proofs.Readings.{puback_sent, puback_unsent, puback_released}
-use Rattle.client_base.proofs.Released.{has_joined, has_without}
+use Rattle.client_base.proofs.Released.{has_without}
 
 -- what follows: the state stands for the client, and the same is written
 pub record Same (before after : Side ℕ) (turn : Turn) : Type 0 where
@@ -53,7 +54,7 @@ received_stands keeper state xs ys accepted s same =
     }
 
 either_end : (j id : ℕ) (xs ys : List ℕ) → has_id j xs ≡ has_id j ys → has_id j (xs ++ id ∷ []) ≡ has_id j (id ∷ ys)
-either_end j id xs ys same = has_joined j xs (id ∷ []) ∙ ap (λ b. b || has_id j (id ∷ [])) same ∙ turn (has_id j ys) (j == id)
+either_end j id xs ys same = has_append j xs (id ∷ []) ∙ ap (λ b. b || has_id j (id ∷ [])) same ∙ turn (has_id j ys) (j == id)
   where
     turn : (a b : Bool) → (a || (b || false)) ≡ (b || a)
     turn true true = refl

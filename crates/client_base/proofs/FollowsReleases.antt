@@ -3,6 +3,7 @@ use Rattle.std.proofs.Common.{◌≡◌, ℕ, Bool, true, false, not, ◌&&◌, 
 use Rattle.std.proofs.lemmas.Bool.{both_ways}
 use Rattle.std.specs.List.{list_any}
 use Rattle.lists.specs.Lists.{has_id}
+use Rattle.lists.proofs.Identifiers.{has_append}
 use Rattle.packet.specs.declared.packet.Packet.TheVariants as packets
 use Rattle.session_base.specs.Publication.{is_acknowledged}
 use Rattle.client_base.specs.State.{ClientState}
@@ -12,7 +13,7 @@ use Rattle.client_base.specs.Written.{plain, writing}
 use Rattle.client_base.specs.Handled.{at_pubrec, at_pubcomp, is_sent_with, releasing}
 use Rattle.client_base.specs.History.{StandsFor, released_of, IsSentFirst}
 use Rattle.client_base.proofs.Readings.{pubrec_sent, pubrec_unsent, pubrec_waits, pubcomp_sent, pubcomp_unsent, pubcomp_released}
-use Rattle.client_base.proofs.Released.{has_joined, has_without, pubrec_released}
+use Rattle.client_base.proofs.Released.{has_without, pubrec_released}
 use Rattle.client_base.proofs.FollowsPackets.{Same, silent, one_written}
 
 -- ---- PUBREC
@@ -45,7 +46,7 @@ released_last i keeper state s waits =
       is_online = s.is_online;
       was_served = s.was_served;
       releases_are = λ j.
-          has_joined j keeper.releases (i ∷ []) ∙ ap₂ (λ x y. x || y) (s.releases_are j) (alone (j == i) ∙ ap (λ b. (j == i) && b) (sym waits))
+          has_append j keeper.releases (i ∷ []) ∙ ap₂ (λ x y. x || y) (s.releases_are j) (alone (j == i) ∙ ap (λ b. (j == i) && b) (sym waits))
           ∙ sym (pubrec_released j i keeper.own);
       sent_first = first_pubrec i keeper.own s.sent_first;
       online_sent = λ e. pubrec_unsent i keeper.own ∙ s.online_sent e;
