@@ -2,12 +2,12 @@
 use Rattle.std.proofs.Common.{◌≡◌, ℕ, ◌≤◌, ◌<◌, Bool, true, false, ◌||◌, ◌==◌, ◌⊎◌, inl, inr, List, [], ◌∷◌, ◌++◌, map, refl, ap, ap₂, sym, ◌∙◌, arith}
 use Rattle.std.proofs.lemmas.Bool.{both_ways, cases_lt}
 use Rattle.lists.specs.Lists.{has_id}
+use Rattle.lists.proofs.Identifiers.{has_append}
 use Rattle.session_base.specs.Identifiers.{least_free}
 use Rattle.session_base.specs.Laws.{IsLeastFree}
 use Rattle.client_base.specs.State.{ClientState, ids_of_kept, id_of_request, used_ids}
 use Rattle.client_base.specs.Keeper.{Own, Keeper, ids_of_own, ids_in_use}
 use Rattle.client_base.specs.History.{StandsFor, sent_of, unsent_of, released_of}
-use Rattle.client_base.proofs.Released.{has_joined}
 
 -- while each below is used, the least free one is not below
 pub least_past : (busy : List ℕ) (n : ℕ) → IsLeastFree → ((j : ℕ) → 1 ≤ j → j < n → has_id j busy ≡ true) → n ≤ least_free busy
@@ -61,16 +61,16 @@ own_parts j (Own.Done k p ∷ own) = own_parts j own
 -- a state uses the identifiers of the client that it stands for
 used_same : (keeper : Keeper) (state : ClientState) → StandsFor keeper state → (j : ℕ) → has_id j (used_ids state) ≡ has_id j (ids_in_use keeper)
 used_same keeper state stands j =
-    has_joined j ((state.released ++ ids_of_kept state.sent) ++ ids_of_kept state.unsent) (map id_of_request state.requests)
+    has_append j ((state.released ++ ids_of_kept state.sent) ++ ids_of_kept state.unsent) (map id_of_request state.requests)
     ∙ ap₂ (λ x y. x || y)
-    (has_joined j (state.released ++ ids_of_kept state.sent) (ids_of_kept state.unsent)
+    (has_append j (state.released ++ ids_of_kept state.sent) (ids_of_kept state.unsent)
     ∙ ap₂ (λ x y. x || y)
-    (has_joined j state.released (ids_of_kept state.sent)
+    (has_append j state.released (ids_of_kept state.sent)
     ∙ ap₂ (λ x y. x || y) (ap (has_id j) stands.released ∙ stands.releases_are j) (ap (λ sent. has_id j (ids_of_kept sent)) stands.sent))
     (ap (λ unsent. has_id j (ids_of_kept unsent)) stands.unsent)
     ∙ sym (own_parts j keeper.own))
     (ap (λ requests. has_id j (map id_of_request requests)) stands.requests)
-    ∙ sym (has_joined j (ids_of_own keeper.own) (map id_of_request keeper.requests))
+    ∙ sym (has_append j (ids_of_own keeper.own) (map id_of_request keeper.requests))
 
 -- so the next identifier is the same
 pub next_same : (keeper : Keeper) (state : ClientState) → IsLeastFree → StandsFor keeper state → least_free (used_ids state) ≡ least_free (ids_in_use keeper)

@@ -1,14 +1,12 @@
 -- Readings.antt: what an answer of the server makes of all that was published, it makes of what is kept of it.
-use Rattle.std.proofs.Common.{◌≡◌, ℕ, Bool, true, false, not, ◌&&◌, ◌||◌, ◌==◌, if◌then◌else◌, List, [], ◌∷◌, ◌++◌, map, filter, refl, ap, sym, ◌∙◌}
+use Rattle.std.proofs.Common.{◌≡◌, ℕ, Bool, true, false, not, ◌&&◌, ◌||◌, ◌==◌, if◌then◌else◌, List, [], ◌∷◌, map, filter, refl, ap}
 use Rattle.std.specs.List.{list_any}
-use Rattle.lists.specs.Lists.{has_id}
-use Rattle.session_base.specs.declared.publication.Publication.{Publication}
 use Rattle.session_base.specs.Publication.{is_acknowledged}
 use Rattle.client_base.specs.declared.kept_publication.KeptPublication.{KeptPublication}
 use Rattle.client_base.specs.Answered.{without_id, awaits_puback, awaits_pubrec}
 use Rattle.client_base.specs.Keeper.{Own}
 use Rattle.client_base.specs.Handled.{at_puback, at_pubrec, at_pubcomp, is_sent_with}
-use Rattle.client_base.specs.History.{sent_of, unsent_of, released_of, IsSentFirst}
+use Rattle.client_base.specs.History.{sent_of, unsent_of, released_of}
 
 -- ---- PUBACK
 

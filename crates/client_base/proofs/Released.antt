@@ -1,15 +1,11 @@
 -- Released.antt: identifiers of released publications, as the order of their PUBREC has them and as all that was published has them.
-use Rattle.std.proofs.Common.{◌≡◌, ℕ, Bool, true, false, not, ◌&&◌, ◌||◌, ◌==◌, if◌then◌else◌, List, [], ◌∷◌, ◌++◌, map, filter, refl, ap, ap₂, sym, ◌∙◌, arith}
-use Rattle.std.proofs.lemmas.List.Folds.{list_any-append}
+use Rattle.std.proofs.Common.{◌≡◌, ℕ, Bool, true, false, not, ◌&&◌, ◌||◌, ◌==◌, if◌then◌else◌, List, [], ◌∷◌, map, refl, ap, ap₂, sym, ◌∙◌, arith}
 use Rattle.lists.specs.Lists.{has_id}
 use Rattle.session_base.specs.Publication.{is_acknowledged}
 use Rattle.client_base.specs.Answered.{without_id}
 use Rattle.client_base.specs.Keeper.{Own}
 use Rattle.client_base.specs.Handled.{at_pubrec, is_sent_with}
 use Rattle.client_base.specs.History.{released_of}
-
-pub has_joined : (j : ℕ) (xs ys : List ℕ) → has_id j (xs ++ ys) ≡ (has_id j xs || has_id j ys)
-has_joined j xs ys = list_any-append (λ other. j == other) xs ys
 
 -- without one identifier, the others are there as before
 pub has_without : (j i : ℕ) (xs : List ℕ) → has_id j (without_id i xs) ≡ (not (i == j) && has_id j xs)

@@ -12,7 +12,7 @@ mod stage;
 pub use accepted::Accepted;
 pub use error::ClientError;
 pub use kept_publication::KeptPublication;
-pub use laws::accepted_once_an_identifier;
+pub use laws::{accepted_once_an_identifier, history_is_followed};
 pub use request::Request;
 pub use stage::Stage;
 

@@ -1,4 +1,4 @@
-use crate::{ClientError, Request, Stage, accepted_once_an_identifier};
+use crate::{ClientError, Request, Stage, accepted_once_an_identifier, history_is_followed};
 use packet::PacketId;
 use std::test::Fail;
 use topics::MalformedKind;
@@ -30,5 +30,6 @@ fn requests_are_compared(rt: HostRuntime) -> Result<(), Fail> {
 #[test]
 fn laws_are_called() -> Result<(), Fail> {
     accepted_once_an_identifier();
+    history_is_followed();
     Ok(())
 }

@@ -1,115 +1,81 @@
 // Publications that a client keeps.
 
-use super::{
-    ACCEPTED, CONNECT, NOTHING, PRESENT, PUBLISH, new_client, online, publish, sessions, topic,
-    writes,
-};
-use crate::ClientError;
-use packet::{Payload, QoS};
-use std::test::Fail;
+use super::*;
 
 // PUBREC releases the second, and on the next connection it goes first, then the others in the order
 // in which they were published, and at last what was published offline.
 #[test]
 fn kept_publications_go_out_again(rt: HostRuntime) -> Result<(), Fail> {
-    let alloc = rt.alloc();
-    let mut client = online(&rt, rt.alloc())?;
-    for text in ["x", "y", "z"] {
-        publish(&mut client, alloc, QoS::ExactlyOnce, text)?;
-    }
-    client.on_bytes(&[0x50, 0x02, 0x00, 0x02])?;
-    client.lost();
-    assert!(rt; !client.connected());
-    publish(&mut client, alloc, QoS::AtLeastOnce, "w")?;
-    assert_eq!(rt; client.kept(), 4);
-    client.open()?;
-    writes(&rt, rt.alloc(), &mut client, &CONNECT)?;
-    client.on_bytes(&PRESENT)?;
+    let two = QoS::ExactlyOnce;
+    let first = [0x34, 0x08, 0x00, 0x03, 0x74, 0x2F, 0x31, 0x00, 0x01, 0x78];
+    let second = [0x34, 0x08, 0x00, 0x03, 0x74, 0x2F, 0x31, 0x00, 0x02, 0x79];
+    let pubrel = [0x62, 0x02, 0x00, 0x02];
+    let again = [
+        0x62, 0x02, 0x00, 0x02, 0x3C, 0x08, 0x00, 0x03, 0x74, 0x2F, 0x31, 0x00, 0x01, 0x78, 0x32,
+        0x08, 0x00, 0x03, 0x74, 0x2F, 0x31, 0x00, 0x03, 0x77,
+    ];
+    let rows = [
+        writes(Act::Open, &CONNECT, 0, 0),
+        writes(Act::Bytes(&ACCEPTED), &NOTHING, 0, 0),
+        writes(Act::Publish(two, "x"), &first, 1, 0),
+        writes(Act::Publish(two, "y"), &second, 2, 0),
+        writes(Act::Bytes(&[0x50, 0x02, 0x00, 0x02]), &pubrel, 2, 0),
+        writes(Act::Lost, &NOTHING, 2, 0),
+        writes(Act::Publish(QoS::AtLeastOnce, "w"), &NOTHING, 3, 0),
+        writes(Act::Open, &CONNECT, 3, 0),
+        writes(Act::Bytes(&PRESENT), &again, 3, 0),
+        writes(Act::Bytes(&[0x50, 0x02, 0x00, 0x02]), &pubrel, 3, 0),
+        writes(Act::Bytes(&[0x70, 0x02, 0x00, 0x02]), &NOTHING, 2, 0),
+        writes(Act::Bytes(&[0x40, 0x02, 0x00, 0x03]), &NOTHING, 1, 0),
+    ];
+    let client = play(&rt, rt.alloc(), &rows)?;
     assert!(rt; client.present());
-    writes(
-        &rt,
-        rt.alloc(),
-        &mut client,
-        &[
-            0x62, 0x02, 0x00, 0x02, 0x3C, 0x08, 0x00, 0x03, 0x74, 0x2F, 0x31, 0x00, 0x01, 0x78,
-            0x3C, 0x08, 0x00, 0x03, 0x74, 0x2F, 0x31, 0x00, 0x03, 0x7A, 0x32, 0x08, 0x00, 0x03,
-            0x74, 0x2F, 0x31, 0x00, 0x04, 0x77,
-        ],
-    )?;
-    // PUBREC for the released one gives PUBREL again, PUBCOMP ends it, PUBACK the last.
-    client.on_bytes(&[0x50, 0x02, 0x00, 0x02])?;
-    writes(&rt, rt.alloc(), &mut client, &[0x62, 0x02, 0x00, 0x02])?;
-    client.on_bytes(&[0x70, 0x02, 0x00, 0x02, 0x40, 0x02, 0x00, 0x04])?;
-    writes(&rt, rt.alloc(), &mut client, &NOTHING)?;
-    assert_eq!(rt; client.kept(), 2);
     Ok(())
 }
 
+// Sixteen are kept, offline too; QoS 0 is not.
 #[test]
 fn the_seventeenth_is_refused(rt: HostRuntime) -> Result<(), Fail> {
-    let alloc = rt.alloc();
-    let mut client = new_client(alloc)?;
-    for _ in 0..16 {
-        publish(&mut client, alloc, QoS::ExactlyOnce, "x")?;
+    let mut client = new_client(rt.alloc())?;
+    for kept in 1..17 {
+        let kept = writes(Act::Publish(QoS::ExactlyOnce, "x"), &NOTHING, kept, 0);
+        check(&rt, rt.alloc(), &mut client, &kept)?;
     }
-    let payload = Payload::new(alloc, &[0x78])?;
-    let refused = client.publish(topic(alloc)?, QoS::AtLeastOnce, false, payload);
-    assert_eq!(rt; refused.err(), Some(ClientError::WindowFull));
-    let payload = Payload::new(alloc, &[0x78])?;
-    let refused = client.publish(topic(alloc)?, QoS::AtMostOnce, false, payload);
-    assert_eq!(rt; refused.err(), Some(ClientError::NotActive));
-    assert_eq!(rt; client.kept(), 16);
-    Ok(())
+    let full = refused(
+        Act::Publish(QoS::AtLeastOnce, "x"),
+        ClientError::WindowFull,
+        16,
+        0,
+    );
+    check(&rt, rt.alloc(), &mut client, &full)?;
+    let offline = refused(
+        Act::Publish(QoS::AtMostOnce, "x"),
+        ClientError::NotActive,
+        16,
+        0,
+    );
+    check(&rt, rt.alloc(), &mut client, &offline)
 }
 
-// A payload of 1,048,569 bytes on `t` is the longest at QoS 0; on `t/1` it is too long.
-#[test]
-fn too_large_is_refused(rt: HostRuntime) -> Result<(), Fail> {
-    let alloc = rt.alloc();
-    let mut client = online(&rt, rt.alloc())?;
-    let mut bytes = Vec::new(alloc);
-    for _ in 0..1_048_568 {
-        bytes.push(0x78)?;
-    }
-    let payload = Payload::new(alloc, &bytes)?;
-    let refused = client.publish(topic(alloc)?, QoS::AtMostOnce, false, payload);
-    assert_eq!(rt; refused.err(), Some(ClientError::TooLarge));
-    let payload = Payload::new(alloc, &bytes[..1_048_566])?;
-    let refused = client.publish(topic(alloc)?, QoS::AtLeastOnce, false, payload);
-    assert_eq!(rt; refused.err(), Some(ClientError::TooLarge));
-    let payload = Payload::new(alloc, &bytes[..1_048_565])?;
-    client.publish(topic(alloc)?, QoS::AtLeastOnce, false, payload)?;
-    assert_eq!(rt; client.kept(), 1);
-    Ok(())
-}
-
-// A session that the server lost takes with it what was kept and which identifiers were accepted.
+// A session that the server lost takes with it what was kept and which identifiers were accepted. What
+// is behind its CONNACK is handled by the next call.
 #[test]
 fn a_lost_session_forgets(rt: HostRuntime) -> Result<(), Fail> {
-    let alloc = rt.alloc();
-    let mut client = online(&rt, rt.alloc())?;
-    publish(&mut client, alloc, QoS::ExactlyOnce, "x")?;
-    client.on_bytes(&PUBLISH)?;
-    client.lost();
-    client.open()?;
-    writes(&rt, rt.alloc(), &mut client, &CONNECT)?;
-    // The PUBLISH behind the CONNACK is handled by the next call.
-    let mut bytes = Vec::new(alloc);
-    bytes.extend_from_slice(&ACCEPTED)?;
-    bytes.extend_from_slice(&PUBLISH)?;
-    assert_eq!(rt;
-        client.on_bytes(&bytes).err(),
-        Some(ClientError::SessionLost)
-    );
+    let first = [0x34, 0x08, 0x00, 0x03, 0x74, 0x2F, 0x31, 0x00, 0x01, 0x78];
+    let connack = [
+        0x20, 0x02, 0x00, 0x00, 0x34, 0x08, 0x00, 0x03, 0x74, 0x2F, 0x31, 0x00, 0x01, 0x78,
+    ];
+    let rows = [
+        writes(Act::Open, &CONNECT, 0, 0),
+        writes(Act::Bytes(&ACCEPTED), &NOTHING, 0, 0),
+        writes(Act::Publish(QoS::ExactlyOnce, "x"), &first, 1, 0),
+        writes(Act::Bytes(&PUBLISH), &PUBREC, 1, 1),
+        writes(Act::Open, &CONNECT, 1, 1),
+        refused(Act::Bytes(&connack), ClientError::SessionLost, 0, 1),
+        writes(Act::Bytes(&NOTHING), &PUBREC, 0, 2),
+    ];
+    let client = play(&rt, rt.alloc(), &rows)?;
     assert!(rt; client.connected());
-    assert_eq!(rt; client.kept(), 0);
-    assert_eq!(rt; client.accepted().len(), 1);
-    writes(&rt, rt.alloc(), &mut client, &NOTHING)?;
-    client.on_bytes(&NOTHING)?;
-    writes(&rt, rt.alloc(), &mut client, &[0x50, 0x02, 0x00, 0x01])?;
-    assert_eq!(rt;
-        sessions(alloc, client.accepted())?.as_slice(),
-        [1, 2].as_slice()
-    );
+    assert_eq!(rt; client.accepted().last().map(|one| one.session), Some(2));
     Ok(())
 }
