@@ -17,7 +17,7 @@ use Rattle.broker_base.specs.StepAnswers.{sent_on, copies_answered}
 use Rattle.broker_base.specs.StateLaws.{AreByClient}
 use Rattle.broker_base.specs.Command.TheVariants as commands
 use Rattle.broker_base.specs.Output.{Output}
-use Rattle.subs.specs.Inside.{row_of}
+use Rattle.subs.specs.Granted.{row_of}
 use Rattle.broker_rows.specs.Published.{granted_rows, copy_answered}
 use Rattle.broker_rows.proofs.FindsEach.{Finds, finds_each}
 

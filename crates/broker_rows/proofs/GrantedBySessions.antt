@@ -16,9 +16,8 @@ use Rattle.broker_base.proofs.SessionsStayByClient.{ComesBefore}
 use Rattle.broker_base.specs.StateLaws.{AreByClient}
 use Rattle.broker_base.proofs.ClientsInOrder.{same_is}
 use Rattle.subs.specs.Content.{Content}
-use Rattle.subs.specs.Granted.{Row, clients_of, IsGreatest, IsGranted}
-use Rattle.subs.specs.Inside.{row_of}
-use Rattle.subs_base.proofs.GrantsOneList.{one_list}
+use Rattle.subs.specs.Granted.{Row, clients_of, IsGreatest, IsGranted, row_of}
+use Rattle.subs.proofs.GrantsOneList.{one_list}
 use Rattle.broker_rows.specs.Published.{granted_rows}
 use Rattle.broker_rows.specs.Indexed.{AreFiltersApart, AllFiltersApart, subscribed_in, content_in}
 use Rattle.broker_rows.proofs.FindsEach.{Finds, finds_each}

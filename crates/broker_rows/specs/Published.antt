@@ -13,8 +13,7 @@ use Rattle.broker_base.specs.ClientSession.{ClientSession}
 use Rattle.broker_base.specs.State.{Sessions}
 use Rattle.broker_base.specs.StepAnswers.{sent_on}
 use Rattle.broker_base.specs.Output.{Output}
-use Rattle.subs.specs.Granted.{Row}
-use Rattle.subs.specs.Inside.{row_of}
+use Rattle.subs.specs.Granted.{Row, row_of}
 
 -- a row for each session with a subscription that matches the topic, with the greatest QoS
 abbrev pub granted_rows : List ℕ → Sessions → List Row
