@@ -3,10 +3,12 @@ pub mod Adding
 pub mod Apart
 pub mod EqualLists
 pub mod Framing
+pub mod MoveLines
 pub mod Giving
 pub mod Going
 pub mod Joining
 pub mod Later
+pub mod SaysLater
 pub mod Leaving
 pub mod Lining
 pub mod Losing
@@ -15,7 +17,9 @@ pub mod Others
 pub mod Outputs
 pub mod Quiet
 pub mod QuietWorlds
-pub mod RolesAndRows
+pub mod Roles
+pub mod Rows
+pub mod Bases
 pub mod Sealing
 pub mod Taking
 pub mod Telling

@@ -2,4 +2,5 @@
 pub mod Applies
 pub mod Comparing
 pub mod ReplaysKept
+pub mod ChangingApplies
 pub mod StepApplies

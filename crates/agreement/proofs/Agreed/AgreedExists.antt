@@ -14,11 +14,11 @@ use Rattle.agreement.specs.Inside.Sound.{IsSound}
 use Rattle.agreement.specs.Inside.ToldLengths.{told_length, least_of, chosen_length}
 use Rattle.lists.proofs.Beginnings.{prefix_then, prefix_take, take_prefix}
 use Rattle.agreement.proofs.Frame.Apart.{chosen_within}
-use Rattle.agreement.proofs.Masters.Assigning.{at_most_newest}
+use Rattle.agreement.proofs.Masters.Assigned.{at_most_newest}
 use Rattle.agreement.proofs.Frame.Framing.{within_of}
-use Rattle.agreement.proofs.Frame.Later.{told_less}
+use Rattle.agreement.proofs.Frame.SaysLater.{told_less}
 use Rattle.agreement.proofs.Agreed.MostTold.{told_whole, told_at_most}
-use Rattle.agreement.proofs.Frame.Sealing.{chosen_told, base_is, one_line}
+use Rattle.agreement.proofs.Frame.Bases.{chosen_told, base_is, one_line}
 use Rattle.agreement.proofs.Frame.Taking.{activated_base}
 
 -- the least is at most the bound

@@ -15,10 +15,10 @@ use Rattle.agreement.specs.Past.Past.{began, went_on}
 use Rattle.agreement.specs.Proposals.{proposal_of, proposals_of, IsPartOf}
 use Rattle.agreement.specs.Proposals.IsPartOf.{nothing_left, with_one, without_one}
 use Rattle.agreement.specs.Steps.{MayHappen}
-use Rattle.agreement.proofs.Agreed.PastKnown.{serves_then}
+use Rattle.agreement.proofs.Agreed.KnownSteps.{serves_then}
 use Rattle.agreement.proofs.Frame.EqualLists.{prefix_of_same}
 use Rattle.agreement.proofs.Orders.OwnSteps.{own_in_logs}
-use Rattle.agreement.proofs.Runs.OpeningNodes.{first_lined}
+use Rattle.agreement.proofs.Runs.OpeningTold.{first_lined}
 use Rattle.agreement.proofs.Runs.OpeningServes.{opening_is_serving}
 use Rattle.agreement.proofs.Runs.RunsGoOn.{group_goes_on}
 use Rattle.agreement.proofs.Runs.Serves.{one_step}

@@ -21,13 +21,15 @@ use Rattle.agreement.specs.Inside.Keeps.{KeepsAdding}
 use Rattle.agreement.specs.Inside.Sound.{Says, IsInstalling, IsSoundNode, IsSound}
 use Rattle.agreement.proofs.Frame.Adding.{adds_less}
 use Rattle.agreement.proofs.Frame.EqualLists.{prefix_of_same}
-use Rattle.agreement.proofs.Serving.Growing.{keeps_added}
+use Rattle.agreement.proofs.Serving.CommandAdded.{keeps_added}
 use Rattle.agreement.proofs.Serving.Leading.{Leading}
-use Rattle.agreement.proofs.Changing.Installings.{in_others, others_in, not_others, all_installed}
+use Rattle.agreement.proofs.Changing.OtherMembers.{in_others, others_in, not_others}
+use Rattle.agreement.proofs.Changing.Installings.{all_installed}
 use Rattle.agreement.proofs.Frame.Later.{takes}
 use Rattle.agreement.proofs.Frame.Quiet.{keeps_nothing}
-use Rattle.agreement.proofs.Frame.Sealing.{chosen_told}
-use Rattle.agreement.proofs.Frame.RolesAndRows.{role_installing, on_activated-stays, on_activated-adds}
+use Rattle.agreement.proofs.Frame.Bases.{chosen_told}
+use Rattle.agreement.proofs.Frame.Roles.{role_installing}
+use Rattle.agreement.proofs.Frame.Rows.{on_activated-stays, on_activated-adds}
 
 -- the progress that are made for some members
 pub reached_of : (held : ℕ) (ms : List ℕ) (reached : Progress) → In reached (progress_at held ms) → In reached.member ms × (reached.held ≡ held)

@@ -7,7 +7,7 @@ use Rattle.lists.specs.Lists.{In}
 use Rattle.agreement.specs.Inside.Ballots.{Line, History, IsChosenIn, AreBallots, AreLines, IsWithin}
 use Rattle.agreement.specs.Agreement.{Segment}
 use Rattle.lists.proofs.Beginnings.{prefix_length}
-use Rattle.agreement.proofs.Frame.Sealing.{chosen_told}
+use Rattle.agreement.proofs.Frame.Bases.{chosen_told}
 use Rattle.agreement.proofs.Frame.Taking.{activated_base}
 
 -- what is chosen in a ballot lies within its list

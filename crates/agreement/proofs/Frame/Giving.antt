@@ -18,8 +18,9 @@ use Rattle.agreement.specs.Agreement.{Segment}
 use Rattle.lists.proofs.Places.{get_set}
 use Rattle.lists.proofs.Members.{in_append, in_at}
 use Rattle.agreement.proofs.Frame.Apart.{apart_now, chosen_within}
-use Rattle.agreement.proofs.Frame.Framing.{within_of, move_extends, move_within, move_lines}
-use Rattle.agreement.proofs.Changing.Installs.{same_front}
+use Rattle.agreement.proofs.Frame.Framing.{within_of, move_extends, move_within}
+use Rattle.agreement.proofs.Frame.MoveLines.{move_lines}
+use Rattle.agreement.proofs.Changing.InstallHeard.{same_front}
 use Rattle.agreement.proofs.Frame.Leaving.{bounds_back, applied_still, segment_kept}
 use Rattle.agreement.proofs.Frame.Moved.{ballots_same}
 

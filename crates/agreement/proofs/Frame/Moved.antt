@@ -13,8 +13,9 @@ use Rattle.agreement.specs.Inside.Moves.{Moves, with_lines}
 use Rattle.agreement.specs.Inside.Sound.{Says, IsSoundNode, LeftIs, IsSound}
 use Rattle.lists.proofs.Places.{get_set, get_set_other}
 use Rattle.lists.proofs.Members.{in_append}
-use Rattle.agreement.proofs.Frame.Later.{says_kept}
-use Rattle.agreement.proofs.Frame.Framing.{within_of, move_extends, move_within, move_lines}
+use Rattle.agreement.proofs.Frame.SaysLater.{says_kept}
+use Rattle.agreement.proofs.Frame.Framing.{within_of, move_extends, move_within}
+use Rattle.agreement.proofs.Frame.MoveLines.{move_lines}
 use Rattle.agreement.proofs.Frame.Others.{other_node}
 
 -- a chain with other lists

@@ -8,7 +8,8 @@ use Rattle.agreement.specs.Inside.Ballots.{Given, Line, History, Told, Extends, 
 use Rattle.agreement.specs.Inside.Moves.{Moves, with_lines, TellsNow}
 use Rattle.agreement.specs.Inside.Sound.{IsSoundNode}
 use Rattle.lists.proofs.Beginnings.{prefix_then}
-use Rattle.agreement.proofs.Frame.Later.{told_kept, applied_kept, of_kept}
+use Rattle.agreement.proofs.Frame.Later.{told_kept, applied_kept}
+use Rattle.agreement.proofs.Frame.SaysLater.{of_kept}
 use Rattle.agreement.proofs.Frame.Framing.{move_extends}
 
 -- the lists lie between the base and the list of a ballot that grows

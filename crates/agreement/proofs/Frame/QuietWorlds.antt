@@ -14,7 +14,8 @@ use Rattle.agreement.specs.Inside.Sound.{Says, IsSoundNode, IsSound}
 use Rattle.agreement.specs.Agreement.{Segment}
 use Rattle.lists.proofs.Places.{get_set, get_set_other}
 use Rattle.lists.proofs.Members.{in_append}
-use Rattle.agreement.proofs.Frame.Later.{chosen_kept, sealed_kept, says_kept}
+use Rattle.agreement.proofs.Frame.Later.{chosen_kept, sealed_kept}
+use Rattle.agreement.proofs.Frame.SaysLater.{says_kept}
 use Rattle.agreement.proofs.Frame.Joining.{MovesQuietly, told_back, quiet_extends, quiet_node}
 
 -- the rows on lists behind such a move

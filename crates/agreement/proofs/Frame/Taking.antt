@@ -8,7 +8,7 @@ use Rattle.lists.specs.Lists.In.{here, there}
 use Rattle.agreement.specs.Inside.Ballots.{Given, Line, History, IsChosenIn, Sealed, IsChain, AreBallots, AreLines, IsPlaced, Applied}
 use Rattle.agreement.specs.Inside.Ballots.Applied.{nothing, in_ballot}
 use Rattle.lists.proofs.Beginnings.{prefix_then}
-use Rattle.agreement.proofs.Frame.Sealing.{sealed_bounds, before_base, base_is, chosen_told}
+use Rattle.agreement.proofs.Frame.Bases.{sealed_bounds, before_base, base_is, chosen_told}
 
 -- older ballots are lower
 pub chain_falls : {C : Type 0} (h : History C) (b : ℕ) (older : List ℕ) → IsChain h (b ∷ older) → (x : ℕ) → In x older → x < b

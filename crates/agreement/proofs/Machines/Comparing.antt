@@ -13,9 +13,9 @@ use Rattle.agreement.specs.Inside.Keeps.{NodeGoesOn}
 use Rattle.agreement.specs.Inside.Sound.{IsSound}
 use Rattle.lists.proofs.Beginnings.{prefix_then, prefix_either, prefix_take, take_prefix}
 use Rattle.agreement.proofs.Frame.Framing.{within_of}
-use Rattle.agreement.proofs.Changing.Installs.{same_front}
+use Rattle.agreement.proofs.Changing.InstallHeard.{same_front}
 use Rattle.agreement.proofs.Frame.Later.{applied_kept}
-use Rattle.agreement.proofs.Frame.Sealing.{one_line}
+use Rattle.agreement.proofs.Frame.Bases.{one_line}
 use Rattle.agreement.proofs.Frame.Taking.{activated_base}
 
 -- of two lists that are chosen in activated ballots one begins the other

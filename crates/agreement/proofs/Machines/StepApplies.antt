@@ -1,92 +1,24 @@
 -- StepApplies.antt: each row of the protocol applies places in order, from where its machine is.
-use Rattle.std.proofs.Common.{◌≡◌, ℕ, ◌<◌, ◌≤◌, ◌⊎◌, inl, inr, true, false, max, List, length, refl, sym, subst, arith}
-use Rattle.std.specs.Prelude.{nat_lt, nat_le, ◌&&◌, ◌||◌, ◌==◌}
-use Rattle.std.specs.List.{list_any}
+use Rattle.std.proofs.Common.{◌≡◌, ℕ, ◌<◌, ◌≤◌, ◌⊎◌, inl, inr, true, false, max, length, refl, sym, subst, arith}
+use Rattle.std.specs.Prelude.{nat_lt, nat_le, ◌&&◌, ◌==◌}
 use Rattle.std.proofs.lemmas.Bool.{cases_Bool, cases_lt}
 use Rattle.machine.specs.Machine.{Rules}
 use Rattle.ballot.specs.Applying.{applied_to}
-use Rattle.ballot.specs.Changing.{on_new_ballot, on_join, on_install, on_superseded, on_state, on_installed, on_activated}
+use Rattle.ballot.specs.Changing.{on_activated}
 use Rattle.ballot.specs.Body.{Body}
 use Rattle.ballot.specs.Body.TheVariants.{NewBallot, Join, State, Install, Installed, Activate, Activated, Superseded, Append, Held, Commit}
 use Rattle.ballot.specs.Role.{Role}
 use Rattle.ballot.specs.Role.TheVariants.{Backup, Fetching, Installing, Active}
 use Rattle.ballot.specs.Protocol.{Input, received, ticked, replica_step}
 use Rattle.ballot.specs.Protocol.Input.{Receives, Proposes, Ticks}
-use Rattle.ballot.specs.Replica.{ReplicaState, is_fetching, is_installing, is_active, others, progress_at}
+use Rattle.ballot.specs.Replica.{ReplicaState, is_installing, is_active, others, progress_at}
 use Rattle.ballot.specs.Sending.{Outcome}
 use Rattle.ballot.specs.Serving.{most_places, proposed, follows, leads, least, raised, commit, on_append, on_held, on_commit, on_tick_active}
 use Rattle.ballot.proofs.StepRows.{proposed-adds, proposed-full, proposed-not_active}
 use Rattle.agreement.proofs.Machines.Applies.{Applies, applies_nothing, applies_to, commit_applies, added_applies, added_behind}
-use Rattle.agreement.proofs.Frame.RolesAndRows.{on_activated-stays, on_activated-adds}
+use Rattle.agreement.proofs.Frame.Rows.{on_activated-stays, on_activated-adds}
 use Rattle.agreement.proofs.Starts.StaysActive.{added_keeps}
-
--- NewBallot
-new_ballot_applies : {S C O : Type 0} (rules : Rules S C O) (r : ReplicaState S C) (b : ℕ) (members : List ℕ) (a : ℕ) (old : List ℕ) →
-    Applies rules r (on_new_ballot O r b members a old).state
-unfolding on_new_ballot
-new_ballot_applies {O = O} rules r b members a old = by_condition (cases_Bool (nat_lt r.joined b))
-  where
-    by_condition : ((nat_lt r.joined b) ≡ true) ⊎ ((nat_lt r.joined b) ≡ false) → Applies rules r (on_new_ballot O r b members a old).state
-    by_condition (inl e) = rw e (applies_nothing rules r _ refl refl)
-    by_condition (inr e) = rw e (applies_nothing rules r r refl refl)
-
--- Join
-join_applies : {S C O : Type 0} (rules : Rules S C O) (r : ReplicaState S C) (from b a : ℕ) → Applies rules r (on_join O r from b a).state
-unfolding on_join
-join_applies {O = O} rules r from b a = by_condition (cases_Bool (nat_le r.joined b && nat_le a r.held_in)) (cases_Bool (nat_lt r.joined b))
-  where
-    by_condition : ((nat_le r.joined b && nat_le a r.held_in) ≡ true) ⊎ ((nat_le r.joined b && nat_le a r.held_in) ≡ false) →
-        (nat_lt r.joined b ≡ true) ⊎ (nat_lt r.joined b ≡ false) → Applies rules r (on_join O r from b a).state
-    by_condition (inl e) (inl f) = rw (e, f) (applies_nothing rules r _ refl refl)
-    by_condition (inl e) (inr f) = rw (e, f) (applies_nothing rules r _ refl refl)
-    by_condition (inr e) f = rw e (applies_nothing rules r r refl refl)
-
--- State
-state_applies : {S C O : Type 0} (rules : Rules S C O) (r : ReplicaState S C) (b : ℕ) (log : List C) → Applies rules r (on_state O r b log).state
-unfolding on_state
-state_applies {O = O} rules r b log = by_condition (cases_Bool (r.joined == b && (is_fetching r.role && nat_le r.committed (length log))))
-  where
-    by_condition : ((r.joined == b && (is_fetching r.role && nat_le r.committed (length log))) ≡ true)
-        ⊎ ((r.joined == b && (is_fetching r.role && nat_le r.committed (length log))) ≡ false) → Applies rules r (on_state O r b log).state
-    by_condition (inl e) = rw e (applies_nothing rules r _ refl refl)
-    by_condition (inr e) = rw e (applies_nothing rules r r refl refl)
-
--- Install
-install_applies : {S C O : Type 0} (rules : Rules S C O) (r : ReplicaState S C) (from b : ℕ) (log : List C) →
-    Applies rules r (on_install O r from b log).state
-unfolding on_install
-install_applies {O = O} rules r from b log =
-    by_condition (cases_Bool ((nat_lt r.joined b || (r.joined == b && nat_lt r.held_in b)) && nat_le r.committed (length log)))
-    (cases_Bool (r.joined == b && r.held_in == b))
-  where
-    by_condition : (((nat_lt r.joined b || (r.joined == b && nat_lt r.held_in b)) && nat_le r.committed (length log)) ≡ true)
-        ⊎ (((nat_lt r.joined b || (r.joined == b && nat_lt r.held_in b)) && nat_le r.committed (length log)) ≡ false) →
-        ((r.joined == b && r.held_in == b) ≡ true) ⊎ ((r.joined == b && r.held_in == b) ≡ false) → Applies rules r (on_install O r from b log).state
-    by_condition (inl e) f = rw e (applies_nothing rules r _ refl refl)
-    by_condition (inr e) (inl f) = rw (e, f) (applies_nothing rules r _ refl refl)
-    by_condition (inr e) (inr f) = rw (e, f) (applies_nothing rules r r refl refl)
-
--- Installed
-installed_applies : {S C O : Type 0} (rules : Rules S C O) (r : ReplicaState S C) (from b : ℕ) → Applies rules r (on_installed O r from b).state
-unfolding on_installed
-installed_applies {O = O} rules r from b =
-    by_condition (cases_Bool ((r.joined == b && is_installing r.role) && list_any (λ member. member == from) r.lacking))
-  where
-    by_condition : (((r.joined == b && is_installing r.role) && list_any (λ member. member == from) r.lacking) ≡ true)
-        ⊎ (((r.joined == b && is_installing r.role) && list_any (λ member. member == from) r.lacking) ≡ false) →
-        Applies rules r (on_installed O r from b).state
-    by_condition (inl e) = rw e (applies_nothing rules r _ refl refl)
-    by_condition (inr e) = rw e (applies_nothing rules r r refl refl)
-
--- Superseded
-superseded_applies : {S C O : Type 0} (rules : Rules S C O) (r : ReplicaState S C) (b : ℕ) → Applies rules r (on_superseded O r b).state
-unfolding on_superseded
-superseded_applies {O = O} rules r b = by_condition (cases_Bool (r.joined == b && is_installing r.role))
-  where
-    by_condition : ((r.joined == b && is_installing r.role) ≡ true) ⊎ ((r.joined == b && is_installing r.role) ≡ false) →
-        Applies rules r (on_superseded O r b).state
-    by_condition (inl e) = rw e (applies_nothing rules r _ refl refl)
-    by_condition (inr e) = rw e (applies_nothing rules r r refl refl)
+use Rattle.agreement.proofs.Machines.ChangingApplies.{new_ballot_applies, join_applies, state_applies, install_applies, installed_applies, superseded_applies}
 
 -- Append
 append_applies : {S C O : Type 0} (rules : Rules S C O) (r : ReplicaState S C) (from b place : ℕ) (c : C) →

@@ -6,7 +6,8 @@ use Rattle.agreement.specs.World.{World}
 use Rattle.lists.specs.Lists.{In}
 use Rattle.agreement.specs.Inside.Ballots.{Given, Line, History, Told, AreLines, Extends, IsWithin}
 use Rattle.agreement.specs.Inside.Sound.{IsSoundNode}
-use Rattle.agreement.proofs.Frame.Later.{told_kept, applied_kept, of_kept}
+use Rattle.agreement.proofs.Frame.Later.{told_kept, applied_kept}
+use Rattle.agreement.proofs.Frame.SaysLater.{of_kept}
 use Rattle.agreement.proofs.Frame.Others.{between_kept}
 
 -- a node, with more ballots

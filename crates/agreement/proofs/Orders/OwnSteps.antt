@@ -19,7 +19,7 @@ use Rattle.agreement.specs.Inside.Own.{OwnLines}
 use Rattle.agreement.specs.Inside.Sound.{IsSound}
 use Rattle.lists.proofs.Beginnings.{prefix_then}
 use Rattle.agreement.proofs.Orders.Owning.{own_starts, own_proposed}
-use Rattle.agreement.proofs.Frame.Sealing.{one_line}
+use Rattle.agreement.proofs.Frame.Bases.{one_line}
 
 -- the proposals behind a step of a node: those before, or one more
 pub record OwnGoesOn {C : Type 0} (start_of : ℕ → C) (h : History C) (rows adds : List (ℕ × C)) : Type 0 where

@@ -16,7 +16,7 @@ use Rattle.agreement.specs.Replays.{IsReplay, AreReplays}
 use Rattle.agreement.specs.Inside.Sound.{IsSound}
 use Rattle.agreement.proofs.Masters.Assigns.{can_open_is}
 use Rattle.agreement.proofs.Runs.RunsGoOn.{opening_begun}
-use Rattle.agreement.proofs.Runs.OpeningNodes.{first_given}
+use Rattle.agreement.proofs.Runs.OpeningTold.{first_given}
 use Rattle.agreement.proofs.Runs.OpeningWorlds.{opens_node, opening_sound, opening_is_master}
 
 -- how many nodes open

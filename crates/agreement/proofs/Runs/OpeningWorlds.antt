@@ -16,7 +16,8 @@ use Rattle.agreement.specs.MasterState.{opening_master}
 use Rattle.agreement.specs.Inside.Sound.{IsSoundNode, IsSound}
 use Rattle.lists.proofs.Beginnings.{prefix_same}
 use Rattle.agreement.proofs.Frame.Giving.{get_pushed_to}
-use Rattle.agreement.proofs.Runs.OpeningNodes.{first_given, first_lined, told_opens, node_opens}
+use Rattle.agreement.proofs.Runs.OpeningTold.{first_given, first_lined, told_opens}
+use Rattle.agreement.proofs.Runs.OpeningNodes.{node_opens}
 
 -- the nodes that open
 opening_length : {S C O : Type 0} (rules : Rules S C O) (nodes : ℕ) (config : Config) → length (opening_nodes rules nodes config) ≡ nodes

@@ -19,12 +19,13 @@ use Rattle.agreement.specs.Inside.Masters.{IsMaster}
 use Rattle.agreement.specs.Inside.OpeningHistory.{opening_history}
 use Rattle.agreement.specs.Replays.{AreReplays}
 use Rattle.agreement.specs.Inside.Sound.{IsSound}
-use Rattle.agreement.proofs.Masters.Assigning.{GivenNow, ActivatedNow, assign_goes_on}
+use Rattle.agreement.proofs.Masters.Assigned.{GivenNow, ActivatedNow}
+use Rattle.agreement.proofs.Masters.Assigning.{assign_goes_on}
 use Rattle.agreement.proofs.Starts.Begins.{begun_lines, keeps_begun}
 use Rattle.agreement.proofs.Starts.LongActive.{long_moved, long_same, loses_begins}
 use Rattle.agreement.proofs.Frame.Losing.{lossy_goes_on}
 use Rattle.agreement.proofs.Masters.MasterActivates.{activate_goes_on}
-use Rattle.agreement.proofs.Runs.OpeningNodes.{first_lined}
+use Rattle.agreement.proofs.Runs.OpeningTold.{first_lined}
 use Rattle.agreement.proofs.Orders.OwnSteps.{own_goes_on}
 use Rattle.agreement.proofs.Frame.Quiet.{keeps_halted}
 use Rattle.agreement.proofs.Machines.ReplaysKept.{replays_moved, step_replays}

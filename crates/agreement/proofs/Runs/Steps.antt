@@ -25,7 +25,7 @@ use Rattle.agreement.proofs.Changing.Activating.{keeps_activated}
 use Rattle.agreement.proofs.Frame.Adding.{adds_less}
 use Rattle.agreement.proofs.Changing.Answering.{keeps_install}
 use Rattle.agreement.proofs.Serving.Appending.{keeps_append}
-use Rattle.agreement.proofs.Masters.Assigning.{Assigned}
+use Rattle.agreement.proofs.Masters.Assigned.{Assigned}
 use Rattle.agreement.proofs.Serving.Committing.{keeps_commit}
 use Rattle.agreement.proofs.Serving.Holding.{keeps_held}
 use Rattle.agreement.proofs.Changing.Installings.{keeps_installed}

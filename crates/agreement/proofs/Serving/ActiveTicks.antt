@@ -20,7 +20,7 @@ use Rattle.agreement.specs.Inside.Sound.{Says, IsActive, IsSoundNode, IsSound}
 use Rattle.lists.proofs.Members.{in_append}
 use Rattle.agreement.proofs.Effects.{messages-append, outputs-append, outputs_of_messages}
 use Rattle.agreement.proofs.Frame.Joining.{IsSilent}
-use Rattle.agreement.proofs.Frame.Later.{told_less}
+use Rattle.agreement.proofs.Frame.SaysLater.{told_less}
 use Rattle.agreement.proofs.Serving.Ticking.{speaking_keeps}
 
 -- a message to each member that a progress is kept of

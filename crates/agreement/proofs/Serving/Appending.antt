@@ -1,7 +1,7 @@
 -- Appending.antt: an Append that comes to a backup.
-use Rattle.std.proofs.Common.{◌≡◌, ℕ, ◌+◌, ◌<◌, ◌≤◌, ◌⊎◌, inl, inr, true, false, cond, List, [], ◌∷◌, ◌++◌, length, take, Some, refl, ap, sym, ◌∙◌, subst, arith}
+use Rattle.std.proofs.Common.{◌≡◌, ℕ, ◌+◌, ◌<◌, ◌≤◌, ◌⊎◌, inl, inr, true, false, List, [], ◌∷◌, length, take, Some, refl, ap, sym, ◌∙◌, subst, arith}
 use Rattle.std.specs.Prelude.{slice_get}
-use Rattle.std.proofs.lemmas.Bool.{cases_Bool, cases_eq, cases_lt, eq-eqb, ne_eqb}
+use Rattle.std.proofs.lemmas.Bool.{cases_Bool, cases_lt}
 use Rattle.machine.specs.Machine.{Rules}
 use Rattle.ballot.specs.Message.{Message}
 use Rattle.ballot.specs.Body.TheVariants.{Append, Held}
@@ -18,41 +18,18 @@ use Rattle.agreement.specs.Inside.Keeps.LineAdds.{as_it_was}
 use Rattle.agreement.specs.Inside.Keeps.{Keeps}
 use Rattle.agreement.specs.Inside.Moves.{Moves, with_lines}
 use Rattle.agreement.specs.Inside.Sound.{Says, IsSoundNode, IsSound}
-use Rattle.lists.proofs.Beginnings.{prefix_same, prefix_then, prefix_push, prefix_next, prefix_length, take_prefix}
+use Rattle.lists.proofs.Beginnings.{prefix_then, prefix_length, take_prefix}
 use Rattle.agreement.proofs.Effects.{thinned_messages, thinned_outputs}
 use Rattle.agreement.proofs.Serving.Committing.{Follows, follows_is}
-use Rattle.agreement.proofs.Frame.Framing.{tells_here, within_of, move_extends}
+use Rattle.agreement.proofs.Frame.MoveLines.{tells_here}
+use Rattle.agreement.proofs.Frame.Framing.{within_of, move_extends}
 use Rattle.agreement.proofs.Frame.Later.{applied_kept}
 use Rattle.agreement.proofs.Frame.Leaving.{left_same}
 use Rattle.agreement.proofs.Frame.Moved.{move_sound}
 use Rattle.agreement.proofs.Frame.Quiet.{keeps_nothing}
-use Rattle.agreement.proofs.Frame.RolesAndRows.{role_backup}
+use Rattle.agreement.proofs.Frame.Roles.{role_backup}
 use Rattle.agreement.proofs.Frame.Telling.{TellsWithin, same_moves, told_placed, told_in_log}
-
--- a log that takes the next place of a list
-pub extended_front : {C : Type 0} (log whole : List C) (place : ℕ) (c : C) → IsPrefixOf log whole → slice_get whole place ≡ Some c →
-    IsPrefixOf (extended place c log) whole
-extended_front {C = C} log whole place c front stands = by_place (cases_eq place (length log))
-  where
-    by_place : (place ≡ length log) ⊎ (place ≡ length log → ⊥) → IsPrefixOf (extended place c log) whole
-    by_place (inl e) =
-        let same : extended place c log ≡ log ++ c ∷ [] = ap (λ b. cond b (log ++ c ∷ []) log) (eq-eqb place (length log) e) in
-        subst (λ (us : List C). IsPrefixOf us whole) (sym same)
-        (prefix_next log whole c front (ap (slice_get whole) (sym e) ∙ stands))
-    by_place (inr ne) =
-        let same : extended place c log ≡ log = ap (λ b. cond b (log ++ c ∷ []) log) (ne_eqb place (length log) ne) in
-        subst (λ (us : List C). IsPrefixOf us whole) (sym same) front
-
-pub extended_grows : {C : Type 0} (log : List C) (place : ℕ) (c : C) → IsPrefixOf log (extended place c log)
-extended_grows {C = C} log place c = by_place (cases_eq place (length log))
-  where
-    by_place : (place ≡ length log) ⊎ (place ≡ length log → ⊥) → IsPrefixOf log (extended place c log)
-    by_place (inl e) =
-        let same : extended place c log ≡ log ++ c ∷ [] = ap (λ b. cond b (log ++ c ∷ []) log) (eq-eqb place (length log) e) in
-        subst (λ (us : List C). IsPrefixOf log us) (sym same) (prefix_push log c)
-    by_place (inr ne) =
-        let same : extended place c log ≡ log = ap (λ b. cond b (log ++ c ∷ []) log) (ne_eqb place (length log) ne) in
-        subst (λ (us : List C). IsPrefixOf log us) (sym same) (prefix_same log)
+use Rattle.agreement.proofs.Serving.Extending.{extended_front, extended_grows}
 
 -- an Append that is taken
 append_taken : {S C O : Type 0} (rules : Rules S C O) (w : World S C O) (h : History C) (n : ℕ) (r : ReplicaState S C)

@@ -19,7 +19,7 @@ use Rattle.agreement.specs.Inside.Sound.{Says, IsSoundNode, IsSound}
 use Rattle.agreement.proofs.Frame.Later.{chosen_kept, takes}
 use Rattle.agreement.proofs.Frame.Joining.{MovesQuietly, quiet_extends}
 use Rattle.agreement.proofs.Frame.Quiet.{before_quiet, quiet_keeps, keeps_nothing}
-use Rattle.agreement.proofs.Frame.RolesAndRows.{role_backup}
+use Rattle.agreement.proofs.Frame.Roles.{role_backup}
 
 -- a backup that follows a ballot
 pub record Follows {S C : Type 0} (r : ReplicaState S C) (b : ℕ) : Type 0 where

@@ -1,7 +1,7 @@
--- Holding.antt: a Held that comes to an active primary.
-use Rattle.std.proofs.Common.{◌≡◌, ℕ, ◌+◌, ◌<◌, ◌≤◌, ◌⊎◌, inl, inr, true, false, cond, max, List, [], ◌∷◌, length, take, Some, refl, ap, sym, ◌∙◌, subst, arith}
+-- Holding.antt: a Held that comes to the primary.
+use Rattle.std.proofs.Common.{◌≡◌, ℕ, ◌+◌, ◌≤◌, ◌⊎◌, inl, inr, true, false, List, [], length, take, Some, refl, ap, sym, ◌∙◌, subst, arith}
 use Rattle.std.specs.Prelude.{slice_get, ◌==◌}
-use Rattle.std.proofs.lemmas.Bool.{cases_Bool, cases_eq, cases_lt, and_parts, eqb-true, eq-eqb, ne_eqb}
+use Rattle.std.proofs.lemmas.Bool.{cases_Bool, and_parts, eqb-true}
 use Rattle.machine.specs.Machine.{Rules, replay}
 use Rattle.ballot.specs.Body.TheVariants.{Held}
 use Rattle.ballot.specs.Effect.{Effect}
@@ -13,7 +13,6 @@ use Rattle.ballot.specs.Serving.{raised, raised_progress, leads, on_held}
 use Rattle.ballot.proofs.MessageRows.{raised_progress-member, on_held-elsewhere, on_held-raises}
 use Rattle.agreement.specs.World.{World, moved}
 use Rattle.lists.specs.Lists.{In}
-use Rattle.lists.specs.Lists.In.{here, there}
 use Rattle.agreement.specs.Inside.Ballots.{History, Told, Applied}
 use Rattle.agreement.specs.Inside.Ballots.Told.{told_by_held}
 use Rattle.agreement.specs.Inside.Ballots.Applied.{nothing, in_ballot}
@@ -25,47 +24,11 @@ use Rattle.agreement.proofs.Frame.Framing.{within_of, move_extends}
 use Rattle.agreement.proofs.Frame.Later.{told_kept, applied_kept}
 use Rattle.agreement.proofs.Frame.Lining.{silent_within}
 use Rattle.agreement.proofs.Frame.Quiet.{keeps_nothing}
-use Rattle.agreement.proofs.Serving.Ready.{Ready, ready_keeps}
-use Rattle.agreement.proofs.Frame.RolesAndRows.{role_active}
+use Rattle.agreement.proofs.Serving.Ready.{Ready}
+use Rattle.agreement.proofs.Serving.Commits.{ready_keeps}
+use Rattle.agreement.proofs.Frame.Roles.{role_active}
 use Rattle.agreement.proofs.Frame.Telling.{same_moves, told_placed, told_in_log}
-
--- progress that are raised
-in_raised : (member held : ℕ) (progress : List Progress) (reached : Progress) → In reached (raised member held progress) →
-    (before : Progress) × In before progress × (reached ≡ raised_progress member held before)
-in_raised member held [] reached i = elim i [ ]
-in_raised member held (m ∷ progress) reached here = (m, here, refl)
-in_raised member held (m ∷ progress) reached (there i) =
-    let q = in_raised member held progress reached i in (q.0, there q.1, q.2)
-
-raised_in : (member held : ℕ) (progress : List Progress) (reached : Progress) → In reached progress →
-    In (raised_progress member held reached) (raised member held progress)
-raised_in member held [] reached i = elim i [ ]
-raised_in member held (m ∷ progress) reached here = here
-raised_in member held (m ∷ progress) reached (there i) = there (raised_in member held progress reached i)
-
--- a raised progress is no lower, and told
-raised_told : {S C O : Type 0} (w : World S C O) (h : History C) (from b held : ℕ) (before : Progress) → Told w h from b held →
-    Told w h before.member b before.held →
-    (before.held ≤ (raised_progress from held before).held) × Told w h before.member b (raised_progress from held before).held
-raised_told {S = S} {C = C} {O = O} w h from b held before heard told = by_member (cases_eq before.member from)
-  where
-    greater : before.member ≡ from → (before.held < held) ⊎ (held ≤ before.held) → Told w h before.member b (max before.held held)
-    greater same (inl less) =
-        subst (λ k. Told w h before.member b k) (let e : held ≡ max before.held held = omega arith in e)
-        (subst (λ m. Told w h m b held) (sym same) heard)
-    greater same (inr more) =
-        subst (λ k. Told w h before.member b k) (let e : before.held ≡ max before.held held = omega arith in e) told
-
-    by_member : (before.member ≡ from) ⊎ (before.member ≡ from → ⊥) →
-        (before.held ≤ (raised_progress from held before).held) × Told w h before.member b (raised_progress from held before).held
-    by_member (inl same) =
-        let e : (raised_progress from held before).held ≡ max before.held held =
-        ap (λ b. (cond b (record before { held = max before.held held }) before).held) (eq-eqb before.member from same) in
-        (omega (arith, e), subst (λ k. Told w h before.member b k) (sym e) (greater same (cases_lt before.held held)))
-    by_member (inr other) =
-        let e : (raised_progress from held before).held ≡ before.held =
-        ap (λ b. (cond b (record before { held = max before.held held }) before).held) (ne_eqb before.member from other) in
-        (omega (arith, e), subst (λ k. Told w h before.member b k) (sym e) told)
+use Rattle.agreement.proofs.Serving.Raising.{in_raised, raised_in, raised_told}
 
 -- the primary is ready to commit
 raised_ready : {S C O : Type 0} (rules : Rules S C O) (w : World S C O) (h : History C) (n : ℕ) (r : ReplicaState S C) (from held : ℕ) →

@@ -12,10 +12,10 @@ use Rattle.agreement.specs.Inside.Ballots.{History}
 use Rattle.agreement.specs.Inside.Keeps.{KeepsAdding}
 use Rattle.agreement.specs.Inside.Sound.{IsSound}
 use Rattle.agreement.proofs.Frame.Adding.{adds_less}
-use Rattle.agreement.proofs.Serving.Growing.{keeps_added}
+use Rattle.agreement.proofs.Serving.CommandAdded.{keeps_added}
 use Rattle.agreement.proofs.Serving.Leading.{active_leading}
 use Rattle.agreement.proofs.Frame.Quiet.{keeps_nothing}
-use Rattle.agreement.proofs.Frame.RolesAndRows.{role_active}
+use Rattle.agreement.proofs.Frame.Roles.{role_active}
 
 -- a proposal
 pub keeps_proposed : {S C O : Type 0} (rules : Rules S C O) (w : World S C O) (h : History C) (n : ℕ) (r : ReplicaState S C) (c : C) →

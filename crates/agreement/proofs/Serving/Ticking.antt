@@ -19,7 +19,7 @@ use Rattle.agreement.specs.Inside.Ballots.{Given, History}
 use Rattle.agreement.specs.Inside.Keeps.{Keeps}
 use Rattle.agreement.specs.Inside.Sound.{Says, IsFetching, IsInstalling, IsActive, IsSound}
 use Rattle.agreement.proofs.Frame.Framing.{within_of}
-use Rattle.agreement.proofs.Frame.Later.{says_kept}
+use Rattle.agreement.proofs.Frame.SaysLater.{says_kept}
 use Rattle.agreement.proofs.Frame.Joining.{IsSilent, AreSilent, quiet_extends}
 use Rattle.agreement.proofs.Changing.Installings.{all_installed}
 use Rattle.agreement.proofs.Changing.NewBallots.{said_to_each, outputs_to_each}

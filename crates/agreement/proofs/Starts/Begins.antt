@@ -21,8 +21,8 @@ use Rattle.lists.proofs.Beginnings.{prefix_get}
 use Rattle.lists.proofs.Places.{get_pushed}
 use Rattle.agreement.proofs.Frame.Adding.{adds_less}
 use Rattle.agreement.proofs.Frame.Quiet.{keeps_nothing}
-use Rattle.agreement.proofs.Frame.RolesAndRows.{role_active}
-use Rattle.agreement.proofs.Frame.Sealing.{one_line}
+use Rattle.agreement.proofs.Frame.Roles.{role_active}
+use Rattle.agreement.proofs.Frame.Bases.{one_line}
 use Rattle.agreement.proofs.Runs.Steps.{keeps_step}
 
 -- the lists behind a step

@@ -15,7 +15,7 @@ use Rattle.agreement.specs.Inside.Keeps.{NodeGoesOn}
 use Rattle.agreement.specs.Inside.Sound.{IsSound}
 use Rattle.lists.proofs.Places.{get_set, get_set_other}
 use Rattle.lists.proofs.Beginnings.{prefix_length}
-use Rattle.agreement.proofs.Frame.Sealing.{one_line}
+use Rattle.agreement.proofs.Frame.Bases.{one_line}
 use Rattle.agreement.proofs.Starts.StaysActive.{StaysActive}
 use Rattle.agreement.proofs.Starts.StepActive.{Begins, step_begins}
 

@@ -1,4 +1,4 @@
--- RolesAndRows.antt: what each row between ballots gives where its condition holds, and where it does not.
+-- Rows.antt: what each row between ballots gives.
 use Rattle.std.proofs.Common.{◌≡◌, ℕ, ◌<◌, ◌≤◌, true, false, cond, List, [], ◌∷◌, length, refl}
 use Rattle.std.specs.Prelude.{nat_lt, nat_le, ◌&&◌, ◌||◌, ◌==◌}
 use Rattle.std.specs.List.{list_any}
@@ -6,37 +6,11 @@ use Rattle.std.proofs.lemmas.Bool.{lt-ltb, le-ltb}
 use Rattle.machine.specs.Machine.{Rules}
 use Rattle.ballot.specs.Applying.{applied_to}
 use Rattle.ballot.specs.Body.TheVariants.{Join, State, Installed}
-use Rattle.ballot.specs.Role.{Role}
 use Rattle.ballot.specs.Role.TheVariants.{Backup, Fetching, Installing, Active}
-use Rattle.ballot.specs.Replica.{ReplicaState, is_active, is_backup, is_fetching, is_installing, others, progress_at}
+use Rattle.ballot.specs.Replica.{ReplicaState, is_fetching, is_installing, others, progress_at}
 use Rattle.ballot.specs.Sending.{nothing_done, message_to, message_to_each}
 use Rattle.ballot.specs.Serving.{most_places, added}
 use Rattle.ballot.specs.Changing.{on_new_ballot, on_join, on_install, on_superseded, installs, on_state, activates, on_installed, on_activated}
-
--- a role by its test
-pub role_active : (r : Role) → is_active r ≡ true → r ≡ Active
-role_active Backup e = cc
-role_active Fetching e = cc
-role_active Installing e = cc
-role_active Active e = refl
-
-pub role_backup : (r : Role) → is_backup r ≡ true → r ≡ Backup
-role_backup Backup e = refl
-role_backup Fetching e = cc
-role_backup Installing e = cc
-role_backup Active e = cc
-
-pub role_fetching : (r : Role) → is_fetching r ≡ true → r ≡ Fetching
-role_fetching Backup e = cc
-role_fetching Fetching e = refl
-role_fetching Installing e = cc
-role_fetching Active e = cc
-
-pub role_installing : (r : Role) → is_installing r ≡ true → r ≡ Installing
-role_installing Backup e = cc
-role_installing Fetching e = cc
-role_installing Installing e = refl
-role_installing Active e = cc
 
 -- NewBallot
 pub on_new_ballot-joins : {S C : Type 0} (O : Type 0) (r : ReplicaState S C) (b : ℕ) (members : List ℕ) (a : ℕ) (old : List ℕ) →
