@@ -43,3 +43,4 @@ pub use Rattle.broker_model.proofs.StartsWhereItMay
 pub use Rattle.broker_model.proofs.TakenPublishAddsOne
 pub use Rattle.broker_model.proofs.WaitingStays
 pub use Rattle.broker_model.proofs.WhatFlightsAwait
+pub use Rattle.broker_model.proofs.PublicationEnters

@@ -1,6 +1,6 @@
 // Laws of every story of a client. The calls do nothing; their contracts are the laws.
 
-ghost use Rattle.story.specs.Laws.{SteadyStoriesAcceptInOrder, SteadyStoriesPublishOnce, StoriesAcceptInOrder, StoriesPublishOnce};
+ghost use Rattle.story.specs.Laws.{SteadyStoriesAcceptInOrder, SteadyStoriesPublishOnce, StoriesAcceptInOrder, StoriesEnter, StoriesPublishOnce};
 
 /// Whatever happens to its connections and to the nodes, a client's QoS 2 publications become new in the list of
 /// commands in the order of its calls, each at most once (MQTT 4.3.3).
@@ -14,4 +14,10 @@ pub fn stories_publish_once()
 pub fn stories_accept_in_order()
     ensures usual { StoriesAcceptInOrder }
     ensures steady { SteadyStoriesAcceptInOrder }
+{}
+
+/// At the place where a publication of the client is taken, it enters exactly the sessions with a matching filter and an
+/// effective QoS of 1 or 2, once each (MQTT 3.3.5).
+pub fn stories_enter()
+    ensures { StoriesEnter }
 {}
