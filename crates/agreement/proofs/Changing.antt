@@ -3,6 +3,7 @@ pub mod Activating
 pub mod SameNode
 pub mod Answering
 pub mod OtherMembers
+pub mod InstalledCounts
 pub mod Installings
 pub mod InstallHeard
 pub mod Installs

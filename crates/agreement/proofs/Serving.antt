@@ -1,6 +1,7 @@
 -- Serving.antt: the rows inside a ballot.
 pub mod ActiveTicks
 pub mod Extending
+pub mod AppendTaken
 pub mod Appending
 pub mod Committing
 pub mod Growing

@@ -24,7 +24,7 @@ use Rattle.agreement.proofs.Frame.EqualLists.{prefix_of_same}
 use Rattle.agreement.proofs.Serving.CommandAdded.{keeps_added}
 use Rattle.agreement.proofs.Serving.Leading.{Leading}
 use Rattle.agreement.proofs.Changing.OtherMembers.{in_others, others_in, not_others}
-use Rattle.agreement.proofs.Changing.Installings.{all_installed}
+use Rattle.agreement.proofs.Changing.InstalledCounts.{all_installed}
 use Rattle.agreement.proofs.Frame.Later.{takes}
 use Rattle.agreement.proofs.Frame.Quiet.{keeps_nothing}
 use Rattle.agreement.proofs.Frame.Bases.{chosen_told}

@@ -21,7 +21,7 @@ use Rattle.agreement.specs.Inside.Sound.{Says, IsFetching, IsInstalling, IsActiv
 use Rattle.agreement.proofs.Frame.Framing.{within_of}
 use Rattle.agreement.proofs.Frame.SaysLater.{says_kept}
 use Rattle.agreement.proofs.Frame.Joining.{IsSilent, AreSilent, quiet_extends}
-use Rattle.agreement.proofs.Changing.Installings.{all_installed}
+use Rattle.agreement.proofs.Changing.InstalledCounts.{all_installed}
 use Rattle.agreement.proofs.Changing.NewBallots.{said_to_each, outputs_to_each}
 use Rattle.agreement.proofs.Frame.Quiet.{before_quiet, quiet_keeps, keeps_nothing}
 
