@@ -2,25 +2,25 @@
 use Rattle.std.proofs.Common.{◌≡◌, ℕ, ◌<◌, suc, Bool, false, ◌==◌, Option, Some, None, List, [], ◌∷◌, ◌++◌, length, map, refl, ap, ap₂, ◌∙◌, sym, arith}
 use Rattle.packet.specs.declared.packet.Packet.{Packet}
 use Rattle.session_base.specs.Sending.{fill_sends}
-use Rattle.broker_base.specs.Connection.{ConnectionName}
-use Rattle.broker_base.specs.Place.{Client, Mark, Place, Past, Limits}
-use Rattle.broker_base.specs.Past.{accepts, ends_any, current_connection, session_of}
-use Rattle.broker_base.specs.Subscriptions.{subscriptions_of}
-use Rattle.broker_base.specs.Received.{received_of}
-use Rattle.broker_base.specs.Entries.{Entry, copies_at, queued}
-use Rattle.broker_base.specs.Readings.{waiting_of, busy_ids}
-use Rattle.broker_base.specs.Times.{answered_by, started, window_at, entries_of}
-use Rattle.broker_base.specs.Sends.{all_started}
-use Rattle.broker_base.specs.Kept.{Kept, flights_below, kept_of}
-use Rattle.broker_base.specs.KeptStep.{answered_flights}
+use Rattle.broker_model.specs.Connection.{ConnectionName}
+use Rattle.broker_model.specs.Place.{Client, Mark, Place, Past, Limits}
+use Rattle.broker_model.specs.Past.{accepts, ends_any, current_connection, session_of}
+use Rattle.broker_model.specs.Subscriptions.{subscriptions_of}
+use Rattle.broker_model.specs.Received.{received_of}
+use Rattle.broker_model.specs.Entries.{Entry, copies_at, queued}
+use Rattle.broker_model.specs.Readings.{waiting_of, busy_ids}
+use Rattle.broker_model.specs.Times.{answered_by, started, window_at, entries_of}
+use Rattle.broker_model.specs.Sends.{all_started}
+use Rattle.broker_base.specs.ClientSession.{ClientSession, flights_below, client_session}
+use Rattle.broker_base.proofs.flights.FillingAlways.{answered_flights}
 use Rattle.broker_base.specs.StepAnswers.{while_connected}
-use Rattle.broker_base.specs.declared.command.Command.{Command}
-use Rattle.broker_base.specs.declared.command.Output.TheVariants.{Send}
+use Rattle.broker_model.specs.declared.command.Command.{Command}
+use Rattle.broker_model.specs.declared.command.Output.TheVariants.{Send}
 use Rattle.session_base.proofs.CountedIdentifiers.{count}
-use Rattle.broker_base.proofs.SoundEntries.{Sound}
-use Rattle.broker_base.proofs.IdentifiersInFlight.{append_none, same_ids}
-use Rattle.broker_base.proofs.EntriesStartedBefore.{StartedBefore, before_below, before_answered}
-use Rattle.broker_base.proofs.SendsOfStarts.{starts_sent}
+use Rattle.broker_model.proofs.SoundEntries.{Sound}
+use Rattle.broker_base.proofs.flights.IdentifiersInFlight.{append_none, same_ids}
+use Rattle.broker_model.proofs.EntriesStartedBefore.{StartedBefore, before_below, before_answered}
+use Rattle.broker_base.proofs.flights.SendsOfStarts.{starts_sent}
 use Rattle.broker_base.proofs.QueueAfter.{sound_entries, sound_answered, flights_answered, waiting_answered}
 use Rattle.broker_base.proofs.KeptAfter.{kept_with}
 use Rattle.broker_base.proofs.QuietPasts.{entries_next, entries_none}
@@ -59,8 +59,8 @@ started_behind x w n command mark c connection es s =
         ∙ ap₂ (λ fs ps. map (Send x) (fill_sends w fs ps)) (flights_answered command mark n c es s) (waiting_answered command mark n c es)
 
 -- the same of the session, if there is one
-abbrev pub fills_behind : ℕ → Command → Mark → Client → Option Kept → List Packet
-fills_behind w command mark c (Some kept) = while_connected kept.connection (fill_sends w (answered_flights command mark c kept.queue.in_flight) kept.queue.waiting)
+abbrev pub fills_behind : ℕ → Command → Mark → Client → Option ClientSession → List Packet
+fills_behind w command mark c (Some kept) = while_connected kept.connection (fill_sends w (answered_flights command mark c kept.state.queue.in_flight) kept.state.queue.waiting)
 fills_behind w command mark c None = []
 
 started_by_kept : (limits : Limits) (place : Place) (past : Past) (c : Client) (x : ConnectionName) (session : Option Bool) → session_of past c ≡ session →
@@ -79,5 +79,5 @@ started_by_kept limits place past c x (Some clean) is_session not_opened not_end
 pub starts_are : (limits : Limits) (place : Place) (past : Past) (c : Client) (x : ConnectionName) →
     accepts place.command place.mark c ≡ None → ends_any place (current_connection past c) ≡ false → copies_at place past c ≡ [] →
     all_started x (length past) (entries_of limits (place ∷ past) c)
-    ≡ map (Send x) (fills_behind (window_at limits (place ∷ past)) place.command place.mark c (kept_of limits past c))
+    ≡ map (Send x) (fills_behind (window_at limits (place ∷ past)) place.command place.mark c (client_session limits past c))
 starts_are limits place past c x = started_by_kept limits place past c x (session_of past c) refl

@@ -1,18 +1,18 @@
 -- The answers that the state gives at a place are those that the past gives.
 use Rattle.std.proofs.Common.{◌≡◌, ℕ, Bool, not, Option, Some, None, ◌∷◌, ◌++◌, refl, ap, ap₂, ◌∙◌, sym}
 use Rattle.std.specs.Prelude.{option_map}
-use Rattle.broker_base.specs.Connection.{ConnectionName}
-use Rattle.broker_base.specs.Place.{Client, Mark, Place, Past, Limits, only_if}
-use Rattle.broker_base.specs.Past.{session_of, is_beginning, begins_session}
-use Rattle.broker_base.specs.Times.{window_at}
-use Rattle.broker_base.specs.Answers.{welcome, connect_answers, answers_by, answers_at}
-use Rattle.broker_base.specs.Kept.{Kept, kept_of}
+use Rattle.broker_model.specs.Connection.{ConnectionName}
+use Rattle.broker_model.specs.Place.{Client, Mark, Place, Past, Limits, only_if}
+use Rattle.broker_model.specs.Past.{session_of, is_beginning, begins_session}
+use Rattle.broker_model.specs.Times.{window_at}
+use Rattle.broker_model.specs.Answers.{welcome, connect_answers, answers_by, answers_at}
+use Rattle.broker_base.specs.ClientSession.{ClientSession, client_session}
 use Rattle.broker_base.specs.State.{state_of}
 use Rattle.broker_base.specs.Step.{IsWindow}
 use Rattle.broker_base.specs.StepAnswers.{connect_answers_in, answers_by_state}
-use Rattle.broker_base.specs.declared.command.Command.{Command}
-use Rattle.broker_base.specs.declared.command.Command.TheVariants as commands
-use Rattle.broker_base.proofs.ClientsInOrder.{same_self}
+use Rattle.broker_model.specs.declared.command.Command.{Command}
+use Rattle.broker_model.specs.declared.command.Command.TheVariants as commands
+use Rattle.broker_model.proofs.ClientsInOrder.{same_self}
 use Rattle.broker_base.proofs.SessionsAfter.{at, session_is}
 use Rattle.broker_base.proofs.ComingBack.{closed_is, resumed_is}
 use Rattle.broker_base.proofs.KeptAfter.{kept_now}
@@ -20,15 +20,15 @@ use Rattle.broker_base.proofs.PacketAnswersStand.{packet_answers_are}
 
 -- ---- a Connect
 
-flag_is : (limits : Limits) (past : Past) (c : Client) → option_map (λ (kept : Kept). kept.clean) (kept_of limits past c) ≡ session_of past c
+flag_is : (limits : Limits) (past : Past) (c : Client) → option_map (λ (kept : ClientSession). kept.clean) (client_session limits past c) ≡ session_of past c
 flag_is limits past c = by (session_of past c)
   where
-    by : (session : Option Bool) → option_map (λ (kept : Kept). kept.clean) (option_map (kept_now limits past c) session) ≡ session
+    by : (session : Option Bool) → option_map (λ (kept : ClientSession). kept.clean) (option_map (kept_now limits past c) session) ≡ session
     by None = refl
     by (Some clean) = refl
 
 accepted_are : (limits : Limits) (past : Past) (x : ConnectionName) (c : Client) (clean : Bool) →
-    connect_answers_in (window_at limits (at (commands.Connect x c clean) Mark.Accepted ∷ past)) x clean (kept_of limits past c) Mark.Accepted
+    connect_answers_in (window_at limits (at (commands.Connect x c clean) Mark.Accepted ∷ past)) x clean (client_session limits past c) Mark.Accepted
     ≡ connect_answers limits (at (commands.Connect x c clean) Mark.Accepted) past x c Mark.Accepted
 accepted_are limits past x c clean =
     ap₂ (λ first rest. first ++ rest) (sym (closed_is limits past c))
@@ -38,7 +38,7 @@ accepted_are limits past x c clean =
     (sym (resumed_is limits past c x clean (at (commands.Connect x c clean) Mark.Accepted) (ap (λ b. only_if b (Some (x, clean))) (same_self c)) refl refl)))
 
 connect_answers_are : (limits : Limits) (past : Past) (x : ConnectionName) (c : Client) (clean : Bool) (mark : Mark) →
-    connect_answers_in (window_at limits (at (commands.Connect x c clean) mark ∷ past)) x clean (kept_of limits past c) mark
+    connect_answers_in (window_at limits (at (commands.Connect x c clean) mark ∷ past)) x clean (client_session limits past c) mark
     ≡ connect_answers limits (at (commands.Connect x c clean) mark) past x c mark
 connect_answers_are limits past x c clean Mark.Accepted = accepted_are limits past x c clean
 connect_answers_are limits past x c clean mark = refl

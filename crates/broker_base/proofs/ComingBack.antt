@@ -1,32 +1,32 @@
 -- What a client that comes back is sent, as what is kept of its session says.
 use Rattle.std.proofs.Common.{◌≡◌, ℕ, Bool, true, false, ◌||◌, if◌then◌else◌, Option, Some, None, List, [], ◌∷◌, ◌++◌, length, map, refl, ap, ap₂, ◌∙◌}
-use Rattle.packet.specs.declared.subscribe.Subscription.{Subscription}
+use Rattle.session_base.specs.Subscriptions.{HeldFilter}
 use Rattle.packet.specs.declared.packet.Packet.TheVariants as packets
 use Rattle.session_base.specs.Sending.{fill_sends, resend}
-use Rattle.broker_base.specs.Connection.{ConnectionName}
-use Rattle.broker_base.specs.Place.{Client, Place, Past, Limits}
-use Rattle.broker_base.specs.Past.{accepts, ends_any, current_connection, session_of, newest_session, newest_connection, is_beginning, in_session}
-use Rattle.broker_base.specs.Subscriptions.{subscriptions_of}
-use Rattle.broker_base.specs.Received.{received_of}
-use Rattle.broker_base.specs.Entries.{Entry, copies_at, queued}
-use Rattle.broker_base.specs.Readings.{waiting_of}
-use Rattle.broker_base.specs.Times.{answered_by, start_all, started, window_at, entries_of}
-use Rattle.broker_base.specs.Sends.{resent}
-use Rattle.broker_base.specs.Answers.{closed}
-use Rattle.broker_base.specs.Kept.{flights_below, kept_of}
+use Rattle.broker_model.specs.Connection.{ConnectionName}
+use Rattle.broker_model.specs.Place.{Client, Place, Past, Limits}
+use Rattle.broker_model.specs.Past.{accepts, ends_any, current_connection, session_of, newest_session, newest_connection, is_beginning, in_session}
+use Rattle.broker_model.specs.Subscriptions.{subscriptions_of}
+use Rattle.broker_model.specs.Received.{received_of}
+use Rattle.broker_model.specs.Entries.{Entry, copies_at, queued}
+use Rattle.broker_model.specs.Readings.{waiting_of}
+use Rattle.broker_model.specs.Times.{answered_by, start_all, started, window_at, entries_of}
+use Rattle.broker_model.specs.Sends.{resent}
+use Rattle.broker_model.specs.Answers.{closed}
+use Rattle.broker_base.specs.ClientSession.{flights_below, client_session}
 use Rattle.broker_base.specs.StepAnswers.{connection_of, resumed}
-use Rattle.broker_base.specs.declared.command.Output.TheVariants.{Send}
-use Rattle.broker_base.proofs.SoundEntries.{Sound}
-use Rattle.broker_base.proofs.IdentifiersInFlight.{append_none}
-use Rattle.broker_base.proofs.SendsOfStarts.{resent_is}
+use Rattle.broker_model.specs.declared.command.Output.TheVariants.{Send}
+use Rattle.broker_model.proofs.SoundEntries.{Sound}
+use Rattle.broker_base.proofs.flights.IdentifiersInFlight.{append_none}
+use Rattle.broker_base.proofs.flights.SendsOfStarts.{resent_is}
 use Rattle.broker_base.proofs.QueueAfter.{sound_entries}
 use Rattle.broker_base.proofs.KeptAfter.{kept_with}
 use Rattle.broker_base.proofs.QuietPasts.{no_connection}
-use Rattle.broker_base.proofs.PubrelsBehind.{none_released_ever}
+use Rattle.broker_base.proofs.flights.PubrelsBehind.{none_released_ever}
 
 -- ---- a Connect
 
-pub closed_is : (limits : Limits) (past : Past) (c : Client) → closed (current_connection past c) ≡ closed (connection_of (kept_of limits past c))
+pub closed_is : (limits : Limits) (past : Past) (c : Client) → closed (current_connection past c) ≡ closed (connection_of (client_session limits past c))
 closed_is limits past c = by (session_of past c) refl
   where
     by : (session : Option Bool) → session_of past c ≡ session →
@@ -34,7 +34,7 @@ closed_is limits past c = by (session_of past c) refl
     by None e = ap closed (no_connection past c e)
     by (Some clean) e = refl
 
-resumed_by : (x : ConnectionName) (w n : ℕ) (clean over : Bool) (session : Option Bool) (connection : Option ConnectionName) (held : List Subscription) (ids : List ℕ) (es : List Entry) → Sound n es →
+resumed_by : (x : ConnectionName) (w n : ℕ) (clean over : Bool) (session : Option Bool) (connection : Option ConnectionName) (held : List HeldFilter) (ids : List ℕ) (es : List Entry) → Sound n es →
     resent x n (in_session (newest_session (Some (x, clean)) over session) (is_beginning (Some (x, clean)) session) []
     (started w n (newest_connection (Some (x, clean)) over connection) (es ++ map (Entry.Waits n) [])))
     ≡ map (Send x) (resumed w clean (kept_with n session connection held ids es))
@@ -50,7 +50,7 @@ resumed_by x w n clean over (Some old) connection held ids es s = by (clean || o
 pub resumed_is : (limits : Limits) (past : Past) (c : Client) (x : ConnectionName) (clean : Bool) (place : Place) →
     accepts place.command place.mark c ≡ Some (x, clean) → copies_at place past c ≡ [] →
     answered_by place.command place.mark (length past) c (entries_of limits past c) ≡ entries_of limits past c →
-    resent x (length past) (entries_of limits (place ∷ past) c) ≡ map (Send x) (resumed (window_at limits (place ∷ past)) clean (kept_of limits past c))
+    resent x (length past) (entries_of limits (place ∷ past) c) ≡ map (Send x) (resumed (window_at limits (place ∷ past)) clean (client_session limits past c))
 unfolding entries_of session_of current_connection
 resumed_is limits past c x clean place opens no_copies no_answer =
     ap (λ opened. resent x (length past) (in_session (newest_session opened (ends_any place (current_connection past c)) (session_of past c)) (is_beginning opened (session_of past c)) []

@@ -4,11 +4,11 @@ use Rattle.std.specs.declared.cmp.Ordering.{Ordering}
 use Rattle.std.specs.declared.cmp.Ordering.TheVariants.{Less, Equal, Greater}
 use Rattle.std.specs.Ordering.{match_ordering}
 use Rattle.retained.specs.Retained.{RetainedTopics}
-use Rattle.broker_base.specs.Connection.{ConnectionName, same_connection}
-use Rattle.broker_base.specs.Place.{Client, by_bytes, Place, only_if}
-use Rattle.broker_base.specs.Past.{accepts, any_connection, ends_any}
-use Rattle.broker_base.specs.Kept.{Kept}
-use Rattle.broker_base.specs.KeptStep.{kept_on, kept_anew, kept_connected, kept_by, kept_after}
+use Rattle.broker_model.specs.Connection.{ConnectionName, same_connection}
+use Rattle.broker_model.specs.Place.{Client, by_bytes, Place, only_if}
+use Rattle.broker_model.specs.Past.{accepts, any_connection, ends_any}
+use Rattle.broker_base.specs.ClientSession.{ClientSession}
+use Rattle.broker_base.specs.SessionStep.{kept_anew, kept_resumed, kept_connected, kept_by, kept_after}
 use Rattle.broker_base.specs.State.{Sessions, keyed, put_session}
 use Rattle.broker_base.specs.Step.{touches, session_after, sessions_left}
 use Rattle.broker_base.specs.StateLaws.{IsNobodys, AreApart}
@@ -22,11 +22,11 @@ pub same_turned : (x y : ConnectionName) → same_connection x y ≡ same_connec
 same_turned x y = ap₂ (λ a b. a && b) (turned x.ballot y.ballot) (turned x.count y.count)
 
 -- a session, if one is left, is not on y
-abbrev pub NotOn : ConnectionName → Option Kept → Type 0
+abbrev pub NotOn : ConnectionName → Option ClientSession → Type 0
 NotOn y (Some kept) = any_connection (same_connection y) kept.connection ≡ false
 NotOn y None = Unit {0}
 
-not_only : (y : ConnectionName) (b : Bool) (kept : Kept) → NotOn y (Some kept) → NotOn y (only_if b (Some kept))
+not_only : (y : ConnectionName) (b : Bool) (kept : ClientSession) → NotOn y (Some kept) → NotOn y (only_if b (Some kept))
 not_only y true kept h = h
 not_only y false kept h = tt
 
@@ -35,20 +35,20 @@ not_left : (y : ConnectionName) (b : Bool) (connection : Option ConnectionName) 
 not_left y true connection h = h
 not_left y false connection h = refl
 
-not_connected : (y : ConnectionName) (w : ℕ) (place : Place) (content : RetainedTopics) (c : Client) (opened : ConnectionName × Bool) (old : Option Kept) →
-    same_connection y opened.0 ≡ false → NotOn y (Some (kept_connected w place content c opened old))
-not_connected y w place content c opened None h = h
-not_connected y w place content c opened (Some old) h =
-    elim (opened.1 || old.clean) as (λ (b : Bool). NotOn y (Some (if b then kept_anew opened else kept_on w place content c opened.1 (Some opened.0) old))) [ true ↦ h | false ↦ h ]
+not_connected : (y : ConnectionName) (w : ℕ) (opened : ConnectionName × Bool) (old : Option ClientSession) →
+    same_connection y opened.0 ≡ false → NotOn y (Some (kept_connected w opened old))
+not_connected y w opened None h = h
+not_connected y w opened (Some old) h =
+    elim (opened.1 || old.clean) as (λ (b : Bool). NotOn y (Some (if b then kept_anew opened else kept_resumed w opened old))) [ true ↦ h | false ↦ h ]
 
-not_by : (y : ConnectionName) (w : ℕ) (place : Place) (content : RetainedTopics) (c : Client) (opened : Option (ConnectionName × Bool)) (old : Kept) →
+not_by : (y : ConnectionName) (w : ℕ) (place : Place) (content : RetainedTopics) (c : Client) (opened : Option (ConnectionName × Bool)) (old : ClientSession) →
     ((a : ConnectionName × Bool) → opened ≡ Some a → same_connection y a.0 ≡ false) → any_connection (same_connection y) old.connection ≡ false →
     NotOn y (kept_by w place content c opened (Some old))
-not_by y w place content c (Some a) old other h = not_connected y w place content c a (Some old) (other a refl)
+not_by y w place content c (Some a) old other h = not_connected y w a (Some old) (other a refl)
 not_by y w place content c None old other h =
     not_only y (not (old.clean && ends_any place old.connection)) _ (not_left y (not (ends_any place old.connection)) old.connection h)
 
-pub not_after : (y : ConnectionName) (w : ℕ) (place : Place) (content : RetainedTopics) (c : Client) (old : Kept) →
+pub not_after : (y : ConnectionName) (w : ℕ) (place : Place) (content : RetainedTopics) (c : Client) (old : ClientSession) →
     ((a : ConnectionName × Bool) → accepts place.command place.mark c ≡ Some a → same_connection y a.0 ≡ false) → any_connection (same_connection y) old.connection ≡ false →
     NotOn y (session_after w place content c old)
 not_after y w place content c old other h =
@@ -57,7 +57,7 @@ not_after y w place content c old other h =
       | false ↦ h
     ]
 
-pub nobodys_keyed : (y : ConnectionName) (c : Client) (o : Option Kept) (rows : Sessions) → NotOn y o → IsNobodys y rows → IsNobodys y (keyed c o rows)
+pub nobodys_keyed : (y : ConnectionName) (c : Client) (o : Option ClientSession) (rows : Sessions) → NotOn y o → IsNobodys y rows → IsNobodys y (keyed c o rows)
 nobodys_keyed y c None rows h k = k
 nobodys_keyed y c (Some kept) rows h k = (h, k)
 
@@ -69,11 +69,11 @@ nobodys_left y w place content (row ∷ rows) other h =
     nobodys_keyed y row.0 (session_after w place content row.0 row.1) (sessions_left w place content rows)
     (not_after y w place content row.0 row.1 (other row.0) h.0) (nobodys_left y w place content rows other h.1)
 
-pub nobodys_put : (y : ConnectionName) (c : Client) (kept : Kept) (rows : Sessions) → NotOn y (Some kept) → IsNobodys y rows → IsNobodys y (put_session c kept rows)
+pub nobodys_put : (y : ConnectionName) (c : Client) (kept : ClientSession) (rows : Sessions) → NotOn y (Some kept) → IsNobodys y rows → IsNobodys y (put_session c kept rows)
 nobodys_put y c kept [] h k = (h, tt)
 nobodys_put y c kept (row ∷ rows) h k = by (by_bytes c row.0) (nobodys_put y c kept rows h k.1)
   where
-    by : (o : Ordering) → IsNobodys y (put_session c kept rows) → IsNobodys y (match_ordering o ((c, kept) ∷ row ∷ rows) ((c, kept) ∷ rows) (row ∷ put_session c kept rows))
+    by : (o : Ordering) → IsNobodys y (put_session c kept rows) → IsNobodys y (match_ordering o ((c, kept) ∷ row ∷ rows) ((row.0, kept) ∷ rows) (row ∷ put_session c kept rows))
     by Less more = (h, k)
     by Equal more = (h, k.1)
     by Greater more = (k.0, more)
@@ -81,11 +81,11 @@ nobodys_put y c kept (row ∷ rows) h k = by (by_bytes c row.0) (nobodys_put y c
 -- ---- connections come from where they were
 
 -- a session, if one is left, is on the connection that it had, or on none
-abbrev pub OnOld : Option ConnectionName → Option Kept → Type 0
+abbrev pub OnOld : Option ConnectionName → Option ClientSession → Type 0
 OnOld connection (Some kept) = (kept.connection ≡ None) ⊎ (kept.connection ≡ connection)
 OnOld connection None = Unit {0}
 
-old_only : (connection : Option ConnectionName) (b : Bool) (kept : Kept) → OnOld connection (Some kept) → OnOld connection (only_if b (Some kept))
+old_only : (connection : Option ConnectionName) (b : Bool) (kept : ClientSession) → OnOld connection (Some kept) → OnOld connection (only_if b (Some kept))
 old_only connection true kept h = h
 old_only connection false kept h = tt
 
@@ -93,20 +93,20 @@ old_left : (b : Bool) (connection : Option ConnectionName) → (only_if b connec
 old_left true connection = inr refl
 old_left false connection = inl refl
 
-old_by : (w : ℕ) (place : Place) (content : RetainedTopics) (c : Client) (opened : Option (ConnectionName × Bool)) (old : Kept) → opened ≡ None →
+old_by : (w : ℕ) (place : Place) (content : RetainedTopics) (c : Client) (opened : Option (ConnectionName × Bool)) (old : ClientSession) → opened ≡ None →
     OnOld old.connection (kept_by w place content c opened (Some old))
 old_by w place content c (Some a) old e = absurd (cc)
 old_by w place content c None old e =
     old_only old.connection (not (old.clean && ends_any place old.connection)) _ (old_left (not (ends_any place old.connection)) old.connection)
 
-pub old_after : (w : ℕ) (place : Place) (content : RetainedTopics) (c : Client) (old : Kept) → accepts place.command place.mark c ≡ None → OnOld old.connection (session_after w place content c old)
+pub old_after : (w : ℕ) (place : Place) (content : RetainedTopics) (c : Client) (old : ClientSession) → accepts place.command place.mark c ≡ None → OnOld old.connection (session_after w place content c old)
 old_after w place content c old e =
     elim (touches place c old) as (λ (b : Bool). OnOld old.connection (if b then kept_after w place content c (Some old) else Some old)) [
       | true ↦ old_by w place content c (accepts place.command place.mark c) old e
       | false ↦ inr refl
     ]
 
-pub apart_keyed : (connection : Option ConnectionName) (c : Client) (o : Option Kept) (rows : Sessions) → OnOld connection o →
+pub apart_keyed : (connection : Option ConnectionName) (c : Client) (o : Option ClientSession) (rows : Sessions) → OnOld connection o →
     ((y : ConnectionName) → connection ≡ Some y → IsNobodys y rows) → AreApart rows → AreApart (keyed c o rows)
 apart_keyed connection c None rows h other k = k
 apart_keyed connection c (Some kept) rows (inl none) other k = (λ y e. absurd (let f : None ≡ Some y = sym none ∙ e in cc), k)

@@ -4,19 +4,20 @@ use Rattle.std.specs.declared.cmp.Ordering.{Ordering}
 use Rattle.std.specs.declared.cmp.Ordering.TheVariants.{Less, Equal, Greater}
 use Rattle.std.specs.Ordering.{is_eq, match_ordering}
 use Rattle.retained.specs.Retained.{RetainedTopics}
-use Rattle.broker_base.specs.Connection.{ConnectionName, same_connection}
-use Rattle.broker_base.specs.Place.{Client, by_bytes, same_client, Mark, Place, Limits, only_if}
-use Rattle.broker_base.specs.Past.{accepts, any_connection}
-use Rattle.broker_base.specs.Kept.{Kept}
-use Rattle.broker_base.specs.KeptStep.{kept_on, kept_anew, kept_connected}
+use Rattle.broker_model.specs.Connection.{ConnectionName, same_connection}
+use Rattle.broker_model.specs.Place.{Client, by_bytes, same_client, Mark, Place, Limits, only_if}
+use Rattle.broker_model.specs.Past.{accepts, any_connection}
+use Rattle.broker_base.specs.ClientSession.{ClientSession}
+use Rattle.broker_base.specs.SessionStep.{kept_anew, kept_resumed, kept_connected}
 use Rattle.broker_base.specs.State.{Sessions, State, keyed, session_in, put_session, owner_in}
 use Rattle.broker_base.specs.Decisions.{connect_mark_in, mark_in}
 use Rattle.broker_base.specs.Step.{session_after, sessions_left, sessions_with}
-use Rattle.broker_base.specs.StateLaws.{ComesBefore, AreByClient, IsNobodys, AreApart}
-use Rattle.broker_base.specs.declared.command.Command.{Command}
-use Rattle.broker_base.specs.declared.command.Command.TheVariants as commands
-use Rattle.broker_base.proofs.SessionsStayByClient.{before_more, before_left, put_first}
-use Rattle.broker_base.proofs.ClientsInOrder.{equal_is}
+use Rattle.broker_base.specs.StateLaws.{AreByClient, IsNobodys, AreApart}
+use Rattle.broker_model.specs.declared.command.Command.{Command}
+use Rattle.broker_model.specs.declared.command.Command.TheVariants as commands
+use Rattle.std.specs.List.Sorted.{IsStrictlySortedBy}
+use Rattle.broker_base.proofs.SessionsStayByClient.{ComesBefore, before_more, before_left, put_first}
+use Rattle.broker_model.proofs.ClientsInOrder.{equal_is}
 use Rattle.broker_base.proofs.ConnectionsOfSessions.{same_turned, nobodys_left, nobodys_put, OnOld, old_after, apart_keyed}
 use Rattle.broker_base.proofs.NoneOpensApart.{NoneOpens, nobodys_kept, apart_left}
 
@@ -36,9 +37,10 @@ other_opens x y clean true opened a is e h = ap (same_connection y) (ap_first (s
     ap_first f = cc
 other_opens x y clean false opened a is e h = absurd (let f : None ≡ Some a = sym is ∙ e in cc)
 
-pub apart_put : (x : ConnectionName) (c : Client) (clean : Bool) (kept : Kept) (w : ℕ) (place : Place) (content : RetainedTopics) (rows : Sessions) →
+pub apart_put : (x : ConnectionName) (c : Client) (clean : Bool) (kept : ClientSession) (w : ℕ) (place : Place) (content : RetainedTopics) (rows : Sessions) →
     ((d : Client) → accepts place.command place.mark d ≡ only_if (same_client c d) (Some (x, clean))) → kept.connection ≡ Some x →
     AreByClient rows → AreApart rows → IsNobodys x rows → AreApart (put_session c kept (sessions_left w place content rows))
+unfolding IsStrictlySortedBy
 apart_put x c clean kept w place content [] is on by_client apart nobodys = (λ y e. tt, tt)
 apart_put x c clean kept w place content (row ∷ rows) is on by_client apart nobodys =
     by (by_bytes c row.0) refl (apart_put x c clean kept w place content rows is on by_client.1 apart.1 nobodys.1)
@@ -57,18 +59,18 @@ apart_put x c clean kept w place content (row ∷ rows) is on by_client apart no
           apart_left w place content others (none_opens x c clean place others is before) others_apart,
         )
 
-    replaced : by_bytes c row.0 ≡ Equal → (o : Option Kept) → ComesBefore c rows → AreApart (put_session c kept (sessions_left w place content rows)) →
+    replaced : by_bytes c row.0 ≡ Equal → (o : Option ClientSession) → ComesBefore c rows → AreApart (put_session c kept (sessions_left w place content rows)) →
         AreApart (put_session c kept (keyed row.0 o (sessions_left w place content rows)))
     replaced e None before k = k
     replaced e (Some other) before k =
-        subst (λ (o : Ordering). AreApart (match_ordering o ((c, kept) ∷ (row.0, other) ∷ sessions_left w place content rows) ((c, kept) ∷ sessions_left w place content rows) ((row.0, other) ∷ put_session c kept (sessions_left w place content rows)))) (sym e)
+        subst (λ (o : Ordering). AreApart (match_ordering o ((c, kept) ∷ (row.0, other) ∷ sessions_left w place content rows) ((row.0, kept) ∷ sessions_left w place content rows) ((row.0, other) ∷ put_session c kept (sessions_left w place content rows)))) (sym e)
         (subst AreApart (put_first c kept (sessions_left w place content rows) (before_left c w place content rows before)) k)
 
-    behind : by_bytes c row.0 ≡ Greater → (o : Option Kept) → OnOld row.1.connection o → AreApart (put_session c kept (sessions_left w place content rows)) →
+    behind : by_bytes c row.0 ≡ Greater → (o : Option ClientSession) → OnOld row.1.connection o → AreApart (put_session c kept (sessions_left w place content rows)) →
         AreApart (put_session c kept (keyed row.0 o (sessions_left w place content rows)))
     behind e None old k = k
     behind e (Some other) old k =
-        subst (λ (o : Ordering). AreApart (match_ordering o ((c, kept) ∷ (row.0, other) ∷ sessions_left w place content rows) ((c, kept) ∷ sessions_left w place content rows) ((row.0, other) ∷ put_session c kept (sessions_left w place content rows)))) (sym e)
+        subst (λ (o : Ordering). AreApart (match_ordering o ((c, kept) ∷ (row.0, other) ∷ sessions_left w place content rows) ((row.0, kept) ∷ sessions_left w place content rows) ((row.0, other) ∷ put_session c kept (sessions_left w place content rows)))) (sym e)
         (apart_keyed row.1.connection row.0 (Some other) (put_session c kept (sessions_left w place content rows)) old
         (λ y on_y. let apart_y : same_connection y x ≡ false = same_turned y x ∙ sym (ap (any_connection (same_connection x)) on_y) ∙ nobodys.0 in
         nobodys_put y c kept (sessions_left w place content rows) (ap (any_connection (same_connection y)) on ∙ apart_y)
@@ -92,14 +94,14 @@ owner_none x (row ∷ rows) e =
       | false ↦ λ same f. (same, owner_none x rows f)
     ] refl e
 
-accepted_none : (limits : Limits) (state : State) (c : Client) (owner : Option (Client × Kept)) → Mark.Accepted ≡ connect_mark_in limits state c owner → owner ≡ None
+accepted_none : (limits : Limits) (state : State) (c : Client) (owner : Option (Client × ClientSession)) → Mark.Accepted ≡ connect_mark_in limits state c owner → owner ≡ None
 accepted_none limits state c None e = refl
 accepted_none limits state c (Some row) e = absurd (cc)
 
-on_opened : (w : ℕ) (place : Place) (content : RetainedTopics) (c : Client) (opened : ConnectionName × Bool) (old : Option Kept) → (kept_connected w place content c opened old).connection ≡ Some opened.0
-on_opened w place content c opened None = refl
-on_opened w place content c opened (Some old) =
-    elim (opened.1 || old.clean) as (λ (b : Bool). (if b then kept_anew opened else kept_on w place content c opened.1 (Some opened.0) old).connection ≡ Some opened.0) [ true ↦ refl | false ↦ refl ]
+on_opened : (w : ℕ) (opened : ConnectionName × Bool) (old : Option ClientSession) → (kept_connected w opened old).connection ≡ Some opened.0
+on_opened w opened None = refl
+on_opened w opened (Some old) =
+    elim (opened.1 || old.clean) as (λ (b : Bool). (if b then kept_anew opened else kept_resumed w opened old).connection ≡ Some opened.0) [ true ↦ refl | false ↦ refl ]
 
 all_none : (place : Place) (rows : Sessions) → ((c : Client) → accepts place.command place.mark c ≡ None) → NoneOpens place rows
 all_none place [] none = tt
@@ -108,9 +110,9 @@ all_none place (row ∷ rows) none = (none row.0, all_none place rows none)
 pub stays_apart : (limits : Limits) (state : State) (w : ℕ) (command : Command) (mark : Mark) → mark ≡ mark_in limits state command → AreByClient state.sessions → AreApart state.sessions →
     AreApart (sessions_with w (record { command = command; mark = mark }) state.retained state.sessions command mark)
 stays_apart limits state w (commands.Connect x c clean) Mark.Accepted e by_client apart =
-    apart_put x c clean (kept_connected w (record { command = commands.Connect x c clean; mark = Mark.Accepted }) state.retained c (x, clean) (session_in c state.sessions)) w
+    apart_put x c clean (kept_connected w (x, clean) (session_in c state.sessions)) w
     (record { command = commands.Connect x c clean; mark = Mark.Accepted }) state.retained state.sessions (λ d. refl)
-    (on_opened w (record { command = commands.Connect x c clean; mark = Mark.Accepted }) state.retained c (x, clean) (session_in c state.sessions))
+    (on_opened w (x, clean) (session_in c state.sessions))
     by_client apart (owner_none x state.sessions (accepted_none limits state c (owner_in x state.sessions) e))
 stays_apart limits state w command mark e by_client apart =
     apart_left w (record { command = command; mark = mark }) state.retained state.sessions (all_none (record { command = command; mark = mark }) state.sessions (λ c. refl)) apart

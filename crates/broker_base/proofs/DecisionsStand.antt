@@ -4,18 +4,18 @@ use Rattle.std.specs.Prelude.{option_map, is_some}
 use Rattle.packet.specs.declared.packet.Packet.{Packet}
 use Rattle.packet.specs.declared.packet.Packet.TheVariants as packets
 use Rattle.session_base.specs.Publication.{publication_of}
-use Rattle.broker_base.specs.Connection.{ConnectionName, same_connection}
-use Rattle.broker_base.specs.Place.{Client, Mark, Past, Limits}
-use Rattle.broker_base.specs.Past.{any_connection, current_connection, session_of}
-use Rattle.broker_base.specs.Owner.{named, first_client}
-use Rattle.broker_base.specs.Subscriptions.{subscriptions_of}
-use Rattle.broker_base.specs.Retained.{retained_publications}
-use Rattle.broker_base.specs.Marks.{grants, packet_mark, packet_mark_of, connect_mark, mark_of}
-use Rattle.broker_base.specs.Kept.{kept_of}
+use Rattle.broker_model.specs.Connection.{ConnectionName, same_connection}
+use Rattle.broker_model.specs.Place.{Client, Mark, Past, Limits}
+use Rattle.broker_model.specs.Past.{any_connection, current_connection, session_of}
+use Rattle.broker_model.specs.Owner.{named, first_client}
+use Rattle.broker_model.specs.Subscriptions.{subscriptions_of}
+use Rattle.broker_model.specs.Retained.{retained_publications}
+use Rattle.broker_model.specs.Marks.{grants, packet_mark, packet_mark_of, connect_mark, mark_of}
+use Rattle.broker_base.specs.ClientSession.{client_session}
 use Rattle.broker_base.specs.State.{keyed, table, owner_in, state_of}
 use Rattle.broker_base.specs.Decisions.{owned_mark, packet_mark_in, connect_mark_in, mark_in}
-use Rattle.broker_base.specs.declared.command.Command.{Command}
-use Rattle.broker_base.specs.declared.command.Command.TheVariants as commands
+use Rattle.broker_model.specs.declared.command.Command.{Command}
+use Rattle.broker_model.specs.declared.command.Command.TheVariants as commands
 use Rattle.broker_base.proofs.KeptAfter.{kept_now}
 use Rattle.broker_base.proofs.SessionsAfter.{session_is}
 use Rattle.broker_base.proofs.RoomStands.{room_is, refuses_is, again_is}
@@ -35,40 +35,40 @@ abbrev pub is_current : Past → ConnectionName → Client → Bool
 is_current past x c = any_connection (same_connection x) (current_connection past c)
 
 packet_owner : (limits : Limits) (past : Past) (x : ConnectionName) (packet : Packet) (ds : List Client) →
-    packet_mark_in limits (state_of limits past) packet (owner_in x (table (kept_of limits past) ds))
+    packet_mark_in limits (state_of limits past) packet (owner_in x (table (client_session limits past) ds))
     ≡ packet_mark_of limits past packet (first_client (is_current past x) (filter (λ c. is_some (session_of past c)) ds))
 packet_owner limits past x packet [] = refl
 packet_owner limits past x packet (d ∷ ds) = by (session_of past d) (packet_owner limits past x packet ds)
   where
     hit : (b : Bool) (clean : Bool) →
-        packet_mark_in limits (state_of limits past) packet (owner_in x (table (kept_of limits past) ds))
+        packet_mark_in limits (state_of limits past) packet (owner_in x (table (client_session limits past) ds))
         ≡ packet_mark_of limits past packet (first_client (is_current past x) (filter (λ c. is_some (session_of past c)) ds)) →
-        packet_mark_in limits (state_of limits past) packet (if b then Some (d, kept_now limits past d clean) else owner_in x (table (kept_of limits past) ds))
+        packet_mark_in limits (state_of limits past) packet (if b then Some (d, kept_now limits past d clean) else owner_in x (table (client_session limits past) ds))
         ≡ packet_mark_of limits past packet (if b then Some d else first_client (is_current past x) (filter (λ c. is_some (session_of past c)) ds))
     hit true clean e = owned_is limits past d clean packet
     hit false clean e = e
 
     by : (session : Option Bool) →
-        packet_mark_in limits (state_of limits past) packet (owner_in x (table (kept_of limits past) ds))
+        packet_mark_in limits (state_of limits past) packet (owner_in x (table (client_session limits past) ds))
         ≡ packet_mark_of limits past packet (first_client (is_current past x) (filter (λ c. is_some (session_of past c)) ds)) →
-        packet_mark_in limits (state_of limits past) packet (owner_in x (keyed d (option_map (kept_now limits past d) session) (table (kept_of limits past) ds)))
+        packet_mark_in limits (state_of limits past) packet (owner_in x (keyed d (option_map (kept_now limits past d) session) (table (client_session limits past) ds)))
         ≡ packet_mark_of limits past packet (first_client (is_current past x) (if is_some session then d ∷ filter (λ c. is_some (session_of past c)) ds else filter (λ c. is_some (session_of past c)) ds))
     by None e = e
     by (Some clean) e = hit (is_current past x d) clean e
 
 -- ---- a Connect
 
-table_length : (limits : Limits) (past : Past) (ds : List Client) → length (table (kept_of limits past) ds) ≡ length (filter (λ c. is_some (session_of past c)) ds)
+table_length : (limits : Limits) (past : Past) (ds : List Client) → length (table (client_session limits past) ds) ≡ length (filter (λ c. is_some (session_of past c)) ds)
 table_length limits past [] = refl
 table_length limits past (d ∷ ds) = by (session_of past d) (table_length limits past ds)
   where
-    by : (session : Option Bool) → length (table (kept_of limits past) ds) ≡ length (filter (λ c. is_some (session_of past c)) ds) →
-        length (keyed d (option_map (kept_now limits past d) session) (table (kept_of limits past) ds))
+    by : (session : Option Bool) → length (table (client_session limits past) ds) ≡ length (filter (λ c. is_some (session_of past c)) ds) →
+        length (keyed d (option_map (kept_now limits past d) session) (table (client_session limits past) ds))
         ≡ length (if is_some session then d ∷ filter (λ c. is_some (session_of past c)) ds else filter (λ c. is_some (session_of past c)) ds)
     by None e = e
     by (Some clean) e = ap suc e
 
-has_session : (limits : Limits) (past : Past) (c : Client) → is_some (kept_of limits past c) ≡ is_some (session_of past c)
+has_session : (limits : Limits) (past : Past) (c : Client) → is_some (client_session limits past c) ≡ is_some (session_of past c)
 has_session limits past c = by (session_of past c)
   where
     by : (session : Option Bool) → is_some (option_map (kept_now limits past c) session) ≡ is_some session
@@ -76,7 +76,7 @@ has_session limits past c = by (session_of past c)
     by (Some clean) = refl
 
 connect_owner : (limits : Limits) (past : Past) (x : ConnectionName) (c : Client) (ds : List Client) →
-    connect_mark_in limits (state_of limits past) c (owner_in x (table (kept_of limits past) ds))
+    connect_mark_in limits (state_of limits past) c (owner_in x (table (client_session limits past) ds))
     ≡ connect_mark limits past c (first_client (is_current past x) (filter (λ c. is_some (session_of past c)) ds))
 connect_owner limits past x c [] =
     ap₂ (λ a k. if a || nat_lt k limits.sessions then Mark.Accepted else Mark.Full)
@@ -84,17 +84,17 @@ connect_owner limits past x c [] =
 connect_owner limits past x c (d ∷ ds) = by (session_of past d) (connect_owner limits past x c ds)
   where
     hit : (b : Bool) (clean : Bool) →
-        connect_mark_in limits (state_of limits past) c (owner_in x (table (kept_of limits past) ds))
+        connect_mark_in limits (state_of limits past) c (owner_in x (table (client_session limits past) ds))
         ≡ connect_mark limits past c (first_client (is_current past x) (filter (λ c. is_some (session_of past c)) ds)) →
-        connect_mark_in limits (state_of limits past) c (if b then Some (d, kept_now limits past d clean) else owner_in x (table (kept_of limits past) ds))
+        connect_mark_in limits (state_of limits past) c (if b then Some (d, kept_now limits past d clean) else owner_in x (table (client_session limits past) ds))
         ≡ connect_mark limits past c (if b then Some d else first_client (is_current past x) (filter (λ c. is_some (session_of past c)) ds))
     hit true clean e = refl
     hit false clean e = e
 
     by : (session : Option Bool) →
-        connect_mark_in limits (state_of limits past) c (owner_in x (table (kept_of limits past) ds))
+        connect_mark_in limits (state_of limits past) c (owner_in x (table (client_session limits past) ds))
         ≡ connect_mark limits past c (first_client (is_current past x) (filter (λ c. is_some (session_of past c)) ds)) →
-        connect_mark_in limits (state_of limits past) c (owner_in x (keyed d (option_map (kept_now limits past d) session) (table (kept_of limits past) ds)))
+        connect_mark_in limits (state_of limits past) c (owner_in x (keyed d (option_map (kept_now limits past d) session) (table (client_session limits past) ds)))
         ≡ connect_mark limits past c (first_client (is_current past x) (if is_some session then d ∷ filter (λ c. is_some (session_of past c)) ds else filter (λ c. is_some (session_of past c)) ds))
     by None e = e
     by (Some clean) e = hit (is_current past x d) clean e

@@ -1,21 +1,18 @@
 -- A session that a place does not touch stays as it is.
-use Rattle.std.proofs.Common.{◌≡◌, ℕ, Bool, true, false, if◌then◌else◌, Option, Some, None, ◌∷◌, length, refl, ap, ◌∙◌, sym, subst}
+use Rattle.std.proofs.Common.{◌≡◌, ℕ, Bool, true, false, if◌then◌else◌, Option, Some, None, ◌∷◌, length, refl, ap, sym}
 use Rattle.std.proofs.lemmas.Bool.{or_parts}
 use Rattle.retained.specs.Retained.{RetainedTopics}
-use Rattle.broker_base.specs.Place.{Client, Place, Past, Limits}
-use Rattle.broker_base.specs.Past.{accepts, any_connection, ends, ends_any, current_connection, session_of}
-use Rattle.broker_base.specs.Subscriptions.{subscriptions_of}
-use Rattle.broker_base.specs.Received.{received_of}
-use Rattle.broker_base.specs.Retained.{retained_publications}
-use Rattle.broker_base.specs.Readings.{waiting_of}
-use Rattle.broker_base.specs.Times.{window_at, entries_of}
-use Rattle.broker_base.specs.Kept.{Kept, flights_below, queue_of, kept_of}
-use Rattle.broker_base.specs.KeptStep.{kept_by, kept_after}
+use Rattle.broker_model.specs.Place.{Client, Place, Past, Limits}
+use Rattle.broker_model.specs.Past.{accepts, ends_any, current_connection, session_of}
+use Rattle.broker_model.specs.Subscriptions.{subscriptions_of}
+use Rattle.broker_model.specs.Received.{received_of}
+use Rattle.broker_model.specs.Retained.{retained_publications}
+use Rattle.broker_model.specs.Times.{window_at, entries_of}
+use Rattle.broker_base.specs.ClientSession.{ClientSession, queue_of, client_session}
+use Rattle.broker_base.specs.SessionStep.{kept_by, kept_after}
 use Rattle.broker_base.specs.Step.{is_about, touches, session_after, IsWindow}
-use Rattle.broker_base.proofs.SendsOfCopies.{Quiet}
 use Rattle.broker_base.proofs.KeptAfter.{kept_with, kept_now}
-use Rattle.broker_base.proofs.QuietPasts.{quiet_queue}
-use Rattle.broker_base.proofs.UntouchedStays.{no_start, same_window, kept_stays}
+use Rattle.broker_base.proofs.UntouchedStays.{kept_stays}
 
 -- ---- of a past
 
@@ -28,20 +25,17 @@ pub stays_with : (limits : Limits) (later : ℕ) → IsWindow limits later → (
 stays_with limits later follows place past c clean untouched =
     let h = or_parts (ends_any place (current_connection past c)) (is_about place.command place.mark c (subscriptions_of past c)) untouched in
     kept_stays (window_at limits (place ∷ past)) place (retained_publications past) c
-    (record { clean = clean; connection = current_connection past c; subscriptions = subscriptions_of past c; received = received_of past c; queue = queue_of (length past) (entries_of limits past c) })
+    (record { clean = clean; connection = current_connection past c; state = record { subscriptions = subscriptions_of past c; received = received_of past c; queue = queue_of (length past) (entries_of limits past c) } })
     h.0 h.1
-    (λ x e. subst (λ (w : ℕ). Quiet w (flights_below (length past) (entries_of limits past c)) (waiting_of (entries_of limits past c)))
-    (sym (same_window limits later follows place past (no_start place.command place.mark x (ap (any_connection (ends place.command place.mark)) (sym e) ∙ h.0))))
-    (quiet_queue limits past c x e))
 
 -- a session after a place, by whether it is touched
-abbrev pub left_with : ℕ → Place → RetainedTopics → Client → Option Kept → Option Kept
+abbrev pub left_with : ℕ → Place → RetainedTopics → Client → Option ClientSession → Option ClientSession
 left_with w place content c None = None
 left_with w place content c (Some kept) = session_after w place content c kept
 
 pub left_is : (limits : Limits) (later : ℕ) → IsWindow limits later → (place : Place) (past : Past) (c : Client) → accepts place.command place.mark c ≡ None →
-    left_with (window_at limits (place ∷ past)) place (retained_publications past) c (kept_of limits past c)
-    ≡ kept_after (window_at limits (place ∷ past)) place (retained_publications past) c (kept_of limits past c)
+    left_with (window_at limits (place ∷ past)) place (retained_publications past) c (client_session limits past c)
+    ≡ kept_after (window_at limits (place ∷ past)) place (retained_publications past) c (client_session limits past c)
 left_is limits later follows place past c not_accepted = by (session_of past c)
   where
     touched : (b : Bool) (clean : Bool) → touches place c (kept_now limits past c clean) ≡ b →

@@ -6,26 +6,26 @@ use Rattle.packet.specs.declared.packet.Packet.TheVariants as packets
 use Rattle.packet.specs.declared.publish.Publish.{Publish}
 use Rattle.session_base.specs.Queue.{on_puback, on_pubcomp}
 use Rattle.session_base.specs.Sending.{fill_sends}
-use Rattle.broker_base.specs.Connection.{ConnectionName, same_connection}
-use Rattle.broker_base.specs.Place.{Client, Mark, Place, Past, Limits}
-use Rattle.broker_base.specs.Past.{any_connection, current_connection, session_of}
-use Rattle.broker_base.specs.Owner.{named}
-use Rattle.broker_base.specs.Retained.{retained_publications}
-use Rattle.broker_base.specs.Times.{at_pubrec, window_at, entries_of}
-use Rattle.broker_base.specs.Sends.{deliveries_to}
-use Rattle.broker_base.specs.Answers.{acknowledged, codes_of, handled, packet_answers}
-use Rattle.broker_base.specs.Kept.{Kept, kept_of}
+use Rattle.broker_model.specs.Connection.{ConnectionName, same_connection}
+use Rattle.broker_model.specs.Place.{Client, Mark, Place, Past, Limits}
+use Rattle.broker_model.specs.Past.{any_connection, current_connection, session_of}
+use Rattle.broker_model.specs.Owner.{named}
+use Rattle.broker_model.specs.Retained.{retained_publications}
+use Rattle.broker_model.specs.Times.{at_pubrec, window_at, entries_of}
+use Rattle.broker_model.specs.Sends.{deliveries_to}
+use Rattle.broker_model.specs.Answers.{acknowledged, codes_of, handled, packet_answers}
+use Rattle.broker_base.specs.ClientSession.{ClientSession, client_session}
 use Rattle.broker_base.specs.State.{keyed, table, state_of}
 use Rattle.broker_base.specs.Step.{IsWindow}
 use Rattle.broker_base.specs.StepAnswers.{copies_answered, copies_to, while_connected, handled_of, handled_in, packet_answers_in}
-use Rattle.broker_base.specs.declared.command.Command.TheVariants as commands
-use Rattle.broker_base.specs.declared.command.Output.TheVariants.{Send}
-use Rattle.broker_base.proofs.ClientsInOrder.{same_self}
+use Rattle.broker_model.specs.declared.command.Command.TheVariants as commands
+use Rattle.broker_model.specs.declared.command.Output.TheVariants.{Send}
+use Rattle.broker_model.proofs.ClientsInOrder.{same_self}
 use Rattle.broker_base.proofs.SessionsAfter.{at, session_is}
 use Rattle.broker_base.proofs.UntouchedStays.{same_window}
 use Rattle.broker_base.proofs.CopiesOfSessions.{deliveries_are}
 use Rattle.broker_base.proofs.AnswersBehind.{fills_behind, starts_are}
-use Rattle.broker_base.proofs.PubrelsBehind.{pubrels_behind, pubrec_is}
+use Rattle.broker_base.proofs.flights.PubrelsBehind.{pubrels_behind, pubrec_is}
 use Rattle.broker_base.proofs.KeptAfter.{kept_now}
 
 -- a packet that leaves nothing ends no connection
@@ -40,7 +40,7 @@ not_ending x (Some y) = no (same_connection x y)
 -- ---- a taken PUBLISH
 
 to_all : (limits : Limits) (later : ℕ) → IsWindow limits later → (past : Past) (x : ConnectionName) (p : Publish) (owner : Client) (ds : List Client) →
-    flat_map (copies_answered (window_at limits (at (commands.Packet x (packets.Publish p)) (Mark.Taken owner) ∷ past)) (at (commands.Packet x (packets.Publish p)) (Mark.Taken owner)) (retained_publications past)) (table (kept_of limits past) ds)
+    flat_map (copies_answered (window_at limits (at (commands.Packet x (packets.Publish p)) (Mark.Taken owner) ∷ past)) (at (commands.Packet x (packets.Publish p)) (Mark.Taken owner)) (retained_publications past)) (table (client_session limits past) ds)
     ≡ flat_map (deliveries_to limits (at (commands.Packet x (packets.Publish p)) (Mark.Taken owner)) past) (filter (λ c. is_some (session_of past c)) ds)
 to_all limits later follows past x p owner [] = refl
 to_all limits later follows past x p owner (d ∷ ds) =
@@ -52,12 +52,12 @@ to_all limits later follows past x p owner (d ∷ ds) =
     place = at (commands.Packet x (packets.Publish p)) (Mark.Taken owner)
 
     by : (session : Option Bool) →
-        flat_map (copies_answered (window_at limits (at (commands.Packet x (packets.Publish p)) (Mark.Taken owner) ∷ past)) (at (commands.Packet x (packets.Publish p)) (Mark.Taken owner)) (retained_publications past)) (table (kept_of limits past) ds)
+        flat_map (copies_answered (window_at limits (at (commands.Packet x (packets.Publish p)) (Mark.Taken owner) ∷ past)) (at (commands.Packet x (packets.Publish p)) (Mark.Taken owner)) (retained_publications past)) (table (client_session limits past) ds)
         ≡ flat_map (deliveries_to limits (at (commands.Packet x (packets.Publish p)) (Mark.Taken owner)) past) (filter (λ c. is_some (session_of past c)) ds) →
         copies_to (window_at limits (at (commands.Packet x (packets.Publish p)) (Mark.Taken owner) ∷ past)) (at (commands.Packet x (packets.Publish p)) (Mark.Taken owner)) (retained_publications past) d (option_map (kept_now limits past d) session)
         ≡ deliveries_to limits (at (commands.Packet x (packets.Publish p)) (Mark.Taken owner)) past d →
         flat_map (copies_answered (window_at limits (at (commands.Packet x (packets.Publish p)) (Mark.Taken owner) ∷ past)) (at (commands.Packet x (packets.Publish p)) (Mark.Taken owner)) (retained_publications past))
-        (keyed d (option_map (kept_now limits past d) session) (table (kept_of limits past) ds))
+        (keyed d (option_map (kept_now limits past d) session) (table (client_session limits past) ds))
         ≡ flat_map (deliveries_to limits (at (commands.Packet x (packets.Publish p)) (Mark.Taken owner)) past)
         (if is_some session then d ∷ filter (λ c. is_some (session_of past c)) ds else filter (λ c. is_some (session_of past c)) ds)
     by None e here = e
@@ -65,44 +65,44 @@ to_all limits later follows past x p owner (d ∷ ds) =
 
 -- ---- the client's answers
 
-behind_puback : (w : ℕ) (x : ConnectionName) (c : Client) (i : ℕ) (old : Option Kept) →
+behind_puback : (w : ℕ) (x : ConnectionName) (c : Client) (i : ℕ) (old : Option ClientSession) →
     fills_behind w (commands.Packet x (packets.Puback i)) (Mark.Handled c) c old ≡ handled_of w (packets.Puback i) old
 behind_puback w x c i None = refl
 behind_puback w x c i (Some kept) =
-    ap (λ b. while_connected kept.connection (fill_sends w (if b then on_puback i kept.queue.in_flight else kept.queue.in_flight) kept.queue.waiting)) (same_self c)
+    ap (λ b. while_connected kept.connection (fill_sends w (if b then on_puback i kept.state.queue.in_flight else kept.state.queue.in_flight) kept.state.queue.waiting)) (same_self c)
 
-behind_pubcomp : (w : ℕ) (x : ConnectionName) (c : Client) (i : ℕ) (old : Option Kept) →
+behind_pubcomp : (w : ℕ) (x : ConnectionName) (c : Client) (i : ℕ) (old : Option ClientSession) →
     fills_behind w (commands.Packet x (packets.Pubcomp i)) (Mark.Handled c) c old ≡ handled_of w (packets.Pubcomp i) old
 behind_pubcomp w x c i None = refl
 behind_pubcomp w x c i (Some kept) =
-    ap (λ b. while_connected kept.connection (fill_sends w (if b then on_pubcomp i kept.queue.in_flight else kept.queue.in_flight) kept.queue.waiting)) (same_self c)
+    ap (λ b. while_connected kept.connection (fill_sends w (if b then on_pubcomp i kept.state.queue.in_flight else kept.state.queue.in_flight) kept.state.queue.waiting)) (same_self c)
 
-behind_pubrec : (w : ℕ) (i : ℕ) (old : Option Kept) → pubrels_behind i old ≡ handled_of w (packets.Pubrec i) old
+behind_pubrec : (w : ℕ) (i : ℕ) (old : Option ClientSession) → pubrels_behind i old ≡ handled_of w (packets.Pubrec i) old
 behind_pubrec w i None = refl
 behind_pubrec w i (Some kept) = refl
 
-nothing : (x : ConnectionName) (w : ℕ) (packet : Packet) (old : Option Kept) → ((kept : Kept) → handled_of w packet (Some kept) ≡ []) → map (Send x) (handled_of w packet old) ≡ []
+nothing : (x : ConnectionName) (w : ℕ) (packet : Packet) (old : Option ClientSession) → ((kept : ClientSession) → handled_of w packet (Some kept) ≡ []) → map (Send x) (handled_of w packet old) ≡ []
 nothing x w packet None h = refl
 nothing x w packet (Some kept) h = ap (map (Send x)) (h kept)
 
 handled_are : (limits : Limits) (later : ℕ) → IsWindow limits later → (past : Past) (x : ConnectionName) (c : Client) (packet : Packet) →
-    handled_in (window_at limits (at (commands.Packet x packet) (Mark.Handled c) ∷ past)) x (kept_of limits past c) packet
+    handled_in (window_at limits (at (commands.Packet x packet) (Mark.Handled c) ∷ past)) x (client_session limits past c) packet
     ≡ handled limits (at (commands.Packet x packet) (Mark.Handled c)) past x c packet
 handled_are limits later follows past x c (packets.Unsubscribe u) = refl
 handled_are limits later follows past x c (packets.Pubrel id) = refl
 handled_are limits later follows past x c packets.Pingreq = refl
 handled_are limits later follows past x c (packets.Puback i) =
-    ap (map (Send x)) (sym (behind_puback (window_at limits (at (commands.Packet x (packets.Puback i)) (Mark.Handled c) ∷ past)) x c i (kept_of limits past c)))
+    ap (map (Send x)) (sym (behind_puback (window_at limits (at (commands.Packet x (packets.Puback i)) (Mark.Handled c) ∷ past)) x c i (client_session limits past c)))
     ∙ sym (starts_are limits (at (commands.Packet x (packets.Puback i)) (Mark.Handled c)) past c x refl (not_ending x (current_connection past c)) refl)
 handled_are limits later follows past x c (packets.Pubcomp i) =
-    ap (map (Send x)) (sym (behind_pubcomp (window_at limits (at (commands.Packet x (packets.Pubcomp i)) (Mark.Handled c) ∷ past)) x c i (kept_of limits past c)))
+    ap (map (Send x)) (sym (behind_pubcomp (window_at limits (at (commands.Packet x (packets.Pubcomp i)) (Mark.Handled c) ∷ past)) x c i (client_session limits past c)))
     ∙ sym (starts_are limits (at (commands.Packet x (packets.Pubcomp i)) (Mark.Handled c)) past c x refl (not_ending x (current_connection past c)) refl)
 handled_are limits later follows past x c (packets.Pubrec i) =
-    ap (map (Send x)) (sym (behind_pubrec (window_at limits (at (commands.Packet x (packets.Pubrec i)) (Mark.Handled c) ∷ past)) i (kept_of limits past c)))
+    ap (map (Send x)) (sym (behind_pubrec (window_at limits (at (commands.Packet x (packets.Pubrec i)) (Mark.Handled c) ∷ past)) i (client_session limits past c)))
     ∙ sym (pubrec_is limits (at (commands.Packet x (packets.Pubrec i)) (Mark.Handled c)) past c x i refl (not_ending x (current_connection past c)) refl
     (ap (λ b. if b then map (at_pubrec (length past) i) (entries_of limits past c) else entries_of limits past c) (same_self c)))
 handled_are limits later follows past x c packet =
-    nothing x (window_at limits (at (commands.Packet x packet) (Mark.Handled c) ∷ past)) packet (kept_of limits past c) (λ kept. refl)
+    nothing x (window_at limits (at (commands.Packet x packet) (Mark.Handled c) ∷ past)) packet (client_session limits past c) (λ kept. refl)
 
 pub packet_answers_are : (limits : Limits) (later : ℕ) → IsWindow limits later → (past : Past) (x : ConnectionName) (packet : Packet) (mark : Mark) →
     packet_answers_in (window_at limits (at (commands.Packet x packet) mark ∷ past)) (at (commands.Packet x packet) mark) (state_of limits past) x packet mark

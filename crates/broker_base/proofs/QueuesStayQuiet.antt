@@ -1,107 +1,135 @@
--- A step leaves each connected client's queue quiet: it is filled where it may change, and stays where not.
-use Rattle.std.proofs.Common.{◌≡◌, ℕ, ◌≤◌, Bool, true, false, not, ◌&&◌, ◌||◌, ◌⊎◌, inl, inr, if◌then◌else◌, Option, Some, None, [], ◌∷◌, length, refl, ap, ◌∙◌, sym, subst}
+-- A step leaves each connected client's queue quiet: it is filled where entries may start, and else nothing makes it
+-- less quiet.
+use Rattle.std.proofs.Common.{◌≡◌, ℕ, Bool, true, false, not, ◌&&◌, ◌||◌, inl, inr, if◌then◌else◌, Option, Some, None, List, [], ◌∷◌, refl, ap, ◌∙◌, sym, subst}
 use Rattle.std.proofs.lemmas.Bool.{or_parts}
-use Rattle.std.specs.declared.cmp.Ordering.{Ordering}
-use Rattle.std.specs.declared.cmp.Ordering.TheVariants.{Less, Equal, Greater}
-use Rattle.std.specs.Ordering.{match_ordering}
+use Rattle.packet.specs.declared.packet.Packet.TheVariants as packets
 use Rattle.retained.specs.Retained.{RetainedTopics}
+use Rattle.session_base.specs.declared.publication.Publication.{Publication}
+use Rattle.session_base.specs.Publication.{is_answered}
+use Rattle.lists.specs.Lists.{IsDistinct}
+use Rattle.session_base.specs.Laws.{IsQuietQueue}
+use Rattle.session_base.specs.Queue.{Queue, ids_of, on_puback, on_pubrec, on_pubcomp, enqueue, filled, copies_left}
 use Rattle.session_base.proofs.FillsOfQueues.{fill_done}
-use Rattle.broker_base.specs.Connection.{ConnectionName}
-use Rattle.broker_base.specs.Place.{Client, by_bytes, Mark, Place, Limits, only_if}
-use Rattle.broker_base.specs.Past.{accepts, any_connection, ends, ends_any}
-use Rattle.broker_base.specs.Commands.{is_start}
-use Rattle.broker_base.specs.Kept.{Kept}
-use Rattle.broker_base.specs.KeptStep.{kept_on, kept_anew, kept_connected, kept_by, kept_after}
-use Rattle.broker_base.specs.State.{Sessions, State, keyed, session_in, put_session}
+use Rattle.session_base.proofs.IdentifiersStayApart.{pubrec_length}
+use Rattle.broker_model.specs.Connection.{ConnectionName}
+use Rattle.broker_model.specs.Place.{Client, same_client, Mark, Place, Limits, only_if}
+use Rattle.broker_model.specs.Past.{accepts, any_connection, ends, ends_any}
+use Rattle.broker_model.specs.Commands.{is_start}
+use Rattle.broker_base.specs.ClientSession.{ClientSession}
+use Rattle.broker_base.specs.SessionStep.{copies_with, answered_queue, kept_on, kept_anew, kept_resumed, kept_connected, kept_by, kept_after}
+use Rattle.broker_base.specs.State.{Sessions, State}
 use Rattle.broker_base.specs.Decisions.{place_in}
-use Rattle.broker_base.specs.Step.{is_about, touches, session_after, sessions_left, sessions_with, window_after, step}
-use Rattle.broker_base.specs.StateLaws.{HasQuietQueue, AllQuiet}
-use Rattle.broker_base.specs.declared.command.Command.{Command}
-use Rattle.broker_base.specs.declared.command.Command.TheVariants as commands
+use Rattle.broker_base.specs.Step.{is_about, touches, session_after, window_after, step}
+use Rattle.broker_base.specs.StateLaws.{IsSoundSession, HasQuietQueue, AllSound, AllQuiet}
+use Rattle.broker_model.specs.declared.command.Command.{Command}
+use Rattle.broker_model.specs.declared.command.Command.TheVariants as commands
 use Rattle.broker_base.proofs.UntouchedStays.{no_start}
+use Rattle.broker_base.proofs.flights.FillsWhereItMay.{still_quiet}
+use Rattle.broker_base.proofs.RowsKeep.{If, AllRows, all_left, all_with}
 
--- a session, if one is left, is quiet
-abbrev pub QuietIf : ℕ → Option Kept → Type 0
-QuietIf w (Some kept) = HasQuietQueue w kept
-QuietIf w None = Unit {0}
+-- ---- a queue
 
-quiet_on : (w : ℕ) (place : Place) (content : RetainedTopics) (c : Client) (clean : Bool) (connection : Option ConnectionName) (old : Kept) →
-    HasQuietQueue w (kept_on w place content c clean connection old)
-quiet_on w place content c clean None old = inl refl
-quiet_on w place content c clean (Some x) old = inr (fill_done w _ _)
-
-quiet_connected : (w : ℕ) (place : Place) (content : RetainedTopics) (c : Client) (opened : ConnectionName × Bool) (old : Option Kept) →
-    HasQuietQueue w (kept_connected w place content c opened old)
-quiet_connected w place content c opened None = inr (inl refl)
-quiet_connected w place content c opened (Some old) =
-    elim (opened.1 || old.clean) as (λ (b : Bool). HasQuietQueue w (if b then kept_anew opened else kept_on w place content c opened.1 (Some opened.0) old)) [
-      | true ↦ inr (inl refl)
-      | false ↦ quiet_on w place content c opened.1 (Some opened.0) old
+copies_quiet : (w : ℕ) (copies : List Publication) (q : Queue) → IsQuietQueue w q.in_flight q.waiting →
+    IsQuietQueue w (copies_left w copies q).in_flight (copies_left w copies q).waiting
+copies_quiet w [] q h = h
+copies_quiet w (p ∷ copies) q h =
+    elim (is_answered p.qos) as (λ (b : Bool).
+    IsQuietQueue w (if b then copies_left w copies (filled w (enqueue p q)) else copies_left w copies q).in_flight
+    (if b then copies_left w copies (filled w (enqueue p q)) else copies_left w copies q).waiting) [
+      | true ↦ copies_quiet w copies (filled w (enqueue p q)) (fill_done w (enqueue p q).in_flight (enqueue p q).waiting)
+      | false ↦ copies_quiet w copies q h
     ]
 
-quiet_only : (w : ℕ) (b : Bool) (kept : Kept) → HasQuietQueue w kept → QuietIf w (only_if b (Some kept))
+abbrev pub QuietNow : ℕ → Queue → Type 0
+QuietNow w q = IsQuietQueue w q.in_flight q.waiting
+
+one_of : (w : ℕ) (b : Bool) (q r : Queue) → QuietNow w q → QuietNow w r → QuietNow w (if b then q else r)
+one_of w true q r h k = h
+one_of w false q r h k = k
+
+answer_quiet : (w : ℕ) (command : Command) (mark : Mark) (c : Client) (x : ConnectionName) (q : Queue) → IsDistinct (ids_of q.in_flight) → QuietNow w q →
+    QuietNow w (answered_queue w command mark c (Some x) q)
+answer_quiet w (commands.Packet y (packets.Puback i)) (Mark.Handled d) c x q a h = one_of w (same_client d c) _ q (fill_done w (on_puback i q.in_flight) q.waiting) h
+answer_quiet w (commands.Packet y (packets.Pubrec i)) (Mark.Handled d) c x q a h =
+    one_of w (same_client d c) _ q (still_quiet w q.in_flight (on_pubrec i q.in_flight) q.waiting (pubrec_length i q.in_flight a) h) h
+answer_quiet w (commands.Packet y (packets.Pubcomp i)) (Mark.Handled d) c x q a h = one_of w (same_client d c) _ q (fill_done w (on_pubcomp i q.in_flight) q.waiting) h
+answer_quiet w command mark c x q a h = h
+
+-- ---- a session
+
+quiet_on : (w : ℕ) (place : Place) (content : RetainedTopics) (c : Client) (connection : Option ConnectionName) (old : ClientSession) → IsDistinct (ids_of old.state.queue.in_flight) →
+    ((x : ConnectionName) → connection ≡ Some x → QuietNow w old.state.queue) → HasQuietQueue w (kept_on w place content c connection old)
+quiet_on w place content c None old a h = inl refl
+quiet_on w place content c (Some x) old a h =
+    inr (copies_quiet w (copies_with place.command place.mark content c old.state.subscriptions) (answered_queue w place.command place.mark c (Some x) old.state.queue)
+    (answer_quiet w place.command place.mark c x old.state.queue a (h x refl)))
+
+quiet_connected : (w : ℕ) (opened : ConnectionName × Bool) (old : Option ClientSession) → HasQuietQueue w (kept_connected w opened old)
+quiet_connected w opened None = inr (inl refl)
+quiet_connected w opened (Some old) =
+    elim (opened.1 || old.clean) as (λ (b : Bool). HasQuietQueue w (if b then kept_anew opened else kept_resumed w opened old)) [
+      | true ↦ inr (inl refl)
+      | false ↦ inr (fill_done w old.state.queue.in_flight old.state.queue.waiting)
+    ]
+
+quiet_only : (w : ℕ) (b : Bool) (kept : ClientSession) → HasQuietQueue w kept → If (HasQuietQueue w) (only_if b (Some kept))
 quiet_only w true kept h = h
 quiet_only w false kept h = tt
 
-quiet_by : (w : ℕ) (place : Place) (content : RetainedTopics) (c : Client) (opened : Option (ConnectionName × Bool)) (old : Option Kept) →
-    QuietIf w (kept_by w place content c opened old)
-quiet_by w place content c (Some opened) old = quiet_connected w place content c opened old
-quiet_by w place content c None None = tt
-quiet_by w place content c None (Some old) =
-    quiet_only w (not (old.clean && ends_any place old.connection)) _
-    (quiet_on w place content c old.clean (only_if (not (ends_any place old.connection)) old.connection) old)
+-- where its connection stays, the window does, and so does what was quiet
+quiet_same : (v w : ℕ) (place : Place) (kept : ClientSession) → (is_start place.command ≡ false → w ≡ v) → HasQuietQueue v kept →
+    (x : ConnectionName) → only_if (not (ends_any place kept.connection)) kept.connection ≡ Some x → QuietNow w kept.state.queue
+quiet_same v w place kept window quiet x e = by (ends_any place kept.connection) refl e quiet
+  where
+    by : (over : Bool) → ends_any place kept.connection ≡ over → only_if (not over) kept.connection ≡ Some x → HasQuietQueue v kept → QuietNow w kept.state.queue
+    by true ended f k = absurd (cc)
+    by false ended f (inl none) = absurd (let g : None ≡ Some x = sym none ∙ f in cc)
+    by false ended f (inr k) =
+        subst (λ (n : ℕ). QuietNow n kept.state.queue)
+        (sym (window (no_start place.command place.mark x (ap (any_connection (ends place.command place.mark)) (sym f) ∙ ended)))) k
 
-quiet_same : (v w : ℕ) (place : Place) (kept : Kept) → (is_start place.command ≡ false → w ≡ v) → ends_any place kept.connection ≡ false → HasQuietQueue v kept → HasQuietQueue w kept
-quiet_same v w place kept window not_ended (inl none) = inl none
-quiet_same v w place kept window not_ended (inr quiet) = by kept.connection refl
+-- a session that is sound, and quiet in this window
+abbrev pub Both : ℕ → ClientSession → Type 0
+Both w kept = IsSoundSession kept × HasQuietQueue w kept
+
+quiet_by : (v w : ℕ) (place : Place) (content : RetainedTopics) (c : Client) (opened : Option (ConnectionName × Bool)) (old : ClientSession) → (is_start place.command ≡ false → w ≡ v) → Both v old →
+    If (HasQuietQueue w) (kept_by w place content c opened (Some old))
+quiet_by v w place content c (Some opened) old window h = quiet_connected w opened (Some old)
+quiet_by v w place content c None old window h =
+    quiet_only w (not (old.clean && ends_any place old.connection)) _
+    (quiet_on w place content c (only_if (not (ends_any place old.connection)) old.connection) old h.0.identifiers (quiet_same v w place old window h.1))
+
+untouched_quiet : (v w : ℕ) (place : Place) (kept : ClientSession) → (is_start place.command ≡ false → w ≡ v) → ends_any place kept.connection ≡ false → HasQuietQueue v kept → HasQuietQueue w kept
+untouched_quiet v w place kept window not_ended quiet = by kept.connection refl
   where
     by : (connection : Option ConnectionName) → kept.connection ≡ connection → HasQuietQueue w kept
     by None e = inl e
-    by (Some x) e = inr (subst (λ (k : ℕ). (kept.queue.waiting ≡ []) ⊎ (k ≤ length kept.queue.in_flight))
-        (sym (window (no_start place.command place.mark x (ap (any_connection (ends place.command place.mark)) (sym e) ∙ not_ended)))) quiet)
+    by (Some x) e = inr (quiet_same v w place kept window quiet x (ap (λ b. only_if (not b) kept.connection) not_ended ∙ e))
 
-quiet_row : (v w : ℕ) (place : Place) (content : RetainedTopics) (c : Client) (kept : Kept) → (is_start place.command ≡ false → w ≡ v) → HasQuietQueue v kept →
-    QuietIf w (session_after w place content c kept)
-quiet_row v w place content c kept window quiet =
-    elim (touches place c kept) as (λ (b : Bool). touches place c kept ≡ b → QuietIf w (if b then kept_after w place content c (Some kept) else Some kept)) [
-      | true ↦ λ e. quiet_by w place content c (accepts place.command place.mark c) (Some kept)
-      | false ↦ λ e. quiet_same v w place kept window (or_parts (ends_any place kept.connection) (is_about place.command place.mark c kept.subscriptions) e).0 quiet
+quiet_row : (v w : ℕ) (place : Place) (content : RetainedTopics) (c : Client) (kept : ClientSession) → (is_start place.command ≡ false → w ≡ v) → Both v kept →
+    If (HasQuietQueue w) (session_after w place content c kept)
+quiet_row v w place content c kept window h =
+    elim (touches place c kept) as (λ (b : Bool). touches place c kept ≡ b → If (HasQuietQueue w) (if b then kept_after w place content c (Some kept) else Some kept)) [
+      | true ↦ λ e. quiet_by v w place content c (accepts place.command place.mark c) kept window h
+      | false ↦ λ e. untouched_quiet v w place kept window (or_parts (ends_any place kept.connection) (is_about place.command place.mark c kept.state.subscriptions) e).0 h.1
     ] refl
 
-quiet_keyed : (w : ℕ) (c : Client) (o : Option Kept) (rows : Sessions) → QuietIf w o → AllQuiet w rows → AllQuiet w (keyed c o rows)
-quiet_keyed w c None rows h k = k
-quiet_keyed w c (Some kept) rows h k = (h, k)
+-- ---- the state
 
-quiet_left : (v w : ℕ) (place : Place) (content : RetainedTopics) (rows : Sessions) → (is_start place.command ≡ false → w ≡ v) → AllQuiet v rows →
-    AllQuiet w (sessions_left w place content rows)
-quiet_left v w place content [] window h = tt
-quiet_left v w place content (row ∷ rows) window h =
-    quiet_keyed w row.0 (session_after w place content row.0 row.1) (sessions_left w place content rows)
-    (quiet_row v w place content row.0 row.1 window h.0) (quiet_left v w place content rows window h.1)
-
-quiet_put : (w : ℕ) (c : Client) (kept : Kept) (rows : Sessions) → HasQuietQueue w kept → AllQuiet w rows → AllQuiet w (put_session c kept rows)
-quiet_put w c kept [] h k = (h, tt)
-quiet_put w c kept (row ∷ rows) h k = by (by_bytes c row.0) (quiet_put w c kept rows h k.1)
-  where
-    by : (o : Ordering) → AllQuiet w (put_session c kept rows) → AllQuiet w (match_ordering o ((c, kept) ∷ row ∷ rows) ((c, kept) ∷ rows) (row ∷ put_session c kept rows))
-    by Less more = (h, k)
-    by Equal more = (h, k.1)
-    by Greater more = (k.0, more)
-
-quiet_with : (v w : ℕ) (place : Place) (content : RetainedTopics) (rows : Sessions) (command : Command) (mark : Mark) → AllQuiet w (sessions_left w place content rows) →
-    AllQuiet w (sessions_with w place content rows command mark)
-quiet_with v w place content rows (commands.Connect x c clean) Mark.Accepted h =
-    quiet_put w c (kept_connected w place content c (x, clean) (session_in c rows)) (sessions_left w place content rows)
-    (quiet_connected w place content c (x, clean) (session_in c rows)) h
-quiet_with v w place content rows command mark h = h
+both_rows : (w : ℕ) (rows : Sessions) → AllSound rows → AllQuiet w rows → AllRows (Both w) rows
+both_rows w [] h k = tt
+both_rows w (row ∷ rows) h k = ((h.0, k.0), both_rows w rows h.1 k.1)
 
 not_start : (b : Bool) (later window : ℕ) → b ≡ false → (if b then later else window) ≡ window
 not_start true later window e = absurd (cc)
 not_start false later window e = refl
 
-pub stays_quiet : (limits : Limits) (later : ℕ) (state : State) (command : Command) → AllQuiet state.window state.sessions →
+pub stays_quiet : (limits : Limits) (later : ℕ) (state : State) (command : Command) → AllSound state.sessions → AllQuiet state.window state.sessions →
     AllQuiet (step limits later state command).0.window (step limits later state command).0.sessions
-stays_quiet limits later state command h =
-    quiet_with state.window (window_after later command state.window) (place_in limits state command) state.retained state.sessions command (place_in limits state command).mark
-    (quiet_left state.window (window_after later command state.window) (place_in limits state command) state.retained state.sessions
-    (λ e. not_start (is_start command) later state.window e) h)
+stays_quiet limits later state command sound h =
+    let rows : AllRows (Both state.window) state.sessions = both_rows state.window state.sessions sound h in
+    all_with (Both state.window) (HasQuietQueue (window_after later command state.window)) (window_after later command state.window) (place_in limits state command) state.retained state.sessions command (place_in limits state command).mark
+    (λ opened old k. quiet_connected (window_after later command state.window) opened old) rows
+    (all_left (Both state.window) (HasQuietQueue (window_after later command state.window)) (window_after later command state.window) (place_in limits state command) state.retained
+    (λ c kept k. quiet_row state.window (window_after later command state.window) (place_in limits state command) state.retained c kept (λ e. not_start (is_start command) later state.window e) k)
+    state.sessions rows)

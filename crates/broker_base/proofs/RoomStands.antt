@@ -7,22 +7,22 @@ use Rattle.packet.specs.declared.delivery.Delivery.{Delivery}
 use Rattle.packet.specs.declared.delivery.Delivery.TheVariants as deliveries
 use Rattle.session_base.specs.declared.publication.Publication.{Publication}
 use Rattle.session_base.specs.Queue.{Flight, ids_of, room}
-use Rattle.broker_base.specs.Place.{Client, Past, Limits}
-use Rattle.broker_base.specs.Past.{session_of}
-use Rattle.broker_base.specs.Owner.{named}
-use Rattle.broker_base.specs.Subscriptions.{effective_qos}
-use Rattle.broker_base.specs.Received.{is_repeat}
-use Rattle.broker_base.specs.Retained.{is_retained_over}
-use Rattle.broker_base.specs.Entries.{Entry, is_unfinished}
-use Rattle.broker_base.specs.Readings.{waiting_of, busy_ids}
-use Rattle.broker_base.specs.Times.{entries_of, room_of}
-use Rattle.broker_base.specs.Marks.{is_queued_at, lacks_room, is_refused}
-use Rattle.broker_base.specs.Kept.{flights_below, queue_of, kept_of}
+use Rattle.broker_model.specs.Place.{Client, Past, Limits}
+use Rattle.broker_model.specs.Past.{session_of}
+use Rattle.broker_model.specs.Owner.{named}
+use Rattle.broker_model.specs.Subscriptions.{effective_qos}
+use Rattle.broker_model.specs.Received.{is_repeat}
+use Rattle.broker_model.specs.Retained.{is_retained_over}
+use Rattle.broker_model.specs.Entries.{Entry, is_unfinished}
+use Rattle.broker_model.specs.Readings.{waiting_of, busy_ids}
+use Rattle.broker_model.specs.Times.{entries_of, room_of}
+use Rattle.broker_model.specs.Marks.{is_queued_at, lacks_room, is_refused}
+use Rattle.broker_base.specs.ClientSession.{flights_below, queue_of, client_session}
 use Rattle.broker_base.specs.State.{keyed, table, state_of}
 use Rattle.broker_base.specs.Decisions.{has_no_room_for, refuses, is_again}
 use Rattle.session_base.proofs.CountedIdentifiers.{same_length}
-use Rattle.broker_base.proofs.SoundEntries.{Sound}
-use Rattle.broker_base.proofs.IdentifiersInFlight.{same_ids}
+use Rattle.broker_model.proofs.SoundEntries.{Sound}
+use Rattle.broker_base.proofs.flights.IdentifiersInFlight.{same_ids}
 use Rattle.broker_base.proofs.KeptAfter.{kept_now}
 use Rattle.broker_base.proofs.QueueAfter.{sound_entries}
 
@@ -47,12 +47,12 @@ room_is limits past c = ap (λ k. limits.entries - k) (held_is (length past) (en
 -- ---- publications
 
 full_in : (limits : Limits) (past : Past) (p : Publication) (ds : List Client) →
-    list_any (has_no_room_for limits p) (table (kept_of limits past) ds) ≡ list_any (lacks_room limits past p) (filter (λ c. is_some (session_of past c)) ds)
+    list_any (has_no_room_for limits p) (table (client_session limits past) ds) ≡ list_any (lacks_room limits past p) (filter (λ c. is_some (session_of past c)) ds)
 full_in limits past p [] = refl
 full_in limits past p (d ∷ ds) = by (session_of past d) (full_in limits past p ds)
   where
-    by : (session : Option Bool) → list_any (has_no_room_for limits p) (table (kept_of limits past) ds) ≡ list_any (lacks_room limits past p) (filter (λ c. is_some (session_of past c)) ds) →
-        list_any (has_no_room_for limits p) (keyed d (option_map (kept_now limits past d) session) (table (kept_of limits past) ds))
+    by : (session : Option Bool) → list_any (has_no_room_for limits p) (table (client_session limits past) ds) ≡ list_any (lacks_room limits past p) (filter (λ c. is_some (session_of past c)) ds) →
+        list_any (has_no_room_for limits p) (keyed d (option_map (kept_now limits past d) session) (table (client_session limits past) ds))
         ≡ list_any (lacks_room limits past p) (if is_some session then d ∷ filter (λ c. is_some (session_of past c)) ds else filter (λ c. is_some (session_of past c)) ds)
     by None e = e
     by (Some clean) e = ap₂ (λ k b. (is_queued_at (effective_qos past d p) && (k == 0)) || b) (room_is limits past d) e

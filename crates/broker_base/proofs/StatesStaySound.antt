@@ -1,12 +1,14 @@
--- A step keeps a state sound, and so the state of every list of commands is.
+-- A step keeps a state sound and its queues quiet, and so the state of every list of commands is.
 use Rattle.std.proofs.Common.{ℕ, List, [], ◌∷◌, refl}
-use Rattle.broker_base.specs.Place.{Limits}
+use Rattle.std.specs.List.Sorted.{IsStrictlySortedBy}
+use Rattle.broker_model.specs.Place.{Limits}
 use Rattle.broker_base.specs.State.{State, empty_state}
 use Rattle.broker_base.specs.Decisions.{place_in, mark_in}
 use Rattle.broker_base.specs.Step.{window_after, step, state_from}
-use Rattle.broker_base.specs.StateLaws.{IsSound, StaysSound, ListsAreSound}
-use Rattle.broker_base.specs.declared.command.Command.{Command}
-use Rattle.broker_base.proofs.QueuesStayQuiet.{stays_quiet}
+use Rattle.broker_base.specs.StateLaws.{AllQuiet, IsSound, StaysSound, StaysQuiet, ListsAreSound}
+use Rattle.broker_model.specs.declared.command.Command.{Command}
+use Rattle.broker_base.proofs.QueuesStayQuiet as queues
+use Rattle.broker_base.proofs.SessionsStaySound.{sessions_stay_sound}
 use Rattle.broker_base.proofs.SessionsStayByClient.{stays_by_client}
 use Rattle.broker_base.proofs.ConnectionsStayApart.{stays_apart}
 
@@ -14,12 +16,18 @@ pub stays_sound : StaysSound
 stays_sound limits later state command s = record {
   by_client = stays_by_client (window_after later command state.window) (place_in limits state command) state.retained state.sessions command (mark_in limits state command) s.by_client;
   apart = stays_apart limits state (window_after later command state.window) command (mark_in limits state command) refl s.by_client s.apart;
-  quiet = stays_quiet limits later state command s.quiet;
+  sessions = sessions_stay_sound limits later state command s.sessions;
 }
 
-sound_from : (limits : Limits) (later : ℕ) (state : State) (commands : List Command) → IsSound state → IsSound (state_from limits later state commands)
-sound_from limits later state [] s = s
-sound_from limits later state (command ∷ commands) s = sound_from limits later (step limits later state command).0 commands (stays_sound limits later state command s)
+pub stays_quiet : StaysQuiet
+stays_quiet limits later state command s h = queues.stays_quiet limits later state command s.sessions h
+
+sound_from : (limits : Limits) (later : ℕ) (state : State) (commands : List Command) → IsSound state → AllQuiet state.window state.sessions →
+    IsSound (state_from limits later state commands) × AllQuiet (state_from limits later state commands).window (state_from limits later state commands).sessions
+sound_from limits later state [] s h = (s, h)
+sound_from limits later state (command ∷ commands) s h =
+    sound_from limits later (step limits later state command).0 commands (stays_sound limits later state command s) (stays_quiet limits later state command s h)
 
 pub lists_are_sound : ListsAreSound
-lists_are_sound limits later window commands = sound_from limits later (empty_state window) commands (record { by_client = tt; apart = tt; quiet = tt })
+unfolding IsStrictlySortedBy
+lists_are_sound limits later window commands = sound_from limits later (empty_state window) commands (record { by_client = tt; apart = tt; sessions = tt }) tt

@@ -1,22 +1,24 @@
 -- The step of the state that a past stands for; and so, command by command, of every list.
 use Rattle.std.proofs.Common.{◌≡◌, ℕ, Bool, true, false, if◌then◌else◌, Option, Some, None, List, [], ◌∷◌, length, refl, ap, ap₂, ◌∙◌, sym}
-use Rattle.broker_base.specs.Place.{Mark, Place, Past, Limits}
-use Rattle.broker_base.specs.Past.{current_connection, session_of}
-use Rattle.broker_base.specs.Owner.{named}
-use Rattle.broker_base.specs.Subscriptions.{subscriptions_of}
-use Rattle.broker_base.specs.Received.{received_of}
-use Rattle.broker_base.specs.Retained.{retained_publications}
-use Rattle.broker_base.specs.Times.{window_at, entries_of}
-use Rattle.broker_base.specs.Commands.{place_of, past_from, is_start, limits_from, usual_limits}
-use Rattle.broker_base.specs.Answers.{answers_at, answers_of, answers_from}
-use Rattle.broker_base.specs.Kept.{Kept, kept_of}
-use Rattle.broker_base.specs.KeptStep.{kept_by, kept_after}
+use Rattle.broker_model.specs.Place.{Mark, Place, Past, Limits}
+use Rattle.broker_model.specs.Past.{current_connection, session_of}
+use Rattle.broker_model.specs.Owner.{named}
+use Rattle.broker_model.specs.Subscriptions.{subscriptions_of}
+use Rattle.broker_model.specs.Received.{received_of}
+use Rattle.broker_model.specs.Retained.{retained_publications}
+use Rattle.broker_model.specs.Times.{window_at, entries_of}
+use Rattle.broker_model.specs.Commands.{place_of, past_from, is_start, limits_from, usual_limits}
+use Rattle.broker_model.specs.Answers.{answers_at, answers_of, answers_from}
+use Rattle.broker_base.specs.ClientSession.{ClientSession, client_session}
+use Rattle.broker_base.specs.SessionStep.{kept_after}
 use Rattle.broker_base.specs.State.{State, empty_state, state_of}
 use Rattle.broker_base.specs.Step.{touches, step, step_at, state_from, steps_from, IsWindow}
 use Rattle.broker_base.specs.StepLaws.{OthersStay, NoneBegins, StepStandsFor, ListStandsFor, UsualListStandsFor, GrowingListStandsFor}
-use Rattle.broker_base.specs.declared.command.Command.{Command}
-use Rattle.broker_base.specs.declared.command.Output.{Output}
-use Rattle.broker_base.proofs.KeptAfter.{kept_with, kept_now, kept_step}
+use Rattle.broker_model.specs.declared.command.Command.{Command}
+use Rattle.broker_model.specs.declared.command.Output.{Output}
+use Rattle.broker_base.proofs.KeptAfter.{kept_with, kept_now, filled_step}
+use Rattle.broker_base.proofs.flights.FillingAlways.{filled_by}
+use Rattle.broker_base.proofs.PastsAtRest.{kept_step}
 use Rattle.broker_base.proofs.OthersStay.{stays_with}
 use Rattle.broker_base.proofs.SessionsAfter.{sessions_are}
 use Rattle.broker_base.proofs.DecisionsStand.{mark_is}
@@ -27,25 +29,25 @@ use Rattle.broker_base.proofs.AnswersStand.{answers_are}
 pub others : OthersStay
 others limits later follows place past c kept is untouched = by (session_of past c) refl
   where
-    by : (session : Option Bool) → session_of past c ≡ session → kept_of limits (place ∷ past) c ≡ Some kept
-    by None e = absurd (let none : kept_of limits past c ≡ None
+    by : (session : Option Bool) → session_of past c ≡ session → client_session limits (place ∷ past) c ≡ Some kept
+    by None e = absurd (let none : client_session limits past c ≡ None
         = ap (λ o. kept_with (length past) o (current_connection past c) (subscriptions_of past c) (received_of past c) (entries_of limits past c)) e in cc)
     by (Some clean) e =
-        let now : kept_of limits past c ≡ kept_with (length past) (Some clean) (current_connection past c) (subscriptions_of past c) (received_of past c) (entries_of limits past c)
+        let now : client_session limits past c ≡ kept_with (length past) (Some clean) (current_connection past c) (subscriptions_of past c) (received_of past c) (entries_of limits past c)
         = ap (λ o. kept_with (length past) o (current_connection past c) (subscriptions_of past c) (received_of past c) (entries_of limits past c)) e in
         let same : kept_now limits past c clean ≡ kept = value_same (kept_now limits past c clean) kept (sym now ∙ is) in
-        kept_step limits place past c
+        kept_step limits later follows place past c
         ∙ ap (kept_after (window_at limits (place ∷ past)) place (retained_publications past) c) now
         ∙ stays_with limits later follows place past c clean (ap (touches place c) same ∙ untouched)
         ∙ sym now ∙ is
       where
-        value_same : (k : Kept) (kept : Kept) → Some k ≡ Some kept → k ≡ kept
+        value_same : (k : ClientSession) (kept : ClientSession) → Some k ≡ Some kept → k ≡ kept
         value_same k kept e = cc
 
 pub none_begins : NoneBegins
 none_begins limits place past c none not_accepted =
-    kept_step limits place past c
-    ∙ ap₂ (kept_by (window_at limits (place ∷ past)) place (retained_publications past) c) not_accepted none
+    filled_step limits place past c
+    ∙ ap₂ (filled_by (window_at limits (place ∷ past)) place (retained_publications past) c) not_accepted none
 
 -- ---- the state
 

@@ -10,19 +10,19 @@ use Rattle.session_base.specs.declared.publication.Publication.{Publication}
 use Rattle.session_base.specs.Publication.{publication_of, lower_qos}
 use Rattle.lists.specs.Lists.{has_id}
 use Rattle.session_base.specs.Queue.{room}
-use Rattle.broker_base.specs.Place.{Client, Mark, Place, Limits}
-use Rattle.broker_base.specs.Subscriptions.{granted_qos}
-use Rattle.broker_base.specs.Marks.{is_queued_at, grants}
-use Rattle.broker_base.specs.Kept.{Kept}
+use Rattle.broker_model.specs.Place.{Client, Mark, Place, Limits}
+use Rattle.session_base.specs.Subscriptions.{granted_qos}
+use Rattle.broker_model.specs.Marks.{is_queued_at, grants}
+use Rattle.broker_base.specs.ClientSession.{ClientSession}
 use Rattle.broker_base.specs.State.{State, session_in, owner_in}
-use Rattle.broker_base.specs.declared.command.Command.{Command}
-use Rattle.broker_base.specs.declared.command.Command.TheVariants as commands
+use Rattle.broker_model.specs.declared.command.Command.{Command}
+use Rattle.broker_model.specs.declared.command.Command.TheVariants as commands
 
 -- whether a session would have to queue the publication and is full
-abbrev pub has_no_room_for : Limits → Publication → Client × Kept → Bool
+abbrev pub has_no_room_for : Limits → Publication → Client × ClientSession → Bool
 has_no_room_for limits p row =
-    is_queued_at (option_map (lower_qos p.qos) (granted_qos p.topic row.1.subscriptions))
-    && (room limits.entries row.1.queue == 0)
+    is_queued_at (option_map (lower_qos p.qos) (granted_qos p.topic row.1.state.subscriptions))
+    && (room limits.entries row.1.state.queue == 0)
 
 -- whether a publication is to be retained on a topic more than the limit
 abbrev pub is_one_topic_over : Limits → RetainedTopics → Publication → Bool
@@ -35,17 +35,17 @@ refuses limits state p =
     list_any (has_no_room_for limits p) state.sessions || is_one_topic_over limits state.retained p
 
 -- whether a delivery is another try of one that the session took
-abbrev pub is_again : Kept → Delivery → Bool
-is_again kept (deliveries.ExactlyOnce dup id) = has_id id kept.received
+abbrev pub is_again : ClientSession → Delivery → Bool
+is_again kept (deliveries.ExactlyOnce dup id) = has_id id kept.state.received
 is_again kept _ = false
 
 -- a packet on the current connection of this session
-abbrev pub owned_mark : Limits → State → Client × Kept → Packet → Mark
+abbrev pub owned_mark : Limits → State → Client × ClientSession → Packet → Mark
 owned_mark limits state owner (packets.Publish p) =
     if is_again owner.1 p.delivery then Mark.Repeat owner.0 else
     if refuses limits state (publication_of p) then Mark.Refused owner.0 else Mark.Taken owner.0
 owned_mark limits state owner (packets.Subscribe s) =
-    Mark.Granted owner.0 (grants limits state.retained owner.1.subscriptions (room limits.entries owner.1.queue) s.filters)
+    Mark.Granted owner.0 (grants limits state.retained owner.1.state.subscriptions (room limits.entries owner.1.state.queue) s.filters)
 owned_mark limits state owner (packets.Connect connect) = Mark.Leaves owner.0
 owned_mark limits state owner (packets.Connack connack) = Mark.Leaves owner.0
 owned_mark limits state owner (packets.Suback suback) = Mark.Leaves owner.0
@@ -55,12 +55,12 @@ owned_mark limits state owner packets.Disconnect = Mark.Leaves owner.0
 owned_mark limits state owner _ = Mark.Handled owner.0
 
 -- a packet counts on a current connection alone
-abbrev pub packet_mark_in : Limits → State → Packet → Option (Client × Kept) → Mark
+abbrev pub packet_mark_in : Limits → State → Packet → Option (Client × ClientSession) → Mark
 packet_mark_in limits state packet (Some owner) = owned_mark limits state owner packet
 packet_mark_in limits state packet None = Mark.NoPart
 
 -- a Connect on a current connection is a violation; any other is accepted where a session is kept or may begin
-abbrev pub connect_mark_in : Limits → State → Client → Option (Client × Kept) → Mark
+abbrev pub connect_mark_in : Limits → State → Client → Option (Client × ClientSession) → Mark
 connect_mark_in limits state c (Some owner) = Mark.Leaves owner.0
 connect_mark_in limits state c None =
     if is_some (session_in c state.sessions) || nat_lt (length state.sessions) limits.sessions then Mark.Accepted else Mark.Full

@@ -1,18 +1,19 @@
 -- What a broker keeps of all its clients, and what a past says that it is (MQTT 4.1).
 use Rattle.std.specs.Prelude.{ℕ, if◌then◌else◌, List, [], ◌∷◌, Option, Some, None}
-use Rattle.std.specs.Ordering.{match_ordering}
+use Rattle.std.specs.BTreeMap.{insert_entry, is_at}
+use Rattle.std.specs.Map.{lookup}
 use Rattle.retained.specs.Retained.{RetainedTopics}
-use Rattle.broker_base.specs.Connection.{ConnectionName, same_connection}
-use Rattle.broker_base.specs.Place.{Client, by_bytes, same_client, Past, Limits}
-use Rattle.broker_base.specs.Past.{any_connection}
-use Rattle.broker_base.specs.Owner.{named}
-use Rattle.broker_base.specs.Retained.{retained_publications}
-use Rattle.broker_base.specs.Times.{window_at}
-use Rattle.broker_base.specs.Kept.{Kept, kept_of}
+use Rattle.broker_model.specs.Connection.{ConnectionName, same_connection}
+use Rattle.broker_model.specs.Place.{Client, by_bytes, Past, Limits}
+use Rattle.broker_model.specs.Past.{any_connection}
+use Rattle.broker_model.specs.Owner.{named}
+use Rattle.broker_model.specs.Retained.{retained_publications}
+use Rattle.broker_model.specs.Times.{window_at}
+use Rattle.broker_base.specs.ClientSession.{ClientSession, client_session}
 
 -- the sessions, by the bytes of their clients, each client once
 abbrev pub Sessions : Type 0
-Sessions = List (Client × Kept)
+Sessions = List (Client × ClientSession)
 
 -- how many entries of a session may be under way at once, the sessions, and what is retained
 pub record State : Type 0 where
@@ -27,28 +28,25 @@ empty_state window = record { window = window; sessions = []; retained = [] }
 -- ---- rows
 
 -- one more row in front, if the client has a session
-abbrev pub keyed : Client → Option Kept → Sessions → Sessions
+abbrev pub keyed : Client → Option ClientSession → Sessions → Sessions
 keyed c (Some kept) rows = (c, kept) ∷ rows
 keyed c None rows = rows
 
 -- the rows of those clients that have a session
-abbrev pub table : (Client → Option Kept) → List Client → Sessions
+abbrev pub table : (Client → Option ClientSession) → List Client → Sessions
 table session (c ∷ others) = keyed c (session c) (table session others)
 table session [] = []
 
 -- the session of a client
-abbrev pub session_in : Client → Sessions → Option Kept
-session_in c (row ∷ rows) = if same_client c row.0 then Some row.1 else session_in c rows
-session_in c [] = None
+abbrev pub session_in : Client → Sessions → Option ClientSession
+session_in c rows = lookup (is_at (by_bytes c)) rows
 
 -- a client's session in the place of the one that it had, or in its place by bytes
-abbrev pub put_session : Client → Kept → Sessions → Sessions
-put_session c kept (row ∷ rows) =
-    match_ordering (by_bytes c row.0) ((c, kept) ∷ row ∷ rows) ((c, kept) ∷ rows) (row ∷ put_session c kept rows)
-put_session c kept [] = (c, kept) ∷ []
+abbrev pub put_session : Client → ClientSession → Sessions → Sessions
+put_session c kept rows = insert_entry by_bytes rows c kept
 
 -- the session whose current connection x is, with its client
-abbrev pub owner_in : ConnectionName → Sessions → Option (Client × Kept)
+abbrev pub owner_in : ConnectionName → Sessions → Option (Client × ClientSession)
 owner_in x (row ∷ rows) = if any_connection (same_connection x) row.1.connection then Some row else owner_in x rows
 owner_in x [] = None
 
@@ -58,6 +56,6 @@ abbrev pub state_of : Limits → Past → State
 state_of limits past =
     record {
       window = window_at limits past;
-      sessions = table (kept_of limits past) (named past);
+      sessions = table (client_session limits past) (named past);
       retained = retained_publications past;
     }

@@ -1,32 +1,44 @@
--- What the sessions of a state meet, and a step keeps: quiet queues, and a connection of one session at most.
-use Rattle.std.specs.declared.cmp.Ordering.TheVariants.{Less}
-use Rattle.std.specs.Prelude.{◌≡◌, ℕ, ◌≤◌, ◌⊎◌, false, List, [], ◌∷◌, length, Some, None}
-use Rattle.broker_base.specs.Connection.{ConnectionName, same_connection}
-use Rattle.broker_base.specs.Place.{Client, by_bytes, Limits}
-use Rattle.broker_base.specs.Past.{any_connection}
-use Rattle.broker_base.specs.Kept.{Kept}
+-- What the sessions of a state meet, and a step keeps: a client once, a connection of one session at most, and
+-- what stands in each session.
+use Rattle.std.specs.Prelude.{◌≡◌, ℕ, ◌⊎◌, false, List, [], ◌∷◌, Some, None}
+use Rattle.std.specs.List.{AllByRecursion}
+use Rattle.std.specs.List.Sorted.{IsStrictlySortedBy}
+use Rattle.std.specs.Map.{keys_of}
+use Rattle.session_base.specs.Queue.{ids_of}
+use Rattle.lists.specs.Lists.{IsDistinct}
+use Rattle.session_base.specs.Laws.{IsQuietQueue}
+use Rattle.session_base.specs.OrderLaws.{IsReleasedFirst}
+use Rattle.broker_model.specs.Connection.{ConnectionName, same_connection}
+use Rattle.broker_model.specs.Place.{by_bytes, Limits}
+use Rattle.broker_model.specs.Past.{any_connection}
+use Rattle.broker_base.specs.ClientSession.{ClientSession}
 use Rattle.broker_base.specs.State.{Sessions, State, empty_state}
 use Rattle.broker_base.specs.Step.{step, state_from}
-use Rattle.broker_base.specs.declared.command.Command.{Command}
+use Rattle.broker_model.specs.declared.command.Command.{Command}
+
+-- ---- one session
+
+-- the identifiers in flight are distinct, and the released entries come first (MQTT 2.3.1, 4.4)
+pub record IsSoundSession (kept : ClientSession) : Type 0 where
+  pub identifiers : IsDistinct (ids_of kept.state.queue.in_flight)
+  pub released_first : IsReleasedFirst kept.state.queue.in_flight
 
 -- a connected client's queue has nothing waiting, or its window is full
-abbrev pub HasQuietQueue : ℕ → Kept → Type 0
+abbrev pub HasQuietQueue : ℕ → ClientSession → Type 0
 HasQuietQueue window kept =
-    (kept.connection ≡ None) ⊎ ((kept.queue.waiting ≡ []) ⊎ (window ≤ length kept.queue.in_flight))
+    (kept.connection ≡ None) ⊎ IsQuietQueue window kept.state.queue.in_flight kept.state.queue.waiting
+
+-- ---- all sessions
+
+abbrev pub AllSound : Sessions → Type 0
+AllSound rows = AllByRecursion (λ row. IsSoundSession row.1) rows
 
 abbrev pub AllQuiet : ℕ → Sessions → Type 0
-AllQuiet window (row ∷ rows) = HasQuietQueue window row.1 × AllQuiet window rows
-AllQuiet window [] = Unit {0}
-
--- the client comes before each of these by its bytes
-abbrev pub ComesBefore : Client → Sessions → Type 0
-ComesBefore c (row ∷ rows) = (by_bytes c row.0 ≡ Less) × ComesBefore c rows
-ComesBefore c [] = Unit {0}
+AllQuiet window rows = AllByRecursion (λ row. HasQuietQueue window row.1) rows
 
 -- the sessions come by the bytes of their clients, each client once
 abbrev pub AreByClient : Sessions → Type 0
-AreByClient (row ∷ rows) = ComesBefore row.0 rows × AreByClient rows
-AreByClient [] = Unit {0}
+AreByClient rows = IsStrictlySortedBy by_bytes (keys_of rows)
 
 -- x is the connection of none of these
 abbrev pub IsNobodys : ConnectionName → Sessions → Type 0
@@ -39,11 +51,13 @@ AreApart (row ∷ rows) =
     ((x : ConnectionName) → row.1.connection ≡ Some x → IsNobodys x rows) × AreApart rows
 AreApart [] = Unit {0}
 
+-- ---- the state
+
 -- what the sessions of a broker meet
 pub record IsSound (state : State) : Type 0 where
   pub by_client : AreByClient state.sessions
   pub apart : AreApart state.sessions
-  pub quiet : AllQuiet state.window state.sessions
+  pub sessions : AllSound state.sessions
 
 -- a step keeps it
 abbrev pub StaysSound : Type 0
@@ -51,8 +65,17 @@ StaysSound =
     (limits : Limits) → (later : ℕ) → (state : State) → (command : Command) → IsSound state →
     IsSound (step limits later state command).0
 
--- so the state of every list of commands meets it
+-- and a step leaves the queues quiet where they were
+abbrev pub StaysQuiet : Type 0
+StaysQuiet =
+    (limits : Limits) → (later : ℕ) → (state : State) → (command : Command) → IsSound state →
+    AllQuiet state.window state.sessions →
+    AllQuiet (step limits later state command).0.window (step limits later state command).0.sessions
+
+-- so the state of every list of commands meets both
 abbrev pub ListsAreSound : Type 0
 ListsAreSound =
     (limits : Limits) → (later : ℕ) → (window : ℕ) → (commands : List Command) →
     IsSound (state_from limits later (empty_state window) commands)
+    × AllQuiet (state_from limits later (empty_state window) commands).window
+    (state_from limits later (empty_state window) commands).sessions

@@ -1,25 +1,24 @@
 -- The broker's step: the state and the answers after one more command (MQTT 3.1.4, 3.3.1.3, 4.1, 4.3, 4.4).
 use Rattle.std.specs.Prelude.{◌≡◌, ℕ, Bool, false, ◌||◌, if◌then◌else◌, List, [], ◌∷◌, Option, Some, is_some}
-use Rattle.packet.specs.declared.subscribe.Subscription.{Subscription}
 use Rattle.packet.specs.declared.packet.Packet.TheVariants as packets
 use Rattle.retained.specs.Retained.{RetainedTopics}
-use Rattle.broker_base.specs.Place.{Client, same_client, Mark, Place, Past, Limits}
-use Rattle.broker_base.specs.Past.{ends_any}
-use Rattle.broker_base.specs.Subscriptions.{granted_qos}
-use Rattle.broker_base.specs.Retained.{retained_by}
-use Rattle.broker_base.specs.Commands.{is_start}
-use Rattle.broker_base.specs.Kept.{Kept}
-use Rattle.broker_base.specs.KeptStep.{kept_after, kept_connected}
+use Rattle.broker_model.specs.Place.{Client, same_client, Mark, Place, Past, Limits}
+use Rattle.broker_model.specs.Past.{ends_any}
+use Rattle.session_base.specs.Subscriptions.{HeldFilter, granted_qos}
+use Rattle.broker_model.specs.Retained.{retained_by}
+use Rattle.broker_model.specs.Commands.{is_start}
+use Rattle.broker_base.specs.ClientSession.{ClientSession}
+use Rattle.broker_base.specs.SessionStep.{kept_after, kept_connected}
 use Rattle.broker_base.specs.State.{Sessions, State, keyed, session_in, put_session}
 use Rattle.broker_base.specs.Decisions.{place_in}
 use Rattle.broker_base.specs.StepAnswers.{answers_by_state}
-use Rattle.broker_base.specs.declared.command.Command.{Command}
-use Rattle.broker_base.specs.declared.command.Command.TheVariants as commands
-use Rattle.broker_base.specs.declared.command.Output.{Output}
+use Rattle.broker_model.specs.declared.command.Command.{Command}
+use Rattle.broker_model.specs.declared.command.Command.TheVariants as commands
+use Rattle.broker_model.specs.declared.command.Output.{Output}
 
 -- Whether a command is about this client's session with these subscriptions, apart from the end of its
 -- connection: its client sent it, or a taken publication matches one of them.
-abbrev pub is_about : Command → Mark → Client → List Subscription → Bool
+abbrev pub is_about : Command → Mark → Client → List HeldFilter → Bool
 is_about (commands.Connect x d clean) Mark.Accepted c held = same_client d c
 is_about (commands.Packet x (packets.Publish p)) (Mark.Taken d) c held =
     same_client d c || is_some (granted_qos p.topic held)
@@ -28,12 +27,12 @@ is_about command (Mark.Handled d) c held = same_client d c
 is_about _ _ c held = false
 
 -- whether a place touches a client's session; every other stays as it is
-abbrev pub touches : Place → Client → Kept → Bool
+abbrev pub touches : Place → Client → ClientSession → Bool
 touches place c kept =
-    ends_any place kept.connection || is_about place.command place.mark c kept.subscriptions
+    ends_any place kept.connection || is_about place.command place.mark c kept.state.subscriptions
 
 -- a session after a place, if it is left
-abbrev pub session_after : ℕ → Place → RetainedTopics → Client → Kept → Option Kept
+abbrev pub session_after : ℕ → Place → RetainedTopics → Client → ClientSession → Option ClientSession
 session_after window place content c kept =
     if touches place c kept then kept_after window place content c (Some kept) else Some kept
 
@@ -46,7 +45,7 @@ sessions_left window place content [] = []
 -- and with that of the client of an accepted Connect
 abbrev pub sessions_with : ℕ → Place → RetainedTopics → Sessions → Command → Mark → Sessions
 sessions_with window place content rows (commands.Connect x c clean) Mark.Accepted =
-    put_session c (kept_connected window place content c (x, clean) (session_in c rows))
+    put_session c (kept_connected window (x, clean) (session_in c rows))
     (sessions_left window place content rows)
 sessions_with window place content rows command mark = sessions_left window place content rows
 

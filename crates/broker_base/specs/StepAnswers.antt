@@ -5,17 +5,17 @@ use Rattle.packet.specs.declared.packet.Packet.TheVariants as packets
 use Rattle.retained.specs.Retained.{RetainedTopics}
 use Rattle.session_base.specs.Queue.{on_puback, on_pubrec, on_pubcomp}
 use Rattle.session_base.specs.Sending.{fill_sends, resend, pubrec_sends, copies_sent}
-use Rattle.broker_base.specs.Connection.{ConnectionName}
-use Rattle.broker_base.specs.Place.{Client, Mark, Place}
-use Rattle.broker_base.specs.Past.{begins_session}
-use Rattle.broker_base.specs.Answers.{closed, welcome, turned_away, acknowledged, codes_of}
-use Rattle.broker_base.specs.Kept.{Kept}
-use Rattle.broker_base.specs.KeptStep.{copies_with}
+use Rattle.broker_model.specs.Connection.{ConnectionName}
+use Rattle.broker_model.specs.Place.{Client, Mark, Place}
+use Rattle.broker_model.specs.Past.{begins_session}
+use Rattle.broker_model.specs.Answers.{closed, welcome, turned_away, acknowledged, codes_of}
+use Rattle.broker_base.specs.ClientSession.{ClientSession}
+use Rattle.broker_base.specs.SessionStep.{copies_with}
 use Rattle.broker_base.specs.State.{State, session_in}
-use Rattle.broker_base.specs.declared.command.Command.{Command}
-use Rattle.broker_base.specs.declared.command.Command.TheVariants as commands
-use Rattle.broker_base.specs.declared.command.Output.{Output}
-use Rattle.broker_base.specs.declared.command.Output.TheVariants.{Send, Close}
+use Rattle.broker_model.specs.declared.command.Command.{Command}
+use Rattle.broker_model.specs.declared.command.Command.TheVariants as commands
+use Rattle.broker_model.specs.declared.command.Output.{Output}
+use Rattle.broker_model.specs.declared.command.Output.TheVariants.{Send, Close}
 
 -- packets to a client that is connected
 abbrev pub sent_on : Option ConnectionName → List Packet → List Output
@@ -23,13 +23,13 @@ sent_on (Some x) packets = map (Send x) packets
 sent_on None packets = []
 
 -- what a session's client is sent of the copies that a place makes for it
-abbrev pub copies_answered : ℕ → Place → RetainedTopics → Client × Kept → List Output
+abbrev pub copies_answered : ℕ → Place → RetainedTopics → Client × ClientSession → List Output
 copies_answered window place content row =
     sent_on row.1.connection
-    (copies_sent window (copies_with place.command place.mark content row.0 row.1.subscriptions) row.1.queue)
+    (copies_sent window (copies_with place.command place.mark content row.0 row.1.state.subscriptions) row.1.state.queue)
 
 -- the same of a client's session, if it has one
-abbrev pub copies_to : ℕ → Place → RetainedTopics → Client → Option Kept → List Output
+abbrev pub copies_to : ℕ → Place → RetainedTopics → Client → Option ClientSession → List Output
 copies_to window place content c (Some kept) = copies_answered window place content (c, kept)
 copies_to window place content c None = []
 
@@ -39,21 +39,21 @@ while_connected (Some x) packets = packets
 while_connected None packets = []
 
 -- what a client's packet makes its session send on x: what starts behind a PUBACK or PUBCOMP, and PUBREL behind PUBREC
-abbrev pub handled_sends : ℕ → Packet → Kept → List Packet
+abbrev pub handled_sends : ℕ → Packet → ClientSession → List Packet
 handled_sends window (packets.Puback id) kept =
-    while_connected kept.connection (fill_sends window (on_puback id kept.queue.in_flight) kept.queue.waiting)
+    while_connected kept.connection (fill_sends window (on_puback id kept.state.queue.in_flight) kept.state.queue.waiting)
 handled_sends window (packets.Pubcomp id) kept =
-    while_connected kept.connection (fill_sends window (on_pubcomp id kept.queue.in_flight) kept.queue.waiting)
-handled_sends window (packets.Pubrec id) kept = pubrec_sends id (on_pubrec id kept.queue.in_flight)
+    while_connected kept.connection (fill_sends window (on_pubcomp id kept.state.queue.in_flight) kept.state.queue.waiting)
+handled_sends window (packets.Pubrec id) kept = pubrec_sends id (on_pubrec id kept.state.queue.in_flight)
 handled_sends window _ kept = []
 
 -- of a client's session, if it has one
-abbrev pub handled_of : ℕ → Packet → Option Kept → List Packet
+abbrev pub handled_of : ℕ → Packet → Option ClientSession → List Packet
 handled_of window packet (Some kept) = handled_sends window packet kept
 handled_of window packet None = []
 
 -- the answers to a packet that is no PUBLISH and no SUBSCRIBE, and ends nothing
-abbrev pub handled_in : ℕ → ConnectionName → Option Kept → Packet → List Output
+abbrev pub handled_in : ℕ → ConnectionName → Option ClientSession → Packet → List Output
 handled_in window x old (packets.Unsubscribe u) = Send x (packets.Unsuback u.id) ∷ []
 handled_in window x old (packets.Pubrel id) = Send x (packets.Pubcomp id) ∷ []
 handled_in window x old packets.Pingreq = Send x packets.Pingresp ∷ []
@@ -73,22 +73,22 @@ packet_answers_in window place state x packet (Mark.Refused c) = Close x ∷ []
 packet_answers_in window place state x packet _ = []
 
 -- the connection of a session that there may be
-abbrev pub connection_of : Option Kept → Option ConnectionName
+abbrev pub connection_of : Option ClientSession → Option ConnectionName
 connection_of (Some kept) = kept.connection
 connection_of None = None
 
 -- what a client that comes back is sent: what is in flight, then what starts; nothing where its session begins
-abbrev pub resumed : ℕ → Bool → Option Kept → List Packet
+abbrev pub resumed : ℕ → Bool → Option ClientSession → List Packet
 resumed window clean (Some kept) =
     if clean || kept.clean then []
-    else resend kept.queue.in_flight ++ fill_sends window kept.queue.in_flight kept.queue.waiting
+    else resend kept.state.queue.in_flight ++ fill_sends window kept.state.queue.in_flight kept.state.queue.waiting
 resumed window clean None = []
 
 -- the answers to a Connect, by its mark
-abbrev pub connect_answers_in : ℕ → ConnectionName → Bool → Option Kept → Mark → List Output
+abbrev pub connect_answers_in : ℕ → ConnectionName → Bool → Option ClientSession → Mark → List Output
 connect_answers_in window x clean old Mark.Accepted =
     closed (connection_of old)
-    ++ welcome x (not (begins_session clean (option_map (λ (kept : Kept). kept.clean) old))) ∷ map (Send x) (resumed window clean old)
+    ++ welcome x (not (begins_session clean (option_map (λ (kept : ClientSession). kept.clean) old))) ∷ map (Send x) (resumed window clean old)
 connect_answers_in window x clean old Mark.Full = turned_away x ∷ Close x ∷ []
 connect_answers_in window x clean old _ = Close x ∷ []
 

@@ -1,46 +1,46 @@
 -- Laws of the step: one command at a time it gives what the definitions say of the whole list of commands.
 use Rattle.std.specs.Prelude.{◌≡◌, ℕ, false, List, [], ◌∷◌, Some, None}
-use Rattle.broker_base.specs.Place.{Client, Place, Past, Limits}
-use Rattle.broker_base.specs.Past.{accepts}
-use Rattle.broker_base.specs.Retained.{retained_publications}
-use Rattle.broker_base.specs.Times.{window_at}
-use Rattle.broker_base.specs.Marks.{mark_of}
-use Rattle.broker_base.specs.Commands.{place_of, past_of, limits_from, usual_limits}
-use Rattle.broker_base.specs.Answers.{answers_of, answers_from}
-use Rattle.broker_base.specs.Kept.{Kept, kept_of}
-use Rattle.broker_base.specs.KeptStep.{kept_after}
+use Rattle.broker_model.specs.Place.{Client, Place, Past, Limits}
+use Rattle.broker_model.specs.Past.{accepts}
+use Rattle.broker_model.specs.Retained.{retained_publications}
+use Rattle.broker_model.specs.Times.{window_at}
+use Rattle.broker_model.specs.Marks.{mark_of}
+use Rattle.broker_model.specs.Commands.{place_of, past_of, limits_from, usual_limits}
+use Rattle.broker_model.specs.Answers.{answers_of, answers_from}
+use Rattle.broker_base.specs.ClientSession.{ClientSession, client_session}
+use Rattle.broker_base.specs.SessionStep.{kept_after}
 use Rattle.broker_base.specs.State.{empty_state, state_of, session_in}
 use Rattle.broker_base.specs.Decisions.{mark_in}
 use Rattle.broker_base.specs.Step.{touches, step, state_from, steps_from, IsWindow}
-use Rattle.broker_base.specs.declared.command.Command.{Command}
+use Rattle.broker_model.specs.declared.command.Command.{Command}
 
 -- after one more place, whatever its mark, what is kept of each client's session is the step of what was kept
 abbrev pub StepsEachSession : Type 0
 StepsEachSession =
-    (limits : Limits) → (place : Place) → (past : Past) → (c : Client) →
-    kept_of limits (place ∷ past) c
-    ≡ kept_after (window_at limits (place ∷ past)) place (retained_publications past) c (kept_of limits past c)
+    (limits : Limits) → (later : ℕ) → IsWindow limits later → (place : Place) → (past : Past) → (c : Client) →
+    client_session limits (place ∷ past) c
+    ≡ kept_after (window_at limits (place ∷ past)) place (retained_publications past) c (client_session limits past c)
 
 -- a session that a place does not touch stays as it is
 abbrev pub OthersStay : Type 0
 OthersStay =
     (limits : Limits) → (later : ℕ) → IsWindow limits later →
-    (place : Place) → (past : Past) → (c : Client) → (kept : Kept) →
-    kept_of limits past c ≡ Some kept → touches place c kept ≡ false →
-    kept_of limits (place ∷ past) c ≡ Some kept
+    (place : Place) → (past : Past) → (c : Client) → (kept : ClientSession) →
+    client_session limits past c ≡ Some kept → touches place c kept ≡ false →
+    client_session limits (place ∷ past) c ≡ Some kept
 
 -- a client that has no session gets one by an accepted Connect alone
 abbrev pub NoneBegins : Type 0
 NoneBegins =
     (limits : Limits) → (place : Place) → (past : Past) → (c : Client) →
-    kept_of limits past c ≡ None → accepts place.command place.mark c ≡ None →
-    kept_of limits (place ∷ past) c ≡ None
+    client_session limits past c ≡ None → accepts place.command place.mark c ≡ None →
+    client_session limits (place ∷ past) c ≡ None
 
 -- the state has each client's session under its name
 abbrev pub FindsEachSession : Type 0
 FindsEachSession =
     (limits : Limits) → (past : Past) → (c : Client) →
-    session_in c (state_of limits past).sessions ≡ kept_of limits past c
+    session_in c (state_of limits past).sessions ≡ client_session limits past c
 
 -- the state decides what becomes of a command as the past does
 abbrev pub DecidesAsThePast : Type 0

@@ -1,17 +1,21 @@
 -- Worked rows, computed by the step: full queues, identifiers and the window.
-use Rattle.std.specs.Prelude.{◌≡◌, ℕ, true, false, List, [], ◌∷◌, ◌++◌, codes}
+use Rattle.std.specs.Prelude.{◌≡◌, ℕ, true, false, List, [], ◌∷◌, ◌++◌, Some, codes}
+use Rattle.packet.specs.declared.qos.QoS.TheVariants as levels
 use Rattle.packet.specs.declared.delivery.Delivery.TheVariants as deliveries
 use Rattle.packet.specs.declared.packet.Packet.TheVariants as packets
-use Rattle.broker_base.specs.Place.{Limits}
-use Rattle.broker_base.specs.Commands.{usual_limits}
-use Rattle.broker_base.specs.State.{empty_state}
-use Rattle.broker_base.specs.Step.{state_from, steps_from}
-use Rattle.broker_base.specs.RowWords.{nth, b, connect, gets, sends, connack, publish, numbers, delivered, small}
-use Rattle.broker_base.specs.MoreRows.{held_two, publishes_xyz, makes_room, routed, seventy}
-use Rattle.broker_base.specs.declared.command.Command.{Command}
-use Rattle.broker_base.specs.declared.command.Command.TheVariants as commands
-use Rattle.broker_base.specs.declared.command.Output.{Output}
-use Rattle.broker_base.specs.declared.command.Output.TheVariants.{Close}
+use Rattle.session_base.specs.declared.publication.Publication.{Publication}
+use Rattle.session_base.specs.declared.awaits.Awaits.TheVariants as waits_for
+use Rattle.session_base.specs.Queue.{Queue}
+use Rattle.broker_model.specs.Place.{Limits}
+use Rattle.broker_model.specs.Commands.{usual_limits}
+use Rattle.broker_base.specs.State.{State, empty_state}
+use Rattle.broker_base.specs.Step.{step, state_from, steps_from}
+use Rattle.broker_model.specs.RowWords.{nth, b, connect, gets, sends, connack, publish, unsubscribe, numbers, delivered, small}
+use Rattle.broker_model.specs.MoreRows.{held_two, publishes_xyz, makes_room, routed, seventy}
+use Rattle.broker_model.specs.declared.command.Command.{Command}
+use Rattle.broker_model.specs.declared.command.Command.TheVariants as commands
+use Rattle.broker_model.specs.declared.command.Output.{Output}
+use Rattle.broker_model.specs.declared.command.Output.TheVariants.{Close}
 
 -- the steps from the empty state, whose window is this one at first and the later one from a Start on, give these
 -- answers to the next commands
@@ -41,3 +45,44 @@ StepsWidenTheWindow =
     StepsGive usual_limits 16 64 seventy (connect 3 b ∷ commands.Start 2 ∷ connect 4 b ∷ [])
     ((sends 3 (connack true) ∷ delivered 3 false (numbers 16 1)) ∷ []
     ∷ (sends 4 (connack true) ∷ delivered 4 true (numbers 16 1) ++ delivered 4 false (numbers 48 17)) ∷ [])
+
+-- ---- a state in which a connected client's queue is not quiet: one publication waits, and nothing is in flight
+
+abbrev pub waits_o : Publication
+waits_o = record { retain = false; qos = levels.AtLeastOnce; topic = codes "t/1"; payload = codes "o" }
+
+-- b is served on connection 1, with this queue
+abbrev pub serves_b : Queue → State
+serves_b queue =
+    record {
+      window = 16;
+      sessions = (
+        b,
+        record {
+          clean = false;
+          connection = Some (nth 1);
+          state = record { subscriptions = []; received = []; queue = queue };
+        },
+      ) ∷ [];
+      retained = [];
+    }
+
+abbrev pub o_waits : State
+o_waits = serves_b (record { in_flight = []; waiting = waits_o ∷ [] })
+
+-- PINGREQ, PUBREC, PUBREL and UNSUBSCRIBE start nothing, so no entry starts whose PUBLISH nobody gets
+abbrev pub OthersStartNothing : Type 0
+OthersStartNothing =
+    (step usual_limits 16 o_waits (gets 1 packets.Pingreq) ≡ (o_waits, sends 1 packets.Pingresp ∷ []))
+    × (step usual_limits 16 o_waits (gets 1 (packets.Pubrec 7)) ≡ (o_waits, []))
+    × (step usual_limits 16 o_waits (gets 1 (packets.Pubrel 7)) ≡ (o_waits, sends 1 (packets.Pubcomp 7) ∷ []))
+    × (step usual_limits 16 o_waits (gets 1 (unsubscribe 3)) ≡ (o_waits, sends 1 (packets.Unsuback 3) ∷ []))
+
+-- PUBACK and PUBCOMP, whatever they answer, are followed by the start of what waits, and it is sent (MQTT 4.6)
+abbrev pub o_started : State
+o_started = serves_b (record { in_flight = (1, waits_for.Puback waits_o) ∷ []; waiting = [] })
+
+abbrev pub AnswersStartWhatWaits : Type 0
+AnswersStartWhatWaits =
+    (step usual_limits 16 o_waits (gets 1 (packets.Puback 7)) ≡ (o_started, delivered 1 false (1 ∷ [])))
+    × (step usual_limits 16 o_waits (gets 1 (packets.Pubcomp 7)) ≡ (o_started, delivered 1 false (1 ∷ [])))

@@ -11,8 +11,8 @@ ghost use Rattle.broker_base.specs.StepLaws.{
   UsualListStandsFor,
   GrowingListStandsFor,
 };
-ghost use Rattle.broker_base.specs.StateLaws.{StaysSound, ListsAreSound};
-ghost use Rattle.broker_base.specs.StepRows.{StepsRefuseAndGoOn, StepsKeepTheOrder, StepsWidenTheWindow};
+ghost use Rattle.broker_base.specs.StateLaws.{StaysSound, StaysQuiet, ListsAreSound};
+ghost use Rattle.broker_base.specs.StepRows.{StepsRefuseAndGoOn, StepsKeepTheOrder, StepsWidenTheWindow, OthersStartNothing, AnswersStartWhatWaits};
 
 /// One more command, whatever becomes of it, changes what is kept of each client's session as the
 /// step of one session says.
@@ -49,9 +49,11 @@ pub fn list_stands_for()
 {}
 
 /// A step keeps the sessions by the bytes of their clients, each connection that of one session at
-/// most, and each connected client's queue with nothing waiting or a full window.
+/// most, and identifiers in flight distinct behind the released ones; and it leaves each connected
+/// client's queue with nothing waiting or a full window where it was so.
 pub fn states_stay_sound()
     ensures step { StaysSound }
+    ensures quiet { StaysQuiet }
     ensures lists { ListsAreSound }
 {}
 
@@ -61,4 +63,11 @@ pub fn rows_step_by_step()
     ensures full_queue { StepsRefuseAndGoOn }
     ensures order { StepsKeepTheOrder }
     ensures window { StepsWidenTheWindow }
+{}
+
+/// Entries start at a Connect, behind PUBACK and PUBCOMP, and behind each copy that is queued, also
+/// in a state that was read whose queue could have started before.
+pub fn entries_start_where_they_are_sent()
+    ensures others { OthersStartNothing }
+    ensures answers { AnswersStartWhatWaits }
 {}

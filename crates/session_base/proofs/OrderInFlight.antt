@@ -55,12 +55,12 @@ none_more : (fs : List Flight) (flight : Flight) → is_released flight ≡ fals
 none_more [] flight e h = (e, tt)
 none_more (other ∷ fs) flight e h = (h.0, none_more fs flight e h.1)
 
-first_more : (fs : List Flight) (flight : Flight) → is_released flight ≡ false → IsReleasedFirst fs → IsReleasedFirst (fs ++ flight ∷ [])
+pub first_more : (fs : List Flight) (flight : Flight) → is_released flight ≡ false → IsReleasedFirst fs → IsReleasedFirst (fs ++ flight ∷ [])
 first_more [] flight e h = inr (e, tt)
 first_more (other ∷ fs) flight e (inl h) = inl (h.0, first_more fs flight e h.1)
 first_more (other ∷ fs) flight e (inr h) = inr (none_more (other ∷ fs) flight e h)
 
-not_yet : (b : Bool) (p : Publication) → is_pubcomp (if b then waits_for.Puback p else waits_for.Pubrec p) ≡ false
+pub not_yet : (b : Bool) (p : Publication) → is_pubcomp (if b then waits_for.Puback p else waits_for.Pubrec p) ≡ false
 not_yet true p = refl
 not_yet false p = refl
 

@@ -1,6 +1,7 @@
 -- Packet Identifiers: which are busy, and which is free (MQTT 2.3.1).
-use Rattle.std.specs.Prelude.{ℕ, zero, suc, Bool, ◌==◌, if◌then◌else◌, List, length}
-use Rattle.std.specs.List.{list_any}
+use Rattle.std.specs.Prelude.{ℕ, zero, suc, ◌==◌, not, if◌then◌else◌, List, length, filter}
+use Rattle.std.specs.Ordering.{nat_cmp}
+use Rattle.std.specs.BTreeSet.{insert_key}
 use Rattle.lists.specs.Lists.{has_id}
 
 -- the first number from i on that is not busy, where so many may be
@@ -11,3 +12,11 @@ free_from (suc many) i busy = if has_id i busy then free_from many (suc i) busy 
 -- the smallest number from 1 up that is not busy
 abbrev pub least_free : List ℕ → ℕ
 least_free busy = free_from (length busy) 1 busy
+
+-- with the identifier, once, in rising order
+abbrev pub with_id : ℕ → List ℕ → List ℕ
+with_id id ids = insert_key nat_cmp ids id
+
+-- without the identifier
+abbrev pub without_id : ℕ → List ℕ → List ℕ
+without_id id = filter (λ other. not (id == other))

@@ -1,16 +1,15 @@
 -- Laws of a fill: what it takes, with which identifiers, and what it sends (MQTT 4.3, 4.4, 4.6).
-use Rattle.std.specs.Prelude.{◌≡◌, ℕ, ◌≤◌, ◌<◌, suc, true, false, ◌⊎◌, List, [], ◌∷◌, ◌++◌, length, map, take, drop}
+use Rattle.std.specs.Prelude.{◌≡◌, ℕ, ◌≤◌, ◌<◌, suc, true, false, ◌⊎◌, List, [], ◌∷◌, ◌++◌, length, map, filter, take, drop}
 use Rattle.packet.specs.declared.packet.Packet.{Packet}
 use Rattle.packet.specs.declared.packet.Packet.TheVariants as packets
 use Rattle.session_base.specs.declared.publication.Publication.{Publication}
 use Rattle.session_base.specs.declared.awaits.Awaits.{Awaits}
 use Rattle.session_base.specs.declared.awaits.Awaits.TheVariants as waits_for
-use Rattle.session_base.specs.Publication.{publish_of}
-use Rattle.lists.specs.Lists.{has_id}
+use Rattle.session_base.specs.Publication.{publish_of, is_answered}
+use Rattle.lists.specs.Lists.{has_id, IsDistinct}
 use Rattle.session_base.specs.Identifiers.{least_free}
-use Rattle.session_base.specs.Queue.{Flight, ids_of, fill}
+use Rattle.session_base.specs.Queue.{Flight, ids_of, fill, copies_left}
 use Rattle.session_base.specs.Sending.{fill_sends}
-use Rattle.lists.specs.Lists.{IsDistinct}
 
 -- the publications in flight: a released entry has none left
 abbrev pub publications_of : List Flight → List Publication
@@ -77,3 +76,14 @@ FillsJoin =
     (fill window first.in_flight (first.waiting ++ more) ≡ fill window flights (waiting ++ more))
     × (fill_sends window flights waiting ++ fill_sends window first.in_flight (first.waiting ++ more)
     ≡ fill_sends window flights (waiting ++ more))
+
+-- a queue in which nothing waits, or whose window is full
+abbrev pub IsQuietQueue : ℕ → List Flight → List Publication → Type 0
+IsQuietQueue window flights waiting = (waiting ≡ []) ⊎ (window ≤ length flights)
+
+-- copies that come one by one leave of such a queue what one fill behind all of them leaves
+abbrev pub CopiesAreOneFill : Type 0
+CopiesAreOneFill =
+    (window : ℕ) → (flights : List Flight) → (waiting copies : List Publication) → IsQuietQueue window flights waiting →
+    copies_left window copies (record { in_flight = flights; waiting = waiting })
+    ≡ fill window flights (waiting ++ filter (λ p. is_answered p.qos) copies)

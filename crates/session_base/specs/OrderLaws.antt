@@ -1,11 +1,12 @@
 -- Laws of the client's answers, and of the order in flight (MQTT 4.3.2, 4.3.3, 4.4).
-use Rattle.std.specs.Prelude.{◌≡◌, ℕ, true, false, ◌⊎◌, List, [], ◌∷◌, ◌++◌, filter}
+use Rattle.std.specs.Prelude.{◌≡◌, ℕ, true, false, ◌⊎◌, List, [], ◌∷◌, ◌++◌, length, filter}
 use Rattle.std.specs.List.{list_any}
 use Rattle.packet.specs.declared.packet.Packet.TheVariants as packets
 use Rattle.session_base.specs.declared.publication.Publication.{Publication}
 use Rattle.session_base.specs.declared.awaits.Awaits.TheVariants as waits_for
 use Rattle.session_base.specs.Publication.{publish_of}
-use Rattle.session_base.specs.Queue.{Flight, is_released, awaits_puback, awaits_pubrec, awaits_pubcomp, on_puback, on_pubrec, on_pubcomp, fill}
+use Rattle.lists.specs.Lists.{IsDistinct}
+use Rattle.session_base.specs.Queue.{Flight, ids_of, is_released, awaits_puback, awaits_pubrec, awaits_pubcomp, on_puback, on_pubrec, on_pubcomp, fill}
 use Rattle.session_base.specs.Sending.{resend}
 
 -- none of these is released
@@ -39,6 +40,13 @@ abbrev pub ReleasedComesLast : Type 0
 ReleasedComesLast =
     (id : ℕ) → (flights : List Flight) → list_any (awaits_pubrec id) flights ≡ true →
     filter is_released (on_pubrec id flights) ≡ filter is_released flights ++ (id, waits_for.Pubcomp) ∷ []
+
+-- the client's answers keep identifiers apart, and PUBREC keeps how many are in flight
+abbrev pub AnswersKeepApart : Type 0
+AnswersKeepApart =
+    (id : ℕ) → (flights : List Flight) → IsDistinct (ids_of flights) →
+    IsDistinct (ids_of (on_puback id flights)) × IsDistinct (ids_of (on_pubrec id flights))
+    × IsDistinct (ids_of (on_pubcomp id flights)) × (length (on_pubrec id flights) ≡ length flights)
 
 -- ---- the order in flight
 

@@ -4,7 +4,7 @@ use Rattle.std.specs.List.{list_any}
 use Rattle.session_base.specs.declared.publication.Publication.{Publication}
 use Rattle.session_base.specs.declared.awaits.Awaits.{Awaits}
 use Rattle.session_base.specs.declared.awaits.Awaits.TheVariants as waits_for
-use Rattle.session_base.specs.Publication.{is_acknowledged}
+use Rattle.session_base.specs.Publication.{is_acknowledged, is_answered}
 use Rattle.session_base.specs.Identifiers.{least_free}
 
 -- an entry in flight: its Packet Identifier, and what it waits for
@@ -100,3 +100,17 @@ fill window in_flight [] = record { in_flight = in_flight; waiting = [] }
 -- a queue filled
 abbrev pub filled : ℕ → Queue → Queue
 filled window queue = fill window queue.in_flight queue.waiting
+
+-- ---- copies that come one by one
+
+-- Of a connected client's queue: each copy of QoS 1 or 2 comes last, and what may start behind it starts.
+abbrev pub copies_left : ℕ → List Publication → Queue → Queue
+copies_left window (p ∷ copies) queue =
+    if is_answered p.qos then copies_left window copies (filled window (enqueue p queue))
+    else copies_left window copies queue
+copies_left window [] queue = queue
+
+-- of the queue of a client without a connection: those of QoS 1 and 2 wait
+abbrev pub copies_waiting : List Publication → Queue → Queue
+copies_waiting copies queue =
+    record { in_flight = queue.in_flight; waiting = queue.waiting ++ filter (λ p. is_answered p.qos) copies }

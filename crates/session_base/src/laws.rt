@@ -1,7 +1,7 @@
 // Laws of a client's queue. The calls do nothing; their contracts are the laws.
 
-ghost use Rattle.session_base.specs.Laws.{IsLeastFree, FillKeepsApart, FillIsDone, FillStaysWithin, FillKeepsOrder, FillSendsWhatStarts, FillsJoin};
-ghost use Rattle.session_base.specs.OrderLaws.{OtherAnswersChangeNothing, SecondPubrecChangesNothing, ReleasedComesLast, KeepsReleasedFirst, ResendsInOrder};
+ghost use Rattle.session_base.specs.Laws.{IsLeastFree, FillKeepsApart, FillIsDone, FillStaysWithin, FillKeepsOrder, FillSendsWhatStarts, FillsJoin, CopiesAreOneFill};
+ghost use Rattle.session_base.specs.OrderLaws.{AnswersKeepApart, OtherAnswersChangeNothing, SecondPubrecChangesNothing, ReleasedComesLast, KeepsReleasedFirst, ResendsInOrder};
 
 /// A fill starts what waits in its order, with free identifiers, until nothing waits or the window
 /// is full; and it sends what it starts.
@@ -14,15 +14,21 @@ pub fn fill_takes_what_waits()
     ensures apart { FillKeepsApart }
 {}
 
-/// Two fills, one behind the other, are one.
+/// Two fills, one behind the other, are one; and so are those behind copies that come one by one.
 pub fn fills_join()
-    ensures { FillsJoin }
+    ensures two { FillsJoin }
+    ensures copies { CopiesAreOneFill }
 {}
 
 /// An answer of the client for which no entry waits changes nothing, and so does a second PUBREC.
 pub fn other_answers_change_nothing()
     ensures others { OtherAnswersChangeNothing }
     ensures second { SecondPubrecChangesNothing }
+{}
+
+/// An answer of the client leaves the identifiers in flight distinct, and PUBREC leaves as many.
+pub fn answers_keep_identifiers_apart()
+    ensures { AnswersKeepApart }
 {}
 
 /// Released entries come first, in the order of their release, and a client that comes back is sent

@@ -8,7 +8,8 @@ mod publication;
 
 pub use awaits::Awaits;
 pub use laws::{
-    fill_takes_what_waits, fills_join, other_answers_change_nothing, resend_keeps_the_order,
+    answers_keep_identifiers_apart, fill_takes_what_waits, fills_join,
+    other_answers_change_nothing, resend_keeps_the_order,
 };
 pub use publication::Publication;
 

@@ -37,6 +37,7 @@ fn copies_are_equal(rt: HostRuntime) -> Result<(), Fail> {
 fn laws_are_called() -> Result<(), Fail> {
     fill_takes_what_waits();
     fills_join();
+    answers_keep_identifiers_apart();
     other_answers_change_nothing();
     resend_keeps_the_order();
     Ok(())

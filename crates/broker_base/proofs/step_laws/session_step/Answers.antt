@@ -1,4 +1,4 @@
-use Rattle.broker_base.proofs.KeptAfter.{kept_step}
+use Rattle.broker_base.proofs.PastsAtRest.{kept_step}
 use Rattle.broker_base.proofs.step_laws.session_step.Goals as goal
 
 pub returns : goal.returns

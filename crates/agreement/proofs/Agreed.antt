@@ -1,0 +1,13 @@
+-- Agreed.antt: the agreed list.
+pub mod AgreedExists
+pub mod AppliedAgreed
+pub mod Agreeing
+pub mod MostTold
+pub mod PastTells
+pub mod PastChosen
+pub mod PastAgrees
+pub mod PastGrows
+pub mod PastIsKnown
+pub mod KnownSteps
+pub mod PastKnown
+pub mod PastOrder

@@ -1,0 +1,112 @@
+-- KnownSteps.antt: what is known goes on behind each step.
+use Rattle.std.proofs.Common.{◌≡◌, ℕ, ◌+◌, ◌≤◌, ◌⊎◌, inl, inr, List, ◌∷◌, length, Some, sym, subst}
+use Rattle.machine.specs.Machine.{Rules}
+use Rattle.lists.specs.Lists.{In}
+use Rattle.lists.specs.Lists.In.{here, there}
+use Rattle.ballot.specs.Config.{Config}
+use Rattle.agreement.specs.Inside.Ballots.{Given, History, Told, TellsHere, Extends}
+use Rattle.agreement.specs.Inside.Serves.{Serves}
+use Rattle.agreement.specs.Inside.OpeningHistory.{first_ballot}
+use Rattle.agreement.specs.MasterState.{MasterState}
+use Rattle.agreement.specs.Past.{Moment, HasConfig, WasActive, HasTold}
+use Rattle.agreement.specs.Past.HasConfig.{was_assigned}
+use Rattle.agreement.specs.Steps.{MayHappen}
+use Rattle.agreement.specs.World.{World}
+use Rattle.agreement.proofs.Frame.Going.{goes_same, extends_then}
+use Rattle.agreement.proofs.Agreed.PastGrows.{config_stays, active_stays, told_stays}
+use Rattle.agreement.proofs.Runs.RunsGoOn.{StepGoesOn}
+use Rattle.agreement.proofs.Runs.Serves.{serving_step}
+use Rattle.agreement.proofs.Agreed.PastIsKnown.{IsKnown, told_now}
+
+-- a group that serves goes on serving
+pub serves_then : {S C O : Type 0} (rules : Rules S C O) (m k : MasterState) (w v : World S C O) (h : History C) (adds : List (ℕ × C)) →
+    Serves rules m w h → (x : StepGoesOn rules w h k v adds) → MayHappen rules m w k v → Serves rules k v x.run.group.goes_on.history
+serves_then rules m k w v h adds s x step =
+    record {
+      sound = x.run.group.goes_on.sound;
+      master = x.run.group.master;
+      replays = x.run.replays;
+      serving = serving_step rules m w k v step s.serving;
+      begun = x.run.begun s.begun;
+      long = x.run.long;
+    }
+
+-- a step of the group
+pub known_step : {S C O : Type 0} (rules : Rules S C O) (config : Config) (a v : Moment S C O) (past : List (Moment S C O)) →
+    (adds : List (ℕ × C)) (q : IsKnown rules config a past) → (x : StepGoesOn rules a.world q.history v.master v.world adds) →
+    Serves rules v.master v.world x.run.group.goes_on.history → IsKnown rules config v (a ∷ past)
+known_step {S = S} {C = C} {O = O} rules config a v past adds q x s =
+    record {
+      history = x.run.group.goes_on.history;
+      serves = s;
+      first = x.run.group.goes_on.extends.given 1 (first_ballot config) q.first;
+      numbers = q.numbers;
+      moments = λ c i. moments c i;
+      configs = configs;
+      active = λ b j. active b (x.activates b j);
+      tells = λ n b k t. tells n b k t (x.tells (n + 1) b k t);
+    }
+  where
+    h : History C
+    h = x.run.group.goes_on.history
+
+    moments : (c : Moment S C O) → In c (v ∷ a ∷ past) → (g : History C) × Serves rules c.master c.world g
+        × Extends c.world g v.world x.run.group.goes_on.history × ((b : ℕ) → In b g.activated → In b x.run.group.goes_on.history.activated)
+    moments c here = (x.run.group.goes_on.history, s, (goes_same rules v.world x.run.group.goes_on.history s.sound).extends, λ b j. j)
+    moments c (there i) =
+        let z = q.moments c i in (
+          z.0,
+          z.1,
+          extends_then c.world a.world v.world z.0 q.history x.run.group.goes_on.history z.2 x.run.group.goes_on.extends,
+          λ b j. x.run.group.goes_on.active b (z.3 b j),
+        )
+
+    configs : (b : ℕ) (g : Given) → x.run.group.goes_on.history.given b ≡ Some g →
+        (c : Config) × HasConfig config (v ∷ a ∷ past) b c × (g.members ≡ c.members) × (g.primary ≡ c.primary)
+    configs b g e = by_given (x.gives b g e)
+      where
+        by_given : (q.history.given b ≡ Some g) ⊎ ((c : Config) × (v.master.waiting ≡ Some (b, c)) × (g.members ≡ c.members) × (g.primary ≡ c.primary)) →
+            (c : Config) × HasConfig config (v ∷ a ∷ past) b c × (g.members ≡ c.members) × (g.primary ≡ c.primary)
+        by_given (inl before) = let z = q.configs b g before in (z.0, config_stays config (a ∷ past) v b z.0 z.1, z.2, z.3)
+        by_given (inr (c, waits, members, primary)) = (c, was_assigned v here waits, members, primary)
+
+    active : (b : ℕ) → In b q.history.activated ⊎ (v.master.active ≡ b) → WasActive (v ∷ a ∷ past) b
+    active b (inl j) = active_stays (a ∷ past) v b (q.active b j)
+    active b (inr e) = (v, here, e)
+
+    tells : (n b k : ℕ) → Told v.world x.run.group.goes_on.history (n + 1) b k →
+        Told a.world q.history (n + 1) b k ⊎ TellsHere v.world (n + 1) b k →
+        (k ≡ 0) ⊎ ((xs : List C) × HasTold config (v ∷ a ∷ past) b n xs × (k ≤ length xs))
+    tells n b k t (inr now) = told_now rules config v (a ∷ past) x.run.group.goes_on.history n b k s configs now t
+    tells n b k t (inl before) = by_before (q.tells n b k before)
+      where
+        by_before : (k ≡ 0) ⊎ ((xs : List C) × HasTold config (a ∷ past) b n xs × (k ≤ length xs)) →
+            (k ≡ 0) ⊎ ((xs : List C) × HasTold config (v ∷ a ∷ past) b n xs × (k ≤ length xs))
+        by_before (inl nothing) = inl nothing
+        by_before (inr (xs, has, short)) = inr (xs, told_stays config (a ∷ past) v b n xs has, short)
+
+-- a moment in which nothing changed
+pub known_same : {S C O : Type 0} (rules : Rules S C O) (config : Config) (a v : Moment S C O) (past : List (Moment S C O)) →
+    (q : IsKnown rules config a past) → v ≡ a → IsKnown rules config v (a ∷ past)
+known_same {S = S} {C = C} {O = O} rules config a v past q same =
+    subst (λ (u : Moment S C O). IsKnown rules config u (a ∷ past)) (sym same)
+    (record {
+      history = q.history;
+      serves = q.serves;
+      first = q.first;
+      numbers = q.numbers;
+      moments = λ c i. moments c i;
+      configs = λ b g e. let z = q.configs b g e in (z.0, config_stays config (a ∷ past) a b z.0 z.1, z.2, z.3);
+      active = λ b j. active_stays (a ∷ past) a b (q.active b j);
+      tells = λ n b k t. tells n b k (q.tells n b k t);
+    })
+  where
+    moments : (c : Moment S C O) → In c (a ∷ a ∷ past) → (g : History C) × Serves rules c.master c.world g
+        × Extends c.world g a.world q.history × ((b : ℕ) → In b g.activated → In b q.history.activated)
+    moments c here = q.moments a here
+    moments c (there i) = q.moments c i
+
+    tells : (n b k : ℕ) → (k ≡ 0) ⊎ ((xs : List C) × HasTold config (a ∷ past) b n xs × (k ≤ length xs)) →
+        (k ≡ 0) ⊎ ((xs : List C) × HasTold config (a ∷ a ∷ past) b n xs × (k ≤ length xs))
+    tells n b k (inl nothing) = inl nothing
+    tells n b k (inr (xs, has, short)) = inr (xs, told_stays config (a ∷ past) a b n xs has, short)

@@ -1,0 +1,61 @@
+-- PastAgrees.antt: the nodes agree on the list that is agreed by the past.
+use Rattle.std.proofs.Common.{◌≡◌, ℕ, ◌⊎◌, inl, inr, List, [], ◌∷◌, refl, sym, subst}
+use Rattle.machine.specs.Machine.{Rules}
+use Rattle.lists.specs.Lists.{IsPrefixOf}
+use Rattle.ballot.specs.Config.{Config}
+use Rattle.agreement.specs.Inside.Chosen.{ChosenList, IsAgreedIn}
+use Rattle.agreement.specs.Laws.{HasAgreed, NodesAgree, MachinesReplay}
+use Rattle.agreement.specs.Past.{Moment, WasActive, IsChosen, IsAgreed}
+use Rattle.agreement.proofs.Agreed.AgreedExists.{agreed_exists}
+use Rattle.agreement.proofs.Agreed.Agreeing.{sound_agrees}
+use Rattle.agreement.proofs.Agreed.PastIsKnown.{IsKnown}
+use Rattle.agreement.proofs.Agreed.PastKnown.{past_known}
+use Rattle.agreement.proofs.Runs.Serves.{serves_held}
+use Rattle.agreement.proofs.Agreed.PastChosen.{chosen_known, chosen_back}
+
+-- what is agreed by the past is agreed by the history
+agreed_known : {S C O : Type 0} (rules : Rules S C O) (config : Config) (a : Moment S C O) (past : List (Moment S C O)) →
+    (q : IsKnown rules config a past) → (xs : List C) → IsAgreed config (a ∷ past) xs → IsAgreedIn a.world q.history xs
+agreed_known {S = S} {C = C} {O = O} rules config a past q xs agreed =
+    record { chosen = by_chosen agreed.chosen; longest = λ ys c. by_back ys (chosen_back rules config a past q ys c) }
+  where
+    by_chosen : (xs ≡ []) ⊎ ((b : ℕ) × WasActive (a ∷ past) b × IsChosen config (a ∷ past) b xs) → (xs ≡ []) ⊎ ChosenList a.world q.history xs
+    by_chosen (inl none) = inl none
+    by_chosen (inr (b, active, chosen)) = inr (chosen_known rules config a past q b xs active chosen)
+
+    by_back : (ys : List C) → (ys ≡ []) ⊎ ((b : ℕ) × WasActive (a ∷ past) b × IsChosen config (a ∷ past) b ys) → IsPrefixOf ys xs
+    by_back ys (inl none) = subst (λ (us : List C). IsPrefixOf us xs) (sym none) (record { rest = xs; is = refl })
+    by_back ys (inr (b, active, chosen)) = agreed.longest b ys active chosen
+
+-- and the other way round
+agreed_back : {S C O : Type 0} (rules : Rules S C O) (config : Config) (a : Moment S C O) (past : List (Moment S C O)) →
+    (q : IsKnown rules config a past) → (xs : List C) → IsAgreedIn a.world q.history xs → IsAgreed config (a ∷ past) xs
+agreed_back {S = S} {C = C} {O = O} rules config a past q xs agreed =
+    record {
+      chosen = by_chosen agreed.chosen;
+      longest = λ b ys active chosen. agreed.longest ys (chosen_known rules config a past q b ys active chosen);
+    }
+  where
+    by_chosen : (xs ≡ []) ⊎ ChosenList a.world q.history xs → (xs ≡ []) ⊎ ((b : ℕ) × WasActive (a ∷ past) b × IsChosen config (a ∷ past) b xs)
+    by_chosen (inl none) = inl none
+    by_chosen (inr c) = chosen_back rules config a past q xs c
+
+-- there is an agreed list at each moment
+pub has_agreed : {S C O : Type 0} (rules : Rules S C O) → HasAgreed rules
+has_agreed rules config a past came =
+    let q = past_known rules config a past came in
+    let xs = agreed_exists rules a.master a.world q.history q.serves.sound q.serves.master in
+    (xs.0, agreed_back rules config a past q xs.0 xs.1)
+
+-- the nodes agree on it, and one of them holds it
+pub nodes_agree : {S C O : Type 0} (rules : Rules S C O) → NodesAgree rules
+nodes_agree rules config a past xs came agreed =
+    let q = past_known rules config a past came in
+    let z = agreed_known rules config a past q xs agreed in (
+      sound_agrees rules a.master a.world q.history xs q.serves.sound q.serves.master z,
+      serves_held rules a.master a.world q.history xs q.serves.sound q.serves.master q.serves.serving z,
+    )
+
+-- and machines are replays
+pub machines_replay : {S C O : Type 0} (rules : Rules S C O) → MachinesReplay rules
+machines_replay rules config a past came = (past_known rules config a past came).serves.replays

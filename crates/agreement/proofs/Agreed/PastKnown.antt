@@ -1,0 +1,74 @@
+-- PastKnown.antt: every past is known.
+use Rattle.std.proofs.Common.{◌≡◌, ℕ, ◌+◌, ◌⊎◌, inl, inr, true, List, [], ◌∷◌, refl, ap, sym, ◌∙◌, subst}
+use Rattle.machine.specs.Machine.{Rules}
+use Rattle.lists.specs.Lists.{In}
+use Rattle.lists.specs.Lists.In.{here, there}
+use Rattle.ballot.specs.Config.{Config}
+use Rattle.agreement.specs.Inside.Ballots.{Given, History, Extends}
+use Rattle.agreement.specs.Inside.GroupSteps.{adds_of, GroupStep}
+use Rattle.agreement.specs.Inside.Serves.{Serves}
+use Rattle.agreement.specs.Inside.OpeningHistory.{opening_history}
+use Rattle.agreement.specs.Past.{Moment, Past, WasActive, opening_moment}
+use Rattle.agreement.specs.Past.Past.{began, went_on}
+use Rattle.agreement.specs.Past.HasConfig.{opened_with}
+use Rattle.agreement.specs.Proposals.{proposal_of}
+use Rattle.agreement.specs.World.{can_open}
+use Rattle.agreement.proofs.Masters.Assigns.{can_open_is}
+use Rattle.agreement.proofs.Frame.Going.{goes_same}
+use Rattle.agreement.proofs.Runs.OpeningServes.{opening_is_serving}
+use Rattle.agreement.proofs.Runs.OpeningTold.{first_given, told_opens}
+use Rattle.agreement.proofs.Runs.RunsGoOn.{group_goes_on}
+use Rattle.agreement.proofs.Runs.Serves.{one_step}
+use Rattle.agreement.proofs.Agreed.PastIsKnown.{IsKnown}
+use Rattle.agreement.proofs.Agreed.KnownSteps.{serves_then, known_step, known_same}
+
+-- an opening
+known_opening : {S C O : Type 0} (rules : Rules S C O) (config : Config) (nodes : ℕ) → can_open nodes config ≡ true →
+    IsKnown rules config (opening_moment rules nodes config) []
+known_opening {S = S} {C = C} {O = O} rules config nodes lawful =
+    let z = opening_is_serving rules nodes config lawful in
+    let opens = can_open_is nodes config lawful in
+    record {
+      history = opening_history C config;
+      serves = z;
+      first = refl;
+      numbers = λ x i. let y = opens.1 x i in (y.0, y.1);
+      moments = λ c i. moments c i;
+      configs = λ b g e. let y = first_given C config b g e in
+          (config, opened_with y.0 refl, sym (ap (λ (u : Given). u.members) y.1), sym (ap (λ (u : Given). u.primary) y.1));
+      active = λ b i. active b i;
+      tells = λ n b k t. inl (told_opens rules nodes config opens.0 (n + 1) b k t).1;
+    }
+  where
+    moments : (c : Moment S C O) → In c (opening_moment rules nodes config ∷ []) → (g : History C) × Serves rules c.master c.world g
+        × Extends c.world g (opening_moment rules nodes config).world (opening_history C config)
+        × ((b : ℕ) → In b g.activated → In b (opening_history C config).activated)
+    moments c here =
+        let z = opening_is_serving rules nodes config lawful in
+        (opening_history C config, z, (goes_same rules (opening_moment rules nodes config).world (opening_history C config) z.sound).extends, λ b j. j)
+    moments c (there i) = elim i [ ]
+
+    active : (b : ℕ) → In b (1 ∷ []) → WasActive (opening_moment rules nodes config ∷ []) b
+    active b here = (opening_moment rules nodes config, here, refl)
+    active b (there i) = elim i [ ]
+
+-- every past is known
+pub past_known : {S C O : Type 0} (rules : Rules S C O) (config : Config) (a : Moment S C O) (past : List (Moment S C O)) →
+    Past rules config (a ∷ past) → IsKnown rules config a past
+past_known {S = S} {C = C} {O = O} rules config a past (began nodes lawful is) =
+    subst (λ (u : Moment S C O). IsKnown rules config u []) (sym is) (known_opening rules config nodes lawful)
+past_known {S = S} {C = C} {O = O} rules config v (a ∷ past) (went_on came step) =
+    let q = past_known rules config a past came in
+    by_step q (one_step rules a.master a.world v.master v.world step)
+  where
+    by_step : (q : IsKnown rules config a past) → ((v.master ≡ a.master) × (v.world ≡ a.world))
+        ⊎ ((g : GroupStep rules a.master a.world v.master v.world) × (adds_of g ≡ proposal_of step)) →
+        IsKnown rules config v (a ∷ past)
+    by_step q (inl (same, still)) =
+        known_same rules config a v past q
+        (ap (λ m. let u : Moment S C O = record { master = m; world = v.world } in u) same
+        ∙ ap (λ w. let u : Moment S C O = record { master = a.master; world = w } in u) still)
+    by_step q (inr (goes, taken)) =
+        let s = q.serves in
+        let x = group_goes_on rules a.master v.master a.world v.world q.history s.sound s.long s.replays s.master goes in
+        known_step rules config a v past (adds_of goes) q x (serves_then rules a.master v.master a.world v.world q.history (adds_of goes) s x step)

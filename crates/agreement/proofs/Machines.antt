@@ -1,0 +1,6 @@
+-- Machines.antt: machines stay replays.
+pub mod Applies
+pub mod Comparing
+pub mod ReplaysKept
+pub mod ChangingApplies
+pub mod StepApplies

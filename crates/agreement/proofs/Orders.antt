@@ -1,0 +1,4 @@
+-- Orders.antt: the order of proposals.
+pub mod OwnSteps
+pub mod NamesInLists
+pub mod Owning

@@ -1,0 +1,8 @@
+-- Runs.antt: whatever happens, a group stays sound.
+pub mod OpeningTold
+pub mod OpeningNodes
+pub mod OpeningServes
+pub mod OpeningWorlds
+pub mod RunsGoOn
+pub mod Serves
+pub mod Steps

@@ -1,0 +1,53 @@
+-- What a broker keeps of one client's session, and what a past says that it is (MQTT 3.1.2.4, 4.1, 4.4).
+use Rattle.std.specs.Prelude.{ℕ, Bool, List, [], ◌∷◌, ◌++◌, length, map, Option, option_map}
+use Rattle.session_base.specs.Session.{SessionState}
+use Rattle.session_base.specs.declared.awaits.Awaits.TheVariants as waits_for
+use Rattle.session_base.specs.Queue.{Flight, Queue, awaited}
+use Rattle.broker_model.specs.Connection.{ConnectionName}
+use Rattle.broker_model.specs.Place.{Client, Past, Limits}
+use Rattle.broker_model.specs.Past.{current_connection, session_of}
+use Rattle.broker_model.specs.Subscriptions.{subscriptions_of}
+use Rattle.broker_model.specs.Received.{received_of}
+use Rattle.broker_model.specs.Entries.{Entry}
+use Rattle.broker_model.specs.Readings.{released_below, waiting_of}
+use Rattle.broker_model.specs.Times.{entries_of}
+
+-- a client's session: its CleanSession flag, the connection on which the client is served, and what stands in it
+pub record ClientSession : Type 0 where
+  pub clean : Bool
+  pub connection : Option ConnectionName
+  pub state : SessionState
+
+-- the entries that are sent and neither released nor finished, in flight
+abbrev pub sent_flights : List Entry → List Flight
+sent_flights (Entry.Started made p id start ∷ entries) = (id, awaited p) ∷ sent_flights entries
+sent_flights (_ ∷ entries) = sent_flights entries
+sent_flights [] = []
+
+-- a released entry in flight
+abbrev pub released_flight : ℕ → Flight
+released_flight id = (id, waits_for.Pubcomp)
+
+-- what is in flight of these entries: the released ones by the place of their release, of those below n, then
+-- the sent ones
+abbrev pub flights_below : ℕ → List Entry → List Flight
+flights_below n entries = map released_flight (released_below n entries) ++ sent_flights entries
+
+-- the queue of a session with these entries, none of them released at place n or later
+abbrev pub queue_of : ℕ → List Entry → Queue
+queue_of n entries = record { in_flight = flights_below n entries; waiting = waiting_of entries }
+
+-- what a past says of a client's session, if it has one
+abbrev pub client_session : Limits → Past → Client → Option ClientSession
+client_session limits past c =
+    option_map
+    (λ clean. record {
+      clean = clean;
+      connection = current_connection past c;
+      state = record {
+        subscriptions = subscriptions_of past c;
+        received = received_of past c;
+        queue = queue_of (length past) (entries_of limits past c);
+      };
+    })
+    (session_of past c)

@@ -1,0 +1,102 @@
+-- What one more command makes of a client's session (MQTT 3.1.2.4, 3.1.4, 3.3.5, 3.8.4, 4.3, 4.4, 4.6).
+use Rattle.std.specs.Prelude.{ℕ, Bool, not, ◌&&◌, ◌||◌, if◌then◌else◌, List, [], Option, Some, None, option_map}
+use Rattle.packet.specs.declared.packet.Packet.TheVariants as packets
+use Rattle.retained.specs.Retained.{RetainedTopics}
+use Rattle.session_base.specs.declared.publication.Publication.{Publication}
+use Rattle.session_base.specs.Publication.{publication_of, lower_qos}
+use Rattle.session_base.specs.Subscriptions.{HeldFilter, granted_qos}
+use Rattle.session_base.specs.Session.{empty_session}
+use Rattle.session_base.specs.Queue.{Flight, Queue, on_puback, on_pubrec, on_pubcomp, fill, filled, copies_left, copies_waiting}
+use Rattle.broker_model.specs.Connection.{ConnectionName}
+use Rattle.broker_model.specs.Place.{Client, same_client, Mark, Place, only_if}
+use Rattle.broker_model.specs.Past.{accepts, ends_any}
+use Rattle.broker_model.specs.Subscriptions.{granted_of, subscribed}
+use Rattle.broker_model.specs.Received.{received_by}
+use Rattle.broker_model.specs.Entries.{copy_of, copies_for_all}
+use Rattle.broker_base.specs.ClientSession.{ClientSession}
+use Rattle.broker_model.specs.declared.command.Command.{Command}
+use Rattle.broker_model.specs.declared.command.Command.TheVariants as commands
+
+-- the copies that a command makes for a session with these subscriptions
+abbrev pub copies_with : Command → Mark → RetainedTopics → Client → List HeldFilter → List Publication
+copies_with (commands.Packet x (packets.Publish p)) (Mark.Taken d) content c held =
+    copy_of (publication_of p) (option_map (lower_qos (publication_of p).qos) (granted_qos (publication_of p).topic held))
+copies_with (commands.Packet x (packets.Subscribe s)) (Mark.Granted d which) content c held =
+    if same_client d c then copies_for_all content (granted_of s.filters which) else []
+copies_with _ _ content c held = []
+
+-- a queue is filled while there is a connection
+abbrev pub filled_on : Option ConnectionName → ℕ → List Flight → List Publication → Queue
+filled_on (Some x) window flights waiting = fill window flights waiting
+filled_on None window flights waiting = record { in_flight = flights; waiting = waiting }
+
+-- what a client's answer leaves of its queue: what may start behind PUBACK and PUBCOMP starts (MQTT 4.6)
+abbrev pub answered_queue : ℕ → Command → Mark → Client → Option ConnectionName → Queue → Queue
+answered_queue window (commands.Packet x (packets.Puback id)) (Mark.Handled d) c connection queue =
+    if same_client d c then filled_on connection window (on_puback id queue.in_flight) queue.waiting else queue
+answered_queue window (commands.Packet x (packets.Pubrec id)) (Mark.Handled d) c connection queue =
+    if same_client d c then record { in_flight = on_pubrec id queue.in_flight; waiting = queue.waiting } else queue
+answered_queue window (commands.Packet x (packets.Pubcomp id)) (Mark.Handled d) c connection queue =
+    if same_client d c then filled_on connection window (on_pubcomp id queue.in_flight) queue.waiting else queue
+answered_queue window _ _ c connection queue = queue
+
+-- what copies leave of it: with a connection, what may start behind each of them starts
+abbrev pub copied_queue : ℕ → Option ConnectionName → List Publication → Queue → Queue
+copied_queue window (Some x) copies queue = copies_left window copies queue
+copied_queue window None copies queue = copies_waiting copies queue
+
+-- a session goes on behind a command that is no accepted Connect of its client, with this connection or none
+abbrev pub kept_on : ℕ → Place → RetainedTopics → Client → Option ConnectionName → ClientSession → ClientSession
+kept_on window place content c connection old =
+    record {
+      clean = old.clean;
+      connection = connection;
+      state = record {
+        subscriptions = subscribed place.command place.mark c old.state.subscriptions;
+        received = received_by place.command place.mark c old.state.received;
+        queue = copied_queue window connection
+            (copies_with place.command place.mark content c old.state.subscriptions)
+            (answered_queue window place.command place.mark c connection old.state.queue);
+      };
+    }
+
+-- a session begins on a connection, with nothing in it
+abbrev pub kept_anew : ConnectionName × Bool → ClientSession
+kept_anew opened = record { clean = opened.1; connection = Some opened.0; state = empty_session }
+
+-- a session goes on, on a new connection, and what may start starts
+abbrev pub kept_resumed : ℕ → ConnectionName × Bool → ClientSession → ClientSession
+kept_resumed window opened old =
+    record {
+      clean = opened.1;
+      connection = Some opened.0;
+      state = record {
+        subscriptions = old.state.subscriptions;
+        received = old.state.received;
+        queue = filled window old.state.queue;
+      };
+    }
+
+-- an accepted Connect of the client: a session that is not clean goes on where the Connect is not clean
+abbrev pub kept_connected : ℕ → ConnectionName × Bool → Option ClientSession → ClientSession
+kept_connected window opened None = kept_anew opened
+kept_connected window opened (Some old) =
+    if opened.1 || old.clean then kept_anew opened else kept_resumed window opened old
+
+-- any other command: the connection may end, and a clean session with it
+abbrev pub kept_later : ℕ → Place → RetainedTopics → Client → Option ClientSession → Option ClientSession
+kept_later window place content c None = None
+kept_later window place content c (Some old) =
+    only_if (not (old.clean && ends_any place old.connection))
+    (Some (kept_on window place content c (only_if (not (ends_any place old.connection)) old.connection) old))
+
+-- by what the command opens for the client
+abbrev pub kept_by : ℕ → Place → RetainedTopics → Client → Option (ConnectionName × Bool) → Option ClientSession → Option ClientSession
+kept_by window place content c (Some opened) old = Some (kept_connected window opened old)
+kept_by window place content c None old = kept_later window place content c old
+
+-- what is kept of the client's session after a place, with this window from then on and this content of the
+-- retained publications before it
+abbrev pub kept_after : ℕ → Place → RetainedTopics → Client → Option ClientSession → Option ClientSession
+kept_after window place content c old =
+    kept_by window place content c (accepts place.command place.mark c) old

@@ -1,0 +1,11 @@
+pub mod AnswersOfGranted
+pub mod CommandOfNobody
+pub mod CommandOfOwner
+pub mod FindsEach
+pub mod GrantedBySessions
+pub mod GreatestGranted
+pub mod OneCommand
+pub mod OneRow
+pub mod OwnerByMap
+pub mod OwnersRow
+pub mod RoomOfGranted

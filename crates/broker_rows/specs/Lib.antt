@@ -1,0 +1,6 @@
+pub mod Touched
+pub mod Owners
+pub mod Indexed
+pub mod Published
+pub mod CommandLaws
+pub mod PublicationLaws

@@ -1,0 +1,38 @@
+-- A taken publication asks the rows that an index grants, and no others (MQTT 3.3.5).
+use Rattle.std.specs.Prelude.{◌≡◌, ℕ, List, flat_map}
+use Rattle.std.specs.List.{list_any}
+use Rattle.packet.specs.declared.publish.Publish.{Publish}
+use Rattle.retained.specs.Retained.{RetainedTopics}
+use Rattle.session_base.specs.declared.publication.Publication.{Publication}
+use Rattle.session_base.specs.Publication.{publication_of}
+use Rattle.subs.specs.Content.{Content}
+use Rattle.subs.specs.Granted.{Row, IsGranted}
+use Rattle.broker_base.specs.Connection.{ConnectionName}
+use Rattle.broker_base.specs.Place.{Client, Limits}
+use Rattle.broker_base.specs.EntryLaws.{taken}
+use Rattle.broker_base.specs.State.{Sessions, session_in}
+use Rattle.broker_base.specs.StateLaws.{AreByClient}
+use Rattle.broker_base.specs.Decisions.{has_no_room_for}
+use Rattle.broker_base.specs.StepAnswers.{copies_answered}
+use Rattle.broker_rows.specs.Indexed.{AllFiltersApart, content_in}
+use Rattle.broker_rows.specs.Published.{granted_rows, is_full_at, copy_answered}
+
+-- the rows that an index grants, where it holds the sessions' subscriptions, are the sessions that match
+abbrev pub GrantedRowsMatch : Type 0
+GrantedRowsMatch =
+    (content : Content) → (topic : List ℕ) → (sessions : Sessions) → (rows : List Row) → AreByClient sessions → AllFiltersApart sessions →
+    content ≡ content_in sessions → IsGranted content topic rows → rows ≡ granted_rows topic sessions
+
+-- a session lacks room for a publication exactly where a granted one does
+abbrev pub RoomIsOfGrantedRows : Type 0
+RoomIsOfGrantedRows =
+    (limits : Limits) → (p : Publication) → (rows : Sessions) → AreByClient rows →
+    list_any (has_no_room_for limits p) rows
+    ≡ list_any (λ row. is_full_at limits p row.1 (session_in row.0 rows)) (granted_rows p.topic rows)
+
+-- what all sessions are sent of it is what the granted ones are, in their order
+abbrev pub AnswersAreOfGrantedRows : Type 0
+AnswersAreOfGrantedRows =
+    (window : ℕ) → (x : ConnectionName) → (p : Publish) → (d : Client) → (content : RetainedTopics) → (rows : Sessions) → AreByClient rows →
+    flat_map (copies_answered window (taken x p d) content) rows
+    ≡ flat_map (λ row. copy_answered window (publication_of p) row.1 (session_in row.0 rows)) (granted_rows p.topic rows)

@@ -1,0 +1,70 @@
+-- Which rows a place touches, and what is written to one.
+use Rattle.std.specs.Prelude.{◌≡◌, ◌⊎◌, Bool, true, false, [], ◌∷◌, Option, Some, None}
+use Rattle.std.specs.BTreeMap.{is_at}
+use Rattle.std.specs.Map.{remove_entry, set_value}
+use Rattle.broker_base.specs.Connection.{ConnectionName, same_connection}
+use Rattle.broker_base.specs.Place.{Client, by_bytes, same_client, Mark, Place}
+use Rattle.broker_base.specs.Past.{any_connection}
+use Rattle.broker_base.specs.ClientSession.{ClientSession}
+use Rattle.broker_base.specs.State.{Sessions}
+use Rattle.broker_base.specs.Step.{touches}
+use Rattle.broker_base.specs.Command.{Command}
+use Rattle.broker_base.specs.Command.TheVariants as commands
+
+-- the place touches none of these
+abbrev pub Untouched : Place → Sessions → Type 0
+Untouched place (row ∷ rows) = (touches place row.0 row.1 ≡ false) × Untouched place rows
+Untouched place [] = Unit {0}
+
+-- the place touches the client's row at most
+abbrev pub TouchesOnly : Place → Client → Sessions → Type 0
+TouchesOnly place d (row ∷ rows) =
+    ((same_client d row.0 ≡ true) × Untouched place rows)
+    ⊎ ((same_client d row.0 ≡ false) × (touches place row.0 row.1 ≡ false) × TouchesOnly place d rows)
+TouchesOnly place d [] = Unit {0}
+
+-- the client's row with this session, or without a row of it
+abbrev pub written : Client → Option ClientSession → Sessions → Sessions
+written d (Some kept) rows = set_value (is_at (by_bytes d)) rows kept
+written d None rows = remove_entry (is_at (by_bytes d)) rows
+
+-- the place touches no session but the client's and that of the connection
+abbrev pub IsOnes : Place → ConnectionName → Client → Type 0
+IsOnes place x d =
+    (c : Client) (kept : ClientSession) → same_client d c ≡ false → any_connection (same_connection x) kept.connection ≡ false →
+    touches place c kept ≡ false
+
+-- the connection on which a command comes
+abbrev pub comes_on : Command → Option ConnectionName
+comes_on (commands.Packet x packet) = Some x
+comes_on (commands.Connect x c clean) = Some x
+comes_on (commands.Lost x) = Some x
+comes_on (commands.Start ballot) = None
+
+-- whether it is the mark of a taken publication
+abbrev pub is_taken : Mark → Bool
+is_taken (Mark.Taken c) = true
+is_taken _ = false
+
+-- whether it is the mark of an accepted Connect
+abbrev pub is_accepted : Mark → Bool
+is_accepted Mark.Accepted = true
+is_accepted _ = false
+
+-- the mark is that of a command that touches this client's row at most
+abbrev pub IsMarkOf : Client → Mark → Type 0
+IsMarkOf d Mark.NoPart = Unit {0}
+IsMarkOf d Mark.Full = Unit {0}
+IsMarkOf d Mark.Accepted = ⊥
+IsMarkOf d (Mark.Taken c) = ⊥
+IsMarkOf d (Mark.Leaves c) = c ≡ d
+IsMarkOf d (Mark.Refused c) = c ≡ d
+IsMarkOf d (Mark.Repeat c) = c ≡ d
+IsMarkOf d (Mark.Granted c which) = c ≡ d
+IsMarkOf d (Mark.Handled c) = c ≡ d
+
+-- the mark is that of a command that touches no row
+abbrev pub IsIdle : Mark → Type 0
+IsIdle Mark.NoPart = Unit {0}
+IsIdle Mark.Full = Unit {0}
+IsIdle _ = ⊥

@@ -1,0 +1,35 @@
+// Laws of the rows. The calls do nothing; their contracts are the laws.
+
+ghost use Rattle.broker_rows.specs.CommandLaws.{OneRowIsWritten, NobodyChangesNothing, OwnerIsFoundByMap};
+ghost use Rattle.broker_rows.specs.PublicationLaws.{GrantedRowsMatch, RoomIsOfGrantedRows, AnswersAreOfGrantedRows};
+
+/// A command on a client's current connection writes that client's row or removes it, and no other,
+/// unless it is a PUBLISH that is taken (MQTT 3.1.4).
+pub fn one_row_is_written()
+    ensures { OneRowIsWritten }
+{}
+
+/// A command on a connection that is nobody's leaves all rows, unless it is an accepted Connect.
+pub fn nobody_changes_nothing()
+    ensures { NobodyChangesNothing }
+{}
+
+/// A map from connections to clients that is kept in step finds the row that owns a connection.
+pub fn owner_is_found_by_map()
+    ensures { OwnerIsFoundByMap }
+{}
+
+/// An index that holds the sessions' subscriptions grants the sessions that match (MQTT 3.3.5).
+pub fn granted_rows_match()
+    ensures { GrantedRowsMatch }
+{}
+
+/// Room for a publication is wanting exactly where it is in a granted row.
+pub fn room_is_of_granted_rows()
+    ensures { RoomIsOfGrantedRows }
+{}
+
+/// What all clients are sent of a publication is what those of the granted rows are, in their order.
+pub fn answers_are_of_granted_rows()
+    ensures { AnswersAreOfGrantedRows }
+{}

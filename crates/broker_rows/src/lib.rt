@@ -1,0 +1,13 @@
+//! The step on all clients, taken apart into the rows that a command touches: which row it writes, and
+//! which rows a taken publication asks.
+#![tactic(auto)]
+
+mod laws;
+
+pub use laws::{
+    answers_are_of_granted_rows, granted_rows_match, nobody_changes_nothing, one_row_is_written,
+    owner_is_found_by_map, room_is_of_granted_rows,
+};
+
+#[cfg(test)]
+mod tests;

@@ -1,0 +1,14 @@
+use crate::*;
+use std::test::*;
+
+// The laws are calls that do nothing.
+#[test]
+fn laws_are_called() -> Result<(), Fail> {
+    one_row_is_written();
+    nobody_changes_nothing();
+    owner_is_found_by_map();
+    granted_rows_match();
+    room_is_of_granted_rows();
+    answers_are_of_granted_rows();
+    Ok(())
+}

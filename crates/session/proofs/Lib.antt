@@ -1,0 +1,7 @@
+mod FreeIdentifier
+mod FillsStepByStep
+mod ReleasedInPlace
+mod AnswersToPubrec
+mod OneIsRemoved
+pub mod GreatestOfAll
+pub mod FilterSet

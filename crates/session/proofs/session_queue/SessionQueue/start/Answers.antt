@@ -1,0 +1,14 @@
+use Rattle.std.proofs.Common.{◌∙◌, ap, sym, subst}
+use Rattle.session_base.specs.Publication.{is_acknowledged}
+use Rattle.session_base.specs.Queue.{Queue, is_pubcomp}
+use Rattle.session_base.specs.OrderLaws.{IsReleasedFirst}
+use Rattle.session_base.proofs.OrderInFlight.{first_more, not_yet}
+use Rattle.session.proofs.session_queue.SessionQueue.start.Goals as goal
+
+-- what starts is not released, and comes last
+pub returns-in_ok-put_last-clause-first : goal.returns-in_ok-put_last-clause-first
+returns-in_ok-put_last-clause-first c first =
+    subst IsReleasedFirst (sym c.in_ok-put_last.ensures.ok)
+    (first_more c.self.inside.in_flight.entries (c.free_id-id.result, c.awaits_of.result)
+    (ap is_pubcomp c.awaits_of.ensures ∙ not_yet (is_acknowledged c.in-Some.publication.qos) c.in-Some.publication)
+    (subst IsReleasedFirst (sym (ap (λ (q : Queue). q.in_flight) c.self.view_is)) first))

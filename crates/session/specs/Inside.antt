@@ -1,0 +1,45 @@
+-- What the private calls say: one start of a queue, an entry that is released, and filters.
+use Rattle.std.specs.Prelude.{◌≡◌, ℕ, suc, if◌then◌else◌, ◌==◌, false, bytes_eq, Option, Some, None, List, [], ◌∷◌, ◌++◌}
+use Rattle.std.specs.Map.{lookup, set_value}
+use Rattle.packet.specs.declared.qos.QoS.{QoS}
+use Rattle.packet.specs.declared.packet.Packet.{Packet}
+use Rattle.packet.specs.declared.packet.Packet.TheVariants as packets
+use Rattle.session_base.specs.declared.publication.Publication.{Publication}
+use Rattle.session_base.specs.declared.awaits.Awaits.TheVariants as waits_for
+use Rattle.session_base.specs.Publication.{publish_of, greater_qos}
+use Rattle.session_base.specs.Subscriptions.{HeldFilter}
+use Rattle.session_base.specs.Queue.{Flight, Queue, started_flight}
+
+abbrev pub started_with : List Flight → List Publication → Queue
+started_with flights (p ∷ waiting) = record { in_flight = flights ++ started_flight flights p ∷ []; waiting = waiting }
+started_with flights [] = record { in_flight = flights; waiting = [] }
+
+-- the first that waits starts
+abbrev pub started : Queue → Queue
+started queue = started_with queue.in_flight queue.waiting
+
+abbrev pub sends_with : List Flight → List Publication → List Packet
+sends_with flights (p ∷ waiting) = packets.Publish (publish_of false (started_flight flights p).0 p) ∷ []
+sends_with flights [] = []
+
+-- and is sent
+abbrev pub start_sends : Queue → List Packet
+start_sends queue = sends_with queue.in_flight queue.waiting
+
+-- the entry with this identifier waits for PUBREC
+abbrev pub IsAwaited : ℕ → List Flight → Type 0
+IsAwaited id fs = (p : Publication) × (lookup (λ other. id == other) fs ≡ Some (waits_for.Pubrec p))
+
+-- the entry with this identifier waits for PUBCOMP, in its place
+abbrev pub with_released : ℕ → List Flight → List Flight
+with_released id fs = set_value (λ other. id == other) fs waits_for.Pubcomp
+
+-- the greater QoS of two, each of which may be missing
+abbrev pub greater_of : Option QoS → Option QoS → Option QoS
+greater_of (Some q) other = Some (greater_qos q other)
+greater_of None other = other
+
+-- where a filter stands among those held, or how many there are
+abbrev pub place_of : List ℕ → List HeldFilter → ℕ
+place_of filter (held ∷ others) = if bytes_eq filter held.0 then 0 else suc (place_of filter others)
+place_of filter [] = 0

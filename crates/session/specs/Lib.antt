@@ -1,0 +1,9 @@
+pub mod Errors
+pub mod Filters
+pub mod Inside
+pub use Rattle.session_base.specs.Session
+pub use Rattle.session_base.specs.Queue
+pub use Rattle.session_base.specs.Sending
+pub use Rattle.session_base.specs.Subscriptions
+pub use Rattle.session_base.specs.Identifiers
+pub use Rattle.session_base.specs.Publication

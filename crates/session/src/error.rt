@@ -1,0 +1,61 @@
+// Why a session refused a publication.
+
+ghost use Rattle.std.specs.Prelude.{◌≡◌};
+ghost use Rattle.session.specs.Errors.{number_of};
+
+use std::alloc::{AllocError, AllocFailed};
+use std::error::Error;
+use std::fmt;
+
+/// Why a publication was not queued. The session is as it was before.
+#[derive(Clone, Copy, Debug, PartialEq, Eq)]
+pub enum EnqueueError {
+    /// The session holds as many entries as it may.
+    QueueFull,
+    /// No memory was found.
+    Memory,
+}
+
+impl EnqueueError {
+    /// The number of this refusal, the same in every program and document of this broker.
+    pub fn number(self) -> u8
+        ensures { result ≡ number_of self }
+    {
+        match self {
+            EnqueueError::QueueFull => 15,
+            EnqueueError::Memory => 12,
+        }
+    }
+}
+
+impl fmt::Display for EnqueueError {
+    fn fmt<W: fmt::Write>(&self, f: &mut fmt::Formatter<W>) -> fmt::Result {
+        let text = match self {
+            EnqueueError::QueueFull => "the session's queue is full",
+            EnqueueError::Memory => "out of memory",
+        };
+        write!(f, "{text}")
+    }
+}
+
+impl Error for EnqueueError {}
+
+impl From<AllocError> for EnqueueError {
+    ghost use Rattle.session.specs.declared.error.EnqueueError.TheVariants.{Memory};
+
+    ghost from_gives = { λ _ error. error ≡ Memory };
+
+    fn from(_error: AllocError) -> EnqueueError {
+        EnqueueError::Memory
+    }
+}
+
+impl<T: Drop> From<AllocFailed<T>> for EnqueueError {
+    ghost use Rattle.session.specs.declared.error.EnqueueError.TheVariants.{Memory};
+
+    ghost from_gives = { λ _ error. error ≡ Memory };
+
+    fn from(_error: AllocFailed<T>) -> EnqueueError {
+        EnqueueError::Memory
+    }
+}

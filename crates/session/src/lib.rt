@@ -1,0 +1,18 @@
+//! One client's session: its subscriptions, the QoS 2 identifiers that came in, and what goes out to
+//! it with the handshakes under way (MQTT 4.1, 4.3, 4.4, 4.6).
+#![tactic(auto)]
+
+mod arrival;
+mod error;
+mod received;
+mod sending;
+mod session;
+mod session_queue;
+mod subscriptions;
+
+pub use arrival::Arrival;
+pub use error::EnqueueError;
+pub use session::{MAX_ENTRIES, Session};
+
+#[cfg(test)]
+mod tests;

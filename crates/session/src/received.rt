@@ -1,0 +1,59 @@
+// The QoS 2 publications that came in and are not released (MQTT 4.3.3).
+
+ghost use Rattle.std.specs.Prelude.{◌≡◌, [], OnOk, OnErr};
+ghost use Rattle.lists.specs.Lists.{has_id};
+ghost use Rattle.session_base.specs.Identifiers.{with_id, without_id};
+
+use packet::PacketId;
+use std::alloc::{AllocError, Global};
+use std::collections::BTreeSet;
+use std::marker::Model;
+
+/// Identifiers of publications without a PUBREL, in rising order.
+#[derive(Drop)]
+pub(crate) struct Received {
+    ids: BTreeSet<PacketId>,
+}
+
+impl Model for Received {
+    ghost use Rattle.std.specs.Prelude.{List, ℕ};
+
+    ghost Value = { List ℕ };
+
+    ghost view = { λ received. received.ids.keys };
+}
+
+impl Received {
+    /// None.
+    pub(crate) fn new(alloc: Global) -> Received
+        ensures { result ≡ [] }
+    {
+        Received {
+            ids: BTreeSet::new(alloc),
+        }
+    }
+
+    /// Whether the identifier is among them.
+    pub(crate) fn contains(&self, id: PacketId) -> bool
+        ensures { result ≡ has_id id self.now }
+    {
+        self.ids.contains(&id)
+    }
+
+    /// One more, if it is new.
+    pub(crate) fn insert(&mut self, id: PacketId) -> Result<(), AllocError>
+        ensures ok { OnOk result (self.new ≡ with_id id self.old) }
+        ensures err { OnErr result (self.new ≡ self.old) }
+    {
+        self.ids.insert(id)?;
+        Ok(())
+    }
+
+    /// One less, if it is there. It takes no memory.
+    pub(crate) fn remove(&mut self, id: PacketId)
+        ensures { self.new ≡ without_id id self.old }
+    {
+        let _count = self.ids.len();
+        self.ids.remove(&id);
+    }
+}

@@ -1,0 +1,81 @@
+// The packets of entries, and what an entry waits for.
+
+ghost use Rattle.std.specs.Prelude.{◌≡◌, IfOk};
+ghost use Rattle.packet.specs.declared.packet.Packet.TheVariants as packets;
+ghost use Rattle.session_base.specs.Publication.{publish_of, delivery_at};
+ghost use Rattle.session_base.specs.Queue.{is_puback, is_pubrec, is_pubcomp, awaited};
+ghost use Rattle.session_base.specs.Sending.{sent_anew};
+
+use packet::{Delivery, Packet, PacketId, Publish, QoS};
+use session_base::{Awaits, Publication};
+use std::alloc::AllocError;
+
+/// Whether PUBACK is what is waited for.
+pub(crate) fn waits_for_puback(awaits: &Awaits) -> bool
+    ensures { result ≡ is_puback awaits.now }
+{
+    matches!(awaits, Awaits::Puback(_))
+}
+
+/// Whether PUBREC is.
+pub(crate) fn waits_for_pubrec(awaits: &Awaits) -> bool
+    ensures { result ≡ is_pubrec awaits.now }
+{
+    matches!(awaits, Awaits::Pubrec(_))
+}
+
+/// Whether PUBCOMP is: the entry is released.
+pub(crate) fn waits_for_pubcomp(awaits: &Awaits) -> bool
+    ensures { result ≡ is_pubcomp awaits.now }
+{
+    matches!(awaits, Awaits::Pubcomp)
+}
+
+/// What a publication waits for once it is sent.
+pub(crate) fn awaits_of(publication: Publication) -> Awaits
+    ensures { result ≡ awaited publication }
+{
+    match publication.qos {
+        QoS::AtLeastOnce => Awaits::Puback(publication),
+        QoS::AtMostOnce | QoS::ExactlyOnce => Awaits::Pubrec(publication),
+    }
+}
+
+/// The PUBLISH that carries a publication.
+pub(crate) fn publish_packet(
+    publication: &Publication,
+    dup: bool,
+    id: PacketId,
+) -> Result<Packet, AllocError>
+    ensures { IfOk result (λ packet. packet ≡ packets.Publish (publish_of dup id publication.now)) }
+{
+    Ok(Packet::Publish(Publish {
+        topic: publication.topic.clone()?,
+        delivery: delivery(publication.qos, dup, id),
+        retain: publication.retain,
+        payload: publication.payload.clone()?,
+    }))
+}
+
+/// What a client that comes back is sent of an entry: PUBLISH with DUP 1, or PUBREL for a released
+/// one (MQTT 4.4).
+pub(crate) fn packet_anew(id: PacketId, awaits: &Awaits) -> Result<Packet, AllocError>
+    ensures { IfOk result (λ packet. packet ≡ sent_anew id awaits.now) }
+{
+    match awaits {
+        Awaits::Puback(publication) | Awaits::Pubrec(publication) => {
+            publish_packet(publication, true, id)
+        }
+        Awaits::Pubcomp => Ok(Packet::Pubrel(id)),
+    }
+}
+
+fn delivery(qos: QoS, dup: bool, id: PacketId) -> Delivery
+    ensures { result ≡ delivery_at qos dup id }
+{
+    match qos {
+        QoS::AtMostOnce => Delivery::AtMostOnce,
+        QoS::AtLeastOnce => Delivery::AtLeastOnce(dup, id),
+        QoS::ExactlyOnce => Delivery::ExactlyOnce(dup, id),
+    }
+}

@@ -1,0 +1,202 @@
+// One client's session (MQTT 3.1.2.4, 4.1).
+
+ghost use Rattle.std.specs.Prelude.{◌≡◌, ◌≢◌, ◌<◌, ◌++◌, ◌↔◌, true, length, take, Ok, Err, OnOk, OnErr};
+ghost use Rattle.lists.specs.Lists.{has_id};
+ghost use Rattle.session_base.specs.Identifiers.{with_id, without_id};
+ghost use Rattle.session_base.specs.Subscriptions.{with_subscription, without_filter, granted_qos};
+ghost use Rattle.session_base.specs.Queue.{on_puback, on_pubrec, on_pubcomp, enqueue, room, filled};
+ghost use Rattle.session_base.specs.Sending.{fill_sends, resend, pubrec_sends};
+ghost use Rattle.session_base.specs.Session.{empty_session, with_filters, with_received, with_queue, with_flights};
+ghost use Rattle.session.specs.Filters.{is_held};
+ghost use Rattle.session.specs.declared.arrival.Arrival.TheVariants.{First, Again};
+ghost use Rattle.session.specs.declared.error.EnqueueError.TheVariants.{QueueFull};
+
+use crate::arrival::Arrival;
+use crate::error::EnqueueError;
+use crate::received::Received;
+use crate::session_queue::SessionQueue;
+use crate::subscriptions::Subscriptions;
+use packet::{Packet, PacketId, QoS};
+use session_base::{Publication, resend_keeps_the_order};
+use std::alloc::{AllocError, Global};
+use std::marker::Model;
+use topics::{Filter, TopicName};
+
+/// The most entries that a session holds, those in flight among them.
+pub const MAX_ENTRIES: usize = 4096;
+
+/// What stands in one client's session: its subscriptions, the identifiers of QoS 2 publications that
+/// came in, the entries in flight and those that wait.
+#[derive(Drop)]
+pub struct Session {
+    subscriptions: Subscriptions,
+    received: Received,
+    queue: SessionQueue,
+}
+
+impl Model for Session {
+    ghost use Rattle.session_base.specs.Session.{SessionState};
+    ghost use Rattle.session_base.specs.OrderLaws.{IsReleasedFirst};
+
+    ghost Value = { SessionState };
+
+    ghost view = { λ session. record { subscriptions = session.subscriptions; received = session.received; queue = session.queue } };
+
+    ghost invariant = { λ session. IsReleasedFirst session.queue.in_flight };
+}
+
+impl Session {
+    /// A session with nothing in it.
+    pub fn new(alloc: Global) -> Session
+        ensures { result ≡ empty_session }
+    {
+        Session {
+            subscriptions: Subscriptions::new(alloc),
+            received: Received::new(alloc),
+            queue: SessionQueue::new(alloc),
+        }
+    }
+
+    /// Takes in the identifier of a QoS 2 PUBLISH. Its DUP flag is not asked: a first delivery may
+    /// carry it (MQTT 3.3.1.1).
+    pub fn inbound(&mut self, id: PacketId) -> Result<Arrival, AllocError>
+        ensures again { (result ≡ Ok Again) ↔ (has_id id self.old.received ≡ true) }
+        ensures first { result ≡ Ok First → self.new ≡ with_received (with_id id self.old.received) self.old }
+
+        // A repeat and want of memory change nothing.
+        ensures same { result ≢ Ok First → self.new ≡ self.old }
+    {
+        if self.received.contains(id) {
+            return Ok(Arrival::Again);
+        }
+        self.received.insert(id)?;
+        Ok(Arrival::First)
+    }
+
+    /// Whether a QoS 2 PUBLISH with this identifier is another try.
+    pub fn is_received(&self, id: PacketId) -> bool
+        ensures { result ≡ has_id id self.now.received }
+    {
+        self.received.contains(id)
+    }
+
+    /// PUBREL: the identifier may come again.
+    pub fn release(&mut self, id: PacketId)
+        ensures { self.new ≡ with_received (without_id id self.old.received) self.old }
+    {
+        self.received.remove(id);
+    }
+
+    /// How many more entries the session takes.
+    pub fn room(&self) -> usize
+        ensures { result ≡ room 4096 self.now.queue }
+    {
+        self.queue.room(MAX_ENTRIES)
+    }
+
+    /// Queues a publication behind the others. It is sent by `fill`.
+    pub fn enqueue(&mut self, publication: Publication) -> Result<(), EnqueueError>
+        ensures ok { OnOk result (self.new ≡ with_queue (enqueue publication self.old.queue) self.old) }
+
+        // `QueueFull` comes exactly where there is no room.
+        ensures full { (result ≡ Err QueueFull) ↔ (room 4096 self.old.queue ≡ 0) }
+        ensures err { OnErr result (self.new ≡ self.old) }
+    {
+        if self.room() == 0 {
+            return Err(EnqueueError::QueueFull);
+        }
+        self.queue.enqueue(publication)?;
+        Ok(())
+    }
+
+    /// While fewer entries are in flight than the window, the first that waits starts with the least
+    /// free identifier, and its PUBLISH is appended (MQTT 4.6). Without memory what is appended may
+    /// be cut off, and so may the queue: the session is not to be used again.
+    pub fn fill(&mut self, window: usize, out: &mut Vec<Packet>) -> Result<(), AllocError>
+        requires { window < 65536 }
+        ensures state { OnOk result (self.new ≡ with_queue (filled window self.old.queue) self.old) }
+        ensures sends { OnOk result
+            (out.new.items
+            ≡ out.old.items ++ fill_sends window self.old.queue.in_flight self.old.queue.waiting) }
+        ensures kept { OnErr result (out.old.items ≡ take (length out.old.items) out.new.items) }
+    {
+        self.queue.fill(window, out)
+    }
+
+    /// PUBACK finishes the QoS 1 entry with this identifier (MQTT 4.3.2).
+    pub fn on_puback(&mut self, id: PacketId)
+        ensures { self.new ≡ with_queue (with_flights (on_puback id self.old.queue.in_flight) self.old.queue) self.old }
+    {
+        resend_keeps_the_order();
+        self.queue.on_puback(id);
+    }
+
+    /// PUBREC releases the QoS 2 entry with this identifier. PUBREL is appended where it did, or had
+    /// done before (MQTT 4.3.3). Without memory nothing changes.
+    pub fn on_pubrec(&mut self, id: PacketId, out: &mut Vec<Packet>) -> Result<(), AllocError>
+        ensures state { OnOk result
+            (self.new ≡ with_queue (with_flights (on_pubrec id self.old.queue.in_flight) self.old.queue) self.old) }
+        ensures sends { OnOk result
+            (out.new.items ≡ out.old.items ++ pubrec_sends id (on_pubrec id self.old.queue.in_flight)) }
+        ensures err { OnErr result (self.new ≡ self.old) }
+        ensures unsent { OnErr result (out.new.items ≡ out.old.items) }
+    {
+        resend_keeps_the_order();
+        self.queue.on_pubrec(id, out)
+    }
+
+    /// PUBCOMP finishes the released entry with this identifier (MQTT 4.3.3).
+    pub fn on_pubcomp(&mut self, id: PacketId)
+        ensures { self.new ≡ with_queue (with_flights (on_pubcomp id self.old.queue.in_flight) self.old.queue) self.old }
+    {
+        resend_keeps_the_order();
+        self.queue.on_pubcomp(id);
+    }
+
+    /// Appends what a client that comes back is sent of what is in flight: PUBREL for each released
+    /// entry, then PUBLISH with DUP 1 (MQTT 4.4).
+    pub fn resend(&self, out: &mut Vec<Packet>) -> Result<(), AllocError>
+        ensures ok { OnOk result (out.new.items ≡ out.old.items ++ resend self.now.queue.in_flight) }
+        ensures err { OnErr result (out.old.items ≡ take (length out.old.items) out.new.items) }
+    {
+        self.queue.resend(out)
+    }
+
+    /// Sets a subscription: an identical filter takes the new QoS in its place, and a new one comes
+    /// last (MQTT 3.8.4).
+    pub fn subscribe(&mut self, filter: Filter, qos: QoS) -> Result<(), AllocError>
+        ensures ok { OnOk result
+            (self.new ≡ with_filters (with_subscription (filter, qos) self.old.subscriptions) self.old) }
+        ensures err { OnErr result (self.new ≡ self.old) }
+    {
+        self.subscriptions.set(filter, qos)
+    }
+
+    /// Gives a subscription up, compared character by character (MQTT 3.10.4).
+    pub fn unsubscribe(&mut self, filter: &Filter)
+        ensures { self.new ≡ with_filters (without_filter filter.now self.old.subscriptions) self.old }
+    {
+        self.subscriptions.remove(filter);
+    }
+
+    /// Whether this filter is a subscription of the session.
+    pub fn has_subscription(&self, filter: &Filter) -> bool
+        ensures { result ≡ is_held filter.now self.now.subscriptions }
+    {
+        self.subscriptions.contains(filter)
+    }
+
+    /// How many subscriptions there are.
+    pub fn subscription_count(&self) -> usize
+        ensures { result ≡ length self.now.subscriptions }
+    {
+        self.subscriptions.len()
+    }
+
+    /// The greatest QoS of the subscriptions that match the topic, if one does (MQTT 3.3.5).
+    pub fn granted(&self, topic: &TopicName) -> Option<QoS>
+        ensures { result ≡ granted_qos topic.now self.now.subscriptions }
+    {
+        self.subscriptions.granted(topic)
+    }
+}

@@ -1,0 +1,244 @@
+// What goes out to a client: the entries in flight, and what waits (MQTT 4.3, 4.4, 4.6).
+
+ghost use Rattle.std.specs.Prelude.{◌≡◌, ◌<◌, ◌++◌, [], ◌∷◌, true, false, length, filter, take, OnOk, OnErr};
+ghost use Rattle.std.specs.List.{list_any};
+ghost use Rattle.lists.specs.Lists.{has_id};
+ghost use Rattle.session_base.specs.Identifiers.{least_free};
+ghost use Rattle.session_base.specs.Session.{with_flights};
+ghost use Rattle.session_base.specs.OrderLaws.{IsReleasedFirst};
+ghost use Rattle.session_base.specs.Sending.{fill_sends, resend, pubrec_sends};
+ghost use Rattle.session.specs.Inside.{started, start_sends, IsAwaited, with_released};
+ghost use Rattle.session_base.specs.Queue.{empty_queue, is_released, awaits_pubrec, awaits_pubcomp, on_puback, on_pubrec, on_pubcomp, released_with, enqueue, room, filled, ids_of};
+
+use crate::sending::{
+    awaits_of, packet_anew, publish_packet, waits_for_puback, waits_for_pubcomp, waits_for_pubrec,
+};
+use indexmap::IndexMap;
+use packet::{Packet, PacketId};
+use session_base::{Awaits, Publication, fill_takes_what_waits, resend_keeps_the_order};
+use std::alloc::{AllocError, AllocFailed, Global};
+use std::collections::VecDeque;
+use std::marker::Model;
+
+/// The entries in flight, the released ones first, and the publications that wait, in order.
+#[derive(Drop)]
+pub(crate) struct SessionQueue {
+    in_flight: IndexMap<PacketId, Awaits>,
+    waiting: VecDeque<Publication>,
+}
+
+impl Model for SessionQueue {
+    ghost use Rattle.session_base.specs.Queue.{Queue};
+
+    ghost Value = { Queue };
+
+    ghost view = { λ queue. record { in_flight = queue.in_flight.entries; waiting = queue.waiting.items } };
+}
+
+impl SessionQueue {
+    /// A queue with nothing in it.
+    pub(crate) fn new(alloc: Global) -> SessionQueue
+        ensures { result ≡ empty_queue }
+    {
+        SessionQueue {
+            in_flight: IndexMap::new(alloc),
+            waiting: VecDeque::new(alloc),
+        }
+    }
+
+    /// How many more entries fit below this limit.
+    pub(crate) fn room(&self, limit: usize) -> usize
+        ensures { result ≡ room limit self.now }
+    {
+        limit.saturating_sub(self.in_flight.len().saturating_add(self.waiting.len()))
+    }
+
+    /// A publication comes last.
+    pub(crate) fn enqueue(
+        &mut self,
+        publication: Publication,
+    ) -> Result<(), AllocFailed<Publication>>
+        ensures ok { OnOk result (self.new ≡ enqueue publication self.old) }
+        ensures err { OnErr result (self.new ≡ self.old) }
+    {
+        self.waiting.push_back(publication)
+    }
+
+    /// Starts what waits while fewer are in flight than the window, and appends what is sent.
+    pub(crate) fn fill(&mut self, window: usize, out: &mut Vec<Packet>) -> Result<(), AllocError>
+        requires { window < 65536 }
+        ensures state { OnOk result (self.new ≡ filled window self.old) }
+        ensures sends { OnOk result
+            (out.new.items ≡ out.old.items ++ fill_sends window self.old.in_flight self.old.waiting) }
+        ensures first { IsReleasedFirst self.old.in_flight → IsReleasedFirst self.new.in_flight }
+        ensures kept { OnErr result (out.old.items ≡ take (length out.old.items) out.new.items) }
+    {
+        let many = self.waiting.len();
+        for _ in 0..many {
+            if self.in_flight.len() >= window {
+                return Ok(());
+            }
+            self.start(out)?;
+        }
+        Ok(())
+    }
+
+    // Starts the first that waits.
+    fn start(&mut self, out: &mut Vec<Packet>) -> Result<(), AllocError>
+        requires { length self.old.in_flight < 65535 }
+        ensures state { OnOk result (self.new ≡ started self.old) }
+        ensures sends { OnOk result (out.new.items ≡ out.old.items ++ start_sends self.old) }
+        ensures first { IsReleasedFirst self.old.in_flight → IsReleasedFirst self.new.in_flight }
+        ensures kept { OnErr result (out.old.items ≡ take (length out.old.items) out.new.items) }
+    {
+        if let Some(publication) = self.waiting.pop_front() {
+            let id = free_id(&self.in_flight);
+            fill_takes_what_waits();
+            resend_keeps_the_order();
+            out.push(publish_packet(&publication, false, id)?)?;
+            put_last(&mut self.in_flight, id, awaits_of(publication))?;
+        }
+        Ok(())
+    }
+
+    /// PUBACK finishes the QoS 1 entry with this identifier.
+    pub(crate) fn on_puback(&mut self, id: PacketId)
+        ensures { self.new ≡ with_flights (on_puback id self.old.in_flight) self.old }
+    {
+        self.in_flight.retain(|other, awaits| !(id == *other && waits_for_puback(awaits)));
+    }
+
+    /// PUBREC releases the QoS 2 entry with this identifier, and is answered by PUBREL, also where
+    /// the entry was released before. Without memory nothing changes.
+    #[tactic(auto, using(crate::proofs::AnswersToPubrec::released_is_answered))]
+    pub(crate) fn on_pubrec(
+        &mut self,
+        id: PacketId,
+        out: &mut Vec<Packet>,
+    ) -> Result<(), AllocError>
+        requires { IsReleasedFirst self.old.in_flight }
+        ensures ok { OnOk result (self.new ≡ with_flights (on_pubrec id self.old.in_flight) self.old) }
+        ensures sends { OnOk result
+            (out.new.items ≡ out.old.items ++ pubrec_sends id (on_pubrec id self.old.in_flight)) }
+        ensures err { OnErr result (self.new ≡ self.old) }
+        ensures unsent { OnErr result (out.new.items ≡ out.old.items) }
+    {
+        if self.is_awaited(id) {
+            out.push(Packet::Pubrel(id))?;
+            self.release(id);
+        } else if self.is_released(id) {
+            out.push(Packet::Pubrel(id))?;
+        }
+        Ok(())
+    }
+
+    // Whether an entry with this identifier waits for PUBREC.
+    fn is_awaited(&self, id: PacketId) -> bool
+        ensures test { result ≡ list_any (awaits_pubrec id) self.now.in_flight }
+        ensures found { result ≡ true → IsAwaited id self.now.in_flight }
+    {
+        let _length = self.in_flight.len();
+        match self.in_flight.get(&id) {
+            Some(awaits) => waits_for_pubrec(awaits),
+            None => false,
+        }
+    }
+
+    // Whether one is released.
+    fn is_released(&self, id: PacketId) -> bool
+        ensures { result ≡ list_any (awaits_pubcomp id) self.now.in_flight }
+    {
+        let _length = self.in_flight.len();
+        match self.in_flight.get(&id) {
+            Some(awaits) => waits_for_pubcomp(awaits),
+            None => false,
+        }
+    }
+
+    // An entry that waits for PUBREC comes directly behind the released ones. An identifier that is
+    // in flight takes no memory.
+    fn release(&mut self, id: PacketId)
+        requires first { IsReleasedFirst self.old.in_flight }
+        requires awaited { IsAwaited id self.old.in_flight }
+        ensures { self.new ≡ with_flights (released_with id self.old.in_flight) self.old }
+    {
+        let behind = self.released();
+        if let Some(place) = self.in_flight.get_index_of(&id) {
+            mark_released(&mut self.in_flight, id);
+            self.in_flight.move_index(place, behind);
+        }
+    }
+
+    // How many entries are released.
+    fn released(&self) -> usize
+        ensures { result ≡ length (filter is_released self.now.in_flight) }
+    {
+        let _length = self.in_flight.len();
+        let mut many = 0;
+        for (_, awaits) in &self.in_flight {
+            if waits_for_pubcomp(awaits) {
+                many += 1;
+            }
+        }
+        many
+    }
+
+    /// PUBCOMP finishes the released entry with this identifier.
+    pub(crate) fn on_pubcomp(&mut self, id: PacketId)
+        ensures { self.new ≡ with_flights (on_pubcomp id self.old.in_flight) self.old }
+    {
+        self.in_flight.retain(|other, awaits| !(id == *other && waits_for_pubcomp(awaits)));
+    }
+
+    /// Appends what a client that comes back is sent of what is in flight, in its order.
+    pub(crate) fn resend(&self, out: &mut Vec<Packet>) -> Result<(), AllocError>
+        ensures ok { OnOk result (out.new.items ≡ out.old.items ++ resend self.now.in_flight) }
+        ensures err { OnErr result (out.old.items ≡ take (length out.old.items) out.new.items) }
+    {
+        for (id, awaits) in &self.in_flight {
+            out.push(packet_anew(*id, awaits)?)?;
+        }
+        Ok(())
+    }
+}
+
+// The least identifier that is not in flight.
+fn free_id(in_flight: &IndexMap<PacketId, Awaits>) -> PacketId
+    requires { length in_flight.now.entries < 65535 }
+    ensures { result ≡ least_free (ids_of in_flight.now.entries) }
+{
+    let mut number = 1;
+    for _ in 0..in_flight.len() {
+        let id = PacketId::new(number);
+        if !in_flight.contains_key(&id) {
+            return id;
+        }
+        number += 1;
+    }
+    PacketId::new(number)
+}
+
+// An entry comes behind those in flight.
+fn put_last(
+    in_flight: &mut IndexMap<PacketId, Awaits>,
+    id: PacketId,
+    awaits: Awaits,
+) -> Result<(), AllocError>
+    requires { has_id id (ids_of in_flight.old.entries) ≡ false }
+    ensures ok { OnOk result (in_flight.new.entries ≡ in_flight.old.entries ++ (id, awaits) ∷ []) }
+    ensures err { OnErr result (in_flight.new.entries ≡ in_flight.old.entries) }
+{
+    in_flight.insert(id, awaits)?;
+    Ok(())
+}
+
+// The entry with this identifier waits for PUBCOMP from now on. It stays in its place.
+fn mark_released(in_flight: &mut IndexMap<PacketId, Awaits>, id: PacketId)
+    requires { IsAwaited id in_flight.old.entries }
+    ensures entries { in_flight.new.entries ≡ with_released id in_flight.old.entries }
+    ensures len { length in_flight.new.entries ≡ length in_flight.old.entries }
+{
+    if let Some(awaits) = in_flight.get_mut(&id) {
+        *awaits = Awaits::Pubcomp;
+    }
+}

@@ -1,0 +1,117 @@
+// The subscriptions of a session (MQTT 3.8.4, 3.10.4).
+
+ghost use Rattle.std.specs.Prelude.{◌≡◌, [], OnOk, OnErr, length};
+ghost use Rattle.session_base.specs.Subscriptions.{with_subscription, without_filter, granted_qos};
+ghost use Rattle.session_base.specs.Publication.{greater_qos};
+ghost use Rattle.session.specs.Filters.{is_held};
+ghost use Rattle.session.specs.Inside.{place_of};
+
+use packet::QoS;
+use std::alloc::{AllocError, Global};
+use std::marker::Model;
+use topics::{Filter, TopicName, matches};
+
+/// Filters with the QoS at which each was granted last, in the order of their first granting.
+#[derive(Drop)]
+pub(crate) struct Subscriptions {
+    held: Vec<(Filter, QoS)>,
+}
+
+impl Model for Subscriptions {
+    ghost use Rattle.std.specs.Prelude.{List};
+    ghost use Rattle.session_base.specs.Subscriptions.{HeldFilter};
+
+    ghost Value = { List HeldFilter };
+
+    ghost view = { λ subscriptions. subscriptions.held.items };
+}
+
+impl Subscriptions {
+    /// None.
+    pub(crate) fn new(alloc: Global) -> Subscriptions
+        ensures { result ≡ [] }
+    {
+        Subscriptions {
+            held: Vec::new(alloc),
+        }
+    }
+
+    /// How many there are.
+    pub(crate) fn len(&self) -> usize
+        ensures { result ≡ length self.now }
+    {
+        self.held.len()
+    }
+
+    /// Whether the filter is among them.
+    pub(crate) fn contains(&self, filter: &Filter) -> bool
+        ensures { result ≡ is_held filter.now self.now }
+    {
+        for (held, _) in &self.held {
+            if *filter == *held {
+                return true;
+            }
+        }
+        false
+    }
+
+    /// An identical filter takes the new QoS in its place, and a new one comes last.
+    pub(crate) fn set(&mut self, filter: Filter, qos: QoS) -> Result<(), AllocError>
+        ensures ok { OnOk result (self.new ≡ with_subscription (filter, qos) self.old) }
+        ensures err { OnErr result (self.new ≡ self.old) }
+    {
+        let place = self.place_of(&filter);
+        if place < self.len() {
+            self.held[place].1 = qos;
+            return Ok(());
+        }
+        self.held.push((filter, qos))?;
+        Ok(())
+    }
+
+    // Where the filter stands, or how many there are.
+    fn place_of(&self, filter: &Filter) -> usize
+        ensures { result ≡ place_of filter.now self.now }
+    {
+        let _length = self.held.len();
+        let mut place = 0;
+        for (held, _) in &self.held {
+            if *filter == *held {
+                return place;
+            }
+            place += 1;
+        }
+        place
+    }
+
+    /// The filter is given up, if it is there. It takes no memory.
+    pub(crate) fn remove(&mut self, filter: &Filter)
+        ensures { self.new ≡ without_filter filter.now self.old }
+    {
+        self.held.retain(|held| !(*filter == held.0));
+    }
+
+    /// The greatest QoS of those that match the topic.
+    #[tactic(auto, using(crate::proofs::GreatestOfAll::one_more))]
+    pub(crate) fn granted(&self, topic: &TopicName) -> Option<QoS>
+        ensures { result ≡ granted_qos topic.now self.now }
+    {
+        let mut best = None;
+        for (filter, qos) in &self.held {
+            if matches(filter, topic) {
+                best = Some(greater(*qos, best));
+            }
+        }
+        best
+    }
+}
+
+// The greater of two, of which the second may be missing.
+fn greater(qos: QoS, best: Option<QoS>) -> QoS
+    ensures { result ≡ greater_qos qos best }
+{
+    match best {
+        Some(other) if qos.number() < other.number() => other,
+        _ => qos,
+    }
+}

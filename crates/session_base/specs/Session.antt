@@ -1,0 +1,31 @@
+-- What stands in one client's session (MQTT 3.1.2.4, 4.1): the record that a `Session` shows.
+use Rattle.std.specs.Prelude.{ℕ, List, []}
+use Rattle.session_base.specs.Subscriptions.{HeldFilter}
+use Rattle.session_base.specs.Queue.{Flight, Queue, empty_queue}
+
+-- its subscriptions, the identifiers of QoS 2 publications that came in and have no PUBREL, in rising order, and
+-- what goes out
+pub record SessionState : Type 0 where
+  pub subscriptions : List HeldFilter
+  pub received : List ℕ
+  pub queue : Queue
+
+-- nothing stands in it
+abbrev pub empty_session : SessionState
+empty_session = record { subscriptions = []; received = []; queue = empty_queue }
+
+-- a session with these subscriptions, and all else as it was
+abbrev pub with_filters : List HeldFilter → SessionState → SessionState
+with_filters filters old = record { subscriptions = filters; received = old.received; queue = old.queue }
+
+-- with these received identifiers
+abbrev pub with_received : List ℕ → SessionState → SessionState
+with_received ids old = record { subscriptions = old.subscriptions; received = ids; queue = old.queue }
+
+-- with this queue
+abbrev pub with_queue : Queue → SessionState → SessionState
+with_queue queue old = record { subscriptions = old.subscriptions; received = old.received; queue = queue }
+
+-- a queue with these entries in flight
+abbrev pub with_flights : List Flight → Queue → Queue
+with_flights flights old = record { in_flight = flights; waiting = old.waiting }

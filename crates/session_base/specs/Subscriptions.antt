@@ -1,0 +1,35 @@
+-- The subscriptions of a session, and at which QoS it gets a publication (MQTT 3.3.5, 3.8.4, 3.10.4).
+use Rattle.std.specs.Prelude.{ℕ, not, if◌then◌else◌, List, [], ◌∷◌, filter, bytes_eq, Option, Some, None}
+use Rattle.topics.specs.Matching.{is_match}
+use Rattle.packet.specs.declared.qos.QoS.{QoS}
+use Rattle.session_base.specs.Publication.{greater_qos}
+
+-- a filter of a session, with the QoS at which it was granted last
+abbrev pub HeldFilter : Type 0
+HeldFilter = List ℕ × QoS
+
+-- an identical filter takes the new QoS in its place, and a new one comes last (MQTT 3.8.4)
+abbrev pub with_subscription : HeldFilter → List HeldFilter → List HeldFilter
+with_subscription new (old ∷ others) =
+    if bytes_eq new.0 old.0 then (old.0, new.1) ∷ others else old ∷ with_subscription new others
+with_subscription new [] = new ∷ []
+
+-- all of these, one by one
+abbrev pub with_subscriptions : List HeldFilter → List HeldFilter → List HeldFilter
+with_subscriptions (new ∷ more) held = with_subscriptions more (with_subscription new held)
+with_subscriptions [] held = held
+
+-- a filter is given up, compared character by character (MQTT 3.10.4)
+abbrev pub without_filter : List ℕ → List HeldFilter → List HeldFilter
+without_filter given_up = filter (λ held. not (bytes_eq given_up held.0))
+
+-- all of these, one by one
+abbrev pub without_filters : List (List ℕ) → List HeldFilter → List HeldFilter
+without_filters (given_up ∷ more) held = without_filters more (without_filter given_up held)
+without_filters [] held = held
+
+-- the greatest QoS of the filters that match the topic (MQTT 3.3.5)
+abbrev pub granted_qos : List ℕ → List HeldFilter → Option QoS
+granted_qos topic (held ∷ others) =
+    if is_match held.0 topic then Some (greater_qos held.1 (granted_qos topic others)) else granted_qos topic others
+granted_qos topic [] = None
