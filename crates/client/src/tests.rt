@@ -36,7 +36,7 @@ enum Act<'a> {
     Bytes(&'a [u8]),
     Subscribe,
     Unsubscribe,
-    Publish(QoS, &'a str),
+    Publish(QoS, u8),
 }
 
 // An act, what it is answered with, what is written then, and how many publications are kept and
@@ -79,16 +79,16 @@ fn new_client(alloc: Global) -> Result<ClientCore, Fail> {
     Ok(ClientCore::new(alloc, client, 0))
 }
 
-// Publishes a text on `t/1`.
+// Publishes one byte on `t/1`.
 fn publish(
     client: &mut ClientCore,
     alloc: Global,
     qos: QoS,
-    text: &str,
+    payload: u8,
 ) -> Result<Option<ClientError>, Fail> {
     let topic = TopicName::new(alloc, "t/1").ok();
     let topic = topic.ok_or("memory is left").map_err(Fail::from)?;
-    let payload = Payload::new(alloc, text.as_bytes())?;
+    let payload = Payload::new(alloc, &[payload])?;
     Ok(client.publish(topic, qos, false, payload).err())
 }
 
@@ -119,7 +119,7 @@ fn done(client: &mut ClientCore, alloc: Global, act: Act) -> Result<Option<Clien
         Act::Bytes(bytes) => Ok(client.on_bytes(bytes).err()),
         Act::Subscribe => ask(client, alloc, true),
         Act::Unsubscribe => ask(client, alloc, false),
-        Act::Publish(qos, text) => publish(client, alloc, qos, text),
+        Act::Publish(qos, payload) => publish(client, alloc, qos, payload),
     }
 }
 

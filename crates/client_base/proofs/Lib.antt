@@ -9,3 +9,8 @@ pub mod FollowsConnack
 pub mod FollowsCalls
 pub mod FollowsHandled
 pub mod Follows
+pub mod PublishingOrder
+pub mod NumbersStay
+pub mod IdentifiersApart
+pub mod IdentifiersStay
+pub mod IdentifiersOfRuns

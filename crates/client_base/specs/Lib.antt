@@ -10,3 +10,5 @@ pub mod Handled
 pub mod Called
 pub mod History
 pub mod HistoryLaws
+pub mod IdentifierLaws
+pub mod OrderLaws

@@ -1,6 +1,8 @@
 // Laws of the keeper's steps. The calls do nothing but call those that their laws rest on.
 
 ghost use Rattle.client_base.specs.HistoryLaws.{CallsFollow};
+ghost use Rattle.client_base.specs.IdentifierLaws.{IdentifiersAreDistinct, RequestsAreApart};
+ghost use Rattle.client_base.specs.OrderLaws.{GoesOutInOrder, NumbersStay};
 ghost use Rattle.client_base.specs.Laws.{AcceptsUnlessKept, StaysKept};
 
 use session_base::fill_takes_what_waits;
@@ -19,3 +21,19 @@ pub fn history_is_followed()
 {
     fill_takes_what_waits();
 }
+
+/// Whatever a client is asked for and the server sends, no identifier is under way twice, and none
+/// is a publication's and a request's at once (MQTT 2.3.1).
+pub fn identifiers_are_distinct()
+    ensures distinct { IdentifiersAreDistinct }
+    ensures apart { RequestsAreApart }
+{
+    fill_takes_what_waits();
+}
+
+/// Publications keep the numbers of their calls, and behind each CONNACK 0 those that were not
+/// released go out in this order (MQTT 4.4, 4.6).
+pub fn publishing_order_is_kept()
+    ensures stay { NumbersStay }
+    ensures order { GoesOutInOrder }
+{}

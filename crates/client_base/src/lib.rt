@@ -12,7 +12,10 @@ mod stage;
 pub use accepted::Accepted;
 pub use error::ClientError;
 pub use kept_publication::KeptPublication;
-pub use laws::{accepted_once_an_identifier, history_is_followed};
+pub use laws::{
+    accepted_once_an_identifier, history_is_followed, identifiers_are_distinct,
+    publishing_order_is_kept,
+};
 pub use request::Request;
 pub use stage::Stage;
 

@@ -1,4 +1,7 @@
-use crate::{ClientError, Request, Stage, accepted_once_an_identifier, history_is_followed};
+use crate::{
+    ClientError, Request, Stage, accepted_once_an_identifier, history_is_followed,
+    identifiers_are_distinct, publishing_order_is_kept,
+};
 use packet::PacketId;
 use std::test::Fail;
 use topics::MalformedKind;
@@ -31,5 +34,7 @@ fn requests_are_compared(rt: HostRuntime) -> Result<(), Fail> {
 fn laws_are_called() -> Result<(), Fail> {
     accepted_once_an_identifier();
     history_is_followed();
+    identifiers_are_distinct();
+    publishing_order_is_kept();
     Ok(())
 }

@@ -11,7 +11,7 @@ fn client_speaks(rt: HostRuntime) -> Result<(), Fail> {
         writes(Act::Open, &CONNECT, 0, 0),
         writes(Act::Bytes(&ACCEPTED), &NOTHING, 0, 0),
         writes(Act::Subscribe, &subscribe, 0, 0),
-        writes(Act::Publish(QoS::ExactlyOnce, "x"), &second, 1, 0),
+        writes(Act::Publish(QoS::ExactlyOnce, b'x'), &second, 1, 0),
     ];
     play(&rt, rt.alloc(), &rows)?;
     Ok(())
@@ -20,18 +20,19 @@ fn client_speaks(rt: HostRuntime) -> Result<(), Fail> {
 // SUBACK gives its identifier up, and does not answer an UNSUBSCRIBE.
 #[test]
 fn only_its_own_answer_ends_a_request(rt: HostRuntime) -> Result<(), Fail> {
-    let unsubscribe = [0xA2, 0x07, 0x00, 0x01, 0x00, 0x03, 0x74, 0x2F, 0x23];
-    let suback = [0x90, 0x03, 0x00, 0x01, 0x02];
-    let second = [0x32, 0x08, 0x00, 0x03, 0x74, 0x2F, 0x31, 0x00, 0x02, 0x79];
-    let first = [0x32, 0x08, 0x00, 0x03, 0x74, 0x2F, 0x31, 0x00, 0x01, 0x79];
+    const UNSUBSCRIBE: [u8; 9] = [0xA2, 0x07, 0x00, 0x01, 0x00, 0x03, 0x74, 0x2F, 0x23];
+    const SUBACK: [u8; 5] = [0x90, 0x03, 0x00, 0x01, 0x02];
+    const SECOND: [u8; 10] = [0x32, 0x08, 0x00, 0x03, 0x74, 0x2F, 0x31, 0x00, 0x02, 0x79];
+    const FIRST: [u8; 10] = [0x32, 0x08, 0x00, 0x03, 0x74, 0x2F, 0x31, 0x00, 0x01, 0x79];
+    const UNSUBACK: [u8; 4] = [0xB0, 0x02, 0x00, 0x01];
     let rows = [
         writes(Act::Open, &CONNECT, 0, 0),
         writes(Act::Bytes(&ACCEPTED), &NOTHING, 0, 0),
-        writes(Act::Unsubscribe, &unsubscribe, 0, 0),
-        writes(Act::Bytes(&suback), &NOTHING, 0, 0),
-        writes(Act::Publish(QoS::AtLeastOnce, "y"), &second, 1, 0),
-        writes(Act::Bytes(&[0xB0, 0x02, 0x00, 0x01]), &NOTHING, 1, 0),
-        writes(Act::Publish(QoS::AtLeastOnce, "y"), &first, 2, 0),
+        writes(Act::Unsubscribe, &UNSUBSCRIBE, 0, 0),
+        writes(Act::Bytes(&SUBACK), &NOTHING, 0, 0),
+        writes(Act::Publish(QoS::AtLeastOnce, b'y'), &SECOND, 1, 0),
+        writes(Act::Bytes(&UNSUBACK), &NOTHING, 1, 0),
+        writes(Act::Publish(QoS::AtLeastOnce, b'y'), &FIRST, 2, 0),
     ];
     play(&rt, rt.alloc(), &rows)?;
     Ok(())

@@ -6,27 +6,30 @@ use super::*;
 // in which they were published, and at last what was published offline.
 #[test]
 fn kept_publications_go_out_again(rt: HostRuntime) -> Result<(), Fail> {
-    let two = QoS::ExactlyOnce;
-    let first = [0x34, 0x08, 0x00, 0x03, 0x74, 0x2F, 0x31, 0x00, 0x01, 0x78];
-    let second = [0x34, 0x08, 0x00, 0x03, 0x74, 0x2F, 0x31, 0x00, 0x02, 0x79];
-    let pubrel = [0x62, 0x02, 0x00, 0x02];
-    let again = [
+    const FIRST: [u8; 10] = [0x34, 0x08, 0x00, 0x03, 0x74, 0x2F, 0x31, 0x00, 0x01, 0x78];
+    const SECOND: [u8; 10] = [0x34, 0x08, 0x00, 0x03, 0x74, 0x2F, 0x31, 0x00, 0x02, 0x79];
+    const PUBREL: [u8; 4] = [0x62, 0x02, 0x00, 0x02];
+    const AGAIN: [u8; 24] = [
         0x62, 0x02, 0x00, 0x02, 0x3C, 0x08, 0x00, 0x03, 0x74, 0x2F, 0x31, 0x00, 0x01, 0x78, 0x32,
         0x08, 0x00, 0x03, 0x74, 0x2F, 0x31, 0x00, 0x03, 0x77,
     ];
+    const PUBREC_2: [u8; 4] = [0x50, 0x02, 0x00, 0x02];
+    const PUBCOMP_2: [u8; 4] = [0x70, 0x02, 0x00, 0x02];
+    const PUBACK_3: [u8; 4] = [0x40, 0x02, 0x00, 0x03];
+    let two = QoS::ExactlyOnce;
     let rows = [
         writes(Act::Open, &CONNECT, 0, 0),
         writes(Act::Bytes(&ACCEPTED), &NOTHING, 0, 0),
-        writes(Act::Publish(two, "x"), &first, 1, 0),
-        writes(Act::Publish(two, "y"), &second, 2, 0),
-        writes(Act::Bytes(&[0x50, 0x02, 0x00, 0x02]), &pubrel, 2, 0),
+        writes(Act::Publish(two, b'x'), &FIRST, 1, 0),
+        writes(Act::Publish(two, b'y'), &SECOND, 2, 0),
+        writes(Act::Bytes(&PUBREC_2), &PUBREL, 2, 0),
         writes(Act::Lost, &NOTHING, 2, 0),
-        writes(Act::Publish(QoS::AtLeastOnce, "w"), &NOTHING, 3, 0),
+        writes(Act::Publish(QoS::AtLeastOnce, b'w'), &NOTHING, 3, 0),
         writes(Act::Open, &CONNECT, 3, 0),
-        writes(Act::Bytes(&PRESENT), &again, 3, 0),
-        writes(Act::Bytes(&[0x50, 0x02, 0x00, 0x02]), &pubrel, 3, 0),
-        writes(Act::Bytes(&[0x70, 0x02, 0x00, 0x02]), &NOTHING, 2, 0),
-        writes(Act::Bytes(&[0x40, 0x02, 0x00, 0x03]), &NOTHING, 1, 0),
+        writes(Act::Bytes(&PRESENT), &AGAIN, 3, 0),
+        writes(Act::Bytes(&PUBREC_2), &PUBREL, 3, 0),
+        writes(Act::Bytes(&PUBCOMP_2), &NOTHING, 2, 0),
+        writes(Act::Bytes(&PUBACK_3), &NOTHING, 1, 0),
     ];
     let client = play(&rt, rt.alloc(), &rows)?;
     assert!(rt; client.present());
@@ -38,18 +41,18 @@ fn kept_publications_go_out_again(rt: HostRuntime) -> Result<(), Fail> {
 fn the_seventeenth_is_refused(rt: HostRuntime) -> Result<(), Fail> {
     let mut client = new_client(rt.alloc())?;
     for kept in 1..17 {
-        let kept = writes(Act::Publish(QoS::ExactlyOnce, "x"), &NOTHING, kept, 0);
+        let kept = writes(Act::Publish(QoS::ExactlyOnce, b'x'), &NOTHING, kept, 0);
         check(&rt, rt.alloc(), &mut client, &kept)?;
     }
     let full = refused(
-        Act::Publish(QoS::AtLeastOnce, "x"),
+        Act::Publish(QoS::AtLeastOnce, b'x'),
         ClientError::WindowFull,
         16,
         0,
     );
     check(&rt, rt.alloc(), &mut client, &full)?;
     let offline = refused(
-        Act::Publish(QoS::AtMostOnce, "x"),
+        Act::Publish(QoS::AtMostOnce, b'x'),
         ClientError::NotActive,
         16,
         0,
@@ -61,17 +64,17 @@ fn the_seventeenth_is_refused(rt: HostRuntime) -> Result<(), Fail> {
 // is behind its CONNACK is handled by the next call.
 #[test]
 fn a_lost_session_forgets(rt: HostRuntime) -> Result<(), Fail> {
-    let first = [0x34, 0x08, 0x00, 0x03, 0x74, 0x2F, 0x31, 0x00, 0x01, 0x78];
-    let connack = [
+    const FIRST: [u8; 10] = [0x34, 0x08, 0x00, 0x03, 0x74, 0x2F, 0x31, 0x00, 0x01, 0x78];
+    const CONNACK: [u8; 14] = [
         0x20, 0x02, 0x00, 0x00, 0x34, 0x08, 0x00, 0x03, 0x74, 0x2F, 0x31, 0x00, 0x01, 0x78,
     ];
     let rows = [
         writes(Act::Open, &CONNECT, 0, 0),
         writes(Act::Bytes(&ACCEPTED), &NOTHING, 0, 0),
-        writes(Act::Publish(QoS::ExactlyOnce, "x"), &first, 1, 0),
+        writes(Act::Publish(QoS::ExactlyOnce, b'x'), &FIRST, 1, 0),
         writes(Act::Bytes(&PUBLISH), &PUBREC, 1, 1),
         writes(Act::Open, &CONNECT, 1, 1),
-        refused(Act::Bytes(&connack), ClientError::SessionLost, 0, 1),
+        refused(Act::Bytes(&CONNACK), ClientError::SessionLost, 0, 1),
         writes(Act::Bytes(&NOTHING), &PUBREC, 0, 2),
     ];
     let client = play(&rt, rt.alloc(), &rows)?;

@@ -1,0 +1,43 @@
+-- What is kept goes out in the order in which it was published (MQTT 4.6).
+use Rattle.std.specs.Prelude.{◌≡◌, ℕ, ◌<◌, suc, List, [], ◌∷◌, ◌++◌, Option, Some, None}
+use Rattle.client_base.specs.Keeper.{Own, Written, Side}
+use Rattle.client_base.specs.Written.{sent_again, sent_first}
+use Rattle.client_base.specs.Steps.{Call}
+use Rattle.client_base.specs.Called.{keeper_goes}
+use Rattle.client_base.specs.History.{IsSentFirst}
+
+abbrev pub number_in : Own → ℕ
+number_in (Own.Unsent k p id) = k
+number_in (Own.Sent k p id) = k
+number_in (Own.Released k p id) = k
+number_in (Own.Done k p) = k
+
+-- from this number on, each publication has the number of its place
+abbrev pub AreNumbered : ℕ → List Own → Type 0
+AreNumbered n (o ∷ own) = (number_in o ≡ n) × AreNumbered (suc n) own
+AreNumbered n [] = Unit {0}
+
+-- the publications of which these packets are
+abbrev pub numbers_of : List Written → List ℕ
+numbers_of (w ∷ more) = with_number w.number (numbers_of more)
+  where
+    with_number : Option ℕ → List ℕ → List ℕ
+    with_number (Some k) ks = k ∷ ks
+    with_number None ks = ks
+numbers_of [] = []
+
+-- each is above the one before it, and the first is not below this
+abbrev pub RisesFrom : ℕ → List ℕ → Type 0
+RisesFrom n (k ∷ ks) = (n < suc k) × RisesFrom (suc k) ks
+RisesFrom n [] = Unit {0}
+
+-- numbers stay with their places, whatever is called or comes
+abbrev pub NumbersStay : Type 0
+NumbersStay =
+    (call : Call) (fresh : ℕ) (side : Side ℕ) →
+    AreNumbered 0 side.keeper.own → AreNumbered 0 (keeper_goes fresh call side).keeper.own
+
+-- what a CONNACK 0 makes go out of it, again or for the first time, goes out in the order of the calls
+abbrev pub GoesOutInOrder : Type 0
+GoesOutInOrder =
+    (own : List Own) → AreNumbered 0 own → IsSentFirst own → RisesFrom 0 (numbers_of (sent_again own ++ sent_first own))
