@@ -6,3 +6,5 @@ pub mod OrderInFlight
 pub mod CopiesOneByOne
 pub mod PubrecAlone
 pub mod IdentifiersStayApart
+pub mod FiltersApart
+pub mod ReceivedRise
