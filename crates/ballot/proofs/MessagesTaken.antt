@@ -2,59 +2,61 @@
 use Rattle.std.proofs.Common.{◌≡◌, ℕ, ◌<◌, ◌≤◌, Bool, true, false, cond, ◌⊎◌, inl, inr, List, [], ◌∷◌, ◌++◌, length, max, take, drop, refl, ap, sym, ◌∙◌, subst, arith}
 use Rattle.std.proofs.lemmas.List.{append-nil, length-append, take_at}
 use Rattle.std.proofs.lemmas.Bool.{eq-eqb}
-use Rattle.machine.specs.Machine.{Rules}
+use Rattle.machine.specs.Machine.{Rules, replay_from}
 use Rattle.ballot_base.specs.declared.message.Body.TheVariants.{Held}
 use Rattle.ballot_base.specs.declared.message.Effect.{Effect}
 use Rattle.ballot_base.specs.declared.status.Progress.{Progress}
 use Rattle.ballot_base.specs.Replica.{ReplicaState, CountedReplica}
 use Rattle.ballot_base.specs.Losses.{Stepped, Steps, Loses, IsQuiet, halted, one_more}
 use Rattle.ballot_base.specs.Sending.{Outcome, nothing_done, message_to}
+use Rattle.ballot_base.specs.Applying.{applied_to}
 use Rattle.ballot_base.specs.Serving.{least, raised, follows, leads, extended, commit_at, on_append, on_held, on_commit}
+use Rattle.ballot_base.proofs.AppliesInOrder.{part_none}
 use Rattle.ballot_base.proofs.StepRows.{commit_at-goes}
 use Rattle.ballot_base.proofs.MessageRows.{commit_at-raised, progress_raised, on_append-takes, on_held-raises, on_commit-takes}
 use Rattle.ballot.specs.Inside.{Sends, Went}
 use Rattle.lists.specs.Lists.{IsPrefixOf}
 
 -- such a step is one with losses that was counted
-pub went_stepped : {C O : Type 0} {old : CountedReplica C} {o : Outcome C O} {new : CountedReplica C} {before behind : List (Effect C O)} →
-    Went old o new before behind → Stepped old o new before behind
-went_stepped {old = old} {o = o} {new = new} w =
+pub went_stepped : {S C O : Type 0} {rules : Rules S C O} {old : CountedReplica S C} {o : Outcome S C O} {new : CountedReplica S C} {before behind : List (Effect C O)} →
+    Went rules old o new before behind → Stepped rules old o new before behind
+went_stepped {rules = rules} {old = old} {o = o} {new = new} w =
     record { given = w.given; appended = w.appended; steps = by_way w.way }
   where
     by_way : ((new.state ≡ o.state) × (w.given ≡ o.effects) × (new.losses ≡ old.losses))
-        ⊎ (Loses old.state o new.state w.given × (new.losses ≡ one_more old.losses) × (IsQuiet old.state o → ⊥)) →
-        Steps old o new w.given
+        ⊎ (Loses rules old.state o new.state w.given × (new.losses ≡ one_more old.losses) × (IsQuiet old.state o → ⊥)) →
+        Steps rules old o new w.given
     by_way (inl e) = inl e
     by_way (inr e) = inr (e.0, e.1)
 
 -- a quiet step is done exactly
-pub went_quiet : {C O : Type 0} {old : CountedReplica C} {o : Outcome C O} {new : CountedReplica C} {before behind : List (Effect C O)} →
-    Went old o new before behind → IsQuiet old.state o → new ≡ record { state = o.state; losses = old.losses }
-went_quiet {C = C} {old = old} {o = o} {new = new} w quiet = by_way w.way
+pub went_quiet : {S C O : Type 0} {rules : Rules S C O} {old : CountedReplica S C} {o : Outcome S C O} {new : CountedReplica S C} {before behind : List (Effect C O)} →
+    Went rules old o new before behind → IsQuiet old.state o → new ≡ record { state = o.state; losses = old.losses }
+went_quiet {S = S} {C = C} {rules = rules} {old = old} {o = o} {new = new} w quiet = by_way w.way
   where
     by_way : ((new.state ≡ o.state) × (w.given ≡ o.effects) × (new.losses ≡ old.losses))
-        ⊎ (Loses old.state o new.state w.given × (new.losses ≡ one_more old.losses) × (IsQuiet old.state o → ⊥)) →
+        ⊎ (Loses rules old.state o new.state w.given × (new.losses ≡ one_more old.losses) × (IsQuiet old.state o → ⊥)) →
         new ≡ record { state = o.state; losses = old.losses }
     by_way (inl e) =
-        ap (λ s. let z : CountedReplica C = record { state = s; losses = new.losses } in z) e.0
-        ∙ ap (λ n. let z : CountedReplica C = record { state = o.state; losses = n } in z) e.2
+        ap (λ s. let z : CountedReplica S C = record { state = s; losses = new.losses } in z) e.0
+        ∙ ap (λ n. let z : CountedReplica S C = record { state = o.state; losses = n } in z) e.2
     by_way (inr e) = absurd (e.2 quiet)
 
 -- the row changes nothing, and nothing was done
-pub went_same : {C O : Type 0} (old : CountedReplica C) (o : Outcome C O) (out : List (Effect C O)) →
-    o ≡ nothing_done O old.state → Went old o old out out
-went_same {C = C} {O = O} old o out e =
+pub went_same : {S C O : Type 0} {rules : Rules S C O} (old : CountedReplica S C) (o : Outcome S C O) (out : List (Effect C O)) →
+    o ≡ nothing_done O old.state → Went rules old o old out out
+went_same {S = S} {C = C} {O = O} {rules = rules} old o out e =
     record {
       given = [];
       appended = sym (append-nil out);
-      way = inl (ap (λ (z : Outcome C O). z.state) (sym e), ap (λ (z : Outcome C O). z.effects) (sym e), refl);
+      way = inl (ap (λ (z : Outcome S C O). z.state) (sym e), ap (λ (z : Outcome S C O). z.effects) (sym e), refl);
     }
 
 -- the row was done, but for messages that were lost
-pub went_sent : {C O : Type 0} (old : CountedReplica C) (o : Outcome C O) (new : CountedReplica C) (before behind : List (Effect C O))
+pub went_sent : {S C O : Type 0} {rules : Rules S C O} (old : CountedReplica S C) (o : Outcome S C O) (new : CountedReplica S C) (before behind : List (Effect C O))
     (whole : Bool) → Sends before behind o.effects whole → new.state ≡ o.state →
-    new.losses ≡ cond whole old.losses (one_more old.losses) → Went old o new before behind
-went_sent {C = C} {O = O} old o new before behind whole sent state losses =
+    new.losses ≡ cond whole old.losses (one_more old.losses) → Went rules old o new before behind
+went_sent {S = S} {C = C} {O = O} {rules = rules} old o new before behind whole sent state losses =
     record {
       given = sent.given;
       appended = sent.appended;
@@ -64,14 +66,14 @@ went_sent {C = C} {O = O} old o new before behind whole sent state losses =
     by_whole : (whole : Bool) → (whole ≡ true → sent.given ≡ o.effects) → (o.effects ≡ [] → whole ≡ true) →
         new.losses ≡ cond whole old.losses (one_more old.losses) →
         ((new.state ≡ o.state) × (sent.given ≡ o.effects) × (new.losses ≡ old.losses))
-        ⊎ (Loses old.state o new.state sent.given × (new.losses ≡ one_more old.losses) × (IsQuiet old.state o → ⊥))
+        ⊎ (Loses rules old.state o new.state sent.given × (new.losses ≡ one_more old.losses) × (IsQuiet old.state o → ⊥))
     by_whole true exact idle e = inl (state, exact refl, e)
     by_whole false exact idle e = inr (inl (state, sent.thinned), e, λ quiet. let h = idle quiet.nothing_sent in cc)
 
 -- nothing was done, for want of memory
-pub went_ignored : {C O : Type 0} (old : CountedReplica C) (o : Outcome C O) (new : CountedReplica C) (before behind : List (Effect C O)) →
+pub went_ignored : {S C O : Type 0} {rules : Rules S C O} (old : CountedReplica S C) (o : Outcome S C O) (new : CountedReplica S C) (before behind : List (Effect C O)) →
     new.state ≡ old.state → new.losses ≡ one_more old.losses → behind ≡ before → (IsQuiet old.state o → ⊥) →
-    Went old o new before behind
+    Went rules old o new before behind
 went_ignored old o new before behind state losses same busy =
     record {
       given = [];
@@ -80,9 +82,9 @@ went_ignored old o new before behind state losses same busy =
     }
 
 -- the replica stopped, for want of memory
-pub went_halted : {C O : Type 0} (old : CountedReplica C) (o : Outcome C O) (new : CountedReplica C) (before behind : List (Effect C O)) →
-    new.state ≡ halted old.state → new.losses ≡ one_more old.losses → behind ≡ before → (IsQuiet old.state o → ⊥) →
-    Went old o new before behind
+pub went_halted : {S C O : Type 0} {rules : Rules S C O} (old : CountedReplica S C) (o : Outcome S C O) (new : CountedReplica S C) (before behind : List (Effect C O)) →
+    new.state ≡ halted rules old.state → new.losses ≡ one_more old.losses → behind ≡ before → (IsQuiet old.state o → ⊥) →
+    Went rules old o new before behind
 went_halted old o new before behind state losses same busy =
     record {
       given = [];
@@ -91,8 +93,8 @@ went_halted old o new before behind state losses same busy =
     }
 
 -- where nothing was handed out, nothing was
-pub went_silent : {C O : Type 0} {old : CountedReplica C} {o : Outcome C O} {new : CountedReplica C} (out : List (Effect C O)) →
-    Went old o new [] [] → Went old o new out out
+pub went_silent : {S C O : Type 0} {rules : Rules S C O} {old : CountedReplica S C} {o : Outcome S C O} {new : CountedReplica S C} (out : List (Effect C O)) →
+    Went rules old o new [] [] → Went rules old o new out out
 went_silent out w =
     record { given = w.given; appended = sym (ap (λ xs. out ++ xs) (sym w.appended) ∙ append-nil out); way = w.way }
 
@@ -102,62 +104,62 @@ longer xs ys x e f =
     let n : length xs ≡ length (xs ++ x ∷ []) = ap length (sym f ∙ e) in omega (arith, n, length-append xs (x ∷ []))
 
 -- Append that is answered
-pub append_taken : {C : Type 0} (O : Type 0) (old new : CountedReplica C) (from ballot place : ℕ) (command : C) (log : List C)
+pub append_taken : {S C : Type 0} (O : Type 0) {rules : Rules S C O} (old new : CountedReplica S C) (from ballot place : ℕ) (command : C) (log : List C)
     (long : ℕ) (before behind : List (Effect C O)) (sent : Bool) →
     follows old.state ballot ≡ true → place ≤ length old.state.log → log ≡ extended place command old.state.log →
     long ≡ length log → Sends before behind (message_to O old.state.id (Held ballot long) from ∷ []) sent →
     new.state ≡ record old.state { log = log } → new.losses ≡ cond sent old.losses (one_more old.losses) →
-    Went old (on_append O old.state from ballot place command) new before behind
-append_taken {C = C} O old new from ballot place command log long before behind sent follower within e n sends state losses =
+    Went rules old (on_append O old.state from ballot place command) new before behind
+append_taken {S = S} {C = C} O {rules = rules} old new from ballot place command log long before behind sent follower within e n sends state losses =
     let row = on_append-takes O old.state from ballot place command follower within in
-    subst (λ (o : Outcome C O). Went old o new before behind) (sym row)
+    subst (λ (o : Outcome S C O). Went rules old o new before behind) (sym row)
     (went_sent old _ new before behind sent
     (subst (λ k. Sends before behind (message_to O old.state.id (Held ballot k) from ∷ []) sent) (n ∙ ap length e) sends)
-    (state ∙ ap (λ xs. let r : ReplicaState C = record old.state { log = xs } in r) e) losses)
+    (state ∙ ap (λ xs. let r : ReplicaState S C = record old.state { log = xs } in r) e) losses)
 
 -- Append whose command found no memory
-pub append_lost : {C : Type 0} (O : Type 0) (old new : CountedReplica C) (from ballot place : ℕ) (command : C)
+pub append_lost : {S C : Type 0} (O : Type 0) {rules : Rules S C O} (old new : CountedReplica S C) (from ballot place : ℕ) (command : C)
     (before : List (Effect C O)) →
     follows old.state ballot ≡ true → place ≡ length old.state.log →
     new.state ≡ old.state → new.losses ≡ one_more old.losses →
-    Went old (on_append O old.state from ballot place command) new before before
-append_lost {C = C} O old new from ballot place command before follower next state losses =
+    Went rules old (on_append O old.state from ballot place command) new before before
+append_lost {S = S} {C = C} O {rules = rules} old new from ballot place command before follower next state losses =
     let row = on_append-takes O old.state from ballot place command follower (omega (arith, next)) in
     let added : extended place command old.state.log ≡ old.state.log ++ command ∷ [] = rw (eq-eqb place (length old.state.log) next) refl in
-    subst (λ (o : Outcome C O). Went old o new before before) (sym row)
+    subst (λ (o : Outcome S C O). Went rules old o new before before) (sym row)
     (went_ignored old _ new before before state losses refl (λ quiet. longer old.state.log _ command added quiet.same_log))
 
 -- Held that raises a progress, and commits what all hold then
-pub held_taken : {S C O : Type 0} (rules : Rules S C O) (old after new : CountedReplica C) (from ballot held n : ℕ)
+pub held_taken : {S C O : Type 0} (rules : Rules S C O) (old after new : CountedReplica S C) (from ballot held n : ℕ)
     (progress progress' : List Progress) (long : ℕ) (before behind : List (Effect C O)) (told : Bool) →
     leads old.state ballot ≡ true → progress ≡ old.state.progress → long ≡ length old.state.log → n ≡ least long (raised from held progress) →
     after ≡ record { state = (commit_at rules old.state n).state; losses = old.losses } →
     Sends before behind (commit_at rules old.state n).effects told →
     progress' ≡ raised from held after.state.progress →
     new.state ≡ record after.state { progress = progress' } → new.losses ≡ cond told after.losses (one_more after.losses) →
-    Went old (on_held rules old.state from ballot held) new before behind
-held_taken {C = C} {O = O} rules old after new from ballot held n progress progress' long before behind told leader m l h a sends m' state losses =
+    Went rules old (on_held rules old.state from ballot held) new before behind
+held_taken {S = S} {C = C} {O = O} rules old after new from ballot held n progress progress' long before behind told leader m l h a sends m' state losses =
     let n' : n ≡ least (length old.state.log) (raised from held old.state.progress) =
     h ∙ ap (λ k. least k (raised from held progress)) l ∙ ap (λ xs. least (length old.state.log) (raised from held xs)) m in
     let row : on_held rules old.state from ballot held ≡ progress_raised from held (commit_at rules old.state n) =
     on_held-raises rules old.state from ballot held leader
     ∙ ap (commit_at rules (record old.state { progress = raised from held old.state.progress })) (sym n')
     ∙ commit_at-raised rules old.state from held n in
-    let after_state : after.state ≡ (commit_at rules old.state n).state = ap (λ (z : CountedReplica C). z.state) a in
-    subst (λ (o : Outcome C O). Went old o new before behind) (sym row)
+    let after_state : after.state ≡ (commit_at rules old.state n).state = ap (λ (z : CountedReplica S C). z.state) a in
+    subst (λ (o : Outcome S C O). Went rules old o new before behind) (sym row)
     (went_sent old _ new before behind told sends
-    (state ∙ ap (λ xs. let r : ReplicaState C = record after.state { progress = xs } in r) m'
-    ∙ ap (λ (r : ReplicaState C). let z : ReplicaState C = record r { progress = raised from held r.progress } in z) after_state)
-    (losses ∙ ap (λ k. cond told k (one_more k)) (ap (λ (z : CountedReplica C). z.losses) a)))
+    (state ∙ ap (λ xs. let r : ReplicaState S C = record after.state { progress = xs } in r) m'
+    ∙ ap (λ (r : ReplicaState S C). let z : ReplicaState S C = record r { progress = raised from held r.progress } in z) after_state)
+    (losses ∙ ap (λ k. cond told k (one_more k)) (ap (λ (z : CountedReplica S C). z.losses) a)))
 
 -- Held whose places found no memory when they were applied
-pub held_halted : {S C O : Type 0} (rules : Rules S C O) (old after new : CountedReplica C) (from ballot held n : ℕ)
+pub held_halted : {S C O : Type 0} (rules : Rules S C O) (old after new : CountedReplica S C) (from ballot held n : ℕ)
     (progress : List Progress) (long : ℕ) (before behind : List (Effect C O)) →
     leads old.state ballot ≡ true → progress ≡ old.state.progress → long ≡ length old.state.log → n ≡ least long (raised from held progress) →
-    old.state.committed < n → after ≡ record { state = halted old.state; losses = old.losses } →
+    old.state.committed < n → after ≡ record { state = halted rules old.state; losses = old.losses } →
     new.state ≡ after.state → new.losses ≡ one_more after.losses → behind ≡ before →
-    Went old (on_held rules old.state from ballot held) new before behind
-held_halted {C = C} {O = O} rules old after new from ballot held n progress long before behind leader m l h above a state losses same =
+    Went rules old (on_held rules old.state from ballot held) new before behind
+held_halted {S = S} {C = C} {O = O} rules old after new from ballot held n progress long before behind leader m l h above a state losses same =
     let n' : n ≡ least (length old.state.log) (raised from held old.state.progress) =
     h ∙ ap (λ k. least k (raised from held progress)) l ∙ ap (λ xs. least (length old.state.log) (raised from held xs)) m in
     let row : on_held rules old.state from ballot held ≡ progress_raised from held (commit_at rules old.state n) =
@@ -165,45 +167,51 @@ held_halted {C = C} {O = O} rules old after new from ballot held n progress long
     ∙ ap (commit_at rules (record old.state { progress = raised from held old.state.progress })) (sym n')
     ∙ commit_at-raised rules old.state from held n in
     let goes : (commit_at rules old.state n).state.committed ≡ n =
-    ap (λ (o : Outcome C O). o.state.committed) (commit_at-goes rules old.state n above) in
-    subst (λ (o : Outcome C O). Went old o new before behind) (sym row)
+    ap (λ (o : Outcome S C O). o.state.committed) (commit_at-goes rules old.state n above) in
+    subst (λ (o : Outcome S C O). Went rules old o new before behind) (sym row)
     (went_halted old _ new before behind
-    (state ∙ ap (λ (z : CountedReplica C). z.state) a)
-    (losses ∙ ap (λ (z : CountedReplica C). one_more z.losses) a) same
+    (state ∙ ap (λ (z : CountedReplica S C). z.state) a)
+    (losses ∙ ap (λ (z : CountedReplica S C). one_more z.losses) a) same
     (λ quiet. let e : (commit_at rules old.state n).state.committed ≡ old.state.committed = quiet.same_committed in omega (arith, e, goes)))
 
 -- Commit of what is applied already
-pub commit_known : {C : Type 0} (O : Type 0) (r : ReplicaState C) (ballot held : ℕ) →
+pub commit_known : {S C O : Type 0} (rules : Rules S C O) (r : ReplicaState S C) (ballot held : ℕ) →
     follows r ballot ≡ true → held ≤ length r.log → held ≤ r.committed →
-    on_commit O r ballot held ≡ nothing_done O r
-commit_known {C = C} O r ballot held follower within known =
+    on_commit rules r ballot held ≡ nothing_done O r
+commit_known {S = S} {C = C} {O = O} rules r ballot held follower within known =
     let e : max r.committed held ≡ r.committed = omega arith in
-    on_commit-takes O r ballot held follower within
-    ∙ ap (λ n. let o : Outcome C O = record { state = record r { committed = n }; effects = [] } in o) e
+    on_commit-takes rules r ballot held follower within
+    ∙ ap (λ n. let o : Outcome S C O = record { state = applied_to rules r n; effects = [] } in o) e
+    ∙ ap (λ xs. let o : Outcome S C O = record {
+      state = record r { machine = replay_from rules r.machine xs };
+      effects = [];
+    } in o) (part_none r.log r.committed)
 
 -- Commit that is applied
-pub commit_taken : {C : Type 0} (O : Type 0) (old new : CountedReplica C) (ballot held : ℕ) →
+pub commit_taken : {S C O : Type 0} (rules : Rules S C O) (old new : CountedReplica S C) (ballot held : ℕ) (machine : S) →
     follows old.state ballot ≡ true → held ≤ length old.state.log → old.state.committed < held →
-    new.state ≡ record old.state { committed = held } → new.losses ≡ old.losses →
-    Went old (on_commit O old.state ballot held) new [] []
-commit_taken {C = C} O old new ballot held follower within above state losses =
+    new.state ≡ record old.state { committed = held; machine = machine } →
+    machine ≡ replay_from rules old.state.machine (drop old.state.committed (take held old.state.log)) → new.losses ≡ old.losses →
+    Went rules old (on_commit rules old.state ballot held) new [] []
+commit_taken {S = S} {C = C} {O = O} rules old new ballot held machine follower within above state done losses =
     let e : held ≡ max old.state.committed held = omega arith in
-    let row = on_commit-takes O old.state ballot held follower within in
-    subst (λ (o : Outcome C O). Went old o new [] []) (sym row)
+    let row = on_commit-takes rules old.state ballot held follower within in
+    subst (λ (o : Outcome S C O). Went rules old o new [] []) (sym row)
     (record {
       given = [];
       appended = refl;
-      way = inl (state ∙ ap (λ n. let r : ReplicaState C = record old.state { committed = n } in r) e, refl, losses);
+      way = inl (state ∙ ap (λ t. let r : ReplicaState S C = record old.state { committed = held; machine = t } in r) done
+          ∙ ap (applied_to rules old.state) e, refl, losses);
     })
 
 -- Commit whose places found no memory when they were applied
-pub commit_halted : {C : Type 0} (O : Type 0) (old new : CountedReplica C) (ballot held : ℕ) →
+pub commit_halted : {S C O : Type 0} (rules : Rules S C O) (old new : CountedReplica S C) (ballot held : ℕ) →
     follows old.state ballot ≡ true → held ≤ length old.state.log → old.state.committed < held →
-    new.state ≡ halted old.state → new.losses ≡ one_more old.losses →
-    Went old (on_commit O old.state ballot held) new [] []
-commit_halted {C = C} O old new ballot held follower within above state losses =
-    let row = on_commit-takes O old.state ballot held follower within in
-    subst (λ (o : Outcome C O). Went old o new [] []) (sym row)
+    new.state ≡ halted rules old.state → new.losses ≡ one_more old.losses →
+    Went rules old (on_commit rules old.state ballot held) new [] []
+commit_halted {S = S} {C = C} {O = O} rules old new ballot held follower within above state losses =
+    let row = on_commit-takes rules old.state ballot held follower within in
+    subst (λ (o : Outcome S C O). Went rules old o new [] []) (sym row)
     (went_halted old _ new [] [] state losses refl
     (λ quiet. let e : max old.state.committed held ≡ old.state.committed = quiet.same_committed in omega (arith, e)))
 

@@ -14,19 +14,19 @@ use Rattle.ballot.specs.declared.error.ProposeError.TheVariants.{NotActive, LogF
 use Rattle.ballot.specs.Inside.{Lacks}
 
 -- what a step leaves as it is was done
-pub stays_step : {C O : Type 0} (old : CountedReplica C) (o : Outcome C O) (out : List (Effect C O)) →
-    o ≡ nothing_done O old.state → Stepped old o old out out
-stays_step {C = C} {O = O} old o out e =
+pub stays_step : {S C O : Type 0} (rules : Rules S C O) (old : CountedReplica S C) (o : Outcome S C O) (out : List (Effect C O)) →
+    o ≡ nothing_done O old.state → Stepped rules old o old out out
+stays_step {S = S} {C = C} {O = O} rules old o out e =
     record {
       given = [];
       appended = sym (append-nil out);
-      steps = inl (ap (λ (z : Outcome C O). z.state) (sym e), ap (λ (z : Outcome C O). z.effects) (sym e), refl);
+      steps = inl (ap (λ (z : Outcome S C O). z.state) (sym e), ap (λ (z : Outcome S C O). z.effects) (sym e), refl);
     }
 
 -- a step that was done with messages missing is one with losses
-pub done_steps : {C O : Type 0} {old : CountedReplica C} {o : Outcome C O} {new : CountedReplica C} {before behind : List (Effect C O)} →
-    Done old o new before behind → Stepped old o new before behind
-done_steps {C = C} {old = old} {o = o} {new = new} d =
+pub done_steps : {S C O : Type 0} {rules : Rules S C O} {old : CountedReplica S C} {o : Outcome S C O} {new : CountedReplica S C} {before behind : List (Effect C O)} →
+    Done old o new before behind → Stepped rules old o new before behind
+done_steps {S = S} {C = C} {rules = rules} {old = old} {o = o} {new = new} d =
     record {
       given = d.given;
       appended = d.appended;
@@ -34,54 +34,54 @@ done_steps {C = C} {old = old} {o = o} {new = new} d =
     }
   where
     by_count : ((d.given ≡ o.effects) × (new.losses ≡ old.losses)) ⊎ (new.losses ≡ one_more old.losses) →
-        Steps old o new d.given
+        Steps rules old o new d.given
     by_count (inl e) = inl (d.state, e.0, e.1)
     by_count (inr e) = inr (inl (d.state, d.thinned), e)
 
 -- each answer of a proposal is that of a step
-pub answered_steps : {C O T : Type 0} (result : Result T ProposeError) {old : CountedReplica C} {o : Outcome C O}
-    {new : CountedReplica C} {before behind : List (Effect C O)} →
-    MatchResult result (λ _. Done old o new before behind) (λ e. Lacks e old new) →
-    OnErr result (behind ≡ before) → Stepped old o new before behind
+pub answered_steps : {S C O T : Type 0} {rules : Rules S C O} (result : Result T ProposeError) {old : CountedReplica S C} {o : Outcome S C O}
+    {new : CountedReplica S C} {before behind : List (Effect C O)} →
+    MatchResult result (λ _. Done old o new before behind) (λ e. Lacks rules e old new) →
+    OnErr result (behind ≡ before) → Stepped rules old o new before behind
 answered_steps (Ok x) d same = done_steps d
 answered_steps (Err NotActive) d same = absurd d
 answered_steps (Err LogFull) d same = absurd d
-answered_steps {C = C} (Err Memory) {old = old} {new = new} {before = before} d same =
+answered_steps {S = S} {C = C} (Err Memory) {old = old} {new = new} {before = before} d same =
     record {
       given = [];
       appended = same ∙ sym (append-nil before);
-      steps = inr (inr (inl (ap (λ (z : CountedReplica C). z.state) d, refl)), ap (λ (z : CountedReplica C). z.losses) d);
+      steps = inr (inr (inl (ap (λ (z : CountedReplica S C). z.state) d, refl)), ap (λ (z : CountedReplica S C). z.losses) d);
     }
-answered_steps {C = C} (Err Halted) {old = old} {new = new} {before = before} d same =
+answered_steps {S = S} {C = C} (Err Halted) {old = old} {new = new} {before = before} d same =
     record {
       given = [];
       appended = same ∙ sym (append-nil before);
-      steps = inr (inr (inr (ap (λ (z : CountedReplica C). z.state) d, refl)), ap (λ (z : CountedReplica C). z.losses) d);
+      steps = inr (inr (inr (ap (λ (z : CountedReplica S C). z.state) d, refl)), ap (λ (z : CountedReplica S C). z.losses) d);
     }
 
 -- an active primary with room adds what is proposed
-pub answered_proposed : {S C O T : Type 0} (rules : Rules S C O) (old : CountedReplica C) (command : C)
-    (result : Result T ProposeError) (new : CountedReplica C) (before behind : List (Effect C O)) →
+pub answered_proposed : {S C O T : Type 0} (rules : Rules S C O) (old : CountedReplica S C) (command : C)
+    (result : Result T ProposeError) (new : CountedReplica S C) (before behind : List (Effect C O)) →
     is_active old.state.role ≡ true → length old.state.log < most_places →
-    MatchResult result (λ _. Done old (added rules old.state command) new before behind) (λ e. Lacks e old new) →
-    OnErr result (behind ≡ before) → Stepped old (proposed rules old.state command) new before behind
-answered_proposed {C = C} {O = O} rules old command result new before behind active room d same =
-    subst (λ (o : Outcome C O). Stepped old o new before behind)
+    MatchResult result (λ _. Done old (added rules old.state command) new before behind) (λ e. Lacks rules e old new) →
+    OnErr result (behind ≡ before) → Stepped rules old (proposed rules old.state command) new before behind
+answered_proposed {S = S} {C = C} {O = O} rules old command result new before behind active room d same =
+    subst (λ (o : Outcome S C O). Stepped rules old o new before behind)
     (sym (proposed-adds rules old.state command active room)) (answered_steps result d same)
 
 -- the replica stopped exactly where Halted is answered
-pub answered_halted : {C O T : Type 0} (result : Result T ProposeError) (old : CountedReplica C) (o : Outcome C O)
-    (new : CountedReplica C) (before behind : List (Effect C O)) →
-    MatchResult result (λ _. Done old o new before behind) (λ e. Lacks e old new) →
+pub answered_halted : {S C O T : Type 0} (rules : Rules S C O) (result : Result T ProposeError) (old : CountedReplica S C) (o : Outcome S C O)
+    (new : CountedReplica S C) (before behind : List (Effect C O)) →
+    MatchResult result (λ _. Done old o new before behind) (λ e. Lacks rules e old new) →
     old.state.stopped ≡ false → o.state.stopped ≡ old.state.stopped →
     (IsErrOf result Halted → new.state.stopped ≡ true) × (new.state.stopped ≡ true → IsErrOf result Halted)
-answered_halted {C = C} (Ok x) old o new before behind d running kept =
-    let e : new.state.stopped ≡ false = ap (λ (z : ReplicaState C). z.stopped) d.state ∙ kept ∙ running in
+answered_halted {S = S} {C = C} rules (Ok x) old o new before behind d running kept =
+    let e : new.state.stopped ≡ false = ap (λ (z : ReplicaState S C). z.stopped) d.state ∙ kept ∙ running in
     (λ h. cc, λ h. cc)
-answered_halted (Err NotActive) old o new before behind d running kept = absurd d
-answered_halted (Err LogFull) old o new before behind d running kept = absurd d
-answered_halted {C = C} (Err Memory) old o new before behind d running kept =
-    let e : new.state.stopped ≡ false = ap (λ (z : CountedReplica C). z.state.stopped) d ∙ running in
+answered_halted rules (Err NotActive) old o new before behind d running kept = absurd d
+answered_halted rules (Err LogFull) old o new before behind d running kept = absurd d
+answered_halted {S = S} {C = C} rules (Err Memory) old o new before behind d running kept =
+    let e : new.state.stopped ≡ false = ap (λ (z : CountedReplica S C). z.state.stopped) d ∙ running in
     (λ h. cc, λ h. cc)
-answered_halted {C = C} (Err Halted) old o new before behind d running kept =
-    (λ h. ap (λ (z : CountedReplica C). z.state.stopped) d, λ h. refl)
+answered_halted {S = S} {C = C} rules (Err Halted) old o new before behind d running kept =
+    (λ h. ap (λ (z : CountedReplica S C). z.state.stopped) d, λ h. refl)

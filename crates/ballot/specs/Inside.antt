@@ -1,5 +1,6 @@
 -- Inside.antt: what the helpers of a replica say of the list of effects.
 use Rattle.std.specs.Prelude.{◌≡◌, ◌⊎◌, Bool, true, List, [], ◌++◌}
+use Rattle.machine.specs.Machine.{Rules}
 use Rattle.ballot_base.specs.declared.message.Effect.{Effect}
 use Rattle.ballot_base.specs.Losses.{Thinned, Loses, IsQuiet, halted, one_more}
 use Rattle.ballot_base.specs.Replica.{CountedReplica}
@@ -18,19 +19,20 @@ pub record Sends {C O : Type 0} (old new wanted : List (Effect C O)) (whole : Bo
 
 -- the step was done, or one with losses that were counted, and only where there was something to
 -- lose
-pub record Went {C O : Type 0} (old : CountedReplica C) (outcome : Outcome C O) (new : CountedReplica C)
-    (before behind : List (Effect C O)) : Type 0 where
+pub record Went {S C O : Type 0} (rules : Rules S C O) (old : CountedReplica S C) (outcome : Outcome S C O)
+    (new : CountedReplica S C) (before behind : List (Effect C O)) : Type 0 where
   pub given : List (Effect C O)
   pub appended : behind ≡ before ++ given
   pub way : ((new.state ≡ outcome.state) × (given ≡ outcome.effects) × (new.losses ≡ old.losses))
-      ⊎ (Loses old.state outcome new.state given
+      ⊎ (Loses rules old.state outcome new.state given
       × (new.losses ≡ one_more old.losses)
       × (IsQuiet old.state outcome → ⊥))
 
 -- what a proposal that found no memory leaves
-abbrev pub Lacks : {C : Type 0} → ProposeError → CountedReplica C → CountedReplica C → Type 0
-Lacks NotActive old new = ⊥
-Lacks LogFull old new = ⊥
-Lacks Memory old new = new ≡ record old { losses = one_more old.losses }
-Lacks Halted old new =
-    new ≡ record { state = halted old.state; losses = one_more old.losses }
+abbrev pub Lacks : {S C O : Type 0} →
+    Rules S C O → ProposeError → CountedReplica S C → CountedReplica S C → Type 0
+Lacks rules NotActive old new = ⊥
+Lacks rules LogFull old new = ⊥
+Lacks rules Memory old new = new ≡ record old { losses = one_more old.losses }
+Lacks rules Halted old new =
+    new ≡ record { state = halted rules old.state; losses = one_more old.losses }

@@ -1,5 +1,6 @@
 pub mod Inside
 pub mod Refusals
+pub use Rattle.ballot_base.specs.Applying
 pub use Rattle.ballot_base.specs.Changing
 pub use Rattle.ballot_base.specs.LawfulConfig
 pub use Rattle.ballot_base.specs.Losses

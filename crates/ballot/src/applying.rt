@@ -1,9 +1,9 @@
 // Commands that are done by the machine, place by place.
 
-ghost use Rattle.std.specs.Prelude.{◌≡◌, ◌≤◌, ◌++◌, length, map, take, OnOk, OnErr};
-ghost use Rattle.machine.specs.Machine.{rules_by, replay};
+ghost use Rattle.std.specs.Prelude.{◌≡◌, ◌≤◌, ◌++◌, length, map, take, drop, OnOk, OnErr};
+ghost use Rattle.machine.specs.Machine.{rules_by, replay_from};
 ghost use Rattle.lists.specs.Lists.{IsPrefixOf};
-ghost use Rattle.ballot_base.specs.Serving.{outputs_between};
+ghost use Rattle.ballot_base.specs.Applying.{outputs_from};
 
 use ballot_base::Effect;
 use machine::{Halted, Machine};
@@ -25,8 +25,7 @@ pub fn put_out<C: Drop, O: Drop>(
 }
 
 /// Applies the places from one length of the log up to another, and drops their outputs. On an
-/// error
-/// the machine is somewhere in between.
+/// error the machine is somewhere in between.
 pub fn apply_dropping<M: Machine>(
     alloc: Global,
     machine: &mut M,
@@ -36,10 +35,9 @@ pub fn apply_dropping<M: Machine>(
 ) -> Result<(), Halted>
     requires rising { from ≤ to }
     requires within { to ≤ length log.now }
-    requires applied { machine.old ≡
-        replay (rules_by M.opening M.start_of M.after M.gives) (take from log.now) }
     ensures { OnOk result
-        (machine.new ≡ replay (rules_by M.opening M.start_of M.after M.gives) (take to log.now)) }
+        (machine.new ≡ replay_from (rules_by M.opening M.start_of M.after M.gives)
+        machine.old (drop from (take to log.now))) }
 {
     for place in from..to {
         let mut given = Vec::new(alloc);
@@ -60,13 +58,13 @@ pub fn apply_places<M: Machine>(
 ) -> Result<(), Halted>
     requires rising { from ≤ to }
     requires within { to ≤ length log.now }
-    requires applied { machine.old ≡
-        replay (rules_by M.opening M.start_of M.after M.gives) (take from log.now) }
     ensures state { OnOk result
-        (machine.new ≡ replay (rules_by M.opening M.start_of M.after M.gives) (take to log.now)) }
+        (machine.new ≡ replay_from (rules_by M.opening M.start_of M.after M.gives)
+        machine.old (drop from (take to log.now))) }
     ensures outputs { OnOk result
         (out.new.items ≡ out.old.items ++
-        outputs_between (rules_by M.opening M.start_of M.after M.gives) log.now from to) }
+        outputs_from (rules_by M.opening M.start_of M.after M.gives)
+        machine.old from (drop from (take to log.now))) }
     ensures err { OnErr result (IsPrefixOf out.old.items out.new.items) }
 {
     for place in from..to {

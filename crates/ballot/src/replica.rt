@@ -45,11 +45,10 @@ pub struct Replica<M: Machine> {
 }
 
 impl<M: Machine> Model for Replica<M> {
-    ghost use Rattle.std.specs.Prelude.{◌≡◌, ◌≤◌, false, [], length, take};
-    ghost use Rattle.machine.specs.Machine.{rules_by, replay};
+    ghost use Rattle.std.specs.Prelude.{◌≤◌, [], length, if◌then◌else◌};
     ghost use Rattle.ballot_base.specs.Replica.{ReplicaState, CountedReplica};
 
-    ghost Value = { CountedReplica M.Command };
+    ghost Value = { CountedReplica M M.Command };
 
     ghost view = { λ r.
         record {
@@ -60,22 +59,19 @@ impl<M: Machine> Model for Replica<M> {
             log = r.log.items;
             base = 0;
             committed = r.committed;
+            machine = if r.stopped then M.opening else r.machine;
             role = r.role;
             members = r.members.items;
             previous = 0;
             previous_members = [];
-            noted = [];
+            lacking = [];
             progress = r.progress.items;
             stopped = r.stopped;
           };
           losses = r.losses;
         } };
 
-    ghost invariant = { λ r.
-        (r.committed ≤ length r.log.items) ×
-        (r.stopped ≡ false →
-        r.machine ≡ replay (rules_by M.opening M.start_of M.after M.gives)
-        (take r.committed r.log.items)) };
+    ghost invariant = { λ r. r.committed ≤ length r.log.items };
 }
 
 impl<M: Machine> Replica<M> {
@@ -84,7 +80,10 @@ impl<M: Machine> Replica<M> {
         requires low { 1 ≤ id }
         requires high { id ≤ 15 }
         ensures ok { IfOk result (λ replica.
-            replica ≡ record { state = opening M.Command id config.now; losses = 0 }) }
+            replica ≡ record {
+              state = opening (rules_by M.opening M.start_of M.after M.gives) id config.now;
+              losses = 0;
+            }) }
         ensures bad { IsErrOf result OpeningError.BadMembers
             ↔ (is_lawful config.now.members config.now.primary ≡ false) }
     {
@@ -143,9 +142,12 @@ impl<M: Machine> Replica<M> {
         self.losses
     }
 
-    /// Stops for good, as a crash of its node does. All that the replica shows stays.
+    /// Stops for good, as a crash of its node does. Of what the replica shows its machine alone is
+    /// gone.
     pub fn stop(&mut self)
-        ensures { self.new ≡ record self.old { state = halted self.old.state } }
+        ensures { self.new ≡ record self.old {
+          state = halted (rules_by M.opening M.start_of M.after M.gives) self.old.state;
+        } }
     {
         self.stopped = true;
     }
@@ -160,7 +162,7 @@ impl<M: Machine> Replica<M> {
     ) -> Result<(), ProposeError>
         // The protocol's step, or one in which memory was wanting and that was counted.
         ensures step { self.old.state.stopped ≡ false →
-            Stepped self.old
+            Stepped (rules_by M.opening M.start_of M.after M.gives) self.old
             (proposed (rules_by M.opening M.start_of M.after M.gives) self.old.state command)
             self.new out.old.items out.new.items }
         ensures done { OnOk result
@@ -210,7 +212,8 @@ impl<M: Machine> Replica<M> {
             Done self.old
             (added (rules_by M.opening M.start_of M.after M.gives) self.old.state command)
             self.new out.old.items out.new.items)
-            (λ error. Lacks error self.old self.new) }
+            (λ error. Lacks (rules_by M.opening M.start_of M.after M.gives)
+            error self.old self.new) }
         ensures err { OnErr result (out.new.items ≡ out.old.items) }
     {
         let before = out.len();
@@ -265,7 +268,9 @@ impl<M: Machine> Replica<M> {
             (commit_at (rules_by M.opening M.start_of M.after M.gives)
             self.old.state held).effects) }
         ensures stops { OnErr result
-            (self.new ≡ record self.old { state = halted self.old.state }) }
+            (self.new ≡ record self.old {
+              state = halted (rules_by M.opening M.start_of M.after M.gives) self.old.state;
+            }) }
         ensures needed { OnErr result (self.old.state.committed < held) }
         ensures err { OnErr result (IsPrefixOf out.old.items out.new.items) }
     {
@@ -288,7 +293,7 @@ impl<M: Machine> Replica<M> {
     /// Says again what others may have missed. It takes no step of its own, and never halts.
     pub fn tick(&mut self, out: &mut Vec<Effect<M::Command, M::Output>>)
         ensures step { self.old.state.stopped ≡ false →
-            Stepped self.old
+            Stepped (rules_by M.opening M.start_of M.after M.gives) self.old
             (step_in_one_ballot (rules_by M.opening M.start_of M.after M.gives)
             self.old.state Ticks)
             self.new out.old.items out.new.items }

@@ -4,21 +4,13 @@ use Rattle.std.proofs.lemmas.List.{take_more, take-take, take-append-drop, drop-
 use Rattle.machine.specs.Machine.{Rules, replay, replay_from}
 use Rattle.ballot_base.specs.declared.message.Effect.{Effect}
 use Rattle.ballot_base.specs.declared.message.Effect.TheVariants.{Out}
-use Rattle.ballot_base.specs.Serving.{outputs_from, outputs_between}
+use Rattle.ballot_base.specs.Applying.{outputs_from}
 
 -- commands behind others are done in the state that those leave
 pub replay_from-append : {S C O : Type 0} (rules : Rules S C O) (s : S) (xs ys : List C) →
     replay_from rules s (xs ++ ys) ≡ replay_from rules (replay_from rules s xs) ys
 replay_from-append rules s [] ys = refl
 replay_from-append rules s (x ∷ xs) ys = replay_from-append rules (rules.after s x) xs ys
-
--- one place more
-pub replay-more : {S C O : Type 0} (rules : Rules S C O) (log : List C) (place : ℕ) (d : C) →
-    place < length log →
-    replay rules (take (place + 1) log) ≡ rules.after (replay rules (take place log)) (get_or log place d)
-replay-more rules log place d below =
-    rw (take_more log place d below)
-    (replay_from-append rules rules.opening (take place log) (get_or log place d ∷ []))
 
 -- commands behind others give what they give in the state that those leave
 pub outputs_from-append : {S C O : Type 0} (rules : Rules S C O) (s : S) (place : ℕ) (xs ys : List C) →
@@ -35,47 +27,58 @@ outputs_from-append rules s place (x ∷ xs) ys =
     ∙ ap (λ n. (map (Out place) (rules.gives s x) ++ outputs_from rules (rules.after s x) (place + 1) xs)
     ++ outputs_from rules (replay_from rules (rules.after s x) xs) n ys) e
 
--- the front of a log and the places from there on are the front up to where they end
-front_and_part : {C : Type 0} (log : List C) (from to : ℕ) → from ≤ to →
-    take from log ++ drop from (take to log) ≡ take to log
-front_and_part log from to rising =
-    ap (λ xs. xs ++ drop from (take to log)) (sym (take-take from to log rising))
-    ∙ take-append-drop from (take to log)
-
--- one place more
-pub outputs_between-more : {S C O : Type 0} (rules : Rules S C O) (log : List C) (from place : ℕ) (d : C) →
-    from ≤ place → place < length log →
-    outputs_between rules log from (place + 1)
-    ≡ outputs_between rules log from place
-    ++ map (Out place) (rules.gives (replay rules (take place log)) (get_or log place d))
-outputs_between-more {C = C} rules log from place d rising below =
+-- the places from one length up to another, with one place more
+part_more : {C : Type 0} (log : List C) (from place : ℕ) (d : C) → from ≤ place → place < length log →
+    drop from (take (place + 1) log) ≡ drop from (take place log) ++ get_or log place d ∷ []
+part_more log from place d rising below =
     let within : length (take place log) ≡ place = length-take-le place log (omega arith) in
-    let part : drop from (take (place + 1) log) ≡ drop from (take place log) ++ get_or log place d ∷ [] =
     ap (drop from) (take_more log place d below)
-    ∙ drop-append-le from (take place log) (get_or log place d ∷ []) (omega arith) in
-    let state : replay_from rules (replay rules (take from log)) (drop from (take place log))
-    ≡ replay rules (take place log) =
-    sym (replay_from-append rules rules.opening (take from log) (drop from (take place log)))
-    ∙ ap (replay rules) (front_and_part log from place rising) in
+    ∙ drop-append-le from (take place log) (get_or log place d ∷ []) (omega arith)
+
+-- no place lies between a length and itself
+pub part_none : {C : Type 0} (log : List C) (from : ℕ) → drop from (take from log) ≡ []
+part_none log zero = refl
+part_none [] (suc n) = refl
+part_none (x ∷ log) (suc n) = part_none log n
+
+-- a machine that does one place more
+pub replay_part-more : {S C O : Type 0} (rules : Rules S C O) (s : S) (log : List C) (from place : ℕ) (d : C) →
+    from ≤ place → place < length log →
+    replay_from rules s (drop from (take (place + 1) log))
+    ≡ rules.after (replay_from rules s (drop from (take place log))) (get_or log place d)
+replay_part-more rules s log from place d rising below =
+    ap (replay_from rules s) (part_more log from place d rising below)
+    ∙ replay_from-append rules s (drop from (take place log)) (get_or log place d ∷ [])
+
+-- and what it gives there
+pub outputs_part-more : {S C O : Type 0} (rules : Rules S C O) (s : S) (log : List C) (from place : ℕ) (d : C) →
+    from ≤ place → place < length log →
+    outputs_from rules s from (drop from (take (place + 1) log))
+    ≡ outputs_from rules s from (drop from (take place log))
+    ++ map (Out place) (rules.gives (replay_from rules s (drop from (take place log))) (get_or log place d))
+outputs_part-more {C = C} rules s log from place d rising below =
+    let within : length (take place log) ≡ place = length-take-le place log (omega arith) in
     let at : from + length (drop from (take place log)) ≡ place =
     omega (arith, length-drop from (take place log)) in
-    ap (outputs_from rules (replay rules (take from log)) from) part
-    ∙ outputs_from-append rules (replay rules (take from log)) from (drop from (take place log)) _
-    ∙ ap (λ (zs : List (Effect C _)). outputs_between rules log from place ++ zs)
-    (one_output rules _ _ (get_or log place d)
-    ∙ rw (state, at) refl)
+    ap (outputs_from rules s from) (part_more log from place d rising below)
+    ∙ outputs_from-append rules s from (drop from (take place log)) _
+    ∙ ap (λ (zs : List (Effect C _)). outputs_from rules s from (drop from (take place log)) ++ zs)
+    (one_output rules _ _ (get_or log place d) ∙ rw at refl)
   where
     one_output : {S C O : Type 0} (rules : Rules S C O) (s : S) (place : ℕ) (c : C) →
         outputs_from rules s place (c ∷ []) ≡ map (Out place) (rules.gives s c)
     one_output rules s place c = append-nil (map (Out place) (rules.gives s c))
 
--- nothing is given between a place and itself
-pub outputs_between-none : {S C O : Type 0} (rules : Rules S C O) (log : List C) (from : ℕ) →
-    outputs_between rules log from from ≡ []
-outputs_between-none rules log from =
-    ap (outputs_from rules (replay rules (take from log)) from) (drop_whole log from)
+-- a machine that is the replay of a front goes on to the replay of a longer one
+pub replay_goes_on : {S C O : Type 0} (rules : Rules S C O) (s : S) (log : List C) (from to : ℕ) → from ≤ to →
+    s ≡ replay rules (take from log) → replay_from rules s (drop from (take to log)) ≡ replay rules (take to log)
+replay_goes_on rules s log from to rising before =
+    ap (λ t. replay_from rules t (drop from (take to log))) before
+    ∙ sym (replay_from-append rules rules.opening (take from log) (drop from (take to log)))
+    ∙ ap (replay rules) (front_and_part log from to rising)
   where
-    drop_whole : {C : Type 0} (log : List C) (from : ℕ) → drop from (take from log) ≡ []
-    drop_whole log zero = refl
-    drop_whole [] (suc n) = refl
-    drop_whole (x ∷ log) (suc n) = drop_whole log n
+    front_and_part : {C : Type 0} (log : List C) (from to : ℕ) → from ≤ to →
+        take from log ++ drop from (take to log) ≡ take to log
+    front_and_part log from to rising =
+        ap (λ xs. xs ++ drop from (take to log)) (sym (take-take from to log rising))
+        ∙ take-append-drop from (take to log)

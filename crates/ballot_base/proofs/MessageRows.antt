@@ -1,5 +1,5 @@
 -- MessageRows.antt: what the rows of messages and ticks give, where their conditions hold and where not.
-use Rattle.std.proofs.Common.{◌≡◌, ℕ, ◌<◌, ◌≤◌, true, false, List, [], ◌∷◌, ◌++◌, length, map, max, cond, refl, ap, sym, ◌∙◌, ◌⊎◌, inl, inr, arith}
+use Rattle.std.proofs.Common.{◌≡◌, ℕ, ◌<◌, ◌≤◌, true, false, List, [], ◌∷◌, ◌++◌, length, max, refl, ap, sym, ◌∙◌, ◌⊎◌, inl, inr}
 use Rattle.std.specs.Prelude.{◌==◌}
 use Rattle.std.proofs.lemmas.Bool.{lt-leb, le-leb, cases_lt, cond_both}
 use Rattle.machine.specs.Machine.{Rules}
@@ -11,7 +11,8 @@ use Rattle.ballot_base.specs.declared.status.Role.{Role}
 use Rattle.ballot_base.specs.declared.status.Role.TheVariants.{Backup, Fetching, Installing, Active}
 use Rattle.ballot_base.specs.Replica.{ReplicaState, is_active}
 use Rattle.ballot_base.specs.Sending.{Outcome, nothing_done, message_to, message_to_followed}
-use Rattle.ballot_base.specs.Serving.{outputs_between, least, raised, raised_progress, follows, leads, extended, commit_at, commit, on_append, on_held, on_commit, appends_behind, on_tick_active}
+use Rattle.ballot_base.specs.Applying.{outputs_to, applied_to}
+use Rattle.ballot_base.specs.Serving.{least, raised, raised_progress, follows, leads, extended, commit_at, commit, on_append, on_held, on_commit, appends_behind, on_tick_active}
 use Rattle.ballot_base.specs.Protocol.{ticked}
 use Rattle.ballot_base.proofs.StepRows.{commit_at-goes, commit_at-stays}
 
@@ -32,15 +33,15 @@ message_to_followed-raised {C = C} O id body member held (reached ∷ progress) 
     ∙ ap (λ (xs : List (Effect C O)). message_to O id body reached.member ∷ xs) rest
 
 -- an outcome with progress raised in it
-abbrev pub progress_raised : {C O : Type 0} → ℕ → ℕ → Outcome C O → Outcome C O
+abbrev pub progress_raised : {S C O : Type 0} → ℕ → ℕ → Outcome S C O → Outcome S C O
 progress_raised member held o =
     record { state = record o.state { progress = raised member held o.state.progress }; effects = o.effects }
 
 -- progress can be raised behind a commit as well as before it
-pub commit_at-raised : {S C O : Type 0} (rules : Rules S C O) (r : ReplicaState C) (member held n : ℕ) →
+pub commit_at-raised : {S C O : Type 0} (rules : Rules S C O) (r : ReplicaState S C) (member held n : ℕ) →
     commit_at rules (record r { progress = raised member held r.progress }) n
     ≡ progress_raised member held (commit_at rules r n)
-commit_at-raised {C = C} {O = O} rules r member held n = by_order (cases_lt r.committed n)
+commit_at-raised {S = S} {C = C} {O = O} rules r member held n = by_order (cases_lt r.committed n)
   where
     by_order : (r.committed < n) ⊎ (n ≤ r.committed) →
         commit_at rules (record r { progress = raised member held r.progress }) n
@@ -48,9 +49,9 @@ commit_at-raised {C = C} {O = O} rules r member held n = by_order (cases_lt r.co
     by_order (inl above) =
         commit_at-goes rules (record r { progress = raised member held r.progress }) n above
         ∙ ap (λ (es : List (Effect C O)).
-        let o : Outcome C O = record {
-          state = record r { committed = n; progress = raised member held r.progress };
-          effects = outputs_between rules r.log r.committed n ++ es;
+        let o : Outcome S C O = record {
+          state = record (applied_to rules r n) { progress = raised member held r.progress };
+          effects = outputs_to rules r n ++ es;
         } in o) (message_to_followed-raised O r.id (Commit r.joined n) member held r.progress)
         ∙ ap (progress_raised member held) (sym (commit_at-goes rules r n above))
     by_order (inr below) =
@@ -58,18 +59,18 @@ commit_at-raised {C = C} {O = O} rules r member held n = by_order (cases_lt r.co
         ∙ ap (progress_raised member held) (sym (commit_at-stays rules r n below))
 
 -- Append at a replica that does not follow the ballot, or behind a gap
-pub on_append-elsewhere : {C : Type 0} (O : Type 0) (r : ReplicaState C) (from ballot place : ℕ) (command : C) →
+pub on_append-elsewhere : {S C : Type 0} (O : Type 0) (r : ReplicaState S C) (from ballot place : ℕ) (command : C) →
     follows r ballot ≡ false → on_append O r from ballot place command ≡ nothing_done O r
 unfolding on_append
 on_append-elsewhere O r from ballot place command no_follower = rw no_follower refl
 
-pub on_append-gap : {C : Type 0} (O : Type 0) (r : ReplicaState C) (from ballot place : ℕ) (command : C) →
+pub on_append-gap : {S C : Type 0} (O : Type 0) (r : ReplicaState S C) (from ballot place : ℕ) (command : C) →
     follows r ballot ≡ true → length r.log < place → on_append O r from ballot place command ≡ nothing_done O r
 unfolding on_append
 on_append-gap O r from ballot place command follower gap = rw (follower, lt-leb place (length r.log) gap) refl
 
 -- Append that is answered
-pub on_append-takes : {C : Type 0} (O : Type 0) (r : ReplicaState C) (from ballot place : ℕ) (command : C) →
+pub on_append-takes : {S C : Type 0} (O : Type 0) (r : ReplicaState S C) (from ballot place : ℕ) (command : C) →
     follows r ballot ≡ true → place ≤ length r.log →
     on_append O r from ballot place command ≡ record {
       state = record r { log = extended place command r.log };
@@ -80,12 +81,12 @@ on_append-takes O r from ballot place command follower within =
     rw (follower, le-leb place (length r.log) within) refl
 
 -- Held at a replica that does not lead the ballot, and at its primary
-pub on_held-elsewhere : {S C O : Type 0} (rules : Rules S C O) (r : ReplicaState C) (from ballot held : ℕ) →
+pub on_held-elsewhere : {S C O : Type 0} (rules : Rules S C O) (r : ReplicaState S C) (from ballot held : ℕ) →
     leads r ballot ≡ false → on_held rules r from ballot held ≡ nothing_done O r
 unfolding on_held
 on_held-elsewhere rules r from ballot held no_leader = rw no_leader refl
 
-pub on_held-raises : {S C O : Type 0} (rules : Rules S C O) (r : ReplicaState C) (from ballot held : ℕ) →
+pub on_held-raises : {S C O : Type 0} (rules : Rules S C O) (r : ReplicaState S C) (from ballot held : ℕ) →
     leads r ballot ≡ true →
     on_held rules r from ballot held
     ≡ commit_at rules (record r { progress = raised from held r.progress })
@@ -94,24 +95,24 @@ unfolding on_held commit
 on_held-raises rules r from ballot held leader = rw leader refl
 
 -- Commit at a replica that does not follow the ballot, past its log, and of what it has applied
-pub on_commit-elsewhere : {C : Type 0} (O : Type 0) (r : ReplicaState C) (ballot held : ℕ) →
-    follows r ballot ≡ false → on_commit O r ballot held ≡ nothing_done O r
+pub on_commit-elsewhere : {S C O : Type 0} (rules : Rules S C O) (r : ReplicaState S C) (ballot held : ℕ) →
+    follows r ballot ≡ false → on_commit rules r ballot held ≡ nothing_done O r
 unfolding on_commit
-on_commit-elsewhere O r ballot held no_follower = rw no_follower refl
+on_commit-elsewhere rules r ballot held no_follower = rw no_follower refl
 
-pub on_commit-past : {C : Type 0} (O : Type 0) (r : ReplicaState C) (ballot held : ℕ) →
-    follows r ballot ≡ true → length r.log < held → on_commit O r ballot held ≡ nothing_done O r
+pub on_commit-past : {S C O : Type 0} (rules : Rules S C O) (r : ReplicaState S C) (ballot held : ℕ) →
+    follows r ballot ≡ true → length r.log < held → on_commit rules r ballot held ≡ nothing_done O r
 unfolding on_commit
-on_commit-past O r ballot held follower past = rw (follower, lt-leb held (length r.log) past) refl
+on_commit-past rules r ballot held follower past = rw (follower, lt-leb held (length r.log) past) refl
 
-pub on_commit-takes : {C : Type 0} (O : Type 0) (r : ReplicaState C) (ballot held : ℕ) →
+pub on_commit-takes : {S C O : Type 0} (rules : Rules S C O) (r : ReplicaState S C) (ballot held : ℕ) →
     follows r ballot ≡ true → held ≤ length r.log →
-    on_commit O r ballot held ≡ record { state = record r { committed = max r.committed held }; effects = [] }
+    on_commit rules r ballot held ≡ record { state = applied_to rules r (max r.committed held); effects = [] }
 unfolding on_commit
-on_commit-takes O r ballot held follower within = rw (follower, le-leb held (length r.log) within) refl
+on_commit-takes rules r ballot held follower within = rw (follower, le-leb held (length r.log) within) refl
 
 -- a tick of an active primary, by its role
-pub ticked-active : {C : Type 0} (O : Type 0) (r : ReplicaState C) (role : Role) →
+pub ticked-active : {S C : Type 0} (O : Type 0) (r : ReplicaState S C) (role : Role) →
     is_active role ≡ true → ticked O r role ≡ on_tick_active O r
 ticked-active O r Backup active = cc
 ticked-active O r Fetching active = cc
@@ -119,7 +120,7 @@ ticked-active O r Installing active = cc
 ticked-active O r Active active = refl
 
 -- what such a tick gives
-pub on_tick_active-is : {C : Type 0} (O : Type 0) (r : ReplicaState C) →
+pub on_tick_active-is : {S C : Type 0} (O : Type 0) (r : ReplicaState S C) →
     on_tick_active O r ≡ record {
       state = r;
       effects = appends_behind O r.id r.joined r.log r.progress

@@ -6,21 +6,21 @@ use Rattle.ballot_base.specs.declared.message.Body.TheVariants.{Append, Commit}
 use Rattle.ballot_base.specs.declared.status.Progress.{Progress}
 use Rattle.ballot_base.specs.Replica.{ReplicaState, is_active}
 use Rattle.ballot_base.specs.Sending.{Outcome, nothing_done, message_to_followed, sent_first}
-use Rattle.ballot_base.specs.Serving.{outputs_between, least, commit_at, commit, most_places, added, proposed}
+use Rattle.ballot_base.specs.Applying.{outputs_to, applied_to}
+use Rattle.ballot_base.specs.Serving.{least, commit_at, commit, most_places, added, proposed}
 
 -- nothing new is committed
-pub commit_at-stays : {S C O : Type 0} (rules : Rules S C O) (r : ReplicaState C) (held : ℕ) →
+pub commit_at-stays : {S C O : Type 0} (rules : Rules S C O) (r : ReplicaState S C) (held : ℕ) →
     held ≤ r.committed → commit_at rules r held ≡ nothing_done O r
 unfolding commit_at
 commit_at-stays rules r held below = rw (le-ltb r.committed held below) refl
 
 -- places are committed
-pub commit_at-goes : {S C O : Type 0} (rules : Rules S C O) (r : ReplicaState C) (held : ℕ) →
+pub commit_at-goes : {S C O : Type 0} (rules : Rules S C O) (r : ReplicaState S C) (held : ℕ) →
     r.committed < held →
     commit_at rules r held ≡ record {
-      state = record r { committed = held };
-      effects = outputs_between rules r.log r.committed held
-          ++ message_to_followed O r.id (Commit r.joined held) r.progress;
+      state = applied_to rules r held;
+      effects = outputs_to rules r held ++ message_to_followed O r.id (Commit r.joined held) r.progress;
     }
 unfolding commit_at
 commit_at-goes rules r held above = rw (lt-ltb r.committed held above) refl
@@ -31,7 +31,7 @@ least-le held [] = omega arith
 least-le held (reached ∷ progress) = omega (arith, least-le (min held reached.held) progress)
 
 -- a command that is added is committed by what the others hold
-pub added-is : {S C O : Type 0} (rules : Rules S C O) (r : ReplicaState C) (command : C) →
+pub added-is : {S C O : Type 0} (rules : Rules S C O) (r : ReplicaState S C) (command : C) →
     added rules r command ≡ sent_first
     (message_to_followed O r.id (Append r.joined (length r.log) command) r.progress)
     (commit_at rules (record r { log = r.log ++ command ∷ [] })
@@ -40,35 +40,35 @@ unfolding added commit
 added-is rules r command = refl
 
 -- a proposal is added
-pub proposed-adds : {S C O : Type 0} (rules : Rules S C O) (r : ReplicaState C) (command : C) →
+pub proposed-adds : {S C O : Type 0} (rules : Rules S C O) (r : ReplicaState S C) (command : C) →
     is_active r.role ≡ true → length r.log < most_places → proposed rules r command ≡ added rules r command
 unfolding proposed
 proposed-adds rules r command active room = rw (active, lt-ltb (length r.log) most_places room) refl
 
 -- a proposal is not taken by a replica that is no active primary
-pub proposed-not_active : {S C O : Type 0} (rules : Rules S C O) (r : ReplicaState C) (command : C) →
+pub proposed-not_active : {S C O : Type 0} (rules : Rules S C O) (r : ReplicaState S C) (command : C) →
     is_active r.role ≡ false → proposed rules r command ≡ nothing_done O r
 unfolding proposed
 proposed-not_active rules r command inactive = rw inactive refl
 
 -- nor by one whose log is full
-pub proposed-full : {S C O : Type 0} (rules : Rules S C O) (r : ReplicaState C) (command : C) →
+pub proposed-full : {S C O : Type 0} (rules : Rules S C O) (r : ReplicaState S C) (command : C) →
     is_active r.role ≡ true → most_places ≤ length r.log → proposed rules r command ≡ nothing_done O r
 unfolding proposed
 proposed-full rules r command active full = rw (active, le-ltb (length r.log) most_places full) refl
 
 -- committing stops no replica
-pub commit_at-stopped : {S C O : Type 0} (rules : Rules S C O) (r : ReplicaState C) (held : ℕ) →
+pub commit_at-stopped : {S C O : Type 0} (rules : Rules S C O) (r : ReplicaState S C) (held : ℕ) →
     (commit_at rules r held).state.stopped ≡ r.stopped
-commit_at-stopped {C = C} {O = O} rules r held = by_order (cases_lt r.committed held)
+commit_at-stopped {S = S} {C = C} {O = O} rules r held = by_order (cases_lt r.committed held)
   where
     by_order : (r.committed < held) ⊎ (held ≤ r.committed) → (commit_at rules r held).state.stopped ≡ r.stopped
-    by_order (inl above) = ap (λ (o : Outcome C O). o.state.stopped) (commit_at-goes rules r held above)
-    by_order (inr below) = ap (λ (o : Outcome C O). o.state.stopped) (commit_at-stays rules r held below)
+    by_order (inl above) = ap (λ (o : Outcome S C O). o.state.stopped) (commit_at-goes rules r held above)
+    by_order (inr below) = ap (λ (o : Outcome S C O). o.state.stopped) (commit_at-stays rules r held below)
 
 -- nor does adding
-pub added-stopped : {S C O : Type 0} (rules : Rules S C O) (r : ReplicaState C) (command : C) →
+pub added-stopped : {S C O : Type 0} (rules : Rules S C O) (r : ReplicaState S C) (command : C) →
     (added rules r command).state.stopped ≡ r.stopped
-added-stopped {C = C} {O = O} rules r command =
-    ap (λ (o : Outcome C O). o.state.stopped) (added-is rules r command)
+added-stopped {S = S} {C = C} {O = O} rules r command =
+    ap (λ (o : Outcome S C O). o.state.stopped) (added-is rules r command)
     ∙ commit_at-stopped rules (record r { log = r.log ++ command ∷ [] }) _

@@ -1,3 +1,4 @@
+pub mod Applying
 pub mod Changing
 pub mod LawfulConfig
 pub mod Losses

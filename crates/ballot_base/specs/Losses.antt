@@ -1,5 +1,6 @@
 -- Losses.antt: a step in which memory was wanting, and how such steps are counted.
 use Rattle.std.specs.Prelude.{ℕ, ◌+◌, ◌-◌, ◌^◌, ◌≡◌, ◌⊎◌, true, List, [], ◌∷◌, ◌++◌, min}
+use Rattle.machine.specs.Machine.{Rules}
 use Rattle.ballot_base.specs.declared.message.Message.{Message}
 use Rattle.ballot_base.specs.declared.message.Effect.{Effect}
 use Rattle.ballot_base.specs.declared.message.Effect.TheVariants.{To}
@@ -13,29 +14,31 @@ pub data Thinned {C O : Type 0} : List (Effect C O) → List (Effect C O) → Ty
   loses : {receiver : ℕ} {m : Message C} {xs ys : List (Effect C O)} →
       Thinned xs ys → Thinned xs (To receiver m ∷ ys)
 
--- a replica that found no memory while it applied: its fields stay as before the call
-abbrev pub halted : {C : Type 0} → ReplicaState C → ReplicaState C
-halted r = record r { stopped = true }
+-- a replica that found no memory while it applied: its fields stay as before the call, and its
+-- machine, which may have done a part, is shown no more
+abbrev pub halted : {S C O : Type 0} → Rules S C O → ReplicaState S C → ReplicaState S C
+halted rules r = record r { stopped = true; machine = rules.opening }
 
 -- a step with losses: some messages are missing, or nothing was done, or the replica stopped
-abbrev pub Loses : {C O : Type 0} →
-    ReplicaState C → Outcome C O → ReplicaState C → List (Effect C O) → Type 0
-Loses old outcome new given =
+abbrev pub Loses : {S C O : Type 0} → Rules S C O →
+    ReplicaState S C → Outcome S C O → ReplicaState S C → List (Effect C O) → Type 0
+Loses rules old outcome new given =
     ((new ≡ outcome.state) × Thinned given outcome.effects)
-    ⊎ (((new ≡ old) × (given ≡ [])) ⊎ ((new ≡ halted old) × (given ≡ [])))
+    ⊎ (((new ≡ old) × (given ≡ [])) ⊎ ((new ≡ halted rules old) × (given ≡ [])))
 
 -- the count of losses stays at its greatest number
 abbrev pub one_more : ℕ → ℕ
 one_more losses = min (losses + 1) (2 ^ 64 - 1)
 
 -- the step itself, or a step with losses that was counted
-abbrev pub Steps : {C O : Type 0} → CountedReplica C → Outcome C O → CountedReplica C → List (Effect C O) → Type 0
-Steps old outcome new given =
+abbrev pub Steps : {S C O : Type 0} → Rules S C O →
+    CountedReplica S C → Outcome S C O → CountedReplica S C → List (Effect C O) → Type 0
+Steps rules old outcome new given =
     ((new.state ≡ outcome.state) × (given ≡ outcome.effects) × (new.losses ≡ old.losses))
-    ⊎ (Loses old.state outcome new.state given × (new.losses ≡ one_more old.losses))
+    ⊎ (Loses rules old.state outcome new.state given × (new.losses ≡ one_more old.losses))
 
 -- the step was done, perhaps with messages missing, which was counted
-pub record Done {C O : Type 0} (old : CountedReplica C) (outcome : Outcome C O) (new : CountedReplica C)
+pub record Done {S C O : Type 0} (old : CountedReplica S C) (outcome : Outcome S C O) (new : CountedReplica S C)
     (before behind : List (Effect C O)) : Type 0 where
   pub given : List (Effect C O)
   pub appended : behind ≡ before ++ given
@@ -45,14 +48,15 @@ pub record Done {C O : Type 0} (old : CountedReplica C) (outcome : Outcome C O) 
       ⊎ (new.losses ≡ one_more old.losses)
 
 -- a step in which nothing is handed out, nothing added to the log and nothing applied
-pub record IsQuiet {C O : Type 0} (old : ReplicaState C) (outcome : Outcome C O) : Type 0 where
+pub record IsQuiet {S C O : Type 0} (old : ReplicaState S C) (outcome : Outcome S C O) :
+    Type 0 where
   pub nothing_sent : outcome.effects ≡ []
   pub same_log : outcome.state.log ≡ old.log
   pub same_committed : outcome.state.committed ≡ old.committed
 
 -- a call's effects were appended behind what was there, and they are those of the step
-pub record Stepped {C O : Type 0} (old : CountedReplica C) (outcome : Outcome C O) (new : CountedReplica C)
-    (before behind : List (Effect C O)) : Type 0 where
+pub record Stepped {S C O : Type 0} (rules : Rules S C O) (old : CountedReplica S C)
+    (outcome : Outcome S C O) (new : CountedReplica S C) (before behind : List (Effect C O)) : Type 0 where
   pub given : List (Effect C O)
   pub appended : behind ≡ before ++ given
-  pub steps : Steps old outcome new given
+  pub steps : Steps rules old outcome new given

@@ -18,7 +18,7 @@ pub data Input (C : Type 0) : Type 0 where
   Ticks : Input C
 
 -- a message, by its kind
-abbrev pub received : {S C O : Type 0} → Rules S C O → ReplicaState C → ℕ → Body C → Outcome C O
+abbrev pub received : {S C O : Type 0} → Rules S C O → ReplicaState S C → ℕ → Body C → Outcome S C O
 received {O = O} rules r from (NewBallot ballot members previous previous_members) =
     on_new_ballot O r ballot members previous previous_members
 received {O = O} rules r from (Join ballot previous) = on_join O r from ballot previous
@@ -31,17 +31,18 @@ received {O = O} rules r from (Superseded ballot) = on_superseded O r ballot
 received {O = O} rules r from (Append ballot place command) =
     on_append O r from ballot place command
 received {O = O} rules r from (Held ballot held) = on_held rules r from ballot held
-received {O = O} rules r from (Commit ballot held) = on_commit O r ballot held
+received rules r from (Commit ballot held) = on_commit rules r ballot held
 
 -- a tick, by the role
-abbrev pub ticked : {C : Type 0} (O : Type 0) → ReplicaState C → Role → Outcome C O
+abbrev pub ticked : {S C : Type 0} (O : Type 0) → ReplicaState S C → Role → Outcome S C O
 ticked O r Backup = nothing_done O r
 ticked O r Fetching = on_tick_fetching O r
 ticked O r Installing = on_tick_installing O r
 ticked O r Active = on_tick_active O r
 
 -- the step of a replica that has not stopped
-abbrev pub replica_step : {S C O : Type 0} → Rules S C O → ReplicaState C → Input C → Outcome C O
+abbrev pub replica_step : {S C O : Type 0} →
+    Rules S C O → ReplicaState S C → Input C → Outcome S C O
 replica_step rules r (Receives message) = received rules r message.from message.body
 replica_step rules r (Proposes command) = proposed rules r command
 replica_step {O = O} rules r Ticks = ticked O r r.role
@@ -55,7 +56,7 @@ changes_ballots _ = true
 
 -- the step of a replica that stays in one ballot: messages of a change of ballots are ignored
 abbrev pub step_in_one_ballot : {S C O : Type 0} →
-    Rules S C O → ReplicaState C → Input C → Outcome C O
+    Rules S C O → ReplicaState S C → Input C → Outcome S C O
 step_in_one_ballot {O = O} rules r (Receives message) =
     if changes_ballots message.body
     then nothing_done O r

@@ -1,5 +1,6 @@
 -- Replica.antt: what a replica keeps, and how it opens.
 use Rattle.std.specs.Prelude.{ℕ, Bool, true, false, List, [], length, filter, map, not, ◌==◌, if◌then◌else◌}
+use Rattle.machine.specs.Machine.{Rules}
 use Rattle.ballot_base.specs.declared.config.Config.{Config}
 use Rattle.ballot_base.specs.declared.status.Progress.{Progress}
 use Rattle.ballot_base.specs.declared.status.Role.{Role}
@@ -7,8 +8,9 @@ use Rattle.ballot_base.specs.declared.status.Role.TheVariants.{Backup, Fetching,
 use Rattle.ballot_base.specs.declared.status.Status.{Status}
 use Rattle.std.specs.List.{list_any}
 
--- what one node keeps; its machine is the replay of the first `committed` places of the log
-pub record ReplicaState (C : Type 0) : Type 0 where
+-- what one node keeps: its log, and a machine that has applied some places. In a group the machine
+-- is the replay of the first `committed` places; a lone replica may be handed any log
+pub record ReplicaState (S C : Type 0) : Type 0 where
   pub id : ℕ
   -- the ballot that it joined, and the one in which its log was last installed; 0 before the first
   pub joined : ℕ
@@ -16,21 +18,22 @@ pub record ReplicaState (C : Type 0) : Type 0 where
   -- the commands from place 0 on; a snapshot stands for none of them yet
   pub log : List C
   pub base : ℕ
-  -- how many places are applied
+  -- how many places are applied, and the machine then; once stopped it is shown as it opens
   pub committed : ℕ
+  pub machine : S
   pub role : Role
-  -- of the ballot that it leads: members, the earlier ballot and its members, who has installed the
-  -- log, and what each other member is known to hold
+  -- of the ballot that it leads: members, the earlier ballot and its members, which other members
+  -- lack the log that is being installed, and what each is known to hold
   pub members : List ℕ
   pub previous : ℕ
   pub previous_members : List ℕ
-  pub noted : List ℕ
+  pub lacking : List ℕ
   pub progress : List Progress
   pub stopped : Bool
 
 -- a replica with the number of its calls in which memory was wanting, up to 2^64 - 1
-pub record CountedReplica (C : Type 0) : Type 0 where
-  pub state : ReplicaState C
+pub record CountedReplica (S C : Type 0) : Type 0 where
+  pub state : ReplicaState S C
   pub losses : ℕ
 
 -- whether a role is that of the active primary, and so for the others
@@ -67,8 +70,8 @@ abbrev pub progress_at : ℕ → List ℕ → List Progress
 progress_at held members = map (λ member. record { member = member; held = held }) members
 
 -- the members of ballot 1 have joined it with an empty log; other nodes are backups of no ballot
-abbrev pub opening_member : (C : Type 0) → ℕ → Config → ReplicaState C
-opening_member C id config =
+abbrev pub opening_member : {S C O : Type 0} → Rules S C O → ℕ → Config → ReplicaState S C
+opening_member rules id config =
     let ballot : ℕ = if list_any (λ member. member == id) config.members then 1 else 0 in
     record {
       id = id;
@@ -77,28 +80,29 @@ opening_member C id config =
       log = [];
       base = 0;
       committed = 0;
+      machine = rules.opening;
       role = Backup;
       members = [];
       previous = 0;
       previous_members = [];
-      noted = [];
+      lacking = [];
       progress = [];
       stopped = false;
     }
 
 -- how a node opens: the primary of ballot 1 is active at once, with progress 0 for each other member
-abbrev pub opening : (C : Type 0) → ℕ → Config → ReplicaState C
-opening C id config =
+abbrev pub opening : {S C O : Type 0} → Rules S C O → ℕ → Config → ReplicaState S C
+opening rules id config =
     if id == config.primary
-    then record (opening_member C id config) {
+    then record (opening_member rules id config) {
       role = Active;
       members = config.members;
       progress = progress_at 0 (others id config.members);
     }
-    else opening_member C id config
+    else opening_member rules id config
 
 -- what a replica shows of itself
-abbrev pub status_of : {C : Type 0} → ReplicaState C → Status
+abbrev pub status_of : {S C : Type 0} → ReplicaState S C → Status
 status_of r =
     record {
       ballot = r.joined;

@@ -7,12 +7,12 @@ use Rattle.ballot_base.specs.declared.status.Progress.{Progress}
 use Rattle.ballot_base.specs.Replica.{ReplicaState}
 
 -- what a replica is after a step, and what the step hands out
-pub record Outcome (C O : Type 0) : Type 0 where
-  pub state : ReplicaState C
+pub record Outcome (S C O : Type 0) : Type 0 where
+  pub state : ReplicaState S C
   pub effects : List (Effect C O)
 
 -- nothing changes and nothing is handed out
-abbrev pub nothing_done : {C : Type 0} (O : Type 0) → ReplicaState C → Outcome C O
+abbrev pub nothing_done : {S C : Type 0} (O : Type 0) → ReplicaState S C → Outcome S C O
 nothing_done O r = record { state = r; effects = [] }
 
 -- a message of this replica to a node, to several, and to each node that it keeps a progress of
@@ -27,7 +27,7 @@ abbrev pub message_to_followed : {C : Type 0} (O : Type 0) →
 message_to_followed O id body progress = map (λ reached. message_to O id body reached.member) progress
 
 -- an outcome behind messages that were sent first
-abbrev pub sent_first : {C O : Type 0} → List (Effect C O) → Outcome C O → Outcome C O
+abbrev pub sent_first : {S C O : Type 0} → List (Effect C O) → Outcome S C O → Outcome S C O
 sent_first effects outcome = record { state = outcome.state; effects = effects ++ outcome.effects }
 
 -- the number by which the master is named

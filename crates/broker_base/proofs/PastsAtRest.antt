@@ -5,25 +5,25 @@ use Rattle.lists.specs.Lists.{IsDistinct}
 use Rattle.session_base.specs.Laws.{IsQuietQueue}
 use Rattle.session_base.specs.Queue.{ids_of}
 use Rattle.session_base.proofs.IdentifiersStayApart.{distinct, pubrec_length}
-use Rattle.broker_base.specs.Connection.{ConnectionName}
-use Rattle.broker_base.specs.Place.{Client, Place, Past, Limits, only_if}
-use Rattle.broker_base.specs.Past.{any_connection, ends, ends_any, current_connection, session_of}
-use Rattle.broker_base.specs.Subscriptions.{subscriptions_of}
-use Rattle.broker_base.specs.Received.{received_of}
-use Rattle.broker_base.specs.Retained.{retained_publications}
-use Rattle.broker_base.specs.Entries.{Entry}
-use Rattle.broker_base.specs.Readings.{waiting_of}
-use Rattle.broker_base.specs.Times.{window_at, entries_of}
+use Rattle.broker_model.specs.Connection.{ConnectionName}
+use Rattle.broker_model.specs.Place.{Client, Place, Past, Limits, only_if}
+use Rattle.broker_model.specs.Past.{any_connection, ends, ends_any, current_connection, session_of}
+use Rattle.broker_model.specs.Subscriptions.{subscriptions_of}
+use Rattle.broker_model.specs.Received.{received_of}
+use Rattle.broker_model.specs.Retained.{retained_publications}
+use Rattle.broker_model.specs.Entries.{Entry}
+use Rattle.broker_model.specs.Readings.{waiting_of}
+use Rattle.broker_model.specs.Times.{window_at, entries_of}
 use Rattle.broker_base.specs.ClientSession.{flights_below, client_session}
 use Rattle.broker_base.specs.SessionStep.{kept_after}
 use Rattle.broker_base.specs.Step.{IsWindow}
-use Rattle.broker_base.proofs.SoundEntries.{Sound}
-use Rattle.broker_base.proofs.IdentifiersInFlight.{same_ids}
+use Rattle.broker_model.proofs.SoundEntries.{Sound}
+use Rattle.broker_base.proofs.flights.IdentifiersInFlight.{same_ids}
 use Rattle.broker_base.proofs.QueueAfter.{sound_entries}
 use Rattle.broker_base.proofs.KeptAfter.{kept_with, filled_step}
 use Rattle.broker_base.proofs.QuietPasts.{quiet_queue}
 use Rattle.broker_base.proofs.UntouchedStays.{no_start, same_window}
-use Rattle.broker_base.proofs.FillsWhereItMay.{RestsAt, after_same}
+use Rattle.broker_base.proofs.flights.FillsWhereItMay.{RestsAt, after_same}
 
 apart : (n : ℕ) (es : List Entry) → Sound n es → IsDistinct (ids_of (flights_below n es))
 apart n es s =

@@ -3,27 +3,27 @@ use Rattle.std.proofs.Common.{◌≡◌, ℕ, zero, suc, Bool, true, false, ◌=
 use Rattle.packet.specs.declared.packet.Packet.TheVariants as packets
 use Rattle.session_base.specs.declared.publication.Publication.{Publication}
 use Rattle.session_base.specs.Queue.{Flight, awaited, on_puback, on_pubcomp}
-use Rattle.broker_base.specs.Connection.{ConnectionName}
-use Rattle.broker_base.specs.Place.{Client, same_client, Mark, Past, Limits}
-use Rattle.broker_base.specs.Past.{current_connection, session_of, begins, in_session}
-use Rattle.broker_base.specs.Subscriptions.{subscriptions_of}
-use Rattle.broker_base.specs.Retained.{retained_publications}
-use Rattle.broker_base.specs.Entries.{Entry, copies_by, copies_at, queued}
-use Rattle.broker_base.specs.Readings.{released_at, released_below, waiting_of}
-use Rattle.broker_base.specs.Times.{answered_by, started, window_at, entries_of}
+use Rattle.broker_model.specs.Connection.{ConnectionName}
+use Rattle.broker_model.specs.Place.{Client, same_client, Mark, Past, Limits}
+use Rattle.broker_model.specs.Past.{current_connection, session_of, begins, in_session}
+use Rattle.broker_model.specs.Subscriptions.{subscriptions_of}
+use Rattle.broker_model.specs.Retained.{retained_publications}
+use Rattle.broker_model.specs.Entries.{Entry, copies_by, copies_at, queued}
+use Rattle.broker_model.specs.Readings.{released_at, released_below, waiting_of}
+use Rattle.broker_model.specs.Times.{answered_by, started, window_at, entries_of}
 use Rattle.broker_base.specs.ClientSession.{sent_flights, released_flight, flights_below, queue_of}
 use Rattle.broker_base.specs.SessionStep.{copies_with, filled_on}
-use Rattle.broker_base.proofs.FillingAlways.{answered_flights}
-use Rattle.broker_base.specs.declared.command.Command.{Command}
-use Rattle.broker_base.specs.declared.command.Command.TheVariants as commands
-use Rattle.broker_base.proofs.SoundEntries.{Sound, sound_none}
-use Rattle.broker_base.proofs.AnswersStaySound.{sound_more, sound_puback, sound_pubrec, sound_pubcomp}
-use Rattle.broker_base.proofs.SoundStarts.{sound_new, sound_started}
-use Rattle.broker_base.proofs.AnswersInFlight.{flights_puback, flights_pubcomp}
-use Rattle.broker_base.proofs.WaitingStays.{waiting_puback, waiting_pubrec, waiting_pubcomp}
-use Rattle.broker_base.proofs.PubrecInFlight.{flights_pubrec}
-use Rattle.broker_base.proofs.ReleasesInFlight.{flights_more}
-use Rattle.broker_base.proofs.StartsInFlight.{queue_started}
+use Rattle.broker_base.proofs.flights.FillingAlways.{answered_flights}
+use Rattle.broker_model.specs.declared.command.Command.{Command}
+use Rattle.broker_model.specs.declared.command.Command.TheVariants as commands
+use Rattle.broker_model.proofs.SoundEntries.{Sound, sound_none}
+use Rattle.broker_model.proofs.AnswersStaySound.{sound_more, sound_puback, sound_pubrec, sound_pubcomp}
+use Rattle.broker_model.proofs.SoundStarts.{sound_new, sound_started}
+use Rattle.broker_base.proofs.flights.AnswersInFlight.{flights_puback, flights_pubcomp}
+use Rattle.broker_model.proofs.WaitingStays.{waiting_puback, waiting_pubrec, waiting_pubcomp}
+use Rattle.broker_base.proofs.flights.PubrecInFlight.{flights_pubrec}
+use Rattle.broker_base.proofs.flights.ReleasesInFlight.{flights_more}
+use Rattle.broker_base.proofs.flights.StartsInFlight.{queue_started}
 
 -- ---- the entries of every past are sound
 

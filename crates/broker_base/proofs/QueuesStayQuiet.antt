@@ -11,20 +11,20 @@ use Rattle.session_base.specs.Laws.{IsQuietQueue}
 use Rattle.session_base.specs.Queue.{Queue, ids_of, on_puback, on_pubrec, on_pubcomp, enqueue, filled, copies_left}
 use Rattle.session_base.proofs.FillsOfQueues.{fill_done}
 use Rattle.session_base.proofs.IdentifiersStayApart.{pubrec_length}
-use Rattle.broker_base.specs.Connection.{ConnectionName}
-use Rattle.broker_base.specs.Place.{Client, same_client, Mark, Place, Limits, only_if}
-use Rattle.broker_base.specs.Past.{accepts, any_connection, ends, ends_any}
-use Rattle.broker_base.specs.Commands.{is_start}
+use Rattle.broker_model.specs.Connection.{ConnectionName}
+use Rattle.broker_model.specs.Place.{Client, same_client, Mark, Place, Limits, only_if}
+use Rattle.broker_model.specs.Past.{accepts, any_connection, ends, ends_any}
+use Rattle.broker_model.specs.Commands.{is_start}
 use Rattle.broker_base.specs.ClientSession.{ClientSession}
 use Rattle.broker_base.specs.SessionStep.{copies_with, answered_queue, kept_on, kept_anew, kept_resumed, kept_connected, kept_by, kept_after}
 use Rattle.broker_base.specs.State.{Sessions, State}
 use Rattle.broker_base.specs.Decisions.{place_in}
 use Rattle.broker_base.specs.Step.{is_about, touches, session_after, window_after, step}
 use Rattle.broker_base.specs.StateLaws.{IsSoundSession, HasQuietQueue, AllSound, AllQuiet}
-use Rattle.broker_base.specs.declared.command.Command.{Command}
-use Rattle.broker_base.specs.declared.command.Command.TheVariants as commands
+use Rattle.broker_model.specs.declared.command.Command.{Command}
+use Rattle.broker_model.specs.declared.command.Command.TheVariants as commands
 use Rattle.broker_base.proofs.UntouchedStays.{no_start}
-use Rattle.broker_base.proofs.FillsWhereItMay.{still_quiet}
+use Rattle.broker_base.proofs.flights.FillsWhereItMay.{still_quiet}
 use Rattle.broker_base.proofs.RowsKeep.{If, AllRows, all_left, all_with}
 
 -- ---- a queue

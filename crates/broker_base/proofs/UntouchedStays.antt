@@ -5,23 +5,23 @@ use Rattle.session_base.specs.Subscriptions.{HeldFilter, granted_qos}
 use Rattle.packet.specs.declared.packet.Packet.TheVariants as packets
 use Rattle.retained.specs.Retained.{RetainedTopics}
 use Rattle.session_base.specs.Queue.{Queue}
-use Rattle.broker_base.specs.Connection.{ConnectionName}
-use Rattle.broker_base.specs.Place.{Client, same_client, Mark, Place, Past, Limits, only_if}
-use Rattle.broker_base.specs.Past.{accepts, ends, ends_any}
+use Rattle.broker_model.specs.Connection.{ConnectionName}
+use Rattle.broker_model.specs.Place.{Client, same_client, Mark, Place, Past, Limits, only_if}
+use Rattle.broker_model.specs.Past.{accepts, ends, ends_any}
 use Rattle.session_base.specs.Publication.{publication_of, lower_qos}
 use Rattle.packet.specs.declared.qos.QoS.{QoS}
 use Rattle.std.specs.Prelude.{option_map, is_some}
-use Rattle.broker_base.specs.Subscriptions.{subscribed}
-use Rattle.broker_base.specs.Received.{received_by}
-use Rattle.broker_base.specs.Entries.{copy_of}
-use Rattle.broker_base.specs.Times.{window_at}
-use Rattle.broker_base.specs.Commands.{is_start}
+use Rattle.broker_model.specs.Subscriptions.{subscribed}
+use Rattle.broker_model.specs.Received.{received_by}
+use Rattle.broker_model.specs.Entries.{copy_of}
+use Rattle.broker_model.specs.Times.{window_at}
+use Rattle.broker_model.specs.Commands.{is_start}
 use Rattle.broker_base.specs.ClientSession.{ClientSession}
 use Rattle.broker_base.specs.SessionStep.{copies_with, answered_queue, copied_queue, kept_by, kept_after}
 use Rattle.broker_base.specs.Step.{is_about, IsWindow}
-use Rattle.broker_base.specs.declared.command.Command.{Command}
-use Rattle.broker_base.specs.declared.command.Command.TheVariants as commands
-use Rattle.broker_base.proofs.IdentifiersInFlight.{append_none}
+use Rattle.broker_model.specs.declared.command.Command.{Command}
+use Rattle.broker_model.specs.declared.command.Command.TheVariants as commands
+use Rattle.broker_base.proofs.flights.IdentifiersInFlight.{append_none}
 
 if_no : {A : Type 0} (b : Bool) (x y : A) → b ≡ false → (if b then x else y) ≡ y
 if_no true x y e = absurd (cc)

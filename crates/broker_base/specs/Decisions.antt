@@ -10,13 +10,13 @@ use Rattle.session_base.specs.declared.publication.Publication.{Publication}
 use Rattle.session_base.specs.Publication.{publication_of, lower_qos}
 use Rattle.lists.specs.Lists.{has_id}
 use Rattle.session_base.specs.Queue.{room}
-use Rattle.broker_base.specs.Place.{Client, Mark, Place, Limits}
+use Rattle.broker_model.specs.Place.{Client, Mark, Place, Limits}
 use Rattle.session_base.specs.Subscriptions.{granted_qos}
-use Rattle.broker_base.specs.Marks.{is_queued_at, grants}
+use Rattle.broker_model.specs.Marks.{is_queued_at, grants}
 use Rattle.broker_base.specs.ClientSession.{ClientSession}
 use Rattle.broker_base.specs.State.{State, session_in, owner_in}
-use Rattle.broker_base.specs.declared.command.Command.{Command}
-use Rattle.broker_base.specs.declared.command.Command.TheVariants as commands
+use Rattle.broker_model.specs.declared.command.Command.{Command}
+use Rattle.broker_model.specs.declared.command.Command.TheVariants as commands
 
 -- whether a session would have to queue the publication and is full
 abbrev pub has_no_room_for : Limits → Publication → Client × ClientSession → Bool

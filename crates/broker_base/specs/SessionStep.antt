@@ -7,15 +7,15 @@ use Rattle.session_base.specs.Publication.{publication_of, lower_qos}
 use Rattle.session_base.specs.Subscriptions.{HeldFilter, granted_qos}
 use Rattle.session_base.specs.Session.{empty_session}
 use Rattle.session_base.specs.Queue.{Flight, Queue, on_puback, on_pubrec, on_pubcomp, fill, filled, copies_left, copies_waiting}
-use Rattle.broker_base.specs.Connection.{ConnectionName}
-use Rattle.broker_base.specs.Place.{Client, same_client, Mark, Place, only_if}
-use Rattle.broker_base.specs.Past.{accepts, ends_any}
-use Rattle.broker_base.specs.Subscriptions.{granted_of, subscribed}
-use Rattle.broker_base.specs.Received.{received_by}
-use Rattle.broker_base.specs.Entries.{copy_of, copies_for_all}
+use Rattle.broker_model.specs.Connection.{ConnectionName}
+use Rattle.broker_model.specs.Place.{Client, same_client, Mark, Place, only_if}
+use Rattle.broker_model.specs.Past.{accepts, ends_any}
+use Rattle.broker_model.specs.Subscriptions.{granted_of, subscribed}
+use Rattle.broker_model.specs.Received.{received_by}
+use Rattle.broker_model.specs.Entries.{copy_of, copies_for_all}
 use Rattle.broker_base.specs.ClientSession.{ClientSession}
-use Rattle.broker_base.specs.declared.command.Command.{Command}
-use Rattle.broker_base.specs.declared.command.Command.TheVariants as commands
+use Rattle.broker_model.specs.declared.command.Command.{Command}
+use Rattle.broker_model.specs.declared.command.Command.TheVariants as commands
 
 -- the copies that a command makes for a session with these subscriptions
 abbrev pub copies_with : Command → Mark → RetainedTopics → Client → List HeldFilter → List Publication

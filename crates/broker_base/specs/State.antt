@@ -3,12 +3,12 @@ use Rattle.std.specs.Prelude.{ℕ, if◌then◌else◌, List, [], ◌∷◌, Opt
 use Rattle.std.specs.BTreeMap.{insert_entry, is_at}
 use Rattle.std.specs.Map.{lookup}
 use Rattle.retained.specs.Retained.{RetainedTopics}
-use Rattle.broker_base.specs.Connection.{ConnectionName, same_connection}
-use Rattle.broker_base.specs.Place.{Client, by_bytes, Past, Limits}
-use Rattle.broker_base.specs.Past.{any_connection}
-use Rattle.broker_base.specs.Owner.{named}
-use Rattle.broker_base.specs.Retained.{retained_publications}
-use Rattle.broker_base.specs.Times.{window_at}
+use Rattle.broker_model.specs.Connection.{ConnectionName, same_connection}
+use Rattle.broker_model.specs.Place.{Client, by_bytes, Past, Limits}
+use Rattle.broker_model.specs.Past.{any_connection}
+use Rattle.broker_model.specs.Owner.{named}
+use Rattle.broker_model.specs.Retained.{retained_publications}
+use Rattle.broker_model.specs.Times.{window_at}
 use Rattle.broker_base.specs.ClientSession.{ClientSession, client_session}
 
 -- the sessions, by the bytes of their clients, each client once

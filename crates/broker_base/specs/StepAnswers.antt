@@ -5,17 +5,17 @@ use Rattle.packet.specs.declared.packet.Packet.TheVariants as packets
 use Rattle.retained.specs.Retained.{RetainedTopics}
 use Rattle.session_base.specs.Queue.{on_puback, on_pubrec, on_pubcomp}
 use Rattle.session_base.specs.Sending.{fill_sends, resend, pubrec_sends, copies_sent}
-use Rattle.broker_base.specs.Connection.{ConnectionName}
-use Rattle.broker_base.specs.Place.{Client, Mark, Place}
-use Rattle.broker_base.specs.Past.{begins_session}
-use Rattle.broker_base.specs.Answers.{closed, welcome, turned_away, acknowledged, codes_of}
+use Rattle.broker_model.specs.Connection.{ConnectionName}
+use Rattle.broker_model.specs.Place.{Client, Mark, Place}
+use Rattle.broker_model.specs.Past.{begins_session}
+use Rattle.broker_model.specs.Answers.{closed, welcome, turned_away, acknowledged, codes_of}
 use Rattle.broker_base.specs.ClientSession.{ClientSession}
 use Rattle.broker_base.specs.SessionStep.{copies_with}
 use Rattle.broker_base.specs.State.{State, session_in}
-use Rattle.broker_base.specs.declared.command.Command.{Command}
-use Rattle.broker_base.specs.declared.command.Command.TheVariants as commands
-use Rattle.broker_base.specs.declared.command.Output.{Output}
-use Rattle.broker_base.specs.declared.command.Output.TheVariants.{Send, Close}
+use Rattle.broker_model.specs.declared.command.Command.{Command}
+use Rattle.broker_model.specs.declared.command.Command.TheVariants as commands
+use Rattle.broker_model.specs.declared.command.Output.{Output}
+use Rattle.broker_model.specs.declared.command.Output.TheVariants.{Send, Close}
 
 -- packets to a client that is connected
 abbrev pub sent_on : Option ConnectionName → List Packet → List Output

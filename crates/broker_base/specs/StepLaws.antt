@@ -1,18 +1,18 @@
 -- Laws of the step: one command at a time it gives what the definitions say of the whole list of commands.
 use Rattle.std.specs.Prelude.{◌≡◌, ℕ, false, List, [], ◌∷◌, Some, None}
-use Rattle.broker_base.specs.Place.{Client, Place, Past, Limits}
-use Rattle.broker_base.specs.Past.{accepts}
-use Rattle.broker_base.specs.Retained.{retained_publications}
-use Rattle.broker_base.specs.Times.{window_at}
-use Rattle.broker_base.specs.Marks.{mark_of}
-use Rattle.broker_base.specs.Commands.{place_of, past_of, limits_from, usual_limits}
-use Rattle.broker_base.specs.Answers.{answers_of, answers_from}
+use Rattle.broker_model.specs.Place.{Client, Place, Past, Limits}
+use Rattle.broker_model.specs.Past.{accepts}
+use Rattle.broker_model.specs.Retained.{retained_publications}
+use Rattle.broker_model.specs.Times.{window_at}
+use Rattle.broker_model.specs.Marks.{mark_of}
+use Rattle.broker_model.specs.Commands.{place_of, past_of, limits_from, usual_limits}
+use Rattle.broker_model.specs.Answers.{answers_of, answers_from}
 use Rattle.broker_base.specs.ClientSession.{ClientSession, client_session}
 use Rattle.broker_base.specs.SessionStep.{kept_after}
 use Rattle.broker_base.specs.State.{empty_state, state_of, session_in}
 use Rattle.broker_base.specs.Decisions.{mark_in}
 use Rattle.broker_base.specs.Step.{touches, step, state_from, steps_from, IsWindow}
-use Rattle.broker_base.specs.declared.command.Command.{Command}
+use Rattle.broker_model.specs.declared.command.Command.{Command}
 
 -- after one more place, whatever its mark, what is kept of each client's session is the step of what was kept
 abbrev pub StepsEachSession : Type 0

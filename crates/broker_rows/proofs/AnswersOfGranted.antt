@@ -15,9 +15,9 @@ use Rattle.broker_base.specs.ClientSession.{ClientSession}
 use Rattle.broker_base.specs.State.{Sessions, session_in}
 use Rattle.broker_base.specs.StepAnswers.{sent_on, copies_answered}
 use Rattle.broker_base.specs.StateLaws.{AreByClient}
-use Rattle.broker_base.specs.declared.command.Command.TheVariants as commands
-use Rattle.broker_base.specs.declared.command.Output.{Output}
-use Rattle.subs_base.specs.Inside.{row_of}
+use Rattle.broker_base.specs.Command.TheVariants as commands
+use Rattle.broker_base.specs.Output.{Output}
+use Rattle.subs.specs.Granted.{row_of}
 use Rattle.broker_rows.specs.Published.{granted_rows, copy_answered}
 use Rattle.broker_rows.proofs.FindsEach.{Finds, finds_each}
 

@@ -10,8 +10,8 @@ use Rattle.broker_base.specs.State.{Sessions, State, session_in, owner_in}
 use Rattle.broker_base.specs.Decisions.{packet_mark_in, connect_mark_in, mark_in, place_in}
 use Rattle.broker_base.specs.Step.{is_about, window_after, step}
 use Rattle.broker_base.specs.StateLaws.{IsNobodys}
-use Rattle.broker_base.specs.declared.command.Command.{Command}
-use Rattle.broker_base.specs.declared.command.Command.TheVariants as commands
+use Rattle.broker_base.specs.Command.{Command}
+use Rattle.broker_base.specs.Command.TheVariants as commands
 use Rattle.broker_rows.specs.Touched.{Untouched, comes_on, is_accepted, IsIdle}
 use Rattle.broker_rows.proofs.OneRow.{left_untouched}
 use Rattle.broker_rows.proofs.OneCommand.{ends_none}

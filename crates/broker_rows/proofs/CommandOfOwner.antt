@@ -8,8 +8,8 @@ use Rattle.broker_base.specs.State.{Sessions, State, owner_in}
 use Rattle.broker_base.specs.Decisions.{mark_in, place_in}
 use Rattle.broker_base.specs.Step.{session_after, sessions_left, sessions_with, window_after, step}
 use Rattle.broker_base.specs.StateLaws.{AreByClient, AreApart}
-use Rattle.broker_base.specs.declared.command.Command.{Command}
-use Rattle.broker_base.specs.declared.command.Command.TheVariants as commands
+use Rattle.broker_base.specs.Command.{Command}
+use Rattle.broker_base.specs.Command.TheVariants as commands
 use Rattle.broker_rows.specs.Touched.{comes_on, is_taken, is_accepted, IsMarkOf, written}
 use Rattle.broker_rows.proofs.OneRow.{left_one}
 use Rattle.broker_rows.proofs.OwnersRow.{owner_found, owner_only}

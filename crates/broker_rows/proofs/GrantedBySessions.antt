@@ -15,10 +15,9 @@ use Rattle.broker_base.specs.State.{Sessions, session_in}
 use Rattle.broker_base.proofs.SessionsStayByClient.{ComesBefore}
 use Rattle.broker_base.specs.StateLaws.{AreByClient}
 use Rattle.broker_base.proofs.ClientsInOrder.{same_is}
-use Rattle.subs_base.specs.Content.{Content}
-use Rattle.subs_base.specs.Granted.{Row, clients_of, IsGreatest, IsGranted}
-use Rattle.subs_base.specs.Inside.{row_of}
-use Rattle.subs_base.proofs.GrantsOneList.{one_list}
+use Rattle.subs.specs.Content.{Content}
+use Rattle.subs.specs.Granted.{Row, clients_of, IsGreatest, IsGranted, row_of}
+use Rattle.subs.proofs.GrantsOneList.{one_list}
 use Rattle.broker_rows.specs.Published.{granted_rows}
 use Rattle.broker_rows.specs.Indexed.{subscribed_in, content_in}
 use Rattle.session_base.specs.KeepingLaws.{AreFiltersApart}

@@ -12,8 +12,8 @@ use Rattle.broker_base.specs.ClientSession.{ClientSession}
 use Rattle.broker_base.specs.State.{State, owner_in}
 use Rattle.broker_base.specs.Decisions.{refuses, is_again, owned_mark, packet_mark_in, connect_mark_in, mark_in, place_in}
 use Rattle.broker_base.specs.Step.{is_about}
-use Rattle.broker_base.specs.declared.command.Command.{Command}
-use Rattle.broker_base.specs.declared.command.Command.TheVariants as commands
+use Rattle.broker_base.specs.Command.{Command}
+use Rattle.broker_base.specs.Command.TheVariants as commands
 use Rattle.broker_rows.specs.Touched.{IsOnes, comes_on, is_taken, IsMarkOf}
 
 -- ---- what ends

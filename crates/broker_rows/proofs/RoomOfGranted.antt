@@ -13,7 +13,7 @@ use Rattle.broker_base.specs.ClientSession.{ClientSession}
 use Rattle.broker_base.specs.State.{Sessions, session_in}
 use Rattle.broker_base.specs.Decisions.{has_no_room_for}
 use Rattle.broker_base.specs.StateLaws.{AreByClient}
-use Rattle.subs_base.specs.Inside.{row_of}
+use Rattle.subs.specs.Granted.{row_of}
 use Rattle.broker_rows.specs.Published.{granted_rows, is_full_at}
 use Rattle.broker_rows.proofs.FindsEach.{Finds, finds_each}
 

@@ -7,7 +7,7 @@ use Rattle.broker_base.specs.State.{Sessions, State, owner_in}
 use Rattle.broker_base.specs.StateLaws.{AreByClient, AreApart}
 use Rattle.broker_base.specs.Decisions.{mark_in, place_in}
 use Rattle.broker_base.specs.Step.{session_after, window_after, step}
-use Rattle.broker_base.specs.declared.command.Command.{Command}
+use Rattle.broker_base.specs.Command.{Command}
 use Rattle.broker_rows.specs.Touched.{written, comes_on, is_taken, is_accepted}
 use Rattle.broker_rows.specs.Owners.{Owners, owners_in, row_in}
 

@@ -4,7 +4,7 @@ use Rattle.packet.specs.declared.qos.QoS.{QoS}
 use Rattle.session_base.specs.Subscriptions.{HeldFilter}
 use Rattle.broker_base.specs.ClientSession.{ClientSession}
 use Rattle.broker_base.specs.State.{Sessions, session_in}
-use Rattle.subs_base.specs.Content.{Content}
+use Rattle.subs.specs.Content.{Content}
 
 -- the QoS at which this very filter is subscribed
 abbrev pub qos_at : List ℕ → List HeldFilter → Option QoS

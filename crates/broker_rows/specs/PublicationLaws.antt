@@ -5,8 +5,8 @@ use Rattle.packet.specs.declared.publish.Publish.{Publish}
 use Rattle.retained.specs.Retained.{RetainedTopics}
 use Rattle.session_base.specs.declared.publication.Publication.{Publication}
 use Rattle.session_base.specs.Publication.{publication_of}
-use Rattle.subs_base.specs.Content.{Content}
-use Rattle.subs_base.specs.Granted.{Row, IsGranted}
+use Rattle.subs.specs.Content.{Content}
+use Rattle.subs.specs.Granted.{Row, IsGranted}
 use Rattle.broker_base.specs.Connection.{ConnectionName}
 use Rattle.broker_base.specs.Place.{Client, Limits}
 use Rattle.broker_base.specs.EntryLaws.{taken}

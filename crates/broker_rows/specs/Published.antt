@@ -12,9 +12,8 @@ use Rattle.broker_base.specs.Entries.{copy_of}
 use Rattle.broker_base.specs.ClientSession.{ClientSession}
 use Rattle.broker_base.specs.State.{Sessions}
 use Rattle.broker_base.specs.StepAnswers.{sent_on}
-use Rattle.broker_base.specs.declared.command.Output.{Output}
-use Rattle.subs_base.specs.Granted.{Row}
-use Rattle.subs_base.specs.Inside.{row_of}
+use Rattle.broker_base.specs.Output.{Output}
+use Rattle.subs.specs.Granted.{Row, row_of}
 
 -- a row for each session with a subscription that matches the topic, with the greatest QoS
 abbrev pub granted_rows : List ℕ → Sessions → List Row

@@ -9,12 +9,13 @@ use Rattle.ballot.specs.Message.{Message}
 use Rattle.ballot.specs.Body.{Body}
 use Rattle.ballot.specs.Body.TheVariants.{NewBallot, Join, State, Install, Installed, Activate, Activated, Superseded, Append, Held, Commit}
 use Rattle.ballot.specs.LawfulConfig.{is_lawful, are_rising}
-use Rattle.master.specs.Group.{World}
+use Rattle.agreement.specs.World.{World}
 use Rattle.lists.specs.Lists.{In, IsPrefixOf}
 use Rattle.master.specs.Agreement.{Past, HasTold, IsChosen, IsAgreed}
 use Rattle.lists.specs.Lists.In.{here, there}
 use Rattle.master.specs.Agreement.HasTold.{as_primary, by_held}
 use Rattle.master.specs.Inside.{held_in_one, told_in, more_told, told_from, bounded, least_told, agreed_length}
+use Rattle.agreement.proofs.LawfulConfigs.{Lawful, lawful_config, any_in}
 use Rattle.lists.proofs.Beginnings.{prefix_then, prefix_length}
 use Rattle.master.proofs.Sound.{log_at, Told, AllTold}
 use Rattle.master.proofs.Sound.Told.{told_nothing, told_as_primary, told_by_held}
@@ -162,46 +163,6 @@ least_told-most {C = C} primary sent least (x ∷ members) j below all =
     (λ e. least_told-most primary sent (bounded least (told_from None x sent)) members j
     (bounded-ge j least (told_from None x sent) below (all x here (λ h. let t = eq-eqb x primary h in cc))) (λ m i. all m (there i)))
 
--- members rise from above 0, and the primary is one of them
-rising_above : (last : ℕ) (members : List ℕ) (m : ℕ) → are_rising last members ≡ true → In m members → last < m
-rising_above last [] m rising i = elim i [ ]
-rising_above last (x ∷ members) m rising here =
-    let a = and_parts (nat_lt last m && nat_le m 15) (are_rising m members) rising in
-    let b = and_parts (nat_lt last m) (nat_le m 15) a.0 in ltb-true last m b.0
-rising_above last (x ∷ members) m rising (there i) =
-    let a = and_parts (nat_lt last x && nat_le x 15) (are_rising x members) rising in
-    let b = and_parts (nat_lt last x) (nat_le x 15) a.0 in
-    let c = ltb-true last x b.0 in let d = rising_above x members m a.1 i in omega (arith, c, d)
-
-any_in : (k : ℕ) (members : List ℕ) → list_any (λ member. member == k) members ≡ true → In k members
-any_in k [] any = cc
-any_in k (m ∷ members) any =
-    by_first (any_in k members) (or_cases (m == k) (list_any (λ member. member == k) members) any)
-  where
-    by_first : (list_any (λ member. member == k) members ≡ true → In k members) →
-        ((m == k) ≡ true) ⊎ (list_any (λ member. member == k) members ≡ true) → In k (m ∷ members)
-    by_first f (inl e) = subst (λ x. In k (x ∷ members)) (sym (eqb-true m k e)) here
-    by_first f (inr h) = there (f h)
-
--- what a lawful configuration gives
-pub record Lawful (config : Config) (p : ℕ) : Type 0 where
-  pub primary : config.primary ≡ p + 1
-  pub member : list_any (λ member. member == config.primary) config.members ≡ true
-  pub positive : (m : ℕ) → In m config.members → 0 < m
-
-pub lawful_config : (config : Config) → is_lawful config.members config.primary ≡ true → Lawful config (config.primary - 1)
-lawful_config config lawful =
-    let a = and_parts (are_rising 0 config.members)
-    (nat_le 1 (length config.members) && (nat_le (length config.members) 7 && list_any (λ member. member == config.primary) config.members)) lawful in
-    let b = and_parts (nat_le 1 (length config.members)) (nat_le (length config.members) 7 && list_any (λ member. member == config.primary) config.members) a.1 in
-    let c = and_parts (nat_le (length config.members) 7) (list_any (λ member. member == config.primary) config.members) b.1 in
-    let positive = rising_above 0 config.members config.primary a.0 (any_in config.primary config.members c.1) in
-    record {
-      primary = omega (arith, positive);
-      member = c.1;
-      positive = λ m i. rising_above 0 config.members m a.0 i;
-    }
-
 -- a beginning that is short enough is one of the front
 prefix_of_take : {X : Type 0} (n : ℕ) (xs ys : List X) → IsPrefixOf xs ys → length xs ≤ n → IsPrefixOf xs (take n ys)
 prefix_of_take n [] ys p short = record { rest = take n ys; is = refl }
@@ -213,9 +174,9 @@ prefix_of_take {X = X} (suc n) (x ∷ xs) (y ∷ ys) p short =
     record { rest = q.rest; is = ap (λ z. z ∷ take n ys) a ∙ ap (λ us. x ∷ us) q.is }
 
 -- what a member ever told begins the primary's log
-told_in_log : {S C O : Type 0} (rules : Rules S C O) (config : Config) (p : ℕ) (w : World C O) (past : List (World C O)) (n : ℕ) (told : List C) →
+told_in_log : {S C O : Type 0} (rules : Rules S C O) (config : Config) (p : ℕ) (w : World S C O) (past : List (World S C O)) (n : ℕ) (told : List C) →
     Lawful config p → Past rules config (w ∷ past) → HasTold config (w ∷ past) n told → IsPrefixOf told (log_at w p)
-told_in_log {C = C} rules config p w past n told l came (as_primary v i e same) =
+told_in_log {S = S} {C = C} rules config p w past n told l came (as_primary v i e same) =
     subst (λ (us : List C). IsPrefixOf us (log_at w p)) same
     (prefix_then (log_front rules config p v n (past_sound_at rules config p v w past l.primary l.member came i))
     ((past_extends rules config p v w past l.primary l.member came i).logs p))
@@ -225,18 +186,18 @@ told_in_log rules config p w past n told l came (by_held v receiver i sent front
     ((past_extends rules config p v w past l.primary l.member came i).logs p))
 
 -- and its length was sent, unless it is the primary
-told_was_sent : {S C O : Type 0} (rules : Rules S C O) (config : Config) (p : ℕ) (w : World C O) (past : List (World C O)) (n : ℕ) (told : List C) →
+told_was_sent : {S C O : Type 0} (rules : Rules S C O) (config : Config) (p : ℕ) (w : World S C O) (past : List (World S C O)) (n : ℕ) (told : List C) →
     Lawful config p → Past rules config (w ∷ past) → (n + 1 ≡ config.primary → ⊥) → HasTold config (w ∷ past) n told →
     (k : ℕ) × (told_from None (n + 1) w.sent ≡ Some k) × (length told ≤ k)
 told_was_sent rules config p w past n told l came ne (as_primary v i e same) = absurd (ne e)
-told_was_sent {C = C} rules config p w past n told l came ne (by_held v receiver i sent front) =
+told_was_sent {S = S} {C = C} rules config p w past n told l came ne (by_held v receiver i sent front) =
     told_from-in None (n + 1) w.sent _ (length told) (told_in-own C (n + 1) (length told))
     ((past_extends rules config p v w past l.primary l.member came i).sent _ sent)
 
 -- the members have told the agreed length
-all_told : {S C O : Type 0} (rules : Rules S C O) (config : Config) (p : ℕ) (w : World C O) →
+all_told : {S C O : Type 0} (rules : Rules S C O) (config : Config) (p : ℕ) (w : World S C O) →
     Lawful config p → AllTold config p w (least_told config.primary w.sent (length (log_at w p)) config.members)
-all_told {C = C} {O = O} rules config p w l n i = by_primary (cases_eq (n + 1) config.primary)
+all_told {S = S} {C = C} {O = O} rules config p w l n i = by_primary (cases_eq (n + 1) config.primary)
   where
     by_told : (o : Option ℕ) → told_from None (n + 1) w.sent ≡ o →
         least_told config.primary w.sent (length (log_at w p)) config.members ≤ bounded (least_told config.primary w.sent (length (log_at w p)) config.members) o →
@@ -258,10 +219,10 @@ all_told {C = C} {O = O} rules config p w l n i = by_primary (cases_eq (n + 1) c
         (least_told-member config.primary w.sent (length (log_at w p)) config.members (n + 1) i ne)
 
 -- the front of the primary's log that all have told is the agreed list
-agreed_at : {S C O : Type 0} (rules : Rules S C O) (config : Config) (p : ℕ) (w : World C O) (past : List (World C O)) →
+agreed_at : {S C O : Type 0} (rules : Rules S C O) (config : Config) (p : ℕ) (w : World S C O) (past : List (World S C O)) →
     Lawful config p → Past rules config (w ∷ past) →
     IsAgreed config (w ∷ past) (take (least_told config.primary w.sent (length (log_at w p)) config.members) (log_at w p))
-agreed_at {C = C} {O = O} rules config p w past l came =
+agreed_at {S = S} {C = C} {O = O} rules config p w past l came =
     record {
       chosen = by_length (least_told config.primary w.sent (length (log_at w p)) config.members) (all_told rules config p w l);
       longest = λ ys chosen. longest ys chosen (chosen p (subst (λ k. In k config.members) l.primary (any_in config.primary config.members l.member)));
@@ -288,15 +249,15 @@ agreed_at {C = C} {O = O} rules config p w past l came =
         prefix_of_take (least_told config.primary w.sent (length (log_at w p)) config.members) ys (log_at w p) whole
         (least_told-most config.primary w.sent (length (log_at w p)) config.members (length ys) (prefix_length whole) (sent_by ys chosen))
 
-pub agreed_is : {S C O : Type 0} (rules : Rules S C O) (config : Config) (w : World C O) (past : List (World C O)) →
+pub agreed_is : {S C O : Type 0} (rules : Rules S C O) (config : Config) (w : World S C O) (past : List (World S C O)) →
     Past rules config (w ∷ past) → IsAgreed config (w ∷ past) (take (agreed_length config w) (log_at w (config.primary - 1)))
 agreed_is rules config w past came =
     agreed_at rules config (config.primary - 1) w past (lawful_config config (past_lawful rules config (w ∷ past) came)) came
 
 -- there is one agreed list
-pub one_agreed : {C O : Type 0} (config : Config) (past : List (World C O)) (xs ys : List C) →
+pub one_agreed : {S C O : Type 0} (config : Config) (past : List (World S C O)) (xs ys : List C) →
     IsAgreed config past xs → IsAgreed config past ys → length xs ≡ length ys
-one_agreed {C = C} {O = O} config past xs ys a b =
+one_agreed {S = S} {C = C} {O = O} config past xs ys a b =
     let c = at_most xs ys a.chosen b in let d = at_most ys xs b.chosen a in omega (arith, c, d)
   where
     at_most : (xs ys : List C) → (xs ≡ []) ⊎ IsChosen config past xs → IsAgreed config past ys → length xs ≤ length ys

@@ -3,7 +3,7 @@ use Rattle.std.proofs.Common.{◌≡◌, ℕ, ◌+◌, ◌<◌, ◌≤◌, ◌�
 use Rattle.std.specs.Prelude.{slice_get, ◌==◌, ◌&&◌}
 use Rattle.std.proofs.lemmas.Bool.{cases_eq, cases_lt, cases_Bool, eq-eqb, ne_eqb, and_parts}
 use Rattle.std.proofs.lemmas.List.{append-nil, take-append-le, length-append}
-use Rattle.machine.specs.Machine.{Rules}
+use Rattle.machine.specs.Machine.{Rules, replay}
 use Rattle.ballot.specs.Config.{Config}
 use Rattle.ballot.specs.Message.{Message}
 use Rattle.ballot.specs.Body.{Body}
@@ -14,30 +14,31 @@ use Rattle.ballot.specs.Sending.{Outcome, nothing_done, message_to_followed, sen
 use Rattle.ballot.specs.Serving.{least, commit_at, added, proposed, most_places, extended, follows, leads, raised, raised_progress, on_append, on_held, on_commit, append_at, appends_behind}
 use Rattle.ballot.specs.Protocol.{step_in_one_ballot, ticked}
 use Rattle.ballot.specs.Protocol.Input.{Receives, Ticks}
+use Rattle.ballot.proofs.AppliesInOrder.{replay_goes_on}
 use Rattle.ballot.proofs.StepRows.{commit_at-goes, commit_at-stays, added-is, proposed-adds, proposed-not_active, proposed-full}
 use Rattle.ballot.proofs.MessageRows.{raised_progress-member, on_append-elsewhere, on_append-gap, on_append-takes, on_held-elsewhere, on_held-raises, on_commit-elsewhere, on_commit-past, on_commit-takes, ticked-active, on_tick_active-is}
-use Rattle.master.specs.Group.{World, messages, outputs}
+use Rattle.agreement.specs.World.{World, messages, outputs}
 use Rattle.lists.specs.Lists.{In, IsPrefixOf}
 use Rattle.master.specs.Agreement.{outputs_of}
 use Rattle.lists.specs.Lists.In.{here, there}
-use Rattle.lists.proofs.Beginnings.{prefix_same, prefix_then, prefix_push, prefix_next, prefix_length}
+use Rattle.lists.proofs.Beginnings.{take_prefix, prefix_same, prefix_then, prefix_push, prefix_next, prefix_length}
 use Rattle.lists.proofs.Places.{get_pushed}
 use Rattle.lists.proofs.Members.{in_append}
-use Rattle.master.proofs.Effects.{messages-append, outputs-append, outputs_of_messages, said_to_followed}
+use Rattle.agreement.proofs.Effects.{messages-append, outputs-append, outputs_of_messages, said_to_followed}
 use Rattle.master.proofs.Sound.{log_at, Told, AllTold, Says, IsSoundNode, IsSound, HasGrown, told_less, all_told_kept, node_kept}
 use Rattle.master.proofs.Sound.Told.{told_by_held}
 use Rattle.master.proofs.Rows.{Owes, owes_nothing, owes_commit, left_of_primary}
 
 -- the log of the primary, at its own place
-log_here : {C O : Type 0} (v : World C O) (n p : ℕ) (log : List C) → n ≡ p → log_at v n ≡ log → log_at v p ≡ log
+log_here : {S C O : Type 0} (v : World S C O) (n p : ℕ) (log : List C) → n ≡ p → log_at v n ≡ log → log_at v p ≡ log
 log_here v n p log e l = ap (log_at v) (sym e) ∙ l
 
 -- what was sent first, and then the rest
-owes_sent_first : {S C O : Type 0} (rules : Rules S C O) (config : Config) (p : ℕ) (w : World C O) (n : ℕ)
-    (old : ReplicaState C) (body : Body C) (progress : List Progress) (id : ℕ) (o : Outcome C O) →
-    ((v : World C O) → HasGrown w v → log_at v n ≡ o.state.log → Says config p v id body) →
+owes_sent_first : {S C O : Type 0} (rules : Rules S C O) (config : Config) (p : ℕ) (w : World S C O) (n : ℕ)
+    (old : ReplicaState S C) (body : Body C) (progress : List Progress) (id : ℕ) (o : Outcome S C O) →
+    ((v : World S C O) → HasGrown w v → log_at v n ≡ o.state.log → Says config p v id body) →
     Owes rules config p w n old o → Owes rules config p w n old (sent_first (message_to_followed O id body progress) o)
-owes_sent_first {C = C} {O = O} rules config p w n old body progress id o said owes =
+owes_sent_first {S = S} {C = C} {O = O} rules config p w n old body progress id o said owes =
     record {
       grown = owes.grown;
       fits = owes.fits;
@@ -52,7 +53,7 @@ owes_sent_first {C = C} {O = O} rules config p w n old body progress id o said o
     silent = outputs-append (message_to_followed O id body progress) o.effects
         ∙ ap (λ us. us ++ outputs o.effects) (outputs_of_messages id body progress)
 
-    by_part : (v : World C O) → HasGrown w v → log_at v n ≡ o.state.log → (receiver : ℕ) (m : Message C) →
+    by_part : (v : World S C O) → HasGrown w v → log_at v n ≡ o.state.log → (receiver : ℕ) (m : Message C) →
         In (receiver, m) (messages (message_to_followed O id body progress)) ⊎ In (receiver, m) (messages o.effects) →
         Says config p v m.from m.body
     by_part v x l receiver m (inl i) =
@@ -60,22 +61,22 @@ owes_sent_first {C = C} {O = O} rules config p w n old body progress id o said o
     by_part v x l receiver m (inr i) = owes.says v x l receiver m i
 
 -- committing changes no log
-commit_log : {S C O : Type 0} (rules : Rules S C O) (r : ReplicaState C) (k : ℕ) → (commit_at rules r k).state.log ≡ r.log
-commit_log {C = C} {O = O} rules r k = by_order (cases_lt r.committed k)
+commit_log : {S C O : Type 0} (rules : Rules S C O) (r : ReplicaState S C) (k : ℕ) → (commit_at rules r k).state.log ≡ r.log
+commit_log {S = S} {C = C} {O = O} rules r k = by_order (cases_lt r.committed k)
   where
     by_order : (r.committed < k) ⊎ (k ≤ r.committed) → (commit_at rules r k).state.log ≡ r.log
-    by_order (inl above) = ap (λ (o : Outcome C O). o.state.log) (commit_at-goes rules r k above)
-    by_order (inr below) = ap (λ (o : Outcome C O). o.state.log) (commit_at-stays rules r k below)
+    by_order (inl above) = ap (λ (o : Outcome S C O). o.state.log) (commit_at-goes rules r k above)
+    by_order (inr below) = ap (λ (o : Outcome S C O). o.state.log) (commit_at-stays rules r k below)
 
 -- a proposal at the primary
-owes_added : {S C O : Type 0} (rules : Rules S C O) (config : Config) (p : ℕ) (w : World C O) (old : ReplicaState C) (c : C) →
-    IsSound rules config p w → slice_get w.nodes p ≡ Some old → is_active old.role ≡ true →
+owes_added : {S C O : Type 0} (rules : Rules S C O) (config : Config) (p : ℕ) (w : World S C O) (old : ReplicaState S C) (c : C) →
+    IsSound rules config p w → slice_get w.nodes p ≡ Some old → old.stopped ≡ false → is_active old.role ≡ true →
     Owes rules config p w p old (added rules old c)
-owes_added {C = C} {O = O} rules config p w old c sound stands active =
+owes_added {S = S} {C = C} {O = O} rules config p w old c sound stands running active =
     let s = sound.nodes p old stands in
     let joined = (s.leads active).1 in
     let room = length-append old.log (c ∷ []) in
-    subst (λ (z : Outcome C O). Owes rules config p w p old z) (sym (added-is rules old c))
+    subst (λ (z : Outcome S C O). Owes rules config p w p old z) (sym (added-is rules old c))
     (owes_sent_first rules config p w p old (Append old.joined (length old.log) c) old.progress old.id _
     (λ v x l. (
       joined,
@@ -83,7 +84,7 @@ owes_added {C = C} {O = O} rules config p w old c sound stands active =
           (sym (l ∙ commit_log rules (record old { log = old.log ++ c ∷ [] }) _)) (get_pushed old.log c),
     ))
     (owes_commit rules config p w old (record old { log = old.log ++ c ∷ [] }) active joined (prefix_push old.log c)
-    (λ v x l. let t = node_kept config p w v p old x s in record {
+    (λ v x l. let t = node_kept rules config p w v p old x s in record {
       id = t.id;
       leads = t.leads;
       follows = t.follows;
@@ -92,24 +93,26 @@ owes_added {C = C} {O = O} rules config p w old c sound stands active =
       committed = t.committed;
       followed = t.followed;
       covered = t.covered;
+      machine = λ h. t.machine h ∙ ap (replay rules) (sym (take-append-le old.committed old.log (c ∷ []) s.within));
     })
     (let a = s.within in omega (arith, a, room))
+    (s.machine running ∙ ap (replay rules) (sym (take-append-le old.committed old.log (c ∷ []) s.within)))
     (left_of_primary rules p w p old stands sound.left refl
     ∙ ap (outputs_of rules) (sym (take-append-le old.committed old.log (c ∷ []) s.within)))))
 
 -- a proposal
-pub owes_proposed : {S C O : Type 0} (rules : Rules S C O) (config : Config) (p : ℕ) (w : World C O) (n : ℕ)
-    (old : ReplicaState C) (c : C) → IsSound rules config p w → slice_get w.nodes n ≡ Some old →
+pub owes_proposed : {S C O : Type 0} (rules : Rules S C O) (config : Config) (p : ℕ) (w : World S C O) (n : ℕ)
+    (old : ReplicaState S C) (c : C) → IsSound rules config p w → slice_get w.nodes n ≡ Some old → old.stopped ≡ false →
     Owes rules config p w n old (proposed rules old c)
-owes_proposed {C = C} {O = O} rules config p w n old c sound stands = by_role (cases_Bool (is_active old.role))
+owes_proposed {S = S} {C = C} {O = O} rules config p w n old c sound stands running = by_role (cases_Bool (is_active old.role))
   where
     by_room : is_active old.role ≡ true → (length old.log < most_places) ⊎ (most_places ≤ length old.log) →
         Owes rules config p w n old (proposed rules old c)
     by_room active (inl room) =
         let e = ((sound.nodes n old stands).leads active).0 in
-        subst (λ (z : Outcome C O). Owes rules config p w n old z) (sym (proposed-adds rules old c active room))
+        subst (λ (z : Outcome S C O). Owes rules config p w n old z) (sym (proposed-adds rules old c active room))
         (subst (λ k. Owes rules config p w k old (added rules old c)) (sym e)
-        (owes_added rules config p w old c sound (ap (slice_get w.nodes) (sym e) ∙ stands) active))
+        (owes_added rules config p w old c sound (ap (slice_get w.nodes) (sym e) ∙ stands) running active))
     by_room active (inr full) =
         owes_nothing rules config p w n old _ sound stands (proposed-full rules old c active full)
 
@@ -134,7 +137,7 @@ raised_in member held (m ∷ progress) reached (there i) = there (raised_in memb
 raised_in member held [] reached i = elim i [ ]
 
 -- who has told two lengths has told the greater
-told_max : {C O : Type 0} (v : World C O) (p m a b : ℕ) → Told v p m a → Told v p m b → Told v p m (max a b)
+told_max : {S C O : Type 0} (v : World S C O) (p m a b : ℕ) → Told v p m a → Told v p m b → Told v p m (max a b)
 told_max v p m a b s t = by_order (cases_lt a b)
   where
     by_order : (a < b) ⊎ (b ≤ a) → Told v p m (max a b)
@@ -142,10 +145,10 @@ told_max v p m a b s t = by_order (cases_lt a b)
     by_order (inr more) = told_less v p m a (max a b) (omega arith) s
 
 -- a raised progress is told
-raised_told : {C O : Type 0} (config : Config) (p : ℕ) (v : World C O) (from ballot held receiver : ℕ) (before : Progress) (m : ℕ) →
+raised_told : {S C O : Type 0} (config : Config) (p : ℕ) (v : World S C O) (from ballot held receiver : ℕ) (before : Progress) (m : ℕ) →
     ballot ≡ 1 → before.member ≡ m + 1 → Told v p m before.held →
     In (receiver, record { from = from; body = Held ballot held }) v.sent → Told v p m (raised_progress from held before).held
-raised_told {C = C} {O = O} config p v from ballot held receiver before m one member told i = by_member (cases_eq before.member from)
+raised_told {S = S} {C = C} {O = O} config p v from ballot held receiver before m one member told i = by_member (cases_eq before.member from)
   where
     answer : from ≡ m + 1 → Told v p m held
     answer e = told_by_held receiver held
@@ -163,15 +166,16 @@ raised_told {C = C} {O = O} config p v from ballot held receiver before m one me
         subst (λ k. Told v p m k) (sym e) told
 
 -- Held at the primary
-owes_raised : {S C O : Type 0} (rules : Rules S C O) (config : Config) (p : ℕ) (w : World C O) (old : ReplicaState C)
-    (from ballot held receiver : ℕ) → IsSound rules config p w → slice_get w.nodes p ≡ Some old → is_active old.role ≡ true →
+owes_raised : {S C O : Type 0} (rules : Rules S C O) (config : Config) (p : ℕ) (w : World S C O) (old : ReplicaState S C)
+    (from ballot held receiver : ℕ) → IsSound rules config p w → slice_get w.nodes p ≡ Some old → old.stopped ≡ false →
+    is_active old.role ≡ true →
     In (receiver, record { from = from; body = Held ballot held }) w.sent →
     Owes rules config p w p old (commit_at rules (record old { progress = raised from held old.progress }) (least (length old.log) (raised from held old.progress)))
-owes_raised {C = C} {O = O} rules config p w old from ballot held receiver sound stands active i =
+owes_raised {S = S} {C = C} {O = O} rules config p w old from ballot held receiver sound stands running active i =
     let s = sound.nodes p old stands in
     let said = sound.said receiver _ i in
     owes_commit rules config p w old (record old { progress = raised from held old.progress }) active (s.leads active).1 (prefix_same old.log)
-    (λ v x l. let t = node_kept config p w v p old x s in record {
+    (λ v x l. let t = node_kept rules config p w v p old x s in record {
       id = t.id;
       leads = t.leads;
       follows = t.follows;
@@ -180,11 +184,13 @@ owes_raised {C = C} {O = O} rules config p w old from ballot held receiver sound
       committed = t.committed;
       followed = λ reached j m e. progress_told v x t said reached (in_raised from held old.progress reached j) m e;
       covered = λ a m j. cover (t.covered a m j);
+      machine = t.machine;
     })
     s.within
+    (s.machine running)
     (left_of_primary rules p w p old stands sound.left refl)
   where
-    progress_told : (v : World C O) → HasGrown w v → IsSoundNode config p v p old → Says config p w from (Held ballot held) →
+    progress_told : (v : World S C O) → HasGrown w v → IsSoundNode rules config p v p old → Says config p w from (Held ballot held) →
         (reached : Progress) → (before : Progress) × In before old.progress × (reached ≡ raised_progress from held before) →
         (m : ℕ) → reached.member ≡ m + 1 → Told v p m reached.held
     progress_told v x t said reached (before, j, e) m h =
@@ -200,19 +206,19 @@ owes_raised {C = C} {O = O} rules config p w old from ballot held receiver sound
     cover (inr (reached, j, e)) = inr (raised_progress from held reached, raised_in from held old.progress reached j, raised_progress-member from held reached ∙ e)
 
 -- a Held that comes
-owes_held : {S C O : Type 0} (rules : Rules S C O) (config : Config) (p : ℕ) (w : World C O) (n : ℕ) (old : ReplicaState C)
-    (from ballot held receiver : ℕ) → IsSound rules config p w → slice_get w.nodes n ≡ Some old →
+owes_held : {S C O : Type 0} (rules : Rules S C O) (config : Config) (p : ℕ) (w : World S C O) (n : ℕ) (old : ReplicaState S C)
+    (from ballot held receiver : ℕ) → IsSound rules config p w → slice_get w.nodes n ≡ Some old → old.stopped ≡ false →
     In (receiver, record { from = from; body = Held ballot held }) w.sent →
     Owes rules config p w n old (on_held rules old from ballot held)
-owes_held {C = C} {O = O} rules config p w n old from ballot held receiver sound stands i = by_role (cases_Bool (leads old ballot))
+owes_held {S = S} {C = C} {O = O} rules config p w n old from ballot held receiver sound stands running i = by_role (cases_Bool (leads old ballot))
   where
     by_role : (leads old ballot ≡ true) ⊎ (leads old ballot ≡ false) → Owes rules config p w n old (on_held rules old from ballot held)
     by_role (inl leader) =
         let active = (and_parts (old.joined == ballot) (is_active old.role) leader).1 in
         let e = ((sound.nodes n old stands).leads active).0 in
-        subst (λ (z : Outcome C O). Owes rules config p w n old z) (sym (on_held-raises rules old from ballot held leader))
+        subst (λ (z : Outcome S C O). Owes rules config p w n old z) (sym (on_held-raises rules old from ballot held leader))
         (subst (λ k. Owes rules config p w k old (commit_at rules (record old { progress = raised from held old.progress }) (least (length old.log) (raised from held old.progress)))) (sym e)
-        (owes_raised rules config p w old from ballot held receiver sound (ap (slice_get w.nodes) (sym e) ∙ stands) active i))
+        (owes_raised rules config p w old from ballot held receiver sound (ap (slice_get w.nodes) (sym e) ∙ stands) running active i))
     by_role (inr no_leader) =
         owes_nothing rules config p w n old _ sound stands (on_held-elsewhere rules old from ballot held no_leader)
 
@@ -242,20 +248,20 @@ extended_grows {C = C} log place c = by_place (cases_eq place (length log))
         subst (λ (us : List C). IsPrefixOf log us) (sym same) (prefix_same log)
 
 -- an Append that comes
-owes_append : {S C O : Type 0} (rules : Rules S C O) (config : Config) (p : ℕ) (w : World C O) (n : ℕ) (old : ReplicaState C)
+owes_append : {S C O : Type 0} (rules : Rules S C O) (config : Config) (p : ℕ) (w : World S C O) (n : ℕ) (old : ReplicaState S C)
     (from ballot place : ℕ) (c : C) → IsSound rules config p w → slice_get w.nodes n ≡ Some old →
     Says config p w from (Append ballot place c) → Owes rules config p w n old (on_append O old from ballot place c)
-owes_append {C = C} {O = O} rules config p w n old from ballot place c sound stands said = by_role (cases_Bool (follows old ballot))
+owes_append {S = S} {C = C} {O = O} rules config p w n old from ballot place c sound stands said = by_role (cases_Bool (follows old ballot))
   where
     taken : follows old ballot ≡ true → place ≤ length old.log → Owes rules config p w n old (on_append O old from ballot place c)
     taken follower within =
         let s = sound.nodes n old stands in
         let backup = (and_parts (old.joined == ballot && old.held_in == ballot) (is_backup old.role) follower).1 in
         let grown = extended_grows old.log place c in
-        subst (λ (z : Outcome C O). Owes rules config p w n old z) (sym (on_append-takes O old from ballot place c follower within))
+        subst (λ (z : Outcome S C O). Owes rules config p w n old z) (sym (on_append-takes O old from ballot place c follower within))
         (record {
           grown = grown;
-          fits = λ v x l. let t = node_kept config p w v n old x s in record {
+          fits = λ v x l. let t = node_kept rules config p w v n old x s in record {
             id = t.id;
             leads = t.leads;
             follows = t.follows;
@@ -264,13 +270,14 @@ owes_append {C = C} {O = O} rules config p w n old from ballot place c sound sta
             committed = t.committed;
             followed = t.followed;
             covered = t.covered;
+            machine = λ h. t.machine h ∙ ap (replay rules) (sym (take_prefix old.committed grown s.within));
           };
           says = λ v x l receiver m i. one_said v l receiver m i;
           left_here = λ h. absurd (s.follows backup h);
           left_elsewhere = λ h. refl;
         })
       where
-        one_said : (v : World C O) → log_at v n ≡ extended place c old.log → (receiver : ℕ) (m : Message C) →
+        one_said : (v : World S C O) → log_at v n ≡ extended place c old.log → (receiver : ℕ) (m : Message C) →
             In {X = ℕ × Message C} (receiver, m) ((from, record { from = old.id; body = Held ballot (length (extended place c old.log)) }) ∷ []) →
             Says config p v m.from m.body
         one_said v l receiver m here =
@@ -289,25 +296,25 @@ owes_append {C = C} {O = O} rules config p w n old from ballot place c sound sta
         owes_nothing rules config p w n old _ sound stands (on_append-elsewhere O old from ballot place c no_follower)
 
 -- a Commit that comes
-owes_commit_taken : {S C O : Type 0} (rules : Rules S C O) (config : Config) (p : ℕ) (w : World C O) (n : ℕ) (old : ReplicaState C)
+owes_commit_taken : {S C O : Type 0} (rules : Rules S C O) (config : Config) (p : ℕ) (w : World S C O) (n : ℕ) (old : ReplicaState S C)
     (from ballot held : ℕ) → IsSound rules config p w → slice_get w.nodes n ≡ Some old →
-    Says config p w from (Commit ballot held) → Owes rules config p w n old (on_commit O old ballot held)
-owes_commit_taken {C = C} {O = O} rules config p w n old from ballot held sound stands said = by_role (cases_Bool (follows old ballot))
+    Says config p w from (Commit ballot held) → Owes rules config p w n old (on_commit rules old ballot held)
+owes_commit_taken {S = S} {C = C} {O = O} rules config p w n old from ballot held sound stands said = by_role (cases_Bool (follows old ballot))
   where
-    greater : (v : World C O) → HasGrown w v → IsSoundNode config p v n old → (held < old.committed) ⊎ (old.committed ≤ held) →
+    greater : (v : World S C O) → HasGrown w v → IsSoundNode rules config p v n old → (held < old.committed) ⊎ (old.committed ≤ held) →
         AllTold config p v (max old.committed held)
     greater v x t (inl less) = subst (λ k. AllTold config p v k) (let e : old.committed ≡ max old.committed held = omega arith in e) t.committed
     greater v x t (inr more) =
         subst (λ k. AllTold config p v k) (let e : held ≡ max old.committed held = omega arith in e) (all_told_kept config p w v held x said.1)
 
-    taken : follows old ballot ≡ true → held ≤ length old.log → Owes rules config p w n old (on_commit O old ballot held)
+    taken : follows old ballot ≡ true → held ≤ length old.log → Owes rules config p w n old (on_commit rules old ballot held)
     taken follower within =
         let s = sound.nodes n old stands in
         let backup = (and_parts (old.joined == ballot && old.held_in == ballot) (is_backup old.role) follower).1 in
-        subst (λ (z : Outcome C O). Owes rules config p w n old z) (sym (on_commit-takes O old ballot held follower within))
+        subst (λ (z : Outcome S C O). Owes rules config p w n old z) (sym (on_commit-takes rules old ballot held follower within))
         (record {
           grown = prefix_same old.log;
-          fits = λ v x l. let t = node_kept config p w v n old x s in record {
+          fits = λ v x l. let t = node_kept rules config p w v n old x s in record {
             id = t.id;
             leads = t.leads;
             follows = t.follows;
@@ -316,6 +323,7 @@ owes_commit_taken {C = C} {O = O} rules config p w n old from ballot held sound 
             committed = greater v x t (cases_lt held old.committed);
             followed = t.followed;
             covered = t.covered;
+            machine = λ h. replay_goes_on rules old.machine old.log old.committed (max old.committed held) (omega arith) (t.machine h);
           };
           says = λ v x l receiver m i. elim i [ ];
           left_here = λ h. absurd (s.follows backup h);
@@ -323,35 +331,35 @@ owes_commit_taken {C = C} {O = O} rules config p w n old from ballot held sound 
         })
 
     by_length : follows old ballot ≡ true → (length old.log < held) ⊎ (held ≤ length old.log) →
-        Owes rules config p w n old (on_commit O old ballot held)
+        Owes rules config p w n old (on_commit rules old ballot held)
     by_length follower (inl past) =
-        owes_nothing rules config p w n old _ sound stands (on_commit-past O old ballot held follower past)
+        owes_nothing rules config p w n old _ sound stands (on_commit-past rules old ballot held follower past)
     by_length follower (inr within) = taken follower within
 
-    by_role : (follows old ballot ≡ true) ⊎ (follows old ballot ≡ false) → Owes rules config p w n old (on_commit O old ballot held)
+    by_role : (follows old ballot ≡ true) ⊎ (follows old ballot ≡ false) → Owes rules config p w n old (on_commit rules old ballot held)
     by_role (inl follower) = by_length follower (cases_lt (length old.log) held)
     by_role (inr no_follower) =
-        owes_nothing rules config p w n old _ sound stands (on_commit-elsewhere O old ballot held no_follower)
+        owes_nothing rules config p w n old _ sound stands (on_commit-elsewhere rules old ballot held no_follower)
 
 -- a message that comes
-pub owes_received : {S C O : Type 0} (rules : Rules S C O) (config : Config) (p : ℕ) (w : World C O) (n : ℕ) (old : ReplicaState C)
-    (receiver from : ℕ) (body : Body C) → IsSound rules config p w → slice_get w.nodes n ≡ Some old →
+pub owes_received : {S C O : Type 0} (rules : Rules S C O) (config : Config) (p : ℕ) (w : World S C O) (n : ℕ) (old : ReplicaState S C)
+    (receiver from : ℕ) (body : Body C) → IsSound rules config p w → slice_get w.nodes n ≡ Some old → old.stopped ≡ false →
     In (receiver, record { from = from; body = body }) w.sent →
     Owes rules config p w n old (step_in_one_ballot rules old (Receives (record { from = from; body = body })))
-owes_received {O = O} rules config p w n old receiver from (Append b k c) sound stands i =
+owes_received {O = O} rules config p w n old receiver from (Append b k c) sound stands running i =
     owes_append rules config p w n old from b k c sound stands (sound.said receiver _ i)
-owes_received rules config p w n old receiver from (Held b k) sound stands i =
-    owes_held rules config p w n old from b k receiver sound stands i
-owes_received rules config p w n old receiver from (Commit b k) sound stands i =
+owes_received rules config p w n old receiver from (Held b k) sound stands running i =
+    owes_held rules config p w n old from b k receiver sound stands running i
+owes_received rules config p w n old receiver from (Commit b k) sound stands running i =
     owes_commit_taken rules config p w n old from b k sound stands (sound.said receiver _ i)
-owes_received rules config p w n old receiver from (NewBallot b m a am) sound stands i = owes_nothing rules config p w n old _ sound stands refl
-owes_received rules config p w n old receiver from (Join b a) sound stands i = owes_nothing rules config p w n old _ sound stands refl
-owes_received rules config p w n old receiver from (State b l) sound stands i = owes_nothing rules config p w n old _ sound stands refl
-owes_received rules config p w n old receiver from (Install b l) sound stands i = owes_nothing rules config p w n old _ sound stands refl
-owes_received rules config p w n old receiver from (Installed b k) sound stands i = owes_nothing rules config p w n old _ sound stands refl
-owes_received rules config p w n old receiver from (Activate b) sound stands i = owes_nothing rules config p w n old _ sound stands refl
-owes_received rules config p w n old receiver from (Activated b) sound stands i = owes_nothing rules config p w n old _ sound stands refl
-owes_received rules config p w n old receiver from (Superseded b) sound stands i = owes_nothing rules config p w n old _ sound stands refl
+owes_received rules config p w n old receiver from (NewBallot b m a am) sound stands running i = owes_nothing rules config p w n old _ sound stands refl
+owes_received rules config p w n old receiver from (Join b a) sound stands running i = owes_nothing rules config p w n old _ sound stands refl
+owes_received rules config p w n old receiver from (State b l) sound stands running i = owes_nothing rules config p w n old _ sound stands refl
+owes_received rules config p w n old receiver from (Install b l) sound stands running i = owes_nothing rules config p w n old _ sound stands refl
+owes_received rules config p w n old receiver from (Installed b k) sound stands running i = owes_nothing rules config p w n old _ sound stands refl
+owes_received rules config p w n old receiver from (Activate b) sound stands running i = owes_nothing rules config p w n old _ sound stands refl
+owes_received rules config p w n old receiver from (Activated b) sound stands running i = owes_nothing rules config p w n old _ sound stands refl
+owes_received rules config p w n old receiver from (Superseded b) sound stands running i = owes_nothing rules config p w n old _ sound stands refl
 
 -- the place that a tick sends for a progress
 said_at_reached : {C : Type 0} (O : Type 0) (P : ℕ × Message C → Type 0) (id ballot : ℕ) (log : List C) (reached : Progress) →
@@ -396,11 +404,11 @@ silent_tick {C = C} O id ballot committed log progress =
     ∙ outputs_of_messages id (Commit ballot committed) progress
 
 -- a tick
-pub owes_ticked : {S C O : Type 0} (rules : Rules S C O) (config : Config) (p : ℕ) (w : World C O) (n : ℕ) (old : ReplicaState C) →
+pub owes_ticked : {S C O : Type 0} (rules : Rules S C O) (config : Config) (p : ℕ) (w : World S C O) (n : ℕ) (old : ReplicaState S C) →
     IsSound rules config p w → slice_get w.nodes n ≡ Some old → Owes rules config p w n old (step_in_one_ballot rules old Ticks)
-owes_ticked {C = C} {O = O} rules config p w n old sound stands = by_role (cases_Bool (is_active old.role))
+owes_ticked {S = S} {C = C} {O = O} rules config p w n old sound stands = by_role (cases_Bool (is_active old.role))
   where
-    by_part : is_active old.role ≡ true → (v : World C O) → HasGrown w v → log_at v n ≡ old.log → (receiver : ℕ) (m : Message C) →
+    by_part : is_active old.role ≡ true → (v : World S C O) → HasGrown w v → log_at v n ≡ old.log → (receiver : ℕ) (m : Message C) →
         In (receiver, m) (messages (appends_behind O old.id old.joined old.log old.progress))
         ⊎ In (receiver, m) (messages (message_to_followed O old.id (Commit old.joined old.committed) old.progress)) →
         Says config p v m.from m.body
@@ -418,11 +426,11 @@ owes_ticked {C = C} {O = O} rules config p w n old sound stands = by_role (cases
 
     by_role : (is_active old.role ≡ true) ⊎ (is_active old.role ≡ false) → Owes rules config p w n old (step_in_one_ballot rules old Ticks)
     by_role (inl active) =
-        subst (λ (z : Outcome C O). Owes rules config p w n old z)
+        subst (λ (z : Outcome S C O). Owes rules config p w n old z)
         (sym (ap (λ b. cond b (ticked O old old.role) (nothing_done O old)) active ∙ ticked-active O old old.role active ∙ on_tick_active-is O old))
         (record {
           grown = prefix_same old.log;
-          fits = λ v x l. node_kept config p w v n old x (sound.nodes n old stands);
+          fits = λ v x l. node_kept rules config p w v n old x (sound.nodes n old stands);
           says = λ v x l receiver m i. by_part active v x l receiver m
               (in_append (messages (appends_behind O old.id old.joined old.log old.progress)) (messages (message_to_followed O old.id (Commit old.joined old.committed) old.progress))
               (subst (λ (us : List (ℕ × Message C)). In (receiver, m) us)

@@ -10,9 +10,9 @@ use Rattle.ballot.specs.Progress.{Progress}
 use Rattle.ballot.specs.Role.TheVariants.{Active}
 use Rattle.ballot.specs.Replica.{ReplicaState, CountedReplica, opening, opening_member, others, progress_at}
 use Rattle.ballot.specs.LawfulConfig.{is_lawful}
-use Rattle.master.specs.Group.{World, opening_nodes, opening_world}
+use Rattle.agreement.specs.World.{World, opening_nodes, opening_world, log_of}
 use Rattle.lists.specs.Lists.{In, IsPrefixOf}
-use Rattle.master.specs.Agreement.{log_of, outputs_of, IsOpening, Past, HasTold, IsChosen, IsAgreed, Agreement}
+use Rattle.master.specs.Agreement.{outputs_of, IsOpening, Past, HasTold, IsChosen, IsAgreed, Agreement}
 use Rattle.lists.specs.Lists.In.{here, there}
 use Rattle.master.specs.Agreement.Past.{began, went_on}
 use Rattle.master.specs.Agreement.HasTold.{as_primary, by_held}
@@ -46,11 +46,11 @@ in_others id (x ∷ members) m (there i) ne = kept (x == id) (in_others id membe
     kept false j = there j
 
 -- a node opens soundly
-node_opens : {C O : Type 0} (config : Config) (p : ℕ) (w : World C O) (n : ℕ) → config.primary ≡ p + 1 →
-    list_any (λ member. member == config.primary) config.members ≡ true → IsSoundNode config p w n (opening C (n + 1) config)
-node_opens {C = C} {O = O} config p w n primary member = by_place (cases_eq n p)
+node_opens : {S C O : Type 0} (rules : Rules S C O) (config : Config) (p : ℕ) (w : World S C O) (n : ℕ) → config.primary ≡ p + 1 →
+    list_any (λ member. member == config.primary) config.members ≡ true → IsSoundNode rules config p w n (opening rules (n + 1) config)
+node_opens {S = S} {C = C} {O = O} rules config p w n primary member = by_place (cases_eq n p)
   where
-    leader : n ≡ p → IsSoundNode config p w n (record (opening_member C (n + 1) config) {
+    leader : n ≡ p → IsSoundNode rules config p w n (record (opening_member rules (n + 1) config) {
       role = Active;
       members = config.members;
       progress = progress_at 0 (others (n + 1) config.members);
@@ -66,6 +66,7 @@ node_opens {C = C} {O = O} config p w n primary member = by_place (cases_eq n p)
           committed = λ m i. told_nothing refl;
           followed = λ reached i m h. told_nothing (reached_held 0 (others (n + 1) config.members) reached i);
           covered = λ a m i. cover e m i (cases_eq m p);
+          machine = λ h. refl;
         }
       where
         cover : n ≡ p → (m : ℕ) → In (m + 1) config.members → (m ≡ p) ⊎ (m ≡ p → ⊥) →
@@ -75,7 +76,7 @@ node_opens {C = C} {O = O} config p w n primary member = by_place (cases_eq n p)
             inr (reached_of 0 (others (n + 1) config.members) (m + 1)
             (in_others (n + 1) config.members (m + 1) i (λ h. ne (omega (arith, h, e)))))
 
-    backup : (n ≡ p → ⊥) → IsSoundNode config p w n (opening_member C (n + 1) config)
+    backup : (n ≡ p → ⊥) → IsSoundNode rules config p w n (opening_member rules (n + 1) config)
     backup ne =
         record {
           id = refl;
@@ -86,35 +87,36 @@ node_opens {C = C} {O = O} config p w n primary member = by_place (cases_eq n p)
           committed = λ m i. told_nothing refl;
           followed = λ reached i m h. elim i [ ];
           covered = λ a m i. cc;
+          machine = λ h. refl;
         }
 
-    by_place : (n ≡ p) ⊎ (n ≡ p → ⊥) → IsSoundNode config p w n (opening C (n + 1) config)
+    by_place : (n ≡ p) ⊎ (n ≡ p → ⊥) → IsSoundNode rules config p w n (opening rules (n + 1) config)
     by_place (inl e) =
         let b = eq-eqb (n + 1) config.primary (omega (arith, e, primary)) in
-        subst (λ (r : ReplicaState C). IsSoundNode config p w n r)
-        (sym (ap (λ k. cond k (record (opening_member C (n + 1) config) {
+        subst (λ (r : ReplicaState S C). IsSoundNode rules config p w n r)
+        (sym (ap (λ k. cond k (record (opening_member rules (n + 1) config) {
           role = Active;
           members = config.members;
           progress = progress_at 0 (others (n + 1) config.members);
-        }) (opening_member C (n + 1) config)) b)) (leader e)
+        }) (opening_member rules (n + 1) config)) b)) (leader e)
     by_place (inr ne) =
         let b = ne_eqb (n + 1) config.primary (λ h. ne (omega (arith, h, primary))) in
-        subst (λ (r : ReplicaState C). IsSoundNode config p w n r)
-        (sym (ap (λ k. cond k (record (opening_member C (n + 1) config) {
+        subst (λ (r : ReplicaState S C). IsSoundNode rules config p w n r)
+        (sym (ap (λ k. cond k (record (opening_member rules (n + 1) config) {
           role = Active;
           members = config.members;
           progress = progress_at 0 (others (n + 1) config.members);
-        }) (opening_member C (n + 1) config)) b)) (backup ne)
+        }) (opening_member rules (n + 1) config)) b)) (backup ne)
 
 -- an opening has no commit
-opening_committed : (C : Type 0) (id : ℕ) (config : Config) → (opening C id config).committed ≡ 0
-opening_committed C id config = by_role (id == config.primary)
+opening_committed : {S C O : Type 0} (rules : Rules S C O) (id : ℕ) (config : Config) → (opening rules id config).committed ≡ 0
+opening_committed rules id config = by_role (id == config.primary)
   where
-    by_role : (b : Bool) → (cond b (record (opening_member C id config) {
+    by_role : (b : Bool) → (cond b (record (opening_member rules id config) {
       role = Active;
       members = config.members;
       progress = progress_at 0 (others id config.members);
-    }) (opening_member C id config)).committed ≡ 0
+    }) (opening_member rules id config)).committed ≡ 0
     by_role true = refl
     by_role false = refl
 
@@ -131,48 +133,48 @@ get_last (x ∷ xs) s r (suc n) e = more (get_last xs s r n e)
     more (inl e) = inl e
     more (inr q) = inr (ap suc q.0, q.1)
 
-opening_nodes-length : (C : Type 0) (nodes : ℕ) (config : Config) → length (opening_nodes C nodes config) ≡ nodes
-opening_nodes-length C zero config = refl
-opening_nodes-length C (suc n) config =
-    let e = opening_nodes-length C n config in
-    omega (arith, e, length-append (opening_nodes C n config) (opening C (n + 1) config ∷ []))
+opening_nodes-length : {S C O : Type 0} (rules : Rules S C O) (nodes : ℕ) (config : Config) → length (opening_nodes rules nodes config) ≡ nodes
+opening_nodes-length rules zero config = refl
+opening_nodes-length rules (suc n) config =
+    let e = opening_nodes-length rules n config in
+    omega (arith, e, length-append (opening_nodes rules n config) (opening rules (n + 1) config ∷ []))
 
-opens_node : (C : Type 0) (nodes : ℕ) (config : Config) (n : ℕ) (r : ReplicaState C) →
-    slice_get (opening_nodes C nodes config) n ≡ Some r → r ≡ opening C (n + 1) config
-opens_node C zero config n r e = cc
-opens_node C (suc k) config n r e =
-    by_last (opens_node C k config n r) (get_last (opening_nodes C k config) (opening C (k + 1) config) r n e)
+opens_node : {S C O : Type 0} (rules : Rules S C O) (nodes : ℕ) (config : Config) (n : ℕ) (r : ReplicaState S C) →
+    slice_get (opening_nodes rules nodes config) n ≡ Some r → r ≡ opening rules (n + 1) config
+opens_node rules zero config n r e = cc
+opens_node rules (suc k) config n r e =
+    by_last (opens_node rules k config n r) (get_last (opening_nodes rules k config) (opening rules (k + 1) config) r n e)
   where
-    by_last : (slice_get (opening_nodes C k config) n ≡ Some r → r ≡ opening C (n + 1) config) →
-        (slice_get (opening_nodes C k config) n ≡ Some r)
-        ⊎ ((n ≡ length (opening_nodes C k config)) × (opening C (k + 1) config ≡ r)) → r ≡ opening C (n + 1) config
+    by_last : (slice_get (opening_nodes rules k config) n ≡ Some r → r ≡ opening rules (n + 1) config) →
+        (slice_get (opening_nodes rules k config) n ≡ Some r)
+        ⊎ ((n ≡ length (opening_nodes rules k config)) × (opening rules (k + 1) config ≡ r)) → r ≡ opening rules (n + 1) config
     by_last before (inl f) = before f
     by_last before (inr q) =
-        let same : k ≡ n = sym (opening_nodes-length C k config) ∙ sym q.0 in
-        sym q.1 ∙ ap (λ j. opening C (j + 1) config) same
+        let same : k ≡ n = sym (opening_nodes-length rules k config) ∙ sym q.0 in
+        sym q.1 ∙ ap (λ j. opening rules (j + 1) config) same
 
 -- a group opens soundly
-pub opening_sound : {S C O : Type 0} (rules : Rules S C O) (config : Config) (p : ℕ) (w : World C O) → config.primary ≡ p + 1 →
-    list_any (λ member. member == config.primary) config.members ≡ true → IsOpening config w → IsSound rules config p w
-opening_sound {C = C} {O = O} rules config p w primary member opens =
-    subst (λ (v : World C O). IsSound rules config p v) (sym opens.is)
+pub opening_sound : {S C O : Type 0} (rules : Rules S C O) (config : Config) (p : ℕ) (w : World S C O) → config.primary ≡ p + 1 →
+    list_any (λ member. member == config.primary) config.members ≡ true → IsOpening rules config w → IsSound rules config p w
+opening_sound {S = S} {C = C} {O = O} rules config p w primary member opens =
+    subst (λ (v : World S C O). IsSound rules config p v) (sym opens.is)
     (record {
       said = λ receiver m i. elim i [ ];
-      nodes = λ n r e. subst (λ (s : ReplicaState C). IsSoundNode config p first n s) (sym (opens_node C opens.nodes config n r e)) (node_opens config p first n primary member);
-      left = by_node (slice_get (opening_nodes C opens.nodes config) p) refl;
+      nodes = λ n r e. subst (λ (s : ReplicaState S C). IsSoundNode rules config p first n s) (sym (opens_node rules opens.nodes config n r e)) (node_opens rules config p first n primary member);
+      left = by_node (slice_get (opening_nodes rules opens.nodes config) p) refl;
     })
   where
-    first : World C O
-    first = opening_world C O opens.nodes config
+    first : World S C O
+    first = opening_world rules opens.nodes config
 
-    by_node : (o : Option (ReplicaState C)) → slice_get (opening_nodes C opens.nodes config) p ≡ o → [] ≡ outputs_of rules (take (committed_of o) (log_of o))
+    by_node : (o : Option (ReplicaState S C)) → slice_get (opening_nodes rules opens.nodes config) p ≡ o → [] ≡ outputs_of rules (take (committed_of o) (log_of o))
     by_node None e = refl
     by_node (Some r) e =
         ap (λ k. outputs_of rules (take k r.log))
-        (sym (ap (λ (s : ReplicaState C). s.committed) (opens_node C opens.nodes config p r e) ∙ opening_committed C (p + 1) config))
+        (sym (ap (λ (s : ReplicaState S C). s.committed) (opens_node rules opens.nodes config p r e) ∙ opening_committed rules (p + 1) config))
 
 -- every world that a group comes to is sound
-pub past_sound : {S C O : Type 0} (rules : Rules S C O) (config : Config) (p : ℕ) (w : World C O) (past : List (World C O)) →
+pub past_sound : {S C O : Type 0} (rules : Rules S C O) (config : Config) (p : ℕ) (w : World S C O) (past : List (World S C O)) →
     config.primary ≡ p + 1 → list_any (λ member. member == config.primary) config.members ≡ true →
     Past rules config (w ∷ past) → IsSound rules config p w
 past_sound rules config p w past primary member (began opens) = opening_sound rules config p w primary member opens
@@ -180,7 +182,7 @@ past_sound rules config p w past primary member (went_on {w = before} {e = e} ea
     event_sound rules config p before w e (past_sound rules config p before _ primary member earlier) happens
 
 -- what was there stays
-pub past_sound_at : {S C O : Type 0} (rules : Rules S C O) (config : Config) (p : ℕ) (v w : World C O) (past : List (World C O)) →
+pub past_sound_at : {S C O : Type 0} (rules : Rules S C O) (config : Config) (p : ℕ) (v w : World S C O) (past : List (World S C O)) →
     config.primary ≡ p + 1 → list_any (λ member. member == config.primary) config.members ≡ true →
     Past rules config (w ∷ past) → In v (w ∷ past) → IsSound rules config p v
 past_sound_at rules config p v w past primary member came here = past_sound rules config p w past primary member came
@@ -188,7 +190,7 @@ past_sound_at rules config p v w past primary member (began opens) (there i) = e
 past_sound_at rules config p v w past primary member (went_on {w = before} earlier happens) (there i) =
     past_sound_at rules config p v before _ primary member earlier i
 
-pub past_extends : {S C O : Type 0} (rules : Rules S C O) (config : Config) (p : ℕ) (v w : World C O) (past : List (World C O)) →
+pub past_extends : {S C O : Type 0} (rules : Rules S C O) (config : Config) (p : ℕ) (v w : World S C O) (past : List (World S C O)) →
     config.primary ≡ p + 1 → list_any (λ member. member == config.primary) config.members ≡ true →
     Past rules config (w ∷ past) → In v (w ∷ past) → HasGrown v w
 past_extends rules config p v w past primary member came here = extends_same w
@@ -198,7 +200,7 @@ past_extends rules config p v w past primary member (went_on {w = before} {e = e
     (event_extends rules config p before w e (past_sound rules config p before _ primary member earlier) happens)
 
 -- the configuration of a past is lawful
-pub past_lawful : {S C O : Type 0} (rules : Rules S C O) (config : Config) (past : List (World C O)) → Past rules config past →
+pub past_lawful : {S C O : Type 0} (rules : Rules S C O) (config : Config) (past : List (World S C O)) → Past rules config past →
     is_lawful config.members config.primary ≡ true
 past_lawful rules config past (began opens) =
     let a = and_parts (nat_le opens.nodes 15) (is_lawful config.members config.primary && list_all (λ member. nat_le member opens.nodes) config.members) opens.lawful in
@@ -206,23 +208,23 @@ past_lawful rules config past (began opens) =
 past_lawful rules config past (went_on earlier happens) = past_lawful rules config _ earlier
 
 -- so its nodes agree
-pub agreement : {S C O : Type 0} (rules : Rules S C O) (config : Config) (p : ℕ) (w : World C O) (past : List (World C O)) (xs : List C) →
+pub agreement : {S C O : Type 0} (rules : Rules S C O) (config : Config) (p : ℕ) (w : World S C O) (past : List (World S C O)) (xs : List C) →
     config.primary ≡ p + 1 → list_any (λ member. member == config.primary) config.members ≡ true →
     Past rules config (w ∷ past) → IsAgreed config (w ∷ past) xs → Agreement rules config w xs
-agreement {C = C} rules config p w past xs primary member came agreed =
+agreement {S = S} {C = C} rules config p w past xs primary member came agreed =
     let sound = past_sound rules config p w past primary member came in
     let ok = by_node sound (slice_get w.nodes p) refl in
     sound_agreement rules config p w past xs primary sound ok.0 ok.1 agreed
   where
-    by_node : IsSound rules config p w → (o : Option (ReplicaState C)) → slice_get w.nodes p ≡ o →
+    by_node : IsSound rules config p w → (o : Option (ReplicaState S C)) → slice_get w.nodes p ≡ o →
         AllTold config p w (committed_of o) × (committed_of o ≤ length (log_of o))
     by_node sound None e = (λ n i. told_nothing refl, omega arith)
     by_node sound (Some r) e = ((sound.nodes p r e).committed, (sound.nodes p r e).within)
 
 -- a list once chosen stays so
-pub chosen_stays : {C O : Type 0} (config : Config) (v : World C O) (past : List (World C O)) (xs : List C) →
+pub chosen_stays : {S C O : Type 0} (config : Config) (v : World S C O) (past : List (World S C O)) (xs : List C) →
     IsChosen config past xs → IsChosen config (v ∷ past) xs
-chosen_stays {C = C} {O = O} config v past xs chosen n i =
+chosen_stays {S = S} {C = C} {O = O} config v past xs chosen n i =
     let q = chosen n i in (q.0, stays q.0 q.1, q.2)
   where
     stays : (told : List C) → HasTold config past n told → HasTold config (v ∷ past) n told
@@ -230,20 +232,20 @@ chosen_stays {C = C} {O = O} config v past xs chosen n i =
     stays told (by_held w receiver j k l) = by_held w receiver (there j) k l
 
 -- what is agreed only grows
-pub agreed_grows : {C O : Type 0} (config : Config) (v : World C O) (past : List (World C O)) (xs ys : List C) →
+pub agreed_grows : {S C O : Type 0} (config : Config) (v : World S C O) (past : List (World S C O)) (xs ys : List C) →
     IsAgreed config past xs → IsAgreed config (v ∷ past) ys → IsPrefixOf xs ys
-agreed_grows {C = C} config v past xs ys a b = by_chosen a.chosen
+agreed_grows {S = S} {C = C} config v past xs ys a b = by_chosen a.chosen
   where
     by_chosen : (xs ≡ []) ⊎ IsChosen config past xs → IsPrefixOf xs ys
     by_chosen (inl e) = subst (λ (us : List C). IsPrefixOf us ys) (sym e) (record { rest = ys; is = refl })
     by_chosen (inr chosen) = b.longest xs (chosen_stays config v past xs chosen)
 
 -- one node more is opened
-pub opened_more : {C : Type 0} (config : Config) (items more : List (CountedReplica C)) (new : CountedReplica C) (at : ℕ) →
-    map (λ (z : CountedReplica C). z.state) items ≡ opening_nodes C at config → new.state ≡ opening C (at + 1) config → more ≡ items ++ new ∷ [] →
-    map (λ (z : CountedReplica C). z.state) more ≡ opening_nodes C (at + 1) config
-opened_more {C = C} config items more new at before opens pushed =
+pub opened_more : {S C O : Type 0} (rules : Rules S C O) (config : Config) (items more : List (CountedReplica S C)) (new : CountedReplica S C) (at : ℕ) →
+    map (λ (z : CountedReplica S C). z.state) items ≡ opening_nodes rules at config → new.state ≡ opening rules (at + 1) config → more ≡ items ++ new ∷ [] →
+    map (λ (z : CountedReplica S C). z.state) more ≡ opening_nodes rules (at + 1) config
+opened_more {S = S} {C = C} rules config items more new at before opens pushed =
     let next : at + 1 ≡ suc at = omega arith in
-    ap (map (λ (z : CountedReplica C). z.state)) pushed ∙ map-append (λ (z : CountedReplica C). z.state) items (new ∷ [])
-    ∙ ap (λ us. us ++ new.state ∷ []) before ∙ ap (λ s. opening_nodes C at config ++ s ∷ []) opens
-    ∙ sym (ap (λ k. opening_nodes C k config) next)
+    ap (map (λ (z : CountedReplica S C). z.state)) pushed ∙ map-append (λ (z : CountedReplica S C). z.state) items (new ∷ [])
+    ∙ ap (λ us. us ++ new.state ∷ []) before ∙ ap (λ s. opening_nodes rules at config ++ s ∷ []) opens
+    ∙ sym (ap (λ k. opening_nodes rules k config) next)

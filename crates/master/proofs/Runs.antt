@@ -6,7 +6,8 @@ use Rattle.ballot.specs.Config.{Config}
 use Rattle.ballot.specs.Losses.{one_more}
 use Rattle.ballot.proofs.ThinnedEffects.{Thinned-same}
 use Rattle.master.specs.declared.event.Event.{Event}
-use Rattle.master.specs.Group.{World, GroupState}
+use Rattle.agreement.specs.World.{World}
+use Rattle.master.specs.Group.{GroupState}
 use Rattle.master.specs.Exact.{Turn, turn, behind, group_step, group_run}
 use Rattle.master.specs.Steps.{Happens, Run, StepsBy, LosesNothing}
 use Rattle.master.specs.Steps.Happens.{nothing_happens, goes}
@@ -15,59 +16,60 @@ use Rattle.lists.specs.Lists.{IsPrefixOf}
 use Rattle.master.specs.Agreement.{Past, IsChosen, AgreesAfter}
 use Rattle.master.specs.Agreement.Past.{went_on}
 use Rattle.master.proofs.Opening.{agreement, chosen_stays, past_lawful}
-use Rattle.master.proofs.Chosen.{lawful_config, agreed_is}
+use Rattle.master.proofs.Chosen.{agreed_is}
+use Rattle.agreement.proofs.LawfulConfigs.{lawful_config}
 use Rattle.master.proofs.Counting.{steps_exactly}
 
 -- what is seen of a group behind some events
-pub record Ran {S C O : Type 0} (rules : Rules S C O) (old : GroupState C O) (events : List (Event C)) (new : GroupState C O) : Type 0 where
+pub record Ran {S C O : Type 0} (rules : Rules S C O) (old : GroupState S C O) (events : List (Event C)) (new : GroupState S C O) : Type 0 where
   pub same_config : new.config ≡ old.config
   pub ran : Run rules old.world events new.world
   pub counts : old.losses ≤ 2 ^ 64 - 1 → (old.losses ≤ new.losses) × (new.losses ≤ 2 ^ 64 - 1)
   pub exact : LosesNothing old new → new.world ≡ group_run rules events old.world
 
 -- one event more
-run_more : {S C O : Type 0} {rules : Rules S C O} {w v u : World C O} {events : List (Event C)} {e : Event C} →
+run_more : {S C O : Type 0} {rules : Rules S C O} {w v u : World S C O} {events : List (Event C)} {e : Event C} →
     Run rules w events v → Happens rules v e u → Run rules w (events ++ e ∷ []) u
 run_more ends h = goes_on h ends
 run_more (goes_on g r) h = goes_on g (run_more r h)
 
-group_run-more : {S C O : Type 0} (rules : Rules S C O) (events : List (Event C)) (e : Event C) (w : World C O) →
+group_run-more : {S C O : Type 0} (rules : Rules S C O) (events : List (Event C)) (e : Event C) (w : World S C O) →
     group_run rules (events ++ e ∷ []) w ≡ group_step rules e (group_run rules events w)
 group_run-more rules [] e w = refl
 group_run-more rules (x ∷ events) e w = group_run-more rules events e (group_step rules x w)
 
 -- an exact step is one that may happen
-happens_of : {S C O : Type 0} (rules : Rules S C O) (old new : GroupState C O) (e : Event C) → StepsBy rules old e new →
+happens_of : {S C O : Type 0} (rules : Rules S C O) (old new : GroupState S C O) (e : Event C) → StepsBy rules old e new →
     Happens rules old.world e new.world
-happens_of {C = C} {O = O} rules old new e s = by_way s.way
+happens_of {S = S} {C = C} {O = O} rules old new e s = by_way s.way
   where
-    by_turn : (o : Option (Turn C O)) → turn rules old.world e ≡ o → Happens rules old.world e (behind old.world o)
+    by_turn : (o : Option (Turn S C O)) → turn rules old.world e ≡ o → Happens rules old.world e (behind old.world o)
     by_turn None is = nothing_happens
     by_turn (Some t) is = goes t is (inl (refl, Thinned-same t.outcome.effects))
 
     by_way : ((new.world ≡ group_step rules e old.world) × (new.losses ≡ old.losses))
         ⊎ (Happens rules old.world e new.world × (new.losses ≡ one_more old.losses)) → Happens rules old.world e new.world
     by_way (inl (a, b)) =
-        subst (λ (v : World C O). Happens rules old.world e v) (sym a) (by_turn (turn rules old.world e) refl)
+        subst (λ (v : World S C O). Happens rules old.world e v) (sym a) (by_turn (turn rules old.world e) refl)
     by_way (inr (a, b)) = a
 
-counted : {S C O : Type 0} (rules : Rules S C O) (old new : GroupState C O) (e : Event C) → StepsBy rules old e new →
+counted : {S C O : Type 0} (rules : Rules S C O) (old new : GroupState S C O) (e : Event C) → StepsBy rules old e new →
     (new.losses ≡ old.losses) ⊎ (new.losses ≡ one_more old.losses)
-counted {C = C} {O = O} rules old new e s = by_way s.way
+counted {S = S} {C = C} {O = O} rules old new e s = by_way s.way
   where
     by_way : ((new.world ≡ group_step rules e old.world) × (new.losses ≡ old.losses))
         ⊎ (Happens rules old.world e new.world × (new.losses ≡ one_more old.losses)) → (new.losses ≡ old.losses) ⊎ (new.losses ≡ one_more old.losses)
     by_way (inl (a, b)) = inl b
     by_way (inr (a, b)) = inr b
 
-pub ran_none : {S C O : Type 0} (rules : Rules S C O) (old : GroupState C O) → Ran rules old [] old
+pub ran_none : {S C O : Type 0} (rules : Rules S C O) (old : GroupState S C O) → Ran rules old [] old
 ran_none rules old =
     record { same_config = refl; ran = ends; counts = λ below. (omega arith, below); exact = λ h. refl }
 
 -- the next of a list of events
-pub ran_next : {S C O : Type 0} (rules : Rules S C O) (old now new : GroupState C O) (events : List (Event C)) (i : ℕ) (e : Event C) → i < length events →
+pub ran_next : {S C O : Type 0} (rules : Rules S C O) (old now new : GroupState S C O) (events : List (Event C)) (i : ℕ) (e : Event C) → i < length events →
     e ≡ get_or events i e → Ran rules old (take i events) now → StepsBy rules now e new → Ran rules old (take (i + 1) events) new
-ran_next {C = C} rules old now new events i e below read r s =
+ran_next {S = S} {C = C} rules old now new events i e below read r s =
     subst (λ (es : List (Event C)). Ran rules old es new)
     (sym (take_more events i e below ∙ ap (λ (x : Event C). take i events ++ x ∷ []) (sym read)))
     (record {
@@ -92,18 +94,18 @@ ran_next {C = C} rules old now new events i e below read r s =
         let g : new.losses ≡ min (now.losses + 1) (2 ^ 64 - 1) = f in absurd (omega (arith, same, few, a, b, g))
 
 -- the past that a run leaves, in which what was chosen stays so
-went : {S C O : Type 0} (rules : Rules S C O) (config : Config) (w v : World C O) (past : List (World C O)) (events : List (Event C)) →
+went : {S C O : Type 0} (rules : Rules S C O) (config : Config) (w v : World S C O) (past : List (World S C O)) (events : List (Event C)) →
     Past rules config (w ∷ past) → Run rules w events v →
-    (later : List (World C O)) × Past rules config (v ∷ later)
+    (later : List (World S C O)) × Past rules config (v ∷ later)
     × ((xs : List C) → IsChosen config (w ∷ past) xs → IsChosen config (v ∷ later) xs)
 went rules config w v past events came ends = (past, came, λ xs c. c)
 went rules config w v past events came (goes_on {v = u} {e = e} {events = rest} h r) =
     let q = went rules config u v (w ∷ past) rest (went_on came h) r in
     (q.0, q.1, λ xs c. q.2 xs (chosen_stays config u (w ∷ past) xs c))
 
-pub agrees_after : {S C O : Type 0} (rules : Rules S C O) (config : Config) (w v : World C O) (past : List (World C O)) (events : List (Event C)) →
+pub agrees_after : {S C O : Type 0} (rules : Rules S C O) (config : Config) (w v : World S C O) (past : List (World S C O)) (events : List (Event C)) →
     Past rules config (w ∷ past) → Run rules w events v → AgreesAfter rules config (w ∷ past) v
-agrees_after {C = C} rules config w v past events came r =
+agrees_after {S = S} {C = C} rules config w v past events came r =
     let q = went rules config w v past events came r in
     let l = lawful_config config (past_lawful rules config (w ∷ past) came) in
     let agreed = agreed_is rules config v q.0 q.1 in

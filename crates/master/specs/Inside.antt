@@ -1,5 +1,6 @@
 -- Inside.antt: what the helpers of a group say of nodes, effects and turns.
 use Rattle.std.specs.Prelude.{ℕ, Bool, true, false, ◌-◌, ◌<◌, ◌≡◌, ◌⊎◌, ◌==◌, List, [], ◌∷◌, ◌++◌, length, min, max, slice_get, Option, Some, None, if◌then◌else◌}
+use Rattle.machine.specs.Machine.{Rules}
 use Rattle.ballot.specs.Config.{Config}
 use Rattle.ballot.specs.Body.{Body}
 use Rattle.ballot.specs.Body.TheVariants.{Held}
@@ -13,13 +14,13 @@ use Rattle.ballot.specs.Replica.{ReplicaState}
 use Rattle.ballot.specs.Sending.{Outcome}
 use Rattle.master.specs.declared.turning.Taken.{Taken}
 use Rattle.master.specs.declared.turning.Taken.TheVariants.{Received, Proposed, Ticked}
-use Rattle.master.specs.Agreement.{log_of}
-use Rattle.master.specs.Group.{World, GroupState, messages, outputs, moved}
+use Rattle.agreement.specs.World.{log_of, World, messages, outputs, moved}
+use Rattle.master.specs.Group.{GroupState}
 use Rattle.master.specs.Exact.{Turn, running}
 
 -- the node of a number runs, at a place
-pub record RunsAt {C : Type 0} (nodes : List (ReplicaState C)) (node at : ℕ) : Type 0 where
-  pub replica : ReplicaState C
+pub record RunsAt {S C : Type 0} (nodes : List (ReplicaState S C)) (node at : ℕ) : Type 0 where
+  pub replica : ReplicaState S C
   pub place : at ≡ node - 1
   pub below : at < length nodes
   pub stands : slice_get nodes at ≡ Some replica
@@ -33,11 +34,11 @@ input_of (Proposed command) = Proposes command
 input_of Ticked = Ticks
 
 -- a replica took its step, perhaps with losses, and without any where it was whole
-pub record TookIn {C O : Type 0} (old : ReplicaState C) (outcome : Outcome C O) (new : ReplicaState C)
-    (before behind : List (Effect C O)) (whole : Bool) : Type 0 where
+pub record TookIn {S C O : Type 0} (rules : Rules S C O) (old : ReplicaState S C)
+    (outcome : Outcome S C O) (new : ReplicaState S C) (before behind : List (Effect C O)) (whole : Bool) : Type 0 where
   pub given : List (Effect C O)
   pub appended : behind ≡ before ++ given
-  pub loses : Loses old outcome new given
+  pub loses : Loses rules old outcome new given
   pub exact : whole ≡ true → (new ≡ outcome.state) × (given ≡ outcome.effects)
 
 -- whether an effect is a message
@@ -56,14 +57,14 @@ pub record Parted {C O : Type 0} (given left parted : List (Effect C O))
   pub messages_are : messages parted ≡ messages left
 
 -- a group after a turn of one node, or one with losses that was counted
-pub record TookTurn {C O : Type 0} (old : GroupState C O) (t : Turn C O) (new : GroupState C O) :
-    Type 0 where
-  pub state : ReplicaState C
+pub record TookTurn {S C O : Type 0} (rules : Rules S C O) (old : GroupState S C O)
+    (t : Turn S C O) (new : GroupState S C O) : Type 0 where
+  pub state : ReplicaState S C
   pub given : List (Effect C O)
   pub same_config : new.config ≡ old.config
   pub world : new.world ≡ moved old.world t.place state given
   pub way : ((state ≡ t.outcome.state) × (given ≡ t.outcome.effects) × (new.losses ≡ old.losses))
-      ⊎ (Loses t.before t.outcome state given × (new.losses ≡ one_more old.losses))
+      ⊎ (Loses rules t.before t.outcome state given × (new.losses ≡ one_more old.losses))
 
 -- how many places a message says that a member holds in ballot 1, if it does
 abbrev pub held_in_one : {C : Type 0} → Body C → Option ℕ
@@ -96,9 +97,9 @@ least_told primary sent least (member ∷ members) =
     then least_told primary sent least members
     else least_told primary sent (bounded least (told_from None member sent)) members
 
-abbrev pub primary_log : {C O : Type 0} → Config → World C O → List C
+abbrev pub primary_log : {S C O : Type 0} → Config → World S C O → List C
 primary_log config w = log_of (slice_get w.nodes (config.primary - 1))
 
-abbrev pub agreed_length : {C O : Type 0} → Config → World C O → ℕ
+abbrev pub agreed_length : {S C O : Type 0} → Config → World S C O → ℕ
 agreed_length config w =
     least_told config.primary w.sent (length (primary_log config w)) config.members

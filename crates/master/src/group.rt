@@ -6,7 +6,7 @@ ghost use Rattle.ballot.specs.Protocol.{step_in_one_ballot};
 ghost use Rattle.ballot.specs.Losses.{one_more};
 ghost use Rattle.ballot.specs.Replica.{ReplicaState};
 ghost use Rattle.master.specs.Agreement.{IsOpening, Past, IsAgreed, AgreesAfter};
-ghost use Rattle.master.specs.Group.{World, can_open, opening_world};
+ghost use Rattle.agreement.specs.World.{World, can_open, opening_world};
 ghost use Rattle.master.specs.Exact.{turn, group_step, group_run, running};
 ghost use Rattle.master.specs.Inside.{RunsAt, TookTurn, agreed_length, input_of, primary_log};
 ghost use Rattle.master.specs.Steps.{Run, StepsBy, LosesNothing};
@@ -34,9 +34,10 @@ pub struct Group<M: Machine> {
 
 impl<M: Machine> Model for Group<M> {
     ghost use Rattle.std.specs.Prelude.{◌≡◌, [], map};
-    ghost use Rattle.master.specs.Group.{GroupState, messages, outputs};
+    ghost use Rattle.master.specs.Group.{GroupState};
+    ghost use Rattle.agreement.specs.World.{messages, outputs};
 
-    ghost Value = { GroupState M.Command M.Output };
+    ghost Value = { GroupState M M.Command M.Output };
 
     ghost view = { λ g.
         record {
@@ -59,10 +60,11 @@ impl<M: Machine> Group<M> {
         ensures ok { IfOk result (λ group.
             group ≡ record {
               config = config;
-              world = opening_world M.Command M.Output nodes config;
+              world = opening_world (rules_by M.opening M.start_of M.after M.gives) nodes config;
               losses = 0;
             }) }
-        ensures opens { IfOk result (λ group. IsOpening group.config group.world) }
+        ensures opens { IfOk result (λ group. IsOpening
+            (rules_by M.opening M.start_of M.after M.gives) group.config group.world) }
         ensures bad { IsErrOf result OpeningError.BadMembers ↔ (can_open nodes config ≡ false) }
     {
         if !can_open(nodes, &config) {
@@ -112,7 +114,7 @@ impl<M: Machine> Group<M> {
             (rules_by M.opening M.start_of M.after M.gives) events.now self.old.world }
         // Whatever led up to here, the nodes agree behind the events, and what is agreed has only
         // grown.
-        ensures agreement { (past : List (World M.Command M.Output)) →
+        ensures agreement { (past : List (World M M.Command M.Output)) →
             Past (rules_by M.opening M.start_of M.after M.gives)
             self.old.config (self.old.world ∷ past) →
             AgreesAfter (rules_by M.opening M.start_of M.after M.gives)
@@ -126,7 +128,7 @@ impl<M: Machine> Group<M> {
     /// The agreed list: the longest beginning of the primary's log that every member has told. All
     /// messages that were sent are gone through, once for each member.
     pub fn agreed(&self) -> &[M::Command]
-        ensures { (past : List (World M.Command M.Output)) →
+        ensures { (past : List (World M M.Command M.Output)) →
             Past (rules_by M.opening M.start_of M.after M.gives)
             self.now.config (self.now.world ∷ past) →
             IsAgreed self.now.config (self.now.world ∷ past) result.now }
@@ -137,7 +139,7 @@ impl<M: Machine> Group<M> {
 
     /// The length of the agreed list, found in the same way.
     pub fn agreed_len(&self) -> u64
-        ensures { (past : List (World M.Command M.Output)) (agreed : List M.Command) →
+        ensures { (past : List (World M M.Command M.Output)) (agreed : List M.Command) →
             Past (rules_by M.opening M.start_of M.after M.gives)
             self.now.config (self.now.world ∷ past) →
             IsAgreed self.now.config (self.now.world ∷ past) agreed → result ≡ length agreed }
@@ -253,11 +255,11 @@ impl<M: Machine> Group<M> {
 
     // A node that runs takes something in.
     fn take_turn(&mut self, at: usize, taken: Taken<M::Command>)
-        requires { (replica : ReplicaState M.Command) ×
+        requires { (replica : ReplicaState M M.Command) ×
             (slice_get self.old.world.nodes at ≡ Some replica) × (replica.stopped ≡ false) }
-        ensures { (replica : ReplicaState M.Command) →
+        ensures { (replica : ReplicaState M M.Command) →
             slice_get self.old.world.nodes at ≡ Some replica →
-            TookTurn self.old
+            TookTurn (rules_by M.opening M.start_of M.after M.gives) self.old
             (record {
               place = at;
               before = replica;

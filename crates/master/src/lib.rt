@@ -1,13 +1,19 @@
 //! A group of replicas with all messages that they ever sent, and the proof that they agree.
 #![tactic(auto)]
 
+mod activation;
 mod copying;
+mod error;
 mod event;
 mod group;
+mod master;
 mod telling;
 #[cfg(test)]
 mod tests;
 mod turning;
 
+pub use activation::Activation;
+pub use error::AssignError;
 pub use event::{Event, Idle};
 pub use group::Group;
+pub use master::{LAST_BALLOT, Master};

@@ -2,7 +2,7 @@
 
 ghost use Rattle.std.specs.Prelude.{◌≡◌, None, nat_le};
 ghost use Rattle.std.specs.List.{list_all};
-ghost use Rattle.master.specs.Group.{can_open};
+ghost use Rattle.agreement.specs.World.{can_open};
 ghost use Rattle.master.specs.Inside.{told_in, more_told, told_from, least_told};
 
 use ballot::{Body, Config, Message};

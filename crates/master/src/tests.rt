@@ -1,6 +1,6 @@
 // What no clause says: that events do what they name while there is memory.
 
-use crate::{Event, Group, Idle};
+use crate::{Activation, AssignError, Event, Group, Idle, Master};
 use ballot::{Body, Config, Effect, Members, Message, OpeningError};
 use machine::{Memory, Tally, TallyCommand};
 use std::alloc::Global;
@@ -198,5 +198,39 @@ fn a_refused_growth_is_counted(rt: HostRuntime) -> Result<(), Fail> {
     assert!(rt; whole || group.losses() == 1);
     assert!(rt; group.losses() <= 1);
     assert!(rt; group.left().len() as u64 <= group.agreed_len());
+    Ok(())
+}
+
+// Ballots are given, put out and activated.
+#[test]
+fn a_ballot_put_out_never_comes_back(rt: HostRuntime) -> Result<(), Fail> {
+    let alloc = rt.alloc();
+    let mut master = Master::new(config(alloc, &[1], 1)?)?;
+    assert_eq!(rt; master.assign(config(alloc, &[1, 2], 1)?), Ok(2));
+    assert_eq!(rt; master.assign(config(alloc, &[2], 2)?), Ok(3));
+    assert_eq!(rt; master.activate(2), Activation::Superseded);
+    assert_eq!(rt; master.active().0, 1);
+    assert_eq!(rt; master.activate(3), Activation::Activated);
+    assert_eq!(rt; master.activate(3), Activation::Activated);
+    assert_eq!(rt; master.activate(1), Activation::Superseded);
+    assert_eq!(rt; master.active().0, 3);
+    assert!(rt; master.active().1 == [2].as_slice());
+    Ok(())
+}
+
+// Bad members are refused, whatever waits.
+#[test]
+fn bad_members_are_given_no_ballot(rt: HostRuntime) -> Result<(), Fail> {
+    let alloc = rt.alloc();
+    let mut master = Master::new(config(alloc, &[1], 1)?)?;
+    let bad = Err(AssignError::BadMembers);
+    assert_eq!(rt; master.assign(config(alloc, &[2, 1], 1)?), bad);
+    assert_eq!(rt; master.assign(config(alloc, &[], 1)?), bad);
+    assert_eq!(rt; master.assign(config(alloc, &[1], 2)?), bad);
+    assert_eq!(rt; master.assign(config(alloc, &[1, 16], 1)?), bad);
+    assert_eq!(rt; master.assign(config(alloc, &[1, 2], 2)?), Ok(2));
+    assert!(rt; Master::new(config(alloc, &[2], 1)?).is_err());
+    assert_eq!(rt; AssignError::BadMembers.number(), 20);
+    assert_eq!(rt; AssignError::BallotsSpent.number(), 21);
     Ok(())
 }

@@ -4,7 +4,7 @@ ghost use Rattle.std.specs.Prelude.{◌≡◌, ◌≤◌, false, [], ◌∷◌, 
 ghost use Rattle.std.specs.Bool.{OnTrue, OnFalse};
 ghost use Rattle.machine.specs.Machine.{rules_by};
 ghost use Rattle.ballot.specs.Protocol.{step_in_one_ballot};
-ghost use Rattle.master.specs.Group.{messages};
+ghost use Rattle.agreement.specs.World.{messages};
 ghost use Rattle.master.specs.Inside.{Parted, TookIn, input_of, is_message};
 
 use ballot::{Effect, Message, Replica};
@@ -28,7 +28,7 @@ pub fn take_in<M: Machine>(
     out: &mut Vec<Effect<M::Command, M::Output>>,
 ) -> bool
     requires { replica.old.state.stopped ≡ false }
-    ensures { TookIn replica.old.state
+    ensures { TookIn (rules_by M.opening M.start_of M.after M.gives) replica.old.state
         (step_in_one_ballot (rules_by M.opening M.start_of M.after M.gives)
         replica.old.state (input_of taken))
         replica.new.state out.old.items out.new.items result }

@@ -8,3 +8,4 @@ pub mod PubrecAlone
 pub mod IdentifiersStayApart
 pub mod FiltersApart
 pub mod ReceivedRise
+pub mod KeptIdentifiers

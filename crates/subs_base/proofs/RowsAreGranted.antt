@@ -18,9 +18,9 @@ use Rattle.topics.specs.Matching.{Matches, is_match}
 use Rattle.topics.proofs.MatchingIsTested.{tested}
 use Rattle.packet.specs.declared.qos.QoS.{QoS}
 use Rattle.packet.specs.QoS.{qos_number}
-use Rattle.subs_base.specs.Granted.{Row, clients_of, IsGreatest, IsGranted, AppendsGranted}
+use Rattle.subs_base.specs.Granted.{Row, clients_of, IsGreatest, IsGranted, AppendsGranted, row_of}
 use Rattle.subs_base.specs.ListIndex.{Filters, Clients, at, content_of}
-use Rattle.subs_base.specs.Inside.{greater, greatest_from, row_of, rows_of, AreOrdered, listed}
+use Rattle.subs_base.specs.Inside.{greater, greatest_from, rows_of, AreOrdered, listed}
 
 -- ---- the greater of two
 

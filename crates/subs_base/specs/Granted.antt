@@ -1,5 +1,5 @@
 -- Who gets a publication, and at which QoS (MQTT 3.3.5).
-use Rattle.std.specs.Prelude.{◌≡◌, ◌≤◌, ℕ, List, ◌++◌, map, All, Contains, Some}
+use Rattle.std.specs.Prelude.{◌≡◌, ◌≤◌, ℕ, List, [], ◌∷◌, ◌++◌, map, All, Contains, Option, Some, None}
 use Rattle.std.specs.List.Sorted.{IsStrictlySortedBy}
 use Rattle.std.specs.Cmp.Lexicographic.{slice_cmp}
 use Rattle.std.specs.Ordering.{nat_cmp}
@@ -11,6 +11,11 @@ use Rattle.subs_base.specs.Content.{Content}
 -- a client with the QoS at which it gets a publication
 abbrev pub Row : Type 0
 Row = List ℕ × QoS
+
+-- the client's row, where it gets the publication
+abbrev pub row_of : List ℕ → Option QoS → List Row
+row_of client None = []
+row_of client (Some qos) = (client, qos) ∷ []
 
 -- the rows' clients
 abbrev pub clients_of : List Row → List (List ℕ)

@@ -8,7 +8,7 @@ use Rattle.std.specs.Ordering.{nat_cmp}
 use Rattle.topics.specs.Matching.{is_match}
 use Rattle.packet.specs.declared.qos.QoS.{QoS}
 use Rattle.packet.specs.QoS.{qos_number}
-use Rattle.subs_base.specs.Granted.{Row}
+use Rattle.subs_base.specs.Granted.{Row, row_of}
 use Rattle.subs_base.specs.ListIndex.{Filters, Clients}
 
 -- the maps as lists
@@ -26,11 +26,6 @@ greatest_from topic best [] = best
 greatest_from topic best (entry ∷ entries) =
     if is_match entry.0 topic then greatest_from topic (Some (greater entry.1 best)) entries
     else greatest_from topic best entries
-
--- the client's row, if it has a matching filter
-abbrev pub row_of : List ℕ → Option QoS → List Row
-row_of client None = []
-row_of client (Some qos) = (client, qos) ∷ []
 
 -- a row for each client with a matching filter
 abbrev pub rows_of : List ℕ → Clients → List Row

@@ -13,7 +13,7 @@ use Rattle.world_base.specs.declared.connection.Connection.{Connection}
 
 -- what a node keeps; its connections stand in the order in which they were opened
 pub record CoreState : Type 0 where
-  pub replica : CountedReplica Command
+  pub replica : CountedReplica Table Command
   -- how many connections of this ballot it accepted
   pub accepted : ℕ
   pub connections : List Connection
@@ -36,7 +36,7 @@ rules = broker_rules usual_limits
 abbrev pub opening_core : ℕ → Config → CoreState
 opening_core id config =
     record {
-      replica = record { state = opening Command id config; losses = 0 };
+      replica = record { state = opening rules id config; losses = 0 };
       accepted = 0;
       connections = [];
     }

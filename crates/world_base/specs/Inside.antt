@@ -1,5 +1,6 @@
 -- What the helpers of a step say of it.
 use Rattle.std.specs.Prelude.{◌≡◌, ℕ, Bool, false, List, ◌++◌, Result, Ok, Err}
+use Rattle.connecting_base.specs.Table.{Table}
 use Rattle.connecting_base.specs.declared.command.Command.{Command}
 use Rattle.connecting_base.specs.declared.command.Output.{Output}
 use Rattle.ballot.specs.Effect.{Effect}
@@ -34,7 +35,8 @@ pub record Turns (old new : Running) (before behind : List (Effect Command Outpu
   pub exact : new.wanting ≡ false → (new ≡ record old { core = turn.core }) × (given ≡ turn.messages)
 
 -- a step of the replica alone
-abbrev pub Hears : Running → Running → Outcome Command Output → List (Effect Command Output) → Type 0
+abbrev pub Hears : Running → Running →
+    Outcome Table Command Output → List (Effect Command Output) → Type 0
 Hears old new outcome given = new.wanting ≡ false →
     (new ≡ record old {
       core = record old.core {

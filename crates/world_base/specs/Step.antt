@@ -8,7 +8,7 @@ use Rattle.world_base.specs.declared.item.Port.{Port}
 use Rattle.world_base.specs.declared.item.Item.{Item}
 use Rattle.world_base.specs.declared.item.Item.TheVariants.{Peer, Tick, Opened, Bytes, Ended, Crash}
 use Rattle.world_base.specs.Connections.{is_at, is_listed, fresh, holding, closed}
-use Rattle.world_base.specs.Core.{CoreState, Turn, serves}
+use Rattle.world_base.specs.Core.{CoreState, Turn, rules, serves}
 use Rattle.world_base.specs.Reading.{begins, changes, ends, goes_on}
 use Rattle.world_base.specs.Turns.{quiet, then_also, drives}
 
@@ -39,7 +39,8 @@ settled core =
 
 -- the node crashes: its replica stops for good
 abbrev pub crashed : CoreState → CoreState
-crashed core = record core { replica = record core.replica { state = halted core.replica.state } }
+crashed core =
+    record core { replica = record core.replica { state = halted rules core.replica.state } }
 
 -- an item before its connections are settled
 abbrev pub takes_in : Item → CoreState → Turn

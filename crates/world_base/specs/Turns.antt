@@ -1,6 +1,7 @@
 -- What a step of the replica makes of a node: outputs are done on connections, messages are handed out.
 use Rattle.std.specs.Prelude.{Bool, true, false, ◌&&◌, nat_lt, if◌then◌else◌, List, [], ◌++◌, length, filter}
 use Rattle.std.specs.List.{fold}
+use Rattle.connecting_base.specs.Table.{Table}
 use Rattle.connecting_base.specs.Connection.{ConnectionName}
 use Rattle.connecting_base.specs.declared.command.Command.{Command}
 use Rattle.connecting_base.specs.declared.command.Output.{Output}
@@ -54,7 +55,7 @@ abbrev pub delivered : List (Effect Command Output) → CoreState → Turn
 delivered effects core =
     record { core = fold served core effects; messages = filter is_message effects }
 
-abbrev pub moved : Outcome Command Output → CoreState → Turn
+abbrev pub moved : Outcome Table Command Output → CoreState → Turn
 moved outcome core =
     delivered outcome.effects
     (record core { replica = record core.replica { state = outcome.state } })
@@ -67,7 +68,7 @@ proposes command core =
     if serves core then moved (proposed rules core.replica.state command) core else quiet core
 
 -- a message of another node or a tick; a replica that has stopped does nothing
-abbrev pub heard : Input Command → ReplicaState Command → Outcome Command Output
+abbrev pub heard : Input Command → ReplicaState Table Command → Outcome Table Command Output
 heard input r = if r.stopped then nothing_done Output r else step_in_one_ballot rules r input
 
 unfoldable pub drives : Input Command → CoreState → Turn

@@ -172,7 +172,7 @@ impl Connection {
 
     /// Puts a packet out, or closes the connection as failed where there is no memory: whether there
     /// was.
-    pub fn send(&mut self, packet: &Packet) -> bool
+    pub fn put_or_fail(&mut self, packet: &Packet) -> bool
         ensures whole { result ≡ true → self.new ≡ putting (spelling packet.now) self.old }
         ensures lost { result ≡ false → self.new ≡ failing self.old }
     {
@@ -185,7 +185,7 @@ impl Connection {
     }
 
     /// Hands over what was put out, behind what `out` holds. Where memory is wanting nothing changes.
-    pub fn hand_over(&mut self, out: &mut Vec<u8>) -> Result<(), Memory>
+    pub fn outgoing(&mut self, out: &mut Vec<u8>) -> Result<(), Memory>
         ensures bytes { OnOk result (out.new.items ≡ out.old.items ++ self.old.pending) }
         ensures ok { OnOk result (self.new ≡ handed self.old) }
         ensures err { OnErr result (out.new.items ≡ out.old.items) }

@@ -150,12 +150,12 @@ impl Serving {
     }
 
     /// Puts a packet out on the open connection of a name, which is closed where there is no memory.
-    pub fn send(&mut self, name: ConnectionId, packet: &Packet)
+    pub fn put(&mut self, name: ConnectionId, packet: &Packet)
         ensures { Does self.old self.new
             (changes_named name (putting (spelling packet.now)) self.old.core) }
     {
         if let Some(index) = self.place_of(name) {
-            let whole = self.connections[index].send(packet);
+            let whole = self.connections[index].put_or_fail(packet);
             if !whole {
                 self.wanting = true;
             }

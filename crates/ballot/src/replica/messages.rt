@@ -28,7 +28,7 @@ impl<M: Machine> Replica<M> {
     ) -> Result<(), Halted>
         // The protocol's step, or one in which memory was wanting and that was counted.
         ensures step { self.old.state.stopped ≡ false →
-            Stepped self.old
+            Stepped (rules_by M.opening M.start_of M.after M.gives) self.old
             (step_in_one_ballot (rules_by M.opening M.start_of M.after M.gives)
             self.old.state (Receives message))
             self.new out.old.items out.new.items }
@@ -77,7 +77,7 @@ impl<M: Machine> Replica<M> {
         command: M::Command,
         out: &mut Vec<Effect<M::Command, M::Output>>,
     )
-        ensures went { Went self.old
+        ensures went { Went (rules_by M.opening M.start_of M.after M.gives) self.old
             (on_append M.Output self.old.state from ballot place command) self.new
             out.old.items out.new.items }
         ensures runs { self.new.state.stopped ≡ self.old.state.stopped }
@@ -113,7 +113,7 @@ impl<M: Machine> Replica<M> {
         out: &mut Vec<Effect<M::Command, M::Output>>,
     ) -> Result<(), Halted>
         requires { self.old.state.stopped ≡ false }
-        ensures went { Went self.old
+        ensures went { Went (rules_by M.opening M.start_of M.after M.gives) self.old
             (on_held
             (rules_by M.opening M.start_of M.after M.gives) self.old.state from ballot held)
             self.new out.old.items out.new.items }
@@ -143,8 +143,9 @@ impl<M: Machine> Replica<M> {
     // A backup applies what every member holds. The outputs are the primary's to give.
     fn on_commit(&mut self, ballot: u64, held: u64) -> Result<(), Halted>
         requires { self.old.state.stopped ≡ false }
-        ensures went { Went self.old
-            (on_commit M.Output self.old.state ballot held) self.new [] [] }
+        ensures went { Went (rules_by M.opening M.start_of M.after M.gives) self.old
+            (on_commit (rules_by M.opening M.start_of M.after M.gives)
+            self.old.state ballot held) self.new [] [] }
         ensures ok { OnOk result (self.new.state.stopped ≡ false) }
         ensures err { OnErr result (self.new.state.stopped ≡ true) }
     {

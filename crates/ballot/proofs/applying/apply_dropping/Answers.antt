@@ -6,5 +6,5 @@ use Rattle.ballot.proofs.applying.apply_dropping.Goals as goal
 pub loop-place-preserved : goal.loop-place-preserved
 loop-place-preserved g c =
     let rules = rules_by g.M.Machine.opening g.M.Machine.start_of g.M.Machine.after g.M.Machine.gives in
-    place_applied rules c.args.log.now c.loop-place.place c.index-log-place.result c.loop-place.machine c.apply.new.self
-    (omega arith) c.index-log-place.is c.loop-place.invariant c.in_ok-apply.ensures.state
+    place_applied rules c.args.machine.now c.args.log.now c.args.from c.loop-place.place c.index-log-place.result
+    c.loop-place.machine c.apply.new.self (omega arith) (omega arith) c.index-log-place.is c.loop-place.invariant c.in_ok-apply.ensures.state

@@ -13,9 +13,9 @@ loop-place-preserved g c =
     let rules = rules_by g.M.Machine.opening g.M.Machine.start_of g.M.Machine.after g.M.Machine.gives in
     let place = c.loop-place.place in
     record {
-      state = place_applied rules c.args.log.now place c.index-log-place.result c.loop-place.machine c.apply.new.self
-          (omega arith) c.index-log-place.is c.loop-place.invariant.state c.in_ok-apply.ensures.state;
-      outputs = place_given rules c.args.log.now c.args.from place c.index-log-place.result c.loop-place.machine
+      state = place_applied rules c.args.machine.now c.args.log.now c.args.from place c.index-log-place.result
+          c.loop-place.machine c.apply.new.self (omega arith) (omega arith) c.index-log-place.is c.loop-place.invariant.state c.in_ok-apply.ensures.state;
+      outputs = place_given rules c.args.machine.now c.args.log.now c.args.from place c.index-log-place.result c.loop-place.machine
           _ _ _ _ _ (omega arith) (omega arith) c.index-log-place.is
           c.loop-place.invariant.state c.new-given.ensures.items c.in_ok-apply.ensures.outputs
           c.loop-place.invariant.outputs c.in_ok-put_out.ensures.ok;

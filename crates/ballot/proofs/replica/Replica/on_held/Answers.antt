@@ -36,14 +36,14 @@ returns-in-Ok-clause-went g c =
     c.in-Ok.ensures.effects
     (written_back c.self-2.inside.progress.len c.raise.new.progress c.self-2.inside.progress.items written
     ∙ c.raise.ensures ∙ ap (raised c.args.from c.args.held) c.deref_mut.ensures.value
-    ∙ ap (λ (z : CountedReplica _). raised c.args.from c.args.held z.state.progress) c.self-2.view_is)
+    ∙ ap (λ (z : CountedReplica _ _). raised c.args.from c.args.held z.state.progress) c.self-2.view_is)
     (rw (← c.self-2.view_is) refl)
     (rw (← c.self-2.view_is) c.counted-self-inside.ensures)
 
 pub returns-in-Ok-clause-ok : goal.returns-in-Ok-clause-ok
 returns-in-Ok-clause-ok g c =
     let steps = rules_by g.M.Machine.opening g.M.Machine.start_of g.M.Machine.after g.M.Machine.gives in
-    ap (λ (z : CountedReplica _). z.state.stopped) (c.self-2.view_is ∙ c.in-Ok.ensures.state)
+    ap (λ (z : CountedReplica _ _). z.state.stopped) (c.self-2.view_is ∙ c.in-Ok.ensures.state)
     ∙ commit_at-stopped steps c.args.self.now.state c.least_raised-least.result ∙ c.requires
 
 pub returns-in-Err-clause-went : goal.returns-in-Err-clause-went

@@ -10,7 +10,7 @@ pub returns-clause-step : goal.returns-clause-step
 returns-clause-step g c =
     let rules = rules_by g.M.Machine.opening g.M.Machine.start_of g.M.Machine.after g.M.Machine.gives in
     let x = rw (← c.self.view_is) at c.in-Some.ensures.some in
-    rw (← c.self.view_is) (steps_turn rules _ _ (Crash c.args.node) _ (stops_turn g.row.M-Output.Denot _ c.args.node c.in-Some.at x)
-    (crash_turn c.self.inside.config c.self.inside.nodes.items c.self.inside.sent.items c.self.inside.left.items c.self.inside.losses c.in-Some.at
+    rw (← c.self.view_is) (steps_turn rules _ _ (Crash c.args.node) _ (stops_turn rules _ c.args.node c.in-Some.at x)
+    (crash_turn rules c.self.inside.config c.self.inside.nodes.items c.self.inside.sent.items c.self.inside.left.items c.self.inside.losses c.in-Some.at
     c.index_mut-replica.result.now c.stop.new.self x.replica c.index_mut-replica.ensures.value x.stands
-    (ap (λ (z : CountedReplica g.row.M-Command.Denot). z.state) c.stop.ensures)))
+    (ap (λ (z : CountedReplica g.row.M.Denot g.row.M-Command.Denot). z.state) c.stop.ensures)))

@@ -10,7 +10,7 @@ use Rattle.master.proofs.group.Group.deliver.Goals as goal
 pub returns-in_default-clause-step : goal.returns-in_default-clause-step
 returns-in_default-clause-step g c =
     let rules = rules_by g.M.Machine.opening g.M.Machine.start_of g.M.Machine.after g.M.Machine.gives in
-    let sent : c.deref.result.now ≡ c.args.self.now.world.sent = c.deref.ensures.value ∙ ap (λ (z : GroupState _ _). z.world.sent) c.self.view_is in
+    let sent : c.deref.result.now ≡ c.args.self.now.world.sent = c.deref.ensures.value ∙ ap (λ (z : GroupState _ _ _). z.world.sent) c.self.view_is in
     let none : slice_get c.args.self.now.world.sent c.args.number ≡ None =
     ap (λ us. slice_get us c.args.number) (sym sent) ∙ get_past c.deref.result.now c.args.number (ltb-false c.args.number (length c.deref.result.now) (sym c.in_default.ensures.lookup.0)) in
     steps_idle rules c.args.self.now (Deliver c.args.number) (not_sent rules c.args.self.now.world c.args.number none)
@@ -18,7 +18,7 @@ returns-in_default-clause-step g c =
 pub returns-in_default-clause-idle : goal.returns-in_default-clause-idle
 returns-in_default-clause-idle g c =
     let rules = rules_by g.M.Machine.opening g.M.Machine.start_of g.M.Machine.after g.M.Machine.gives in
-    let sent : c.deref.result.now ≡ c.args.self.now.world.sent = c.deref.ensures.value ∙ ap (λ (z : GroupState _ _). z.world.sent) c.self.view_is in
+    let sent : c.deref.result.now ≡ c.args.self.now.world.sent = c.deref.ensures.value ∙ ap (λ (z : GroupState _ _ _). z.world.sent) c.self.view_is in
     let none : slice_get c.args.self.now.world.sent c.args.number ≡ None =
     ap (λ us. slice_get us c.args.number) (sym sent) ∙ get_past c.deref.result.now c.args.number (ltb-false c.args.number (length c.deref.result.now) (sym c.in_default.ensures.lookup.0)) in
     (λ h. not_sent rules c.args.self.now.world c.args.number none, λ e. refl)
@@ -26,7 +26,7 @@ returns-in_default-clause-idle g c =
 pub returns-in_default-running-clause-step : goal.returns-in_default-running-clause-step
 returns-in_default-running-clause-step g c =
     let rules = rules_by g.M.Machine.opening g.M.Machine.start_of g.M.Machine.after g.M.Machine.gives in
-    let sent : c.deref.result.now ≡ c.args.self.now.world.sent = c.deref.ensures.value ∙ ap (λ (z : GroupState _ _). z.world.sent) c.self.view_is in
+    let sent : c.deref.result.now ≡ c.args.self.now.world.sent = c.deref.ensures.value ∙ ap (λ (z : GroupState _ _ _). z.world.sent) c.self.view_is in
     let found = ap (λ us. slice_get us c.args.number) (sym sent) ∙ get_there c.deref.result.now c.args.number c.in-Some.field-0.now
     (ltb-true c.args.number (length c.deref.result.now) (sym c.in-Some.ensures.lookup.0)) c.in-Some.ensures.lookup.1 in
     let idle = delivers_nothing rules c.args.self.now.world c.args.number c.in-Some.field-0.now found (c.in_default-running.ensures.none refl) in
@@ -35,7 +35,7 @@ returns-in_default-running-clause-step g c =
 pub returns-in_default-running-clause-idle : goal.returns-in_default-running-clause-idle
 returns-in_default-running-clause-idle g c =
     let rules = rules_by g.M.Machine.opening g.M.Machine.start_of g.M.Machine.after g.M.Machine.gives in
-    let sent : c.deref.result.now ≡ c.args.self.now.world.sent = c.deref.ensures.value ∙ ap (λ (z : GroupState _ _). z.world.sent) c.self.view_is in
+    let sent : c.deref.result.now ≡ c.args.self.now.world.sent = c.deref.ensures.value ∙ ap (λ (z : GroupState _ _ _). z.world.sent) c.self.view_is in
     let found = ap (λ us. slice_get us c.args.number) (sym sent) ∙ get_there c.deref.result.now c.args.number c.in-Some.field-0.now
     (ltb-true c.args.number (length c.deref.result.now) (sym c.in-Some.ensures.lookup.0)) c.in-Some.ensures.lookup.1 in
     let idle = delivers_nothing rules c.args.self.now.world c.args.number c.in-Some.field-0.now found (c.in_default-running.ensures.none refl) in
@@ -44,7 +44,7 @@ returns-in_default-running-clause-idle g c =
 pub returns-in-Ok-clause-step : goal.returns-in-Ok-clause-step
 returns-in-Ok-clause-step g c =
     let rules = rules_by g.M.Machine.opening g.M.Machine.start_of g.M.Machine.after g.M.Machine.gives in
-    let sent : c.deref.result.now ≡ c.args.self.now.world.sent = c.deref.ensures.value ∙ ap (λ (z : GroupState _ _). z.world.sent) c.self.view_is in
+    let sent : c.deref.result.now ≡ c.args.self.now.world.sent = c.deref.ensures.value ∙ ap (λ (z : GroupState _ _ _). z.world.sent) c.self.view_is in
     let found = ap (λ us. slice_get us c.args.number) (sym sent) ∙ get_there c.deref.result.now c.args.number c.in-Some.field-0.now
     (ltb-true c.args.number (length c.deref.result.now) (sym c.in-Some.ensures.lookup.0)) c.in-Some.ensures.lookup.1 in
     let x = c.in-Some-running.ensures.some in
@@ -55,7 +55,7 @@ returns-in-Ok-clause-step g c =
 pub returns-in-Ok-clause-idle : goal.returns-in-Ok-clause-idle
 returns-in-Ok-clause-idle g c =
     let rules = rules_by g.M.Machine.opening g.M.Machine.start_of g.M.Machine.after g.M.Machine.gives in
-    let sent : c.deref.result.now ≡ c.args.self.now.world.sent = c.deref.ensures.value ∙ ap (λ (z : GroupState _ _). z.world.sent) c.self.view_is in
+    let sent : c.deref.result.now ≡ c.args.self.now.world.sent = c.deref.ensures.value ∙ ap (λ (z : GroupState _ _ _). z.world.sent) c.self.view_is in
     let found = ap (λ us. slice_get us c.args.number) (sym sent) ∙ get_there c.deref.result.now c.args.number c.in-Some.field-0.now
     (ltb-true c.args.number (length c.deref.result.now) (sym c.in-Some.ensures.lookup.0)) c.in-Some.ensures.lookup.1 in
     let x = c.in-Some-running.ensures.some in
@@ -69,7 +69,7 @@ returns-in-Err-clause-step g c =
 pub returns-in-Err-clause-idle : goal.returns-in-Err-clause-idle
 returns-in-Err-clause-idle g c =
     let rules = rules_by g.M.Machine.opening g.M.Machine.start_of g.M.Machine.after g.M.Machine.gives in
-    let sent : c.deref.result.now ≡ c.args.self.now.world.sent = c.deref.ensures.value ∙ ap (λ (z : GroupState _ _). z.world.sent) c.self.view_is in
+    let sent : c.deref.result.now ≡ c.args.self.now.world.sent = c.deref.ensures.value ∙ ap (λ (z : GroupState _ _ _). z.world.sent) c.self.view_is in
     let found = ap (λ us. slice_get us c.args.number) (sym sent) ∙ get_there c.deref.result.now c.args.number c.in-Some.field-0.now
     (ltb-true c.args.number (length c.deref.result.now) (sym c.in-Some.ensures.lookup.0)) c.in-Some.ensures.lookup.1 in
     let x = c.in-Some-running.ensures.some in

@@ -1,0 +1,42 @@
+-- PastGrows.antt: what was told, chosen and active stays so behind a further moment, so the agreed list only grows.
+use Rattle.std.proofs.Common.{◌≡◌, ℕ, ◌⊎◌, inl, inr, List, [], ◌∷◌, refl, sym, subst}
+use Rattle.lists.specs.Lists.{IsPrefixOf}
+use Rattle.lists.specs.Lists.In.{there}
+use Rattle.ballot.specs.Config.{Config}
+use Rattle.machine.specs.Machine.{Rules}
+use Rattle.agreement.specs.Laws.{AgreedGrows}
+use Rattle.agreement.specs.Past.{Moment, HasConfig, WasActive, HasTold, IsChosen, IsAgreed}
+use Rattle.agreement.specs.Past.HasConfig.{opened_with, was_assigned}
+use Rattle.agreement.specs.Past.HasTold.{told_as_log, told_by_message}
+
+pub config_stays : {S C O : Type 0} (config : Config) (past : List (Moment S C O)) (v : Moment S C O) (b : ℕ) (c : Config) →
+    HasConfig config past b c → HasConfig config (v ∷ past) b c
+config_stays config past v b c (opened_with one same) = opened_with one same
+config_stays config past v b c (was_assigned a i waits) = was_assigned a (there i) waits
+
+pub active_stays : {S C O : Type 0} (past : List (Moment S C O)) (v : Moment S C O) (b : ℕ) → WasActive past b → WasActive (v ∷ past) b
+active_stays past v b (a, i, e) = (a, there i, e)
+
+pub told_stays : {S C O : Type 0} (config : Config) (past : List (Moment S C O)) (v : Moment S C O) (b n : ℕ) (xs : List C) →
+    HasTold config past b n xs → HasTold config (v ∷ past) b n xs
+told_stays config past v b n xs (told_as_log a r c i stands held has primary is) =
+    told_as_log a r c (there i) stands held (config_stays config past v b c has) primary is
+told_stays config past v b n xs (told_by_message a r i stands held sent front) = told_by_message a r (there i) stands held sent front
+
+chosen_stays : {S C O : Type 0} (config : Config) (past : List (Moment S C O)) (v : Moment S C O) (b : ℕ) (xs : List C) →
+    IsChosen config past b xs → IsChosen config (v ∷ past) b xs
+chosen_stays config past v b xs (c, has, all) =
+    (c, config_stays config past v b c has, λ n i. let z = all n i in (z.0, told_stays config past v b n z.0 z.1, z.2))
+
+-- what is agreed begins what is agreed behind the next moment
+pub agreed_only_grows : {S C O : Type 0} (config : Config) (past : List (Moment S C O)) (v : Moment S C O) (xs ys : List C) →
+    IsAgreed config past xs → IsAgreed config (v ∷ past) ys → IsPrefixOf xs ys
+agreed_only_grows {S = S} {C = C} {O = O} config past v xs ys before behind = by_chosen before.chosen
+  where
+    by_chosen : (xs ≡ []) ⊎ ((b : ℕ) × WasActive past b × IsChosen config past b xs) → IsPrefixOf xs ys
+    by_chosen (inl none) = subst (λ (us : List C). IsPrefixOf us ys) (sym none) (record { rest = ys; is = refl })
+    by_chosen (inr (b, active, chosen)) = behind.longest b xs (active_stays past v b active) (chosen_stays config past v b xs chosen)
+
+-- in the words of the laws
+pub agreed_grows : {S C O : Type 0} (rules : Rules S C O) → AgreedGrows rules
+agreed_grows rules config a past xs ys before behind = agreed_only_grows config past a xs ys before behind

@@ -1,0 +1,21 @@
+-- Frame.antt: what every move of a node keeps.
+pub mod Adding
+pub mod Apart
+pub mod EqualLists
+pub mod Framing
+pub mod Giving
+pub mod Going
+pub mod Joining
+pub mod Later
+pub mod Leaving
+pub mod Lining
+pub mod Losing
+pub mod Moved
+pub mod Others
+pub mod Outputs
+pub mod Quiet
+pub mod QuietWorlds
+pub mod RolesAndRows
+pub mod Sealing
+pub mod Taking
+pub mod Telling

@@ -1,0 +1,42 @@
+-- Apart.antt: the places that a commit gives were given by no other commit.
+use Rattle.std.proofs.Common.{◌≡◌, ℕ, ◌<◌, ◌≤◌, ◌⊎◌, inl, inr, length, Some, arith}
+use Rattle.std.proofs.lemmas.Bool.{cases_lt}
+use Rattle.std.proofs.lemmas.List.{length-take-le}
+use Rattle.agreement.specs.World.{World}
+use Rattle.lists.specs.Lists.{In}
+use Rattle.agreement.specs.Inside.Ballots.{Line, History, IsChosenIn, AreBallots, AreLines, IsWithin}
+use Rattle.agreement.specs.Agreement.{Segment}
+use Rattle.lists.proofs.Beginnings.{prefix_length}
+use Rattle.agreement.proofs.Frame.Sealing.{chosen_told}
+use Rattle.agreement.proofs.Frame.Taking.{activated_base}
+
+-- what is chosen in a ballot lies within its list
+pub chosen_within : {S C O : Type 0} (w : World S C O) (h : History C) → AreBallots h → IsWithin w h → (b k : ℕ) (l : Line C) →
+    h.line b ≡ Some l → IsChosenIn w h b k → k ≤ length l.list
+chosen_within w h ballots within b k l lined chosen =
+    within chosen.0.primary b k l lined
+    (chosen_told w h b k chosen.0 chosen.0.primary chosen chosen.1 (ballots.led b chosen.0 chosen.1))
+
+-- what is chosen in a ballot is no longer than the base of a later activated one
+pub chosen_below : {S C O : Type 0} (w : World S C O) (h : History C) → AreBallots h → AreLines w h → IsWithin w h → (c d k : ℕ) →
+    In c h.activated → In d h.activated → c < d → IsChosenIn w h c k → (lc ld : Line C) → h.line c ≡ Some lc → h.line d ≡ Some ld →
+    k ≤ length ld.base
+chosen_below w h ballots lines within c d k i j less chosen lc ld e f =
+    let p = prefix_length (activated_base w h ballots lines c d k i j less chosen lc ld e f) in
+    let z = length-take-le k lc.list (chosen_within w h ballots within c k lc e chosen) in omega (arith, p, z)
+
+-- an earlier segment shares no place with what an active primary commits now
+pub apart_now : {S C O : Type 0} (w : World S C O) (h : History C) → AreBallots h → AreLines w h → IsWithin w h → (s : Segment) →
+    In s.ballot h.activated × (s.first < s.past) × IsChosenIn w h s.ballot s.past
+    × ((l : Line C) × (h.line s.ballot ≡ Some l) × (length l.base ≤ s.first)) →
+    (b first past : ℕ) (l : Line C) → In b h.activated → h.line b ≡ Some l → length l.base ≤ first → IsChosenIn w h b past →
+    (s.ballot ≡ b → s.past ≤ first) → (s.past ≤ first) ⊎ (past ≤ s.first)
+apart_now {S = S} {C = C} w h ballots lines within s (i, rising, chosen, (ls, lined, low)) b first past l j lined_b low_b chosen_b same =
+    by_order (cases_lt s.ballot b) (cases_lt b s.ballot)
+  where
+    by_order : (s.ballot < b) ⊎ (b ≤ s.ballot) → (b < s.ballot) ⊎ (s.ballot ≤ b) → (s.past ≤ first) ⊎ (past ≤ s.first)
+    by_order (inl less) other =
+        let z = chosen_below w h ballots lines within s.ballot b s.past i j less chosen ls l lined lined_b in inl (omega (arith, z, low_b))
+    by_order (inr high) (inl more) =
+        let z = chosen_below w h ballots lines within b s.ballot past j i more chosen_b l ls lined_b lined in inr (omega (arith, z, low))
+    by_order (inr high) (inr no_more) = inl (same (omega (arith, high, no_more)))

@@ -1,0 +1,11 @@
+pub mod Agreed
+pub mod Changing
+pub mod Effects
+pub mod Frame
+pub mod LawfulConfigs
+pub mod Machines
+pub mod Masters
+pub mod Orders
+pub mod Runs
+pub mod Serving
+pub mod Starts

@@ -1,0 +1,3 @@
+-- Orders.antt: the order of proposals.
+pub mod OwnSteps
+pub mod Owning

@@ -1,0 +1,69 @@
+-- GroupServes.antt: a group opens as it should be.
+use Rattle.std.proofs.Common.{Bool, cond, inl, ◌≡◌, ℕ, zero, suc, ◌+◌, true, false, [], ◌∷◌, length, refl, sym, subst, arith}
+use Rattle.std.specs.Prelude.{◌==◌}
+use Rattle.std.proofs.lemmas.List.{length-append}
+use Rattle.machine.specs.Machine.{Rules}
+use Rattle.ballot.specs.Config.{Config}
+use Rattle.ballot.specs.Role.TheVariants.{Active}
+use Rattle.ballot.specs.Replica.{ReplicaState, opening, opening_member, progress_at, others}
+use Rattle.agreement.specs.World.{can_open, opening_nodes, opening_world}
+use Rattle.agreement.specs.Inside.Masters.{IsServing}
+use Rattle.agreement.specs.Inside.Begun.{AreLong}
+use Rattle.agreement.specs.Inside.Serves.{Serves}
+use Rattle.agreement.specs.Inside.OpeningHistory.{opening_history}
+use Rattle.agreement.specs.MasterState.{opening_master}
+use Rattle.agreement.specs.Replays.{IsReplay, AreReplays}
+use Rattle.agreement.specs.Inside.Sound.{IsSound}
+use Rattle.agreement.proofs.Masters.Assigns.{can_open_is}
+use Rattle.agreement.proofs.Runs.RunsGoOn.{opening_begun}
+use Rattle.agreement.proofs.Runs.OpeningNodes.{first_given}
+use Rattle.agreement.proofs.Runs.OpeningWorlds.{opens_node, opening_sound, opening_is_master}
+
+-- how many nodes open
+nodes_open : {S C O : Type 0} (rules : Rules S C O) (nodes : ℕ) (config : Config) → length (opening_nodes rules nodes config) ≡ nodes
+nodes_open rules zero config = refl
+nodes_open rules (suc n) config =
+    let e = nodes_open rules n config in omega (arith, e, length-append (opening_nodes rules n config) (opening rules (n + 1) config ∷ []))
+
+-- a group that opens
+pub opening_serves : {S C O : Type 0} (rules : Rules S C O) (nodes : ℕ) (config : Config) → can_open nodes config ≡ true →
+    IsServing (length (opening_world rules nodes config).nodes) (opening_master config)
+opening_serves rules nodes config e =
+    subst (λ j. IsServing j (opening_master config)) (sym (nodes_open rules nodes config))
+    (record { members = (can_open_is nodes config e).1; waiting = λ b c f. cc; given = omega arith })
+
+-- the first ballot alone has an active primary
+opening_long : {S C O : Type 0} (rules : Rules S C O) (nodes : ℕ) (config : Config) →
+    IsSound rules (opening_world rules nodes config) (opening_history C config) → AreLong (opening_world rules nodes config) (opening_history C config)
+opening_long {C = C} rules nodes config s n r e active =
+    let a = (s.nodes n r e).active active in inl (first_given C config r.joined a.leads.0 a.leads.1).0
+
+-- machines open as replays of nothing
+opening_replays : {S C O : Type 0} (rules : Rules S C O) (nodes : ℕ) (config : Config) → AreReplays rules (opening_world rules nodes config)
+opening_replays {S = S} {C = C} rules nodes config n r e runs =
+    subst (λ (x : ReplicaState S C). IsReplay rules x) (opens_node rules nodes config n r e) (opens_replay rules (n + 1) config)
+  where
+    opens_replay : {S C O : Type 0} (rules : Rules S C O) (id : ℕ) (config : Config) → IsReplay rules (opening rules id config)
+    opens_replay rules id config = by_role (id == config.primary)
+      where
+        by_role : (b : Bool) → IsReplay rules (cond b (record (opening_member rules id config) {
+          role = Active;
+          members = config.members;
+          progress = progress_at 0 (others id config.members);
+        }) (opening_member rules id config))
+        by_role true = refl
+        by_role false = refl
+
+-- a group serves as it opens
+pub opening_is_serving : {S C O : Type 0} (rules : Rules S C O) (nodes : ℕ) (config : Config) → can_open nodes config ≡ true →
+    Serves rules (opening_master config) (opening_world rules nodes config) (opening_history C config)
+opening_is_serving {C = C} rules nodes config e =
+    let first = opening_sound rules nodes config (can_open_is nodes config e).0 in
+    record {
+      sound = first;
+      master = opening_is_master C config;
+      replays = opening_replays rules nodes config;
+      serving = opening_serves rules nodes config e;
+      begun = opening_begun rules.start_of config;
+      long = opening_long rules nodes config first;
+    }

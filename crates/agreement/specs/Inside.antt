@@ -1,0 +1,13 @@
+-- Inside.antt: what proofs say of groups; no law cites it.
+pub mod Ballots
+pub mod Begun
+pub mod Chosen
+pub mod GroupSteps
+pub mod Keeps
+pub mod Masters
+pub mod Moves
+pub mod OpeningHistory
+pub mod Own
+pub mod Serves
+pub mod Sound
+pub mod ToldLengths

@@ -1,0 +1,22 @@
+-- Chosen.antt: what is chosen and agreed by the history of ballots.
+use Rattle.std.specs.Prelude.{ℕ, ◌≡◌, ◌⊎◌, List, [], take, Some}
+use Rattle.agreement.specs.World.{World}
+use Rattle.lists.specs.Lists.{In, IsPrefixOf}
+use Rattle.agreement.specs.Inside.Ballots.{Line, History, IsChosenIn}
+
+-- a list that is chosen in an activated ballot
+pub record ChosenList {S C O : Type 0} (w : World S C O) (h : History C)
+    (xs : List C) : Type 0 where
+  pub ballot : ℕ
+  pub places : ℕ
+  pub line : Line C
+  pub activated : In ballot h.activated
+  pub lined : h.line ballot ≡ Some line
+  pub chosen : IsChosenIn w h ballot places
+  pub is : xs ≡ take places line.list
+
+-- the longest list that is chosen in an activated ballot, or none where there is none
+pub record IsAgreedIn {S C O : Type 0} (w : World S C O) (h : History C)
+    (xs : List C) : Type 0 where
+  pub chosen : (xs ≡ []) ⊎ ChosenList w h xs
+  pub longest : (ys : List C) → ChosenList w h ys → IsPrefixOf ys xs

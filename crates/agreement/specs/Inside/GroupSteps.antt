@@ -1,0 +1,60 @@
+-- GroupSteps.antt: what may happen in a group, where an Assign is not refused.
+use Rattle.std.specs.Prelude.{ℕ, ◌≡◌, false, List, [], slice_get, Some}
+use Rattle.machine.specs.Machine.{Rules}
+use Rattle.ballot.specs.Config.{Config}
+use Rattle.ballot.specs.Body.TheVariants.{Activate}
+use Rattle.ballot.specs.Effect.{Effect}
+use Rattle.ballot.specs.Losses.{Loses, halted}
+use Rattle.ballot.specs.Protocol.{Input, replica_step}
+use Rattle.ballot.specs.Protocol.Input.{Receives, Proposes, Ticks}
+use Rattle.ballot.specs.Replica.{ReplicaState}
+use Rattle.agreement.specs.Proposals.{proposal_by}
+use Rattle.agreement.specs.World.{World, moved}
+use Rattle.lists.specs.Lists.{In}
+use Rattle.agreement.specs.MasterState.{MasterState, assigned, activated}
+use Rattle.agreement.specs.Steps.{tells_from_master, MayTake}
+
+-- what a step may add to the list of a ballot: a proposal to that of its primary, and else the
+-- start of the ballot
+abbrev pub AddsBy : {S C O : Type 0} → Rules S C O → ReplicaState S C → Input C → ℕ → C → Type 0
+AddsBy rules r (Receives message) b c = c ≡ rules.start_of b
+AddsBy rules r (Proposes command) b c = (b ≡ r.joined) × (c ≡ command)
+AddsBy rules r Ticks b c = ⊥
+
+-- what may happen in a group: a node takes its step, perhaps with losses, or stops; the master
+-- assigns or hears an Activate
+pub data GroupStep {S C O : Type 0} (rules : Rules S C O) : MasterState → World S C O →
+    MasterState → World S C O → Type 0 where
+  takes : {m : MasterState} {w : World S C O} (n : ℕ) (r : ReplicaState S C)
+      (input : Input C) {new : ReplicaState S C}
+      {given : List (Effect C O)} → slice_get w.nodes n ≡ Some r → r.stopped ≡ false →
+      MayTake w n input →
+      Loses rules r (replica_step rules r input) new given →
+      GroupStep rules m w m (moved w n new given)
+  stops : {m : MasterState} {w : World S C O} (n : ℕ) (r : ReplicaState S C) →
+      slice_get w.nodes n ≡ Some r →
+      GroupStep rules m w m (moved w n (halted rules r) [])
+  assigns : {m : MasterState} {w : World S C O} (config : Config) →
+      In config.primary config.members →
+      GroupStep rules m w (assigned C m config).state (tells_from_master w (assigned C m config))
+  hears : {m : MasterState} {w : World S C O} (from b : ℕ) →
+      In (0, record { from = from; body = Activate b }) w.sent →
+      GroupStep rules m w (activated C m b from m.waiting).state (tells_from_master w
+      (activated C m b from m.waiting))
+  -- the same where the master's message is lost
+  assigns_unheard : {m : MasterState} {w : World S C O} (config : Config) →
+      In config.primary config.members →
+      GroupStep rules m w (assigned C m config).state w
+  hears_unanswered : {m : MasterState} {w : World S C O} (from b : ℕ) →
+      In (0, record { from = from; body = Activate b }) w.sent →
+      GroupStep rules m w (activated C m b from m.waiting).state w
+
+-- the proposal that a step takes in
+abbrev pub adds_of : {S C O : Type 0} {rules : Rules S C O} {m : MasterState}
+    {w : World S C O} {k : MasterState} {v : World S C O} → GroupStep rules m w k v → List (ℕ × C)
+adds_of (takes n r input stands runs may loses) = proposal_by r input
+adds_of (stops n r stands) = []
+adds_of (assigns config member) = []
+adds_of (hears from b sent) = []
+adds_of (assigns_unheard config member) = []
+adds_of (hears_unanswered from b sent) = []

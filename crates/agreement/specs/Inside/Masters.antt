@@ -1,0 +1,29 @@
+-- Masters.antt: what the master's fields say of the history of ballots.
+use Rattle.std.specs.Prelude.{ℕ, ◌+◌, ◌<◌, ◌≤◌, ◌≡◌, List, ◌∷◌, Some}
+use Rattle.ballot.specs.Config.{Config}
+use Rattle.agreement.specs.Inside.Ballots.{Given, History}
+use Rattle.lists.specs.Lists.{In}
+use Rattle.agreement.specs.MasterState.{MasterState, last_ballot}
+
+-- the master's fields are those of the history
+pub record IsMaster {C : Type 0} (m : MasterState) (h : History C) : Type 0 where
+  pub older : List ℕ
+  pub newest : h.activated ≡ m.active ∷ older
+  pub active_members : (g : Given) × (h.given m.active ≡ Some g) × (g.members ≡ m.members)
+  pub numbered : (b : ℕ) (g : Given) → h.given b ≡ Some g → (0 < b) × (b ≤ m.given)
+  -- the ballot that waits is the last that was given, behind the active one
+  pub waits : (b : ℕ) (config : Config) → m.waiting ≡ Some (b, config) →
+      (b ≡ m.given) × (m.active < b) × ((g : Given) × (h.given b ≡ Some g) × (g.previous ≡ m.active)
+      × (g.members ≡ config.members) × (g.primary ≡ config.primary))
+
+-- numbers of nodes, of which there are so many
+abbrev pub AreNodes : ℕ → List ℕ → Type 0
+AreNodes nodes members = (x : ℕ) → In x members → (n : ℕ) × (x ≡ n + 1) × (n < nodes)
+
+-- the members of the active ballot are nodes, those of the ballot that waits too, and at most the
+-- last ballot was given
+pub record IsServing (nodes : ℕ) (m : MasterState) : Type 0 where
+  pub members : AreNodes nodes m.members
+  pub waiting : (b : ℕ) (config : Config) → m.waiting ≡ Some (b, config) →
+      AreNodes nodes config.members
+  pub given : m.given < last_ballot + 1

@@ -1,0 +1,20 @@
+-- OpeningHistory.antt: the history of a group that opens.
+use Rattle.std.specs.Prelude.{◌==◌, [], ◌∷◌, Some, None, if◌then◌else◌}
+use Rattle.ballot.specs.Config.{Config}
+use Rattle.agreement.specs.Inside.Ballots.{Given, Line, History}
+
+-- ballot 1 as it opens, and its list
+abbrev pub first_ballot : Config → Given
+first_ballot config = record { members = config.members; primary = config.primary; previous = 0 }
+
+abbrev pub first_line : (C : Type 0) → Line C
+first_line C = record { base = []; list = [] }
+
+-- ballot 1 alone is given and activated, and its list is empty
+abbrev pub opening_history : (C : Type 0) → Config → History C
+opening_history C config =
+    record {
+      given = λ x. if x == 1 then Some (first_ballot config) else None;
+      activated = 1 ∷ [];
+      line = λ x. if x == 1 then Some (first_line C) else None;
+    }

@@ -1,0 +1,159 @@
+-- Sound.antt: what holds in every world that a group comes to, of its messages, nodes and outputs.
+use Rattle.std.specs.Prelude.{ℕ, ◌+◌, ◌<◌, ◌≤◌, ◌≡◌, ◌⊎◌, List, [], length, take, slice_get, Some, None}
+use Rattle.std.specs.List.{flat_map}
+use Rattle.machine.specs.Machine.{Rules}
+use Rattle.ballot.specs.Message.{Message}
+use Rattle.ballot.specs.Body.{Body}
+use Rattle.ballot.specs.Body.TheVariants.{NewBallot, Join, State, Install, Installed, Activate, Activated, Superseded, Append, Held, Commit}
+use Rattle.ballot.specs.Progress.{Progress}
+use Rattle.ballot.specs.Role.TheVariants.{Fetching, Installing, Active}
+use Rattle.ballot.specs.Replica.{ReplicaState}
+use Rattle.ballot.specs.Applying.{outputs_between}
+use Rattle.agreement.specs.World.{World, outputs}
+use Rattle.lists.specs.Lists.{In, IsPrefixOf}
+use Rattle.agreement.specs.Inside.Ballots.{Given, Line, History, Told, IsChosenIn, Sealed, AreBallots, AreLines, IsPlaced, Applied}
+use Rattle.agreement.specs.Agreement.{Segment}
+
+-- the node of a number has joined at least a ballot
+abbrev pub HasJoined : {S C O : Type 0} → World S C O → ℕ → ℕ → Type 0
+HasJoined {S} {C} w m b =
+    (n : ℕ) × (m ≡ n + 1) × ((r : ReplicaState S C) × (slice_get w.nodes n ≡ Some r)
+    × (b ≤ r.joined))
+
+-- the ballot that a message names
+pub record IsOf {C : Type 0} (h : History C) (b : ℕ) (g : Given) : Type 0 where
+  pub given : h.given b ≡ Some g
+  pub later : 0 < g.previous
+
+-- a list that the primary of a ballot may be told to take, or has taken
+abbrev pub IsOffered : {C : Type 0} → History C → ℕ → Given → List C → Type 0
+IsOffered {C} h b g xs =
+    ((p : Line C) × (h.line g.previous ≡ Some p) × IsPrefixOf xs p.list)
+    ⊎ ((l : Line C) × (h.line b ≡ Some l) × IsPrefixOf l.base xs × IsPrefixOf xs l.list)
+
+-- another member
+abbrev pub IsOther : Given → ℕ → Type 0
+IsOther g m = In m g.members × (m ≡ g.primary → ⊥)
+
+-- what a message to a receiver says is so; a rejected ballot is below the active one, or was put
+-- out
+abbrev pub Says : {S C O : Type 0} → World S C O → History C → ℕ → ℕ → Body C → Type 0
+Says w h to from (NewBallot b members a old_members) =
+    (g : Given) × IsOf h b g × (from ≡ 0) × (to ≡ g.primary) × (members ≡ g.members)
+    × (a ≡ g.previous)
+    × ((old : Given) × (h.given a ≡ Some old) × (old_members ≡ old.members))
+Says w h to from (Join b a) =
+    (g : Given) × IsOf h b g × (from ≡ g.primary) × (a ≡ g.previous) × HasJoined w from b
+    × ((old : Given) × (h.given a ≡ Some old) × In to old.members)
+Says w h to from (State b xs) =
+    (g : Given) × IsOf h b g × (to ≡ g.primary) × HasJoined w from b × HasJoined w to b
+    × Sealed w h g.previous xs × IsOffered h b g xs
+Says {S} {C} w h to from (Install b xs) =
+    (g : Given) × IsOf h b g × (from ≡ g.primary) × IsOther g to
+    × ((l : Line C) × (h.line b ≡ Some l) × (l.base ≡ xs))
+Says {S} {C} w h to from (Installed b held) =
+    (g : Given) × IsOf h b g × (to ≡ g.primary) × IsOther g from
+    × ((l : Line C) × (h.line b ≡ Some l) × (held ≡ length l.base))
+Says {S} {C} w h to from (Activate b) =
+    (g : Given) × IsOf h b g × (from ≡ g.primary)
+    × ((l : Line C) × (h.line b ≡ Some l) × IsChosenIn w h b (length l.base))
+Says w h to from (Activated b) = (g : Given) × (h.given b ≡ Some g) × (to ≡ g.primary)
+    × In b h.activated
+Says w h to from (Superseded b) = (g : Given) × (h.given b ≡ Some g) × (to ≡ g.primary)
+Says {S} {C} w h to from (Append b place command) =
+    (g : Given) × (h.given b ≡ Some g) × (from ≡ g.primary) × IsOther g to × In b h.activated
+    × ((l : Line C) × (h.line b ≡ Some l) × (length l.base ≤ place)
+    × (slice_get l.list place ≡ Some command))
+Says {S} {C} w h to from (Held b held) =
+    (g : Given) × (h.given b ≡ Some g) × (to ≡ g.primary) × IsOther g from
+    × ((l : Line C) × (h.line b ≡ Some l) × (length l.base ≤ held) × (held ≤ length l.list))
+Says w h to from (Commit b held) =
+    (g : Given) × (h.given b ≡ Some g) × (from ≡ g.primary) × IsOther g to × In b h.activated
+    × IsChosenIn w h b held
+
+-- what a leader's fields are, by its role
+abbrev pub Leads : {S C O : Type 0} → World S C O → History C → ℕ → ReplicaState S C → Type 0
+Leads {S} {C} w h n r =
+    (g : Given) × (h.given r.joined ≡ Some g) × (g.primary ≡ n + 1) × (r.members ≡ g.members)
+
+abbrev pub IsFetching : {S C O : Type 0} → World S C O → History C → ℕ → ReplicaState S C → Type 0
+IsFetching w h n r =
+    Leads w h n r × (r.held_in < r.joined) × (h.line r.joined ≡ None)
+    × ((g : Given) × IsOf h r.joined g × (r.previous ≡ g.previous)
+    × ((old : Given) × (h.given g.previous ≡ Some old) × (r.previous_members ≡ old.members)))
+
+pub record IsInstalling {S C O : Type 0} (w : World S C O) (h : History C) (n : ℕ)
+    (r : ReplicaState S C) :
+    Type 0 where
+  pub leads : Leads w h n r
+  pub later : (g : Given) × IsOf h r.joined g
+  pub own : r.held_in ≡ r.joined
+  pub line : Line C
+  pub lined : h.line r.joined ≡ Some line
+  pub base : r.log ≡ line.base
+  pub noted : (m : ℕ) → In m r.members → (In m r.lacking ⊎ Told w h m r.joined (length line.base))
+  pub lacks : (m : ℕ) → In m r.lacking → In m r.members × (m ≡ n + 1 → ⊥)
+
+pub record IsActive {S C O : Type 0} (w : World S C O) (h : History C) (n : ℕ)
+    (r : ReplicaState S C) :
+    Type 0 where
+  pub leads : Leads w h n r
+  pub own : r.held_in ≡ r.joined
+  pub activated : In r.joined h.activated
+  pub line : Line C
+  pub lined : h.line r.joined ≡ Some line
+  pub begun : (line.base ≡ []) ⊎ (length line.base < length r.log)
+  pub above : length line.base ≤ r.committed
+  pub covered : (m : ℕ) → In m r.members →
+      (m ≡ n + 1) ⊎ ((reached : Progress) × In reached r.progress × (reached.member ≡ m))
+  pub followed : (reached : Progress) → In reached r.progress → (In reached.member r.members)
+      × (length line.base ≤ reached.held) × (r.committed ≤ reached.held)
+      × Told w h reached.member r.joined reached.held
+  pub others : (reached : Progress) → In reached r.progress → reached.member ≡ n + 1 → ⊥
+
+-- a node is as it should be
+pub record IsSoundNode {S C O : Type 0} (w : World S C O) (h : History C) (n : ℕ)
+    (r : ReplicaState S C) :
+    Type 0 where
+  pub id : r.id ≡ n + 1
+  pub placed : IsPlaced w h n r
+  pub empty : r.held_in ≡ 0 → r.log ≡ []
+  pub member : (g : Given) → h.given r.held_in ≡ Some g → In (n + 1) g.members
+  pub primary_log : (g : Given) (l : Line C) → h.given r.held_in ≡ Some g → g.primary ≡ n + 1 →
+      h.line r.held_in ≡ Some l → r.log ≡ l.list
+  pub joined_by : (r.joined ≡ 0) ⊎ ((g : Given) × (h.given r.joined ≡ Some g)
+      × (In (n + 1) g.members ⊎ ((old : Given) × (h.given g.previous ≡ Some old)
+      × In (n + 1) old.members)))
+  pub within : r.committed ≤ length r.log
+  pub applied : Applied w h r
+  pub fetching : r.role ≡ Fetching → IsFetching w h n r
+  pub installing : r.role ≡ Installing → IsInstalling w h n r
+  pub active : r.role ≡ Active → IsActive w h n r
+
+-- what left is the outputs of segments that share no place, each of what is chosen in its ballot
+pub record LeftIs {S C O : Type 0} (rules : Rules S C O) (w : World S C O)
+    (h : History C) : Type 0 where
+  pub segments : List Segment
+  pub left : (agreed : List C) → ((b k : ℕ) (l : Line C) → In b h.activated → h.line b ≡ Some l →
+      IsChosenIn w h b k → IsPrefixOf (take k l.list) agreed) →
+      w.left ≡ flat_map (λ s. outputs (outputs_between rules agreed s.first s.past)) segments
+  pub chosen : (s : Segment) → In s segments → In s.ballot h.activated × (s.first < s.past)
+      × IsChosenIn w h s.ballot s.past × ((l : Line C) × (h.line s.ballot ≡ Some l)
+      × (length l.base ≤ s.first))
+  pub applied : (s : Segment) → In s segments → (g : Given) → h.given s.ballot ≡ Some g → (n : ℕ) →
+      g.primary ≡ n + 1 → (r : ReplicaState S C) → slice_get w.nodes n ≡ Some r →
+      s.past ≤ r.committed
+  pub apart : (i j : ℕ) (s t : Segment) → slice_get segments i ≡ Some s →
+      slice_get segments j ≡ Some t →
+      i < j → (s.past ≤ t.first) ⊎ (t.past ≤ s.first)
+
+-- what holds of a world
+pub record IsSound {S C O : Type 0} (rules : Rules S C O) (w : World S C O)
+    (h : History C) : Type 0 where
+  pub ballots : AreBallots h
+  pub lines : AreLines w h
+  pub within : (m b k : ℕ) → Told w h m b k → (k ≡ 0) ⊎ ((l : Line C) × (h.line b ≡ Some l)
+      × (k ≤ length l.list))
+  pub said : (to : ℕ) (m : Message C) → In (to, m) w.sent → Says w h to m.from m.body
+  pub nodes : (n : ℕ) (r : ReplicaState S C) → slice_get w.nodes n ≡ Some r → IsSoundNode w h n r
+  pub left : LeftIs rules w h

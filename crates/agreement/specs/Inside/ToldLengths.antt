@@ -1,0 +1,44 @@
+-- ToldLengths.antt: how much of a ballot's list each member told, and the front that all of them
+-- told, by the messages that were sent.
+use Rattle.std.specs.Prelude.{ℕ, ◌==◌, List, [], ◌∷◌, length, if◌then◌else◌}
+use Rattle.std.proofs.Common.{min, max}
+use Rattle.ballot.specs.Message.{Message}
+use Rattle.ballot.specs.Body.{Body}
+use Rattle.ballot.specs.Body.TheVariants.{NewBallot, Join, State, Install, Installed, Activate, Activated, Superseded, Append, Held, Commit}
+use Rattle.agreement.specs.Inside.Ballots.{Given, Line}
+
+-- the length that a body tells of a ballot's list
+abbrev pub told_by : {C : Type 0} → ℕ → Body C → ℕ
+told_by b (NewBallot x members a old) = 0
+told_by b (Join x a) = 0
+told_by b (State x log) = 0
+told_by b (Install x log) = 0
+told_by b (Installed x held) = if x == b then held else 0
+told_by b (Activate x) = 0
+told_by b (Activated x) = 0
+told_by b (Superseded x) = 0
+told_by b (Append x place command) = 0
+told_by b (Held x held) = if x == b then held else 0
+told_by b (Commit x held) = 0
+
+-- the length that a message of a member tells
+abbrev pub told_in : {C : Type 0} → ℕ → ℕ → Message C → ℕ
+told_in m b message = if message.from == m then told_by b message.body else 0
+
+-- the most that a member told among the messages
+abbrev pub most_told : {C : Type 0} → ℕ → ℕ → List (ℕ × Message C) → ℕ
+most_told m b [] = 0
+most_told m b (x ∷ sent) = max (told_in m b x.1) (most_told m b sent)
+
+-- the primary told all of its list, another member what it sent
+abbrev pub told_length : {C : Type 0} → List (ℕ × Message C) → ℕ → Given → Line C → ℕ → ℕ
+told_length sent b g l m = if m == g.primary then length l.list else most_told m b sent
+
+-- the least of the members' lengths, and at most a bound
+abbrev pub least_of : ℕ → (ℕ → ℕ) → List ℕ → ℕ
+least_of top f [] = top
+least_of top f (m ∷ members) = min (f m) (least_of top f members)
+
+-- the places of a ballot's list that all members told
+abbrev pub chosen_length : {C : Type 0} → List (ℕ × Message C) → ℕ → Given → Line C → ℕ
+chosen_length sent b g l = least_of (length l.list) (told_length sent b g l) g.members

@@ -1,0 +1,9 @@
+pub mod Agreement
+pub mod Inside
+pub mod Laws
+pub mod MasterState
+pub mod Past
+pub mod Proposals
+pub mod Replays
+pub mod Steps
+pub mod World

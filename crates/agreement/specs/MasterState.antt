@@ -1,0 +1,82 @@
+-- MasterState.antt: what the master keeps, and what it does on Assign and Activate.
+use Rattle.std.specs.Prelude.{ℕ, Bool, true, ◌+◌, ◌==◌, List, Option, Some, None, if◌then◌else◌, ◌^◌, not, nat_le}
+use Rattle.ballot.specs.Config.{Config}
+use Rattle.ballot.specs.Body.{Body}
+use Rattle.ballot.specs.Body.TheVariants.{NewBallot, Activated, Superseded}
+use Rattle.agreement.specs.World.{can_open}
+
+-- the active ballot and its members, the ballot that waits to be activated, and how many were given
+pub record MasterState : Type 0 where
+  pub active : ℕ
+  pub members : List ℕ
+  pub waiting : Option (ℕ × Config)
+  pub given : ℕ
+
+-- as a group opens: ballot 1 is active, and none waits
+abbrev pub opening_master : Config → MasterState
+opening_master config = record { active = 1; members = config.members; waiting = None; given = 1 }
+
+-- what the master is after a step, and the message that it sends with its receiver
+pub record MasterOutcome (C : Type 0) : Type 0 where
+  pub state : MasterState
+  pub receiver : ℕ
+  pub body : Body C
+
+-- the master behind an Assign: the next ballot waits, and one that waited is put out
+abbrev pub assigning : MasterState → Config → MasterState
+assigning m config = record m { waiting = Some (m.given + 1, config); given = m.given + 1 }
+
+-- the master behind an Activate: the ballot that waits becomes the active one
+abbrev pub activating : MasterState → ℕ → Option (ℕ × Config) → MasterState
+activating m ballot None = m
+activating m ballot (Some (waiting, config)) =
+    if ballot == waiting
+    then record m { active = ballot; members = config.members; waiting = None }
+    else m
+
+-- whether a ballot is active then: it waited, or was active before. Any other was put out
+abbrev pub is_granted : MasterState → ℕ → Option (ℕ × Config) → Bool
+is_granted m ballot None = ballot == m.active
+is_granted m ballot (Some (waiting, config)) =
+    if ballot == waiting then true else ballot == m.active
+
+-- Assign: the primary is told of the ballot
+abbrev pub assigned : (C : Type 0) → MasterState → Config → MasterOutcome C
+assigned C m config =
+    record {
+      state = assigning m config;
+      receiver = config.primary;
+      body = NewBallot (m.given + 1) config.members m.active m.members;
+    }
+
+-- Activate(ballot) from a node, which is answered
+abbrev pub activated : (C : Type 0) →
+    MasterState → ℕ → ℕ → Option (ℕ × Config) → MasterOutcome C
+activated C m ballot from waiting =
+    record {
+      state = activating m ballot waiting;
+      receiver = from;
+      body = if is_granted m ballot waiting then Activated ballot else Superseded ballot;
+    }
+
+-- why the master refuses an Assign
+pub data AssignRefusal : Type 0 where
+  bad_members : AssignRefusal
+  ballots_spent : AssignRefusal
+
+-- the last ballot that can be given
+abbrev pub last_ballot : ℕ
+last_ballot = 2 ^ 32
+
+-- a group of so many nodes refuses members that may not be, and after the last ballot any
+-- configuration; the members are tested first
+abbrev pub refusal : ℕ → MasterState → Config → Option AssignRefusal
+refusal nodes m config =
+    if not (can_open nodes config) then Some bad_members
+    else if nat_le last_ballot m.given then Some ballots_spent
+    else None
+
+-- the master behind an Assign: where it is refused, nothing changes
+abbrev pub master_behind : (C : Type 0) → MasterState → Config → Option AssignRefusal → MasterState
+master_behind C m config (Some why) = m
+master_behind C m config None = (assigned C m config).state

@@ -1,0 +1,78 @@
+-- Past.antt: the moments of a group from its opening on, and what its members have told in each
+-- ballot.
+use Rattle.std.specs.Prelude.{ℕ, true, ◌+◌, ◌≡◌, ◌⊎◌, List, [], ◌∷◌, length, slice_get, Some}
+use Rattle.lists.specs.Lists.{In, IsPrefixOf}
+use Rattle.machine.specs.Machine.{Rules}
+use Rattle.ballot.specs.Body.TheVariants.{Held, Installed}
+use Rattle.ballot.specs.Config.{Config}
+use Rattle.ballot.specs.Replica.{ReplicaState}
+use Rattle.agreement.specs.Steps.{MayHappen}
+use Rattle.agreement.specs.MasterState.{MasterState, opening_master}
+use Rattle.agreement.specs.World.{World, can_open, opening_world}
+
+-- the master and the world
+pub record Moment (S C O : Type 0) : Type 0 where
+  pub master : MasterState
+  pub world : World S C O
+
+-- as it opens
+abbrev pub opening_moment : {S C O : Type 0} → Rules S C O → ℕ → Config → Moment S C O
+opening_moment rules nodes config =
+    record { master = opening_master config; world = opening_world rules nodes config }
+
+-- the moments that were, the present one first -- history: no field keeps it
+pub data Past {S C O : Type 0} (rules : Rules S C O) (config : Config) :
+    List (Moment S C O) → Type 0 where
+  began : {a : Moment S C O} (nodes : ℕ) → can_open nodes config ≡ true →
+      a ≡ opening_moment rules nodes config → Past rules config (a ∷ [])
+  went_on : {a b : Moment S C O} {past : List (Moment S C O)} → Past rules config (a ∷ past) →
+      MayHappen rules a.master a.world b.master b.world → Past rules config (b ∷ a ∷ past)
+
+-- the configuration of a ballot: that of the opening for ballot 1, and else the one with which the
+-- master let the ballot wait
+pub data HasConfig {S C O : Type 0} (config : Config) (past : List (Moment S C O)) (ballot : ℕ)
+    (c : Config) : Type 0 where
+  opened_with : ballot ≡ 1 → c ≡ config → HasConfig config past ballot c
+  was_assigned : (a : Moment S C O) → In a past → a.master.waiting ≡ Some (ballot, c) →
+      HasConfig config past ballot c
+
+-- a ballot was the active one
+abbrev pub WasActive : {S C O : Type 0} → List (Moment S C O) → ℕ → Type 0
+WasActive {S} {C} {O} past ballot =
+    (a : Moment S C O) × In a past × (a.master.active ≡ ballot)
+
+-- a member told a length in a ballot
+abbrev pub ToldLength : {S C O : Type 0} → World S C O → ℕ → ℕ → ℕ → Type 0
+ToldLength w member ballot held =
+    (receiver : ℕ)
+    × (In (receiver, record { from = member; body = Held ballot held }) w.sent
+    ⊎ In (receiver, record { from = member; body = Installed ballot held }) w.sent)
+
+-- node n + 1 has told a list in a ballot: the primary by holding it as its log there, another by a
+-- message with its length, from a log that begins with it. While a node holds its log in one ballot
+-- the log only grows, so it began with the list already when the message was sent
+pub data HasTold {S C O : Type 0} (config : Config) (past : List (Moment S C O)) (ballot n : ℕ)
+    (xs : List C) : Type 0 where
+  told_as_log : (a : Moment S C O) (r : ReplicaState S C) (c : Config) → In a past →
+      slice_get a.world.nodes n ≡ Some r → r.held_in ≡ ballot →
+      HasConfig config past ballot c → c.primary ≡ n + 1 → r.log ≡ xs →
+      HasTold config past ballot n xs
+  told_by_message : (a : Moment S C O) (r : ReplicaState S C) → In a past →
+      slice_get a.world.nodes n ≡ Some r → r.held_in ≡ ballot →
+      ToldLength a.world (n + 1) ballot (length xs) → IsPrefixOf xs r.log →
+      HasTold config past ballot n xs
+
+-- each member of a ballot has told the list, or a list that it begins; one that told nothing has
+-- not told the empty list
+abbrev pub IsChosen : {S C O : Type 0} → Config → List (Moment S C O) → ℕ → List C → Type 0
+IsChosen {S} {C} {O} config past ballot xs =
+    (c : Config) × HasConfig config past ballot c
+    × ((n : ℕ) → In (n + 1) c.members →
+    (told : List C) × HasTold config past ballot n told × IsPrefixOf xs told)
+
+-- the agreed list: the longest that is chosen in a ballot that was active, or empty where none is
+pub record IsAgreed {S C O : Type 0} (config : Config) (past : List (Moment S C O))
+    (xs : List C) : Type 0 where
+  pub chosen : (xs ≡ []) ⊎ ((b : ℕ) × WasActive past b × IsChosen config past b xs)
+  pub longest : (b : ℕ) (ys : List C) → WasActive past b → IsChosen config past b ys →
+      IsPrefixOf ys xs

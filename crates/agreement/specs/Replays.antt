@@ -1,0 +1,15 @@
+-- Replays.antt: the machine of a node that runs is the replay of the places that it applied.
+use Rattle.std.specs.Prelude.{ℕ, false, ◌≡◌, take, slice_get, Some}
+use Rattle.machine.specs.Machine.{Rules, replay}
+use Rattle.ballot.specs.Replica.{ReplicaState}
+use Rattle.agreement.specs.World.{World}
+
+-- of one node
+abbrev pub IsReplay : {S C O : Type 0} → Rules S C O → ReplicaState S C → Type 0
+IsReplay rules r = r.machine ≡ replay rules (take r.committed r.log)
+
+-- of each that has not stopped
+abbrev pub AreReplays : {S C O : Type 0} → Rules S C O → World S C O → Type 0
+AreReplays {S} {C} rules w =
+    (n : ℕ) (r : ReplicaState S C) → slice_get w.nodes n ≡ Some r → r.stopped ≡ false →
+    IsReplay rules r

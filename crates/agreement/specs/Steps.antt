@@ -1,0 +1,56 @@
+-- Steps.antt: what may happen in a group: a node takes its step, perhaps with losses, or stops; its
+-- master answers an Assign, or hears an Activate. Messages of the master may be lost, too.
+use Rattle.std.specs.Prelude.{ℕ, ◌+◌, ◌≡◌, false, List, [], slice_get, Some, ◌∷◌, ◌++◌, Option, None, length}
+use Rattle.machine.specs.Machine.{Rules}
+use Rattle.ballot.specs.Config.{Config}
+use Rattle.ballot.specs.Body.TheVariants.{Activate}
+use Rattle.ballot.specs.Effect.{Effect}
+use Rattle.ballot.specs.Losses.{Loses, halted}
+use Rattle.ballot.specs.Protocol.{Input, replica_step}
+use Rattle.ballot.specs.Protocol.Input.{Receives, Proposes, Ticks}
+use Rattle.ballot.specs.Replica.{ReplicaState}
+use Rattle.agreement.specs.World.{World, moved}
+use Rattle.lists.specs.Lists.{In}
+use Rattle.agreement.specs.MasterState.{MasterState, assigned, activated, MasterOutcome, AssignRefusal, refusal, master_behind}
+use Rattle.ballot.specs.Sending.{master}
+
+-- a node may take a message only if it was sent to it
+abbrev pub MayTake : {S C O : Type 0} → World S C O → ℕ → Input C → Type 0
+MayTake w n (Receives message) = In (n + 1, message) w.sent
+MayTake w n (Proposes command) = Unit {0}
+MayTake w n Ticks = Unit {0}
+
+-- a world behind a message of the master
+abbrev pub tells_from_master : {S C O : Type 0} → World S C O → MasterOutcome C → World S C O
+tells_from_master w o =
+    record w { sent = w.sent ++ (o.receiver, record { from = master; body = o.body }) ∷ [] }
+
+-- the world behind an Assign: its primary is told of the ballot
+abbrev pub world_behind : {S C O : Type 0} →
+    MasterState → World S C O → Config → Option AssignRefusal → World S C O
+world_behind m w config (Some why) = w
+world_behind {S = S} {C = C} m w config None = tells_from_master w (assigned C m config)
+
+-- what may happen in a group whose master answers each Assign
+pub data MayHappen {S C O : Type 0} (rules : Rules S C O) :
+    MasterState → World S C O → MasterState → World S C O → Type 0 where
+  node_takes : {m : MasterState} {w : World S C O} (n : ℕ) (r : ReplicaState S C)
+      (input : Input C) {new : ReplicaState S C} {given : List (Effect C O)} →
+      slice_get w.nodes n ≡ Some r → r.stopped ≡ false → MayTake w n input →
+      Loses rules r (replica_step rules r input) new given →
+      MayHappen rules m w m (moved w n new given)
+  node_stops : {m : MasterState} {w : World S C O} (n : ℕ) (r : ReplicaState S C) →
+      slice_get w.nodes n ≡ Some r → MayHappen rules m w m (moved w n (halted rules r) [])
+  master_assigns : {m : MasterState} {w : World S C O} (config : Config) →
+      MayHappen rules m w (master_behind C m config (refusal (length w.nodes) m config))
+      (world_behind m w config (refusal (length w.nodes) m config))
+  master_hears : {m : MasterState} {w : World S C O} (from b : ℕ) →
+      In (0, record { from = from; body = Activate b }) w.sent →
+      MayHappen rules m w (activated C m b from m.waiting).state
+      (tells_from_master w (activated C m b from m.waiting))
+  -- the same where the master's message is lost
+  assignment_lost : {m : MasterState} {w : World S C O} (config : Config) →
+      MayHappen rules m w (master_behind C m config (refusal (length w.nodes) m config)) w
+  answer_lost : {m : MasterState} {w : World S C O} (from b : ℕ) →
+      In (0, record { from = from; body = Activate b }) w.sent →
+      MayHappen rules m w (activated C m b from m.waiting).state w

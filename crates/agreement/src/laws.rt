@@ -1,0 +1,36 @@
+// Laws of groups with changes of configuration. The calls do nothing; their contracts are the laws.
+
+ghost use Rattle.machine.specs.Machine.{rules_by};
+ghost use Rattle.agreement.specs.Laws.{AgreedGrows, HasAgreed, KeepsTheOrder, MachinesReplay, NodesAgree};
+
+use machine::Machine;
+
+/// At each moment of a group there is an agreed list: the longest that is chosen in a ballot that
+/// was active.
+pub fn has_agreed<M: Machine>()
+    ensures { HasAgreed (rules_by M.opening M.start_of M.after M.gives) }
+{}
+
+/// The nodes agree on it: what is applied anywhere begins it, each member of the active
+/// configuration holds it, of two logs installed in one ballot one begins the other, and what left
+/// is the machine's outputs at places of it, each place at most once. Some node holds it.
+pub fn nodes_agree<M: Machine>()
+    ensures { NodesAgree (rules_by M.opening M.start_of M.after M.gives) }
+{}
+
+/// What is agreed begins what is agreed at the next moment, whatever happens in between.
+pub fn agreed_grows<M: Machine>()
+    ensures { AgreedGrows (rules_by M.opening M.start_of M.after M.gives) }
+{}
+
+/// The machine of each node that runs is the replay of the places that it applied, whichever log it
+/// was handed.
+pub fn machines_replay<M: Machine>()
+    ensures { MachinesReplay (rules_by M.opening M.start_of M.after M.gives) }
+{}
+
+/// Of the commands that were proposed in one ballot only, each log has a beginning in the order of
+/// proposing.
+pub fn keeps_the_order<M: Machine>()
+    ensures { KeepsTheOrder (rules_by M.opening M.start_of M.after M.gives) }
+{}

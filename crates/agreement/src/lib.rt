@@ -1,0 +1,7 @@
+//! Nodes with changes of configuration: what may happen to them, and the proof that they agree.
+//! No code runs here; the laws are carried by calls that do nothing.
+#![tactic(auto)]
+
+mod laws;
+
+pub use laws::{agreed_grows, has_agreed, keeps_the_order, machines_replay, nodes_agree};

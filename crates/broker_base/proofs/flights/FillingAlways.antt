@@ -1,0 +1,61 @@
+-- Another form of the step of one session: its queue is filled behind every command. On the states of pasts it is
+-- the same, since there a connected client's queue is quiet.
+use Rattle.std.proofs.Common.{ℕ, Bool, not, ◌&&◌, ◌||◌, if◌then◌else◌, List, ◌++◌, Option, Some, None}
+use Rattle.packet.specs.declared.packet.Packet.TheVariants as packets
+use Rattle.retained.specs.Retained.{RetainedTopics}
+use Rattle.session_base.specs.Queue.{Flight, on_puback, on_pubrec, on_pubcomp}
+use Rattle.broker_model.specs.Connection.{ConnectionName}
+use Rattle.broker_model.specs.Place.{Client, same_client, Mark, Place, only_if}
+use Rattle.broker_model.specs.Past.{accepts, ends_any}
+use Rattle.broker_model.specs.Subscriptions.{subscribed}
+use Rattle.broker_model.specs.Received.{received_by}
+use Rattle.broker_model.specs.Entries.{queued}
+use Rattle.broker_base.specs.ClientSession.{ClientSession}
+use Rattle.broker_base.specs.SessionStep.{copies_with, filled_on, kept_anew}
+use Rattle.broker_model.specs.declared.command.Command.{Command}
+use Rattle.broker_model.specs.declared.command.Command.TheVariants as commands
+
+-- what a client's answer leaves in flight
+abbrev pub answered_flights : Command → Mark → Client → List Flight → List Flight
+answered_flights (commands.Packet x (packets.Puback id)) (Mark.Handled d) c flights =
+    if same_client d c then on_puback id flights else flights
+answered_flights (commands.Packet x (packets.Pubrec id)) (Mark.Handled d) c flights =
+    if same_client d c then on_pubrec id flights else flights
+answered_flights (commands.Packet x (packets.Pubcomp id)) (Mark.Handled d) c flights =
+    if same_client d c then on_pubcomp id flights else flights
+answered_flights _ _ c flights = flights
+
+-- a session goes on: the answer is done, the copies are queued, the window is filled
+abbrev pub filled_kept : ℕ → Place → RetainedTopics → Client → Bool → Option ConnectionName → ClientSession → ClientSession
+filled_kept window place content c clean connection old =
+    record {
+      clean = clean;
+      connection = connection;
+      state = record {
+        subscriptions = subscribed place.command place.mark c old.state.subscriptions;
+        received = received_by place.command place.mark c old.state.received;
+        queue = filled_on connection window
+            (answered_flights place.command place.mark c old.state.queue.in_flight)
+            (old.state.queue.waiting ++ queued (copies_with place.command place.mark content c old.state.subscriptions));
+      };
+    }
+
+abbrev pub filled_connected : ℕ → Place → RetainedTopics → Client → ConnectionName × Bool → Option ClientSession → ClientSession
+filled_connected window place content c opened None = kept_anew opened
+filled_connected window place content c opened (Some old) =
+    if opened.1 || old.clean then kept_anew opened
+    else filled_kept window place content c opened.1 (Some opened.0) old
+
+abbrev pub filled_later : ℕ → Place → RetainedTopics → Client → Option ClientSession → Option ClientSession
+filled_later window place content c None = None
+filled_later window place content c (Some old) =
+    only_if (not (old.clean && ends_any place old.connection))
+    (Some (filled_kept window place content c old.clean (only_if (not (ends_any place old.connection)) old.connection) old))
+
+abbrev pub filled_by : ℕ → Place → RetainedTopics → Client → Option (ConnectionName × Bool) → Option ClientSession → Option ClientSession
+filled_by window place content c (Some opened) old = Some (filled_connected window place content c opened old)
+filled_by window place content c None old = filled_later window place content c old
+
+abbrev pub filled_after : ℕ → Place → RetainedTopics → Client → Option ClientSession → Option ClientSession
+filled_after window place content c old =
+    filled_by window place content c (accepts place.command place.mark c) old

@@ -1,7 +1,0 @@
-use Rattle.broker_base.proofs.IdentifiersApart.{identifiers_are_distinct}
-use Rattle.broker_base.proofs.IdentifiersInWindow.{identifiers_are_in_the_window, identifiers_are_to_16}
-use Rattle.broker_base.proofs.IdentifiersApart.{started_come_first}
-use Rattle.broker_base.proofs.laws.identifiers_are_distinct.Goals as goal
-
-pub returns : goal.returns
-returns c = record { distinct = identifiers_are_distinct; window = identifiers_are_in_the_window; sixteen = identifiers_are_to_16; first = started_come_first }

@@ -1,0 +1,15 @@
+-- Commands that a log may hold: names, texts and packets in their ranges.
+use Rattle.std.specs.Prelude.{◌≡◌, true}
+use Rattle.packet.specs.ClientId.{is_client}
+use Rattle.packet.specs.Spelling.{Fits}
+use Rattle.broker_model.specs.Connection.{IsConnectionName}
+use Rattle.broker_model.specs.Sized.{IsSized}
+use Rattle.broker_model.specs.declared.command.Command.{Command}
+use Rattle.broker_model.specs.declared.command.Command.TheVariants as commands
+
+-- each of its parts is in its range
+abbrev pub IsBrokerCommand : Command → Type 0
+IsBrokerCommand (commands.Connect x c clean) = IsConnectionName x × (is_client c ≡ true)
+IsBrokerCommand (commands.Packet x packet) = IsConnectionName x × Fits packet × IsSized packet
+IsBrokerCommand (commands.Lost x) = IsConnectionName x
+IsBrokerCommand (commands.Start ballot) = Unit {0}

@@ -1,0 +1,46 @@
+-- HandledBefore.antt: what was handled before a packet that ends a call stands.
+use Rattle.std.proofs.Common.{◌≡◌, ℕ, Bool, true, false, if◌then◌else◌, List, Option, Some, None, Result, Ok, Err, refl, ap, ap₂, sym, ◌∙◌, subst}
+use Rattle.std.proofs.lemmas.Bool.{both_ways}
+use Rattle.topics.specs.declared.malformed.MalformedKind.{MalformedKind}
+use Rattle.client_base.specs.declared.error.ClientError.{ClientError}
+use Rattle.client_base.specs.declared.error.ClientError.TheVariants as errors
+use Rattle.client_base.specs.declared.stage.Stage.{Stage}
+use Rattle.client_base.specs.declared.stage.Stage.TheVariants as stages
+use Rattle.client_base.specs.State.{is_open, lost}
+use Rattle.client.specs.Core.{Core, nothing_read, gone}
+use Rattle.client.specs.Reading.{Handles, EndsWith, OnBytes, fed}
+use Rattle.client.specs.Inside.Turns.{ReadsOne, StopsAt, TakesIn, Feeds, is_fatal}
+
+-- one packet more
+pub handled_more : (start s u : Core) → Handles start s → ReadsOne s (Ok true) u → Handles start u
+handled_more start s u before one = Handles.more one.0 before one.2 one.3 one.4
+
+-- a connection is gone alike from clients that differ in what they did not read
+gone_alike : (last new : Core) → new.state ≡ last.state → new.out ≡ last.out → gone new ≡ gone last
+gone_alike last new state out =
+    ap₂ (λ s o. record { state = lost s; unread = nothing_read; out = o }) state out
+
+-- ---- the end of a call
+
+ends : (last mid : Core) (result : Result (Unit {0}) ClientError) → StopsAt last result mid
+    → EndsWith last result (if is_fatal result then gone mid else mid)
+ends last mid (Ok done) stops = stops
+ends last mid (Err errors.Memory) stops = gone_alike last mid stops.0 stops.1
+ends last mid (Err errors.SessionLost) stops = stops
+ends last mid (Err errors.NotActive) stops = (stops.0, gone_alike last mid stops.1 stops.2)
+ends last mid (Err errors.WindowFull) stops = (stops.0, gone_alike last mid stops.1 stops.2)
+ends last mid (Err errors.TooLarge) stops = (stops.0, gone_alike last mid stops.1 stops.2)
+ends last mid (Err errors.Protocol) stops = (stops.0, gone_alike last mid stops.1 stops.2)
+ends last mid (Err (errors.Malformed kind)) stops = (stops.0, gone_alike last mid stops.1 stops.2)
+
+pub read_so : (piece : List ℕ) (stage : Stage) (old mid : Core) (result : Result (Unit {0}) ClientError) → is_open stage ≡ true
+    → TakesIn piece old result mid → OnBytes piece stage old result (if is_fatal result then gone mid else mid)
+read_so piece stages.Closed old mid result up takes = absurd (both_ways false refl up)
+read_so piece stages.Opened old mid result up takes = (takes.0, takes.1, ends takes.0 mid result takes.2)
+read_so piece stages.Online old mid result up takes = (takes.0, takes.1, ends takes.0 mid result takes.2)
+
+-- a piece that found no memory
+pub unfed : (piece : List ℕ) (old mid : Core) (cause : ClientError) → Feeds piece old (Err cause) mid → TakesIn piece old (Err cause) mid
+unfed piece old mid cause feeds =
+    subst (λ (error : ClientError). TakesIn piece old (Err error) mid) (sym feeds.0)
+    (fed piece old, Handles.none, (ap (λ core. core.state) feeds.1, ap (λ core. core.out) feeds.1))

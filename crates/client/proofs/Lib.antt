@@ -1,0 +1,3 @@
+pub mod Used
+pub mod Spelled
+pub mod HandledBefore

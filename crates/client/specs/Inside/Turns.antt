@@ -1,0 +1,88 @@
+-- What the handling of one packet makes of a client, before its connection is given up.
+use Rattle.std.specs.Prelude.{◌≡◌, ℕ, Bool, true, false, List, [], ◌++◌, Option, Some, None, Result, Ok, Err}
+use Rattle.packet.specs.declared.packet.Packet.{Packet}
+use Rattle.packet.specs.declared.error.DecodeFault.{DecodeFault}
+use Rattle.cutter.specs.declared.error.CutError.{CutError}
+use Rattle.cutter.specs.declared.error.CutError.TheVariants as cuts
+use Rattle.cutter.specs.Stream.{Stream, Takes}
+use Rattle.client_base.specs.declared.error.ClientError.{ClientError}
+use Rattle.client_base.specs.declared.error.ClientError.TheVariants as errors
+use Rattle.client_base.specs.State.{ClientState}
+use Rattle.client_base.specs.Answered.{Turn}
+use Rattle.client.specs.Core.{Core, IsDone}
+use Rattle.client.specs.Reading.{Reads, turn_of, StopsFor, Handles, cause_of, fed}
+
+-- the turn is done, whole; one that ends the connection changes nothing here
+abbrev pub Tries : Turn → Core → Result (Unit {0}) ClientError → Core → Type 0
+Tries turn old (Ok done) new = (turn.refusal ≡ None) × IsDone turn old new
+Tries turn old (Err errors.Memory) new = new ≡ old
+Tries turn old (Err errors.SessionLost) new = (turn.refusal ≡ Some errors.SessionLost) × IsDone turn old new
+Tries turn old (Err cause) new = (turn.refusal ≡ Some cause) × (new ≡ old)
+
+-- one packet is read and handled, where there is one
+abbrev pub ReadsOne : Core → Result Bool ClientError → Core → Type 0
+ReadsOne old (Ok false) new = Takes old.unread (Ok None) old.unread × (new ≡ old)
+ReadsOne old (Ok true) new =
+    (packet : Packet) × (next : Core) × Reads old packet next × ((turn_of packet next).refusal ≡ None)
+    × IsDone (turn_of packet next) next new
+ReadsOne old (Err errors.Memory) new = (new.state ≡ old.state) × (new.out ≡ old.out)
+ReadsOne old (Err errors.SessionLost) new =
+    (packet : Packet) × (next : Core) × Reads old packet next
+    × ((turn_of packet next).refusal ≡ Some errors.SessionLost) × IsDone (turn_of packet next) next new
+ReadsOne old (Err cause) new = StopsFor cause old × (new.state ≡ old.state) × (new.out ≡ old.out)
+
+-- a turn that writes nothing
+abbrev pub changed : Turn → Core → Core
+changed turn core = record core { state = turn.state }
+
+-- the client with this state
+abbrev pub with_state : ClientState → Core → Core
+with_state state core = record core { state = state }
+
+-- the client with these bytes written, and none of its publications unsent
+abbrev pub all_sent : List ℕ → Core → Core
+all_sent bytes core =
+    record core { state = record core.state { sent = core.state.sent ++ core.state.unsent; unsent = [] }; out = bytes }
+
+-- why the reading stops; a stream that failed is given up at once, and is met no more
+abbrev pub cut_cause : CutError → ClientError
+cut_cause (cuts.Decode fault) = cause_of fault
+cut_cause cuts.Memory = errors.Memory
+cut_cause cuts.Failed = errors.Memory
+
+-- how the reading of a piece ends, before the connection is given up
+abbrev pub StopsAt : Core → Result (Unit {0}) ClientError → Core → Type 0
+StopsAt core (Ok done) new = Takes core.unread (Ok None) core.unread × (new ≡ core)
+StopsAt core (Err errors.Memory) new = (new.state ≡ core.state) × (new.out ≡ core.out)
+StopsAt core (Err errors.SessionLost) new =
+    (packet : Packet) × (next : Core) × Reads core packet next
+    × ((turn_of packet next).refusal ≡ Some errors.SessionLost) × IsDone (turn_of packet next) next new
+StopsAt core (Err cause) new = StopsFor cause core × (new.state ≡ core.state) × (new.out ≡ core.out)
+
+-- whole packets are handled, and then it ends
+abbrev pub ReadsAll : Core → Result (Unit {0}) ClientError → Core → Type 0
+ReadsAll old result new = (last : Core) × Handles old last × StopsAt last result new
+
+-- a piece is put behind what is not read yet
+abbrev pub Feeds : List ℕ → Core → Result (Unit {0}) ClientError → Core → Type 0
+Feeds piece old (Ok done) new = new ≡ fed piece old
+Feeds piece old (Err cause) new = (cause ≡ errors.Memory) × (new ≡ old)
+
+-- a piece is taken in
+abbrev pub TakesIn : List ℕ → Core → Result (Unit {0}) ClientError → Core → Type 0
+TakesIn piece old result new = ReadsAll (fed piece old) result new
+
+-- whether the connection is gone after this answer to a piece
+abbrev pub is_fatal : Result (Unit {0}) ClientError → Bool
+is_fatal (Ok done) = false
+is_fatal (Err errors.SessionLost) = false
+is_fatal (Err cause) = true
+
+-- the next whole packet, where there is one
+abbrev pub TakesNext : Core → Result (Option Packet) ClientError → Core → Type 0
+TakesNext old (Ok (Some packet)) new = Reads old packet new
+TakesNext old (Ok None) new = Takes old.unread (Ok None) old.unread × (new ≡ old)
+TakesNext old (Err errors.Memory) new = (new.state ≡ old.state) × (new.out ≡ old.out)
+TakesNext old (Err cause) new =
+    ((fault : DecodeFault) × (rest : Stream) × Takes old.unread (Err (cuts.Decode fault)) rest × (cause ≡ cause_of fault))
+    × (new.state ≡ old.state) × (new.out ≡ old.out)

@@ -1,0 +1,87 @@
+// Requests of a client (MQTT 3.8, 3.10).
+
+ghost use Rattle.std.specs.Prelude.{◌≡◌, [], ◌∷◌, IfOk, OnErr, IsErrOf};
+ghost use Rattle.packet.specs.declared.packet.Packet.TheVariants as packets;
+ghost use Rattle.client_base.specs.Steps.{Call, keeper_step};
+ghost use Rattle.client.specs.Core.{Does};
+ghost use Rattle.client.specs.Inside.Ids.{RequestId};
+
+use crate::client_core::ClientCore;
+use crate::writing::write;
+use client_base::{ClientError, Request, Stage};
+use packet::{Packet, PacketId, PacketList, QoS, Subscribe, Subscription, Unsubscribe};
+use std::alloc::Global;
+use topics::Filter;
+
+impl ClientCore {
+    /// Asks for the publications of a filter, at most at this QoS. `NotActive` comes exactly where
+    /// the client is offline, and else `WindowFull` where no identifier is free; a refusal leaves
+    /// everything as it was.
+    pub fn subscribe(&mut self, filter: Filter, qos: QoS) -> Result<(), ClientError>
+        ensures { Does (keeper_step (Call.Subscribes filter qos) self.old.state)
+            self.old result self.new }
+    {
+        let id = self.request_id()?;
+        let packet = subscribe_packet(self.alloc, id, filter, qos)?;
+        self.requests.reserve(1)?;
+        write(&packet, &mut self.out)?;
+        self.requests.push_reserved(Request::Subscribes(id));
+        Ok(())
+    }
+
+    /// Gives up a filter. It is refused as `subscribe` is.
+    pub fn unsubscribe(&mut self, filter: Filter) -> Result<(), ClientError>
+        ensures { Does (keeper_step (Call.Unsubscribes filter) self.old.state)
+            self.old result self.new }
+    {
+        let id = self.request_id()?;
+        let packet = unsubscribe_packet(self.alloc, id, filter)?;
+        self.requests.reserve(1)?;
+        write(&packet, &mut self.out)?;
+        self.requests.push_reserved(Request::Unsubscribes(id));
+        Ok(())
+    }
+
+    // The identifier of the next request, or why there is none.
+    fn request_id(&self) -> Result<PacketId, ClientError>
+        ensures { RequestId self.now.state result }
+    {
+        if self.stage != Stage::Online {
+            return Err(ClientError::NotActive);
+        }
+        self.free_id().ok_or(ClientError::WindowFull)
+    }
+}
+
+// SUBSCRIBE with one filter.
+fn subscribe_packet(
+    alloc: Global,
+    id: PacketId,
+    filter: Filter,
+    qos: QoS,
+) -> Result<Packet, ClientError>
+    ensures ok { IfOk result (λ packet. packet
+        ≡ packets.Subscribe (record { id = id; filters = record { filter = filter; qos = qos } ∷ [] })) }
+    ensures memory { OnErr result (IsErrOf result ClientError.Memory) }
+{
+    let mut filters = Vec::new(alloc);
+    filters.push(Subscription { filter, qos })?;
+    Ok(Packet::Subscribe(Subscribe {
+        id,
+        filters: PacketList::new(filters),
+    }))
+}
+
+// UNSUBSCRIBE with one filter.
+fn unsubscribe_packet(alloc: Global, id: PacketId, filter: Filter) -> Result<Packet, ClientError>
+    ensures ok { IfOk result (λ packet. packet
+        ≡ packets.Unsubscribe (record { id = id; filters = filter ∷ [] })) }
+    ensures memory { OnErr result (IsErrOf result ClientError.Memory) }
+{
+    let mut filters = Vec::new(alloc);
+    filters.push(filter)?;
+    Ok(Packet::Unsubscribe(Unsubscribe {
+        id,
+        filters: PacketList::new(filters),
+    }))
+}

@@ -1,0 +1,90 @@
+// A client's keeper.
+
+ghost use Rattle.std.specs.Prelude.{◌≡◌};
+ghost use Rattle.client.specs.Core.{new_core, gone};
+
+use client_base::{Accepted, KeptPublication, Request, Stage};
+use cutter::Cutter;
+use packet::{ClientId, PacketId};
+use std::alloc::Global;
+use std::marker::Model;
+
+/// A client that keeps its side of the handshakes over its connections (MQTT 4.3, 4.4). Its
+/// sessions are never clean. Bytes to the server are fetched by `outgoing`, bytes of the server are
+/// given by `on_bytes`.
+#[derive(Drop)]
+pub struct ClientCore {
+    pub(crate) client: ClientId,
+    pub(crate) keep_alive: u16,
+    pub(crate) released: Vec<PacketId>,
+    pub(crate) sent: Vec<KeptPublication>,
+    pub(crate) unsent: Vec<KeptPublication>,
+    pub(crate) received: Vec<PacketId>,
+    pub(crate) requests: Vec<Request>,
+    pub(crate) stage: Stage,
+    pub(crate) session: u64,
+    pub(crate) present: bool,
+    pub(crate) accepted: Vec<Accepted>,
+    pub(crate) cutter: Cutter,
+    pub(crate) out: Vec<u8>,
+    pub(crate) alloc: Global,
+}
+
+impl Model for ClientCore {
+    ghost use Rattle.client.specs.Core.{Core};
+
+    ghost Value = { Core };
+
+    ghost view = { λ c. record {
+      state = record {
+        client = c.client;
+        keep_alive = c.keep_alive;
+        released = c.released.items;
+        sent = c.sent.items;
+        unsent = c.unsent.items;
+        received = c.received.items;
+        requests = c.requests.items;
+        stage = c.stage;
+        session = c.session;
+        present = c.present;
+        accepted = c.accepted.items;
+      };
+      unread = c.cutter;
+      out = c.out.items;
+    } };
+}
+
+impl ClientCore {
+    /// A client of this identifier that was never connected. Its connections are given up by the
+    /// server after one and a half times the keep alive in seconds without a packet; 0 is never.
+    pub fn new(alloc: Global, client: ClientId, keep_alive: u16) -> ClientCore
+        ensures { result ≡ new_core client keep_alive }
+    {
+        ClientCore {
+            client,
+            keep_alive,
+            released: Vec::new(alloc),
+            sent: Vec::new(alloc),
+            unsent: Vec::new(alloc),
+            received: Vec::new(alloc),
+            requests: Vec::new(alloc),
+            stage: Stage::Closed,
+            session: 0,
+            present: false,
+            accepted: Vec::new(alloc),
+            cutter: Cutter::new(alloc),
+            out: Vec::new(alloc),
+            alloc,
+        }
+    }
+
+    /// The connection is lost: requests without an answer and bytes that were not read are given
+    /// up. What is kept stays, and so does what was written, until `open`.
+    pub fn lost(&mut self)
+        ensures { self.new ≡ gone self.old }
+    {
+        self.requests.clear();
+        self.stage = Stage::Closed;
+        self.cutter = Cutter::new(self.alloc);
+    }
+}

@@ -1,0 +1,108 @@
+// The beginning and the end of a client's connections (MQTT 3.1, 3.2, 3.14).
+
+ghost use Rattle.std.specs.Prelude.{◌≡◌, [], false, true, if◌then◌else◌, IfOk, OnOk, OnErr, IsErrOf};
+ghost use Rattle.client_base.specs.State.{resent, is_online};
+ghost use Rattle.client_base.specs.Calls.{opened, confirmed, discarded, numbered};
+ghost use Rattle.client_base.specs.Steps.{Call, keeper_step};
+ghost use Rattle.client.specs.Core.{Opens, Leaves, AppendsAll};
+ghost use Rattle.client.specs.Inside.Turns.{Tries, with_state, all_sent};
+
+use crate::client_core::ClientCore;
+use crate::writing::{write, write_publishes, write_pubrels};
+use client_base::{ClientError, Stage};
+use cutter::Cutter;
+use packet::{Connect, Packet};
+
+impl ClientCore {
+    /// Opens a connection: CONNECT is written, and it is all that is written until the server has
+    /// accepted the connection. An open connection is lost before. `Memory` is the only error, and
+    /// leaves everything as it was.
+    pub fn open(&mut self) -> Result<(), ClientError>
+        ensures { Opens (keeper_step Call.Opens self.old.state) self.old result self.new }
+    {
+        let connect = Packet::Connect(Connect {
+            client: self.client.clone()?,
+            clean: false,
+            keep_alive: self.keep_alive,
+        });
+        let mut out = Vec::new(self.alloc);
+        write(&connect, &mut out)?;
+        self.lost();
+        self.stage = Stage::Opened;
+        self.out = out;
+        Ok(())
+    }
+
+    /// Ends the connection: DISCONNECT is written where the server has accepted it, and then it is
+    /// lost. `NotActive` comes exactly where there is no connection; after `Memory` everything is as
+    /// it was.
+    pub fn disconnect(&mut self) -> Result<(), ClientError>
+        ensures { Leaves (keeper_step Call.Disconnects self.old.state) self.old result self.new }
+    {
+        match self.stage {
+            Stage::Closed => return Err(ClientError::NotActive),
+            Stage::Opened => {}
+            Stage::Online => write(&Packet::Disconnect, &mut self.out)?,
+        }
+        self.lost();
+        Ok(())
+    }
+
+    // CONNACK 0: what is kept goes out again, or is given up where the server has no session any
+    // more.
+    pub(crate) fn on_accepted(&mut self, present: bool) -> Result<(), ClientError>
+        ensures { Tries (confirmed present self.old.state) self.old result self.new }
+    {
+        if !present && self.session > 0 {
+            self.discard();
+            self.stage = Stage::Online;
+            self.present = present;
+            return Err(ClientError::SessionLost);
+        }
+        self.resend()?;
+        if self.session == 0 {
+            self.session = 1;
+        }
+        self.stage = Stage::Online;
+        self.present = present;
+        Ok(())
+    }
+
+    // Writes what is kept, in its order, and all of it is sent then. After `Memory` nothing has
+    // changed.
+    fn resend(&mut self) -> Result<(), ClientError>
+        ensures ok { OnOk result (self.new ≡ all_sent self.new.out self.old) }
+        ensures bytes { OnOk result (AppendsAll self.old.out self.new.out (resent self.old.state)) }
+        ensures memory { OnErr result (IsErrOf result ClientError.Memory) }
+        ensures same { OnErr result (self.new ≡ self.old) }
+    {
+        let bytes = self.resent()?;
+        self.out.reserve(bytes.len())?;
+        self.sent.append(&mut self.unsent)?;
+        self.out.extend_from_slice(&bytes)?;
+        Ok(())
+    }
+
+    // Gives up what was kept, and begins the next session.
+    fn discard(&mut self)
+        ensures { self.new ≡ with_state (discarded self.old.state) self.old }
+    {
+        self.released.clear();
+        self.sent.clear();
+        self.unsent.clear();
+        self.received.clear();
+        self.session = self.session.saturating_add(1);
+    }
+
+    // The bytes of what is kept, in its order.
+    fn resent(&self) -> Result<Vec<u8>, ClientError>
+        ensures ok { IfOk result (λ bytes. AppendsAll [] bytes.items (resent self.now.state)) }
+        ensures memory { OnErr result (IsErrOf result ClientError.Memory) }
+    {
+        let mut bytes = Vec::new(self.alloc);
+        write_pubrels(&self.released, &mut bytes)?;
+        write_publishes(&self.sent, true, &mut bytes)?;
+        write_publishes(&self.unsent, false, &mut bytes)?;
+        Ok(bytes)
+    }
+}

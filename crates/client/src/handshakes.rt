@@ -1,0 +1,134 @@
+// What a packet of a handshake makes of a client (MQTT 4.3).
+
+ghost use Rattle.std.specs.Prelude.{◌≡◌, false};
+ghost use Rattle.packet.specs.declared.delivery.Delivery.TheVariants as deliveries;
+ghost use Rattle.client_base.specs.Answered.{on_publish, on_puback, on_pubrec, on_pubcomp, on_pubrel, answered, accepted_of, is_subscribe, is_unsubscribe};
+ghost use Rattle.client.specs.Inside.Turns.{Tries, changed};
+
+use crate::client_core::ClientCore;
+use crate::identifiers::{
+    end_acknowledged, end_subscribes, end_unsubscribes, forget, has_id, has_unreleased,
+    take_released,
+};
+use crate::writing::write;
+use client_base::{Accepted, ClientError};
+use packet::{Delivery, Packet, PacketId, Publish};
+
+impl ClientCore {
+    // PUBLISH: accepted each time at QoS 0 and 1, and at QoS 2 once while its identifier is kept.
+    pub(crate) fn on_publish(&mut self, publish: Publish) -> Result<(), ClientError>
+        ensures { Tries (on_publish publish publish.delivery self.old.state) self.old result self.new }
+    {
+        let delivery = publish.delivery;
+        match delivery {
+            Delivery::AtMostOnce => self.on_at_most_once(publish),
+            Delivery::AtLeastOnce(_, id) => self.on_at_least_once(id, publish),
+            Delivery::ExactlyOnce(_, id) => self.on_exactly_once(id, publish),
+        }
+    }
+
+    // PUBLISH at QoS 0 has no answer.
+    fn on_at_most_once(&mut self, publish: Publish) -> Result<(), ClientError>
+        ensures { Tries (on_publish publish deliveries.AtMostOnce self.old.state)
+            self.old result self.new }
+    {
+        self.accepted.push(accepted_of(self.session, publish))?;
+        Ok(())
+    }
+
+    // PUBLISH at QoS 1.
+    fn on_at_least_once(&mut self, id: PacketId, publish: Publish) -> Result<(), ClientError>
+        ensures { Tries (on_publish publish (deliveries.AtLeastOnce false id) self.old.state)
+            self.old result self.new }
+    {
+        self.accepted.reserve(1)?;
+        write(&Packet::Puback(id), &mut self.out)?;
+        self.accepted
+            .push_reserved(accepted_of(self.session, publish));
+        Ok(())
+    }
+
+    // PUBLISH at QoS 2. Room for all that it leaves is made before, so that nothing is accepted whose
+    // identifier is not kept.
+    fn on_exactly_once(&mut self, id: PacketId, publish: Publish) -> Result<(), ClientError>
+        ensures { Tries (on_publish publish (deliveries.ExactlyOnce false id) self.old.state)
+            self.old result self.new }
+    {
+        if has_id(&self.received, id) {
+            write(&Packet::Pubrec(id), &mut self.out)?;
+            return Ok(());
+        }
+        self.accepted.reserve(1)?;
+        self.received.reserve(1)?;
+        write(&Packet::Pubrec(id), &mut self.out)?;
+        self.accepted
+            .push_reserved(accepted_of(self.session, publish));
+        self.received.push_reserved(id);
+        Ok(())
+    }
+
+    // PUBREL: the identifier is kept no longer.
+    pub(crate) fn on_pubrel(&mut self, id: PacketId) -> Result<(), ClientError>
+        ensures { Tries (on_pubrel id self.old.state) self.old result self.new }
+    {
+        write(&Packet::Pubcomp(id), &mut self.out)?;
+        forget(&mut self.received, id);
+        Ok(())
+    }
+
+    // PUBACK ends a publication at QoS 1.
+    pub(crate) fn on_puback(&mut self, id: PacketId)
+        ensures { self.new ≡ changed (on_puback id self.old.state) self.old }
+    {
+        end_acknowledged(&mut self.sent, id);
+    }
+
+    // PUBREC releases a publication at QoS 2; for a released one PUBREL goes out again.
+    pub(crate) fn on_pubrec(&mut self, id: PacketId) -> Result<(), ClientError>
+        ensures { Tries (on_pubrec id self.old.state) self.old result self.new }
+    {
+        if has_unreleased(&self.sent, id) {
+            self.released.reserve(1)?;
+            write(&Packet::Pubrel(id), &mut self.out)?;
+            self.released.push_reserved(id);
+            take_released(&mut self.sent, id);
+        } else if has_id(&self.released, id) {
+            write(&Packet::Pubrel(id), &mut self.out)?;
+        }
+        Ok(())
+    }
+
+    // PUBCOMP ends a released publication.
+    pub(crate) fn on_pubcomp(&mut self, id: PacketId)
+        ensures { self.new ≡ changed (on_pubcomp id self.old.state) self.old }
+    {
+        forget(&mut self.released, id);
+    }
+
+    // SUBACK answers a SUBSCRIBE.
+    pub(crate) fn on_suback(&mut self, id: PacketId)
+        ensures { self.new ≡ changed (answered (is_subscribe id) self.old.state) self.old }
+    {
+        end_subscribes(&mut self.requests, id);
+    }
+
+    // UNSUBACK answers an UNSUBSCRIBE.
+    pub(crate) fn on_unsuback(&mut self, id: PacketId)
+        ensures { self.new ≡ changed (answered (is_unsubscribe id) self.old.state) self.old }
+    {
+        end_unsubscribes(&mut self.requests, id);
+    }
+}
+
+// What is accepted of a PUBLISH, in this session.
+fn accepted_of(session: u64, publish: Publish) -> Accepted
+    ensures { result ≡ accepted_of session publish }
+{
+    Accepted {
+        session,
+        qos: publish.delivery.qos(),
+        retain: publish.retain,
+        topic: publish.topic,
+        payload: publish.payload,
+    }
+}

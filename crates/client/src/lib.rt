@@ -1,0 +1,19 @@
+//! A client of an MQTT 3.1.1 server that keeps its side of the handshakes: calls in, bytes out,
+//! bytes in, publications out. It knows its own connection and nothing else.
+#![tactic(auto)]
+
+mod asking;
+mod client_core;
+mod connecting;
+mod handshakes;
+mod identifiers;
+mod publishing;
+mod readers;
+mod reading;
+mod writing;
+
+pub use client_base::{Accepted, ClientError, KeptPublication, Request, Stage};
+pub use client_core::ClientCore;
+
+#[cfg(test)]
+mod tests;

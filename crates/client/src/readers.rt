@@ -1,0 +1,69 @@
+// What others may see of a client.
+
+ghost use Rattle.std.specs.Prelude.{◌≡◌, ◌++◌, [], OnOk, OnErr, IsErrOf, length, min};
+ghost use Rattle.client_base.specs.State.{is_online, kept_count};
+ghost use Rattle.client.specs.Core.{without_accepted};
+
+use crate::client_core::ClientCore;
+use client_base::{Accepted, ClientError, Stage};
+use std::mem;
+
+impl ClientCore {
+    /// Appends what was written and not handed over before. Where the vector is empty the bytes are
+    /// not copied. After `Memory` nothing has changed.
+    pub fn outgoing(&mut self, out: &mut Vec<u8>) -> Result<(), ClientError>
+        ensures bytes { OnOk result (out.new.items ≡ out.old.items ++ self.old.out) }
+        ensures ok { OnOk result (self.new ≡ record self.old { out = [] }) }
+
+        // Memory may be wanting, and nothing else.
+        ensures memory { OnErr result (IsErrOf result ClientError.Memory) }
+        ensures same { OnErr result (self.new ≡ self.old) }
+        ensures untouched { OnErr result (out.new.items ≡ out.old.items) }
+    {
+        if out.is_empty() {
+            mem::swap(out, &mut self.out);
+        } else {
+            out.extend_from_slice(&self.out)?;
+        }
+        self.out.clear();
+        Ok(())
+    }
+
+    /// What was accepted and not taken out, in order (MQTT 4.3).
+    pub fn accepted(&self) -> &[Accepted]
+        ensures { result.now ≡ self.now.state.accepted }
+    {
+        self.accepted.as_slice()
+    }
+
+    /// Takes out what was accepted, in order.
+    pub fn take_accepted(&mut self) -> Vec<Accepted>
+        ensures taken { result.items ≡ self.old.state.accepted }
+        ensures left { self.new ≡ without_accepted self.old }
+    {
+        mem::replace(&mut self.accepted, Vec::new(self.alloc))
+    }
+
+    /// How many publications are kept: their handshakes have not ended. At most 16.
+    pub fn kept(&self) -> usize
+        ensures { result ≡ min (kept_count self.now.state) usize.MAX }
+    {
+        let sent = self.released.len().saturating_add(self.sent.len());
+        sent.saturating_add(self.unsent.len())
+    }
+
+    /// Whether the server accepted the connection, and it is still open.
+    pub fn connected(&self) -> bool
+        ensures { result ≡ is_online self.now.state.stage }
+    {
+        self.stage == Stage::Online
+    }
+
+    /// Whether the server said at the last accepted connection that it has a session of this
+    /// client; false before the first.
+    pub fn present(&self) -> bool
+        ensures { result ≡ self.now.state.present }
+    {
+        self.present
+    }
+}

@@ -1,0 +1,153 @@
+// Reading what the server sends.
+
+ghost use Rattle.std.specs.Prelude.{◌≡◌, ◌<◌, length, true, Ok};
+ghost use Rattle.client_base.specs.Calls.{on_first, on_later};
+ghost use Rattle.client.specs.Reading.{turn_of, OnBytes};
+ghost use Rattle.client.specs.Inside.Turns.{Tries, ReadsOne, TakesIn, TakesNext, Feeds, ReadsAll, cut_cause, is_fatal};
+
+use crate::client_core::ClientCore;
+use client_base::{ClientError, Stage};
+use cutter::CutError;
+use packet::{Connack, DecodeFault, Packet};
+
+impl ClientCore {
+    /// Takes in the next bytes of the server, in pieces of any size, and handles each whole packet.
+    /// `NotActive` comes where there is no connection, and nothing changes, or where the server
+    /// refused the connection; `Protocol` for a packet that may not come there; `Malformed` for bytes
+    /// that are no packet; `Memory`. After these the client is as after `lost`, and packets before
+    /// stand. `SessionLost` comes where the server has lost the session: what was kept is given up
+    /// and the connection goes on; what came behind that packet is handled by the next call.
+    pub fn on_bytes(&mut self, piece: &[u8]) -> Result<(), ClientError>
+        ensures { OnBytes piece.now self.old.state.stage self.old result self.new }
+    {
+        if self.stage == Stage::Closed {
+            return Err(ClientError::NotActive);
+        }
+        let read = self.take_in(piece);
+        if is_fatal(read) {
+            self.lost();
+        }
+        read
+    }
+
+    // Takes in a piece, and handles each whole packet, to the first that ends the call.
+    fn take_in(&mut self, piece: &[u8]) -> Result<(), ClientError>
+        ensures { TakesIn piece.now self.old result self.new }
+    {
+        match self.feed(piece) {
+            Ok(()) => self.read_all(),
+            Err(error) => Err(error),
+        }
+    }
+
+    // Puts a piece behind what is not read yet.
+    fn feed(&mut self, piece: &[u8]) -> Result<(), ClientError>
+        ensures { Feeds piece.now self.old result self.new }
+    {
+        match self.cutter.feed(piece) {
+            Ok(()) => Ok(()),
+            Err(_) => Err(ClientError::Memory),
+        }
+    }
+
+    // Handles each whole packet, to the first that ends the call.
+    fn read_all(&mut self) -> Result<(), ClientError>
+        ensures { ReadsAll self.old result self.new }
+    {
+        while self.read_one()? {}
+        Ok(())
+    }
+
+    // Handles the next whole packet, if there is one.
+    fn read_one(&mut self) -> Result<bool, ClientError>
+        ensures one { ReadsOne self.old result self.new }
+        ensures shorter { result ≡ Ok true → length self.new.unread.held < length self.old.unread.held }
+    {
+        match self.next_packet() {
+            Ok(Some(packet)) => match self.handle(packet) {
+                Ok(()) => Ok(true),
+                Err(error) => Err(error),
+            },
+            Ok(None) => Ok(false),
+            Err(error) => Err(error),
+        }
+    }
+
+    // The next whole packet.
+    fn next_packet(&mut self) -> Result<Option<Packet>, ClientError>
+        ensures { TakesNext self.old result self.new }
+    {
+        match self.cutter.next() {
+            Ok(Some(packet)) => Ok(Some(packet)),
+            Ok(None) => Ok(None),
+            Err(error) => Err(cause_of(error)),
+        }
+    }
+
+    // Handles a packet of the server.
+    fn handle(&mut self, packet: Packet) -> Result<(), ClientError>
+        ensures { Tries (turn_of packet self.old) self.old result self.new }
+    {
+        match self.stage {
+            Stage::Closed => Err(ClientError::NotActive),
+            Stage::Opened => self.handle_first(packet),
+            Stage::Online => self.handle_later(packet),
+        }
+    }
+
+    // The first packet of a connection has to be CONNACK.
+    fn handle_first(&mut self, packet: Packet) -> Result<(), ClientError>
+        ensures { Tries (on_first packet self.old.state) self.old result self.new }
+    {
+        match packet {
+            Packet::Connack(Connack::Accepted(present)) => self.on_accepted(present),
+            Packet::Connack(Connack::Refused(_)) => Err(ClientError::NotActive),
+            _ => Err(ClientError::Protocol),
+        }
+    }
+
+    // A later packet. What only a client sends, and a second CONNACK, may not come.
+    fn handle_later(&mut self, packet: Packet) -> Result<(), ClientError>
+        ensures { Tries (on_later packet self.old.state) self.old result self.new }
+    {
+        match packet {
+            Packet::Publish(publish) => return self.on_publish(publish),
+            Packet::Pubrec(id) => return self.on_pubrec(id),
+            Packet::Pubrel(id) => return self.on_pubrel(id),
+            Packet::Puback(id) => self.on_puback(id),
+            Packet::Pubcomp(id) => self.on_pubcomp(id),
+            Packet::Suback(suback) => self.on_suback(suback.id),
+            Packet::Unsuback(id) => self.on_unsuback(id),
+            Packet::Pingresp => {}
+            Packet::Connect(_)
+            | Packet::Connack(_)
+            | Packet::Subscribe(_)
+            | Packet::Unsubscribe(_)
+            | Packet::Pingreq
+            | Packet::Disconnect => return Err(ClientError::Protocol),
+        }
+        Ok(())
+    }
+}
+
+// Why the reading stops at what is no packet. A CONNECT that a server would refuse with a code is a
+// packet that only a client sends.
+fn cause_of(error: CutError) -> ClientError
+    ensures { result ≡ cut_cause error }
+{
+    match error {
+        CutError::Decode(DecodeFault::Malformed(kind)) => ClientError::Malformed(kind),
+        CutError::Decode(DecodeFault::Refused(_)) => ClientError::Protocol,
+        CutError::Memory | CutError::Failed => ClientError::Memory,
+    }
+}
+
+// Whether the connection is gone after this answer to a piece.
+fn is_fatal(read: Result<(), ClientError>) -> bool
+    ensures { result ≡ is_fatal read }
+{
+    match read {
+        Ok(()) | Err(ClientError::SessionLost) => false,
+        Err(_) => true,
+    }
+}

@@ -1,0 +1,144 @@
+use crate::{ClientCore, ClientError};
+use packet::{ClientId, Payload, QoS};
+use std::alloc::Global;
+use std::process::Abort;
+use std::test::Fail;
+use topics::{Filter, TopicName};
+
+mod connections;
+mod handshakes;
+mod memory;
+mod publications;
+
+// CONNECT of client `a` with CleanSession 0 and keep alive 0 (MQTT 3.1).
+const CONNECT: [u8; 15] = [
+    0x10, 0x0D, 0x00, 0x04, 0x4D, 0x51, 0x54, 0x54, 0x04, 0x00, 0x00, 0x00, 0x00, 0x01, 0x61,
+];
+
+// CONNACK 0 without and with a session present (MQTT 3.2).
+const ACCEPTED: [u8; 4] = [0x20, 0x02, 0x00, 0x00];
+
+const PRESENT: [u8; 4] = [0x20, 0x02, 0x01, 0x00];
+
+// PUBLISH of `x` on `t/1` at QoS 2 with identifier 1 (MQTT 3.3), and its PUBREC.
+const PUBLISH: [u8; 10] = [0x34, 0x08, 0x00, 0x03, 0x74, 0x2F, 0x31, 0x00, 0x01, 0x78];
+
+const PUBREC: [u8; 4] = [0x50, 0x02, 0x00, 0x01];
+
+const NOTHING: [u8; 0] = [];
+
+// What is done with a client.
+#[derive(Clone, Copy)]
+enum Act<'a> {
+    Open,
+    Lost,
+    Disconnect,
+    Bytes(&'a [u8]),
+    Subscribe,
+    Unsubscribe,
+    Publish(QoS, &'a str),
+}
+
+// An act, what it is answered with, what is written then, and how many publications are kept and
+// were accepted.
+#[derive(Clone, Copy)]
+struct Row<'a> {
+    act: Act<'a>,
+    answer: Option<ClientError>,
+    written: &'a [u8],
+    kept: usize,
+    accepted: usize,
+}
+
+fn writes<'a>(act: Act<'a>, written: &'a [u8], kept: usize, accepted: usize) -> Row<'a> {
+    let answer = None;
+    Row {
+        act,
+        answer,
+        written,
+        kept,
+        accepted,
+    }
+}
+
+fn refused<'a>(act: Act<'a>, cause: ClientError, kept: usize, accepted: usize) -> Row<'a> {
+    let answer = Some(cause);
+    Row {
+        act,
+        answer,
+        written: &NOTHING,
+        kept,
+        accepted,
+    }
+}
+
+// Client `a`, never connected.
+fn new_client(alloc: Global) -> Result<ClientCore, Fail> {
+    let client = ClientId::new(alloc, "a").ok();
+    let client = client.ok_or("memory is left").map_err(Fail::from)?;
+    Ok(ClientCore::new(alloc, client, 0))
+}
+
+// Publishes a text on `t/1`.
+fn publish(
+    client: &mut ClientCore,
+    alloc: Global,
+    qos: QoS,
+    text: &str,
+) -> Result<Option<ClientError>, Fail> {
+    let topic = TopicName::new(alloc, "t/1").ok();
+    let topic = topic.ok_or("memory is left").map_err(Fail::from)?;
+    let payload = Payload::new(alloc, text.as_bytes())?;
+    Ok(client.publish(topic, qos, false, payload).err())
+}
+
+// Asks for `t/#`, or gives it up.
+fn ask(
+    client: &mut ClientCore,
+    alloc: Global,
+    subscribes: bool,
+) -> Result<Option<ClientError>, Fail> {
+    let filter = Filter::new(alloc, "t/#").ok();
+    let filter = filter.ok_or("memory is left").map_err(Fail::from)?;
+    let answer = if subscribes {
+        client.subscribe(filter, QoS::ExactlyOnce)
+    } else {
+        client.unsubscribe(filter)
+    };
+    Ok(answer.err())
+}
+
+fn done(client: &mut ClientCore, alloc: Global, act: Act) -> Result<Option<ClientError>, Fail> {
+    match act {
+        Act::Open => Ok(client.open().err()),
+        Act::Lost => {
+            client.lost();
+            Ok(None)
+        }
+        Act::Disconnect => Ok(client.disconnect().err()),
+        Act::Bytes(bytes) => Ok(client.on_bytes(bytes).err()),
+        Act::Subscribe => ask(client, alloc, true),
+        Act::Unsubscribe => ask(client, alloc, false),
+        Act::Publish(qos, text) => publish(client, alloc, qos, text),
+    }
+}
+
+fn check(rt: &impl Abort, alloc: Global, client: &mut ClientCore, row: &Row) -> Result<(), Fail> {
+    let answer = done(client, alloc, row.act)?;
+    assert_eq!(rt; answer, row.answer);
+    let mut out = Vec::new(alloc);
+    client.outgoing(&mut out)?;
+    assert_eq!(rt; out.as_slice(), row.written);
+    assert_eq!(rt; client.kept(), row.kept);
+    assert_eq!(rt; client.accepted().len(), row.accepted);
+    Ok(())
+}
+
+// Goes through the rows with a client that was never connected.
+fn play(rt: &impl Abort, alloc: Global, rows: &[Row]) -> Result<ClientCore, Fail> {
+    let mut client = new_client(alloc)?;
+    for row in rows {
+        check(rt, alloc, &mut client, row)?;
+    }
+    Ok(client)
+}

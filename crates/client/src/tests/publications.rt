@@ -1,0 +1,81 @@
+// Publications that a client keeps.
+
+use super::*;
+
+// PUBREC releases the second, and on the next connection it goes first, then the others in the order
+// in which they were published, and at last what was published offline.
+#[test]
+fn kept_publications_go_out_again(rt: HostRuntime) -> Result<(), Fail> {
+    let two = QoS::ExactlyOnce;
+    let first = [0x34, 0x08, 0x00, 0x03, 0x74, 0x2F, 0x31, 0x00, 0x01, 0x78];
+    let second = [0x34, 0x08, 0x00, 0x03, 0x74, 0x2F, 0x31, 0x00, 0x02, 0x79];
+    let pubrel = [0x62, 0x02, 0x00, 0x02];
+    let again = [
+        0x62, 0x02, 0x00, 0x02, 0x3C, 0x08, 0x00, 0x03, 0x74, 0x2F, 0x31, 0x00, 0x01, 0x78, 0x32,
+        0x08, 0x00, 0x03, 0x74, 0x2F, 0x31, 0x00, 0x03, 0x77,
+    ];
+    let rows = [
+        writes(Act::Open, &CONNECT, 0, 0),
+        writes(Act::Bytes(&ACCEPTED), &NOTHING, 0, 0),
+        writes(Act::Publish(two, "x"), &first, 1, 0),
+        writes(Act::Publish(two, "y"), &second, 2, 0),
+        writes(Act::Bytes(&[0x50, 0x02, 0x00, 0x02]), &pubrel, 2, 0),
+        writes(Act::Lost, &NOTHING, 2, 0),
+        writes(Act::Publish(QoS::AtLeastOnce, "w"), &NOTHING, 3, 0),
+        writes(Act::Open, &CONNECT, 3, 0),
+        writes(Act::Bytes(&PRESENT), &again, 3, 0),
+        writes(Act::Bytes(&[0x50, 0x02, 0x00, 0x02]), &pubrel, 3, 0),
+        writes(Act::Bytes(&[0x70, 0x02, 0x00, 0x02]), &NOTHING, 2, 0),
+        writes(Act::Bytes(&[0x40, 0x02, 0x00, 0x03]), &NOTHING, 1, 0),
+    ];
+    let client = play(&rt, rt.alloc(), &rows)?;
+    assert!(rt; client.present());
+    Ok(())
+}
+
+// Sixteen are kept, offline too; QoS 0 is not.
+#[test]
+fn the_seventeenth_is_refused(rt: HostRuntime) -> Result<(), Fail> {
+    let mut client = new_client(rt.alloc())?;
+    for kept in 1..17 {
+        let kept = writes(Act::Publish(QoS::ExactlyOnce, "x"), &NOTHING, kept, 0);
+        check(&rt, rt.alloc(), &mut client, &kept)?;
+    }
+    let full = refused(
+        Act::Publish(QoS::AtLeastOnce, "x"),
+        ClientError::WindowFull,
+        16,
+        0,
+    );
+    check(&rt, rt.alloc(), &mut client, &full)?;
+    let offline = refused(
+        Act::Publish(QoS::AtMostOnce, "x"),
+        ClientError::NotActive,
+        16,
+        0,
+    );
+    check(&rt, rt.alloc(), &mut client, &offline)
+}
+
+// A session that the server lost takes with it what was kept and which identifiers were accepted. What
+// is behind its CONNACK is handled by the next call.
+#[test]
+fn a_lost_session_forgets(rt: HostRuntime) -> Result<(), Fail> {
+    let first = [0x34, 0x08, 0x00, 0x03, 0x74, 0x2F, 0x31, 0x00, 0x01, 0x78];
+    let connack = [
+        0x20, 0x02, 0x00, 0x00, 0x34, 0x08, 0x00, 0x03, 0x74, 0x2F, 0x31, 0x00, 0x01, 0x78,
+    ];
+    let rows = [
+        writes(Act::Open, &CONNECT, 0, 0),
+        writes(Act::Bytes(&ACCEPTED), &NOTHING, 0, 0),
+        writes(Act::Publish(QoS::ExactlyOnce, "x"), &first, 1, 0),
+        writes(Act::Bytes(&PUBLISH), &PUBREC, 1, 1),
+        writes(Act::Open, &CONNECT, 1, 1),
+        refused(Act::Bytes(&connack), ClientError::SessionLost, 0, 1),
+        writes(Act::Bytes(&NOTHING), &PUBREC, 0, 2),
+    ];
+    let client = play(&rt, rt.alloc(), &rows)?;
+    assert!(rt; client.connected());
+    assert_eq!(rt; client.accepted().last().map(|one| one.session), Some(2));
+    Ok(())
+}

@@ -1,0 +1,76 @@
+// Packets that a client writes.
+
+ghost use Rattle.std.specs.Prelude.{◌≡◌, map, IfOk, OnOk, OnErr, IsErrOf};
+ghost use Rattle.packet.specs.Spelling.{IsListed, AppendsSpelling};
+ghost use Rattle.packet.specs.declared.packet.Packet.TheVariants as packets;
+ghost use Rattle.session_base.specs.Publication.{delivery_at};
+ghost use Rattle.client_base.specs.State.{publish_kept};
+ghost use Rattle.client.specs.Core.{AppendsAll};
+
+use client_base::{ClientError, KeptPublication};
+use packet::{Delivery, Packet, PacketId, Publish, QoS, encode};
+use std::alloc::AllocError;
+
+// Writes a packet behind what is written. It is not over the size limit, which its makers see to.
+pub(crate) fn write(packet: &Packet, out: &mut Vec<u8>) -> Result<(), ClientError>
+    requires { IsListed packet.now }
+    ensures ok { OnOk result (AppendsSpelling out.old.items out.new.items packet.now) }
+    ensures memory { OnErr result (IsErrOf result ClientError.Memory) }
+    ensures err { OnErr result (out.new.items ≡ out.old.items) }
+{
+    match encode(packet, out) {
+        Ok(()) => Ok(()),
+        Err(_) => Err(ClientError::Memory),
+    }
+}
+
+// QoS, DUP and identifier of a PUBLISH.
+fn delivery(qos: QoS, dup: bool, id: PacketId) -> Delivery
+    ensures { result ≡ delivery_at qos dup id }
+{
+    match qos {
+        QoS::AtMostOnce => Delivery::AtMostOnce,
+        QoS::AtLeastOnce => Delivery::AtLeastOnce(dup, id),
+        QoS::ExactlyOnce => Delivery::ExactlyOnce(dup, id),
+    }
+}
+
+// The PUBLISH of a kept publication.
+pub(crate) fn publish_again(kept: &KeptPublication, dup: bool) -> Result<Packet, AllocError>
+    ensures { IfOk result (λ packet. packet ≡ publish_kept dup kept.now) }
+{
+    let publication = &kept.publication;
+    Ok(Packet::Publish(Publish {
+        topic: publication.topic.clone()?,
+        delivery: delivery(publication.qos, dup, kept.id),
+        retain: publication.retain,
+        payload: publication.payload.clone()?,
+    }))
+}
+
+// Writes PUBREL for each of these, in order.
+pub(crate) fn write_pubrels(ids: &[PacketId], out: &mut Vec<u8>) -> Result<(), ClientError>
+    ensures ok { OnOk result (AppendsAll out.old.items out.new.items (map packets.Pubrel ids.now)) }
+    ensures memory { OnErr result (IsErrOf result ClientError.Memory) }
+{
+    for id in ids {
+        write(&Packet::Pubrel(*id), out)?;
+    }
+    Ok(())
+}
+
+// Writes PUBLISH for each of these, in order, with this DUP.
+pub(crate) fn write_publishes(
+    kept: &[KeptPublication],
+    dup: bool,
+    out: &mut Vec<u8>,
+) -> Result<(), ClientError>
+    ensures ok { OnOk result
+        (AppendsAll out.old.items out.new.items (map (publish_kept dup) kept.now)) }
+    ensures memory { OnErr result (IsErrOf result ClientError.Memory) }
+{
+    for one in kept {
+        write(&publish_again(one, dup)?, out)?;
+    }
+    Ok(())
+}

@@ -1,0 +1,135 @@
+-- FollowsCalls.antt: publishing makes the same of a client and of the one with its history.
+use Rattle.std.proofs.Common.{◌≡◌, ℕ, Bool, true, false, if◌then◌else◌, List, [], ◌∷◌, ◌++◌, length, None, refl, ap, ap₂, sym, ◌∙◌, append-nil}
+use Rattle.std.proofs.lemmas.Bool.{both_ways}
+use Rattle.lists.specs.Lists.{has_id}
+use Rattle.packet.specs.declared.packet.Packet.TheVariants as packets
+use Rattle.session_base.specs.declared.publication.Publication.{Publication}
+use Rattle.session_base.specs.Publication.{publish_of}
+use Rattle.client_base.specs.declared.kept_publication.KeptPublication.{KeptPublication}
+use Rattle.client_base.specs.State.{ClientState}
+use Rattle.client_base.specs.Answered.{Turn}
+use Rattle.client_base.specs.Keeper.{Own, Keeper, Side}
+use Rattle.client_base.specs.Written.{publishes}
+use Rattle.client_base.specs.History.{StandsFor, sent_of, unsent_of, released_of, IsSentFirst}
+use Rattle.client_base.proofs.SentAll.{sent_more, unsent_more, released_more}
+use Rattle.client_base.proofs.FollowsPackets.{Same}
+
+-- ---- one more publication, and what was sent still comes first
+
+abbrev is_none : {X : Type 0} → List X → Bool
+is_none [] = true
+is_none (x ∷ xs) = false
+
+-- one that was not sent, or is done
+first_behind : (own : List Own) (o : Own) → sent_of (o ∷ []) ≡ [] → IsSentFirst (o ∷ []) → IsSentFirst own → IsSentFirst (own ++ o ∷ [])
+first_behind [] o none alone first = alone
+first_behind (Own.Unsent k p id ∷ own) o none alone first =
+    (sent_more own (o ∷ []) ∙ ap₂ (λ x y. x ++ y) first.0 none, first_behind own o none alone first.1)
+first_behind (Own.Sent k p id ∷ own) o none alone first = first_behind own o none alone first
+first_behind (Own.Released k p id ∷ own) o none alone first = first_behind own o none alone first
+first_behind (Own.Done k p ∷ own) o none alone first = first_behind own o none alone first
+
+-- one that was sent, where all were
+first_sent : (own : List Own) (k : ℕ) (p : Publication) (id : ℕ) → unsent_of own ≡ [] → IsSentFirst (own ++ Own.Sent k p id ∷ [])
+first_sent [] k p id none = tt
+first_sent (Own.Unsent n q i ∷ own) k p id none = absurd (both_ways false refl (ap is_none none))
+first_sent (Own.Sent n q i ∷ own) k p id none = first_sent own k p id none
+first_sent (Own.Released n q i ∷ own) k p id none = first_sent own k p id none
+first_sent (Own.Done n q ∷ own) k p id none = first_sent own k p id none
+
+-- ---- publishing, with one identifier on both sides
+
+abbrev pub own_of : Publication → ℕ → ℕ → Bool → Bool → Own
+own_of p id n answered online = if answered then (if online then Own.Sent n p id else Own.Unsent n p id) else Own.Done n p
+
+abbrev pub kept_of : Publication → ℕ → KeptPublication
+kept_of p id = record { id = id; publication = p }
+
+abbrev pub side_of : Publication → ℕ → Side ℕ → Bool → Bool → Side ℕ
+side_of p id side answered online =
+    record {
+      keeper = record side.keeper { own = side.keeper.own ++ own_of p id (length side.keeper.own) answered online ∷ [] };
+      connection = record side.connection { written = side.connection.written ++ (if online then publishes false (length side.keeper.own) id p ∷ [] else []) };
+    }
+
+abbrev pub turn_of : Publication → ℕ → ClientState → Bool → Bool → Turn
+turn_of p id state answered online =
+    if online
+    then record {
+      state = if answered then record state { sent = state.sent ++ kept_of p id ∷ [] } else state;
+      writes = packets.Publish (publish_of false id p) ∷ [];
+      refusal = None;
+    }
+    else record { state = record state { unsent = state.unsent ++ kept_of p id ∷ [] }; writes = []; refusal = None }
+
+-- with one more of its own
+own_stands : (keeper : Keeper) (state : ClientState) (o : Own) (sent unsent : List KeptPublication) → StandsFor keeper state
+    → sent ≡ sent_of (o ∷ []) → unsent ≡ unsent_of (o ∷ []) → released_of (o ∷ []) ≡ [] → IsSentFirst (keeper.own ++ o ∷ [])
+    → (keeper.is_online ≡ true → unsent ≡ [])
+    → StandsFor (record keeper { own = keeper.own ++ o ∷ [] }) (record state { sent = state.sent ++ sent; unsent = state.unsent ++ unsent })
+own_stands keeper state o sent unsent s is_sent is_unsent released first online =
+    record {
+      client = s.client;
+      released = s.released;
+      sent = ap₂ (λ x y. x ++ y) s.sent is_sent ∙ sym (sent_more keeper.own (o ∷ []));
+      unsent = ap₂ (λ x y. x ++ y) s.unsent is_unsent ∙ sym (unsent_more keeper.own (o ∷ []));
+      received = s.received;
+      requests = s.requests;
+      is_open = s.is_open;
+      is_online = s.is_online;
+      was_served = s.was_served;
+      releases_are = λ j.
+          s.releases_are j ∙ ap (has_id j) (sym (append-nil (released_of keeper.own)) ∙ ap (λ l. released_of keeper.own ++ l) (sym released) ∙ sym (released_more keeper.own (o ∷ [])));
+      sent_first = first;
+      online_sent = λ e. unsent_more keeper.own (o ∷ []) ∙ ap₂ (λ x y. x ++ y) (s.online_sent e) (sym is_unsent ∙ online e);
+    }
+
+-- nothing more is nothing
+none_more : (state : ClientState) (sent unsent : List KeptPublication) (keeper : Keeper) → state.sent ≡ sent → state.unsent ≡ unsent
+    → StandsFor keeper (record state { sent = sent; unsent = unsent }) → StandsFor keeper state
+none_more state sent unsent keeper e f s =
+    record {
+      client = s.client;
+      released = s.released;
+      sent = e ∙ s.sent;
+      unsent = f ∙ s.unsent;
+      received = s.received;
+      requests = s.requests;
+      is_open = s.is_open;
+      is_online = s.is_online;
+      was_served = s.was_served;
+      releases_are = s.releases_are;
+      sent_first = s.sent_first;
+      online_sent = s.online_sent;
+    }
+
+sent_stands : (p : Publication) (id n : ℕ) (keeper : Keeper) (state : ClientState) → StandsFor keeper state → keeper.is_online ≡ true
+    → StandsFor (record keeper { own = keeper.own ++ Own.Sent n p id ∷ [] }) (record state { sent = state.sent ++ kept_of p id ∷ [] })
+sent_stands p id n keeper state s online =
+    none_more (record state { sent = state.sent ++ kept_of p id ∷ [] }) (state.sent ++ kept_of p id ∷ []) (state.unsent ++ []) _ refl (sym (append-nil state.unsent))
+    (own_stands keeper state (Own.Sent n p id) (kept_of p id ∷ []) [] s refl refl refl (first_sent keeper.own n p id (s.online_sent online)) (λ e. refl))
+
+unsent_stands : (p : Publication) (id n : ℕ) (keeper : Keeper) (state : ClientState) → StandsFor keeper state → keeper.is_online ≡ false
+    → StandsFor (record keeper { own = keeper.own ++ Own.Unsent n p id ∷ [] }) (record state { unsent = state.unsent ++ kept_of p id ∷ [] })
+unsent_stands p id n keeper state s offline =
+    none_more (record state { unsent = state.unsent ++ kept_of p id ∷ [] }) (state.sent ++ []) (state.unsent ++ kept_of p id ∷ []) _ (sym (append-nil state.sent)) refl
+    (own_stands keeper state (Own.Unsent n p id) [] (kept_of p id ∷ []) s refl refl refl (first_behind keeper.own (Own.Unsent n p id) refl (refl, tt) s.sent_first)
+    (λ e. absurd (both_ways keeper.is_online offline e)))
+
+done_stands : (p : Publication) (n : ℕ) (keeper : Keeper) (state : ClientState) → StandsFor keeper state
+    → StandsFor (record keeper { own = keeper.own ++ Own.Done n p ∷ [] }) state
+done_stands p n keeper state s =
+    none_more state (state.sent ++ []) (state.unsent ++ []) _ (sym (append-nil state.sent)) (sym (append-nil state.unsent))
+    (own_stands keeper state (Own.Done n p) [] [] s refl refl refl (first_behind keeper.own (Own.Done n p) refl tt s.sent_first) (λ e. refl))
+
+pub publish_follows : (p : Publication) (id : ℕ) (side : Side ℕ) (state : ClientState) (answered online up : Bool) → StandsFor side.keeper state → online ≡ up
+    → side.keeper.is_online ≡ up → (answered ≡ false → online ≡ true) → Same side (side_of p id side answered up) (turn_of p id state answered online)
+publish_follows p id side state true true true s e f g =
+    record { stands = sent_stands p id (length side.keeper.own) side.keeper state s f; writes = (publishes false (length side.keeper.own) id p ∷ [], refl, refl) }
+publish_follows p id side state true false false s e f g =
+    record { stands = unsent_stands p id (length side.keeper.own) side.keeper state s f; writes = ([], refl, refl) }
+publish_follows p id side state false true true s e f g =
+    record { stands = done_stands p (length side.keeper.own) side.keeper state s; writes = (publishes false (length side.keeper.own) id p ∷ [], refl, refl) }
+publish_follows p id side state false false up s e f g = absurd (both_ways false refl (g refl))
+publish_follows p id side state answered true false s e f g = absurd (both_ways false refl (sym e))
+publish_follows p id side state answered false true s e f g = absurd (both_ways false refl e)

@@ -1,0 +1,11 @@
+pub mod Received
+pub mod Readings
+pub mod Released
+pub mod FreeIds
+pub mod SentAll
+pub mod FollowsPackets
+pub mod FollowsReleases
+pub mod FollowsConnack
+pub mod FollowsCalls
+pub mod FollowsHandled
+pub mod Follows

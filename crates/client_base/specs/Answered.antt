@@ -1,0 +1,100 @@
+-- What a packet of the server makes of a client, and which packets answer it (MQTT 3.2, 4.3, 4.4).
+use Rattle.std.specs.Prelude.{ℕ, Bool, false, not, ◌&&◌, ◌==◌, if◌then◌else◌, List, [], ◌∷◌, ◌++◌, filter, Option, Some, None}
+use Rattle.std.specs.List.{list_any}
+use Rattle.packet.specs.declared.delivery.Delivery.{Delivery}
+use Rattle.packet.specs.declared.delivery.Delivery.TheVariants as deliveries
+use Rattle.packet.specs.declared.publish.Publish.{Publish}
+use Rattle.packet.specs.declared.packet.Packet.{Packet}
+use Rattle.packet.specs.declared.packet.Packet.TheVariants as packets
+use Rattle.packet.specs.Delivery.{delivery_qos}
+use Rattle.session_base.specs.Publication.{is_acknowledged}
+use Rattle.lists.specs.Lists.{has_id}
+use Rattle.client_base.specs.declared.accepted.Accepted.{Accepted}
+use Rattle.client_base.specs.declared.error.ClientError.{ClientError}
+use Rattle.client_base.specs.declared.kept_publication.KeptPublication.{KeptPublication}
+use Rattle.client_base.specs.declared.request.Request.{Request}
+use Rattle.client_base.specs.declared.request.Request.TheVariants as requests
+use Rattle.client_base.specs.State.{ClientState, lost}
+
+-- what a step leaves, the packets that it writes, and why it is refused, where it is
+pub record Turn : Type 0 where
+  pub state : ClientState
+  pub writes : List Packet
+  pub refusal : Option ClientError
+
+-- nothing is refused
+abbrev pub going_on : ClientState → List Packet → Turn
+going_on state packets = record { state = state; writes = packets; refusal = None }
+
+-- the connection ends for this cause
+abbrev pub ending : ClientError → ClientState → Turn
+ending cause state = record { state = lost state; writes = []; refusal = Some cause }
+
+-- ---- publications of others
+
+-- what is accepted of a PUBLISH, in the session of this number
+abbrev pub accepted_of : ℕ → Publish → Accepted
+accepted_of session p =
+    record { session = session; qos = delivery_qos p.delivery; retain = p.retain; topic = p.topic; payload = p.payload }
+
+-- the publication is accepted, in the session that lasts
+abbrev pub accepting : Publish → ClientState → ClientState
+accepting p state = record state { accepted = state.accepted ++ accepted_of state.session p ∷ [] }
+
+-- QoS 0 and 1 are accepted each time, QoS 2 once while its identifier is kept (MQTT 4.3)
+abbrev pub on_publish : Publish → Delivery → ClientState → Turn
+on_publish p deliveries.AtMostOnce state = going_on (accepting p state) []
+on_publish p (deliveries.AtLeastOnce dup id) state = going_on (accepting p state) (packets.Puback id ∷ [])
+on_publish p (deliveries.ExactlyOnce dup id) state =
+    going_on
+    (if has_id id state.received then state
+    else record (accepting p state) { received = state.received ++ id ∷ [] })
+    (packets.Pubrec id ∷ [])
+
+abbrev pub without_id : ℕ → List ℕ → List ℕ
+without_id id = filter (λ other. not (id == other))
+
+-- PUBREL: the identifier is kept no longer, and PUBCOMP answers in any case (MQTT 4.3.3)
+abbrev pub on_pubrel : ℕ → ClientState → Turn
+on_pubrel id state = going_on (record state { received = without_id id state.received }) (packets.Pubcomp id ∷ [])
+
+-- ---- its own publications
+
+abbrev pub awaits_puback : ℕ → KeptPublication → Bool
+awaits_puback id kept = (id == kept.id) && is_acknowledged kept.publication.qos
+
+abbrev pub awaits_pubrec : ℕ → KeptPublication → Bool
+awaits_pubrec id kept = (id == kept.id) && not (is_acknowledged kept.publication.qos)
+
+-- PUBACK ends a QoS 1 publication that was sent (MQTT 4.3.2)
+abbrev pub on_puback : ℕ → ClientState → Turn
+on_puback id state = going_on (record state { sent = filter (λ kept. not (awaits_puback id kept)) state.sent }) []
+
+-- PUBREC releases a QoS 2 publication that was sent; for a released one PUBREL goes out again (MQTT 4.3.3)
+abbrev pub on_pubrec : ℕ → ClientState → Turn
+on_pubrec id state =
+    if list_any (awaits_pubrec id) state.sent
+    then going_on
+    (record state {
+      released = state.released ++ id ∷ [];
+      sent = filter (λ kept. not (awaits_pubrec id kept)) state.sent;
+    })
+    (packets.Pubrel id ∷ [])
+    else going_on state (if has_id id state.released then packets.Pubrel id ∷ [] else [])
+
+-- PUBCOMP ends a released publication (MQTT 4.3.3)
+abbrev pub on_pubcomp : ℕ → ClientState → Turn
+on_pubcomp id state = going_on (record state { released = without_id id state.released }) []
+
+-- ---- requests: only an answer of its own kind ends one
+
+abbrev pub is_subscribe : ℕ → Request → Bool
+is_subscribe id (requests.Subscribes other) = id == other
+is_subscribe id (requests.Unsubscribes other) = false
+
+abbrev pub is_unsubscribe : ℕ → Request → Bool
+is_unsubscribe id (requests.Subscribes other) = false
+is_unsubscribe id (requests.Unsubscribes other) = id == other
+
+abbrev pub answered : (Request → Bool) → ClientState → Turn
+answered test state = going_on (record state { requests = filter (λ request. not (test request)) state.requests }) []

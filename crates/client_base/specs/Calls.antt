@@ -1,0 +1,118 @@
+-- What each call, and each packet of the server, makes of a client (MQTT 3, 4.3, 4.4).
+use Rattle.std.specs.Prelude.{ℕ, ◌+◌, ◌-◌, ◌^◌, Bool, false, not, ◌&&◌, ◌==◌, min, nat_lt, if◌then◌else◌, [], ◌∷◌, ◌++◌, length, Option, Some, None}
+use Rattle.packet.specs.declared.connack.Connack.TheVariants as connacks
+use Rattle.packet.specs.declared.packet.Packet.{Packet}
+use Rattle.packet.specs.declared.packet.Packet.TheVariants as packets
+use Rattle.packet.specs.Spelling.{body, longest_body}
+use Rattle.session_base.specs.declared.publication.Publication.{Publication}
+use Rattle.session_base.specs.Publication.{publish_of, is_answered}
+use Rattle.session_base.specs.Identifiers.{least_free}
+use Rattle.client_base.specs.declared.error.ClientError.{ClientError}
+use Rattle.client_base.specs.declared.error.ClientError.TheVariants as errors
+use Rattle.client_base.specs.declared.kept_publication.KeptPublication.{KeptPublication}
+use Rattle.client_base.specs.declared.stage.Stage.{Stage}
+use Rattle.client_base.specs.declared.stage.Stage.TheVariants as stages
+use Rattle.client_base.specs.State.{ClientState, is_online, kept_count, used_ids, resent, lost}
+use Rattle.client_base.specs.Answered.{Turn, going_on, ending, on_publish, on_pubrel, on_puback, on_pubrec, on_pubcomp, is_subscribe, is_unsubscribe, answered}
+
+-- nothing changes, for this cause
+abbrev pub refused : ClientError → ClientState → Turn
+refused cause state = record { state = state; writes = []; refusal = Some cause }
+
+-- ---- a connection begins
+
+-- CONNECT with CleanSession 0, on a new connection
+abbrev pub opened : ClientState → Turn
+opened state =
+    going_on (record (lost state) { stage = stages.Opened })
+    (packets.Connect (record { client = state.client; clean = false; keep_alive = state.keep_alive }) ∷ [])
+
+-- whether the server has no session of a client that had one
+abbrev pub loses_session : Bool → ClientState → Bool
+loses_session present state = not present && nat_lt 0 state.session
+
+-- what was kept is given up, and the next session begins; its number stays below 2^64
+abbrev pub discarded : ClientState → ClientState
+discarded state =
+    record state {
+      released = [];
+      sent = [];
+      unsent = [];
+      received = [];
+      session = min (state.session + 1) (2 ^ 64 - 1);
+    }
+
+-- the first session has number 1
+abbrev pub numbered : ClientState → ClientState
+numbered state = record state { session = if state.session == 0 then 1 else state.session }
+
+-- CONNACK 0: what is kept goes out, then what was not sent yet (MQTT 3.2.2, 4.4)
+abbrev pub confirmed : Bool → ClientState → Turn
+confirmed present state =
+    let lacking = loses_session present state in
+    let kept = if lacking then discarded state else numbered state in
+    record {
+      state = record kept { sent = kept.sent ++ kept.unsent; unsent = []; stage = stages.Online; present = present };
+      writes = resent kept;
+      refusal = if lacking then Some errors.SessionLost else None;
+    }
+
+-- ---- packets of the server
+
+-- the first one on a connection has to be CONNACK (MQTT 3.2)
+abbrev pub on_first : Packet → ClientState → Turn
+on_first (packets.Connack (connacks.Accepted present)) state = confirmed present state
+on_first (packets.Connack (connacks.Refused code)) state = ending errors.NotActive state
+on_first _ state = ending errors.Protocol state
+
+-- a later one; a second CONNACK, or a packet that only a client sends, ends the connection
+abbrev pub on_later : Packet → ClientState → Turn
+on_later (packets.Publish p) state = on_publish p p.delivery state
+on_later (packets.Puback id) state = on_puback id state
+on_later (packets.Pubrec id) state = on_pubrec id state
+on_later (packets.Pubcomp id) state = on_pubcomp id state
+on_later (packets.Pubrel id) state = on_pubrel id state
+on_later (packets.Suback s) state = answered (is_subscribe s.id) state
+on_later (packets.Unsuback id) state = answered (is_unsubscribe id) state
+on_later packets.Pingresp state = going_on state []
+on_later _ state = ending errors.Protocol state
+
+abbrev pub received : Packet → Stage → ClientState → Turn
+received packet stages.Closed state = refused errors.NotActive state
+received packet stages.Opened state = on_first packet state
+received packet stages.Online state = on_later packet state
+
+-- ---- publishing and asking
+
+-- the identifier that the next publication or request gets
+abbrev pub next_id : ClientState → ℕ
+next_id state = least_free (used_ids state)
+
+-- whether there is one
+abbrev pub has_free_id : ClientState → Bool
+has_free_id state = nat_lt (next_id state) 65536
+
+-- how many publications a client keeps
+abbrev pub window : ℕ
+window = 16
+
+abbrev pub publish_packet : Publication → ClientState → Packet
+publish_packet p state = packets.Publish (publish_of false (next_id state) p)
+
+abbrev pub is_over_limit : Packet → Bool
+is_over_limit packet = nat_lt longest_body (length (body packet))
+
+-- why a publication is refused: at QoS 1 and 2 for want of room, at QoS 0 while it is offline, or as too large
+abbrev pub publish_refusal : Publication → ClientState → Option ClientError
+publish_refusal p state =
+    if is_answered p.qos && not (nat_lt (kept_count state) window && has_free_id state) then Some errors.WindowFull else
+    if not (is_answered p.qos) && not (is_online state.stage) then Some errors.NotActive else
+    if is_over_limit (publish_packet p state) then Some errors.TooLarge else None
+
+-- it is kept at QoS 1 and 2, and sent at once where the client is online (MQTT 4.3)
+abbrev pub published : Publication → ClientState → Turn
+published p state =
+    let kept : KeptPublication = record { id = next_id state; publication = p } in
+    if is_online state.stage
+    then going_on (if is_answered p.qos then record state { sent = state.sent ++ kept ∷ [] } else state) (publish_packet p state ∷ [])
+    else going_on (record state { unsent = state.unsent ++ kept ∷ [] }) []

@@ -1,0 +1,52 @@
+-- The client that keeps no history stands for the one with it.
+use Rattle.std.specs.Prelude.{◌≡◌, ℕ, true, nat_lt, List, [], ◌∷◌, ◌++◌, map}
+use Rattle.packet.specs.declared.packet.Packet.{Packet}
+use Rattle.lists.specs.Lists.{has_id}
+use Rattle.client_base.specs.declared.kept_publication.KeptPublication.{KeptPublication}
+use Rattle.client_base.specs.State.{ClientState, is_open, is_online}
+use Rattle.client_base.specs.Keeper.{Own, Written, Connection, Keeper}
+
+-- ---- what is kept of all that was published
+
+abbrev pub sent_of : List Own → List KeptPublication
+sent_of (Own.Sent k p id ∷ own) = record { id = id; publication = p } ∷ sent_of own
+sent_of (_ ∷ own) = sent_of own
+sent_of [] = []
+
+abbrev pub unsent_of : List Own → List KeptPublication
+unsent_of (Own.Unsent k p id ∷ own) = record { id = id; publication = p } ∷ unsent_of own
+unsent_of (_ ∷ own) = unsent_of own
+unsent_of [] = []
+
+abbrev pub released_of : List Own → List ℕ
+released_of (Own.Released k p id ∷ own) = id ∷ released_of own
+released_of (_ ∷ own) = released_of own
+released_of [] = []
+
+-- behind one that was not sent, none was
+abbrev pub IsSentFirst : List Own → Type 0
+IsSentFirst (Own.Unsent k p id ∷ own) = (sent_of own ≡ []) × IsSentFirst own
+IsSentFirst (_ ∷ own) = IsSentFirst own
+IsSentFirst [] = Unit {0}
+
+-- ---- what stands for what
+
+pub record StandsFor (keeper : Keeper) (state : ClientState) : Type 0 where
+  pub client : state.client ≡ keeper.client
+  pub released : state.released ≡ keeper.releases
+  pub sent : state.sent ≡ sent_of keeper.own
+  pub unsent : state.unsent ≡ unsent_of keeper.own
+  pub received : (id : ℕ) → has_id id state.received ≡ has_id id keeper.received
+  pub requests : state.requests ≡ keeper.requests
+  pub is_open : is_open state.stage ≡ keeper.is_open
+  pub is_online : is_online state.stage ≡ keeper.is_online
+  pub was_served : nat_lt 0 state.session ≡ keeper.was_served
+  -- of the history alone
+  pub releases_are : (id : ℕ) → has_id id keeper.releases ≡ has_id id (released_of keeper.own)
+  pub sent_first : IsSentFirst keeper.own
+  pub online_sent : keeper.is_online ≡ true → unsent_of keeper.own ≡ []
+
+-- what was written more on a connection is, packet by packet, what the step writes
+abbrev pub WritesMore : {Name : Type 0} → Connection Name → Connection Name → List Packet → Type 0
+WritesMore before after packets =
+    (more : List Written) × (after.written ≡ before.written ++ more) × (map (λ written. written.packet) more ≡ packets)

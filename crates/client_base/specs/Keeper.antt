@@ -1,0 +1,68 @@
+-- A client with its history: all that it published, and what it wrote on which connection (MQTT 4.3, 4.4).
+use Rattle.std.specs.Prelude.{ℕ, Bool, false, List, [], ◌∷◌, ◌++◌, map, Option}
+use Rattle.packet.specs.declared.packet.Packet.{Packet}
+use Rattle.session_base.specs.declared.publication.Publication.{Publication}
+use Rattle.client_base.specs.declared.request.Request.{Request}
+use Rattle.client_base.specs.State.{id_of_request}
+
+-- A publication of the client, with the number of its call and where it stands. One of QoS 0 is done at once.
+pub data Own : Type 0 where
+  Unsent : (number : ℕ) → (publication : Publication) → (id : ℕ) → Own
+  Sent : (number : ℕ) → (publication : Publication) → (id : ℕ) → Own
+  Released : (number : ℕ) → (publication : Publication) → (id : ℕ) → Own
+  Done : (number : ℕ) → (publication : Publication) → Own
+
+-- A packet that it wrote, and of which publication it is -- history: bytes do not say it.
+pub record Written : Type 0 where
+  pub packet : Packet
+  pub number : Option ℕ
+
+-- A connection that it opened: what it wrote on it, how much of that stands in the server's list of commands, how
+-- many packets it handled there, and what it accepted at QoS 2 -- history: no field keeps it.
+pub record Connection (Name : Type 0) : Type 0 where
+  pub name : Name
+  pub written : List Written
+  pub taken : ℕ
+  pub handled : ℕ
+  pub confirmed : Bool
+  pub accepted : List Publication
+
+-- The client: of its publications all, and of the rest what it keeps.
+pub record Keeper : Type 0 where
+  pub client : List ℕ
+  pub own : List Own  -- all that it published in the session that it knows, in order -- history: the done ones
+  pub releases : List ℕ  -- identifiers of the released ones, in the order of their PUBREC
+  pub requests : List Request
+  pub received : List ℕ  -- of QoS 2 publications that it accepted and has no PUBREL for
+  pub is_open : Bool
+  pub is_online : Bool  -- a CONNACK 0 came on the open connection
+  pub was_served : Bool  -- one came before
+
+abbrev pub new_keeper : List ℕ → Keeper
+new_keeper c =
+    record {
+      client = c;
+      own = [];
+      releases = [];
+      requests = [];
+      received = [];
+      is_open = false;
+      is_online = false;
+      was_served = false;
+    }
+
+abbrev pub ids_of_own : List Own → List ℕ
+ids_of_own (Own.Unsent k p id ∷ own) = id ∷ ids_of_own own
+ids_of_own (Own.Sent k p id ∷ own) = id ∷ ids_of_own own
+ids_of_own (Own.Released k p id ∷ own) = id ∷ ids_of_own own
+ids_of_own (Own.Done k p ∷ own) = ids_of_own own
+ids_of_own [] = []
+
+-- the identifiers that it uses
+abbrev pub ids_in_use : Keeper → List ℕ
+ids_in_use keeper = ids_of_own keeper.own ++ map id_of_request keeper.requests
+
+-- the client's side of one connection
+pub record Side (Name : Type 0) : Type 0 where
+  pub keeper : Keeper
+  pub connection : Connection Name

@@ -1,0 +1,26 @@
+-- What is accepted at QoS 2 is accepted once for each identifier kept (MQTT 4.3.3).
+use Rattle.std.specs.Prelude.{◌≡◌, ℕ, Bool, true, false, ◌⊎◌}
+use Rattle.packet.specs.declared.connack.Connack.TheVariants as connacks
+use Rattle.packet.specs.declared.delivery.Delivery.TheVariants as deliveries
+use Rattle.packet.specs.declared.publish.Publish.{Publish}
+use Rattle.packet.specs.declared.packet.Packet.TheVariants as packets
+use Rattle.lists.specs.Lists.{has_id}
+use Rattle.client_base.specs.State.{ClientState}
+use Rattle.client_base.specs.Answered.{on_publish, accepting}
+use Rattle.client_base.specs.Steps.{Call, keeper_step}
+
+-- Under an identifier that is kept nothing is accepted; under another the publication is, and it is kept then.
+abbrev pub AcceptsUnlessKept : Type 0
+AcceptsUnlessKept =
+    (p : Publish) (dup : Bool) (id : ℕ) (state : ClientState) →
+    let after = (on_publish p (deliveries.ExactlyOnce dup id) state).state in
+    (has_id id state.received ≡ true → after ≡ state)
+    × (has_id id state.received ≡ false → after.accepted ≡ (accepting p state).accepted)
+    × (has_id id after.received ≡ true)
+
+-- It stays kept until its PUBREL comes, or a CONNACK 0 without a session.
+abbrev pub StaysKept : Type 0
+StaysKept =
+    (id : ℕ) (call : Call) (state : ClientState) → has_id id state.received ≡ true →
+    (has_id id (keeper_step call state).state.received ≡ true)
+    ⊎ ((call ≡ Call.Receives (packets.Pubrel id)) ⊎ (call ≡ Call.Receives (packets.Connack (connacks.Accepted false))))

@@ -1,0 +1,12 @@
+pub mod Numbers
+pub mod State
+pub mod Answered
+pub mod Calls
+pub mod Steps
+pub mod Laws
+pub mod Keeper
+pub mod Written
+pub mod Handled
+pub mod Called
+pub mod History
+pub mod HistoryLaws

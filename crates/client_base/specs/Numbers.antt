@@ -1,0 +1,15 @@
+-- The numbers of what a client refuses.
+use Rattle.std.specs.Prelude.{ℕ}
+use Rattle.topics.specs.Malformed.{number_of}
+use Rattle.client_base.specs.declared.error.ClientError.{ClientError}
+use Rattle.client_base.specs.declared.error.ClientError.TheVariants as errors
+
+-- as they stand in the table of refusals
+abbrev pub client_number : ClientError → ℕ
+client_number errors.NotActive = 18
+client_number errors.WindowFull = 22
+client_number errors.TooLarge = 4
+client_number errors.SessionLost = 23
+client_number errors.Protocol = 11
+client_number (errors.Malformed kind) = number_of kind
+client_number errors.Memory = 12

@@ -1,0 +1,96 @@
+-- What a client keeps, over its connections (MQTT 4.1, 4.3, 4.4).
+use Rattle.std.specs.Prelude.{ℕ, ◌+◌, Bool, true, false, List, [], ◌++◌, length, map}
+use Rattle.packet.specs.declared.packet.Packet.{Packet}
+use Rattle.packet.specs.declared.packet.Packet.TheVariants as packets
+use Rattle.session_base.specs.Publication.{publish_of}
+use Rattle.client_base.specs.declared.accepted.Accepted.{Accepted}
+use Rattle.client_base.specs.declared.kept_publication.KeptPublication.{KeptPublication}
+use Rattle.client_base.specs.declared.request.Request.{Request}
+use Rattle.client_base.specs.declared.request.Request.TheVariants as requests
+use Rattle.client_base.specs.declared.stage.Stage.{Stage}
+use Rattle.client_base.specs.declared.stage.Stage.TheVariants as stages
+
+-- A client between two calls. Its kept publications are the released, the sent and the unsent ones, in this order.
+pub record ClientState : Type 0 where
+  pub client : List ℕ  -- its Client Identifier
+  pub keep_alive : ℕ  -- in seconds
+  pub released : List ℕ  -- identifiers of those that had their PUBREC, in the order of these
+  pub sent : List KeptPublication  -- in the order of their calls, as the next ones
+  pub unsent : List KeptPublication  -- published while it was offline
+  pub received : List ℕ  -- of QoS 2 publications that it accepted and has no PUBREL for
+  pub requests : List Request  -- not answered yet
+  pub stage : Stage
+  pub session : ℕ  -- its number, 0 before the first CONNACK 0
+  pub present : Bool  -- session present of the last CONNACK 0
+  pub accepted : List Accepted  -- not taken out yet
+
+-- a client that never was connected
+abbrev pub new_client : List ℕ → ℕ → ClientState
+new_client client keep_alive =
+    record {
+      client = client;
+      keep_alive = keep_alive;
+      released = [];
+      sent = [];
+      unsent = [];
+      received = [];
+      requests = [];
+      stage = stages.Closed;
+      session = 0;
+      present = false;
+      accepted = [];
+    }
+
+abbrev pub is_open : Stage → Bool
+is_open stages.Closed = false
+is_open stages.Opened = true
+is_open stages.Online = true
+
+abbrev pub is_online : Stage → Bool
+is_online stages.Closed = false
+is_online stages.Opened = false
+is_online stages.Online = true
+
+-- how many publications it keeps
+abbrev pub kept_count : ClientState → ℕ
+kept_count state = length state.released + length state.sent + length state.unsent
+
+-- ---- identifiers (MQTT 2.3.1)
+
+abbrev pub id_of_request : Request → ℕ
+id_of_request (requests.Subscribes id) = id
+id_of_request (requests.Unsubscribes id) = id
+
+abbrev pub ids_of_kept : List KeptPublication → List ℕ
+ids_of_kept = map (λ kept. kept.id)
+
+-- the identifiers of its publications
+abbrev pub publication_ids : ClientState → List ℕ
+publication_ids state = state.released ++ ids_of_kept state.sent ++ ids_of_kept state.unsent
+
+-- those of its requests
+abbrev pub request_ids : ClientState → List ℕ
+request_ids state = map id_of_request state.requests
+
+-- all that it uses: publications and requests draw from one pool
+abbrev pub used_ids : ClientState → List ℕ
+used_ids state = publication_ids state ++ request_ids state
+
+-- ---- what is kept goes out again (MQTT 4.4)
+
+-- the PUBLISH of a kept publication, with this DUP
+abbrev pub publish_kept : Bool → KeptPublication → Packet
+publish_kept dup kept = packets.Publish (publish_of dup kept.id kept.publication)
+
+-- behind a CONNACK 0: PUBREL for what is released, PUBLISH with DUP 1 for what was sent, then what was not
+abbrev pub resent : ClientState → List Packet
+resent state =
+    map packets.Pubrel state.released
+    ++ map (publish_kept true) state.sent
+    ++ map (publish_kept false) state.unsent
+
+-- ---- the end of a connection
+
+-- it ends: requests are given up, all else stays
+abbrev pub lost : ClientState → ClientState
+lost state = record state { requests = []; stage = stages.Closed }

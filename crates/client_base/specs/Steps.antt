@@ -1,0 +1,74 @@
+-- The keeper's step: one call of a client, or one packet of the server (MQTT 3, 4.3, 4.4).
+use Rattle.std.specs.Prelude.{ℕ, not, if◌then◌else◌, List, [], ◌∷◌, ◌++◌, Option, Some, None}
+use Rattle.packet.specs.declared.qos.QoS.{QoS}
+use Rattle.packet.specs.declared.packet.Packet.{Packet}
+use Rattle.packet.specs.declared.packet.Packet.TheVariants as packets
+use Rattle.session_base.specs.declared.publication.Publication.{Publication}
+use Rattle.client_base.specs.declared.error.ClientError.{ClientError}
+use Rattle.client_base.specs.declared.error.ClientError.TheVariants as errors
+use Rattle.client_base.specs.declared.request.Request.{Request}
+use Rattle.client_base.specs.declared.request.Request.TheVariants as requests
+use Rattle.client_base.specs.declared.stage.Stage.{Stage}
+use Rattle.client_base.specs.declared.stage.Stage.TheVariants as stages
+use Rattle.client_base.specs.State.{ClientState, is_online, lost}
+use Rattle.client_base.specs.Answered.{Turn, going_on}
+use Rattle.client_base.specs.Calls.{refused, opened, received, next_id, has_free_id, publish_refusal, published}
+
+-- ---- requests (MQTT 3.8, 3.10)
+
+-- why a request is refused
+abbrev pub request_refusal : ClientState → Option ClientError
+request_refusal state =
+    if not (is_online state.stage) then Some errors.NotActive else
+    if not (has_free_id state) then Some errors.WindowFull else None
+
+-- it is under way until its answer comes
+abbrev pub asked : Request → Packet → ClientState → Turn
+asked request packet state = going_on (record state { requests = state.requests ++ request ∷ [] }) (packet ∷ [])
+
+abbrev pub subscribed : List ℕ → QoS → ClientState → Turn
+subscribed filter qos state =
+    asked (requests.Subscribes (next_id state))
+    (packets.Subscribe (record { id = next_id state; filters = record { filter = filter; qos = qos } ∷ [] })) state
+
+abbrev pub unsubscribed : List ℕ → ClientState → Turn
+unsubscribed filter state =
+    asked (requests.Unsubscribes (next_id state))
+    (packets.Unsubscribe (record { id = next_id state; filters = filter ∷ [] })) state
+
+-- ---- the end of a connection
+
+-- DISCONNECT goes out where the client is online (MQTT 3.14)
+abbrev pub disconnected : Stage → ClientState → Turn
+disconnected stages.Closed state = refused errors.NotActive state
+disconnected stages.Opened state = going_on (lost state) []
+disconnected stages.Online state = going_on (lost state) (packets.Disconnect ∷ [])
+
+-- ---- the step
+
+pub data Call : Type 0 where
+  Opens : Call
+  Publishes : (publication : Publication) → Call
+  Subscribes : (filter : List ℕ) → (qos : QoS) → Call
+  Unsubscribes : (filter : List ℕ) → Call
+  Receives : (packet : Packet) → Call  -- a whole packet of the server
+  Loses : Call
+  Disconnects : Call
+
+abbrev pub unless_refused : Option ClientError → Turn → ClientState → Turn
+unless_refused (Some cause) turn state = refused cause state
+unless_refused None turn state = turn
+
+abbrev pub keeper_step : Call → ClientState → Turn
+keeper_step Call.Opens state = opened state
+keeper_step (Call.Publishes p) state = unless_refused (publish_refusal p state) (published p state) state
+keeper_step (Call.Subscribes filter qos) state = unless_refused (request_refusal state) (subscribed filter qos state) state
+keeper_step (Call.Unsubscribes filter) state = unless_refused (request_refusal state) (unsubscribed filter state) state
+keeper_step (Call.Receives packet) state = received packet state.stage state
+keeper_step Call.Loses state = going_on (lost state) []
+keeper_step Call.Disconnects state = disconnected state.stage state
+
+-- the state after these calls, the oldest first
+abbrev pub state_after : List Call → ClientState → ClientState
+state_after [] state = state
+state_after (call ∷ calls) state = state_after calls (keeper_step call state).state

@@ -1,0 +1,44 @@
+-- What a client with its history writes, and of which publication each packet is (MQTT 3.3, 4.4).
+use Rattle.std.specs.Prelude.{ℕ, Bool, true, false, List, [], ◌∷◌, ◌++◌, map, Some, None}
+use Rattle.packet.specs.declared.packet.Packet.{Packet}
+use Rattle.packet.specs.declared.packet.Packet.TheVariants as packets
+use Rattle.session_base.specs.declared.publication.Publication.{Publication}
+use Rattle.session_base.specs.Publication.{publish_of}
+use Rattle.client_base.specs.Keeper.{Own, Written, Connection, Keeper, Side}
+
+abbrev pub plain : Packet → Written
+plain packet = record { packet = packet; number = None }
+
+abbrev pub publishes : Bool → ℕ → ℕ → Publication → Written
+publishes dup number id p = record { packet = packets.Publish (publish_of dup id p); number = Some number }
+
+abbrev pub sent_again : List Own → List Written
+sent_again (Own.Sent k p id ∷ own) = publishes true k id p ∷ sent_again own
+sent_again (_ ∷ own) = sent_again own
+sent_again [] = []
+
+abbrev pub sent_first : List Own → List Written
+sent_first (Own.Unsent k p id ∷ own) = publishes false k id p ∷ sent_first own
+sent_first (_ ∷ own) = sent_first own
+sent_first [] = []
+
+-- behind a CONNACK 0: PUBREL for what is released, then PUBLISH with DUP 1 for what was sent, then what was not
+abbrev pub resent : Keeper → List Written
+resent keeper = map (λ id. plain (packets.Pubrel id)) keeper.releases ++ sent_again keeper.own ++ sent_first keeper.own
+
+abbrev pub sent_all : List Own → List Own
+sent_all (Own.Unsent k p id ∷ own) = Own.Sent k p id ∷ sent_all own
+sent_all (o ∷ own) = o ∷ sent_all own
+sent_all [] = []
+
+-- more is written on a connection
+abbrev pub writes : {Name : Type 0} → List Written → Connection Name → Connection Name
+writes more connection = record connection { written = connection.written ++ more }
+
+abbrev pub writing : {Name : Type 0} → List Written → Side Name → Side Name
+writing more side = record side { connection = writes more side.connection }
+
+-- on the connection that was opened last
+abbrev pub writes_first : {Name : Type 0} → List Written → List (Connection Name) → List (Connection Name)
+writes_first more (κ ∷ connections) = writes more κ ∷ connections
+writes_first more [] = []

@@ -1,0 +1,20 @@
+//! A client that keeps its side of the handshakes: what it keeps, and what each call and each
+//! packet of the server makes of it (MQTT 4.1, 4.3, 4.4).
+#![tactic(auto)]
+
+mod accepted;
+mod error;
+mod kept_publication;
+mod laws;
+mod request;
+mod stage;
+
+pub use accepted::Accepted;
+pub use error::ClientError;
+pub use kept_publication::KeptPublication;
+pub use laws::{accepted_once_an_identifier, history_is_followed};
+pub use request::Request;
+pub use stage::Stage;
+
+#[cfg(test)]
+mod tests;

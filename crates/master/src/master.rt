@@ -1,0 +1,118 @@
+// Who gives ballots their configurations, and makes them active.
+
+ghost use Rattle.std.specs.Prelude.{◌≡◌, ◌+◌, ◌≤◌, ◌↔◌, true, false, IfOk, OnOk, OnErr, IsErrOf, if◌then◌else◌};
+ghost use Rattle.agreement.specs.MasterState.{activating, assigning, is_granted, last_ballot, opening_master};
+ghost use Rattle.ballot.specs.LawfulConfig.{is_lawful};
+
+use crate::activation::Activation;
+use crate::error::AssignError;
+use ballot::{Config, Members};
+use std::marker::Model;
+
+/// The last ballot that can be given.
+pub const LAST_BALLOT: u64 = 1 << 32;
+
+/// The active ballot with its members, and at most one ballot that waits to be activated. None of
+/// its calls takes memory.
+#[derive(Drop)]
+pub struct Master {
+    active: u64,
+    members: Members,
+    waiting: Option<(u64, Config)>,
+    given: u64,
+}
+
+impl Model for Master {
+    ghost use Rattle.std.specs.Prelude.{◌≤◌};
+    ghost use Rattle.agreement.specs.MasterState.{MasterState, last_ballot};
+
+    ghost Value = { MasterState };
+
+    ghost view = { λ m.
+        record {
+          active = m.active;
+          members = m.members;
+          waiting = m.waiting;
+          given = m.given;
+        } };
+
+    ghost invariant = { λ m. m.given ≤ last_ballot };
+}
+
+impl Master {
+    /// A master whose ballot 1 is active with these members. [`AssignError::BadMembers`] is its
+    /// only error.
+    pub fn new(config: Config) -> Result<Master, AssignError>
+        ensures ok { IfOk result (λ master. master ≡ opening_master config) }
+        ensures bad { IsErrOf result AssignError.BadMembers
+            ↔ (is_lawful config.members config.primary ≡ false) }
+        ensures spent { IsErrOf result AssignError.BallotsSpent → ⊥ }
+    {
+        if !config.is_lawful() {
+            return Err(AssignError::BadMembers);
+        }
+        Ok(Master {
+            active: 1,
+            members: config.members,
+            waiting: None,
+            given: 1,
+        })
+    }
+
+    /// Gives the next ballot to a configuration and lets it wait. A ballot that waited is put out
+    /// for good. The new ballot is the result.
+    pub fn assign(&mut self, config: Config) -> Result<u64, AssignError>
+        ensures ok { IfOk result (λ ballot. ballot ≡ self.old.given + 1) }
+        ensures state { OnOk result (self.new ≡ assigning self.old config) }
+
+        // Bad members are named first.
+        ensures bad { IsErrOf result AssignError.BadMembers
+            ↔ (is_lawful config.members config.primary ≡ false) }
+        ensures spent { IsErrOf result AssignError.BallotsSpent
+            ↔ ((is_lawful config.members config.primary ≡ true) × (last_ballot ≤ self.old.given)) }
+        ensures same { OnErr result (self.new ≡ self.old) }
+    {
+        if !config.is_lawful() {
+            return Err(AssignError::BadMembers);
+        }
+        if self.given >= LAST_BALLOT {
+            return Err(AssignError::BallotsSpent);
+        }
+        self.given += 1;
+        self.waiting = Some((self.given, config));
+        Ok(self.given)
+    }
+
+    /// Makes the ballot that waits the active one. For the active ballot the answer is
+    /// [`Activation::Activated`] again; for every other it is [`Activation::Superseded`], and
+    /// nothing changes.
+    pub fn activate(&mut self, ballot: u64) -> Activation
+        ensures state { self.new ≡ activating self.old ballot self.old.waiting }
+        ensures answer { result ≡ (if is_granted self.old ballot self.old.waiting
+            then Activation.Activated else Activation.Superseded) }
+    {
+        match self.waiting.take() {
+            Some((waiting, config)) if waiting == ballot => {
+                self.active = ballot;
+                self.members = config.members;
+                Activation::Activated
+            }
+            other => {
+                self.waiting = other;
+                if ballot == self.active {
+                    Activation::Activated
+                } else {
+                    Activation::Superseded
+                }
+            }
+        }
+    }
+
+    /// The active ballot and its members.
+    pub fn active(&self) -> (u64, &[u8])
+        ensures ballot { result.0 ≡ self.now.active }
+        ensures members { result.1.now ≡ self.now.members }
+    {
+        (self.active, self.members.as_slice())
+    }
+}

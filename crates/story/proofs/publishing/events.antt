@@ -1,0 +1,10 @@
+pub mod Takes
+pub mod TakesConnect
+pub mod TakesOwn
+pub mod TakesPacket
+pub mod TakesPublish
+pub mod TakesTwo
+pub mod Others
+pub mod Publishing
+pub mod PublishesOne
+pub mod Receives

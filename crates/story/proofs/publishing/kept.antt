@@ -1,0 +1,13 @@
+pub mod KeepsAnswers
+pub mod KeepsCalls
+pub mod KeepsCounts
+pub mod KeepsNames
+pub mod KeepsNobody
+pub mod KeepsOwn
+pub mod KeepsPackets
+pub mod KeepsRows
+pub mod Fewer
+pub mod MoreOwn
+pub mod NewItem
+pub mod Numbered
+pub mod Numbers

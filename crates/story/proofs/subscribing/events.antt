@@ -1,0 +1,13 @@
+pub mod Takes
+pub mod TakesConnect
+pub mod Connects
+pub mod OtherConnects
+pub mod OthersTake
+pub mod Others
+pub mod OwnPacket
+pub mod Every
+pub mod Receiving
+pub mod Handling
+pub mod Received
+pub mod Opening
+pub mod Leaving

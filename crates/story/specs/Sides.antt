@@ -1,0 +1,11 @@
+-- A client's connections, by the names that the broker knows them by.
+use Rattle.broker_base.specs.Connection.{ConnectionName}
+use Rattle.client_base.specs.Keeper as keeper
+
+-- a connection that the client opened, with what it wrote and took in on it
+abbrev pub Connection : Type 0
+Connection = keeper.Connection ConnectionName
+
+-- the client's side of one connection
+abbrev pub Side : Type 0
+Side = keeper.Side ConnectionName

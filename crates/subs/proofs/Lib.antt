@@ -1,0 +1,1 @@
+pub use Rattle.subs_base.proofs.GrantsOneList
