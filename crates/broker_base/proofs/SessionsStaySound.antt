@@ -1,6 +1,19 @@
--- A step keeps each session sound: its identifiers in flight distinct, its released entries first.
-use Rattle.std.proofs.Common.{ℕ, Bool, true, false, not, ◌&&◌, ◌||◌, if◌then◌else◌, Option, Some, None, List, [], ◌∷◌}
+-- A step keeps each session sound: each filter once, received identifiers rising, those in flight distinct, released
+-- entries first, and a clean session connected.
+use Rattle.std.proofs.Common.{◌≡◌, ℕ, Bool, true, false, not, ◌&&◌, ◌||◌, if◌then◌else◌, Option, Some, None, List, [], ◌∷◌, map, refl}
+use Rattle.std.specs.Prelude.{is_some}
+use Rattle.std.specs.Ordering.{nat_cmp}
+use Rattle.std.specs.List.Sorted.{IsStrictlySortedBy}
+use Rattle.packet.specs.declared.delivery.Delivery.{Delivery}
+use Rattle.packet.specs.declared.delivery.Delivery.TheVariants as deliveries
 use Rattle.packet.specs.declared.packet.Packet.TheVariants as packets
+use Rattle.session_base.specs.Identifiers.{without_id}
+use Rattle.session_base.specs.Subscriptions.{HeldFilter, with_subscription, with_subscriptions, without_filter, without_filters}
+use Rattle.session_base.specs.KeepingLaws.{AreFiltersApart}
+use Rattle.session_base.proofs.FiltersApart.{filters_stay_apart}
+use Rattle.session_base.proofs.ReceivedRise.{received_rise}
+use Rattle.broker_model.specs.Subscriptions.{as_held, granted_of, subscribed}
+use Rattle.broker_model.specs.Received.{receives, received_by}
 use Rattle.retained.specs.Retained.{RetainedTopics}
 use Rattle.session_base.specs.declared.publication.Publication.{Publication}
 use Rattle.session_base.specs.Publication.{is_answered}
@@ -65,33 +78,92 @@ copied_fly : (w : ℕ) (connection : Option ConnectionName) (copies : List Publi
 copied_fly w (Some x) copies q h = copies_fly w copies q h
 copied_fly w None copies q h = h
 
+-- ---- filters and received identifiers
+
+granted_apart : (new held : List HeldFilter) → AreFiltersApart held → AreFiltersApart (with_subscriptions new held)
+granted_apart [] held h = h
+granted_apart (one ∷ more) held h = granted_apart more (with_subscription one held) ((filters_stay_apart held h).0 one)
+
+given_up_apart : (given_up : List (List ℕ)) (held : List HeldFilter) → AreFiltersApart held → AreFiltersApart (without_filters given_up held)
+given_up_apart [] held h = h
+given_up_apart (one ∷ more) held h = given_up_apart more (without_filter one held) ((filters_stay_apart held h).1 one)
+
+filters_if : (b : Bool) (held others : List HeldFilter) → AreFiltersApart held → AreFiltersApart others → AreFiltersApart (if b then held else others)
+filters_if true held others h k = h
+filters_if false held others h k = k
+
+subscribed_apart : (command : Command) (mark : Mark) (c : Client) (held : List HeldFilter) → AreFiltersApart held → AreFiltersApart (subscribed command mark c held)
+subscribed_apart (commands.Packet x (packets.Subscribe s)) (Mark.Granted d which) c held h =
+    filters_if (same_client d c) (with_subscriptions (map as_held (granted_of s.filters which)) held) held (granted_apart (map as_held (granted_of s.filters which)) held h) h
+subscribed_apart (commands.Packet x (packets.Unsubscribe u)) (Mark.Handled d) c held h =
+    filters_if (same_client d c) (without_filters u.filters held) held (given_up_apart u.filters held h) h
+subscribed_apart _ _ c held h = h
+
+abbrev pub Rises : List ℕ → Type 0
+Rises ids = IsStrictlySortedBy nat_cmp ids
+
+ids_if : (b : Bool) (ids others : List ℕ) → Rises ids → Rises others → Rises (if b then ids else others)
+ids_if true ids others h k = h
+ids_if false ids others h k = k
+
+delivery_rises : (delivery : Delivery) (ids : List ℕ) → Rises ids → Rises (receives delivery ids)
+delivery_rises (deliveries.ExactlyOnce dup id) ids h = (received_rise id ids h).0
+delivery_rises (deliveries.AtLeastOnce dup id) ids h = h
+delivery_rises deliveries.AtMostOnce ids h = h
+
+received_rises : (command : Command) (mark : Mark) (c : Client) (ids : List ℕ) → Rises ids → Rises (received_by command mark c ids)
+received_rises (commands.Packet x (packets.Publish p)) (Mark.Taken d) c ids h = ids_if (same_client d c) (receives p.delivery ids) ids (delivery_rises p.delivery ids h) h
+received_rises (commands.Packet x (packets.Pubrel id)) (Mark.Handled d) c ids h = ids_if (same_client d c) (without_id id ids) ids ((received_rise id ids h).1) h
+received_rises _ _ c ids h = h
+
 -- ---- a session
 
-sound_on : (w : ℕ) (place : Place) (content : RetainedTopics) (c : Client) (connection : Option ConnectionName) (old : ClientSession) → IsSoundSession old → IsSoundSession (kept_on w place content c connection old)
-sound_on w place content c connection old h =
+sound_on : (w : ℕ) (place : Place) (content : RetainedTopics) (c : Client) (connection : Option ConnectionName) (old : ClientSession) → (old.clean ≡ true → is_some connection ≡ true) → IsSoundSession old →
+    IsSoundSession (kept_on w place content c connection old)
+sound_on w place content c connection old served h =
     let k : Flies (kept_on w place content c connection old).state.queue.in_flight
     = copied_fly w connection (copies_with place.command place.mark content c old.state.subscriptions) (answered_queue w place.command place.mark c connection old.state.queue)
     (answer_flies w place.command place.mark c connection old.state.queue (h.identifiers, h.released_first)) in
-    record { identifiers = k.0; released_first = k.1 }
+    record {
+      filters = subscribed_apart place.command place.mark c old.state.subscriptions h.filters;
+      received = received_rises place.command place.mark c old.state.received h.received;
+      identifiers = k.0;
+      released_first = k.1;
+      served = served;
+    }
+
+sound_anew : (opened : ConnectionName × Bool) → IsSoundSession (kept_anew opened)
+unfolding IsStrictlySortedBy
+sound_anew opened = record { filters = tt; received = tt; identifiers = tt; released_first = tt; served = λ clean. refl }
 
 sound_connected : (w : ℕ) (opened : ConnectionName × Bool) (old : Option ClientSession) → If IsSoundSession old → IsSoundSession (kept_connected w opened old)
-sound_connected w opened None h = record { identifiers = tt; released_first = tt }
+sound_connected w opened None h = sound_anew opened
 sound_connected w opened (Some old) h =
     elim (opened.1 || old.clean) as (λ (b : Bool). IsSoundSession (if b then kept_anew opened else kept_resumed w opened old)) [
-      | true ↦ record { identifiers = tt; released_first = tt }
-      | false ↦ let k = filled_flies w old.state.queue.in_flight old.state.queue.waiting (h.identifiers, h.released_first) in record { identifiers = k.0; released_first = k.1 }
+      | true ↦ sound_anew opened
+      | false ↦
+          let k = filled_flies w old.state.queue.in_flight old.state.queue.waiting (h.identifiers, h.released_first) in
+          record { filters = h.filters; received = h.received; identifiers = k.0; released_first = k.1; served = λ clean. refl }
     ]
 
-sound_only : (b : Bool) (kept : ClientSession) → IsSoundSession kept → If IsSoundSession (only_if b (Some kept))
-sound_only true kept h = h
+sound_only : (b : Bool) (kept : ClientSession) → (b ≡ true → IsSoundSession kept) → If IsSoundSession (only_if b (Some kept))
+sound_only true kept h = h refl
 sound_only false kept h = tt
+
+-- a clean session that is kept keeps its connection
+still_served : (clean over : Bool) (connection : Option ConnectionName) → not (clean && over) ≡ true → (clean ≡ true → is_some connection ≡ true) →
+    clean ≡ true → is_some (only_if (not over) connection) ≡ true
+still_served true true connection kept h e = absurd (cc)
+still_served true false connection kept h e = h e
+still_served false over connection kept h e = absurd (cc)
 
 sound_by : (w : ℕ) (place : Place) (content : RetainedTopics) (c : Client) (opened : Option (ConnectionName × Bool)) (old : ClientSession) → IsSoundSession old →
     If IsSoundSession (kept_by w place content c opened (Some old))
 sound_by w place content c (Some opened) old h = sound_connected w opened (Some old) h
 sound_by w place content c None old h =
     sound_only (not (old.clean && ends_any place old.connection)) (kept_on w place content c (only_if (not (ends_any place old.connection)) old.connection) old)
-    (sound_on w place content c (only_if (not (ends_any place old.connection)) old.connection) old h)
+    (λ kept. sound_on w place content c (only_if (not (ends_any place old.connection)) old.connection) old
+    (still_served old.clean (ends_any place old.connection) old.connection kept h.served) h)
 
 sound_row : (w : ℕ) (place : Place) (content : RetainedTopics) (c : Client) (kept : ClientSession) → IsSoundSession kept → If IsSoundSession (session_after w place content c kept)
 sound_row w place content c kept h =

@@ -1,13 +1,15 @@
 -- What the sessions of a state meet, and a step keeps: a client once, a connection of one session at most, and
 -- what stands in each session.
-use Rattle.std.specs.Prelude.{◌≡◌, ℕ, ◌⊎◌, false, List, [], ◌∷◌, Some, None}
+use Rattle.std.specs.Prelude.{◌≡◌, ℕ, ◌⊎◌, true, false, List, [], ◌∷◌, Some, None, is_some}
 use Rattle.std.specs.List.{AllByRecursion}
 use Rattle.std.specs.List.Sorted.{IsStrictlySortedBy}
 use Rattle.std.specs.Map.{keys_of}
+use Rattle.std.specs.Ordering.{nat_cmp}
 use Rattle.session_base.specs.Queue.{ids_of}
 use Rattle.lists.specs.Lists.{IsDistinct}
 use Rattle.session_base.specs.Laws.{IsQuietQueue}
 use Rattle.session_base.specs.OrderLaws.{IsReleasedFirst}
+use Rattle.session_base.specs.KeepingLaws.{AreFiltersApart}
 use Rattle.broker_model.specs.Connection.{ConnectionName, same_connection}
 use Rattle.broker_model.specs.Place.{by_bytes, Limits}
 use Rattle.broker_model.specs.Past.{any_connection}
@@ -18,10 +20,14 @@ use Rattle.broker_model.specs.declared.command.Command.{Command}
 
 -- ---- one session
 
--- the identifiers in flight are distinct, and the released entries come first (MQTT 2.3.1, 4.4)
+-- Each filter stands once, received identifiers rise, those in flight are distinct, the released entries come first,
+-- and a clean session has a connection (MQTT 2.3.1, 3.1.2.4, 3.8.4, 4.4).
 pub record IsSoundSession (kept : ClientSession) : Type 0 where
+  pub filters : AreFiltersApart kept.state.subscriptions
+  pub received : IsStrictlySortedBy nat_cmp kept.state.received
   pub identifiers : IsDistinct (ids_of kept.state.queue.in_flight)
   pub released_first : IsReleasedFirst kept.state.queue.in_flight
+  pub served : kept.clean ≡ true → is_some kept.connection ≡ true
 
 -- a connected client's queue has nothing waiting, or its window is full
 abbrev pub HasQuietQueue : ℕ → ClientSession → Type 0

@@ -49,8 +49,8 @@ pub fn list_stands_for()
 {}
 
 /// A step keeps the sessions by the bytes of their clients, each connection that of one session at
-/// most, and identifiers in flight distinct behind the released ones; and it leaves each connected
-/// client's queue with nothing waiting or a full window where it was so.
+/// most, and each session in its form: filters and identifiers apart, released entries first, a clean
+/// one connected; and it leaves each connected client's queue with nothing waiting or a full window.
 pub fn states_stay_sound()
     ensures step { StaysSound }
     ensures quiet { StaysQuiet }

@@ -1,5 +1,5 @@
 -- At the place where it is taken, a publication enters exactly the sessions with an effective QoS of 1 or 2, once.
-use Rattle.std.proofs.Common.{◌≡◌, ℕ, ◌+◌, Bool, true, false, not, ◌&&◌, ◌==◌, if◌then◌else◌, List, [], ◌∷◌, ◌++◌, length, map, filter, Option, Some, None, refl, sym, ◌∙◌, ap, arith}
+use Rattle.std.proofs.Common.{◌≡◌, ℕ, Bool, true, false, ◌&&◌, ◌==◌, if◌then◌else◌, [], ◌∷◌, ◌++◌, length, map, Option, Some, None, refl, sym, ◌∙◌, ap, arith}
 use Rattle.std.specs.Prelude.{option_map}
 use Rattle.packet.specs.declared.qos.QoS.{QoS}
 use Rattle.packet.specs.declared.qos.QoS.TheVariants as levels
@@ -8,13 +8,12 @@ use Rattle.session_base.specs.declared.publication.Publication.{Publication}
 use Rattle.session_base.specs.Publication.{publication_of, lower_qos}
 use Rattle.session_base.specs.Subscriptions.{granted_qos}
 use Rattle.broker_model.specs.Connection.{ConnectionName, same_connection}
-use Rattle.broker_model.specs.Place.{Client, Place, Past, Limits}
+use Rattle.broker_model.specs.Place.{Client, Past, Limits}
 use Rattle.broker_model.specs.Past.{current_connection, session_of, begins, in_session, newest_session, ends_any}
 use Rattle.broker_model.specs.Subscriptions.{subscriptions_of, effective_qos}
 use Rattle.broker_model.specs.Marks.{is_queued_at}
 use Rattle.broker_model.specs.Entries.{Entry, copy_of, queued}
 use Rattle.broker_model.specs.Times.{entries_of, window_at, started}
-use Rattle.broker_model.specs.OriginLaws.{is_from_publish}
 use Rattle.broker_model.specs.EntryLaws.{taken, PublicationEnters}
 use Rattle.broker_model.proofs.EntersOnce.{times, times-started, times-more, none-yet, made-below, count}
 

@@ -1,5 +1,5 @@
 -- What becomes of a command, as the places below it decide (MQTT 3.1.4, 3.8.4, 4.3.3, 4.8).
-use Rattle.std.specs.Prelude.{ℕ, ◌-◌, Bool, true, false, not, ◌&&◌, ◌||◌, ◌==◌, nat_lt, nat_le, if◌then◌else◌, List, [], ◌∷◌, length, bytes_eq, Option, Some, None, is_some}
+use Rattle.std.specs.Prelude.{ℕ, ◌-◌, Bool, true, false, not, ◌&&◌, ◌||◌, ◌==◌, nat_lt, nat_le, if◌then◌else◌, List, [], ◌∷◌, length, Option, Some, None, is_some}
 use Rattle.std.specs.List.{list_any}
 use Rattle.packet.specs.declared.qos.QoS.{QoS}
 use Rattle.packet.specs.declared.subscribe.Subscription.{Subscription}
@@ -11,7 +11,7 @@ use Rattle.broker_model.specs.Past.{session_of}
 use Rattle.broker_model.specs.Owner.{clients, owner_of}
 use Rattle.session_base.specs.declared.publication.Publication.{Publication}
 use Rattle.session_base.specs.Publication.{publication_of, is_answered}
-use Rattle.session_base.specs.Subscriptions.{HeldFilter, with_subscription}
+use Rattle.session_base.specs.Subscriptions.{HeldFilter, is_held, with_subscription}
 use Rattle.broker_model.specs.Subscriptions.{as_held, subscriptions_of, effective_qos}
 use Rattle.broker_model.specs.Received.{is_repeat}
 use Rattle.broker_model.specs.Retained.{retained_publications, is_retained_over}
@@ -40,7 +40,7 @@ is_refused limits past p = list_any (lacks_room limits past p) (clients past) ||
 -- whether one more filter would be a subscription too many: an identical one is only replaced
 abbrev pub is_one_too_many : Limits → List HeldFilter → Subscription → Bool
 is_one_too_many limits held new =
-    not (list_any (λ old. bytes_eq new.filter old.0) held) && nat_le limits.subscriptions (length held)
+    not (is_held new.filter held) && nat_le limits.subscriptions (length held)
 
 -- how many entries it makes: the retained publications that it is sent at QoS 1 or 2
 abbrev pub entries_for : RetainedTopics → Subscription → ℕ

@@ -19,7 +19,9 @@ use Rattle.subs.specs.Content.{Content}
 use Rattle.subs.specs.Granted.{Row, clients_of, IsGreatest, IsGranted, row_of}
 use Rattle.subs.proofs.GrantsOneList.{one_list}
 use Rattle.broker_rows.specs.Published.{granted_rows}
-use Rattle.broker_rows.specs.Indexed.{AreFiltersApart, AllFiltersApart, subscribed_in, content_in}
+use Rattle.broker_rows.specs.Indexed.{subscribed_in, content_in}
+use Rattle.session_base.specs.KeepingLaws.{AreFiltersApart}
+use Rattle.broker_base.specs.StateLaws.{AllSound}
 use Rattle.broker_rows.proofs.FindsEach.{Finds, finds_each}
 use Rattle.broker_rows.proofs.GreatestGranted.{reaches, comes}
 
@@ -61,7 +63,7 @@ is_greatest topic look c kept q found apart granted = record {
 }
 
 -- of all sessions, with any look-up that finds each
-all_greatest : (topic : List ℕ) (look : Client → Option ClientSession) (rows : Sessions) → Finds look rows → AllFiltersApart rows →
+all_greatest : (topic : List ℕ) (look : Client → Option ClientSession) (rows : Sessions) → Finds look rows → AllSound rows →
     All (λ row. IsGreatest (λ client filter. subscribed_in filter (look client)) topic row.0 row.1) (granted_rows topic rows)
 all_greatest topic look [] finds apart = All-nil (λ row. IsGreatest (λ client filter. subscribed_in filter (look client)) topic row.0 row.1)
 all_greatest topic look (row ∷ rows) finds apart =
@@ -70,7 +72,7 @@ all_greatest topic look (row ∷ rows) finds apart =
       | None ↦ λ e. all_greatest topic look rows finds.1 apart.1
       | Some q ↦ λ e.
           All-cons (λ row. IsGreatest (λ client filter. subscribed_in filter (look client)) topic row.0 row.1) (row.0, q) (granted_rows topic rows)
-          (is_greatest topic look row.0 row.1 q finds.0 apart.0 e) (all_greatest topic look rows finds.1 apart.1)
+          (is_greatest topic look row.0 row.1 q finds.0 apart.0.filters e) (all_greatest topic look rows finds.1 apart.1)
     ] refl
 
 -- ---- each client with a matching filter has a row
@@ -99,7 +101,7 @@ complete topic (row ∷ rows) c f q found is =
 -- ---- what the index grants
 
 -- the rows of the sessions that match
-pub sessions_grant : (topic : List ℕ) (sessions : Sessions) → AreByClient sessions → AllFiltersApart sessions → IsGranted (content_in sessions) topic (granted_rows topic sessions)
+pub sessions_grant : (topic : List ℕ) (sessions : Sessions) → AreByClient sessions → AllSound sessions → IsGranted (content_in sessions) topic (granted_rows topic sessions)
 sessions_grant topic sessions by_client apart = record {
   rising = rising topic sessions by_client;
   greatest = all_greatest topic (λ c. session_in c sessions) sessions (finds_each sessions by_client) apart;
@@ -107,7 +109,7 @@ sessions_grant topic sessions by_client apart = record {
 }
 
 -- so the rows that it grants are those, and no others
-pub rows_are : (content : Content) (topic : List ℕ) (sessions : Sessions) (rows : List Row) → AreByClient sessions → AllFiltersApart sessions →
+pub rows_are : (content : Content) (topic : List ℕ) (sessions : Sessions) (rows : List Row) → AreByClient sessions → AllSound sessions →
     content ≡ content_in sessions → IsGranted content topic rows → rows ≡ granted_rows topic sessions
 rows_are content topic sessions rows by_client apart holds granted =
     one_list (content_in sessions) topic rows (granted_rows topic sessions)

@@ -3,12 +3,14 @@ use Rattle.std.proofs.Common.{◌≡◌, ℕ, ◌≤◌, true, false, cond, List
 use Rattle.std.specs.Prelude.{bytes_eq}
 use Rattle.std.specs.Cmp.Lexicographic.{bytes_decides}
 use Rattle.std.proofs.lemmas.Bool.Decides.{nat_tests}
+use Rattle.std.proofs.lemmas.Bool.{or_parts}
 use Rattle.topics.specs.Matching.{is_match}
 use Rattle.packet.specs.declared.qos.QoS.{QoS}
 use Rattle.packet.specs.QoS.{qos_number}
 use Rattle.session_base.specs.Publication.{greater_qos}
-use Rattle.session_base.specs.Subscriptions.{HeldFilter, granted_qos}
-use Rattle.broker_rows.specs.Indexed.{qos_at, AreFiltersApart}
+use Rattle.session_base.specs.Subscriptions.{HeldFilter, is_held, granted_qos}
+use Rattle.broker_rows.specs.Indexed.{qos_at}
+use Rattle.session_base.specs.KeepingLaws.{AreFiltersApart}
 
 -- ---- the greater of two
 
@@ -73,6 +75,12 @@ at_behind s others f p apart found =
       | false ↦ λ t. found
     ] refl
 
+-- a filter that is not held has no QoS
+none_held : (f : List ℕ) (held : List HeldFilter) → is_held f held ≡ false → qos_at f held ≡ None
+none_held f [] e = refl
+none_held f (old ∷ others) e =
+    let parts = or_parts (bytes_eq f old.0) (is_held f others) e in rw (parts.0) (none_held f others parts.1)
+
 -- what is granted is the QoS of a matching filter
 pub comes : (topic : List ℕ) (held : List HeldFilter) (p : QoS) → AreFiltersApart held → granted_qos topic held ≡ Some p →
     (f : List ℕ) × (qos_at f held ≡ Some p) × (is_match f topic ≡ true)
@@ -80,7 +88,7 @@ comes topic [] p apart is = absurd (cc)
 comes topic (s ∷ others) p apart is =
     let Goal : Type 0 = (f : List ℕ) × (qos_at f (s ∷ others) ≡ Some p) × (is_match f topic ≡ true) in
     let further : granted_qos topic others ≡ Some p → Goal =
-    λ e. let h = comes topic others p apart.1 e in (h.0, at_behind s others h.0 p apart.0 h.1, h.2) in
+    λ e. let h = comes topic others p apart.1 e in (h.0, at_behind s others h.0 p (none_held s.0 others apart.0) h.1, h.2) in
     elim (is_match s.0 topic) as (λ v. is_match s.0 topic ≡ v → cond v (Some (greater_qos s.1 (granted_qos topic others))) (granted_qos topic others) ≡ Some p → Goal) [
       | true ↦ λ t e.
           elim (greater_cases s.1 (granted_qos topic others)) as (λ _. Goal) [

@@ -1,5 +1,5 @@
 -- What an index of the sessions' subscriptions shows.
-use Rattle.std.specs.Prelude.{◌≡◌, ℕ, if◌then◌else◌, List, [], ◌∷◌, bytes_eq, Option, Some, None}
+use Rattle.std.specs.Prelude.{ℕ, if◌then◌else◌, List, [], ◌∷◌, bytes_eq, Option, Some, None}
 use Rattle.packet.specs.declared.qos.QoS.{QoS}
 use Rattle.session_base.specs.Subscriptions.{HeldFilter}
 use Rattle.broker_base.specs.ClientSession.{ClientSession}
@@ -10,16 +10,6 @@ use Rattle.subs.specs.Content.{Content}
 abbrev pub qos_at : List ℕ → List HeldFilter → Option QoS
 qos_at filter (held ∷ others) = if bytes_eq filter held.0 then Some held.1 else qos_at filter others
 qos_at filter [] = None
-
--- no filter is subscribed twice
-abbrev pub AreFiltersApart : List HeldFilter → Type 0
-AreFiltersApart (held ∷ others) = (qos_at held.0 others ≡ None) × AreFiltersApart others
-AreFiltersApart [] = Unit {0}
-
--- in none of the sessions
-abbrev pub AllFiltersApart : Sessions → Type 0
-AllFiltersApart (row ∷ rows) = AreFiltersApart row.1.state.subscriptions × AllFiltersApart rows
-AllFiltersApart [] = Unit {0}
 
 -- the subscription of this filter in a session that there may be
 abbrev pub subscribed_in : List ℕ → Option ClientSession → Option QoS

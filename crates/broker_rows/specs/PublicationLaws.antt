@@ -11,16 +11,16 @@ use Rattle.broker_base.specs.Connection.{ConnectionName}
 use Rattle.broker_base.specs.Place.{Client, Limits}
 use Rattle.broker_base.specs.EntryLaws.{taken}
 use Rattle.broker_base.specs.State.{Sessions, session_in}
-use Rattle.broker_base.specs.StateLaws.{AreByClient}
+use Rattle.broker_base.specs.StateLaws.{AllSound, AreByClient}
 use Rattle.broker_base.specs.Decisions.{has_no_room_for}
 use Rattle.broker_base.specs.StepAnswers.{copies_answered}
-use Rattle.broker_rows.specs.Indexed.{AllFiltersApart, content_in}
+use Rattle.broker_rows.specs.Indexed.{content_in}
 use Rattle.broker_rows.specs.Published.{granted_rows, is_full_at, copy_answered}
 
 -- the rows that an index grants, where it holds the sessions' subscriptions, are the sessions that match
 abbrev pub GrantedRowsMatch : Type 0
 GrantedRowsMatch =
-    (content : Content) → (topic : List ℕ) → (sessions : Sessions) → (rows : List Row) → AreByClient sessions → AllFiltersApart sessions →
+    (content : Content) → (topic : List ℕ) → (sessions : Sessions) → (rows : List Row) → AreByClient sessions → AllSound sessions →
     content ≡ content_in sessions → IsGranted content topic rows → rows ≡ granted_rows topic sessions
 
 -- a session lacks room for a publication exactly where a granted one does

@@ -1,5 +1,4 @@
 pub mod Errors
-pub mod Filters
 pub mod Inside
 pub use Rattle.session_base.specs.Session
 pub use Rattle.session_base.specs.Queue

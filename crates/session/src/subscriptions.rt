@@ -1,9 +1,8 @@
 // The subscriptions of a session (MQTT 3.8.4, 3.10.4).
 
 ghost use Rattle.std.specs.Prelude.{◌≡◌, [], OnOk, OnErr, length};
-ghost use Rattle.session_base.specs.Subscriptions.{with_subscription, without_filter, granted_qos};
+ghost use Rattle.session_base.specs.Subscriptions.{is_held, with_subscription, without_filter, granted_qos};
 ghost use Rattle.session_base.specs.Publication.{greater_qos};
-ghost use Rattle.session.specs.Filters.{is_held};
 ghost use Rattle.session.specs.Inside.{place_of};
 
 use packet::QoS;

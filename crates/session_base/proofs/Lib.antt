@@ -6,4 +6,6 @@ pub mod OrderInFlight
 pub mod CopiesOneByOne
 pub mod PubrecAlone
 pub mod IdentifiersStayApart
+pub mod FiltersApart
+pub mod ReceivedRise
 pub mod KeptIdentifiers

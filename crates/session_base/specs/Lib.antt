@@ -6,3 +6,4 @@ pub mod Session
 pub mod Sending
 pub mod Laws
 pub mod OrderLaws
+pub mod KeepingLaws

@@ -1,5 +1,6 @@
 -- The subscriptions of a session, and at which QoS it gets a publication (MQTT 3.3.5, 3.8.4, 3.10.4).
-use Rattle.std.specs.Prelude.{ℕ, not, if◌then◌else◌, List, [], ◌∷◌, filter, bytes_eq, Option, Some, None}
+use Rattle.std.specs.Prelude.{ℕ, Bool, not, if◌then◌else◌, List, [], ◌∷◌, filter, bytes_eq, Option, Some, None}
+use Rattle.std.specs.List.{list_any}
 use Rattle.topics.specs.Matching.{is_match}
 use Rattle.packet.specs.declared.qos.QoS.{QoS}
 use Rattle.session_base.specs.Publication.{greater_qos}
@@ -7,6 +8,10 @@ use Rattle.session_base.specs.Publication.{greater_qos}
 -- a filter of a session, with the QoS at which it was granted last
 abbrev pub HeldFilter : Type 0
 HeldFilter = List ℕ × QoS
+
+-- whether a filter is held, compared character by character
+abbrev pub is_held : List ℕ → List HeldFilter → Bool
+is_held filter = list_any (λ held. bytes_eq filter held.0)
 
 -- an identical filter takes the new QoS in its place, and a new one comes last (MQTT 3.8.4)
 abbrev pub with_subscription : HeldFilter → List HeldFilter → List HeldFilter

@@ -2,6 +2,7 @@
 
 ghost use Rattle.session_base.specs.Laws.{IsLeastFree, FillKeepsApart, FillIsDone, FillStaysWithin, FillKeepsOrder, FillSendsWhatStarts, FillsJoin, CopiesAreOneFill};
 ghost use Rattle.session_base.specs.OrderLaws.{AnswersKeepApart, OtherAnswersChangeNothing, SecondPubrecChangesNothing, ReleasedComesLast, KeepsReleasedFirst, ResendsInOrder};
+ghost use Rattle.session_base.specs.KeepingLaws.{FiltersStayApart, ReceivedStayRising};
 
 /// A fill starts what waits in its order, with free identifiers, until nothing waits or the window
 /// is full; and it sends what it starts.
@@ -37,4 +38,11 @@ pub fn resend_keeps_the_order()
     ensures last { ReleasedComesLast }
     ensures first { KeepsReleasedFirst }
     ensures order { ResendsInOrder }
+{}
+
+/// Each filter of a session stands once, and received identifiers in rising order, whatever is
+/// granted, given up, received or released.
+pub fn sessions_keep_their_form()
+    ensures filters { FiltersStayApart }
+    ensures received { ReceivedStayRising }
 {}

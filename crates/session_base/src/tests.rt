@@ -40,5 +40,6 @@ fn laws_are_called() -> Result<(), Fail> {
     answers_keep_identifiers_apart();
     other_answers_change_nothing();
     resend_keeps_the_order();
+    sessions_keep_their_form();
     Ok(())
 }

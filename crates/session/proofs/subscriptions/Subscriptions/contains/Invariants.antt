@@ -1,6 +1,6 @@
 -- None of those so far is the filter.
 use Rattle.std.proofs.Common.{◌≡◌, drop}
-use Rattle.session.specs.Filters.{is_held}
+use Rattle.session_base.specs.Subscriptions.{is_held}
 use Rattle.session.proofs.subscriptions.Subscriptions.contains.Given as goal
 
 abbrev pub invariant-loop-held : goal.invariant-loop-held

@@ -1,0 +1,24 @@
+-- What calls leave of subscriptions and of received identifiers: each filter once, and rising numbers (MQTT 2.3.1, 3.8.4).
+use Rattle.std.specs.Prelude.{◌≡◌, ℕ, false, List, [], ◌∷◌}
+use Rattle.std.specs.List.Sorted.{IsStrictlySortedBy}
+use Rattle.std.specs.Ordering.{nat_cmp}
+use Rattle.session_base.specs.Identifiers.{with_id, without_id}
+use Rattle.session_base.specs.Subscriptions.{HeldFilter, is_held, with_subscription, without_filter}
+
+-- no filter is held twice
+abbrev pub AreFiltersApart : List HeldFilter → Type 0
+AreFiltersApart (held ∷ others) = (is_held held.0 others ≡ false) × AreFiltersApart others
+AreFiltersApart [] = Unit {0}
+
+-- a granting and a giving up keep it so
+abbrev pub FiltersStayApart : Type 0
+FiltersStayApart =
+    (held : List HeldFilter) → AreFiltersApart held →
+    ((new : HeldFilter) → AreFiltersApart (with_subscription new held))
+    × ((given_up : List ℕ) → AreFiltersApart (without_filter given_up held))
+
+-- received identifiers stay in rising order, each once
+abbrev pub ReceivedStayRising : Type 0
+ReceivedStayRising =
+    (id : ℕ) → (ids : List ℕ) → IsStrictlySortedBy nat_cmp ids →
+    IsStrictlySortedBy nat_cmp (with_id id ids) × IsStrictlySortedBy nat_cmp (without_id id ids)
