@@ -76,7 +76,6 @@ impl SubIndex for ListIndex {
         }
     }
 
-    #[tactic(auto, using(crate::proofs::ContentAfter::content_dropped))]
     fn drop_client(&mut self, client: &ClientId) {
         self.clients.remove(client);
     }

@@ -9,10 +9,12 @@ mod malformed;
 mod matching;
 #[cfg(test)]
 mod tests;
+mod text;
 mod topic_name;
 
 pub use filter::Filter;
 pub use laws::matches_is_tested;
 pub use malformed::MalformedKind;
 pub use matching::matches;
+pub use text::Text;
 pub use topic_name::TopicName;
