@@ -33,7 +33,6 @@ impl Model for Text {
     ghost Value = { List ℕ };
 
     ghost view = { λ it. arc_str_bytes it.text };
-
 }
 
 impl Text {
