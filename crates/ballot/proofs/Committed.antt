@@ -4,10 +4,10 @@ use Rattle.std.specs.Result.{is_ok, is_err}
 use Rattle.machine.specs.Machine.{Rules}
 use Rattle.ballot_base.specs.declared.message.Body.TheVariants.{Append, Commit}
 use Rattle.ballot_base.specs.declared.message.Effect.{Effect}
-use Rattle.ballot_base.specs.declared.status.Mark.{Mark}
-use Rattle.ballot_base.specs.Replica.{ReplicaState, Counted}
+use Rattle.ballot_base.specs.declared.status.Progress.{Progress}
+use Rattle.ballot_base.specs.Replica.{ReplicaState, CountedReplica}
 use Rattle.ballot_base.specs.Losses.{Done, one_more}
-use Rattle.ballot_base.specs.Sending.{Outcome, message_to_marked}
+use Rattle.ballot_base.specs.Sending.{Outcome, message_to_followed}
 use Rattle.ballot_base.specs.Serving.{outputs_between, least, commit_at, added}
 use Rattle.ballot_base.proofs.StepRows.{commit_at-stays, commit_at-goes, added-is}
 use Rattle.ballot_base.proofs.ThinnedEffects.{Thinned-same}
@@ -20,11 +20,11 @@ Sends-whole old new xs e =
     record { given = xs; appended = e; thinned = Thinned-same xs; exact = λ _. refl; idle = λ _. refl }
 
 -- with nothing to commit the replica stays
-pub commit_stays : {S C O : Type 0} (rules : Rules S C O) (old : Counted C) (held : ℕ) →
+pub commit_stays : {S C O : Type 0} (rules : Rules S C O) (old : CountedReplica C) (held : ℕ) →
     held ≤ old.state.committed →
     old ≡ record { state = (commit_at rules old.state held).state; losses = old.losses }
 commit_stays {C = C} {O = O} rules old held below =
-    ap (λ (o : Outcome C O). let z : Counted C = record { state = o.state; losses = old.losses } in z)
+    ap (λ (o : Outcome C O). let z : CountedReplica C = record { state = o.state; losses = old.losses } in z)
     (sym (commit_at-stays rules old.state held below))
 
 -- and nothing is handed out
@@ -35,26 +35,26 @@ commit_gives_nothing {C = C} {O = O} rules r held out below =
     (sym (commit_at-stays rules r held below)) (Sends-nothing out)
 
 -- places are committed
-pub commit_goes : {S C O : Type 0} (rules : Rules S C O) (old new : Counted C) (held : ℕ) →
+pub commit_goes : {S C O : Type 0} (rules : Rules S C O) (old new : CountedReplica C) (held : ℕ) →
     old.state.committed < held →
     new ≡ record old { state = record old.state { committed = held } } →
     new ≡ record { state = (commit_at rules old.state held).state; losses = old.losses }
 commit_goes {C = C} {O = O} rules old new held above e =
-    e ∙ ap (λ (o : Outcome C O). let z : Counted C = record { state = o.state; losses = old.losses } in z)
+    e ∙ ap (λ (o : Outcome C O). let z : CountedReplica C = record { state = o.state; losses = old.losses } in z)
     (sym (commit_at-goes rules old.state held above))
 
 -- their outputs are handed out, and the other members hear of it
 pub commit_gives : {S C O : Type 0} (rules : Rules S C O) (r : ReplicaState C) (held : ℕ)
-    (log : List C) (marks : List Mark) (start mid new : List (Effect C O)) (whole : Bool) →
-    r.committed < held → log ≡ r.log → marks ≡ r.marks →
+    (log : List C) (progress : List Progress) (start mid new : List (Effect C O)) (whole : Bool) →
+    r.committed < held → log ≡ r.log → progress ≡ r.progress →
     mid ≡ start ++ outputs_between rules log r.committed held →
-    Sends mid new (message_to_marked O r.id (Commit r.joined held) marks) whole →
+    Sends mid new (message_to_followed O r.id (Commit r.joined held) progress) whole →
     Sends start new (commit_at rules r held).effects whole
-commit_gives {C = C} {O = O} rules r held log marks start mid new whole above l m e sent =
+commit_gives {C = C} {O = O} rules r held log progress start mid new whole above l m e sent =
     let given : mid ≡ start ++ outputs_between rules r.log r.committed held =
     e ∙ ap (λ xs. start ++ outputs_between rules xs r.committed held) l in
-    let told : Sends mid new (message_to_marked O r.id (Commit r.joined held) r.marks) whole =
-    subst (λ xs. Sends mid new (message_to_marked O r.id (Commit r.joined held) xs) whole) m sent in
+    let told : Sends mid new (message_to_followed O r.id (Commit r.joined held) r.progress) whole =
+    subst (λ xs. Sends mid new (message_to_followed O r.id (Commit r.joined held) xs) whole) m sent in
     subst (λ (o : Outcome C O). Sends start new o.effects whole)
     (sym (commit_at-goes rules r held above)) (Sends-then (Sends-whole start mid _ given) told)
 
@@ -71,38 +71,38 @@ pushed_nothing (Ok x) a b c failed e = cc
 pushed_nothing (Err x) a b c failed e = e
 
 -- a command that was sent, pushed and committed is added
-pub add_done : {S C O : Type 0} (rules : Rules S C O) (old pushed after new : Counted C) (command : C)
-    (log : List C) (marks marks' : List Mark) (long held : ℕ) (sent told whole : Bool)
+pub add_done : {S C O : Type 0} (rules : Rules S C O) (old pushed after new : CountedReplica C) (command : C)
+    (log : List C) (progress progress' : List Progress) (long held : ℕ) (sent told whole : Bool)
     (start mid behind : List (Effect C O)) →
-    Sends start mid (message_to_marked O old.state.id (Append old.state.joined (length old.state.log) command) marks) sent →
-    marks ≡ old.state.marks →
+    Sends start mid (message_to_followed O old.state.id (Append old.state.joined (length old.state.log) command) progress) sent →
+    progress ≡ old.state.progress →
     log ≡ old.state.log ++ command ∷ [] →
     pushed ≡ record { state = record old.state { log = log }; losses = old.losses } →
-    long ≡ length log → marks' ≡ old.state.marks → held ≡ least long marks' →
+    long ≡ length log → progress' ≡ old.state.progress → held ≡ least long progress' →
     after ≡ record { state = (commit_at rules pushed.state held).state; losses = pushed.losses } →
     Sends mid behind (commit_at rules pushed.state held).effects told →
     whole ≡ (sent && told) →
     new ≡ record { state = after.state; losses = cond whole after.losses (one_more after.losses) } →
     Done old (added rules old.state command) new start behind
-add_done {C = C} {O = O} rules old pushed after new command log marks marks' long held sent told whole start mid behind
+add_done {C = C} {O = O} rules old pushed after new command log progress progress' long held sent told whole start mid behind
     appends m l p0 n0 m' h0 a commits w n =
     let p : pushed ≡ record { state = record old.state { log = old.state.log ++ command ∷ [] }; losses = old.losses } =
-    p0 ∙ ap (λ xs. let z : Counted C = record { state = record old.state { log = xs }; losses = old.losses } in z) l in
-    let h : held ≡ least (length (old.state.log ++ command ∷ [])) old.state.marks =
-    h0 ∙ ap (λ k. least k marks') (n0 ∙ ap length l) ∙ ap (least (length (old.state.log ++ command ∷ []))) m' in
+    p0 ∙ ap (λ xs. let z : CountedReplica C = record { state = record old.state { log = xs }; losses = old.losses } in z) l in
+    let h : held ≡ least (length (old.state.log ++ command ∷ [])) old.state.progress =
+    h0 ∙ ap (λ k. least k progress') (n0 ∙ ap length l) ∙ ap (least (length (old.state.log ++ command ∷ []))) m' in
     let r : ReplicaState C = record old.state { log = old.state.log ++ command ∷ [] } in
-    let o : Outcome C O = commit_at rules r (least (length (old.state.log ++ command ∷ [])) old.state.marks) in
+    let o : Outcome C O = commit_at rules r (least (length (old.state.log ++ command ∷ [])) old.state.progress) in
     let same : commit_at rules pushed.state held ≡ o =
-    ap (λ (z : Counted C). commit_at rules z.state held) p ∙ ap (commit_at rules r) h in
-    let all : Sends start behind (message_to_marked O old.state.id (Append old.state.joined (length old.state.log) command) old.state.marks ++ o.effects) (sent && told) =
+    ap (λ (z : CountedReplica C). commit_at rules z.state held) p ∙ ap (commit_at rules r) h in
+    let all : Sends start behind (message_to_followed O old.state.id (Append old.state.joined (length old.state.log) command) old.state.progress ++ o.effects) (sent && told) =
     Sends-then
-    (subst (λ xs. Sends start mid (message_to_marked O old.state.id (Append old.state.joined (length old.state.log) command) xs) sent) m appends)
+    (subst (λ xs. Sends start mid (message_to_followed O old.state.id (Append old.state.joined (length old.state.log) command) xs) sent) m appends)
     (subst (λ (z : Outcome C O). Sends mid behind z.effects told) same commits) in
     let state : new.state ≡ o.state =
-    ap (λ (z : Counted C). z.state) n ∙ ap (λ (z : Counted C). z.state) a
+    ap (λ (z : CountedReplica C). z.state) n ∙ ap (λ (z : CountedReplica C). z.state) a
     ∙ ap (λ (z : Outcome C O). z.state) same in
     let losses : after.losses ≡ old.losses =
-    ap (λ (z : Counted C). z.losses) a ∙ ap (λ (z : Counted C). z.losses) p in
+    ap (λ (z : CountedReplica C). z.losses) a ∙ ap (λ (z : CountedReplica C). z.losses) p in
     subst (λ (z : Outcome C O). Done old z new start behind) (sym (added-is rules old.state command))
     (record {
       given = all.given;
@@ -110,7 +110,7 @@ add_done {C = C} {O = O} rules old pushed after new command log marks marks' lon
       state = state;
       thinned = all.thinned;
       counted = by_whole (sent && told) (λ e. all.exact e)
-          (ap (λ (z : Counted C). z.losses) n ∙ ap (λ b. cond b after.losses (one_more after.losses)) w
+          (ap (λ (z : CountedReplica C). z.losses) n ∙ ap (λ b. cond b after.losses (one_more after.losses)) w
           ∙ ap (λ k. cond (sent && told) k (one_more k)) losses);
     })
   where

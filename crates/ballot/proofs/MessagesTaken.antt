@@ -5,17 +5,18 @@ use Rattle.std.proofs.lemmas.Bool.{eq-eqb}
 use Rattle.machine.specs.Machine.{Rules}
 use Rattle.ballot_base.specs.declared.message.Body.TheVariants.{Held}
 use Rattle.ballot_base.specs.declared.message.Effect.{Effect}
-use Rattle.ballot_base.specs.declared.status.Mark.{Mark}
-use Rattle.ballot_base.specs.Replica.{ReplicaState, Counted}
+use Rattle.ballot_base.specs.declared.status.Progress.{Progress}
+use Rattle.ballot_base.specs.Replica.{ReplicaState, CountedReplica}
 use Rattle.ballot_base.specs.Losses.{Stepped, Steps, Loses, IsQuiet, halted, one_more}
 use Rattle.ballot_base.specs.Sending.{Outcome, nothing_done, message_to}
 use Rattle.ballot_base.specs.Serving.{least, raised, follows, leads, extended, commit_at, on_append, on_held, on_commit}
 use Rattle.ballot_base.proofs.StepRows.{commit_at-goes}
-use Rattle.ballot_base.proofs.MessageRows.{commit_at-raised, marks_raised, on_append-takes, on_held-raises, on_commit-takes}
-use Rattle.ballot.specs.Inside.{Sends, Grows, Went}
+use Rattle.ballot_base.proofs.MessageRows.{commit_at-raised, progress_raised, on_append-takes, on_held-raises, on_commit-takes}
+use Rattle.ballot.specs.Inside.{Sends, Went}
+use Rattle.lists.specs.Lists.{IsPrefixOf}
 
 -- such a step is one with losses that was counted
-pub went_stepped : {C O : Type 0} {old : Counted C} {o : Outcome C O} {new : Counted C} {before behind : List (Effect C O)} →
+pub went_stepped : {C O : Type 0} {old : CountedReplica C} {o : Outcome C O} {new : CountedReplica C} {before behind : List (Effect C O)} →
     Went old o new before behind → Stepped old o new before behind
 went_stepped {old = old} {o = o} {new = new} w =
     record { given = w.given; appended = w.appended; steps = by_way w.way }
@@ -27,7 +28,7 @@ went_stepped {old = old} {o = o} {new = new} w =
     by_way (inr e) = inr (e.0, e.1)
 
 -- a quiet step is done exactly
-pub went_quiet : {C O : Type 0} {old : Counted C} {o : Outcome C O} {new : Counted C} {before behind : List (Effect C O)} →
+pub went_quiet : {C O : Type 0} {old : CountedReplica C} {o : Outcome C O} {new : CountedReplica C} {before behind : List (Effect C O)} →
     Went old o new before behind → IsQuiet old.state o → new ≡ record { state = o.state; losses = old.losses }
 went_quiet {C = C} {old = old} {o = o} {new = new} w quiet = by_way w.way
   where
@@ -35,12 +36,12 @@ went_quiet {C = C} {old = old} {o = o} {new = new} w quiet = by_way w.way
         ⊎ (Loses old.state o new.state w.given × (new.losses ≡ one_more old.losses) × (IsQuiet old.state o → ⊥)) →
         new ≡ record { state = o.state; losses = old.losses }
     by_way (inl e) =
-        ap (λ s. let z : Counted C = record { state = s; losses = new.losses } in z) e.0
-        ∙ ap (λ n. let z : Counted C = record { state = o.state; losses = n } in z) e.2
+        ap (λ s. let z : CountedReplica C = record { state = s; losses = new.losses } in z) e.0
+        ∙ ap (λ n. let z : CountedReplica C = record { state = o.state; losses = n } in z) e.2
     by_way (inr e) = absurd (e.2 quiet)
 
 -- the row changes nothing, and nothing was done
-pub went_same : {C O : Type 0} (old : Counted C) (o : Outcome C O) (out : List (Effect C O)) →
+pub went_same : {C O : Type 0} (old : CountedReplica C) (o : Outcome C O) (out : List (Effect C O)) →
     o ≡ nothing_done O old.state → Went old o old out out
 went_same {C = C} {O = O} old o out e =
     record {
@@ -50,7 +51,7 @@ went_same {C = C} {O = O} old o out e =
     }
 
 -- the row was done, but for messages that were lost
-pub went_sent : {C O : Type 0} (old : Counted C) (o : Outcome C O) (new : Counted C) (before behind : List (Effect C O))
+pub went_sent : {C O : Type 0} (old : CountedReplica C) (o : Outcome C O) (new : CountedReplica C) (before behind : List (Effect C O))
     (whole : Bool) → Sends before behind o.effects whole → new.state ≡ o.state →
     new.losses ≡ cond whole old.losses (one_more old.losses) → Went old o new before behind
 went_sent {C = C} {O = O} old o new before behind whole sent state losses =
@@ -68,7 +69,7 @@ went_sent {C = C} {O = O} old o new before behind whole sent state losses =
     by_whole false exact idle e = inr (inl (state, sent.thinned), e, λ quiet. let h = idle quiet.nothing_sent in cc)
 
 -- nothing was done, for want of memory
-pub went_ignored : {C O : Type 0} (old : Counted C) (o : Outcome C O) (new : Counted C) (before behind : List (Effect C O)) →
+pub went_ignored : {C O : Type 0} (old : CountedReplica C) (o : Outcome C O) (new : CountedReplica C) (before behind : List (Effect C O)) →
     new.state ≡ old.state → new.losses ≡ one_more old.losses → behind ≡ before → (IsQuiet old.state o → ⊥) →
     Went old o new before behind
 went_ignored old o new before behind state losses same busy =
@@ -79,7 +80,7 @@ went_ignored old o new before behind state losses same busy =
     }
 
 -- the replica stopped, for want of memory
-pub went_halted : {C O : Type 0} (old : Counted C) (o : Outcome C O) (new : Counted C) (before behind : List (Effect C O)) →
+pub went_halted : {C O : Type 0} (old : CountedReplica C) (o : Outcome C O) (new : CountedReplica C) (before behind : List (Effect C O)) →
     new.state ≡ halted old.state → new.losses ≡ one_more old.losses → behind ≡ before → (IsQuiet old.state o → ⊥) →
     Went old o new before behind
 went_halted old o new before behind state losses same busy =
@@ -90,7 +91,7 @@ went_halted old o new before behind state losses same busy =
     }
 
 -- where nothing was handed out, nothing was
-pub went_silent : {C O : Type 0} {old : Counted C} {o : Outcome C O} {new : Counted C} (out : List (Effect C O)) →
+pub went_silent : {C O : Type 0} {old : CountedReplica C} {o : Outcome C O} {new : CountedReplica C} (out : List (Effect C O)) →
     Went old o new [] [] → Went old o new out out
 went_silent out w =
     record { given = w.given; appended = sym (ap (λ xs. out ++ xs) (sym w.appended) ∙ append-nil out); way = w.way }
@@ -101,7 +102,7 @@ longer xs ys x e f =
     let n : length xs ≡ length (xs ++ x ∷ []) = ap length (sym f ∙ e) in omega (arith, n, length-append xs (x ∷ []))
 
 -- Append that is answered
-pub append_taken : {C : Type 0} (O : Type 0) (old new : Counted C) (from ballot place : ℕ) (command : C) (log : List C)
+pub append_taken : {C : Type 0} (O : Type 0) (old new : CountedReplica C) (from ballot place : ℕ) (command : C) (log : List C)
     (long : ℕ) (before behind : List (Effect C O)) (sent : Bool) →
     follows old.state ballot ≡ true → place ≤ length old.state.log → log ≡ extended place command old.state.log →
     long ≡ length log → Sends before behind (message_to O old.state.id (Held ballot long) from ∷ []) sent →
@@ -115,7 +116,7 @@ append_taken {C = C} O old new from ballot place command log long before behind 
     (state ∙ ap (λ xs. let r : ReplicaState C = record old.state { log = xs } in r) e) losses)
 
 -- Append whose command found no memory
-pub append_lost : {C : Type 0} (O : Type 0) (old new : Counted C) (from ballot place : ℕ) (command : C)
+pub append_lost : {C : Type 0} (O : Type 0) (old new : CountedReplica C) (from ballot place : ℕ) (command : C)
     (before : List (Effect C O)) →
     follows old.state ballot ≡ true → place ≡ length old.state.log →
     new.state ≡ old.state → new.losses ≡ one_more old.losses →
@@ -126,49 +127,49 @@ append_lost {C = C} O old new from ballot place command before follower next sta
     subst (λ (o : Outcome C O). Went old o new before before) (sym row)
     (went_ignored old _ new before before state losses refl (λ quiet. longer old.state.log _ command added quiet.same_log))
 
--- Held that raises a mark, and commits what all hold then
-pub held_taken : {S C O : Type 0} (rules : Rules S C O) (old after new : Counted C) (from ballot held n : ℕ)
-    (marks marks' : List Mark) (long : ℕ) (before behind : List (Effect C O)) (told : Bool) →
-    leads old.state ballot ≡ true → marks ≡ old.state.marks → long ≡ length old.state.log → n ≡ least long (raised from held marks) →
+-- Held that raises a progress, and commits what all hold then
+pub held_taken : {S C O : Type 0} (rules : Rules S C O) (old after new : CountedReplica C) (from ballot held n : ℕ)
+    (progress progress' : List Progress) (long : ℕ) (before behind : List (Effect C O)) (told : Bool) →
+    leads old.state ballot ≡ true → progress ≡ old.state.progress → long ≡ length old.state.log → n ≡ least long (raised from held progress) →
     after ≡ record { state = (commit_at rules old.state n).state; losses = old.losses } →
     Sends before behind (commit_at rules old.state n).effects told →
-    marks' ≡ raised from held after.state.marks →
-    new.state ≡ record after.state { marks = marks' } → new.losses ≡ cond told after.losses (one_more after.losses) →
+    progress' ≡ raised from held after.state.progress →
+    new.state ≡ record after.state { progress = progress' } → new.losses ≡ cond told after.losses (one_more after.losses) →
     Went old (on_held rules old.state from ballot held) new before behind
-held_taken {C = C} {O = O} rules old after new from ballot held n marks marks' long before behind told leader m l h a sends m' state losses =
-    let n' : n ≡ least (length old.state.log) (raised from held old.state.marks) =
-    h ∙ ap (λ k. least k (raised from held marks)) l ∙ ap (λ xs. least (length old.state.log) (raised from held xs)) m in
-    let row : on_held rules old.state from ballot held ≡ marks_raised from held (commit_at rules old.state n) =
+held_taken {C = C} {O = O} rules old after new from ballot held n progress progress' long before behind told leader m l h a sends m' state losses =
+    let n' : n ≡ least (length old.state.log) (raised from held old.state.progress) =
+    h ∙ ap (λ k. least k (raised from held progress)) l ∙ ap (λ xs. least (length old.state.log) (raised from held xs)) m in
+    let row : on_held rules old.state from ballot held ≡ progress_raised from held (commit_at rules old.state n) =
     on_held-raises rules old.state from ballot held leader
-    ∙ ap (commit_at rules (record old.state { marks = raised from held old.state.marks })) (sym n')
+    ∙ ap (commit_at rules (record old.state { progress = raised from held old.state.progress })) (sym n')
     ∙ commit_at-raised rules old.state from held n in
-    let after_state : after.state ≡ (commit_at rules old.state n).state = ap (λ (z : Counted C). z.state) a in
+    let after_state : after.state ≡ (commit_at rules old.state n).state = ap (λ (z : CountedReplica C). z.state) a in
     subst (λ (o : Outcome C O). Went old o new before behind) (sym row)
     (went_sent old _ new before behind told sends
-    (state ∙ ap (λ xs. let r : ReplicaState C = record after.state { marks = xs } in r) m'
-    ∙ ap (λ (r : ReplicaState C). let z : ReplicaState C = record r { marks = raised from held r.marks } in z) after_state)
-    (losses ∙ ap (λ k. cond told k (one_more k)) (ap (λ (z : Counted C). z.losses) a)))
+    (state ∙ ap (λ xs. let r : ReplicaState C = record after.state { progress = xs } in r) m'
+    ∙ ap (λ (r : ReplicaState C). let z : ReplicaState C = record r { progress = raised from held r.progress } in z) after_state)
+    (losses ∙ ap (λ k. cond told k (one_more k)) (ap (λ (z : CountedReplica C). z.losses) a)))
 
 -- Held whose places found no memory when they were applied
-pub held_halted : {S C O : Type 0} (rules : Rules S C O) (old after new : Counted C) (from ballot held n : ℕ)
-    (marks : List Mark) (long : ℕ) (before behind : List (Effect C O)) →
-    leads old.state ballot ≡ true → marks ≡ old.state.marks → long ≡ length old.state.log → n ≡ least long (raised from held marks) →
+pub held_halted : {S C O : Type 0} (rules : Rules S C O) (old after new : CountedReplica C) (from ballot held n : ℕ)
+    (progress : List Progress) (long : ℕ) (before behind : List (Effect C O)) →
+    leads old.state ballot ≡ true → progress ≡ old.state.progress → long ≡ length old.state.log → n ≡ least long (raised from held progress) →
     old.state.committed < n → after ≡ record { state = halted old.state; losses = old.losses } →
     new.state ≡ after.state → new.losses ≡ one_more after.losses → behind ≡ before →
     Went old (on_held rules old.state from ballot held) new before behind
-held_halted {C = C} {O = O} rules old after new from ballot held n marks long before behind leader m l h above a state losses same =
-    let n' : n ≡ least (length old.state.log) (raised from held old.state.marks) =
-    h ∙ ap (λ k. least k (raised from held marks)) l ∙ ap (λ xs. least (length old.state.log) (raised from held xs)) m in
-    let row : on_held rules old.state from ballot held ≡ marks_raised from held (commit_at rules old.state n) =
+held_halted {C = C} {O = O} rules old after new from ballot held n progress long before behind leader m l h above a state losses same =
+    let n' : n ≡ least (length old.state.log) (raised from held old.state.progress) =
+    h ∙ ap (λ k. least k (raised from held progress)) l ∙ ap (λ xs. least (length old.state.log) (raised from held xs)) m in
+    let row : on_held rules old.state from ballot held ≡ progress_raised from held (commit_at rules old.state n) =
     on_held-raises rules old.state from ballot held leader
-    ∙ ap (commit_at rules (record old.state { marks = raised from held old.state.marks })) (sym n')
+    ∙ ap (commit_at rules (record old.state { progress = raised from held old.state.progress })) (sym n')
     ∙ commit_at-raised rules old.state from held n in
     let goes : (commit_at rules old.state n).state.committed ≡ n =
     ap (λ (o : Outcome C O). o.state.committed) (commit_at-goes rules old.state n above) in
     subst (λ (o : Outcome C O). Went old o new before behind) (sym row)
     (went_halted old _ new before behind
-    (state ∙ ap (λ (z : Counted C). z.state) a)
-    (losses ∙ ap (λ (z : Counted C). one_more z.losses) a) same
+    (state ∙ ap (λ (z : CountedReplica C). z.state) a)
+    (losses ∙ ap (λ (z : CountedReplica C). one_more z.losses) a) same
     (λ quiet. let e : (commit_at rules old.state n).state.committed ≡ old.state.committed = quiet.same_committed in omega (arith, e, goes)))
 
 -- Commit of what is applied already
@@ -181,7 +182,7 @@ commit_known {C = C} O r ballot held follower within known =
     ∙ ap (λ n. let o : Outcome C O = record { state = record r { committed = n }; effects = [] } in o) e
 
 -- Commit that is applied
-pub commit_taken : {C : Type 0} (O : Type 0) (old new : Counted C) (ballot held : ℕ) →
+pub commit_taken : {C : Type 0} (O : Type 0) (old new : CountedReplica C) (ballot held : ℕ) →
     follows old.state ballot ≡ true → held ≤ length old.state.log → old.state.committed < held →
     new.state ≡ record old.state { committed = held } → new.losses ≡ old.losses →
     Went old (on_commit O old.state ballot held) new [] []
@@ -196,7 +197,7 @@ commit_taken {C = C} O old new ballot held follower within above state losses =
     })
 
 -- Commit whose places found no memory when they were applied
-pub commit_halted : {C : Type 0} (O : Type 0) (old new : Counted C) (ballot held : ℕ) →
+pub commit_halted : {C : Type 0} (O : Type 0) (old new : CountedReplica C) (ballot held : ℕ) →
     follows old.state ballot ≡ true → held ≤ length old.state.log → old.state.committed < held →
     new.state ≡ halted old.state → new.losses ≡ one_more old.losses →
     Went old (on_commit O old.state ballot held) new [] []
@@ -212,6 +213,6 @@ written_back n xs ys e = take_at xs (drop (length xs) ys) n e
 
 -- effects of a call that stopped are taken back
 pub taken_back : {C O : Type 0} {before behind : List (Effect C O)} (back : List (Effect C O)) (n : ℕ) →
-    Grows before behind → n ≡ length before → back ≡ take n behind → back ≡ before
+    IsPrefixOf before behind → n ≡ length before → back ≡ take n behind → back ≡ before
 taken_back {before = before} back n grew e cut =
     cut ∙ ap (take n) grew.appended ∙ take_at before grew.rest n (sym e)

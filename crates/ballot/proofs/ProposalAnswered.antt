@@ -4,7 +4,7 @@ use Rattle.std.specs.Result.{MatchResult, IsErrOf}
 use Rattle.std.proofs.lemmas.List.{append-nil}
 use Rattle.ballot_base.specs.declared.message.Effect.{Effect}
 use Rattle.machine.specs.Machine.{Rules}
-use Rattle.ballot_base.specs.Replica.{ReplicaState, Counted, is_active}
+use Rattle.ballot_base.specs.Replica.{ReplicaState, CountedReplica, is_active}
 use Rattle.ballot_base.specs.Losses.{Done, Stepped, Steps, one_more}
 use Rattle.ballot_base.specs.Sending.{Outcome, nothing_done}
 use Rattle.ballot_base.specs.Serving.{added, most_places, proposed}
@@ -14,7 +14,7 @@ use Rattle.ballot.specs.declared.error.ProposeError.TheVariants.{NotActive, LogF
 use Rattle.ballot.specs.Inside.{Lacks}
 
 -- what a step leaves as it is was done
-pub stays_step : {C O : Type 0} (old : Counted C) (o : Outcome C O) (out : List (Effect C O)) →
+pub stays_step : {C O : Type 0} (old : CountedReplica C) (o : Outcome C O) (out : List (Effect C O)) →
     o ≡ nothing_done O old.state → Stepped old o old out out
 stays_step {C = C} {O = O} old o out e =
     record {
@@ -24,7 +24,7 @@ stays_step {C = C} {O = O} old o out e =
     }
 
 -- a step that was done with messages missing is one with losses
-pub done_steps : {C O : Type 0} {old : Counted C} {o : Outcome C O} {new : Counted C} {before behind : List (Effect C O)} →
+pub done_steps : {C O : Type 0} {old : CountedReplica C} {o : Outcome C O} {new : CountedReplica C} {before behind : List (Effect C O)} →
     Done old o new before behind → Stepped old o new before behind
 done_steps {C = C} {old = old} {o = o} {new = new} d =
     record {
@@ -39,8 +39,8 @@ done_steps {C = C} {old = old} {o = o} {new = new} d =
     by_count (inr e) = inr (inl (d.state, d.thinned), e)
 
 -- each answer of a proposal is that of a step
-pub answered_steps : {C O T : Type 0} (result : Result T ProposeError) {old : Counted C} {o : Outcome C O}
-    {new : Counted C} {before behind : List (Effect C O)} →
+pub answered_steps : {C O T : Type 0} (result : Result T ProposeError) {old : CountedReplica C} {o : Outcome C O}
+    {new : CountedReplica C} {before behind : List (Effect C O)} →
     MatchResult result (λ _. Done old o new before behind) (λ e. Lacks e old new) →
     OnErr result (behind ≡ before) → Stepped old o new before behind
 answered_steps (Ok x) d same = done_steps d
@@ -50,18 +50,18 @@ answered_steps {C = C} (Err Memory) {old = old} {new = new} {before = before} d 
     record {
       given = [];
       appended = same ∙ sym (append-nil before);
-      steps = inr (inr (inl (ap (λ (z : Counted C). z.state) d, refl)), ap (λ (z : Counted C). z.losses) d);
+      steps = inr (inr (inl (ap (λ (z : CountedReplica C). z.state) d, refl)), ap (λ (z : CountedReplica C). z.losses) d);
     }
 answered_steps {C = C} (Err Halted) {old = old} {new = new} {before = before} d same =
     record {
       given = [];
       appended = same ∙ sym (append-nil before);
-      steps = inr (inr (inr (ap (λ (z : Counted C). z.state) d, refl)), ap (λ (z : Counted C). z.losses) d);
+      steps = inr (inr (inr (ap (λ (z : CountedReplica C). z.state) d, refl)), ap (λ (z : CountedReplica C). z.losses) d);
     }
 
 -- an active primary with room adds what is proposed
-pub answered_proposed : {S C O T : Type 0} (rules : Rules S C O) (old : Counted C) (command : C)
-    (result : Result T ProposeError) (new : Counted C) (before behind : List (Effect C O)) →
+pub answered_proposed : {S C O T : Type 0} (rules : Rules S C O) (old : CountedReplica C) (command : C)
+    (result : Result T ProposeError) (new : CountedReplica C) (before behind : List (Effect C O)) →
     is_active old.state.role ≡ true → length old.state.log < most_places →
     MatchResult result (λ _. Done old (added rules old.state command) new before behind) (λ e. Lacks e old new) →
     OnErr result (behind ≡ before) → Stepped old (proposed rules old.state command) new before behind
@@ -70,8 +70,8 @@ answered_proposed {C = C} {O = O} rules old command result new before behind act
     (sym (proposed-adds rules old.state command active room)) (answered_steps result d same)
 
 -- the replica stopped exactly where Halted is answered
-pub answered_halted : {C O T : Type 0} (result : Result T ProposeError) (old : Counted C) (o : Outcome C O)
-    (new : Counted C) (before behind : List (Effect C O)) →
+pub answered_halted : {C O T : Type 0} (result : Result T ProposeError) (old : CountedReplica C) (o : Outcome C O)
+    (new : CountedReplica C) (before behind : List (Effect C O)) →
     MatchResult result (λ _. Done old o new before behind) (λ e. Lacks e old new) →
     old.state.stopped ≡ false → o.state.stopped ≡ old.state.stopped →
     (IsErrOf result Halted → new.state.stopped ≡ true) × (new.state.stopped ≡ true → IsErrOf result Halted)
@@ -81,7 +81,7 @@ answered_halted {C = C} (Ok x) old o new before behind d running kept =
 answered_halted (Err NotActive) old o new before behind d running kept = absurd d
 answered_halted (Err LogFull) old o new before behind d running kept = absurd d
 answered_halted {C = C} (Err Memory) old o new before behind d running kept =
-    let e : new.state.stopped ≡ false = ap (λ (z : Counted C). z.state.stopped) d ∙ running in
+    let e : new.state.stopped ≡ false = ap (λ (z : CountedReplica C). z.state.stopped) d ∙ running in
     (λ h. cc, λ h. cc)
 answered_halted {C = C} (Err Halted) old o new before behind d running kept =
-    (λ h. ap (λ (z : Counted C). z.state.stopped) d, λ h. refl)
+    (λ h. ap (λ (z : CountedReplica C). z.state.stopped) d, λ h. refl)

@@ -9,7 +9,8 @@ use Rattle.ballot_base.specs.declared.message.Effect.{Effect}
 use Rattle.ballot_base.specs.declared.message.Effect.TheVariants.{To}
 use Rattle.ballot_base.specs.Losses.Thinned.{none, keeps, loses}
 use Rattle.ballot_base.proofs.ThinnedEffects.{Thinned-append}
-use Rattle.ballot.specs.Inside.{Sends, Grows}
+use Rattle.ballot.specs.Inside.{Sends}
+use Rattle.lists.specs.Lists.{IsPrefixOf}
 
 -- one message, by what `push` answered
 pub Sends-pushed : {C O : Type 0} (old new : List (Effect C O)) (receiver : ℕ) (m : Message C) (sent : Bool) →
@@ -80,15 +81,15 @@ Sends-more_of f xs i d {old = old} {new = new} {first = first} {second = second}
     subst (λ ys. Sends old new ys (first && second)) (sym e) (Sends-then p q)
 
 -- what grew still grows
-pub Grows-then : {C O : Type 0} {old mid new : List (Effect C O)} → Grows old mid → Grows mid new → Grows old new
-Grows-then {old = old} p q =
+pub prefix_then : {C O : Type 0} {old mid new : List (Effect C O)} → IsPrefixOf old mid → IsPrefixOf mid new → IsPrefixOf old new
+prefix_then {old = old} p q =
     record {
       rest = p.rest ++ q.rest;
       appended = q.appended ∙ ap (λ zs. zs ++ q.rest) p.appended ∙ append_assoc old p.rest q.rest;
     }
 
-pub Grows-same : {C O : Type 0} (old : List (Effect C O)) → Grows old old
-Grows-same old = record { rest = []; appended = sym (append-nil old) }
+pub prefix_same : {C O : Type 0} (old : List (Effect C O)) → IsPrefixOf old old
+prefix_same old = record { rest = []; appended = sym (append-nil old) }
 
-pub Grows-sent : {C O : Type 0} {old new xs : List (Effect C O)} {whole : Bool} → Sends old new xs whole → Grows old new
-Grows-sent p = record { rest = p.given; appended = p.appended }
+pub IsPrefixOf-sent : {C O : Type 0} {old new xs : List (Effect C O)} {whole : Bool} → Sends old new xs whole → IsPrefixOf old new
+IsPrefixOf-sent p = record { rest = p.given; appended = p.appended }

@@ -2,7 +2,7 @@
 use Rattle.std.specs.Prelude.{◌≡◌, ◌⊎◌, Bool, true, List, [], ◌++◌}
 use Rattle.ballot_base.specs.declared.message.Effect.{Effect}
 use Rattle.ballot_base.specs.Losses.{Thinned, Loses, IsQuiet, halted, one_more}
-use Rattle.ballot_base.specs.Replica.{Counted}
+use Rattle.ballot_base.specs.Replica.{CountedReplica}
 use Rattle.ballot_base.specs.Sending.{Outcome}
 use Rattle.ballot.specs.declared.error.ProposeError.{ProposeError}
 use Rattle.ballot.specs.declared.error.ProposeError.TheVariants.{NotActive, LogFull, Memory, Halted}
@@ -18,7 +18,7 @@ pub record Sends {C O : Type 0} (old new wanted : List (Effect C O)) (whole : Bo
 
 -- the step was done, or one with losses that were counted, and only where there was something to
 -- lose
-pub record Went {C O : Type 0} (old : Counted C) (outcome : Outcome C O) (new : Counted C)
+pub record Went {C O : Type 0} (old : CountedReplica C) (outcome : Outcome C O) (new : CountedReplica C)
     (before behind : List (Effect C O)) : Type 0 where
   pub given : List (Effect C O)
   pub appended : behind ≡ before ++ given
@@ -33,7 +33,7 @@ pub record Grows {C O : Type 0} (old new : List (Effect C O)) : Type 0 where
   pub appended : new ≡ old ++ rest
 
 -- what a proposal that found no memory leaves
-abbrev pub Lacks : {C : Type 0} → ProposeError → Counted C → Counted C → Type 0
+abbrev pub Lacks : {C : Type 0} → ProposeError → CountedReplica C → CountedReplica C → Type 0
 Lacks NotActive old new = ⊥
 Lacks LogFull old new = ⊥
 Lacks Memory old new = new ≡ record old { losses = one_more old.losses }

@@ -2,7 +2,7 @@
 
 ghost use Rattle.std.specs.Prelude.{◌≡◌, ◌≤◌, ◌++◌, length, map, take, OnOk, OnErr};
 ghost use Rattle.machine.specs.Machine.{rules_by, replay};
-ghost use Rattle.ballot.specs.Inside.{Grows};
+ghost use Rattle.lists.specs.Lists.{IsPrefixOf};
 ghost use Rattle.ballot_base.specs.Serving.{outputs_between};
 
 use ballot_base::Effect;
@@ -16,7 +16,7 @@ pub fn put_out<C: Drop, O: Drop>(
     out: &mut Vec<Effect<C, O>>,
 ) -> Result<(), Halted>
     ensures ok { OnOk result (out.new.items ≡ out.old.items ++ map (Effect.Out place) given.items) }
-    ensures err { OnErr result (Grows out.old.items out.new.items) }
+    ensures err { OnErr result (IsPrefixOf out.old.items out.new.items) }
 {
     for output in given {
         out.push(Effect::Out(place, output))?;
@@ -67,7 +67,7 @@ pub fn apply_places<M: Machine>(
     ensures outputs { OnOk result
         (out.new.items ≡ out.old.items ++
         outputs_between (rules_by M.opening M.start_of M.after M.gives) log.now from to) }
-    ensures err { OnErr result (Grows out.old.items out.new.items) }
+    ensures err { OnErr result (IsPrefixOf out.old.items out.new.items) }
 {
     for place in from..to {
         let mut given = Vec::new(alloc);

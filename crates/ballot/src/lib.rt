@@ -4,7 +4,7 @@
 
 mod applying;
 mod error;
-mod marking;
+mod progress;
 mod replica;
 mod sending;
 mod taking;

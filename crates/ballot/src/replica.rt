@@ -2,8 +2,9 @@
 
 ghost use Rattle.std.specs.Prelude.{◌≡◌, ◌≤◌, ◌<◌, ◌↔◌, ◌⊎◌, true, false, [], length, IfOk, OnOk, OnErr, IsErr, IsErrOf, MatchResult, if◌then◌else◌};
 ghost use Rattle.machine.specs.Machine.{rules_by};
-ghost use Rattle.ballot.specs.Inside.{Sends, Grows, Lacks, Went};
-ghost use Rattle.ballot_base.specs.Config.{is_lawful};
+ghost use Rattle.ballot.specs.Inside.{Sends, Lacks, Went};
+ghost use Rattle.lists.specs.Lists.{IsPrefixOf};
+ghost use Rattle.ballot_base.specs.LawfulConfig.{is_lawful};
 ghost use Rattle.ballot_base.specs.Losses.{Stepped, Done, IsQuiet, halted, one_more};
 ghost use Rattle.ballot_base.specs.Replica.{is_active, opening, status_of};
 ghost use Rattle.ballot_base.specs.Protocol.{step_in_one_ballot};
@@ -12,10 +13,10 @@ ghost use Rattle.ballot_base.specs.Serving.{added, commit_at, follows, leads, mo
 
 use crate::applying::{apply_dropping, apply_places};
 use crate::error::{OpeningError, ProposeError};
-use crate::marking::{least_held, least_raised, marks_of_others, raise};
+use crate::progress::{least_held, least_raised, progress_of_others, raise};
 use crate::sending::{send, send_appends, send_behind, send_commits};
 use crate::taking::{counted, take_in};
-use ballot_base::{Body, Config, Effect, Mark, Message, Role, Status};
+use ballot_base::{Body, Config, Effect, Progress, Message, Role, Status};
 use machine::{Halted, Machine};
 use std::alloc::Global;
 use std::marker::Model;
@@ -35,7 +36,7 @@ pub struct Replica<M: Machine> {
     held_in: u64,
     role: Role,
     members: Vec<u8>,
-    marks: Vec<Mark>,
+    progress: Vec<Progress>,
     log: Vec<M::Command>,
     committed: u64,
     machine: M,
@@ -46,9 +47,9 @@ pub struct Replica<M: Machine> {
 impl<M: Machine> Model for Replica<M> {
     ghost use Rattle.std.specs.Prelude.{◌≡◌, ◌≤◌, false, [], length, take};
     ghost use Rattle.machine.specs.Machine.{rules_by, replay};
-    ghost use Rattle.ballot_base.specs.Replica.{ReplicaState, Counted};
+    ghost use Rattle.ballot_base.specs.Replica.{ReplicaState, CountedReplica};
 
-    ghost Value = { Counted M.Command };
+    ghost Value = { CountedReplica M.Command };
 
     ghost view = { λ r.
         record {
@@ -64,7 +65,7 @@ impl<M: Machine> Model for Replica<M> {
             previous = 0;
             previous_members = [];
             noted = [];
-            marks = r.marks.items;
+            progress = r.progress.items;
             stopped = r.stopped;
           };
           losses = r.losses;
@@ -100,7 +101,7 @@ impl<M: Machine> Replica<M> {
             held_in: ballot,
             role: Role::Backup,
             members: Vec::new(alloc),
-            marks: Vec::new(alloc),
+            progress: Vec::new(alloc),
             log: Vec::new(alloc),
             committed: 0,
             machine,
@@ -110,7 +111,7 @@ impl<M: Machine> Replica<M> {
         if id == config.primary {
             replica.role = Role::Active;
             replica.members = Vec::from_slice(alloc, members)?;
-            replica.marks = marks_of_others(alloc, 0, id, members)?;
+            replica.progress = progress_of_others(alloc, 0, id, members)?;
         }
         Ok(replica)
     }
@@ -220,7 +221,7 @@ impl<M: Machine> Replica<M> {
             self.joined,
             place,
             &command,
-            &self.marks,
+            &self.progress,
             out,
         );
         if self.log.push(command).is_err() {
@@ -228,7 +229,7 @@ impl<M: Machine> Replica<M> {
             self.losses = self.losses.saturating_add(1);
             return Err(ProposeError::Memory);
         }
-        let held = least_held(self.log.len() as u64, &self.marks);
+        let held = least_held(self.log.len() as u64, &self.progress);
         match self.commit_at(held, out) {
             Ok(told) => {
                 self.count(sent && told);
@@ -266,7 +267,7 @@ impl<M: Machine> Replica<M> {
         ensures stops { OnErr result
             (self.new ≡ record self.old { state = halted self.old.state }) }
         ensures needed { OnErr result (self.old.state.committed < held) }
-        ensures err { OnErr result (Grows out.old.items out.new.items) }
+        ensures err { OnErr result (IsPrefixOf out.old.items out.new.items) }
     {
         if held <= self.committed {
             return Ok(true);
@@ -275,7 +276,7 @@ impl<M: Machine> Replica<M> {
         match apply_places(self.alloc, &mut self.machine, &self.log, from, held, out) {
             Ok(()) => {
                 self.committed = held;
-                Ok(send_commits(self.id, self.joined, held, &self.marks, out))
+                Ok(send_commits(self.id, self.joined, held, &self.progress, out))
             }
             Err(halted) => {
                 self.stopped = true;
@@ -308,10 +309,10 @@ impl<M: Machine> Replica<M> {
             self.id,
             self.joined,
             &self.log,
-            &self.marks,
+            &self.progress,
             out,
         );
-        let told = send_commits(self.id, self.joined, self.committed, &self.marks, out);
+        let told = send_commits(self.id, self.joined, self.committed, &self.progress, out);
         self.losses = counted(self.losses, behind && told);
     }
 

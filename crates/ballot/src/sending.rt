@@ -3,9 +3,9 @@
 ghost use Rattle.std.specs.Prelude.{[], ◌∷◌, slice_get};
 ghost use Rattle.ballot.specs.Inside.{Sends};
 ghost use Rattle.ballot_base.specs.Serving.{append_at, appends_behind};
-ghost use Rattle.ballot_base.specs.Sending.{message_to, message_to_marked};
+ghost use Rattle.ballot_base.specs.Sending.{message_to, message_to_followed};
 
-use ballot_base::{Body, Effect, Mark, Message};
+use ballot_base::{Body, Effect, Progress, Message};
 use machine::Machine;
 use std::alloc::Global;
 
@@ -42,82 +42,82 @@ fn send_append<M: Machine>(
     }
 }
 
-/// Sends the command at a place to each node with a mark.
+/// Sends the command at a place to each node with a progress.
 pub fn send_appends<M: Machine>(
     alloc: Global,
     from: u8,
     ballot: u64,
     place: u64,
     command: &M::Command,
-    marks: &[Mark],
+    progress: &[Progress],
     out: &mut Vec<Effect<M::Command, M::Output>>,
 ) -> bool
     ensures { Sends out.old.items out.new.items
-        (message_to_marked M.Output from (Body.Append ballot place command.now) marks.now) result }
+        (message_to_followed M.Output from (Body.Append ballot place command.now) progress.now) result }
 {
     let mut whole = true;
-    for mark in marks {
-        let sent = send_append::<M>(alloc, from, ballot, place, command, mark.member, out);
+    for reached in progress {
+        let sent = send_append::<M>(alloc, from, ballot, place, command, reached.member, out);
         whole = whole && sent;
     }
     whole
 }
 
-/// Sends the place at its mark to each node whose mark is below the length of the log.
+/// Sends the place at its progress to each node whose progress is below the length of the log.
 pub fn send_behind<M: Machine>(
     alloc: Global,
     from: u8,
     ballot: u64,
     log: &[M::Command],
-    marks: &[Mark],
+    progress: &[Progress],
     out: &mut Vec<Effect<M::Command, M::Output>>,
 ) -> bool
     ensures { Sends out.old.items out.new.items
-        (appends_behind M.Output from ballot log.now marks.now) result }
+        (appends_behind M.Output from ballot log.now progress.now) result }
 {
     let mut whole = true;
-    for mark in marks {
-        let sent = send_at_mark::<M>(alloc, from, ballot, log, *mark, out);
+    for reached in progress {
+        let sent = send_at_reached::<M>(alloc, from, ballot, log, *reached, out);
         whole = whole && sent;
     }
     whole
 }
 
-/// Sends the place at a mark, if the log has it.
-fn send_at_mark<M: Machine>(
+/// Sends the place at a progress, if the log has it.
+fn send_at_reached<M: Machine>(
     alloc: Global,
     from: u8,
     ballot: u64,
     log: &[M::Command],
-    mark: Mark,
+    reached: Progress,
     out: &mut Vec<Effect<M::Command, M::Output>>,
 ) -> bool
     ensures { Sends out.old.items out.new.items
-        (append_at M.Output from ballot mark (slice_get log.now mark.held)) result }
+        (append_at M.Output from ballot reached (slice_get log.now reached.held)) result }
 {
-    match log.get(mark.held as usize) {
+    match log.get(reached.held as usize) {
         Some(command) => {
-            send_append::<M>(alloc, from, ballot, mark.held, command, mark.member, out)
+            send_append::<M>(alloc, from, ballot, reached.held, command, reached.member, out)
         }
         None => true,
     }
 }
 
-/// Tells each node with a mark how many places are committed.
+/// Tells each node with a progress how many places are committed.
 pub fn send_commits<C: Drop, O: Drop>(
     from: u8,
     ballot: u64,
     committed: u64,
-    marks: &[Mark],
+    progress: &[Progress],
     out: &mut Vec<Effect<C, O>>,
 ) -> bool
     ensures { Sends out.old.items out.new.items
-        (message_to_marked O from (Body.Commit ballot committed) marks.now) result }
+        (message_to_followed O from (Body.Commit ballot committed) progress.now) result }
 {
     let mut whole = true;
-    for mark in marks {
+    for reached in progress {
         let body = Body::Commit(ballot, committed);
-        let sent = send(out, mark.member, Message { from, body });
+        let sent = send(out, reached.member, Message { from, body });
         whole = whole && sent;
     }
     whole

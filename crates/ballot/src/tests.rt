@@ -174,7 +174,7 @@ fn a_backup_takes_places_in_order(rt: HostRuntime) -> Result<(), Fail> {
     Ok(())
 }
 
-// A tick sends the place at a mark, to each member that lacks one.
+// A tick sends the place at a progress, to each member that lacks one.
 #[test]
 fn a_tick_sends_what_is_lacking(rt: HostRuntime) -> Result<(), Fail> {
     let config = config(rt.alloc(), &[1, 2, 3], 2)?;

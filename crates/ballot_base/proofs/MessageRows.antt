@@ -6,56 +6,56 @@ use Rattle.machine.specs.Machine.{Rules}
 use Rattle.ballot_base.specs.declared.message.Body.{Body}
 use Rattle.ballot_base.specs.declared.message.Body.TheVariants.{Held, Commit}
 use Rattle.ballot_base.specs.declared.message.Effect.{Effect}
-use Rattle.ballot_base.specs.declared.status.Mark.{Mark}
+use Rattle.ballot_base.specs.declared.status.Progress.{Progress}
 use Rattle.ballot_base.specs.declared.status.Role.{Role}
 use Rattle.ballot_base.specs.declared.status.Role.TheVariants.{Backup, Fetching, Installing, Active}
 use Rattle.ballot_base.specs.Replica.{ReplicaState, is_active}
-use Rattle.ballot_base.specs.Sending.{Outcome, nothing_done, message_to, message_to_marked}
-use Rattle.ballot_base.specs.Serving.{outputs_between, least, raised, raised_mark, follows, leads, extended, commit_at, commit, on_append, on_held, on_commit, appends_behind, on_tick_active}
+use Rattle.ballot_base.specs.Sending.{Outcome, nothing_done, message_to, message_to_followed}
+use Rattle.ballot_base.specs.Serving.{outputs_between, least, raised, raised_progress, follows, leads, extended, commit_at, commit, on_append, on_held, on_commit, appends_behind, on_tick_active}
 use Rattle.ballot_base.specs.Protocol.{ticked}
 use Rattle.ballot_base.proofs.StepRows.{commit_at-goes, commit_at-stays}
 
--- a member's mark stays that member's
-pub raised_mark-member : (member held : ℕ) (mark : Mark) → (raised_mark member held mark).member ≡ mark.member
-raised_mark-member member held mark =
-    cond_both (mark.member == member) (record mark { held = max mark.held held }) mark
-    (λ (m : Mark). m.member ≡ mark.member) (λ _. refl) (λ _. refl)
+-- a member's progress stays that member's
+pub raised_progress-member : (member held : ℕ) (reached : Progress) → (raised_progress member held reached).member ≡ reached.member
+raised_progress-member member held reached =
+    cond_both (reached.member == member) (record reached { held = max reached.held held }) reached
+    (λ (m : Progress). m.member ≡ reached.member) (λ _. refl) (λ _. refl)
 
--- raised marks are those of the same members
-pub message_to_marked-raised : {C : Type 0} (O : Type 0) (id : ℕ) (body : Body C) (member held : ℕ) (marks : List Mark) →
-    message_to_marked O id body (raised member held marks) ≡ message_to_marked O id body marks
-message_to_marked-raised O id body member held [] = refl
-message_to_marked-raised {C = C} O id body member held (mark ∷ marks) =
-    let e = raised_mark-member member held mark in
-    let rest = message_to_marked-raised O id body member held marks in
-    ap (λ n. message_to O id body n ∷ message_to_marked O id body (raised member held marks)) e
-    ∙ ap (λ (xs : List (Effect C O)). message_to O id body mark.member ∷ xs) rest
+-- raised progress are those of the same members
+pub message_to_followed-raised : {C : Type 0} (O : Type 0) (id : ℕ) (body : Body C) (member held : ℕ) (progress : List Progress) →
+    message_to_followed O id body (raised member held progress) ≡ message_to_followed O id body progress
+message_to_followed-raised O id body member held [] = refl
+message_to_followed-raised {C = C} O id body member held (reached ∷ progress) =
+    let e = raised_progress-member member held reached in
+    let rest = message_to_followed-raised O id body member held progress in
+    ap (λ n. message_to O id body n ∷ message_to_followed O id body (raised member held progress)) e
+    ∙ ap (λ (xs : List (Effect C O)). message_to O id body reached.member ∷ xs) rest
 
--- an outcome with marks raised in it
-abbrev pub marks_raised : {C O : Type 0} → ℕ → ℕ → Outcome C O → Outcome C O
-marks_raised member held o =
-    record { state = record o.state { marks = raised member held o.state.marks }; effects = o.effects }
+-- an outcome with progress raised in it
+abbrev pub progress_raised : {C O : Type 0} → ℕ → ℕ → Outcome C O → Outcome C O
+progress_raised member held o =
+    record { state = record o.state { progress = raised member held o.state.progress }; effects = o.effects }
 
--- marks can be raised behind a commit as well as before it
+-- progress can be raised behind a commit as well as before it
 pub commit_at-raised : {S C O : Type 0} (rules : Rules S C O) (r : ReplicaState C) (member held n : ℕ) →
-    commit_at rules (record r { marks = raised member held r.marks }) n
-    ≡ marks_raised member held (commit_at rules r n)
+    commit_at rules (record r { progress = raised member held r.progress }) n
+    ≡ progress_raised member held (commit_at rules r n)
 commit_at-raised {C = C} {O = O} rules r member held n = by_order (cases_lt r.committed n)
   where
     by_order : (r.committed < n) ⊎ (n ≤ r.committed) →
-        commit_at rules (record r { marks = raised member held r.marks }) n
-        ≡ marks_raised member held (commit_at rules r n)
+        commit_at rules (record r { progress = raised member held r.progress }) n
+        ≡ progress_raised member held (commit_at rules r n)
     by_order (inl above) =
-        commit_at-goes rules (record r { marks = raised member held r.marks }) n above
+        commit_at-goes rules (record r { progress = raised member held r.progress }) n above
         ∙ ap (λ (es : List (Effect C O)).
         let o : Outcome C O = record {
-          state = record r { committed = n; marks = raised member held r.marks };
+          state = record r { committed = n; progress = raised member held r.progress };
           effects = outputs_between rules r.log r.committed n ++ es;
-        } in o) (message_to_marked-raised O r.id (Commit r.joined n) member held r.marks)
-        ∙ ap (marks_raised member held) (sym (commit_at-goes rules r n above))
+        } in o) (message_to_followed-raised O r.id (Commit r.joined n) member held r.progress)
+        ∙ ap (progress_raised member held) (sym (commit_at-goes rules r n above))
     by_order (inr below) =
-        commit_at-stays rules (record r { marks = raised member held r.marks }) n below
-        ∙ ap (marks_raised member held) (sym (commit_at-stays rules r n below))
+        commit_at-stays rules (record r { progress = raised member held r.progress }) n below
+        ∙ ap (progress_raised member held) (sym (commit_at-stays rules r n below))
 
 -- Append at a replica that does not follow the ballot, or behind a gap
 pub on_append-elsewhere : {C : Type 0} (O : Type 0) (r : ReplicaState C) (from ballot place : ℕ) (command : C) →
@@ -88,8 +88,8 @@ on_held-elsewhere rules r from ballot held no_leader = rw no_leader refl
 pub on_held-raises : {S C O : Type 0} (rules : Rules S C O) (r : ReplicaState C) (from ballot held : ℕ) →
     leads r ballot ≡ true →
     on_held rules r from ballot held
-    ≡ commit_at rules (record r { marks = raised from held r.marks })
-    (least (length r.log) (raised from held r.marks))
+    ≡ commit_at rules (record r { progress = raised from held r.progress })
+    (least (length r.log) (raised from held r.progress))
 unfolding on_held commit
 on_held-raises rules r from ballot held leader = rw leader refl
 
@@ -122,8 +122,8 @@ ticked-active O r Active active = refl
 pub on_tick_active-is : {C : Type 0} (O : Type 0) (r : ReplicaState C) →
     on_tick_active O r ≡ record {
       state = r;
-      effects = appends_behind O r.id r.joined r.log r.marks
-          ++ message_to_marked O r.id (Commit r.joined r.committed) r.marks;
+      effects = appends_behind O r.id r.joined r.log r.progress
+          ++ message_to_followed O r.id (Commit r.joined r.committed) r.progress;
     }
 unfolding on_tick_active
 on_tick_active-is O r = refl

@@ -3,9 +3,9 @@ use Rattle.std.proofs.Common.{◌≡◌, ℕ, ◌<◌, ◌≤◌, true, false, L
 use Rattle.std.proofs.lemmas.Bool.{lt-ltb, le-ltb, cases_lt}
 use Rattle.machine.specs.Machine.{Rules}
 use Rattle.ballot_base.specs.declared.message.Body.TheVariants.{Append, Commit}
-use Rattle.ballot_base.specs.declared.status.Mark.{Mark}
+use Rattle.ballot_base.specs.declared.status.Progress.{Progress}
 use Rattle.ballot_base.specs.Replica.{ReplicaState, is_active}
-use Rattle.ballot_base.specs.Sending.{Outcome, nothing_done, message_to_marked, sent_first}
+use Rattle.ballot_base.specs.Sending.{Outcome, nothing_done, message_to_followed, sent_first}
 use Rattle.ballot_base.specs.Serving.{outputs_between, least, commit_at, commit, most_places, added, proposed}
 
 -- nothing new is committed
@@ -20,22 +20,22 @@ pub commit_at-goes : {S C O : Type 0} (rules : Rules S C O) (r : ReplicaState C)
     commit_at rules r held ≡ record {
       state = record r { committed = held };
       effects = outputs_between rules r.log r.committed held
-          ++ message_to_marked O r.id (Commit r.joined held) r.marks;
+          ++ message_to_followed O r.id (Commit r.joined held) r.progress;
     }
 unfolding commit_at
 commit_at-goes rules r held above = rw (lt-ltb r.committed held above) refl
 
--- the least of a length and the marks is at most the length
-pub least-le : (held : ℕ) (marks : List Mark) → least held marks ≤ held
+-- the least of a length and the progress is at most the length
+pub least-le : (held : ℕ) (progress : List Progress) → least held progress ≤ held
 least-le held [] = omega arith
-least-le held (mark ∷ marks) = omega (arith, least-le (min held mark.held) marks)
+least-le held (reached ∷ progress) = omega (arith, least-le (min held reached.held) progress)
 
 -- a command that is added is committed by what the others hold
 pub added-is : {S C O : Type 0} (rules : Rules S C O) (r : ReplicaState C) (command : C) →
     added rules r command ≡ sent_first
-    (message_to_marked O r.id (Append r.joined (length r.log) command) r.marks)
+    (message_to_followed O r.id (Append r.joined (length r.log) command) r.progress)
     (commit_at rules (record r { log = r.log ++ command ∷ [] })
-    (least (length (r.log ++ command ∷ [])) r.marks))
+    (least (length (r.log ++ command ∷ [])) r.progress))
 unfolding added commit
 added-is rules r command = refl
 

@@ -8,7 +8,7 @@ use Rattle.ballot_base.specs.declared.message.Effect.{Effect}
 use Rattle.ballot_base.specs.declared.status.Role.TheVariants.{Backup, Fetching, Installing, Active}
 use Rattle.ballot_base.specs.Sending.{Outcome, nothing_done, message_to, message_to_each, master}
 use Rattle.ballot_base.specs.Serving.{most_places, added}
-use Rattle.ballot_base.specs.Replica.{ReplicaState, is_fetching, is_installing, others, marks_at}
+use Rattle.ballot_base.specs.Replica.{ReplicaState, is_fetching, is_installing, others, progress_at}
 
 -- a new primary asks the earlier ballot's members, itself included where it is one, for their logs
 unfoldable pub on_new_ballot : {C : Type 0} (O : Type 0) →
@@ -23,7 +23,7 @@ on_new_ballot O r ballot members previous previous_members =
         previous = previous;
         previous_members = previous_members;
         noted = [];
-        marks = [];
+        progress = [];
       };
       effects = message_to_each O r.id (Join ballot previous) previous_members;
     }
@@ -94,7 +94,7 @@ on_activated {O = O} rules r ballot =
     let active = record r {
       role = Active;
       committed = length r.log;
-      marks = marks_at (length r.log) (others r.id r.members);
+      progress = progress_at (length r.log) (others r.id r.members);
     } in
     if (r.joined == ballot && is_installing r.role)
     && (nat_le (length (not_noted r)) 0 && nat_lt (length r.log) most_places)

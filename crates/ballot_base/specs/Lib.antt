@@ -1,5 +1,5 @@
 pub mod Changing
-pub mod Config
+pub mod LawfulConfig
 pub mod Losses
 pub mod Protocol
 pub mod Replica

@@ -3,7 +3,7 @@ use Rattle.std.specs.Prelude.{ℕ, ◌+◌, ◌-◌, ◌^◌, ◌≡◌, ◌⊎�
 use Rattle.ballot_base.specs.declared.message.Message.{Message}
 use Rattle.ballot_base.specs.declared.message.Effect.{Effect}
 use Rattle.ballot_base.specs.declared.message.Effect.TheVariants.{To}
-use Rattle.ballot_base.specs.Replica.{ReplicaState, Counted}
+use Rattle.ballot_base.specs.Replica.{ReplicaState, CountedReplica}
 use Rattle.ballot_base.specs.Sending.{Outcome}
 
 -- the first list is the second with some messages missing; no output is
@@ -29,13 +29,13 @@ abbrev pub one_more : ℕ → ℕ
 one_more losses = min (losses + 1) (2 ^ 64 - 1)
 
 -- the step itself, or a step with losses that was counted
-abbrev pub Steps : {C O : Type 0} → Counted C → Outcome C O → Counted C → List (Effect C O) → Type 0
+abbrev pub Steps : {C O : Type 0} → CountedReplica C → Outcome C O → CountedReplica C → List (Effect C O) → Type 0
 Steps old outcome new given =
     ((new.state ≡ outcome.state) × (given ≡ outcome.effects) × (new.losses ≡ old.losses))
     ⊎ (Loses old.state outcome new.state given × (new.losses ≡ one_more old.losses))
 
 -- the step was done, perhaps with messages missing, which was counted
-pub record Done {C O : Type 0} (old : Counted C) (outcome : Outcome C O) (new : Counted C)
+pub record Done {C O : Type 0} (old : CountedReplica C) (outcome : Outcome C O) (new : CountedReplica C)
     (before behind : List (Effect C O)) : Type 0 where
   pub given : List (Effect C O)
   pub appended : behind ≡ before ++ given
@@ -51,7 +51,7 @@ pub record IsQuiet {C O : Type 0} (old : ReplicaState C) (outcome : Outcome C O)
   pub same_committed : outcome.state.committed ≡ old.committed
 
 -- a call's effects were appended behind what was there, and they are those of the step
-pub record Stepped {C O : Type 0} (old : Counted C) (outcome : Outcome C O) (new : Counted C)
+pub record Stepped {C O : Type 0} (old : CountedReplica C) (outcome : Outcome C O) (new : CountedReplica C)
     (before behind : List (Effect C O)) : Type 0 where
   pub given : List (Effect C O)
   pub appended : behind ≡ before ++ given

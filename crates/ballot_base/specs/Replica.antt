@@ -1,7 +1,7 @@
 -- Replica.antt: what a replica keeps, and how it opens.
 use Rattle.std.specs.Prelude.{ℕ, Bool, true, false, List, [], length, filter, map, not, ◌==◌, if◌then◌else◌}
 use Rattle.ballot_base.specs.declared.config.Config.{Config}
-use Rattle.ballot_base.specs.declared.status.Mark.{Mark}
+use Rattle.ballot_base.specs.declared.status.Progress.{Progress}
 use Rattle.ballot_base.specs.declared.status.Role.{Role}
 use Rattle.ballot_base.specs.declared.status.Role.TheVariants.{Backup, Fetching, Installing, Active}
 use Rattle.ballot_base.specs.declared.status.Status.{Status}
@@ -25,11 +25,11 @@ pub record ReplicaState (C : Type 0) : Type 0 where
   pub previous : ℕ
   pub previous_members : List ℕ
   pub noted : List ℕ
-  pub marks : List Mark
+  pub progress : List Progress
   pub stopped : Bool
 
 -- a replica with the number of its calls in which memory was wanting, up to 2^64 - 1
-pub record Counted (C : Type 0) : Type 0 where
+pub record CountedReplica (C : Type 0) : Type 0 where
   pub state : ReplicaState C
   pub losses : ℕ
 
@@ -62,9 +62,9 @@ is_installing Active = false
 abbrev pub others : ℕ → List ℕ → List ℕ
 others id members = filter (λ member. not (member == id)) members
 
--- a mark for each of some members
-abbrev pub marks_at : ℕ → List ℕ → List Mark
-marks_at held members = map (λ member. record { member = member; held = held }) members
+-- a progress for each of some members
+abbrev pub progress_at : ℕ → List ℕ → List Progress
+progress_at held members = map (λ member. record { member = member; held = held }) members
 
 -- the members of ballot 1 have joined it with an empty log; other nodes are backups of no ballot
 abbrev pub opening_member : (C : Type 0) → ℕ → Config → ReplicaState C
@@ -82,18 +82,18 @@ opening_member C id config =
       previous = 0;
       previous_members = [];
       noted = [];
-      marks = [];
+      progress = [];
       stopped = false;
     }
 
--- how a node opens: the primary of ballot 1 is active at once, with mark 0 for each other member
+-- how a node opens: the primary of ballot 1 is active at once, with progress 0 for each other member
 abbrev pub opening : (C : Type 0) → ℕ → Config → ReplicaState C
 opening C id config =
     if id == config.primary
     then record (opening_member C id config) {
       role = Active;
       members = config.members;
-      marks = marks_at 0 (others id config.members);
+      progress = progress_at 0 (others id config.members);
     }
     else opening_member C id config
 

@@ -3,7 +3,7 @@ use Rattle.std.specs.Prelude.{ℕ, List, [], ◌++◌, map}
 use Rattle.ballot_base.specs.declared.message.Body.{Body}
 use Rattle.ballot_base.specs.declared.message.Effect.{Effect}
 use Rattle.ballot_base.specs.declared.message.Effect.TheVariants.{To}
-use Rattle.ballot_base.specs.declared.status.Mark.{Mark}
+use Rattle.ballot_base.specs.declared.status.Progress.{Progress}
 use Rattle.ballot_base.specs.Replica.{ReplicaState}
 
 -- what a replica is after a step, and what the step hands out
@@ -15,16 +15,16 @@ pub record Outcome (C O : Type 0) : Type 0 where
 abbrev pub nothing_done : {C : Type 0} (O : Type 0) → ReplicaState C → Outcome C O
 nothing_done O r = record { state = r; effects = [] }
 
--- a message of this replica to a node, to several, and to each node that it keeps a mark of
+-- a message of this replica to a node, to several, and to each node that it keeps a progress of
 abbrev pub message_to : {C : Type 0} (O : Type 0) → ℕ → Body C → ℕ → Effect C O
 message_to O id body receiver = To receiver (record { from = id; body = body })
 
 abbrev pub message_to_each : {C : Type 0} (O : Type 0) → ℕ → Body C → List ℕ → List (Effect C O)
 message_to_each O id body receivers = map (message_to O id body) receivers
 
-abbrev pub message_to_marked : {C : Type 0} (O : Type 0) →
-    ℕ → Body C → List Mark → List (Effect C O)
-message_to_marked O id body marks = map (λ mark. message_to O id body mark.member) marks
+abbrev pub message_to_followed : {C : Type 0} (O : Type 0) →
+    ℕ → Body C → List Progress → List (Effect C O)
+message_to_followed O id body progress = map (λ reached. message_to O id body reached.member) progress
 
 -- an outcome behind messages that were sent first
 abbrev pub sent_first : {C O : Type 0} → List (Effect C O) → Outcome C O → Outcome C O

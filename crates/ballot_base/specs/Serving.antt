@@ -6,8 +6,8 @@ use Rattle.machine.specs.Machine.{Rules, replay}
 use Rattle.ballot_base.specs.declared.message.Body.TheVariants.{Append, Held, Commit}
 use Rattle.ballot_base.specs.declared.message.Effect.{Effect}
 use Rattle.ballot_base.specs.declared.message.Effect.TheVariants.{Out}
-use Rattle.ballot_base.specs.declared.status.Mark.{Mark}
-use Rattle.ballot_base.specs.Sending.{Outcome, nothing_done, message_to, message_to_marked, sent_first}
+use Rattle.ballot_base.specs.declared.status.Progress.{Progress}
+use Rattle.ballot_base.specs.Sending.{Outcome, nothing_done, message_to, message_to_followed, sent_first}
 use Rattle.ballot_base.specs.Replica.{ReplicaState, is_active, is_backup}
 
 -- the outputs of commands that are done one after the other from a state, each with its place
@@ -22,18 +22,18 @@ abbrev pub outputs_between : {S C O : Type 0} → Rules S C O → List C → ℕ
 outputs_between rules log from to =
     outputs_from rules (replay rules (take from log)) from (drop from (take to log))
 
--- the least of a length and all marks
-abbrev pub least : ℕ → List Mark → ℕ
+-- the least of a length and all progress
+abbrev pub least : ℕ → List Progress → ℕ
 least held [] = held
-least held (mark ∷ marks) = least (min held mark.held) marks
+least held (reached ∷ progress) = least (min held reached.held) progress
 
--- the mark of a member becomes the greater of it and what the member now holds
-abbrev pub raised_mark : ℕ → ℕ → Mark → Mark
-raised_mark member held mark =
-    if mark.member == member then record mark { held = max mark.held held } else mark
+-- the progress of a member becomes the greater of it and what the member now holds
+abbrev pub raised_progress : ℕ → ℕ → Progress → Progress
+raised_progress member held reached =
+    if reached.member == member then record reached { held = max reached.held held } else reached
 
-abbrev pub raised : ℕ → ℕ → List Mark → List Mark
-raised member held marks = map (raised_mark member held) marks
+abbrev pub raised : ℕ → ℕ → List Progress → List Progress
+raised member held progress = map (raised_progress member held) progress
 
 -- places below `held` that are not applied yet are applied, their outputs given, and the other
 -- members hear of it
@@ -43,13 +43,13 @@ commit_at {O = O} rules r held =
     then record {
       state = record r { committed = held };
       effects = outputs_between rules r.log r.committed held
-          ++ message_to_marked O r.id (Commit r.joined held) r.marks;
+          ++ message_to_followed O r.id (Commit r.joined held) r.progress;
     }
     else nothing_done O r
 
 -- what every member holds is committed
 unfoldable pub commit : {S C O : Type 0} → Rules S C O → ReplicaState C → Outcome C O
-commit rules r = commit_at rules r (least (length r.log) r.marks)
+commit rules r = commit_at rules r (least (length r.log) r.progress)
 
 -- how many places a log can have
 abbrev pub most_places : ℕ
@@ -59,7 +59,7 @@ most_places = 2 ^ 40
 unfoldable pub added : {S C O : Type 0} → Rules S C O → ReplicaState C → C → Outcome C O
 added {O = O} rules r command =
     sent_first
-    (message_to_marked O r.id (Append r.joined (length r.log) command) r.marks)
+    (message_to_followed O r.id (Append r.joined (length r.log) command) r.progress)
     (commit rules (record r { log = r.log ++ command ∷ [] }))
 
 -- a proposal counts at an active primary whose log has room
@@ -95,7 +95,7 @@ on_append O r from ballot place command =
 unfoldable pub on_held : {S C O : Type 0} → Rules S C O → ReplicaState C → ℕ → ℕ → ℕ → Outcome C O
 on_held {O = O} rules r from ballot held =
     if leads r ballot
-    then commit rules (record r { marks = raised from held r.marks })
+    then commit rules (record r { progress = raised from held r.progress })
     else nothing_done O r
 
 -- Commit(ballot, held): the outputs are the primary's to give, and a backup drops them
@@ -105,22 +105,22 @@ on_commit O r ballot held =
     then record { state = record r { committed = max r.committed held }; effects = [] }
     else nothing_done O r
 
--- what a member may lack: the place at its mark, if the log has it
-abbrev pub append_at : {C : Type 0} (O : Type 0) → ℕ → ℕ → Mark → Option C → List (Effect C O)
-append_at O id ballot mark None = []
-append_at O id ballot mark (Some command) =
-    message_to O id (Append ballot mark.held command) mark.member ∷ []
+-- what a member may lack: the place at its progress, if the log has it
+abbrev pub append_at : {C : Type 0} (O : Type 0) → ℕ → ℕ → Progress → Option C → List (Effect C O)
+append_at O id ballot reached None = []
+append_at O id ballot reached (Some command) =
+    message_to O id (Append ballot reached.held command) reached.member ∷ []
 
 abbrev pub appends_behind : {C : Type 0} (O : Type 0) →
-    ℕ → ℕ → List C → List Mark → List (Effect C O)
-appends_behind O id ballot log marks =
-    flat_map (λ mark. append_at O id ballot mark (slice_get log mark.held)) marks
+    ℕ → ℕ → List C → List Progress → List (Effect C O)
+appends_behind O id ballot log progress =
+    flat_map (λ reached. append_at O id ballot reached (slice_get log reached.held)) progress
 
 -- an active primary says again what the other members lack, and what is committed
 unfoldable pub on_tick_active : {C : Type 0} (O : Type 0) → ReplicaState C → Outcome C O
 on_tick_active O r =
     record {
       state = r;
-      effects = appends_behind O r.id r.joined r.log r.marks
-          ++ message_to_marked O r.id (Commit r.joined r.committed) r.marks;
+      effects = appends_behind O r.id r.joined r.log r.progress
+          ++ message_to_followed O r.id (Commit r.joined r.committed) r.progress;
     }

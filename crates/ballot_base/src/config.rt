@@ -1,7 +1,7 @@
 // Who is in a ballot.
 
 ghost use Rattle.std.specs.Prelude.{◌≡◌, IfOk, length};
-ghost use Rattle.ballot_base.specs.Config.{is_lawful};
+ghost use Rattle.ballot_base.specs.LawfulConfig.{is_lawful};
 
 use machine::Memory;
 use std::alloc::Global;

@@ -10,4 +10,4 @@ mod status;
 pub use config::{Config, Members};
 pub use log::Log;
 pub use message::{Body, Effect, Message};
-pub use status::{Mark, Role, Status};
+pub use status::{Progress, Role, Status};

@@ -40,7 +40,7 @@ impl Role {
 
 /// What an active primary knows of another member.
 #[derive(Clone, Copy, Debug, PartialEq, Eq)]
-pub struct Mark {
+pub struct Progress {
     /// The member.
     pub member: u8,
     /// How many places it is known to hold.

@@ -12,7 +12,7 @@ use Rattle.broker_base.specs.Past.{current_connection, begins}
 use Rattle.broker_base.specs.Owner.{clients}
 use Rattle.session_base.specs.declared.publication.Publication.{Publication}
 use Rattle.session_base.specs.Publication.{is_answered}
-use Rattle.session_base.specs.Identifiers.{has_id}
+use Rattle.lists.specs.Lists.{has_id}
 use Rattle.broker_base.specs.Entries.{Entry, copies_at}
 use Rattle.broker_base.specs.Readings.{made_at, released_below}
 use Rattle.broker_base.specs.Times.{entries_of}
@@ -23,29 +23,29 @@ use Rattle.broker_base.specs.Answers.{closed, welcome, acknowledged, handled, pa
 use Rattle.broker_base.specs.AnswerLaws.{goes_to, named_in, is_unasked, IsAddressed, AnswersAreAddressed}
 use Rattle.broker_base.specs.declared.command.Command.{Command}
 use Rattle.broker_base.specs.declared.command.Command.TheVariants as commands
-use Rattle.broker_base.specs.declared.command.Answer.{Answer}
-use Rattle.broker_base.specs.declared.command.Answer.TheVariants.{Send}
+use Rattle.broker_base.specs.declared.command.Output.{Output}
+use Rattle.broker_base.specs.declared.command.Output.TheVariants.{Send}
 
 -- ---- all of a list
 
-abbrev pub Each : (Answer → Type 0) → List Answer → Type 0
+abbrev pub Each : (Output → Type 0) → List Output → Type 0
 Each P = AllByRecursion P
 
-joined : (P : Answer → Type 0) (xs ys : List Answer) → Each P xs → Each P ys → Each P (xs ++ ys)
+joined : (P : Output → Type 0) (xs ys : List Output) → Each P xs → Each P ys → Each P (xs ++ ys)
 joined P [] ys a b = b
 joined P (x ∷ xs) ys a b = (a.0, joined P xs ys a.1 b)
 
-of-each : {X : Type 0} (P : Answer → Type 0) (f : X → List Answer) (xs : List X) → ((x : X) → Each P (f x)) → Each P (flat_map f xs)
+of-each : {X : Type 0} (P : Output → Type 0) (f : X → List Output) (xs : List X) → ((x : X) → Each P (f x)) → Each P (flat_map f xs)
 of-each P f [] h = tt
 of-each P f (x ∷ xs) h = joined P (f x) (flat_map f xs) (h x) (of-each P f xs h)
 
-weaker : (P Q : Answer → Type 0) → ((answer : Answer) → P answer → Q answer) → (xs : List Answer) → Each P xs → Each Q xs
+weaker : (P Q : Output → Type 0) → ((answer : Output) → P answer → Q answer) → (xs : List Output) → Each P xs → Each Q xs
 weaker P Q h [] a = tt
 weaker P Q h (x ∷ xs) a = (h x a.0, weaker P Q h xs a.1)
 
 -- ---- what is sent of entries is a PUBLISH to the client's connection
 
-abbrev pub Unasked : ConnectionName → Answer → Type 0
+abbrev pub Unasked : ConnectionName → Output → Type 0
 Unasked x answer = (goes_to answer ≡ x) × (is_unasked answer ≡ true)
 
 first-by : (x : ConnectionName) (n id : ℕ) (p : Publication) (made start : ℕ) → Each (Unasked x) (sent_first x n (Entry.Started made p id start))
@@ -76,10 +76,10 @@ handed-unasked x n (p ∷ copies) es = handed-by x n p copies es (λ rest. hande
 
 -- ---- to the command's own connection
 
-abbrev pub To : ConnectionName → Answer → Type 0
+abbrev pub To : ConnectionName → Output → Type 0
 To x answer = goes_to answer ≡ x
 
-to-them : (x : ConnectionName) (xs : List Answer) → Each (Unasked x) xs → Each (To x) xs
+to-them : (x : ConnectionName) (xs : List Output) → Each (Unasked x) xs → Each (To x) xs
 to-them x xs a = weaker (Unasked x) (To x) (λ answer h. h.0) xs a
 
 again-to : (x : ConnectionName) (n : ℕ) (e : Entry) → Each (To x) (sent_again x n e)
@@ -130,10 +130,10 @@ handled-to packets.Disconnect limits place past x c = tt
 
 -- ---- the law
 
-own : (past : Past) (k : Command) (x : ConnectionName) → named_in k ≡ Some x → (xs : List Answer) → Each (To x) xs → Each (IsAddressed past k) xs
+own : (past : Past) (k : Command) (x : ConnectionName) → named_in k ≡ Some x → (xs : List Output) → Each (To x) xs → Each (IsAddressed past k) xs
 own past k x e xs a = weaker (To x) (IsAddressed past k) (λ answer h. inl (e ∙ ap (λ z. Some z) (sym h))) xs a
 
-others : (past : Past) (k : Command) (c : Client) (x : ConnectionName) → current_connection past c ≡ Some x → (xs : List Answer) → Each (Unasked x) xs → Each (IsAddressed past k) xs
+others : (past : Past) (k : Command) (c : Client) (x : ConnectionName) → current_connection past c ≡ Some x → (xs : List Output) → Each (Unasked x) xs → Each (IsAddressed past k) xs
 others past k c x e xs a = weaker (Unasked x) (IsAddressed past k) (λ answer h. inr ((c, e ∙ ap (λ z. Some z) (sym h.0)), h.1)) xs a
 
 delivered : (past : Past) (k : Command) (c : Client) (n : ℕ) (copies : List Publication) (es : List Entry) (current : Option ConnectionName) → current_connection past c ≡ current

@@ -15,7 +15,7 @@ use Rattle.broker_base.specs.Kept.{Kept, flights_below, kept_of}
 use Rattle.broker_base.specs.KeptStep.{answered_flights}
 use Rattle.broker_base.specs.StepAnswers.{while_connected}
 use Rattle.broker_base.specs.declared.command.Command.{Command}
-use Rattle.broker_base.specs.declared.command.Answer.TheVariants.{Send}
+use Rattle.broker_base.specs.declared.command.Output.TheVariants.{Send}
 use Rattle.session_base.proofs.CountedIdentifiers.{count}
 use Rattle.broker_base.proofs.SoundEntries.{Sound}
 use Rattle.broker_base.proofs.IdentifiersInFlight.{append_none, same_ids}

@@ -15,7 +15,7 @@ use Rattle.broker_base.specs.Sends.{resent}
 use Rattle.broker_base.specs.Answers.{closed}
 use Rattle.broker_base.specs.Kept.{flights_below, kept_of}
 use Rattle.broker_base.specs.StepAnswers.{connection_of, resumed}
-use Rattle.broker_base.specs.declared.command.Answer.TheVariants.{Send}
+use Rattle.broker_base.specs.declared.command.Output.TheVariants.{Send}
 use Rattle.broker_base.proofs.SoundEntries.{Sound}
 use Rattle.broker_base.proofs.IdentifiersInFlight.{append_none}
 use Rattle.broker_base.proofs.SendsOfStarts.{resent_is}

@@ -3,7 +3,7 @@ use Rattle.std.proofs.Common.{◌≡◌, ℕ, Bool, true, false, not, ◌&&◌, 
 use Rattle.std.specs.declared.cmp.Ordering.{Ordering}
 use Rattle.std.specs.declared.cmp.Ordering.TheVariants.{Less, Equal, Greater}
 use Rattle.std.specs.Ordering.{match_ordering}
-use Rattle.retained.specs.Retained.{Content}
+use Rattle.retained.specs.Retained.{RetainedTopics}
 use Rattle.broker_base.specs.Connection.{ConnectionName, same_connection}
 use Rattle.broker_base.specs.Place.{Client, by_bytes, Place, only_if}
 use Rattle.broker_base.specs.Past.{accepts, any_connection, ends_any}
@@ -35,20 +35,20 @@ not_left : (y : ConnectionName) (b : Bool) (connection : Option ConnectionName) 
 not_left y true connection h = h
 not_left y false connection h = refl
 
-not_connected : (y : ConnectionName) (w : ℕ) (place : Place) (content : Content) (c : Client) (opened : ConnectionName × Bool) (old : Option Kept) →
+not_connected : (y : ConnectionName) (w : ℕ) (place : Place) (content : RetainedTopics) (c : Client) (opened : ConnectionName × Bool) (old : Option Kept) →
     same_connection y opened.0 ≡ false → NotOn y (Some (kept_connected w place content c opened old))
 not_connected y w place content c opened None h = h
 not_connected y w place content c opened (Some old) h =
     elim (opened.1 || old.clean) as (λ (b : Bool). NotOn y (Some (if b then kept_anew opened else kept_on w place content c opened.1 (Some opened.0) old))) [ true ↦ h | false ↦ h ]
 
-not_by : (y : ConnectionName) (w : ℕ) (place : Place) (content : Content) (c : Client) (opened : Option (ConnectionName × Bool)) (old : Kept) →
+not_by : (y : ConnectionName) (w : ℕ) (place : Place) (content : RetainedTopics) (c : Client) (opened : Option (ConnectionName × Bool)) (old : Kept) →
     ((a : ConnectionName × Bool) → opened ≡ Some a → same_connection y a.0 ≡ false) → any_connection (same_connection y) old.connection ≡ false →
     NotOn y (kept_by w place content c opened (Some old))
 not_by y w place content c (Some a) old other h = not_connected y w place content c a (Some old) (other a refl)
 not_by y w place content c None old other h =
     not_only y (not (old.clean && ends_any place old.connection)) _ (not_left y (not (ends_any place old.connection)) old.connection h)
 
-pub not_after : (y : ConnectionName) (w : ℕ) (place : Place) (content : Content) (c : Client) (old : Kept) →
+pub not_after : (y : ConnectionName) (w : ℕ) (place : Place) (content : RetainedTopics) (c : Client) (old : Kept) →
     ((a : ConnectionName × Bool) → accepts place.command place.mark c ≡ Some a → same_connection y a.0 ≡ false) → any_connection (same_connection y) old.connection ≡ false →
     NotOn y (session_after w place content c old)
 not_after y w place content c old other h =
@@ -61,7 +61,7 @@ pub nobodys_keyed : (y : ConnectionName) (c : Client) (o : Option Kept) (rows : 
 nobodys_keyed y c None rows h k = k
 nobodys_keyed y c (Some kept) rows h k = (h, k)
 
-pub nobodys_left : (y : ConnectionName) (w : ℕ) (place : Place) (content : Content) (rows : Sessions) →
+pub nobodys_left : (y : ConnectionName) (w : ℕ) (place : Place) (content : RetainedTopics) (rows : Sessions) →
     ((c : Client) (a : ConnectionName × Bool) → accepts place.command place.mark c ≡ Some a → same_connection y a.0 ≡ false) → IsNobodys y rows →
     IsNobodys y (sessions_left w place content rows)
 nobodys_left y w place content [] other h = tt
@@ -93,13 +93,13 @@ old_left : (b : Bool) (connection : Option ConnectionName) → (only_if b connec
 old_left true connection = inr refl
 old_left false connection = inl refl
 
-old_by : (w : ℕ) (place : Place) (content : Content) (c : Client) (opened : Option (ConnectionName × Bool)) (old : Kept) → opened ≡ None →
+old_by : (w : ℕ) (place : Place) (content : RetainedTopics) (c : Client) (opened : Option (ConnectionName × Bool)) (old : Kept) → opened ≡ None →
     OnOld old.connection (kept_by w place content c opened (Some old))
 old_by w place content c (Some a) old e = absurd (cc)
 old_by w place content c None old e =
     old_only old.connection (not (old.clean && ends_any place old.connection)) _ (old_left (not (ends_any place old.connection)) old.connection)
 
-pub old_after : (w : ℕ) (place : Place) (content : Content) (c : Client) (old : Kept) → accepts place.command place.mark c ≡ None → OnOld old.connection (session_after w place content c old)
+pub old_after : (w : ℕ) (place : Place) (content : RetainedTopics) (c : Client) (old : Kept) → accepts place.command place.mark c ≡ None → OnOld old.connection (session_after w place content c old)
 old_after w place content c old e =
     elim (touches place c old) as (λ (b : Bool). OnOld old.connection (if b then kept_after w place content c (Some old) else Some old)) [
       | true ↦ old_by w place content c (accepts place.command place.mark c) old e

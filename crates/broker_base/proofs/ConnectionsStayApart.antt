@@ -3,7 +3,7 @@ use Rattle.std.proofs.Common.{◌≡◌, ℕ, Bool, true, false, ◌||◌, if◌
 use Rattle.std.specs.declared.cmp.Ordering.{Ordering}
 use Rattle.std.specs.declared.cmp.Ordering.TheVariants.{Less, Equal, Greater}
 use Rattle.std.specs.Ordering.{is_eq, match_ordering}
-use Rattle.retained.specs.Retained.{Content}
+use Rattle.retained.specs.Retained.{RetainedTopics}
 use Rattle.broker_base.specs.Connection.{ConnectionName, same_connection}
 use Rattle.broker_base.specs.Place.{Client, by_bytes, same_client, Mark, Place, Limits, only_if}
 use Rattle.broker_base.specs.Past.{accepts, any_connection}
@@ -36,7 +36,7 @@ other_opens x y clean true opened a is e h = ap (same_connection y) (ap_first (s
     ap_first f = cc
 other_opens x y clean false opened a is e h = absurd (let f : None ≡ Some a = sym is ∙ e in cc)
 
-pub apart_put : (x : ConnectionName) (c : Client) (clean : Bool) (kept : Kept) (w : ℕ) (place : Place) (content : Content) (rows : Sessions) →
+pub apart_put : (x : ConnectionName) (c : Client) (clean : Bool) (kept : Kept) (w : ℕ) (place : Place) (content : RetainedTopics) (rows : Sessions) →
     ((d : Client) → accepts place.command place.mark d ≡ only_if (same_client c d) (Some (x, clean))) → kept.connection ≡ Some x →
     AreByClient rows → AreApart rows → IsNobodys x rows → AreApart (put_session c kept (sessions_left w place content rows))
 apart_put x c clean kept w place content [] is on by_client apart nobodys = (λ y e. tt, tt)
@@ -96,7 +96,7 @@ accepted_none : (limits : Limits) (state : State) (c : Client) (owner : Option (
 accepted_none limits state c None e = refl
 accepted_none limits state c (Some row) e = absurd (cc)
 
-on_opened : (w : ℕ) (place : Place) (content : Content) (c : Client) (opened : ConnectionName × Bool) (old : Option Kept) → (kept_connected w place content c opened old).connection ≡ Some opened.0
+on_opened : (w : ℕ) (place : Place) (content : RetainedTopics) (c : Client) (opened : ConnectionName × Bool) (old : Option Kept) → (kept_connected w place content c opened old).connection ≡ Some opened.0
 on_opened w place content c opened None = refl
 on_opened w place content c opened (Some old) =
     elim (opened.1 || old.clean) as (λ (b : Bool). (if b then kept_anew opened else kept_on w place content c opened.1 (Some opened.0) old).connection ≡ Some opened.0) [ true ↦ refl | false ↦ refl ]

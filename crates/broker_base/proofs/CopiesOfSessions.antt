@@ -15,7 +15,7 @@ use Rattle.broker_base.specs.Times.{answered_by, start_all, started, window_at, 
 use Rattle.broker_base.specs.Sends.{handed, handed_to, deliveries_to}
 use Rattle.broker_base.specs.Kept.{flights_below, queue_of, kept_of}
 use Rattle.broker_base.specs.StepAnswers.{copies_to}
-use Rattle.broker_base.specs.declared.command.Answer.TheVariants.{Send}
+use Rattle.broker_base.specs.declared.command.Output.TheVariants.{Send}
 use Rattle.session_base.proofs.CountedIdentifiers.{count, SameIds, same_length}
 use Rattle.broker_base.proofs.SoundEntries.{Sound}
 use Rattle.broker_base.proofs.IdentifiersInFlight.{append_none, same_ids}

@@ -3,8 +3,8 @@ use Rattle.std.proofs.Common.{◌≡◌, ℕ, suc, ◌≤◌, ◌<◌, ◌+◌, 
 use Rattle.packet.specs.declared.qos.QoS.{QoS}
 use Rattle.packet.specs.declared.subscribe.Subscription.{Subscription}
 use Rattle.packet.specs.declared.packet.Packet.TheVariants as packets
-use Rattle.retained.specs.declared.kept.Kept.{Kept}
-use Rattle.retained.specs.Retained.{Content, matching_entries}
+use Rattle.retained.specs.declared.retained_publication.RetainedPublication.{RetainedPublication}
+use Rattle.retained.specs.Retained.{RetainedTopics, matching_entries}
 use Rattle.broker_base.specs.Connection.{ConnectionName}
 use Rattle.broker_base.specs.Place.{Client, same_client, Mark, Past, Limits}
 use Rattle.broker_base.specs.Past.{current_connection, session_of, begins, in_session}
@@ -108,7 +108,7 @@ fresh-copy : (p : Publication) (qos : Option QoS) → fresh (copy_of p qos) ≤ 
 fresh-copy p None = omega arith
 fresh-copy p (Some q) = omega arith
 
-fresh-retained : (asked : QoS) (rows : List (List ℕ × Kept)) → fresh (map (retained_copy asked) rows) ≡ 0
+fresh-retained : (asked : QoS) (rows : List (List ℕ × RetainedPublication)) → fresh (map (retained_copy asked) rows) ≡ 0
 fresh-retained asked [] = refl
 fresh-retained asked (row ∷ rows) = let h = fresh-retained asked rows in omega (arith, h)
 
@@ -116,13 +116,13 @@ fresh-more : (ps qs : List Publication) → fresh (ps ++ qs) ≡ fresh ps + fres
 fresh-more [] qs = omega arith
 fresh-more (p ∷ ps) qs = let h = fresh-more ps qs in omega (arith, h)
 
-fresh-all : (content : Content) (filters : List Subscription) → fresh (copies_for_all content filters) ≡ 0
+fresh-all : (content : RetainedTopics) (filters : List Subscription) → fresh (copies_for_all content filters) ≡ 0
 fresh-all content [] = refl
 fresh-all content (s ∷ more) =
     fresh-more (copies_for content s) (copies_for_all content more)
     ∙ (let g = fresh-retained s.qos (matching_entries content s.filter) in let h = fresh-all content more in omega (arith, g, h))
 
-subscribe-by : (b : Bool) (content : Content) (filters : List Subscription) → fresh (if b then copies_for_all content filters else []) ≤ 1
+subscribe-by : (b : Bool) (content : RetainedTopics) (filters : List Subscription) → fresh (if b then copies_for_all content filters else []) ≤ 1
 subscribe-by true content filters = let h = fresh-all content filters in omega (arith, h)
 subscribe-by false content filters = omega arith
 

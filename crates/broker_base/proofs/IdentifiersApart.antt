@@ -5,12 +5,12 @@ use Rattle.broker_base.specs.Connection.{ConnectionName}
 use Rattle.broker_base.specs.Place.{Client, Past, Limits}
 use Rattle.broker_base.specs.Past.{current_connection, session_of, begins, in_session}
 use Rattle.session_base.specs.declared.publication.Publication.{Publication}
-use Rattle.session_base.specs.Identifiers.{has_id}
+use Rattle.lists.specs.Lists.{has_id, IsDistinct}
 use Rattle.broker_base.specs.Entries.{Entry, copies_at, queued}
 use Rattle.broker_base.specs.Readings.{busy_ids}
 use Rattle.session_base.specs.Identifiers.{least_free}
 use Rattle.broker_base.specs.Times.{entries_of, window_at, start_all, started}
-use Rattle.broker_base.specs.IdentifierLaws.{IsDistinct, IdentifiersAreDistinct, IsWaiting, WaitsLast, StartedComeFirst}
+use Rattle.broker_base.specs.IdentifierLaws.{IdentifiersAreDistinct, IsWaiting, WaitsLast, StartedComeFirst}
 use Rattle.broker_base.proofs.EntriesGrow.{Answered, Answering, answers-by}
 use Rattle.broker_base.proofs.LeastFree.{least-is-free}
 

@@ -2,7 +2,7 @@
 use Rattle.std.proofs.Common.{◌≡◌, ℕ, zero, suc, Bool, true, false, not, ◌&&◌, ◌||◌, if◌then◌else◌, Option, Some, None, List, [], ◌∷◌, ◌++◌, length, map, refl, ap, ◌∙◌}
 use Rattle.std.specs.Prelude.{option_map}
 use Rattle.packet.specs.declared.subscribe.Subscription.{Subscription}
-use Rattle.retained.specs.Retained.{Content}
+use Rattle.retained.specs.Retained.{RetainedTopics}
 use Rattle.session_base.specs.declared.publication.Publication.{Publication}
 use Rattle.broker_base.specs.Connection.{ConnectionName}
 use Rattle.broker_base.specs.Place.{Client, Place, Past, Limits, only_if}
@@ -53,7 +53,7 @@ kept_next w place n c opened session connection held ids es ps =
     (in_session (newest_session opened (ends_any place connection) session) (is_beginning opened session) []
     (started w n (newest_connection opened (ends_any place connection) connection) (answered_by place.command place.mark n c es ++ map (Entry.Waits n) ps)))
 
-next_is : (w : ℕ) (place : Place) (content : Content) (n : ℕ) (c : Client) (opened : Option (ConnectionName × Bool)) (session : Option Bool) (connection : Option ConnectionName)
+next_is : (w : ℕ) (place : Place) (content : RetainedTopics) (n : ℕ) (c : Client) (opened : Option (ConnectionName × Bool)) (session : Option Bool) (connection : Option ConnectionName)
     (held : List Subscription) (ids : List ℕ) (es : List Entry) → Sound n es →
     kept_next w place n c opened session connection held ids es (queued (copies_with place.command place.mark content c held))
     ≡ kept_by w place content c opened (kept_with n session connection held ids es)

@@ -1,6 +1,6 @@
 -- Where none of the sessions opens a connection, a connection stays that of one session at most.
 use Rattle.std.proofs.Common.{◌≡◌, ℕ, Some, None, [], ◌∷◌, ◌∙◌, sym}
-use Rattle.retained.specs.Retained.{Content}
+use Rattle.retained.specs.Retained.{RetainedTopics}
 use Rattle.broker_base.specs.Connection.{ConnectionName}
 use Rattle.broker_base.specs.Place.{Place}
 use Rattle.broker_base.specs.Past.{accepts}
@@ -15,14 +15,14 @@ abbrev pub NoneOpens : Place → Sessions → Type 0
 NoneOpens place (row ∷ rows) = (accepts place.command place.mark row.0 ≡ None) × NoneOpens place rows
 NoneOpens place [] = Unit {0}
 
-pub nobodys_kept : (y : ConnectionName) (w : ℕ) (place : Place) (content : Content) (rows : Sessions) → NoneOpens place rows → IsNobodys y rows →
+pub nobodys_kept : (y : ConnectionName) (w : ℕ) (place : Place) (content : RetainedTopics) (rows : Sessions) → NoneOpens place rows → IsNobodys y rows →
     IsNobodys y (sessions_left w place content rows)
 nobodys_kept y w place content [] none h = tt
 nobodys_kept y w place content (row ∷ rows) none h =
     nobodys_keyed y row.0 (session_after w place content row.0 row.1) (sessions_left w place content rows)
     (not_after y w place content row.0 row.1 (λ a e. absurd (let f : None ≡ Some a = sym none.0 ∙ e in cc)) h.0) (nobodys_kept y w place content rows none.1 h.1)
 
-pub apart_left : (w : ℕ) (place : Place) (content : Content) (rows : Sessions) → NoneOpens place rows → AreApart rows → AreApart (sessions_left w place content rows)
+pub apart_left : (w : ℕ) (place : Place) (content : RetainedTopics) (rows : Sessions) → NoneOpens place rows → AreApart rows → AreApart (sessions_left w place content rows)
 apart_left w place content [] none h = tt
 apart_left w place content (row ∷ rows) none h =
     apart_keyed row.1.connection row.0 (session_after w place content row.0 row.1) (sessions_left w place content rows)

@@ -1,7 +1,7 @@
 -- A session that a place does not touch stays as it is.
 use Rattle.std.proofs.Common.{◌≡◌, ℕ, Bool, true, false, if◌then◌else◌, Option, Some, None, ◌∷◌, length, refl, ap, ◌∙◌, sym, subst}
 use Rattle.std.proofs.lemmas.Bool.{or_parts}
-use Rattle.retained.specs.Retained.{Content}
+use Rattle.retained.specs.Retained.{RetainedTopics}
 use Rattle.broker_base.specs.Place.{Client, Place, Past, Limits}
 use Rattle.broker_base.specs.Past.{accepts, any_connection, ends, ends_any, current_connection, session_of}
 use Rattle.broker_base.specs.Subscriptions.{subscriptions_of}
@@ -35,7 +35,7 @@ stays_with limits later follows place past c clean untouched =
     (quiet_queue limits past c x e))
 
 -- a session after a place, by whether it is touched
-abbrev pub left_with : ℕ → Place → Content → Client → Option Kept → Option Kept
+abbrev pub left_with : ℕ → Place → RetainedTopics → Client → Option Kept → Option Kept
 left_with w place content c None = None
 left_with w place content c (Some kept) = session_after w place content c kept
 

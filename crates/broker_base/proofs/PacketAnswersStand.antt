@@ -19,7 +19,7 @@ use Rattle.broker_base.specs.State.{keyed, table, state_of}
 use Rattle.broker_base.specs.Step.{IsWindow}
 use Rattle.broker_base.specs.StepAnswers.{copies_answered, copies_to, while_connected, handled_of, handled_in, packet_answers_in}
 use Rattle.broker_base.specs.declared.command.Command.TheVariants as commands
-use Rattle.broker_base.specs.declared.command.Answer.TheVariants.{Send}
+use Rattle.broker_base.specs.declared.command.Output.TheVariants.{Send}
 use Rattle.broker_base.proofs.ClientsInOrder.{same_self}
 use Rattle.broker_base.proofs.SessionsAfter.{at, session_is}
 use Rattle.broker_base.proofs.UntouchedStays.{same_window}

@@ -3,7 +3,7 @@ use Rattle.std.proofs.Common.{◌≡◌, ℕ, ◌≤◌, Bool, true, false, not,
 use Rattle.packet.specs.declared.subscribe.Subscription.{Subscription}
 use Rattle.packet.specs.declared.packet.Packet.{Packet}
 use Rattle.packet.specs.declared.packet.Packet.TheVariants as packets
-use Rattle.retained.specs.Retained.{Content}
+use Rattle.retained.specs.Retained.{RetainedTopics}
 use Rattle.broker_base.specs.Connection.{ConnectionName, same_connection}
 use Rattle.broker_base.specs.Place.{Client, Mark, Place, Past, Limits, only_if}
 use Rattle.broker_base.specs.Past.{any_connection, current_connection, session_of, newest_session, begins, in_session}
@@ -54,7 +54,7 @@ no-identifier packets.Pingreq x c ids = refl
 no-identifier packets.Pingresp x c ids = refl
 no-identifier packets.Disconnect x c ids = refl
 
-no-retained : (packet : Packet) (x : ConnectionName) (content : Content) → retained_by (commands.Packet x packet) Mark.NoPart content ≡ content
+no-retained : (packet : Packet) (x : ConnectionName) (content : RetainedTopics) → retained_by (commands.Packet x packet) Mark.NoPart content ≡ content
 no-retained (packets.Connect q) x content = refl
 no-retained (packets.Connack q) x content = refl
 no-retained (packets.Publish p) x content = refl

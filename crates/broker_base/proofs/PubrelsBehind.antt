@@ -4,7 +4,7 @@ use Rattle.std.specs.List.{list_any}
 use Rattle.std.proofs.lemmas.List.Folds.{list_any-append}
 use Rattle.packet.specs.declared.packet.Packet.{Packet}
 use Rattle.packet.specs.declared.packet.Packet.TheVariants as packets
-use Rattle.session_base.specs.Identifiers.{has_id}
+use Rattle.lists.specs.Lists.{has_id}
 use Rattle.session_base.specs.Queue.{awaits_pubcomp, on_pubrec}
 use Rattle.session_base.specs.Sending.{pubrec_sends}
 use Rattle.broker_base.specs.Connection.{ConnectionName}
@@ -16,7 +16,7 @@ use Rattle.broker_base.specs.Entries.{Entry, copies_at, queued}
 use Rattle.broker_base.specs.Readings.{released_below}
 use Rattle.broker_base.specs.Times.{at_pubrec, answered_by, started, window_at, entries_of}
 use Rattle.broker_base.specs.Kept.{Kept, sent_flights, released_flight, flights_below, kept_of}
-use Rattle.broker_base.specs.declared.command.Answer.TheVariants.{Send}
+use Rattle.broker_base.specs.declared.command.Output.TheVariants.{Send}
 use Rattle.broker_base.proofs.WhatFlightsAwait.{awaits_no_pubcomp}
 use Rattle.broker_base.proofs.PubrecInFlight.{flights_pubrec}
 use Rattle.broker_base.proofs.IdentifiersInFlight.{append_none}

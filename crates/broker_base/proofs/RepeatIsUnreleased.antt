@@ -5,7 +5,7 @@ use Rattle.packet.specs.declared.delivery.Delivery.TheVariants as deliveries
 use Rattle.packet.specs.declared.packet.Packet.TheVariants as packets
 use Rattle.broker_base.specs.Place.{Client, same_client, Mark}
 use Rattle.broker_base.specs.Past.{session_of, begins, in_session}
-use Rattle.session_base.specs.Identifiers.{has_id}
+use Rattle.lists.specs.Lists.{has_id}
 use Rattle.broker_base.specs.Received.{without_id, with_id, receives, received_by, received_of}
 use Rattle.broker_base.specs.Laws.{brings, says_of, newest, ends_in_publish, RepeatIsUnreleased}
 use Rattle.broker_base.specs.declared.command.Command.{Command}

@@ -13,7 +13,7 @@ use Rattle.broker_base.specs.Connection.{ConnectionName}
 use Rattle.broker_base.specs.Entries.{Entry, queued}
 use Rattle.broker_base.specs.Times.{start_all}
 use Rattle.broker_base.specs.Sends.{publish, all_started, handed}
-use Rattle.broker_base.specs.declared.command.Answer.TheVariants.{Send}
+use Rattle.broker_base.specs.declared.command.Output.TheVariants.{Send}
 use Rattle.session_base.proofs.CountedIdentifiers.{SameIds, same_length, same_least}
 use Rattle.broker_base.proofs.StartsInFlight.{same_next}
 

@@ -16,7 +16,7 @@ use Rattle.broker_base.specs.Readings.{released_below, waiting_of, busy_ids}
 use Rattle.broker_base.specs.Times.{start_all}
 use Rattle.broker_base.specs.Sends.{publish, all_started, sent_again, resent}
 use Rattle.broker_base.specs.Kept.{sent_flights, released_flight, flights_below}
-use Rattle.broker_base.specs.declared.command.Answer.TheVariants.{Send}
+use Rattle.broker_base.specs.declared.command.Output.TheVariants.{Send}
 use Rattle.session_base.proofs.CountedIdentifiers.{count, SameIds, same_length, same_least}
 use Rattle.broker_base.proofs.SoundEntries.{IsBelow, AllWait, InOrder}
 use Rattle.broker_base.proofs.SoundStarts.{busy_waits}

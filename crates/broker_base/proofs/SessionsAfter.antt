@@ -1,6 +1,6 @@
 -- After a place the sessions are those that its past says.
 use Rattle.std.proofs.Common.{◌≡◌, ℕ, Bool, ◌⊎◌, inl, inr, Option, Some, None, List, [], ◌∷◌, length, refl, ap, ap₂, ◌∙◌, sym}
-use Rattle.retained.specs.Retained.{Content}
+use Rattle.retained.specs.Retained.{RetainedTopics}
 use Rattle.broker_base.specs.Connection.{ConnectionName}
 use Rattle.broker_base.specs.Place.{Client, Mark, Place, Past, Limits, only_if}
 use Rattle.broker_base.specs.Past.{accepts, current_connection, session_of}
@@ -28,12 +28,12 @@ session_is limits past c = session_found (kept_of limits past) c (named past) (r
     by (inl e) = inl (ap (λ session. kept_with (length past) session (current_connection past c) (subscriptions_of past c) (received_of past c) (entries_of limits past c)) e)
     by (inr named) = inr named
 
-keyed_left : (w : ℕ) (place : Place) (content : Content) (c : Client) (o : Option Kept) (rows : Sessions) →
+keyed_left : (w : ℕ) (place : Place) (content : RetainedTopics) (c : Client) (o : Option Kept) (rows : Sessions) →
     sessions_left w place content (keyed c o rows) ≡ keyed c (left_with w place content c o) (sessions_left w place content rows)
 keyed_left w place content c None rows = refl
 keyed_left w place content c (Some kept) rows = refl
 
-table_left : (w : ℕ) (place : Place) (content : Content) (f : Client → Option Kept) (ds : List Client) →
+table_left : (w : ℕ) (place : Place) (content : RetainedTopics) (f : Client → Option Kept) (ds : List Client) →
     sessions_left w place content (table f ds) ≡ table (λ c. left_with w place content c (f c)) ds
 table_left w place content f [] = refl
 table_left w place content f (d ∷ ds) =

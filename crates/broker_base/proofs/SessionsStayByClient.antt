@@ -4,7 +4,7 @@ use Rattle.std.specs.declared.cmp.Ordering.{Ordering}
 use Rattle.std.specs.declared.cmp.Ordering.TheVariants.{Less, Equal, Greater}
 use Rattle.std.specs.Ordering.{match_ordering}
 use Rattle.std.proofs.lemmas.Cmp.{nat_list_cmp_total}
-use Rattle.retained.specs.Retained.{Content}
+use Rattle.retained.specs.Retained.{RetainedTopics}
 use Rattle.broker_base.specs.Place.{Client, by_bytes, Mark, Place}
 use Rattle.broker_base.specs.Kept.{Kept}
 use Rattle.broker_base.specs.KeptStep.{kept_connected}
@@ -23,7 +23,7 @@ before_keyed : (b c : Client) (o : Option Kept) (rows : Sessions) → by_bytes b
 before_keyed b c None rows less h = h
 before_keyed b c (Some kept) rows less h = (less, h)
 
-pub before_left : (b : Client) (w : ℕ) (place : Place) (content : Content) (rows : Sessions) → ComesBefore b rows → ComesBefore b (sessions_left w place content rows)
+pub before_left : (b : Client) (w : ℕ) (place : Place) (content : RetainedTopics) (rows : Sessions) → ComesBefore b rows → ComesBefore b (sessions_left w place content rows)
 before_left b w place content [] h = tt
 before_left b w place content (row ∷ rows) h =
     before_keyed b row.0 (session_after w place content row.0 row.1) (sessions_left w place content rows) h.0 (before_left b w place content rows h.1)
@@ -32,7 +32,7 @@ keyed_by_client : (c : Client) (o : Option Kept) (rows : Sessions) → ComesBefo
 keyed_by_client c None rows h k = k
 keyed_by_client c (Some kept) rows h k = (h, k)
 
-pub left_by_client : (w : ℕ) (place : Place) (content : Content) (rows : Sessions) → AreByClient rows → AreByClient (sessions_left w place content rows)
+pub left_by_client : (w : ℕ) (place : Place) (content : RetainedTopics) (rows : Sessions) → AreByClient rows → AreByClient (sessions_left w place content rows)
 left_by_client w place content [] h = tt
 left_by_client w place content (row ∷ rows) h =
     keyed_by_client row.0 (session_after w place content row.0 row.1) (sessions_left w place content rows)
@@ -57,7 +57,7 @@ put_by_client c kept (row ∷ rows) h = by (by_bytes c row.0) refl (put_by_clien
     by Equal e more = (subst (λ (b : Client). ComesBefore b rows) (sym (equal_is c row.0 e)) h.0, h.1)
     by Greater e more = (before_put row.0 c kept rows (greater_turned c row.0 e) h.0, more)
 
-pub stays_by_client : (w : ℕ) (place : Place) (content : Content) (rows : Sessions) (command : Command) (mark : Mark) → AreByClient rows →
+pub stays_by_client : (w : ℕ) (place : Place) (content : RetainedTopics) (rows : Sessions) (command : Command) (mark : Mark) → AreByClient rows →
     AreByClient (sessions_with w place content rows command mark)
 stays_by_client w place content rows (commands.Connect x c clean) Mark.Accepted h =
     put_by_client c (kept_connected w place content c (x, clean) (session_in c rows)) (sessions_left w place content rows) (left_by_client w place content rows h)

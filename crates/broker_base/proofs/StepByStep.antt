@@ -15,7 +15,7 @@ use Rattle.broker_base.specs.State.{State, empty_state, state_of}
 use Rattle.broker_base.specs.Step.{touches, step, step_at, state_from, steps_from, IsWindow}
 use Rattle.broker_base.specs.StepLaws.{OthersStay, NoneBegins, StepStandsFor, ListStandsFor, UsualListStandsFor, GrowingListStandsFor}
 use Rattle.broker_base.specs.declared.command.Command.{Command}
-use Rattle.broker_base.specs.declared.command.Answer.{Answer}
+use Rattle.broker_base.specs.declared.command.Output.{Output}
 use Rattle.broker_base.proofs.KeptAfter.{kept_with, kept_now, kept_step}
 use Rattle.broker_base.proofs.OthersStay.{stays_with}
 use Rattle.broker_base.proofs.SessionsAfter.{sessions_are}
@@ -69,7 +69,7 @@ states_from : (limits : Limits) (later : ℕ) → IsWindow limits later → (pas
 unfolding past_from
 states_from limits later follows past [] = refl
 states_from limits later follows past (command ∷ commands) =
-    ap (λ state. state_from limits later state commands) (ap (λ (r : State × List Answer). r.0) (step_stands limits later follows past command))
+    ap (λ state. state_from limits later state commands) (ap (λ (r : State × List Output). r.0) (step_stands limits later follows past command))
     ∙ states_from limits later follows (place_of limits past command ∷ past) commands
 
 answers_all : (limits : Limits) (later : ℕ) → IsWindow limits later → (past : Past) (commands : List Command) →
@@ -77,7 +77,7 @@ answers_all : (limits : Limits) (later : ℕ) → IsWindow limits later → (pas
 unfolding answers_from
 answers_all limits later follows past [] = refl
 answers_all limits later follows past (command ∷ commands) =
-    ap (λ (r : State × List Answer). r.1 ∷ steps_from limits later r.0 commands) (step_stands limits later follows past command)
+    ap (λ (r : State × List Output). r.1 ∷ steps_from limits later r.0 commands) (step_stands limits later follows past command)
     ∙ ap (λ rest. answers_of limits past command ∷ rest) (answers_all limits later follows (place_of limits past command ∷ past) commands)
 
 empty_stands : (limits : Limits) → state_of limits [] ≡ empty_state (limits.window [])

@@ -3,7 +3,7 @@ use Rattle.std.proofs.Common.{◌≡◌, ℕ, Bool, true, false, not, ◌&&◌, 
 use Rattle.std.proofs.lemmas.Bool.{or_parts}
 use Rattle.packet.specs.declared.subscribe.Subscription.{Subscription}
 use Rattle.packet.specs.declared.packet.Packet.TheVariants as packets
-use Rattle.retained.specs.Retained.{Content}
+use Rattle.retained.specs.Retained.{RetainedTopics}
 use Rattle.session_base.specs.declared.publication.Publication.{Publication}
 use Rattle.session_base.specs.Queue.{Flight}
 use Rattle.broker_base.specs.Connection.{ConnectionName}
@@ -50,7 +50,7 @@ answered_same (commands.Packet x (packets.Pubrec i)) (Mark.Handled d) c held fs 
 answered_same (commands.Packet x (packets.Pubcomp i)) (Mark.Handled d) c held fs e = if_no (same_client d c) _ fs e
 answered_same _ _ c held fs e = refl
 
-no_copies : (command : Command) (mark : Mark) (content : Content) (c : Client) (held : List Subscription) → is_about command mark c held ≡ false → copies_with command mark content c held ≡ []
+no_copies : (command : Command) (mark : Mark) (content : RetainedTopics) (c : Client) (held : List Subscription) → is_about command mark c held ≡ false → copies_with command mark content c held ≡ []
 no_copies (commands.Packet x (packets.Publish p)) (Mark.Taken d) content c held e =
     none (granted_qos p.topic held) (or_parts (same_client d c) (is_some (granted_qos p.topic held)) e).1
   where
@@ -91,7 +91,7 @@ still_there : (clean : Bool) (kept : Kept) → only_if (not (clean && false)) (S
 still_there true kept = refl
 still_there false kept = refl
 
-pub kept_stays : (w : ℕ) (place : Place) (content : Content) (c : Client) (kept : Kept) → ends_any place kept.connection ≡ false → is_about place.command place.mark c kept.subscriptions ≡ false →
+pub kept_stays : (w : ℕ) (place : Place) (content : RetainedTopics) (c : Client) (kept : Kept) → ends_any place kept.connection ≡ false → is_about place.command place.mark c kept.subscriptions ≡ false →
     ((x : ConnectionName) → kept.connection ≡ Some x → Quiet w kept.queue.in_flight kept.queue.waiting) →
     kept_after w place content c (Some kept) ≡ Some kept
 kept_stays w place content c kept not_ended not_about quiet =

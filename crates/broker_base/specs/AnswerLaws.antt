@@ -8,11 +8,11 @@ use Rattle.broker_base.specs.Past.{current_connection}
 use Rattle.broker_base.specs.Answers.{answers_of}
 use Rattle.broker_base.specs.declared.command.Command.{Command}
 use Rattle.broker_base.specs.declared.command.Command.TheVariants as commands
-use Rattle.broker_base.specs.declared.command.Answer.{Answer}
-use Rattle.broker_base.specs.declared.command.Answer.TheVariants.{Send, Close}
+use Rattle.broker_base.specs.declared.command.Output.{Output}
+use Rattle.broker_base.specs.declared.command.Output.TheVariants.{Send, Close}
 
 -- the connection that an answer goes to
-abbrev pub goes_to : Answer → ConnectionName
+abbrev pub goes_to : Output → ConnectionName
 goes_to (Send x packet) = x
 goes_to (Close x) = x
 
@@ -24,13 +24,13 @@ named_in (commands.Lost x) = Some x
 named_in (commands.Start ballot) = None
 
 -- a PUBLISH or a Close, which a client may get for another's command
-abbrev pub is_unasked : Answer → Bool
+abbrev pub is_unasked : Output → Bool
 is_unasked (Send x (packets.Publish p)) = true
 is_unasked (Close x) = true
 is_unasked _ = false
 
 -- it goes to the connection that the command names, or it is unasked, to a client's current connection
-abbrev pub IsAddressed : Past → Command → Answer → Type 0
+abbrev pub IsAddressed : Past → Command → Output → Type 0
 IsAddressed past command answer =
     (named_in command ≡ Some (goes_to answer))
     ⊎ (((c : Client) × (current_connection past c ≡ Some (goes_to answer))) × (is_unasked answer ≡ true))

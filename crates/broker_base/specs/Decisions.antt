@@ -5,10 +5,10 @@ use Rattle.packet.specs.declared.delivery.Delivery.{Delivery}
 use Rattle.packet.specs.declared.delivery.Delivery.TheVariants as deliveries
 use Rattle.packet.specs.declared.packet.Packet.{Packet}
 use Rattle.packet.specs.declared.packet.Packet.TheVariants as packets
-use Rattle.retained.specs.Retained.{Content, is_empty, kept_of}
+use Rattle.retained.specs.Retained.{RetainedTopics, is_empty, publication_on}
 use Rattle.session_base.specs.declared.publication.Publication.{Publication}
 use Rattle.session_base.specs.Publication.{publication_of, lower_qos}
-use Rattle.session_base.specs.Identifiers.{has_id}
+use Rattle.lists.specs.Lists.{has_id}
 use Rattle.session_base.specs.Queue.{room}
 use Rattle.broker_base.specs.Place.{Client, Mark, Place, Limits}
 use Rattle.broker_base.specs.Subscriptions.{granted_qos}
@@ -19,20 +19,20 @@ use Rattle.broker_base.specs.declared.command.Command.{Command}
 use Rattle.broker_base.specs.declared.command.Command.TheVariants as commands
 
 -- whether a session would have to queue the publication and is full
-abbrev pub is_full_for : Limits → Publication → Client × Kept → Bool
-is_full_for limits p row =
+abbrev pub has_no_room_for : Limits → Publication → Client × Kept → Bool
+has_no_room_for limits p row =
     is_queued_at (option_map (lower_qos p.qos) (granted_qos p.topic row.1.subscriptions))
     && (room limits.entries row.1.queue == 0)
 
 -- whether a publication is to be retained on a topic more than the limit
-abbrev pub is_one_topic_over : Limits → Content → Publication → Bool
+abbrev pub is_one_topic_over : Limits → RetainedTopics → Publication → Bool
 is_one_topic_over limits content p =
-    p.retain && not (is_empty p.payload) && is_none (kept_of p.topic content) && nat_le limits.retained (length content)
+    p.retain && not (is_empty p.payload) && is_none (publication_on p.topic content) && nat_le limits.retained (length content)
 
 -- a publication is refused whole where one session has no room for it, or where it cannot be retained
 abbrev pub refuses : Limits → State → Publication → Bool
 refuses limits state p =
-    list_any (is_full_for limits p) state.sessions || is_one_topic_over limits state.retained p
+    list_any (has_no_room_for limits p) state.sessions || is_one_topic_over limits state.retained p
 
 -- whether a delivery is another try of one that the session took
 abbrev pub is_again : Kept → Delivery → Bool

@@ -4,8 +4,8 @@ use Rattle.std.specs.Prelude.{ℕ, Bool, true, false, if◌then◌else◌, List,
 use Rattle.packet.specs.declared.qos.QoS.{QoS}
 use Rattle.packet.specs.declared.subscribe.Subscription.{Subscription}
 use Rattle.packet.specs.declared.packet.Packet.TheVariants as packets
-use Rattle.retained.specs.declared.kept.Kept.{Kept}
-use Rattle.retained.specs.Retained.{Content, matching_entries}
+use Rattle.retained.specs.declared.retained_publication.RetainedPublication.{RetainedPublication}
+use Rattle.retained.specs.Retained.{RetainedTopics, matching_entries}
 use Rattle.broker_base.specs.Place.{Client, same_client, Mark, Place, Past}
 use Rattle.session_base.specs.declared.publication.Publication.{Publication}
 use Rattle.session_base.specs.Publication.{publication_of, is_answered, lower_qos}
@@ -22,16 +22,16 @@ copy_of p (Some qos) = record { retain = false; qos = qos; topic = p.topic; payl
 copy_of p None = []
 
 -- a copy of a retained publication, with RETAIN 1, at the lower of its QoS and the one that is asked for
-abbrev pub retained_copy : QoS → List ℕ × Kept → Publication
+abbrev pub retained_copy : QoS → List ℕ × RetainedPublication → Publication
 retained_copy asked row =
     record { retain = true; qos = lower_qos asked row.1.qos; topic = row.0; payload = row.1.payload }
 
 -- what a filter is sent of the retained publications, by topic (MQTT 3.8.4)
-abbrev pub copies_for : Content → Subscription → List Publication
+abbrev pub copies_for : RetainedTopics → Subscription → List Publication
 copies_for content s = map (retained_copy s.qos) (matching_entries content s.filter)
 
 -- what several filters are sent, one after the other
-abbrev pub copies_for_all : Content → List Subscription → List Publication
+abbrev pub copies_for_all : RetainedTopics → List Subscription → List Publication
 copies_for_all content (s ∷ more) = copies_for content s ++ copies_for_all content more
 copies_for_all content [] = []
 

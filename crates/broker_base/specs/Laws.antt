@@ -10,7 +10,7 @@ use Rattle.broker_base.specs.Connection.{ConnectionName}
 use Rattle.broker_base.specs.Place.{Client, same_client, Mark, Place, Past}
 use Rattle.broker_base.specs.Past.{accepts, ends, current_connection, session_of, begins, in_session}
 use Rattle.broker_base.specs.Subscriptions.{granted_of, subscriptions_of}
-use Rattle.session_base.specs.Identifiers.{has_id}
+use Rattle.lists.specs.Lists.{has_id}
 use Rattle.broker_base.specs.Received.{received_of}
 use Rattle.broker_base.specs.declared.command.Command.{Command}
 use Rattle.broker_base.specs.declared.command.Command.TheVariants as commands

@@ -5,7 +5,7 @@ use Rattle.packet.specs.declared.qos.QoS.{QoS}
 use Rattle.packet.specs.declared.subscribe.Subscription.{Subscription}
 use Rattle.packet.specs.declared.packet.Packet.{Packet}
 use Rattle.packet.specs.declared.packet.Packet.TheVariants as packets
-use Rattle.retained.specs.Retained.{Content}
+use Rattle.retained.specs.Retained.{RetainedTopics}
 use Rattle.broker_base.specs.Place.{Client, Mark, Past, Limits}
 use Rattle.broker_base.specs.Past.{session_of}
 use Rattle.broker_base.specs.Owner.{clients, owner_of}
@@ -42,11 +42,11 @@ is_one_too_many limits held new =
     not (list_any (λ s. bytes_eq new.filter s.filter) held) && nat_le limits.subscriptions (length held)
 
 -- how many entries it makes: the retained publications that it is sent at QoS 1 or 2
-abbrev pub entries_for : Content → Subscription → ℕ
+abbrev pub entries_for : RetainedTopics → Subscription → ℕ
 entries_for content new = length (queued (copies_for content new))
 
 -- which filters are granted, in turn, with the subscriptions held so far and the room left
-abbrev pub grants : Limits → Content → List Subscription → ℕ → List Subscription → List Bool
+abbrev pub grants : Limits → RetainedTopics → List Subscription → ℕ → List Subscription → List Bool
 grants limits content held room (new ∷ more) =
     if is_one_too_many limits held new || nat_lt room (entries_for content new)
     then false ∷ grants limits content held room more

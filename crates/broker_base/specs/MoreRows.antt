@@ -10,7 +10,7 @@ use Rattle.broker_base.specs.Times.{entries_of}
 use Rattle.broker_base.specs.RowWords.{Gives, a, b, nth, connect, gets, sends, connack, publish, suback, unsubscribe, numbers, subscribed_at, publications, delivered, small}
 use Rattle.broker_base.specs.declared.command.Command.{Command}
 use Rattle.broker_base.specs.declared.command.Command.TheVariants as commands
-use Rattle.broker_base.specs.declared.command.Answer.TheVariants.{Close}
+use Rattle.broker_base.specs.declared.command.Output.TheVariants.{Close}
 
 -- ---- a full queue, where a session holds three entries
 

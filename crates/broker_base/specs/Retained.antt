@@ -1,7 +1,7 @@
 -- The retained publications (MQTT 3.3.1.3).
 use Rattle.std.specs.Prelude.{Bool, not, ◌&&◌, nat_le, if◌then◌else◌, [], ◌∷◌, length, is_none}
 use Rattle.packet.specs.declared.packet.Packet.TheVariants as packets
-use Rattle.retained.specs.Retained.{Content, after_put, is_empty, kept_of}
+use Rattle.retained.specs.Retained.{RetainedTopics, after_put, is_empty, publication_on}
 use Rattle.broker_base.specs.Place.{Mark, Past, Limits}
 use Rattle.session_base.specs.declared.publication.Publication.{Publication}
 use Rattle.session_base.specs.Publication.{publication_of}
@@ -9,21 +9,21 @@ use Rattle.broker_base.specs.declared.command.Command.{Command}
 use Rattle.broker_base.specs.declared.command.Command.TheVariants as commands
 
 -- a publication with RETAIN 1 takes the place of the topic's last one, and removes it where its payload is empty
-abbrev pub retains : Publication → Content → Content
+abbrev pub retains : Publication → RetainedTopics → RetainedTopics
 retains p content = if p.retain then after_put content p.topic p.qos p.payload else content
 
 -- a taken publication is retained
-abbrev pub retained_by : Command → Mark → Content → Content
+abbrev pub retained_by : Command → Mark → RetainedTopics → RetainedTopics
 retained_by (commands.Packet x (packets.Publish p)) (Mark.Taken c) content = retains (publication_of p) content
 retained_by _ _ content = content
 
 -- for each topic, by its bytes, the last taken publication with RETAIN 1, none where its payload is empty
-unfoldable pub retained_publications : Past → Content
+unfoldable pub retained_publications : Past → RetainedTopics
 retained_publications [] = []
 retained_publications (place ∷ past) = retained_by place.command place.mark (retained_publications past)
 
 -- whether a publication is to be retained on a topic more than the limit
 abbrev pub is_retained_over : Limits → Past → Publication → Bool
 is_retained_over limits past p =
-    p.retain && not (is_empty p.payload) && is_none (kept_of p.topic (retained_publications past))
+    p.retain && not (is_empty p.payload) && is_none (publication_on p.topic (retained_publications past))
     && nat_le limits.retained (length (retained_publications past))

@@ -13,11 +13,11 @@ use Rattle.broker_base.specs.Commands.{past_of}
 use Rattle.broker_base.specs.Answers.{answers_from}
 use Rattle.broker_base.specs.declared.command.Command.{Command}
 use Rattle.broker_base.specs.declared.command.Command.TheVariants as commands
-use Rattle.broker_base.specs.declared.command.Answer.{Answer}
-use Rattle.broker_base.specs.declared.command.Answer.TheVariants.{Send}
+use Rattle.broker_base.specs.declared.command.Output.{Output}
+use Rattle.broker_base.specs.declared.command.Output.TheVariants.{Send}
 
 -- after the earlier commands, each of the next ones is answered so
-abbrev pub Gives : Limits → List Command → List Command → List (List Answer) → Type 0
+abbrev pub Gives : Limits → List Command → List Command → List (List Output) → Type 0
 Gives limits earlier next answers = answers_from limits (past_of limits earlier) next ≡ answers
 
 -- two clients
@@ -40,7 +40,7 @@ abbrev pub gets : ℕ → Packet → Command
 gets n packet = commands.Packet (nth n) packet
 
 -- a packet goes out on the nth connection
-abbrev pub sends : ℕ → Packet → Answer
+abbrev pub sends : ℕ → Packet → Output
 sends n packet = Send (nth n) packet
 
 -- CONNACK 0
@@ -77,7 +77,7 @@ abbrev pub publications : ℕ → List Command
 publications many = map (λ id. gets 2 (publish (deliveries.AtLeastOnce false id) false (codes "o"))) (numbers many 1)
 
 -- what b is sent of them on the nth connection, with these identifiers
-abbrev pub delivered : ℕ → Bool → List ℕ → List Answer
+abbrev pub delivered : ℕ → Bool → List ℕ → List Output
 delivered n dup = map (λ id. sends n (publish (deliveries.AtLeastOnce dup id) false (codes "o")))
 
 -- limits of a row: so many unfinished entries of a session, so many under way at once

@@ -7,7 +7,7 @@ use Rattle.packet.specs.declared.packet.Packet.TheVariants as packets
 use Rattle.broker_base.specs.Commands.{usual_limits}
 use Rattle.broker_base.specs.RowWords.{Gives, a, b, nth, connect, gets, sends, connack, publish, subscribe, suback, subscribed_at}
 use Rattle.broker_base.specs.declared.command.Command.{Command}
-use Rattle.broker_base.specs.declared.command.Answer.TheVariants.{Close}
+use Rattle.broker_base.specs.declared.command.Output.TheVariants.{Close}
 
 -- a first CONNECT: CONNACK 0, no session present (MQTT 3.2.2.2)
 abbrev pub ConnectIsAnswered : Type 0

@@ -1,7 +1,7 @@
 -- What a broker keeps of all its clients, and what a past says that it is (MQTT 4.1).
 use Rattle.std.specs.Prelude.{ℕ, if◌then◌else◌, List, [], ◌∷◌, Option, Some, None}
 use Rattle.std.specs.Ordering.{match_ordering}
-use Rattle.retained.specs.Retained.{Content}
+use Rattle.retained.specs.Retained.{RetainedTopics}
 use Rattle.broker_base.specs.Connection.{ConnectionName, same_connection}
 use Rattle.broker_base.specs.Place.{Client, by_bytes, same_client, Past, Limits}
 use Rattle.broker_base.specs.Past.{any_connection}
@@ -18,7 +18,7 @@ Sessions = List (Client × Kept)
 pub record State : Type 0 where
   pub window : ℕ
   pub sessions : Sessions
-  pub retained : Content
+  pub retained : RetainedTopics
 
 -- a broker that began empty, with this window
 abbrev pub empty_state : ℕ → State

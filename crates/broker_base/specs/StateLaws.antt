@@ -10,12 +10,12 @@ use Rattle.broker_base.specs.Step.{step, state_from}
 use Rattle.broker_base.specs.declared.command.Command.{Command}
 
 -- a connected client's queue has nothing waiting, or its window is full
-abbrev pub IsQuiet : ℕ → Kept → Type 0
-IsQuiet window kept =
+abbrev pub HasQuietQueue : ℕ → Kept → Type 0
+HasQuietQueue window kept =
     (kept.connection ≡ None) ⊎ ((kept.queue.waiting ≡ []) ⊎ (window ≤ length kept.queue.in_flight))
 
 abbrev pub AllQuiet : ℕ → Sessions → Type 0
-AllQuiet window (row ∷ rows) = IsQuiet window row.1 × AllQuiet window rows
+AllQuiet window (row ∷ rows) = HasQuietQueue window row.1 × AllQuiet window rows
 AllQuiet window [] = Unit {0}
 
 -- the client comes before each of these by its bytes

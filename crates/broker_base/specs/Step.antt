@@ -2,7 +2,7 @@
 use Rattle.std.specs.Prelude.{◌≡◌, ℕ, Bool, false, ◌||◌, if◌then◌else◌, List, [], ◌∷◌, Option, Some, is_some}
 use Rattle.packet.specs.declared.subscribe.Subscription.{Subscription}
 use Rattle.packet.specs.declared.packet.Packet.TheVariants as packets
-use Rattle.retained.specs.Retained.{Content}
+use Rattle.retained.specs.Retained.{RetainedTopics}
 use Rattle.broker_base.specs.Place.{Client, same_client, Mark, Place, Past, Limits}
 use Rattle.broker_base.specs.Past.{ends_any}
 use Rattle.broker_base.specs.Subscriptions.{granted_qos}
@@ -15,7 +15,7 @@ use Rattle.broker_base.specs.Decisions.{place_in}
 use Rattle.broker_base.specs.StepAnswers.{answers_by_state}
 use Rattle.broker_base.specs.declared.command.Command.{Command}
 use Rattle.broker_base.specs.declared.command.Command.TheVariants as commands
-use Rattle.broker_base.specs.declared.command.Answer.{Answer}
+use Rattle.broker_base.specs.declared.command.Output.{Output}
 
 -- Whether a command is about this client's session with these subscriptions, apart from the end of its
 -- connection: its client sent it, or a taken publication matches one of them.
@@ -33,18 +33,18 @@ touches place c kept =
     ends_any place kept.connection || is_about place.command place.mark c kept.subscriptions
 
 -- a session after a place, if it is left
-abbrev pub session_after : ℕ → Place → Content → Client → Kept → Option Kept
+abbrev pub session_after : ℕ → Place → RetainedTopics → Client → Kept → Option Kept
 session_after window place content c kept =
     if touches place c kept then kept_after window place content c (Some kept) else Some kept
 
 -- the sessions that were there before it
-abbrev pub sessions_left : ℕ → Place → Content → Sessions → Sessions
+abbrev pub sessions_left : ℕ → Place → RetainedTopics → Sessions → Sessions
 sessions_left window place content (row ∷ rows) =
     keyed row.0 (session_after window place content row.0 row.1) (sessions_left window place content rows)
 sessions_left window place content [] = []
 
 -- and with that of the client of an accepted Connect
-abbrev pub sessions_with : ℕ → Place → Content → Sessions → Command → Mark → Sessions
+abbrev pub sessions_with : ℕ → Place → RetainedTopics → Sessions → Command → Mark → Sessions
 sessions_with window place content rows (commands.Connect x c clean) Mark.Accepted =
     put_session c (kept_connected window place content c (x, clean) (session_in c rows))
     (sessions_left window place content rows)
@@ -55,7 +55,7 @@ abbrev pub window_after : ℕ → Command → ℕ → ℕ
 window_after later command window = if is_start command then later else window
 
 -- the state and the answers after a command that has this mark
-abbrev pub step_at : ℕ → Place → State → State × List Answer
+abbrev pub step_at : ℕ → Place → State → State × List Output
 step_at window place state = (
   record {
     window = window;
@@ -66,7 +66,7 @@ step_at window place state = (
 )
 
 -- one more command, where the window from a Start on is `later`
-abbrev pub step : Limits → ℕ → State → Command → State × List Answer
+abbrev pub step : Limits → ℕ → State → Command → State × List Output
 step limits later state command = step_at (window_after later command state.window) (place_in limits state command) state
 
 -- the state after more commands, oldest first
@@ -75,7 +75,7 @@ state_from limits later state (command ∷ commands) = state_from limits later (
 state_from limits later state [] = state
 
 -- and the answers to them, place by place
-abbrev pub steps_from : Limits → ℕ → State → List Command → List (List Answer)
+abbrev pub steps_from : Limits → ℕ → State → List Command → List (List Output)
 steps_from limits later state (command ∷ commands) =
     (step limits later state command).1 ∷ steps_from limits later (step limits later state command).0 commands
 steps_from limits later state [] = []

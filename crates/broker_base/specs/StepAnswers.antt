@@ -2,7 +2,7 @@
 use Rattle.std.specs.Prelude.{ℕ, Bool, not, ◌||◌, if◌then◌else◌, List, [], ◌∷◌, ◌++◌, map, flat_map, Option, Some, None, option_map}
 use Rattle.packet.specs.declared.packet.Packet.{Packet}
 use Rattle.packet.specs.declared.packet.Packet.TheVariants as packets
-use Rattle.retained.specs.Retained.{Content}
+use Rattle.retained.specs.Retained.{RetainedTopics}
 use Rattle.session_base.specs.Queue.{on_puback, on_pubrec, on_pubcomp}
 use Rattle.session_base.specs.Sending.{fill_sends, resend, pubrec_sends, copies_sent}
 use Rattle.broker_base.specs.Connection.{ConnectionName}
@@ -14,22 +14,22 @@ use Rattle.broker_base.specs.KeptStep.{copies_with}
 use Rattle.broker_base.specs.State.{State, session_in}
 use Rattle.broker_base.specs.declared.command.Command.{Command}
 use Rattle.broker_base.specs.declared.command.Command.TheVariants as commands
-use Rattle.broker_base.specs.declared.command.Answer.{Answer}
-use Rattle.broker_base.specs.declared.command.Answer.TheVariants.{Send, Close}
+use Rattle.broker_base.specs.declared.command.Output.{Output}
+use Rattle.broker_base.specs.declared.command.Output.TheVariants.{Send, Close}
 
 -- packets to a client that is connected
-abbrev pub sent_on : Option ConnectionName → List Packet → List Answer
+abbrev pub sent_on : Option ConnectionName → List Packet → List Output
 sent_on (Some x) packets = map (Send x) packets
 sent_on None packets = []
 
 -- what a session's client is sent of the copies that a place makes for it
-abbrev pub copies_answered : ℕ → Place → Content → Client × Kept → List Answer
+abbrev pub copies_answered : ℕ → Place → RetainedTopics → Client × Kept → List Output
 copies_answered window place content row =
     sent_on row.1.connection
     (copies_sent window (copies_with place.command place.mark content row.0 row.1.subscriptions) row.1.queue)
 
 -- the same of a client's session, if it has one
-abbrev pub copies_to : ℕ → Place → Content → Client → Option Kept → List Answer
+abbrev pub copies_to : ℕ → Place → RetainedTopics → Client → Option Kept → List Output
 copies_to window place content c (Some kept) = copies_answered window place content (c, kept)
 copies_to window place content c None = []
 
@@ -53,14 +53,14 @@ handled_of window packet (Some kept) = handled_sends window packet kept
 handled_of window packet None = []
 
 -- the answers to a packet that is no PUBLISH and no SUBSCRIBE, and ends nothing
-abbrev pub handled_in : ℕ → ConnectionName → Option Kept → Packet → List Answer
+abbrev pub handled_in : ℕ → ConnectionName → Option Kept → Packet → List Output
 handled_in window x old (packets.Unsubscribe u) = Send x (packets.Unsuback u.id) ∷ []
 handled_in window x old (packets.Pubrel id) = Send x (packets.Pubcomp id) ∷ []
 handled_in window x old packets.Pingreq = Send x packets.Pingresp ∷ []
 handled_in window x old packet = map (Send x) (handled_of window packet old)
 
 -- the answers to a packet, by its mark
-abbrev pub packet_answers_in : ℕ → Place → State → ConnectionName → Packet → Mark → List Answer
+abbrev pub packet_answers_in : ℕ → Place → State → ConnectionName → Packet → Mark → List Output
 packet_answers_in window place state x (packets.Publish p) (Mark.Taken c) =
     acknowledged x p.delivery ++ flat_map (copies_answered window place state.retained) state.sessions
 packet_answers_in window place state x (packets.Publish p) (Mark.Repeat c) = acknowledged x p.delivery
@@ -85,7 +85,7 @@ resumed window clean (Some kept) =
 resumed window clean None = []
 
 -- the answers to a Connect, by its mark
-abbrev pub connect_answers_in : ℕ → ConnectionName → Bool → Option Kept → Mark → List Answer
+abbrev pub connect_answers_in : ℕ → ConnectionName → Bool → Option Kept → Mark → List Output
 connect_answers_in window x clean old Mark.Accepted =
     closed (connection_of old)
     ++ welcome x (not (begins_session clean (option_map (λ (kept : Kept). kept.clean) old))) ∷ map (Send x) (resumed window clean old)
@@ -93,7 +93,7 @@ connect_answers_in window x clean old Mark.Full = turned_away x ∷ Close x ∷ 
 connect_answers_in window x clean old _ = Close x ∷ []
 
 -- the answers at a place, with this window from then on
-abbrev pub answers_by_state : ℕ → Place → State → Command → Mark → List Answer
+abbrev pub answers_by_state : ℕ → Place → State → Command → Mark → List Output
 answers_by_state window place state (commands.Packet x packet) mark = packet_answers_in window place state x packet mark
 answers_by_state window place state (commands.Connect x c clean) mark =
     connect_answers_in window x clean (session_in c state.sessions) mark

@@ -10,12 +10,12 @@ use Rattle.broker_base.specs.RowWords.{nth, b, connect, gets, sends, connack, pu
 use Rattle.broker_base.specs.MoreRows.{held_two, publishes_xyz, makes_room, routed, seventy}
 use Rattle.broker_base.specs.declared.command.Command.{Command}
 use Rattle.broker_base.specs.declared.command.Command.TheVariants as commands
-use Rattle.broker_base.specs.declared.command.Answer.{Answer}
-use Rattle.broker_base.specs.declared.command.Answer.TheVariants.{Close}
+use Rattle.broker_base.specs.declared.command.Output.{Output}
+use Rattle.broker_base.specs.declared.command.Output.TheVariants.{Close}
 
 -- the steps from the empty state, whose window is this one at first and the later one from a Start on, give these
 -- answers to the next commands
-abbrev pub StepsGive : Limits → ℕ → ℕ → List Command → List Command → List (List Answer) → Type 0
+abbrev pub StepsGive : Limits → ℕ → ℕ → List Command → List Command → List (List Output) → Type 0
 StepsGive limits first later earlier next answers =
     steps_from limits later (state_from limits later (empty_state first) earlier) next ≡ answers
 

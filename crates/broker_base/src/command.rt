@@ -59,7 +59,7 @@ impl Command {
 
 /// What the broker gives for a command.
 #[derive(Debug, PartialEq, Eq, Drop)]
-pub enum Answer {
+pub enum Output {
     /// The packet goes to the client of this connection.
     Send(ConnectionId, Packet),
     /// The connection is closed, behind what was sent on it before.

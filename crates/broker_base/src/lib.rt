@@ -9,7 +9,7 @@ mod rows;
 mod sized_packet;
 mod step_laws;
 
-pub use command::{Answer, Command};
+pub use command::{Output, Command};
 pub use connection_id::ConnectionId;
 pub use laws::{
     answers_are_addressed, current_is_last_accepted, enters_once, entries_only_grow,

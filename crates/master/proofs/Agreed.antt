@@ -3,25 +3,26 @@ use Rattle.std.proofs.Common.{◌≡◌, ℕ, zero, suc, ◌+◌, ◌-◌, ◌�
 use Rattle.std.specs.Prelude.{slice_get}
 use Rattle.std.proofs.lemmas.List.{length-take-le, take-take}
 use Rattle.machine.specs.Machine.{Rules}
-use Rattle.ballot_base.specs.declared.config.Config.{Config}
-use Rattle.ballot_base.specs.declared.message.Message.{Message}
-use Rattle.ballot_base.specs.declared.message.Body.TheVariants.{Held}
-use Rattle.ballot_base.specs.Replica.{ReplicaState}
-use Rattle.ballot_base.specs.Losses.{halted}
+use Rattle.ballot.specs.Config.{Config}
+use Rattle.ballot.specs.Message.{Message}
+use Rattle.ballot.specs.Body.TheVariants.{Held}
+use Rattle.ballot.specs.Replica.{ReplicaState}
+use Rattle.ballot.specs.Losses.{halted, Loses}
 use Rattle.master.specs.declared.event.Event.{Event}
 use Rattle.master.specs.declared.event.Event.TheVariants.{Propose, Deliver, Tick, Crash}
 use Rattle.master.specs.Group.{World}
 use Rattle.master.specs.Exact.{Turn, running, unless_stopped, can_take, taking, stopping, takes, comes, turn}
 use Rattle.master.specs.Steps.{Happens}
 use Rattle.master.specs.Steps.Happens.{nothing_happens, goes}
-use Rattle.ballot_base.specs.Losses.{Loses}
-use Rattle.ballot_base.specs.Protocol.{Input, step_in_one_ballot}
-use Rattle.ballot_base.specs.Protocol.Input.{Receives, Proposes, Ticks}
-use Rattle.master.specs.Agreement.{In, IsPrefixOf, log_of, outputs_of, HasTold, IsChosen, IsAgreed, Agreement}
-use Rattle.master.specs.Agreement.In.{here}
+use Rattle.ballot.specs.Protocol.{Input, step_in_one_ballot}
+use Rattle.ballot.specs.Protocol.Input.{Receives, Proposes, Ticks}
+use Rattle.lists.specs.Lists.{In, IsPrefixOf}
+use Rattle.master.specs.Agreement.{log_of, outputs_of, HasTold, IsChosen, IsAgreed, Agreement}
+use Rattle.lists.specs.Lists.In.{here}
 use Rattle.master.specs.Agreement.HasTold.{as_primary, by_held}
-use Rattle.master.proofs.Lists.{prefix_same, prefix_take, prefix_either, take_prefix, in_at}
-use Rattle.master.proofs.Sound.{log_at, committed_of, Told, AllTold, IsSound, Extends, extends_same, moved_extends}
+use Rattle.lists.proofs.Beginnings.{prefix_same, prefix_take, prefix_either, take_prefix}
+use Rattle.lists.proofs.Members.{in_at}
+use Rattle.master.proofs.Sound.{log_at, committed_of, Told, AllTold, IsSound, HasGrown, extends_same, moved_extends}
 use Rattle.master.proofs.Sound.Told.{told_nothing, told_as_primary, told_by_held}
 use Rattle.master.proofs.Rows.{Owes, owes_halted, lossy_sound}
 use Rattle.master.proofs.Events.{owes_proposed, owes_received, owes_ticked}
@@ -102,7 +103,7 @@ event_sound rules config p w v e sound (goes t {new = new} {given = given} is l)
     lossy_sound rules config p w t.place t.before t.outcome new given sound o.stands o.owes l
 
 pub event_extends : {S C O : Type 0} (rules : Rules S C O) (config : Config) (p : ℕ) (w v : World C O) (e : Event C) →
-    IsSound rules config p w → Happens rules w e v → Extends w v
+    IsSound rules config p w → Happens rules w e v → HasGrown w v
 event_extends rules config p w v e sound nothing_happens = extends_same w
 event_extends {C = C} rules config p w v e sound (goes t {new = new} {given = given} is l) =
     let o = owes_turn rules config p w e t sound is in

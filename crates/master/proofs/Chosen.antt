@@ -4,17 +4,18 @@ use Rattle.std.specs.Prelude.{◌==◌, ◌&&◌, nat_lt, nat_le}
 use Rattle.std.specs.List.{list_any}
 use Rattle.std.proofs.lemmas.Bool.{and_parts, cases_eq, cases_lt, eq-eqb, eqb-true, ltb-true, ne_eqb, or_cases}
 use Rattle.machine.specs.Machine.{Rules}
-use Rattle.ballot_base.specs.declared.config.Config.{Config}
-use Rattle.ballot_base.specs.declared.message.Message.{Message}
-use Rattle.ballot_base.specs.declared.message.Body.{Body}
-use Rattle.ballot_base.specs.declared.message.Body.TheVariants.{NewBallot, Join, State, Install, Installed, Activate, Activated, Superseded, Append, Held, Commit}
-use Rattle.ballot_base.specs.Config.{is_lawful, are_rising}
+use Rattle.ballot.specs.Config.{Config}
+use Rattle.ballot.specs.Message.{Message}
+use Rattle.ballot.specs.Body.{Body}
+use Rattle.ballot.specs.Body.TheVariants.{NewBallot, Join, State, Install, Installed, Activate, Activated, Superseded, Append, Held, Commit}
+use Rattle.ballot.specs.LawfulConfig.{is_lawful, are_rising}
 use Rattle.master.specs.Group.{World}
-use Rattle.master.specs.Agreement.{In, IsPrefixOf, Past, HasTold, IsChosen, IsAgreed}
-use Rattle.master.specs.Agreement.In.{here, there}
+use Rattle.lists.specs.Lists.{In, IsPrefixOf}
+use Rattle.master.specs.Agreement.{Past, HasTold, IsChosen, IsAgreed}
+use Rattle.lists.specs.Lists.In.{here, there}
 use Rattle.master.specs.Agreement.HasTold.{as_primary, by_held}
 use Rattle.master.specs.Inside.{held_in_one, told_in, more_told, told_from, bounded, least_told, agreed_length}
-use Rattle.master.proofs.Lists.{prefix_then, prefix_length}
+use Rattle.lists.proofs.Beginnings.{prefix_then, prefix_length}
 use Rattle.master.proofs.Sound.{log_at, Told, AllTold}
 use Rattle.master.proofs.Sound.Told.{told_nothing, told_as_primary, told_by_held}
 use Rattle.master.proofs.Agreed.{log_front, all_told_chosen}

@@ -3,14 +3,14 @@ use Rattle.std.proofs.Common.{◌≡◌, ℕ, zero, suc, get_or, ◌+◌, ◌-�
 use Rattle.std.specs.Prelude.{slice_get, nat_lt, ◌&&◌}
 use Rattle.std.proofs.lemmas.Bool.{le-ltb, lt-ltb}
 use Rattle.machine.specs.Machine.{Rules}
-use Rattle.ballot_base.specs.declared.message.Message.{Message}
-use Rattle.ballot_base.specs.declared.message.Effect.{Effect}
-use Rattle.ballot_base.specs.declared.status.Status.{Status}
-use Rattle.ballot_base.specs.Losses.{Loses, halted, one_more}
-use Rattle.ballot_base.specs.Protocol.{Input, step_in_one_ballot}
-use Rattle.ballot_base.specs.Protocol.Input.{Receives, Proposes}
-use Rattle.ballot_base.specs.Replica.{ReplicaState, is_active, status_of}
-use Rattle.ballot_base.specs.Serving.{most_places}
+use Rattle.ballot.specs.Message.{Message}
+use Rattle.ballot.specs.Effect.{Effect}
+use Rattle.ballot.specs.Status.{Status}
+use Rattle.ballot.specs.Losses.{Loses, halted, one_more}
+use Rattle.ballot.specs.Protocol.{Input, step_in_one_ballot}
+use Rattle.ballot.specs.Protocol.Input.{Receives, Proposes}
+use Rattle.ballot.specs.Replica.{ReplicaState, is_active, status_of}
+use Rattle.ballot.specs.Serving.{most_places}
 use Rattle.master.specs.declared.event.Event.{Event}
 use Rattle.master.specs.declared.event.Event.TheVariants.{Deliver}
 use Rattle.master.specs.Group.{World, GroupState, moved}

@@ -4,23 +4,27 @@ use Rattle.std.specs.Prelude.{slice_get, ◌==◌, ◌&&◌}
 use Rattle.std.proofs.lemmas.Bool.{cases_eq, cases_lt, cases_Bool, eq-eqb, ne_eqb, and_parts}
 use Rattle.std.proofs.lemmas.List.{append-nil, take-append-le, length-append}
 use Rattle.machine.specs.Machine.{Rules}
-use Rattle.ballot_base.specs.declared.config.Config.{Config}
-use Rattle.ballot_base.specs.declared.message.Message.{Message}
-use Rattle.ballot_base.specs.declared.message.Body.{Body}
-use Rattle.ballot_base.specs.declared.message.Body.TheVariants.{NewBallot, Join, State, Install, Installed, Activate, Activated, Superseded, Append, Held, Commit}
-use Rattle.ballot_base.specs.declared.status.Mark.{Mark}
-use Rattle.ballot_base.specs.Replica.{ReplicaState, is_active, is_backup}
-use Rattle.ballot_base.specs.Sending.{Outcome, nothing_done, message_to_marked, sent_first}
-use Rattle.ballot_base.specs.Serving.{least, commit_at, added, proposed, most_places, extended, follows, leads, raised, raised_mark, on_append, on_held, on_commit, append_at, appends_behind}
-use Rattle.ballot_base.specs.Protocol.{step_in_one_ballot, ticked}
-use Rattle.ballot_base.specs.Protocol.Input.{Receives, Ticks}
-use Rattle.ballot_base.proofs.StepRows.{commit_at-goes, commit_at-stays, added-is, proposed-adds, proposed-not_active, proposed-full}
-use Rattle.ballot_base.proofs.MessageRows.{raised_mark-member, on_append-elsewhere, on_append-gap, on_append-takes, on_held-elsewhere, on_held-raises, on_commit-elsewhere, on_commit-past, on_commit-takes, ticked-active, on_tick_active-is}
+use Rattle.ballot.specs.Config.{Config}
+use Rattle.ballot.specs.Message.{Message}
+use Rattle.ballot.specs.Body.{Body}
+use Rattle.ballot.specs.Body.TheVariants.{NewBallot, Join, State, Install, Installed, Activate, Activated, Superseded, Append, Held, Commit}
+use Rattle.ballot.specs.Progress.{Progress}
+use Rattle.ballot.specs.Replica.{ReplicaState, is_active, is_backup}
+use Rattle.ballot.specs.Sending.{Outcome, nothing_done, message_to_followed, sent_first}
+use Rattle.ballot.specs.Serving.{least, commit_at, added, proposed, most_places, extended, follows, leads, raised, raised_progress, on_append, on_held, on_commit, append_at, appends_behind}
+use Rattle.ballot.specs.Protocol.{step_in_one_ballot, ticked}
+use Rattle.ballot.specs.Protocol.Input.{Receives, Ticks}
+use Rattle.ballot.proofs.StepRows.{commit_at-goes, commit_at-stays, added-is, proposed-adds, proposed-not_active, proposed-full}
+use Rattle.ballot.proofs.MessageRows.{raised_progress-member, on_append-elsewhere, on_append-gap, on_append-takes, on_held-elsewhere, on_held-raises, on_commit-elsewhere, on_commit-past, on_commit-takes, ticked-active, on_tick_active-is}
 use Rattle.master.specs.Group.{World, messages, outputs}
-use Rattle.master.specs.Agreement.{In, IsPrefixOf, outputs_of}
-use Rattle.master.specs.Agreement.In.{here, there}
-use Rattle.master.proofs.Lists.{prefix_same, prefix_then, prefix_push, prefix_next, prefix_length, get_pushed, in_append, messages-append, outputs-append, outputs_of_messages, said_to_marked}
-use Rattle.master.proofs.Sound.{log_at, Told, AllTold, Says, IsSoundNode, IsSound, Extends, told_less, all_told_kept, node_kept}
+use Rattle.lists.specs.Lists.{In, IsPrefixOf}
+use Rattle.master.specs.Agreement.{outputs_of}
+use Rattle.lists.specs.Lists.In.{here, there}
+use Rattle.lists.proofs.Beginnings.{prefix_same, prefix_then, prefix_push, prefix_next, prefix_length}
+use Rattle.lists.proofs.Places.{get_pushed}
+use Rattle.lists.proofs.Members.{in_append}
+use Rattle.master.proofs.Effects.{messages-append, outputs-append, outputs_of_messages, said_to_followed}
+use Rattle.master.proofs.Sound.{log_at, Told, AllTold, Says, IsSoundNode, IsSound, HasGrown, told_less, all_told_kept, node_kept}
 use Rattle.master.proofs.Sound.Told.{told_by_held}
 use Rattle.master.proofs.Rows.{Owes, owes_nothing, owes_commit, left_of_primary}
 
@@ -30,29 +34,29 @@ log_here v n p log e l = ap (log_at v) (sym e) ∙ l
 
 -- what was sent first, and then the rest
 owes_sent_first : {S C O : Type 0} (rules : Rules S C O) (config : Config) (p : ℕ) (w : World C O) (n : ℕ)
-    (old : ReplicaState C) (body : Body C) (marks : List Mark) (id : ℕ) (o : Outcome C O) →
-    ((v : World C O) → Extends w v → log_at v n ≡ o.state.log → Says config p v id body) →
-    Owes rules config p w n old o → Owes rules config p w n old (sent_first (message_to_marked O id body marks) o)
-owes_sent_first {C = C} {O = O} rules config p w n old body marks id o said owes =
+    (old : ReplicaState C) (body : Body C) (progress : List Progress) (id : ℕ) (o : Outcome C O) →
+    ((v : World C O) → HasGrown w v → log_at v n ≡ o.state.log → Says config p v id body) →
+    Owes rules config p w n old o → Owes rules config p w n old (sent_first (message_to_followed O id body progress) o)
+owes_sent_first {C = C} {O = O} rules config p w n old body progress id o said owes =
     record {
       grown = owes.grown;
       fits = owes.fits;
       says = λ v x l receiver m i. by_part v x l receiver m
-          (in_append (messages (message_to_marked O id body marks)) (messages o.effects)
-          (subst (λ (us : List (ℕ × Message C)). In (receiver, m) us) (messages-append (message_to_marked O id body marks) o.effects) i));
+          (in_append (messages (message_to_followed O id body progress)) (messages o.effects)
+          (subst (λ (us : List (ℕ × Message C)). In (receiver, m) us) (messages-append (message_to_followed O id body progress) o.effects) i));
       left_here = λ h. ap (λ us. w.left ++ us) silent ∙ owes.left_here h;
       left_elsewhere = λ h. silent ∙ owes.left_elsewhere h;
     }
   where
-    silent : outputs (message_to_marked O id body marks ++ o.effects) ≡ outputs o.effects
-    silent = outputs-append (message_to_marked O id body marks) o.effects
-        ∙ ap (λ us. us ++ outputs o.effects) (outputs_of_messages id body marks)
+    silent : outputs (message_to_followed O id body progress ++ o.effects) ≡ outputs o.effects
+    silent = outputs-append (message_to_followed O id body progress) o.effects
+        ∙ ap (λ us. us ++ outputs o.effects) (outputs_of_messages id body progress)
 
-    by_part : (v : World C O) → Extends w v → log_at v n ≡ o.state.log → (receiver : ℕ) (m : Message C) →
-        In (receiver, m) (messages (message_to_marked O id body marks)) ⊎ In (receiver, m) (messages o.effects) →
+    by_part : (v : World C O) → HasGrown w v → log_at v n ≡ o.state.log → (receiver : ℕ) (m : Message C) →
+        In (receiver, m) (messages (message_to_followed O id body progress)) ⊎ In (receiver, m) (messages o.effects) →
         Says config p v m.from m.body
     by_part v x l receiver m (inl i) =
-        said_to_marked O (λ (y : ℕ × Message C). Says config p v y.1.from y.1.body) id body marks (λ receiver. said v x l) (receiver, m) i
+        said_to_followed O (λ (y : ℕ × Message C). Says config p v y.1.from y.1.body) id body progress (λ receiver. said v x l) (receiver, m) i
     by_part v x l receiver m (inr i) = owes.says v x l receiver m i
 
 -- committing changes no log
@@ -72,7 +76,7 @@ owes_added {C = C} {O = O} rules config p w old c sound stands active =
     let joined = (s.leads active).1 in
     let room = length-append old.log (c ∷ []) in
     subst (λ (z : Outcome C O). Owes rules config p w p old z) (sym (added-is rules old c))
-    (owes_sent_first rules config p w p old (Append old.joined (length old.log) c) old.marks old.id _
+    (owes_sent_first rules config p w p old (Append old.joined (length old.log) c) old.progress old.id _
     (λ v x l. (
       joined,
       subst (λ (us : List C). slice_get us (length old.log) ≡ Some c)
@@ -86,7 +90,7 @@ owes_added {C = C} {O = O} rules config p w old c sound stands active =
       front = subst (λ (us : List C). IsPrefixOf (old.log ++ c ∷ []) us) (sym l) (prefix_same (old.log ++ c ∷ []));
       within = (let a = s.within in omega (arith, a, room));
       committed = t.committed;
-      marked = t.marked;
+      followed = t.followed;
       covered = t.covered;
     })
     (let a = s.within in omega (arith, a, room))
@@ -115,19 +119,19 @@ owes_proposed {C = C} {O = O} rules config p w n old c sound stands = by_role (c
     by_role (inr inactive) =
         owes_nothing rules config p w n old _ sound stands (proposed-not_active rules old c inactive)
 
--- marks that are raised
-in_raised : (member held : ℕ) (marks : List Mark) (mark : Mark) → In mark (raised member held marks) →
-    (before : Mark) × In before marks × (mark ≡ raised_mark member held before)
-in_raised member held [] mark i = elim i [ ]
-in_raised member held (m ∷ marks) mark here = (m, here, refl)
-in_raised member held (m ∷ marks) mark (there i) =
-    let q = in_raised member held marks mark i in (q.0, there q.1, q.2)
+-- progress that are raised
+in_raised : (member held : ℕ) (progress : List Progress) (reached : Progress) → In reached (raised member held progress) →
+    (before : Progress) × In before progress × (reached ≡ raised_progress member held before)
+in_raised member held [] reached i = elim i [ ]
+in_raised member held (m ∷ progress) reached here = (m, here, refl)
+in_raised member held (m ∷ progress) reached (there i) =
+    let q = in_raised member held progress reached i in (q.0, there q.1, q.2)
 
-raised_in : (member held : ℕ) (marks : List Mark) (mark : Mark) → In mark marks →
-    In (raised_mark member held mark) (raised member held marks)
-raised_in member held (m ∷ marks) mark here = here
-raised_in member held (m ∷ marks) mark (there i) = there (raised_in member held marks mark i)
-raised_in member held [] mark i = elim i [ ]
+raised_in : (member held : ℕ) (progress : List Progress) (reached : Progress) → In reached progress →
+    In (raised_progress member held reached) (raised member held progress)
+raised_in member held (m ∷ progress) reached here = here
+raised_in member held (m ∷ progress) reached (there i) = there (raised_in member held progress reached i)
+raised_in member held [] reached i = elim i [ ]
 
 -- who has told two lengths has told the greater
 told_max : {C O : Type 0} (v : World C O) (p m a b : ℕ) → Told v p m a → Told v p m b → Told v p m (max a b)
@@ -137,10 +141,10 @@ told_max v p m a b s t = by_order (cases_lt a b)
     by_order (inl less) = told_less v p m b (max a b) (omega arith) t
     by_order (inr more) = told_less v p m a (max a b) (omega arith) s
 
--- a raised mark is told
-raised_told : {C O : Type 0} (config : Config) (p : ℕ) (v : World C O) (from ballot held receiver : ℕ) (before : Mark) (m : ℕ) →
+-- a raised progress is told
+raised_told : {C O : Type 0} (config : Config) (p : ℕ) (v : World C O) (from ballot held receiver : ℕ) (before : Progress) (m : ℕ) →
     ballot ≡ 1 → before.member ≡ m + 1 → Told v p m before.held →
-    In (receiver, record { from = from; body = Held ballot held }) v.sent → Told v p m (raised_mark from held before).held
+    In (receiver, record { from = from; body = Held ballot held }) v.sent → Told v p m (raised_progress from held before).held
 raised_told {C = C} {O = O} config p v from ballot held receiver before m one member told i = by_member (cases_eq before.member from)
   where
     answer : from ≡ m + 1 → Told v p m held
@@ -148,13 +152,13 @@ raised_told {C = C} {O = O} config p v from ballot held receiver before m one me
         (subst (λ k. In (receiver, record { from = k; body = Held 1 held }) v.sent) e
         (subst (λ b. In (receiver, record { from = from; body = Held b held }) v.sent) one i)) (omega arith)
 
-    by_member : (before.member ≡ from) ⊎ (before.member ≡ from → ⊥) → Told v p m (raised_mark from held before).held
+    by_member : (before.member ≡ from) ⊎ (before.member ≡ from → ⊥) → Told v p m (raised_progress from held before).held
     by_member (inl same) =
-        let e : (raised_mark from held before).held ≡ max before.held held =
+        let e : (raised_progress from held before).held ≡ max before.held held =
         ap (λ b. (cond b (record before { held = max before.held held }) before).held) (eq-eqb before.member from same) in
         subst (λ k. Told v p m k) (sym e) (told_max v p m before.held held told (answer (sym same ∙ member)))
     by_member (inr other) =
-        let e : (raised_mark from held before).held ≡ before.held =
+        let e : (raised_progress from held before).held ≡ before.held =
         ap (λ b. (cond b (record before { held = max before.held held }) before).held) (ne_eqb before.member from other) in
         subst (λ k. Told v p m k) (sym e) told
 
@@ -162,11 +166,11 @@ raised_told {C = C} {O = O} config p v from ballot held receiver before m one me
 owes_raised : {S C O : Type 0} (rules : Rules S C O) (config : Config) (p : ℕ) (w : World C O) (old : ReplicaState C)
     (from ballot held receiver : ℕ) → IsSound rules config p w → slice_get w.nodes p ≡ Some old → is_active old.role ≡ true →
     In (receiver, record { from = from; body = Held ballot held }) w.sent →
-    Owes rules config p w p old (commit_at rules (record old { marks = raised from held old.marks }) (least (length old.log) (raised from held old.marks)))
+    Owes rules config p w p old (commit_at rules (record old { progress = raised from held old.progress }) (least (length old.log) (raised from held old.progress)))
 owes_raised {C = C} {O = O} rules config p w old from ballot held receiver sound stands active i =
     let s = sound.nodes p old stands in
     let said = sound.said receiver _ i in
-    owes_commit rules config p w old (record old { marks = raised from held old.marks }) active (s.leads active).1 (prefix_same old.log)
+    owes_commit rules config p w old (record old { progress = raised from held old.progress }) active (s.leads active).1 (prefix_same old.log)
     (λ v x l. let t = node_kept config p w v p old x s in record {
       id = t.id;
       leads = t.leads;
@@ -174,26 +178,26 @@ owes_raised {C = C} {O = O} rules config p w old from ballot held receiver sound
       front = t.front;
       within = t.within;
       committed = t.committed;
-      marked = λ mark j m e. marks_told v x t said mark (in_raised from held old.marks mark j) m e;
+      followed = λ reached j m e. progress_told v x t said reached (in_raised from held old.progress reached j) m e;
       covered = λ a m j. cover (t.covered a m j);
     })
     s.within
     (left_of_primary rules p w p old stands sound.left refl)
   where
-    marks_told : (v : World C O) → Extends w v → IsSoundNode config p v p old → Says config p w from (Held ballot held) →
-        (mark : Mark) → (before : Mark) × In before old.marks × (mark ≡ raised_mark from held before) →
-        (m : ℕ) → mark.member ≡ m + 1 → Told v p m mark.held
-    marks_told v x t said mark (before, j, e) m h =
+    progress_told : (v : World C O) → HasGrown w v → IsSoundNode config p v p old → Says config p w from (Held ballot held) →
+        (reached : Progress) → (before : Progress) × In before old.progress × (reached ≡ raised_progress from held before) →
+        (m : ℕ) → reached.member ≡ m + 1 → Told v p m reached.held
+    progress_told v x t said reached (before, j, e) m h =
         let member : before.member ≡ m + 1 =
-        sym (raised_mark-member from held before) ∙ ap (λ (k : Mark). k.member) (sym e) ∙ h in
-        subst (λ (k : Mark). Told v p m k.held) (sym e)
+        sym (raised_progress-member from held before) ∙ ap (λ (k : Progress). k.member) (sym e) ∙ h in
+        subst (λ (k : Progress). Told v p m k.held) (sym e)
         (raised_told config p v from ballot held receiver before m said.0 member
-        (t.marked before j m member) (x.sent _ i))
+        (t.followed before j m member) (x.sent _ i))
 
-    cover : {m : ℕ} → (m ≡ p) ⊎ ((mark : Mark) × In mark old.marks × (mark.member ≡ m + 1)) →
-        (m ≡ p) ⊎ ((mark : Mark) × In mark (raised from held old.marks) × (mark.member ≡ m + 1))
+    cover : {m : ℕ} → (m ≡ p) ⊎ ((reached : Progress) × In reached old.progress × (reached.member ≡ m + 1)) →
+        (m ≡ p) ⊎ ((reached : Progress) × In reached (raised from held old.progress) × (reached.member ≡ m + 1))
     cover (inl e) = inl e
-    cover (inr (mark, j, e)) = inr (raised_mark from held mark, raised_in from held old.marks mark j, raised_mark-member from held mark ∙ e)
+    cover (inr (reached, j, e)) = inr (raised_progress from held reached, raised_in from held old.progress reached j, raised_progress-member from held reached ∙ e)
 
 -- a Held that comes
 owes_held : {S C O : Type 0} (rules : Rules S C O) (config : Config) (p : ℕ) (w : World C O) (n : ℕ) (old : ReplicaState C)
@@ -207,7 +211,7 @@ owes_held {C = C} {O = O} rules config p w n old from ballot held receiver sound
         let active = (and_parts (old.joined == ballot) (is_active old.role) leader).1 in
         let e = ((sound.nodes n old stands).leads active).0 in
         subst (λ (z : Outcome C O). Owes rules config p w n old z) (sym (on_held-raises rules old from ballot held leader))
-        (subst (λ k. Owes rules config p w k old (commit_at rules (record old { marks = raised from held old.marks }) (least (length old.log) (raised from held old.marks)))) (sym e)
+        (subst (λ k. Owes rules config p w k old (commit_at rules (record old { progress = raised from held old.progress }) (least (length old.log) (raised from held old.progress)))) (sym e)
         (owes_raised rules config p w old from ballot held receiver sound (ap (slice_get w.nodes) (sym e) ∙ stands) active i))
     by_role (inr no_leader) =
         owes_nothing rules config p w n old _ sound stands (on_held-elsewhere rules old from ballot held no_leader)
@@ -258,7 +262,7 @@ owes_append {C = C} {O = O} rules config p w n old from ballot place c sound sta
             front = prefix_then (extended_front old.log (log_at w p) place c s.front said.1) (x.logs p);
             within = (let a = s.within in let b = prefix_length grown in omega (arith, a, b));
             committed = t.committed;
-            marked = t.marked;
+            followed = t.followed;
             covered = t.covered;
           };
           says = λ v x l receiver m i. one_said v l receiver m i;
@@ -290,7 +294,7 @@ owes_commit_taken : {S C O : Type 0} (rules : Rules S C O) (config : Config) (p 
     Says config p w from (Commit ballot held) → Owes rules config p w n old (on_commit O old ballot held)
 owes_commit_taken {C = C} {O = O} rules config p w n old from ballot held sound stands said = by_role (cases_Bool (follows old ballot))
   where
-    greater : (v : World C O) → Extends w v → IsSoundNode config p v n old → (held < old.committed) ⊎ (old.committed ≤ held) →
+    greater : (v : World C O) → HasGrown w v → IsSoundNode config p v n old → (held < old.committed) ⊎ (old.committed ≤ held) →
         AllTold config p v (max old.committed held)
     greater v x t (inl less) = subst (λ k. AllTold config p v k) (let e : old.committed ≡ max old.committed held = omega arith in e) t.committed
     greater v x t (inr more) =
@@ -310,7 +314,7 @@ owes_commit_taken {C = C} {O = O} rules config p w n old from ballot held sound 
             front = t.front;
             within = (let a = s.within in omega (arith, a));
             committed = greater v x t (cases_lt held old.committed);
-            marked = t.marked;
+            followed = t.followed;
             covered = t.covered;
           };
           says = λ v x l receiver m i. elim i [ ];
@@ -349,67 +353,67 @@ owes_received rules config p w n old receiver from (Activate b) sound stands i =
 owes_received rules config p w n old receiver from (Activated b) sound stands i = owes_nothing rules config p w n old _ sound stands refl
 owes_received rules config p w n old receiver from (Superseded b) sound stands i = owes_nothing rules config p w n old _ sound stands refl
 
--- the place that a tick sends for a mark
-said_at_mark : {C : Type 0} (O : Type 0) (P : ℕ × Message C → Type 0) (id ballot : ℕ) (log : List C) (mark : Mark) →
+-- the place that a tick sends for a progress
+said_at_reached : {C : Type 0} (O : Type 0) (P : ℕ × Message C → Type 0) (id ballot : ℕ) (log : List C) (reached : Progress) →
     ((receiver place : ℕ) (c : C) → slice_get log place ≡ Some c → P (receiver, record { from = id; body = Append ballot place c })) →
-    (o : Option C) → slice_get log mark.held ≡ o → (x : ℕ × Message C) → In x (messages (append_at O id ballot mark o)) → P x
-said_at_mark O P id ballot log mark f None e x j = elim j [ ]
-said_at_mark O P id ballot log mark f (Some c) e x here = f mark.member mark.held c e
-said_at_mark O P id ballot log mark f (Some c) e x (there j) = elim j [ ]
+    (o : Option C) → slice_get log reached.held ≡ o → (x : ℕ × Message C) → In x (messages (append_at O id ballot reached o)) → P x
+said_at_reached O P id ballot log reached f None e x j = elim j [ ]
+said_at_reached O P id ballot log reached f (Some c) e x here = f reached.member reached.held c e
+said_at_reached O P id ballot log reached f (Some c) e x (there j) = elim j [ ]
 
 -- the places that a tick sends
-said_behind : {C : Type 0} (O : Type 0) (P : ℕ × Message C → Type 0) (id ballot : ℕ) (log : List C) (marks : List Mark) →
+said_behind : {C : Type 0} (O : Type 0) (P : ℕ × Message C → Type 0) (id ballot : ℕ) (log : List C) (progress : List Progress) →
     ((receiver place : ℕ) (c : C) → slice_get log place ≡ Some c → P (receiver, record { from = id; body = Append ballot place c })) →
-    (x : ℕ × Message C) → In x (messages (appends_behind O id ballot log marks)) → P x
+    (x : ℕ × Message C) → In x (messages (appends_behind O id ballot log progress)) → P x
 said_behind O P id ballot log [] f x i = elim i [ ]
-said_behind {C = C} O P id ballot log (mark ∷ marks) f x i =
-    by_part (λ j. said_behind O P id ballot log marks f x j)
-    (in_append (messages (append_at O id ballot mark (slice_get log mark.held))) (messages (appends_behind O id ballot log marks))
-    (subst (λ (us : List (ℕ × Message C)). In x us) (messages-append (append_at O id ballot mark (slice_get log mark.held)) (appends_behind O id ballot log marks)) i))
+said_behind {C = C} O P id ballot log (reached ∷ progress) f x i =
+    by_part (λ j. said_behind O P id ballot log progress f x j)
+    (in_append (messages (append_at O id ballot reached (slice_get log reached.held))) (messages (appends_behind O id ballot log progress))
+    (subst (λ (us : List (ℕ × Message C)). In x us) (messages-append (append_at O id ballot reached (slice_get log reached.held)) (appends_behind O id ballot log progress)) i))
   where
-    by_part : (In x (messages (appends_behind O id ballot log marks)) → P x) →
-        In x (messages (append_at O id ballot mark (slice_get log mark.held))) ⊎ In x (messages (appends_behind O id ballot log marks)) → P x
-    by_part rest (inl j) = said_at_mark O P id ballot log mark f (slice_get log mark.held) refl x j
+    by_part : (In x (messages (appends_behind O id ballot log progress)) → P x) →
+        In x (messages (append_at O id ballot reached (slice_get log reached.held))) ⊎ In x (messages (appends_behind O id ballot log progress)) → P x
+    by_part rest (inl j) = said_at_reached O P id ballot log reached f (slice_get log reached.held) refl x j
     by_part rest (inr j) = rest j
 
-silent_behind : {C : Type 0} (O : Type 0) (id ballot : ℕ) (log : List C) (marks : List Mark) → outputs (appends_behind O id ballot log marks) ≡ []
+silent_behind : {C : Type 0} (O : Type 0) (id ballot : ℕ) (log : List C) (progress : List Progress) → outputs (appends_behind O id ballot log progress) ≡ []
 silent_behind O id ballot log [] = refl
-silent_behind {C = C} O id ballot log (mark ∷ marks) =
-    outputs-append (append_at O id ballot mark (slice_get log mark.held)) (appends_behind O id ballot log marks)
-    ∙ ap (λ us. us ++ outputs (appends_behind O id ballot log marks)) (at_mark (slice_get log mark.held))
-    ∙ silent_behind O id ballot log marks
+silent_behind {C = C} O id ballot log (reached ∷ progress) =
+    outputs-append (append_at O id ballot reached (slice_get log reached.held)) (appends_behind O id ballot log progress)
+    ∙ ap (λ us. us ++ outputs (appends_behind O id ballot log progress)) (at_reached (slice_get log reached.held))
+    ∙ silent_behind O id ballot log progress
   where
-    at_mark : (o : Option C) → outputs (append_at O id ballot mark o) ≡ []
-    at_mark None = refl
-    at_mark (Some c) = refl
+    at_reached : (o : Option C) → outputs (append_at O id ballot reached o) ≡ []
+    at_reached None = refl
+    at_reached (Some c) = refl
 
 -- a tick has no outputs
-silent_tick : {C : Type 0} (O : Type 0) (id ballot committed : ℕ) (log : List C) (marks : List Mark) →
-    outputs (appends_behind O id ballot log marks ++ message_to_marked O id (Commit ballot committed) marks) ≡ []
-silent_tick {C = C} O id ballot committed log marks =
-    outputs-append (appends_behind O id ballot log marks) (message_to_marked O id (Commit ballot committed) marks)
-    ∙ ap (λ us. us ++ outputs {C = C} (message_to_marked O id (Commit ballot committed) marks)) (silent_behind O id ballot log marks)
-    ∙ outputs_of_messages id (Commit ballot committed) marks
+silent_tick : {C : Type 0} (O : Type 0) (id ballot committed : ℕ) (log : List C) (progress : List Progress) →
+    outputs (appends_behind O id ballot log progress ++ message_to_followed O id (Commit ballot committed) progress) ≡ []
+silent_tick {C = C} O id ballot committed log progress =
+    outputs-append (appends_behind O id ballot log progress) (message_to_followed O id (Commit ballot committed) progress)
+    ∙ ap (λ us. us ++ outputs {C = C} (message_to_followed O id (Commit ballot committed) progress)) (silent_behind O id ballot log progress)
+    ∙ outputs_of_messages id (Commit ballot committed) progress
 
 -- a tick
 pub owes_ticked : {S C O : Type 0} (rules : Rules S C O) (config : Config) (p : ℕ) (w : World C O) (n : ℕ) (old : ReplicaState C) →
     IsSound rules config p w → slice_get w.nodes n ≡ Some old → Owes rules config p w n old (step_in_one_ballot rules old Ticks)
 owes_ticked {C = C} {O = O} rules config p w n old sound stands = by_role (cases_Bool (is_active old.role))
   where
-    by_part : is_active old.role ≡ true → (v : World C O) → Extends w v → log_at v n ≡ old.log → (receiver : ℕ) (m : Message C) →
-        In (receiver, m) (messages (appends_behind O old.id old.joined old.log old.marks))
-        ⊎ In (receiver, m) (messages (message_to_marked O old.id (Commit old.joined old.committed) old.marks)) →
+    by_part : is_active old.role ≡ true → (v : World C O) → HasGrown w v → log_at v n ≡ old.log → (receiver : ℕ) (m : Message C) →
+        In (receiver, m) (messages (appends_behind O old.id old.joined old.log old.progress))
+        ⊎ In (receiver, m) (messages (message_to_followed O old.id (Commit old.joined old.committed) old.progress)) →
         Says config p v m.from m.body
     by_part active v x l receiver m (inl i) =
         let s = sound.nodes n old stands in
-        said_behind O (λ (y : ℕ × Message C). Says config p v y.1.from y.1.body) old.id old.joined old.log old.marks
+        said_behind O (λ (y : ℕ × Message C). Says config p v y.1.from y.1.body) old.id old.joined old.log old.progress
         (λ receiver place c e. (
           (s.leads active).1,
           ap (λ us. slice_get us place) (log_here v n p old.log (s.leads active).0 l) ∙ e,
         )) (receiver, m) i
     by_part active v x l receiver m (inr i) =
         let s = sound.nodes n old stands in
-        said_to_marked O (λ (y : ℕ × Message C). Says config p v y.1.from y.1.body) old.id (Commit old.joined old.committed) old.marks
+        said_to_followed O (λ (y : ℕ × Message C). Says config p v y.1.from y.1.body) old.id (Commit old.joined old.committed) old.progress
         (λ receiver. ((s.leads active).1, all_told_kept config p w v old.committed x s.committed)) (receiver, m) i
 
     by_role : (is_active old.role ≡ true) ⊎ (is_active old.role ≡ false) → Owes rules config p w n old (step_in_one_ballot rules old Ticks)
@@ -420,11 +424,11 @@ owes_ticked {C = C} {O = O} rules config p w n old sound stands = by_role (cases
           grown = prefix_same old.log;
           fits = λ v x l. node_kept config p w v n old x (sound.nodes n old stands);
           says = λ v x l receiver m i. by_part active v x l receiver m
-              (in_append (messages (appends_behind O old.id old.joined old.log old.marks)) (messages (message_to_marked O old.id (Commit old.joined old.committed) old.marks))
+              (in_append (messages (appends_behind O old.id old.joined old.log old.progress)) (messages (message_to_followed O old.id (Commit old.joined old.committed) old.progress))
               (subst (λ (us : List (ℕ × Message C)). In (receiver, m) us)
-              (messages-append (appends_behind O old.id old.joined old.log old.marks) (message_to_marked O old.id (Commit old.joined old.committed) old.marks)) i));
-          left_here = λ h. ap (λ us. w.left ++ us) (silent_tick O old.id old.joined old.committed old.log old.marks) ∙ append-nil w.left ∙ left_of_primary rules p w n old stands sound.left h;
-          left_elsewhere = λ h. silent_tick O old.id old.joined old.committed old.log old.marks;
+              (messages-append (appends_behind O old.id old.joined old.log old.progress) (message_to_followed O old.id (Commit old.joined old.committed) old.progress)) i));
+          left_here = λ h. ap (λ us. w.left ++ us) (silent_tick O old.id old.joined old.committed old.log old.progress) ∙ append-nil w.left ∙ left_of_primary rules p w n old stands sound.left h;
+          left_elsewhere = λ h. silent_tick O old.id old.joined old.committed old.log old.progress;
         })
     by_role (inr inactive) =
         owes_nothing rules config p w n old _ sound stands

@@ -2,17 +2,17 @@
 use Rattle.std.proofs.Common.{◌≡◌, ℕ, zero, suc, ◌≤◌, ◌⊎◌, inl, inr, List, [], ◌∷◌, ◌++◌, length, map, set, take, Some, refl, ap, sym, ◌∙◌, subst, append_assoc, arith}
 use Rattle.std.specs.Prelude.{slice_get}
 use Rattle.std.proofs.lemmas.List.{append-nil, take-append-le, length-append}
-use Rattle.ballot_base.specs.declared.message.Message.{Message}
-use Rattle.ballot_base.specs.declared.message.Body.{Body}
-use Rattle.ballot_base.specs.declared.message.Effect.{Effect}
-use Rattle.ballot_base.specs.declared.message.Effect.TheVariants.{To, Out}
-use Rattle.ballot_base.specs.declared.status.Mark.{Mark}
-use Rattle.ballot_base.specs.Losses.{Thinned}
-use Rattle.ballot_base.specs.Losses.Thinned.{none, keeps, loses}
-use Rattle.ballot_base.specs.Sending.{message_to_marked}
+use Rattle.ballot.specs.Message.{Message}
+use Rattle.ballot.specs.Body.{Body}
+use Rattle.ballot.specs.Effect.{Effect}
+use Rattle.ballot.specs.Effect.TheVariants.{To, Out}
+use Rattle.ballot.specs.Progress.{Progress}
+use Rattle.ballot.specs.Losses.{Thinned}
+use Rattle.ballot.specs.Losses.Thinned.{none, keeps, loses}
+use Rattle.ballot.specs.Sending.{message_to_followed}
 use Rattle.master.specs.Group.{messages, outputs}
-use Rattle.master.specs.Agreement.{In, IsPrefixOf}
-use Rattle.master.specs.Agreement.In.{here, there}
+use Rattle.lists.specs.Lists.{In, IsPrefixOf}
+use Rattle.lists.specs.Lists.In.{here, there}
 
 pub prefix_same : {X : Type 0} (xs : List X) → IsPrefixOf xs xs
 prefix_same xs = record { rest = []; is = sym (append-nil xs) }
@@ -141,17 +141,17 @@ thinned_messages (keeps {e = To receiver m} t) x (there i) = there (thinned_mess
 thinned_messages (keeps {e = Out place o} t) x i = thinned_messages t x i
 thinned_messages (loses t) x i = there (thinned_messages t x i)
 
--- messages to nodes with a mark have no output, and say one thing
-pub outputs_of_messages : {C O : Type 0} (id : ℕ) (body : Body C) (marks : List Mark) → outputs (message_to_marked O id body marks) ≡ []
+-- messages to nodes with a progress have no output, and say one thing
+pub outputs_of_messages : {C O : Type 0} (id : ℕ) (body : Body C) (progress : List Progress) → outputs (message_to_followed O id body progress) ≡ []
 outputs_of_messages id body [] = refl
-outputs_of_messages id body (mark ∷ marks) = outputs_of_messages id body marks
+outputs_of_messages id body (reached ∷ progress) = outputs_of_messages id body progress
 
-pub said_to_marked : {C : Type 0} (O : Type 0) (P : ℕ × Message C → Type 0) (id : ℕ) (body : Body C) (marks : List Mark) →
+pub said_to_followed : {C : Type 0} (O : Type 0) (P : ℕ × Message C → Type 0) (id : ℕ) (body : Body C) (progress : List Progress) →
     ((receiver : ℕ) → P (receiver, record { from = id; body = body })) →
-    (x : ℕ × Message C) → In x (messages (message_to_marked O id body marks)) → P x
-said_to_marked O P id body [] f x i = elim i [ ]
-said_to_marked O P id body (mark ∷ marks) f x here = f mark.member
-said_to_marked O P id body (mark ∷ marks) f x (there i) = said_to_marked O P id body marks f x i
+    (x : ℕ × Message C) → In x (messages (message_to_followed O id body progress)) → P x
+said_to_followed O P id body [] f x i = elim i [ ]
+said_to_followed O P id body (reached ∷ progress) f x here = f reached.member
+said_to_followed O P id body (reached ∷ progress) f x (there i) = said_to_followed O P id body progress f x i
 
 -- effects with no message among them are their outputs
 pub outs_alone : {C O : Type 0} (xs : List (Effect C O)) → messages xs ≡ [] → xs ≡ map (λ (left : ℕ × O). let e : Effect C O = Out left.0 left.1 in e) (outputs xs)

@@ -5,31 +5,32 @@ use Rattle.std.specs.List.{list_any, list_all}
 use Rattle.std.proofs.lemmas.Bool.{cases_eq, eq-eqb, ne_eqb, and_parts}
 use Rattle.std.proofs.lemmas.List.{length-append, map-append}
 use Rattle.machine.specs.Machine.{Rules}
-use Rattle.ballot_base.specs.declared.config.Config.{Config}
-use Rattle.ballot_base.specs.declared.status.Mark.{Mark}
-use Rattle.ballot_base.specs.declared.status.Role.TheVariants.{Active}
-use Rattle.ballot_base.specs.Replica.{ReplicaState, Counted, opening, opening_member, others, marks_at}
-use Rattle.ballot_base.specs.Config.{is_lawful}
+use Rattle.ballot.specs.Config.{Config}
+use Rattle.ballot.specs.Progress.{Progress}
+use Rattle.ballot.specs.Role.TheVariants.{Active}
+use Rattle.ballot.specs.Replica.{ReplicaState, CountedReplica, opening, opening_member, others, progress_at}
+use Rattle.ballot.specs.LawfulConfig.{is_lawful}
 use Rattle.master.specs.Group.{World, opening_nodes, opening_world}
-use Rattle.master.specs.Agreement.{In, IsPrefixOf, log_of, outputs_of, IsOpening, Past, HasTold, IsChosen, IsAgreed, Agreement}
-use Rattle.master.specs.Agreement.In.{here, there}
+use Rattle.lists.specs.Lists.{In, IsPrefixOf}
+use Rattle.master.specs.Agreement.{log_of, outputs_of, IsOpening, Past, HasTold, IsChosen, IsAgreed, Agreement}
+use Rattle.lists.specs.Lists.In.{here, there}
 use Rattle.master.specs.Agreement.Past.{began, went_on}
 use Rattle.master.specs.Agreement.HasTold.{as_primary, by_held}
-use Rattle.master.proofs.Sound.{log_at, committed_of, AllTold, IsSoundNode, IsSound, Extends, extends_same, extends_then}
+use Rattle.master.proofs.Sound.{log_at, committed_of, AllTold, IsSoundNode, IsSound, HasGrown, extends_same, extends_then}
 use Rattle.master.proofs.Sound.Told.{told_nothing}
 use Rattle.master.proofs.Agreed.{event_sound, event_extends, sound_agreement}
 
--- marks of members
-mark_held : (held : ℕ) (members : List ℕ) (mark : Mark) → In mark (marks_at held members) → mark.held ≡ held
-mark_held held [] mark i = elim i [ ]
-mark_held held (m ∷ members) mark here = refl
-mark_held held (m ∷ members) mark (there i) = mark_held held members mark i
+-- progress of members
+reached_held : (held : ℕ) (members : List ℕ) (reached : Progress) → In reached (progress_at held members) → reached.held ≡ held
+reached_held held [] reached i = elim i [ ]
+reached_held held (m ∷ members) reached here = refl
+reached_held held (m ∷ members) reached (there i) = reached_held held members reached i
 
-mark_of : (held : ℕ) (members : List ℕ) (m : ℕ) → In m members →
-    (mark : Mark) × In mark (marks_at held members) × (mark.member ≡ m)
-mark_of held [] m i = elim i [ ]
-mark_of held (x ∷ members) m here = (record { member = m; held = held }, here, refl)
-mark_of held (x ∷ members) m (there i) = let q = mark_of held members m i in (q.0, there q.1, q.2)
+reached_of : (held : ℕ) (members : List ℕ) (m : ℕ) → In m members →
+    (reached : Progress) × In reached (progress_at held members) × (reached.member ≡ m)
+reached_of held [] m i = elim i [ ]
+reached_of held (x ∷ members) m here = (record { member = m; held = held }, here, refl)
+reached_of held (x ∷ members) m (there i) = let q = reached_of held members m i in (q.0, there q.1, q.2)
 
 -- another member is among the others
 in_others : (id : ℕ) (members : List ℕ) (m : ℕ) → In m members → (m ≡ id → ⊥) → In m (others id members)
@@ -52,7 +53,7 @@ node_opens {C = C} {O = O} config p w n primary member = by_place (cases_eq n p)
     leader : n ≡ p → IsSoundNode config p w n (record (opening_member C (n + 1) config) {
       role = Active;
       members = config.members;
-      marks = marks_at 0 (others (n + 1) config.members);
+      progress = progress_at 0 (others (n + 1) config.members);
     })
     leader e =
         let here_primary : config.primary ≡ n + 1 = omega (arith, e, primary) in
@@ -63,15 +64,15 @@ node_opens {C = C} {O = O} config p w n primary member = by_place (cases_eq n p)
           front = record { rest = log_at w p; is = refl };
           within = omega arith;
           committed = λ m i. told_nothing refl;
-          marked = λ mark i m h. told_nothing (mark_held 0 (others (n + 1) config.members) mark i);
+          followed = λ reached i m h. told_nothing (reached_held 0 (others (n + 1) config.members) reached i);
           covered = λ a m i. cover e m i (cases_eq m p);
         }
       where
         cover : n ≡ p → (m : ℕ) → In (m + 1) config.members → (m ≡ p) ⊎ (m ≡ p → ⊥) →
-            (m ≡ p) ⊎ ((mark : Mark) × In mark (marks_at 0 (others (n + 1) config.members)) × (mark.member ≡ m + 1))
+            (m ≡ p) ⊎ ((reached : Progress) × In reached (progress_at 0 (others (n + 1) config.members)) × (reached.member ≡ m + 1))
         cover e m i (inl same) = inl same
         cover e m i (inr ne) =
-            inr (mark_of 0 (others (n + 1) config.members) (m + 1)
+            inr (reached_of 0 (others (n + 1) config.members) (m + 1)
             (in_others (n + 1) config.members (m + 1) i (λ h. ne (omega (arith, h, e)))))
 
     backup : (n ≡ p → ⊥) → IsSoundNode config p w n (opening_member C (n + 1) config)
@@ -83,7 +84,7 @@ node_opens {C = C} {O = O} config p w n primary member = by_place (cases_eq n p)
           front = record { rest = log_at w p; is = refl };
           within = omega arith;
           committed = λ m i. told_nothing refl;
-          marked = λ mark i m h. elim i [ ];
+          followed = λ reached i m h. elim i [ ];
           covered = λ a m i. cc;
         }
 
@@ -94,7 +95,7 @@ node_opens {C = C} {O = O} config p w n primary member = by_place (cases_eq n p)
         (sym (ap (λ k. cond k (record (opening_member C (n + 1) config) {
           role = Active;
           members = config.members;
-          marks = marks_at 0 (others (n + 1) config.members);
+          progress = progress_at 0 (others (n + 1) config.members);
         }) (opening_member C (n + 1) config)) b)) (leader e)
     by_place (inr ne) =
         let b = ne_eqb (n + 1) config.primary (λ h. ne (omega (arith, h, primary))) in
@@ -102,7 +103,7 @@ node_opens {C = C} {O = O} config p w n primary member = by_place (cases_eq n p)
         (sym (ap (λ k. cond k (record (opening_member C (n + 1) config) {
           role = Active;
           members = config.members;
-          marks = marks_at 0 (others (n + 1) config.members);
+          progress = progress_at 0 (others (n + 1) config.members);
         }) (opening_member C (n + 1) config)) b)) (backup ne)
 
 -- an opening has no commit
@@ -112,7 +113,7 @@ opening_committed C id config = by_role (id == config.primary)
     by_role : (b : Bool) → (cond b (record (opening_member C id config) {
       role = Active;
       members = config.members;
-      marks = marks_at 0 (others id config.members);
+      progress = progress_at 0 (others id config.members);
     }) (opening_member C id config)).committed ≡ 0
     by_role true = refl
     by_role false = refl
@@ -189,7 +190,7 @@ past_sound_at rules config p v w past primary member (went_on {w = before} earli
 
 pub past_extends : {S C O : Type 0} (rules : Rules S C O) (config : Config) (p : ℕ) (v w : World C O) (past : List (World C O)) →
     config.primary ≡ p + 1 → list_any (λ member. member == config.primary) config.members ≡ true →
-    Past rules config (w ∷ past) → In v (w ∷ past) → Extends v w
+    Past rules config (w ∷ past) → In v (w ∷ past) → HasGrown v w
 past_extends rules config p v w past primary member came here = extends_same w
 past_extends rules config p v w past primary member (began opens) (there i) = elim i [ ]
 past_extends rules config p v w past primary member (went_on {w = before} {e = e} earlier happens) (there i) =
@@ -238,11 +239,11 @@ agreed_grows {C = C} config v past xs ys a b = by_chosen a.chosen
     by_chosen (inr chosen) = b.longest xs (chosen_stays config v past xs chosen)
 
 -- one node more is opened
-pub opened_more : {C : Type 0} (config : Config) (items more : List (Counted C)) (new : Counted C) (at : ℕ) →
-    map (λ (z : Counted C). z.state) items ≡ opening_nodes C at config → new.state ≡ opening C (at + 1) config → more ≡ items ++ new ∷ [] →
-    map (λ (z : Counted C). z.state) more ≡ opening_nodes C (at + 1) config
+pub opened_more : {C : Type 0} (config : Config) (items more : List (CountedReplica C)) (new : CountedReplica C) (at : ℕ) →
+    map (λ (z : CountedReplica C). z.state) items ≡ opening_nodes C at config → new.state ≡ opening C (at + 1) config → more ≡ items ++ new ∷ [] →
+    map (λ (z : CountedReplica C). z.state) more ≡ opening_nodes C (at + 1) config
 opened_more {C = C} config items more new at before opens pushed =
     let next : at + 1 ≡ suc at = omega arith in
-    ap (map (λ (z : Counted C). z.state)) pushed ∙ map-append (λ (z : Counted C). z.state) items (new ∷ [])
+    ap (map (λ (z : CountedReplica C). z.state)) pushed ∙ map-append (λ (z : CountedReplica C). z.state) items (new ∷ [])
     ∙ ap (λ us. us ++ new.state ∷ []) before ∙ ap (λ s. opening_nodes C at config ++ s ∷ []) opens
     ∙ sym (ap (λ k. opening_nodes C k config) next)

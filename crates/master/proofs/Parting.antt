@@ -3,14 +3,14 @@ use Rattle.std.proofs.Common.{◌≡◌, ℕ, ◌+◌, ◌≤◌, ◌<◌, Bool,
 use Rattle.std.specs.List.{remove}
 use Rattle.std.proofs.lemmas.List.{append-nil, take-append-drop, take_more, drop_more, drop-append-le, length-append, length-drop, length-take-le, get_or_default}
 use Rattle.std.proofs.Math.Seq.{drop-length, take-length}
-use Rattle.ballot_base.specs.declared.message.Message.{Message}
-use Rattle.ballot_base.specs.declared.message.Effect.{Effect}
-use Rattle.ballot_base.specs.declared.message.Effect.TheVariants.{To, Out}
-use Rattle.ballot_base.specs.Losses.{Thinned}
-use Rattle.ballot_base.specs.Losses.Thinned.{none, keeps, loses}
+use Rattle.ballot.specs.Message.{Message}
+use Rattle.ballot.specs.Effect.{Effect}
+use Rattle.ballot.specs.Effect.TheVariants.{To, Out}
+use Rattle.ballot.specs.Losses.{Thinned}
+use Rattle.ballot.specs.Losses.Thinned.{none, keeps, loses}
 use Rattle.master.specs.Group.{messages, outputs}
 use Rattle.master.specs.Inside.{Parted, is_message}
-use Rattle.master.proofs.Lists.{messages-append, outputs-append}
+use Rattle.master.proofs.Effects.{messages-append, outputs-append}
 
 -- effects that are parted up to a place
 pub record Parting {C O : Type 0} (old : List (Effect C O)) (from place : ℕ) (now : List (Effect C O)) (at : ℕ)

@@ -4,36 +4,39 @@ use Rattle.std.specs.Prelude.{slice_get}
 use Rattle.std.proofs.lemmas.Bool.{cases_eq, cases_lt}
 use Rattle.std.proofs.lemmas.List.{append-nil, take-take, take-append-drop, length-take-le}
 use Rattle.machine.specs.Machine.{Rules, replay}
-use Rattle.ballot_base.specs.declared.config.Config.{Config}
-use Rattle.ballot_base.specs.declared.message.Message.{Message}
-use Rattle.ballot_base.specs.declared.message.Body.TheVariants.{Commit}
-use Rattle.ballot_base.specs.declared.message.Effect.{Effect}
-use Rattle.ballot_base.specs.declared.message.Effect.TheVariants.{Out}
-use Rattle.ballot_base.specs.declared.status.Mark.{Mark}
-use Rattle.ballot_base.specs.Replica.{ReplicaState, is_active}
-use Rattle.ballot_base.specs.Losses.{Loses, halted}
-use Rattle.ballot_base.specs.Sending.{Outcome, nothing_done, message_to_marked}
-use Rattle.ballot_base.specs.Serving.{outputs_from, outputs_between, least, commit_at}
-use Rattle.ballot_base.proofs.AppliesInOrder.{outputs_from-append}
-use Rattle.ballot_base.proofs.StepRows.{commit_at-stays, commit_at-goes, least-le}
+use Rattle.ballot.specs.Config.{Config}
+use Rattle.ballot.specs.Message.{Message}
+use Rattle.ballot.specs.Body.TheVariants.{Commit}
+use Rattle.ballot.specs.Effect.{Effect}
+use Rattle.ballot.specs.Effect.TheVariants.{Out}
+use Rattle.ballot.specs.Progress.{Progress}
+use Rattle.ballot.specs.Replica.{ReplicaState, is_active}
+use Rattle.ballot.specs.Losses.{Loses, halted}
+use Rattle.ballot.specs.Sending.{Outcome, nothing_done, message_to_followed}
+use Rattle.ballot.specs.Serving.{outputs_from, outputs_between, least, commit_at}
+use Rattle.ballot.proofs.AppliesInOrder.{outputs_from-append}
+use Rattle.ballot.proofs.StepRows.{commit_at-stays, commit_at-goes, least-le}
 use Rattle.master.specs.Group.{World, messages, outputs, moved}
-use Rattle.master.specs.Agreement.{In, IsPrefixOf, log_of, outputs_of}
-use Rattle.master.specs.Agreement.In.{here, there}
-use Rattle.master.proofs.Lists.{prefix_same, get_set, get_set_other, messages-append, outputs-append, thinned_outputs, thinned_messages, outputs_of_messages, said_to_marked}
-use Rattle.master.proofs.Sound.{log_at, committed_of, Told, AllTold, Says, IsSoundNode, IsSound, Extends, LeftIs, told_less, node_kept, moved_extends, moved_sound}
+use Rattle.lists.specs.Lists.{In, IsPrefixOf}
+use Rattle.master.specs.Agreement.{log_of, outputs_of}
+use Rattle.lists.specs.Lists.In.{here, there}
+use Rattle.lists.proofs.Beginnings.{prefix_same}
+use Rattle.lists.proofs.Places.{get_set, get_set_other}
+use Rattle.master.proofs.Effects.{messages-append, outputs-append, thinned_outputs, thinned_messages, outputs_of_messages, said_to_followed}
+use Rattle.master.proofs.Sound.{log_at, committed_of, Told, AllTold, Says, IsSoundNode, IsSound, HasGrown, LeftIs, told_less, node_kept, moved_extends, moved_sound}
 use Rattle.master.proofs.Sound.Told.{told_as_primary}
 
 -- a state is sound for node n in any later world that has its log
 abbrev pub Fits : {C O : Type 0} → Config → ℕ → World C O → ℕ → ReplicaState C → Type 0
 Fits {C = C} {O = O} config p w n r =
-    (v : World C O) → Extends w v → log_at v n ≡ r.log → IsSoundNode config p v n r
+    (v : World C O) → HasGrown w v → log_at v n ≡ r.log → IsSoundNode config p v n r
 
 -- what is to be shown of an outcome of node n
 pub record Owes {S C O : Type 0} (rules : Rules S C O) (config : Config) (p : ℕ) (w : World C O) (n : ℕ)
     (old : ReplicaState C) (o : Outcome C O) : Type 0 where
   pub grown : IsPrefixOf old.log o.state.log
   pub fits : Fits config p w n o.state
-  pub says : (v : World C O) → Extends w v → log_at v n ≡ o.state.log →
+  pub says : (v : World C O) → HasGrown w v → log_at v n ≡ o.state.log →
       (receiver : ℕ) (m : Message C) → In (receiver, m) (messages o.effects) → Says config p v m.from m.body
   pub left_here : n ≡ p → w.left ++ outputs o.effects ≡ outputs_of rules (take o.state.committed o.state.log)
   pub left_elsewhere : (n ≡ p → ⊥) → outputs o.effects ≡ []
@@ -112,7 +115,7 @@ lossy_sound {C = C} {O = O} rules config p w n old o new given sound stands owes
           front = s.front;
           within = s.within;
           committed = s.committed;
-          marked = s.marked;
+          followed = s.followed;
           covered = s.covered;
         })
         (λ receiver m i. elim i [ ])
@@ -147,7 +150,7 @@ owes_halted {C = C} {O = O} rules config p w n old sound stands =
         front = s.front;
         within = s.within;
         committed = s.committed;
-        marked = s.marked;
+        followed = s.followed;
         covered = s.covered;
       };
       says = λ v x l receiver m i. elim i [ ];
@@ -155,11 +158,11 @@ owes_halted {C = C} {O = O} rules config p w n old sound stands =
       left_elsewhere = λ h. refl;
     }
 
--- the least of the marks is at most each of them
-pub least_le_mark : (held : ℕ) (mark : Mark) (marks : List Mark) → In mark marks → least held marks ≤ mark.held
-least_le_mark held mark [] i = elim i [ ]
-least_le_mark held mark (m ∷ marks) here = let l = least-le (min held m.held) marks in omega (arith, l)
-least_le_mark held mark (m ∷ marks) (there i) = least_le_mark (min held m.held) mark marks i
+-- the least of the progress is at most each of them
+pub least_le_reached : (held : ℕ) (reached : Progress) (progress : List Progress) → In reached progress → least held progress ≤ reached.held
+least_le_reached held reached [] i = elim i [ ]
+least_le_reached held reached (m ∷ progress) here = let l = least-le (min held m.held) progress in omega (arith, l)
+least_le_reached held reached (m ∷ progress) (there i) = least_le_reached (min held m.held) reached progress i
 
 -- the outputs of the places from one length to another come behind those before
 outputs_of-take : {S C O : Type 0} (rules : Rules S C O) (log : List C) (from to : ℕ) → from ≤ to → to ≤ length log →
@@ -175,19 +178,19 @@ outputs_of-take {C = C} {O = O} rules log from to rising within =
     ∙ ap (λ k. outputs_of rules (take from log)
     ++ outputs (outputs_from rules (replay rules (take from log)) k (drop from (take to log)))) place
 
--- every member holds what all marks say
+-- every member holds what all progress say
 pub all_hold : {C O : Type 0} (config : Config) (p : ℕ) (w v : World C O) (r : ReplicaState C) →
     IsSoundNode config p v p r → is_active r.role ≡ true → log_at v p ≡ r.log →
-    AllTold config p v (least (length r.log) r.marks)
-all_hold config p w v r s active l n i = by_mark (s.covered active n i)
+    AllTold config p v (least (length r.log) r.progress)
+all_hold config p w v r s active l n i = by_reached (s.covered active n i)
   where
-    by_mark : (n ≡ p) ⊎ ((mark : Mark) × In mark r.marks × (mark.member ≡ n + 1)) →
-        Told v p n (least (length r.log) r.marks)
-    by_mark (inl e) =
-        let a = least-le (length r.log) r.marks in let b = ap length l in told_as_primary e (omega (arith, a, b))
-    by_mark (inr (mark, j, e)) =
-        told_less v p n mark.held (least (length r.log) r.marks) (least_le_mark (length r.log) mark r.marks j)
-        (s.marked mark j n e)
+    by_reached : (n ≡ p) ⊎ ((reached : Progress) × In reached r.progress × (reached.member ≡ n + 1)) →
+        Told v p n (least (length r.log) r.progress)
+    by_reached (inl e) =
+        let a = least-le (length r.log) r.progress in let b = ap length l in told_as_primary e (omega (arith, a, b))
+    by_reached (inr (reached, j, e)) =
+        told_less v p n reached.held (least (length r.log) r.progress) (least_le_reached (length r.log) reached r.progress j)
+        (s.followed reached j n e)
 
 -- outputs are no messages
 messages_of_outputs : {C O : Type 0} (place : ℕ) (os : List O) → messages {C = C} (map (Out place) os) ≡ []
@@ -205,32 +208,32 @@ messages_of_outputs_from {C = C} rules s place (c ∷ log) =
 -- what a commit says is so
 commit_says : {S C O : Type 0} (rules : Rules S C O) (config : Config) (p : ℕ) (v : World C O) (r : ReplicaState C) (k : ℕ) →
     r.joined ≡ 1 → AllTold config p v k → (receiver : ℕ) (m : Message C) →
-    In (receiver, m) (messages (outputs_between rules r.log r.committed k ++ message_to_marked O r.id (Commit r.joined k) r.marks)) →
+    In (receiver, m) (messages (outputs_between rules r.log r.committed k ++ message_to_followed O r.id (Commit r.joined k) r.progress)) →
     Says config p v m.from m.body
 commit_says {C = C} {O = O} rules config p v r k joined all receiver m i =
-    said_to_marked O (λ (y : ℕ × Message C). Says config p v y.1.from y.1.body) r.id (Commit r.joined k) r.marks
+    said_to_followed O (λ (y : ℕ × Message C). Says config p v y.1.from y.1.body) r.id (Commit r.joined k) r.progress
     (λ receiver. (joined, all)) (receiver, m)
     (subst (λ (us : List (ℕ × Message C)). In (receiver, m) us) e i)
   where
-    e : messages (outputs_between rules r.log r.committed k ++ message_to_marked O r.id (Commit r.joined k) r.marks)
-        ≡ messages (message_to_marked O r.id (Commit r.joined k) r.marks)
-    e = messages-append (outputs_between rules r.log r.committed k) (message_to_marked O r.id (Commit r.joined k) r.marks)
-        ∙ ap (λ us. us ++ messages (message_to_marked O r.id (Commit r.joined k) r.marks))
+    e : messages (outputs_between rules r.log r.committed k ++ message_to_followed O r.id (Commit r.joined k) r.progress)
+        ≡ messages (message_to_followed O r.id (Commit r.joined k) r.progress)
+    e = messages-append (outputs_between rules r.log r.committed k) (message_to_followed O r.id (Commit r.joined k) r.progress)
+        ∙ ap (λ us. us ++ messages (message_to_followed O r.id (Commit r.joined k) r.progress))
         (messages_of_outputs_from rules (replay rules (take r.committed r.log)) r.committed (drop r.committed (take k r.log)))
 
 -- a commit of what all hold, by a primary whose log is r.log
 pub owes_commit : {S C O : Type 0} (rules : Rules S C O) (config : Config) (p : ℕ) (w : World C O)
     (old r : ReplicaState C) → is_active r.role ≡ true → r.joined ≡ 1 → IsPrefixOf old.log r.log →
     Fits config p w p r → r.committed ≤ length r.log → w.left ≡ outputs_of rules (take r.committed r.log) →
-    Owes rules config p w p old (commit_at rules r (least (length r.log) r.marks))
+    Owes rules config p w p old (commit_at rules r (least (length r.log) r.progress))
 owes_commit {C = C} {O = O} rules config p w old r active joined grown fits within left =
-    by_order (cases_lt r.committed (least (length r.log) r.marks))
+    by_order (cases_lt r.committed (least (length r.log) r.progress))
   where
-    by_order : (r.committed < least (length r.log) r.marks) ⊎ (least (length r.log) r.marks ≤ r.committed) →
-        Owes rules config p w p old (commit_at rules r (least (length r.log) r.marks))
+    by_order : (r.committed < least (length r.log) r.progress) ⊎ (least (length r.log) r.progress ≤ r.committed) →
+        Owes rules config p w p old (commit_at rules r (least (length r.log) r.progress))
     by_order (inl above) =
         subst (λ (z : Outcome C O). Owes rules config p w p old z)
-        (sym (commit_at-goes rules r (least (length r.log) r.marks) above))
+        (sym (commit_at-goes rules r (least (length r.log) r.progress) above))
         (record {
           grown = grown;
           fits = λ v x l. let s = fits v x l in record {
@@ -238,24 +241,24 @@ owes_commit {C = C} {O = O} rules config p w old r active joined grown fits with
             leads = s.leads;
             follows = s.follows;
             front = s.front;
-            within = least-le (length r.log) r.marks;
+            within = least-le (length r.log) r.progress;
             committed = all_hold config p w v r s active l;
-            marked = s.marked;
+            followed = s.followed;
             covered = s.covered;
           };
           says = λ v x l receiver m i.
-              commit_says rules config p v r (least (length r.log) r.marks) joined (all_hold config p w v r (fits v x l) active l) receiver m i;
+              commit_says rules config p v r (least (length r.log) r.progress) joined (all_hold config p w v r (fits v x l) active l) receiver m i;
           left_here = λ h.
-              ap (λ us. w.left ++ us) (outputs-append (outputs_between rules r.log r.committed (least (length r.log) r.marks)) (message_to_marked O r.id (Commit r.joined (least (length r.log) r.marks)) r.marks))
-              ∙ ap (λ us. w.left ++ (outputs (outputs_between rules r.log r.committed (least (length r.log) r.marks)) ++ us)) (outputs_of_messages r.id (Commit r.joined (least (length r.log) r.marks)) r.marks)
-              ∙ ap (λ us. w.left ++ us) (append-nil (outputs (outputs_between rules r.log r.committed (least (length r.log) r.marks))))
-              ∙ ap (λ us. us ++ outputs (outputs_between rules r.log r.committed (least (length r.log) r.marks))) left
-              ∙ sym (outputs_of-take rules r.log r.committed (least (length r.log) r.marks) (omega arith) (least-le (length r.log) r.marks));
+              ap (λ us. w.left ++ us) (outputs-append (outputs_between rules r.log r.committed (least (length r.log) r.progress)) (message_to_followed O r.id (Commit r.joined (least (length r.log) r.progress)) r.progress))
+              ∙ ap (λ us. w.left ++ (outputs (outputs_between rules r.log r.committed (least (length r.log) r.progress)) ++ us)) (outputs_of_messages r.id (Commit r.joined (least (length r.log) r.progress)) r.progress)
+              ∙ ap (λ us. w.left ++ us) (append-nil (outputs (outputs_between rules r.log r.committed (least (length r.log) r.progress))))
+              ∙ ap (λ us. us ++ outputs (outputs_between rules r.log r.committed (least (length r.log) r.progress))) left
+              ∙ sym (outputs_of-take rules r.log r.committed (least (length r.log) r.progress) (omega arith) (least-le (length r.log) r.progress));
           left_elsewhere = λ h. absurd (h refl);
         })
     by_order (inr below) =
         subst (λ (z : Outcome C O). Owes rules config p w p old z)
-        (sym (commit_at-stays rules r (least (length r.log) r.marks) below))
+        (sym (commit_at-stays rules r (least (length r.log) r.progress) below))
         (record {
           grown = grown;
           fits = fits;

@@ -2,16 +2,17 @@
 use Rattle.std.proofs.Common.{◌≡◌, ℕ, ◌+◌, ◌-◌, ◌^◌, ◌<◌, ◌≤◌, ◌⊎◌, inl, inr, min, List, [], ◌∷◌, ◌++◌, length, take, get_or, Some, None, Option, refl, ap, sym, ◌∙◌, subst, arith}
 use Rattle.std.proofs.lemmas.List.{take_more}
 use Rattle.machine.specs.Machine.{Rules}
-use Rattle.ballot_base.specs.declared.config.Config.{Config}
-use Rattle.ballot_base.specs.Losses.{one_more}
-use Rattle.ballot_base.proofs.ThinnedEffects.{Thinned-same}
+use Rattle.ballot.specs.Config.{Config}
+use Rattle.ballot.specs.Losses.{one_more}
+use Rattle.ballot.proofs.ThinnedEffects.{Thinned-same}
 use Rattle.master.specs.declared.event.Event.{Event}
 use Rattle.master.specs.Group.{World, GroupState}
 use Rattle.master.specs.Exact.{Turn, turn, behind, group_step, group_run}
 use Rattle.master.specs.Steps.{Happens, Run, StepsBy, LosesNothing}
 use Rattle.master.specs.Steps.Happens.{nothing_happens, goes}
 use Rattle.master.specs.Steps.Run.{ends, goes_on}
-use Rattle.master.specs.Agreement.{IsPrefixOf, Past, IsChosen, AgreesAfter}
+use Rattle.lists.specs.Lists.{IsPrefixOf}
+use Rattle.master.specs.Agreement.{Past, IsChosen, AgreesAfter}
 use Rattle.master.specs.Agreement.Past.{went_on}
 use Rattle.master.proofs.Opening.{agreement, chosen_stays, past_lawful}
 use Rattle.master.proofs.Chosen.{lawful_config, agreed_is}

@@ -3,16 +3,19 @@ use Rattle.std.proofs.Common.{◌≡◌, ℕ, ◌+◌, ◌≤◌, ◌⊎◌, inl
 use Rattle.std.specs.Prelude.{slice_get}
 use Rattle.std.proofs.lemmas.Bool.{cases_eq}
 use Rattle.machine.specs.Machine.{Rules}
-use Rattle.ballot_base.specs.declared.config.Config.{Config}
-use Rattle.ballot_base.specs.declared.message.Message.{Message}
-use Rattle.ballot_base.specs.declared.message.Body.{Body}
-use Rattle.ballot_base.specs.declared.message.Body.TheVariants.{NewBallot, Join, State, Install, Installed, Activate, Activated, Superseded, Append, Held, Commit}
-use Rattle.ballot_base.specs.declared.message.Effect.{Effect}
-use Rattle.ballot_base.specs.declared.status.Mark.{Mark}
-use Rattle.ballot_base.specs.Replica.{ReplicaState, is_active, is_backup}
+use Rattle.ballot.specs.Config.{Config}
+use Rattle.ballot.specs.Message.{Message}
+use Rattle.ballot.specs.Body.{Body}
+use Rattle.ballot.specs.Body.TheVariants.{NewBallot, Join, State, Install, Installed, Activate, Activated, Superseded, Append, Held, Commit}
+use Rattle.ballot.specs.Effect.{Effect}
+use Rattle.ballot.specs.Progress.{Progress}
+use Rattle.ballot.specs.Replica.{ReplicaState, is_active, is_backup}
 use Rattle.master.specs.Group.{World, messages, moved}
-use Rattle.master.specs.Agreement.{In, IsPrefixOf, log_of, outputs_of}
-use Rattle.master.proofs.Lists.{prefix_same, prefix_then, prefix_get, prefix_length, get_set, get_set_other, in_left, in_append}
+use Rattle.lists.specs.Lists.{In, IsPrefixOf}
+use Rattle.master.specs.Agreement.{log_of, outputs_of}
+use Rattle.lists.proofs.Beginnings.{prefix_same, prefix_then, prefix_get, prefix_length}
+use Rattle.lists.proofs.Places.{get_set, get_set_other}
+use Rattle.lists.proofs.Members.{in_left, in_append}
 
 -- the log of the node at a place, and how much it has applied
 abbrev pub log_at : {C O : Type 0} → World C O → ℕ → List C
@@ -57,9 +60,9 @@ pub record IsSoundNode {C O : Type 0} (config : Config) (p : ℕ) (w : World C O
   pub front : IsPrefixOf r.log (log_at w p)
   pub within : r.committed ≤ length r.log
   pub committed : AllTold config p w r.committed
-  pub marked : (mark : Mark) → In mark r.marks → (m : ℕ) → mark.member ≡ m + 1 → Told w p m mark.held
+  pub followed : (reached : Progress) → In reached r.progress → (m : ℕ) → reached.member ≡ m + 1 → Told w p m reached.held
   pub covered : is_active r.role ≡ true → (m : ℕ) → In (m + 1) config.members →
-      (m ≡ p) ⊎ ((mark : Mark) × In mark r.marks × (mark.member ≡ m + 1))
+      (m ≡ p) ⊎ ((reached : Progress) × In reached r.progress × (reached.member ≡ m + 1))
 
 -- what holds of a world
 pub record IsSound {S C O : Type 0} (rules : Rules S C O) (config : Config) (p : ℕ) (w : World C O) : Type 0 where
@@ -68,11 +71,11 @@ pub record IsSound {S C O : Type 0} (rules : Rules S C O) (config : Config) (p :
   pub left : w.left ≡ outputs_of rules (take (committed_of (slice_get w.nodes p)) (log_at w p))
 
 -- logs and messages only grow
-pub record Extends {C O : Type 0} (w v : World C O) : Type 0 where
+pub record HasGrown {C O : Type 0} (w v : World C O) : Type 0 where
   pub logs : (n : ℕ) → IsPrefixOf (log_at w n) (log_at v n)
   pub sent : (x : ℕ × Message C) → In x w.sent → In x v.sent
 
-pub told_kept : {C O : Type 0} (w v : World C O) (p n k : ℕ) → Extends w v → Told w p n k → Told v p n k
+pub told_kept : {C O : Type 0} (w v : World C O) (p n k : ℕ) → HasGrown w v → Told w p n k → Told v p n k
 told_kept w v p n k x (told_nothing e) = told_nothing e
 told_kept w v p n k x (told_as_primary e within) =
     let l = prefix_length (x.logs p) in told_as_primary e (omega arith)
@@ -85,11 +88,11 @@ told_less w p n k j less (told_as_primary e within) = told_as_primary e (omega a
 told_less w p n k j less (told_by_held receiver held i below) = told_by_held receiver held i (omega arith)
 
 pub all_told_kept : {C O : Type 0} (config : Config) (p : ℕ) (w v : World C O) (k : ℕ) →
-    Extends w v → AllTold config p w k → AllTold config p v k
+    HasGrown w v → AllTold config p w k → AllTold config p v k
 all_told_kept config p w v k x told n i = told_kept w v p n k x (told n i)
 
 pub says_kept : {C O : Type 0} (config : Config) (p : ℕ) (w v : World C O) (from : ℕ) (body : Body C) →
-    Extends w v → Says config p w from body → Says config p v from body
+    HasGrown w v → Says config p w from body → Says config p v from body
 says_kept config p w v from (Append ballot place command) x s = (s.0, prefix_get place command (x.logs p) s.1)
 says_kept config p w v from (Held ballot held) x s =
     let l = prefix_length (x.logs s.1.0) in (s.0, (s.1.0, s.1.1, omega (arith, l, s.1.2)))
@@ -104,7 +107,7 @@ says_kept config p w v from (Activated b) x s = s
 says_kept config p w v from (Superseded b) x s = s
 
 pub node_kept : {C O : Type 0} (config : Config) (p : ℕ) (w v : World C O) (n : ℕ) (r : ReplicaState C) →
-    Extends w v → IsSoundNode config p w n r → IsSoundNode config p v n r
+    HasGrown w v → IsSoundNode config p w n r → IsSoundNode config p v n r
 node_kept config p w v n r x s =
     record {
       id = s.id;
@@ -113,19 +116,19 @@ node_kept config p w v n r x s =
       front = prefix_then s.front (x.logs p);
       within = s.within;
       committed = all_told_kept config p w v r.committed x s.committed;
-      marked = λ mark i m e. told_kept w v p m mark.held x (s.marked mark i m e);
+      followed = λ reached i m e. told_kept w v p m reached.held x (s.followed reached i m e);
       covered = s.covered;
     }
 
-pub extends_same : {C O : Type 0} (w : World C O) → Extends w w
+pub extends_same : {C O : Type 0} (w : World C O) → HasGrown w w
 extends_same w = record { logs = λ n. prefix_same (log_at w n); sent = λ x i. i }
 
-pub extends_then : {C O : Type 0} {u w v : World C O} → Extends u w → Extends w v → Extends u v
+pub extends_then : {C O : Type 0} {u w v : World C O} → HasGrown u w → HasGrown w v → HasGrown u v
 extends_then x y = record { logs = λ n. prefix_then (x.logs n) (y.logs n); sent = λ m i. y.sent m (x.sent m i) }
 
 -- a world in which one node's log grew extends the one before
 pub moved_extends : {C O : Type 0} (w : World C O) (n : ℕ) (old new : ReplicaState C) (given : List (Effect C O)) →
-    slice_get w.nodes n ≡ Some old → IsPrefixOf old.log new.log → Extends w (moved w n new given)
+    slice_get w.nodes n ≡ Some old → IsPrefixOf old.log new.log → HasGrown w (moved w n new given)
 moved_extends {C = C} {O = O} w n old new given stands grown =
     record { logs = λ m. by_place m (cases_eq m n); sent = λ x i. in_left (messages given) i }
   where
@@ -158,7 +161,7 @@ moved_sound {C = C} {O = O} rules config p w n old new given sound stands grown 
       left = left;
     }
   where
-    x : Extends w (moved w n new given)
+    x : HasGrown w (moved w n new given)
     x = moved_extends w n old new given stands grown
 
     by_sent : (receiver : ℕ) (m : Message C) → In (receiver, m) w.sent ⊎ In (receiver, m) (messages given) →

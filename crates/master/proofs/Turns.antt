@@ -4,35 +4,34 @@ use Rattle.std.specs.Prelude.{slice_get}
 use Rattle.std.proofs.lemmas.List.{map-set, append-nil, take-append-le, length-map}
 use Rattle.std.proofs.Math.Seq.{take-length, drop-append_seam}
 use Rattle.machine.specs.Machine.{Rules}
-use Rattle.ballot_base.specs.declared.message.Message.{Message}
-use Rattle.ballot_base.specs.declared.message.Effect.{Effect}
-use Rattle.ballot_base.specs.Replica.{ReplicaState, Counted}
-use Rattle.ballot_base.specs.Losses.{Stepped, Steps, Loses, Thinned, halted, one_more}
-use Rattle.ballot_base.specs.Losses.Thinned.{none, keeps, loses}
-use Rattle.ballot_base.specs.Sending.{Outcome}
-use Rattle.ballot_base.specs.Protocol.{Input, step_in_one_ballot}
-use Rattle.ballot_base.proofs.ThinnedEffects.{Thinned-same}
-use Rattle.ballot_base.specs.declared.config.Config.{Config}
-use Rattle.ballot_base.specs.declared.status.Status.{Status}
-use Rattle.ballot_base.specs.Replica.{status_of}
+use Rattle.ballot.specs.Message.{Message}
+use Rattle.ballot.specs.Effect.{Effect}
+use Rattle.ballot.specs.Replica.{ReplicaState, CountedReplica, status_of}
+use Rattle.ballot.specs.Losses.{Stepped, Steps, Loses, Thinned, halted, one_more}
+use Rattle.ballot.specs.Losses.Thinned.{none, keeps, loses}
+use Rattle.ballot.specs.Sending.{Outcome}
+use Rattle.ballot.specs.Protocol.{Input, step_in_one_ballot}
+use Rattle.ballot.proofs.ThinnedEffects.{Thinned-same}
+use Rattle.ballot.specs.Config.{Config}
+use Rattle.ballot.specs.Status.{Status}
 use Rattle.master.specs.Group.{World, messages, outputs, moved, opening_nodes, opening_world}
 use Rattle.master.specs.Exact.{running, unless_stopped}
 use Rattle.master.specs.Inside.{RunsAt, TookIn, Parted, TookTurn}
 
 -- an exact step is one in which nothing was lost
-loses_of : {C O : Type 0} {old : Counted C} {o : Outcome C O} {new : Counted C} {given : List (Effect C O)} →
+loses_of : {C O : Type 0} {old : CountedReplica C} {o : Outcome C O} {new : CountedReplica C} {given : List (Effect C O)} →
     Steps old o new given → Loses old.state o new.state given
 loses_of {C = C} {O = O} {o = o} {given = given} (inl e) =
     inl (e.0, subst (λ (us : List (Effect C O)). Thinned us o.effects) (sym e.1) (Thinned-same o.effects))
 loses_of (inr e) = e.0
 
 -- a step that was not counted is exact, below the greatest count
-exact_of : {C O : Type 0} {old : Counted C} {o : Outcome C O} {new : Counted C} {given : List (Effect C O)} →
+exact_of : {C O : Type 0} {old : CountedReplica C} {o : Outcome C O} {new : CountedReplica C} {given : List (Effect C O)} →
     Steps old o new given → new.losses ≡ old.losses → old.losses < 2 ^ 64 - 1 → (new.state ≡ o.state) × (given ≡ o.effects)
 exact_of (inl e) same below = (e.0, e.1)
 exact_of {old = old} (inr e) same below = let f : old.losses ≡ min (old.losses + 1) (2 ^ 64 - 1) = sym same ∙ e.1 in absurd (omega (arith, f, below))
 
-pub took_in : {C O : Type 0} {old : Counted C} {o : Outcome C O} {new : Counted C} {before behind : List (Effect C O)} (whole : Bool) →
+pub took_in : {C O : Type 0} {old : CountedReplica C} {o : Outcome C O} {new : CountedReplica C} {before behind : List (Effect C O)} (whole : Bool) →
     Stepped old o new before behind → (whole ≡ true → (new.losses ≡ old.losses) × (old.losses < 2 ^ 64 - 1)) →
     TookIn old.state o new.state before behind whole
 took_in whole s same =
@@ -44,12 +43,12 @@ took_in whole s same =
     }
 
 -- the same step by other names
-pub stepped_as : {S C O : Type 0} (rules : Rules S C O) (old new new' : Counted C) (i i' : Input C) (before behind behind' : List (Effect C O)) →
+pub stepped_as : {S C O : Type 0} (rules : Rules S C O) (old new new' : CountedReplica C) (i i' : Input C) (before behind behind' : List (Effect C O)) →
     i' ≡ i → new' ≡ new → behind' ≡ behind → Stepped old (step_in_one_ballot rules old.state i) new before behind →
     Stepped old (step_in_one_ballot rules old.state i') new' before behind'
 stepped_as {C = C} {O = O} rules old new new' i i' before behind behind' e f h s =
     subst (λ (j : Input C). Stepped old (step_in_one_ballot rules old.state j) new' before behind') (sym e)
-    (subst (λ (n : Counted C). Stepped old (step_in_one_ballot rules old.state i) n before behind') (sym f)
+    (subst (λ (n : CountedReplica C). Stepped old (step_in_one_ballot rules old.state i) n before behind') (sym f)
     (subst (λ (us : List (Effect C O)). Stepped old (step_in_one_ballot rules old.state i) new before us) (sym h) s))
 
 thinned_then : {C O : Type 0} {xs ys zs : List (Effect C O)} → Thinned xs ys → Thinned ys zs → Thinned xs zs
@@ -71,32 +70,32 @@ lost_more (inr (inl (e, t))) s = inr (inl (e, thinned_nothing t s))
 lost_more (inr (inr (e, t))) s = inr (inr (e, thinned_nothing t s))
 
 -- what a group with these replicas, messages and effects that left is seen as
-abbrev pub world_of : {C O : Type 0} → List (Counted C) → List (ℕ × Message C) → List (Effect C O) → World C O
+abbrev pub world_of : {C O : Type 0} → List (CountedReplica C) → List (ℕ × Message C) → List (Effect C O) → World C O
 world_of {C = C} nodes sent left =
-    record { nodes = map (λ (r : Counted C). r.state) nodes; sent = sent; left = outputs left }
+    record { nodes = map (λ (r : CountedReplica C). r.state) nodes; sent = sent; left = outputs left }
 
-state_at : {C : Type 0} (nodes : List (Counted C)) (n : ℕ) (d : Counted C) → n < length nodes →
-    slice_get (map (λ (r : Counted C). r.state) nodes) n ≡ Some (get_or nodes n d).state
+state_at : {C : Type 0} (nodes : List (CountedReplica C)) (n : ℕ) (d : CountedReplica C) → n < length nodes →
+    slice_get (map (λ (r : CountedReplica C). r.state) nodes) n ≡ Some (get_or nodes n d).state
 state_at [] n d below = absurd (omega arith)
 state_at (r ∷ nodes) zero d below = refl
 state_at (r ∷ nodes) (suc n) d below = state_at nodes n d (omega arith)
 
-stands_at : {C : Type 0} (nodes : List (Counted C)) (n : ℕ) (old : Counted C) → n < length nodes → old ≡ get_or nodes n old →
-    slice_get (map (λ (r : Counted C). r.state) nodes) n ≡ Some old.state
-stands_at {C = C} nodes n old below read = state_at nodes n old below ∙ ap (λ (r : Counted C). Some r.state) (sym read)
+stands_at : {C : Type 0} (nodes : List (CountedReplica C)) (n : ℕ) (old : CountedReplica C) → n < length nodes → old ≡ get_or nodes n old →
+    slice_get (map (λ (r : CountedReplica C). r.state) nodes) n ≡ Some old.state
+stands_at {C = C} nodes n old below read = state_at nodes n old below ∙ ap (λ (r : CountedReplica C). Some r.state) (sym read)
 
-moved_is : {C O : Type 0} (nodes : List (Counted C)) (sent more : List (ℕ × Message C)) (left parted kept : List (Effect C O)) (n : ℕ) (new : Counted C) →
+moved_is : {C O : Type 0} (nodes : List (CountedReplica C)) (sent more : List (ℕ × Message C)) (left parted kept : List (Effect C O)) (n : ℕ) (new : CountedReplica C) →
     more ≡ sent ++ messages kept → outputs parted ≡ outputs left ++ outputs kept →
     world_of (set nodes n new) more parted ≡ moved (world_of nodes sent left) n new.state kept
 moved_is {C = C} {O = O} nodes sent more left parted kept n new e f =
-    ap (λ xs. let z : World C O = record { nodes = xs; sent = more; left = outputs parted } in z) (map-set (λ (r : Counted C). r.state) nodes n new)
-    ∙ ap (λ xs. let z : World C O = record { nodes = set (map (λ (r : Counted C). r.state) nodes) n new.state; sent = xs; left = outputs parted } in z) e
-    ∙ ap (λ xs. let z : World C O = record { nodes = set (map (λ (r : Counted C). r.state) nodes) n new.state; sent = sent ++ messages kept; left = xs } in z) f
+    ap (λ xs. let z : World C O = record { nodes = xs; sent = more; left = outputs parted } in z) (map-set (λ (r : CountedReplica C). r.state) nodes n new)
+    ∙ ap (λ xs. let z : World C O = record { nodes = set (map (λ (r : CountedReplica C). r.state) nodes) n new.state; sent = xs; left = outputs parted } in z) e
+    ∙ ap (λ xs. let z : World C O = record { nodes = set (map (λ (r : CountedReplica C). r.state) nodes) n new.state; sent = sent ++ messages kept; left = xs } in z) f
 
 -- a turn of a group
-pub took_turn : {C O : Type 0} (config : Config) (nodes : List (Counted C)) (sent more : List (ℕ × Message C)) (left behind parted : List (Effect C O))
-    (losses counted n from : ℕ) (old new : Counted C) (o : ReplicaState C → Outcome C O) (r : ReplicaState C) (whole kept : Bool) →
-    n < length nodes → old ≡ get_or nodes n old → slice_get (map (λ (z : Counted C). z.state) nodes) n ≡ Some r → from ≡ length left →
+pub took_turn : {C O : Type 0} (config : Config) (nodes : List (CountedReplica C)) (sent more : List (ℕ × Message C)) (left behind parted : List (Effect C O))
+    (losses counted n from : ℕ) (old new : CountedReplica C) (o : ReplicaState C → Outcome C O) (r : ReplicaState C) (whole kept : Bool) →
+    n < length nodes → old ≡ get_or nodes n old → slice_get (map (λ (z : CountedReplica C). z.state) nodes) n ≡ Some r → from ≡ length left →
     TookIn old.state (o old.state) new.state left behind whole → Parted (drop from behind) (take from behind) parted sent more kept →
     ((whole ≡ true) × (kept ≡ true) × (counted ≡ losses)) ⊎ (counted ≡ one_more losses) →
     TookTurn (record { config = config; world = world_of nodes sent left; losses = losses })
@@ -132,24 +131,24 @@ took_turn {C = C} {O = O} config nodes sent more left behind parted losses count
     by_way (inr c) = inr (lossy, c)
 
 -- the node of a number
-pub runs_at : {C : Type 0} (nodes : List (Counted C)) (node : ℕ) (r : Counted C) → 0 < node → node ≤ length nodes → r ≡ get_or nodes (node - 1) r →
-    r.state.stopped ≡ false → RunsAt (map (λ (z : Counted C). z.state) nodes) node (node - 1)
+pub runs_at : {C : Type 0} (nodes : List (CountedReplica C)) (node : ℕ) (r : CountedReplica C) → 0 < node → node ≤ length nodes → r ≡ get_or nodes (node - 1) r →
+    r.state.stopped ≡ false → RunsAt (map (λ (z : CountedReplica C). z.state) nodes) node (node - 1)
 runs_at nodes zero r positive below read going = absurd (omega arith)
 runs_at {C = C} nodes (suc n) r positive below read going =
     let e : suc n - 1 ≡ n = omega arith in
     let stands = stands_at nodes n r (omega (arith, below)) (subst (λ k. r ≡ get_or nodes k r) e read) in
-    subst (λ k. RunsAt (map (λ (z : Counted C). z.state) nodes) (suc n) k) (sym e)
+    subst (λ k. RunsAt (map (λ (z : CountedReplica C). z.state) nodes) (suc n) k) (sym e)
     (record {
       replica = r.state;
       place = sym e;
-      below = (let long = length-map nodes (λ (z : Counted C). z.state) in omega (arith, long, below));
+      below = (let long = length-map nodes (λ (z : CountedReplica C). z.state) in omega (arith, long, below));
       stands = stands;
       runs = ap unless_stopped stands ∙ ap (λ b. cond b None (Some r.state)) going;
       going = going;
     })
 
-pub stopped_there : {C : Type 0} (nodes : List (Counted C)) (node : ℕ) (r : Counted C) (status : Status) → 0 < node → node ≤ length nodes → r ≡ get_or nodes (node - 1) r →
-    status ≡ status_of r.state → status.stopped ≡ true → running (map (λ (z : Counted C). z.state) nodes) node ≡ None
+pub stopped_there : {C : Type 0} (nodes : List (CountedReplica C)) (node : ℕ) (r : CountedReplica C) (status : Status) → 0 < node → node ≤ length nodes → r ≡ get_or nodes (node - 1) r →
+    status ≡ status_of r.state → status.stopped ≡ true → running (map (λ (z : CountedReplica C). z.state) nodes) node ≡ None
 stopped_there nodes zero r status positive below read s stopped = absurd (omega arith)
 stopped_there {C = C} nodes (suc n) r status positive below read s stopped =
     let e : suc n - 1 ≡ n = omega arith in
@@ -157,23 +156,23 @@ stopped_there {C = C} nodes (suc n) r status positive below read s stopped =
     ap unless_stopped stands ∙ ap (λ b. cond b None (Some r.state)) (sym (ap (λ (z : Status). z.stopped) s) ∙ stopped)
 
 -- a place that is there
-pub below_of : {C : Type 0} (nodes : List (Counted C)) (n : ℕ) (r : ReplicaState C) →
-    slice_get (map (λ (z : Counted C). z.state) nodes) n ≡ Some r → n < length nodes
+pub below_of : {C : Type 0} (nodes : List (CountedReplica C)) (n : ℕ) (r : ReplicaState C) →
+    slice_get (map (λ (z : CountedReplica C). z.state) nodes) n ≡ Some r → n < length nodes
 below_of [] n r e = cc
 below_of (z ∷ nodes) zero r e = omega arith
 below_of (z ∷ nodes) (suc n) r e = let b = below_of nodes n r e in omega (arith, b)
 
-pub going_of : {C : Type 0} (nodes : List (Counted C)) (n : ℕ) (old : Counted C) (r : ReplicaState C) →
-    old ≡ get_or nodes n old → slice_get (map (λ (z : Counted C). z.state) nodes) n ≡ Some r → r.stopped ≡ false → old.state.stopped ≡ false
+pub going_of : {C : Type 0} (nodes : List (CountedReplica C)) (n : ℕ) (old : CountedReplica C) (r : ReplicaState C) →
+    old ≡ get_or nodes n old → slice_get (map (λ (z : CountedReplica C). z.state) nodes) n ≡ Some r → r.stopped ≡ false → old.state.stopped ≡ false
 going_of {C = C} nodes n old r read stands going =
     let e : Some old.state ≡ Some r = sym (stands_at nodes n old (below_of nodes n r stands) read) ∙ stands in
     let same : old.state ≡ r = cc in
     ap (λ (s : ReplicaState C). s.stopped) same ∙ going
 
 -- a node that stops
-pub crash_turn : {C O : Type 0} (config : Config) (nodes : List (Counted C)) (sent : List (ℕ × Message C)) (left : List (Effect C O))
-    (losses n : ℕ) (old new : Counted C) (r : ReplicaState C) →
-    old ≡ get_or nodes n old → slice_get (map (λ (z : Counted C). z.state) nodes) n ≡ Some r → new.state ≡ halted old.state →
+pub crash_turn : {C O : Type 0} (config : Config) (nodes : List (CountedReplica C)) (sent : List (ℕ × Message C)) (left : List (Effect C O))
+    (losses n : ℕ) (old new : CountedReplica C) (r : ReplicaState C) →
+    old ≡ get_or nodes n old → slice_get (map (λ (z : CountedReplica C). z.state) nodes) n ≡ Some r → new.state ≡ halted old.state →
     TookTurn (record { config = config; world = world_of nodes sent left; losses = losses })
     (record { place = n; before = r; outcome = record { state = halted r; effects = [] } })
     (record { config = config; world = world_of (set nodes n new) sent left; losses = losses })
@@ -191,13 +190,13 @@ crash_turn {C = C} {O = O} config nodes sent left losses n old new r read stands
     same = let e = sym (stands_at nodes n old (below_of nodes n r stands) read) ∙ stands in cc
 
 -- a replica that is read where a node stands
-pub same_replica : {C : Type 0} (nodes : List (Counted C)) (n : ℕ) (old : Counted C) (r : ReplicaState C) →
-    old ≡ get_or nodes n old → slice_get (map (λ (z : Counted C). z.state) nodes) n ≡ Some r → old.state ≡ r
+pub same_replica : {C : Type 0} (nodes : List (CountedReplica C)) (n : ℕ) (old : CountedReplica C) (r : ReplicaState C) →
+    old ≡ get_or nodes n old → slice_get (map (λ (z : CountedReplica C). z.state) nodes) n ≡ Some r → old.state ≡ r
 same_replica nodes n old r read stands = let e = sym (stands_at nodes n old (below_of nodes n r stands) read) ∙ stands in cc
 
 -- a group that opened
-pub opened_group : {C O : Type 0} (config : Config) (nodes at : ℕ) (items : List (Counted C)) (sent : List (ℕ × Message C)) (left : List (Effect C O)) →
-    map (λ (z : Counted C). z.state) items ≡ opening_nodes C at config → at ≡ nodes → sent ≡ [] → left ≡ [] →
+pub opened_group : {C O : Type 0} (config : Config) (nodes at : ℕ) (items : List (CountedReplica C)) (sent : List (ℕ × Message C)) (left : List (Effect C O)) →
+    map (λ (z : CountedReplica C). z.state) items ≡ opening_nodes C at config → at ≡ nodes → sent ≡ [] → left ≡ [] →
     world_of items sent left ≡ opening_world C O nodes config
 opened_group {C = C} {O = O} config nodes at items sent left before same a b =
     ap (λ xs. let z : World C O = record { nodes = xs; sent = sent; left = outputs left } in z) (before ∙ ap (λ k. opening_nodes C k config) same)

@@ -2,10 +2,10 @@
 -- agree.
 use Rattle.std.specs.Prelude.{ℕ, true, ◌+◌, ◌≡◌, ◌⊎◌, List, [], ◌∷◌, ◌++◌, length, take, slice_get, Option, Some, None}
 use Rattle.machine.specs.Machine.{Rules}
-use Rattle.ballot_base.specs.declared.message.Body.TheVariants.{Held}
-use Rattle.ballot_base.specs.declared.config.Config.{Config}
-use Rattle.ballot_base.specs.Replica.{ReplicaState}
-use Rattle.ballot_base.specs.Serving.{outputs_from}
+use Rattle.ballot.specs.Body.TheVariants.{Held}
+use Rattle.ballot.specs.Config.{Config}
+use Rattle.ballot.specs.Replica.{ReplicaState}
+use Rattle.ballot.specs.Serving.{outputs_from}
 use Rattle.master.specs.declared.event.Event.{Event}
 use Rattle.master.specs.Group.{World, outputs, can_open, opening_world}
 use Rattle.master.specs.Steps.{Happens}

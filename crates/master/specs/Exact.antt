@@ -1,13 +1,13 @@
 -- Exact.antt: what an event comes to, and what it does to a group where memory suffices.
 use Rattle.std.specs.Prelude.{ℕ, zero, suc, Bool, true, ◌-◌, List, [], ◌∷◌, length, slice_get, Option, Some, None, ◌&&◌, nat_lt, if◌then◌else◌}
 use Rattle.machine.specs.Machine.{Rules}
-use Rattle.ballot_base.specs.declared.message.Message.{Message}
-use Rattle.ballot_base.specs.Losses.{halted}
-use Rattle.ballot_base.specs.Protocol.{Input, step_in_one_ballot}
-use Rattle.ballot_base.specs.Protocol.Input.{Receives, Proposes, Ticks}
-use Rattle.ballot_base.specs.Replica.{ReplicaState, is_active}
-use Rattle.ballot_base.specs.Sending.{Outcome}
-use Rattle.ballot_base.specs.Serving.{most_places}
+use Rattle.ballot.specs.Message.{Message}
+use Rattle.ballot.specs.Losses.{halted}
+use Rattle.ballot.specs.Protocol.{Input, step_in_one_ballot}
+use Rattle.ballot.specs.Protocol.Input.{Receives, Proposes, Ticks}
+use Rattle.ballot.specs.Replica.{ReplicaState, is_active}
+use Rattle.ballot.specs.Sending.{Outcome}
+use Rattle.ballot.specs.Serving.{most_places}
 use Rattle.master.specs.declared.event.Event.{Event}
 use Rattle.master.specs.declared.event.Event.TheVariants.{Propose, Deliver, Tick, Crash}
 use Rattle.master.specs.Group.{World, moved}

@@ -1,12 +1,12 @@
 -- Group.antt: nodes in one ballot, all messages that they ever sent, and how they open.
 use Rattle.std.specs.Prelude.{ℕ, zero, suc, Bool, ◌+◌, List, [], ◌∷◌, ◌++◌, slice_set, ◌&&◌, nat_le}
 use Rattle.std.specs.List.{list_all}
-use Rattle.ballot_base.specs.Config.{is_lawful}
-use Rattle.ballot_base.specs.declared.config.Config.{Config}
-use Rattle.ballot_base.specs.declared.message.Message.{Message}
-use Rattle.ballot_base.specs.declared.message.Effect.{Effect}
-use Rattle.ballot_base.specs.declared.message.Effect.TheVariants.{To, Out}
-use Rattle.ballot_base.specs.Replica.{ReplicaState, opening}
+use Rattle.ballot.specs.LawfulConfig.{is_lawful}
+use Rattle.ballot.specs.Config.{Config}
+use Rattle.ballot.specs.Message.{Message}
+use Rattle.ballot.specs.Effect.{Effect}
+use Rattle.ballot.specs.Effect.TheVariants.{To, Out}
+use Rattle.ballot.specs.Replica.{ReplicaState, opening}
 
 -- the nodes, number n + 1 at place n, the messages with their receivers in the order of sending,
 -- and the outputs that left with their places

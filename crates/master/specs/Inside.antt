@@ -1,16 +1,16 @@
 -- Inside.antt: what the helpers of a group say of nodes, effects and turns.
 use Rattle.std.specs.Prelude.{ℕ, Bool, true, false, ◌-◌, ◌<◌, ◌≡◌, ◌⊎◌, ◌==◌, List, [], ◌∷◌, ◌++◌, length, min, max, slice_get, Option, Some, None, if◌then◌else◌}
-use Rattle.ballot_base.specs.declared.config.Config.{Config}
-use Rattle.ballot_base.specs.declared.message.Body.{Body}
-use Rattle.ballot_base.specs.declared.message.Body.TheVariants.{Held}
-use Rattle.ballot_base.specs.declared.message.Message.{Message}
-use Rattle.ballot_base.specs.declared.message.Effect.{Effect}
-use Rattle.ballot_base.specs.declared.message.Effect.TheVariants.{To, Out}
-use Rattle.ballot_base.specs.Losses.{Thinned, Loses, one_more}
-use Rattle.ballot_base.specs.Protocol.{Input}
-use Rattle.ballot_base.specs.Protocol.Input.{Receives, Proposes, Ticks}
-use Rattle.ballot_base.specs.Replica.{ReplicaState}
-use Rattle.ballot_base.specs.Sending.{Outcome}
+use Rattle.ballot.specs.Config.{Config}
+use Rattle.ballot.specs.Body.{Body}
+use Rattle.ballot.specs.Body.TheVariants.{Held}
+use Rattle.ballot.specs.Message.{Message}
+use Rattle.ballot.specs.Effect.{Effect}
+use Rattle.ballot.specs.Effect.TheVariants.{To, Out}
+use Rattle.ballot.specs.Losses.{Thinned, Loses, one_more}
+use Rattle.ballot.specs.Protocol.{Input}
+use Rattle.ballot.specs.Protocol.Input.{Receives, Proposes, Ticks}
+use Rattle.ballot.specs.Replica.{ReplicaState}
+use Rattle.ballot.specs.Sending.{Outcome}
 use Rattle.master.specs.declared.turning.Taken.{Taken}
 use Rattle.master.specs.declared.turning.Taken.TheVariants.{Received, Proposed, Ticked}
 use Rattle.master.specs.Agreement.{log_of}

@@ -2,9 +2,9 @@
 
 ghost use Rattle.std.specs.Prelude.{◌≡◌, ◌<◌, ◌↔◌, false, None, Some, [], length, slice_get, map, List, ◌∷◌, IfOk, IfSome, OnErr, IsErr, IsErrOf};
 ghost use Rattle.machine.specs.Machine.{rules_by};
-ghost use Rattle.ballot_base.specs.Protocol.{step_in_one_ballot};
-ghost use Rattle.ballot_base.specs.Losses.{one_more};
-ghost use Rattle.ballot_base.specs.Replica.{ReplicaState};
+ghost use Rattle.ballot.specs.Protocol.{step_in_one_ballot};
+ghost use Rattle.ballot.specs.Losses.{one_more};
+ghost use Rattle.ballot.specs.Replica.{ReplicaState};
 ghost use Rattle.master.specs.Agreement.{IsOpening, Past, IsAgreed, AgreesAfter};
 ghost use Rattle.master.specs.Group.{World, can_open, opening_world};
 ghost use Rattle.master.specs.Exact.{turn, group_step, group_run, running};

@@ -3,7 +3,7 @@
 ghost use Rattle.std.specs.Prelude.{◌≡◌, ◌≤◌, false, [], ◌∷◌, ◌++◌, length, take, drop};
 ghost use Rattle.std.specs.Bool.{OnTrue, OnFalse};
 ghost use Rattle.machine.specs.Machine.{rules_by};
-ghost use Rattle.ballot_base.specs.Protocol.{step_in_one_ballot};
+ghost use Rattle.ballot.specs.Protocol.{step_in_one_ballot};
 ghost use Rattle.master.specs.Group.{messages};
 ghost use Rattle.master.specs.Inside.{Parted, TookIn, input_of, is_message};
 

@@ -1,8 +1,8 @@
 -- A node with the items that wait for it.
 use Rattle.std.specs.Prelude.{◌≡◌, ℕ, List, ◌∷◌}
-use Rattle.connecting_base.specs.declared.command.Command.{Command}
-use Rattle.connecting_base.specs.declared.command.Output.{Output}
-use Rattle.ballot_base.specs.declared.message.Effect.{Effect}
+use Rattle.world_base.specs.Command.{Command}
+use Rattle.world_base.specs.Output.{Output}
+use Rattle.world_base.specs.Effect.{Effect}
 use Rattle.world_base.specs.declared.item.Item.{Item}
 use Rattle.world_base.specs.Core.{CountedCore}
 use Rattle.world_base.specs.Losses.{Stepped}

@@ -1,16 +1,13 @@
 // A node that threads share.
 
 ghost use Rattle.std.specs.Prelude.{◌≡◌, OnErr, OnOk};
-ghost use Rattle.world_base.specs.Handing.{Extends};
+ghost use Rattle.lists.specs.Lists.{IsPrefixOf};
 
 use crate::node_state::NodeState;
 use crate::service::Service;
-use ballot::{Effect, Status};
-use connecting_base::{Command, Output};
-use machine::Memory;
+use world_base::{Command, Effect, Handed, Item, Memory, Output, Port, Status};
 use std::alloc::Global;
 use std::sync::{Mutex, Wait};
-use world_base::{Handed, Item, Port};
 
 /// The lane by which the items of the one connection come.
 const LANE: u8 = 4;
@@ -38,14 +35,14 @@ impl Node {
     /// One turn of a worker: takes the first item that waits and does the step with it, if there
     /// is one. The messages to other nodes come behind `effects`.
     pub fn take_one<R: Wait>(&self, rt: &R, effects: &mut Vec<Effect<Command, Output>>) -> bool
-        ensures { Extends effects.old.items effects.new.items }
+        ensures { IsPrefixOf effects.old.items effects.new.items }
     {
         self.state.lock(rt).take_one(effects)
     }
 
     /// Appends what was put out for a port and not handed over before.
     pub fn outgoing<R: Wait>(&self, rt: &R, port: Port, out: &mut Vec<u8>) -> Result<Handed, Memory>
-        ensures ok { OnOk result (Extends out.old.items out.new.items) }
+        ensures ok { OnOk result (IsPrefixOf out.old.items out.new.items) }
         ensures err { OnErr result (out.new.items ≡ out.old.items) }
     {
         self.state.lock(rt).outgoing(port, out)

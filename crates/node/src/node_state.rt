@@ -1,19 +1,16 @@
 // A node with the items that wait for it.
 
 ghost use Rattle.std.specs.Prelude.{◌≡◌, ◌≤◌, ◌↔◌, ◌++◌, [], ◌∷◌, true, false, IfOk, IsErrOf, OnErr, OnOk};
-ghost use Rattle.ballot_base.specs.Config.{is_lawful};
-ghost use Rattle.ballot_base.specs.Replica.{status_of};
+ghost use Rattle.world_base.specs.LawfulConfig.{is_lawful};
+ghost use Rattle.world_base.specs.Replica.{status_of};
 ghost use Rattle.world_base.specs.Core.{opening_core};
 ghost use Rattle.world_base.specs.Handing.{answer_of, bytes_of, hands_over, listed_at};
 ghost use Rattle.node.specs.State.{TakesOne};
 
-use ballot::{Config, Effect, OpeningError, Status};
-use connecting_base::{Command, Output};
-use machine::Memory;
+use world_base::{Command, Config, Effect, Handed, Item, Memory, NodeCore, OpeningError, Output, Port, Status};
 use std::alloc::Global;
 use std::collections::VecDeque;
 use std::marker::Model;
-use world_base::{Handed, Item, NodeCore, Port};
 
 /// A node with the items that wait for it, each with the lane that it came by.
 #[derive(Drop)]

@@ -7,12 +7,11 @@ ghost use Rattle.node.specs.Running.{TellsFaults, TellsWriteFault};
 
 use crate::ending::Ending;
 use crate::service::Service;
-use machine::Memory;
+use world_base::{Handed, Item, Memory, Piece, Port};
 use node_base::{Counted, PIECE_BYTES, Written};
 use std::alloc::Global;
 use std::io::{Read, Write};
 use std::sync::Wait;
-use world_base::{Handed, Item, Piece, Port};
 
 /// The port of the one connection.
 const PORT: Port = Port(1);
@@ -65,12 +64,12 @@ fn go_round<R: Wait, S: Service, I: Read, O: Write>(
         return Ok(ended);
     }
     match input.read_piece(room) {
-        node_base::Piece::Bytes(count) => {
+        node_base::ReadOutcome::Bytes(count) => {
             let piece = Piece::from_slice(alloc, &room[..count])?;
             service.take(rt, alloc, Item::Bytes(PORT, piece, 0))?;
             Ok(None)
         }
-        node_base::Piece::End => {
+        node_base::ReadOutcome::End => {
             let whole = end(rt, alloc, service, out, output)?;
             Ok(Some(if whole {
                 Ending::Ended
@@ -78,7 +77,7 @@ fn go_round<R: Wait, S: Service, I: Read, O: Write>(
                 Ending::WriteFault
             }))
         }
-        node_base::Piece::Fault => {
+        node_base::ReadOutcome::Fault => {
             let whole = end(rt, alloc, service, out, output)?;
             Ok(Some(if whole {
                 Ending::ReadFault

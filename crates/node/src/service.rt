@@ -1,12 +1,11 @@
 // What serves the clients of a stream.
 
 ghost use Rattle.std.specs.Prelude.{◌≡◌, OnErr, OnOk};
-ghost use Rattle.world_base.specs.Handing.{Extends};
+ghost use Rattle.lists.specs.Lists.{IsPrefixOf};
 
-use machine::Memory;
+use world_base::{Handed, Item, Memory, Port};
 use std::alloc::Global;
 use std::sync::Wait;
-use world_base::{Handed, Item, Port};
 
 /// What takes in what comes from clients, and hands over what goes back to them: a node by itself,
 /// or one together with the nodes that it talks to.
@@ -23,6 +22,6 @@ pub trait Service {
         port: Port,
         out: &mut Vec<u8>,
     ) -> Result<Handed, Memory>
-        ensures ok { OnOk result (Extends out.old.items out.new.items) }
+        ensures ok { OnOk result (IsPrefixOf out.old.items out.new.items) }
         ensures err { OnErr result (out.new.items ≡ out.old.items) };
 }

@@ -2,7 +2,7 @@
 // devices that may fail.
 
 use crate::{Ending, Handed, Item, Node, NodeState, Piece, Port, run_connection};
-use ballot::{Config, Members};
+use world_base::{Config, Members};
 use node_base::Counted;
 use std::alloc::Global;
 use std::io;

@@ -6,7 +6,7 @@ ghost use Rattle.node_base.specs.Counted.{Watched, counted_once};
 ghost use Rattle.node_base.specs.Engines.{WritesBeginning, WritesShort, ReadsPiece};
 ghost use Rattle.node_base.specs.Inside.{WritesOnce};
 
-use crate::piece::Piece;
+use crate::read_outcome::ReadOutcome;
 use crate::written::Written;
 use std::io::{Read, Write};
 use std::marker::Model;
@@ -112,21 +112,21 @@ impl<W: Write> Counted<W> {
 
 impl<R: Read> Counted<R> {
     /// Reads one piece, by one call of the device, into the front of `room`.
-    pub fn read_piece(&mut self, room: &mut [u8]) -> Piece
+    pub fn read_piece(&mut self, room: &mut [u8]) -> ReadOutcome
         requires { 0 < length room.old }
         ensures piece { ReadsPiece
             result (R.remaining self.old.device) (R.remaining self.new.device) room.new }
 
         // A fault is told exactly where one more call of the device failed.
-        ensures fault { result ≡ Piece.Fault → self.new.faults ≡ counted_once self.old.faults }
-        ensures no_fault { result ≢ Piece.Fault → self.new.faults ≡ self.old.faults }
+        ensures fault { result ≡ ReadOutcome.Fault → self.new.faults ≡ counted_once self.old.faults }
+        ensures no_fault { result ≢ ReadOutcome.Fault → self.new.faults ≡ self.old.faults }
     {
         match self.device.read(room) {
-            Ok(0) => Piece::End,
-            Ok(count) => Piece::Bytes(count),
+            Ok(0) => ReadOutcome::End,
+            Ok(count) => ReadOutcome::Bytes(count),
             Err(_) => {
                 self.faults = self.faults.saturating_add(1);
-                Piece::Fault
+                ReadOutcome::Fault
             }
         }
     }

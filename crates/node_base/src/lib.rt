@@ -4,11 +4,11 @@
 #![tactic(auto)]
 
 mod counted;
-mod piece;
+mod read_outcome;
 #[cfg(test)]
 mod tests;
 mod written;
 
 pub use counted::{Counted, PIECE_BYTES};
-pub use piece::Piece;
+pub use read_outcome::ReadOutcome;
 pub use written::Written;

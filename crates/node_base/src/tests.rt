@@ -1,6 +1,6 @@
 // Devices in memory of which one call fails.
 
-use crate::{Counted, PIECE_BYTES, Piece, Written};
+use crate::{Counted, PIECE_BYTES, ReadOutcome, Written};
 use std::alloc::Global;
 use std::io;
 use std::io::{Read, Write};
@@ -117,9 +117,9 @@ fn each_piece_arrives_around_a_fault(rt: HostRuntime) -> Result<(), Fail> {
         for call in 1..7u64 {
             assert!(rt; !room.is_empty());
             match device.read_piece(room.as_mut_slice()) {
-                Piece::Bytes(count) => arrived.extend_from_slice(&room[..count])?,
-                Piece::Fault => assert_eq!(rt; call, bad_call),
-                Piece::End => assert!(rt; call > 3, "call {call} of {bad_call}"),
+                ReadOutcome::Bytes(count) => arrived.extend_from_slice(&room[..count])?,
+                ReadOutcome::Fault => assert_eq!(rt; call, bad_call),
+                ReadOutcome::End => assert!(rt; call > 3, "call {call} of {bad_call}"),
             }
         }
         assert_eq!(rt; arrived.as_slice(), TEXT, "call {bad_call}");

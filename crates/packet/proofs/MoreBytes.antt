@@ -7,7 +7,7 @@ use Rattle.packet_base.specs.declared.stop.Stop.TheVariants as stops
 use Rattle.packet_base.specs.declared.header.Header.{Header}
 use Rattle.packet_base.specs.Header.{header_of}
 use Rattle.packet_base.specs.Reading.{◌>>=◌, ◌>>◌, check, length_at}
-use Rattle.packet_base.proofs.Growing.{Grows, grows_check, grows_same, grows_then, length_grows}
+use Rattle.packet_base.proofs.Growing.{StandsWithMore, grows_check, grows_same, grows_then, length_grows}
 use Rattle.packet.specs.declared.packet.Packet.{Packet}
 use Rattle.packet.specs.Spelling.{longest_body}
 use Rattle.packet.specs.Verdict.{body_of, verdict}
@@ -17,7 +17,7 @@ use Rattle.packet.proofs.Behind.{ok_is}
 
 -- a body that is there, with more bytes behind it
 body_there : (more : List ℕ) (h : Header) (n : ℕ) (rest : List ℕ) → n ≤ length rest
-    → Grows more
+    → StandsWithMore more
     (body_of h (take n rest) >>= (λ p. Ok (p, drop n rest)))
     (body_of h (take n (rest ++ more)) >>= (λ p. Ok (p, drop n (rest ++ more))))
 body_there more h n rest there =
@@ -26,7 +26,7 @@ body_there more h n rest there =
 
 -- a body that may not be there yet
 body_grows : (more : List ℕ) (h : Header) (n : ℕ) (rest : List ℕ) (b : Bool) → leb n (length rest) ≡ b
-    → Grows more
+    → StandsWithMore more
     (check b stops.More >> (body_of h (take n rest) >>= (λ p. Ok (p, drop n rest))))
     (check (leb n (length (rest ++ more))) stops.More >> (body_of h (take n (rest ++ more)) >>= (λ p. Ok (p, drop n (rest ++ more)))))
 body_grows more h n rest true e =
@@ -35,7 +35,7 @@ body_grows more h n rest true e =
     rw longer (body_there more h n rest there)
 body_grows more h n rest false e = tt
 
-pub verdict_grows : (bytes more : List ℕ) → Grows more (verdict bytes) (verdict (bytes ++ more))
+pub verdict_grows : (bytes more : List ℕ) → StandsWithMore more (verdict bytes) (verdict (bytes ++ more))
 unfolding verdict
 verdict_grows [] more = tt
 verdict_grows (first ∷ bytes) more =
@@ -50,7 +50,7 @@ failed stop = Err stop
 err_is : (s t : Stop) → failed s ≡ failed t → s ≡ t
 err_is s t e = cc
 
-fault_grows : (more : List ℕ) (r longer : Result (Packet × List ℕ) Stop) (stop : Stop) → Grows more r longer → stop ≢ stops.More → r ≡ Err stop → longer ≡ Err stop
+fault_grows : (more : List ℕ) (r longer : Result (Packet × List ℕ) Stop) (stop : Stop) → StandsWithMore more r longer → stop ≢ stops.More → r ≡ Err stop → longer ≡ Err stop
 fault_grows more (Ok x) longer stop grows fault e = absurd cc
 fault_grows more (Err stops.More) longer stop grows fault e = absurd (fault (err_is stop stops.More (sym e)))
 fault_grows more (Err (stops.Malformed kind)) longer stop grows fault e = grows ∙ e
@@ -60,7 +60,7 @@ pub faults_stay_so : FaultsStay
 faults_stay_so bytes more stop fault e = fault_grows more (verdict bytes) (verdict (bytes ++ more)) stop (verdict_grows bytes more) fault e
 
 -- what becomes a packet with nothing behind it, once more bytes have come, is unfinished
-unfinished : (next : ℕ) (more : List ℕ) (p : Packet) (r longer : Result (Packet × List ℕ) Stop) → Grows (next ∷ more) r longer → longer ≡ Ok (p, []) → r ≡ Err stops.More
+unfinished : (next : ℕ) (more : List ℕ) (p : Packet) (r longer : Result (Packet × List ℕ) Stop) → StandsWithMore (next ∷ more) r longer → longer ≡ Ok (p, []) → r ≡ Err stops.More
 unfinished next more p (Ok x) longer grows whole =
     let same = ok_is (x.0, x.1 ++ next ∷ more) (p, []) (sym grows ∙ whole) in
     let left : x.1 ++ next ∷ more ≡ [] = ap (λ (y : Packet × List ℕ). y.1) same in

@@ -100,7 +100,7 @@ impl Packet {
     }
 
     /// Whether no list of the packet is empty, which `encode` asks for.
-    pub fn is_listed(&self) -> bool
+    pub fn has_no_empty_list(&self) -> bool
         ensures { IsTrue result ↔ IsListed self.now }
     {
         match self {

@@ -5,43 +5,43 @@ use Rattle.packet_base.specs.declared.stop.Stop.TheVariants as stops
 use Rattle.packet_base.specs.Reading.{◌>>=◌, ◌>>◌, check, length_at}
 
 -- the outcome with more bytes behind
-abbrev pub Grows : {A : Type 0} → List ℕ → Result (A × List ℕ) Stop → Result (A × List ℕ) Stop → Type 0
-Grows more (Ok x) longer = longer ≡ Ok (x.0, x.1 ++ more)
-Grows more (Err stops.More) longer = Unit {0}
-Grows more (Err (stops.Malformed kind)) longer = longer ≡ Err (stops.Malformed kind)
-Grows more (Err (stops.Refused code)) longer = longer ≡ Err (stops.Refused code)
+abbrev pub StandsWithMore : {A : Type 0} → List ℕ → Result (A × List ℕ) Stop → Result (A × List ℕ) Stop → Type 0
+StandsWithMore more (Ok x) longer = longer ≡ Ok (x.0, x.1 ++ more)
+StandsWithMore more (Err stops.More) longer = Unit {0}
+StandsWithMore more (Err (stops.Malformed kind)) longer = longer ≡ Err (stops.Malformed kind)
+StandsWithMore more (Err (stops.Refused code)) longer = longer ≡ Err (stops.Refused code)
 
 pub grows_cond : {A : Type 0} (more : List ℕ) (b : Bool) (x y x' y' : Result (A × List ℕ) Stop)
-    → (b ≡ true → Grows more x x') → (b ≡ false → Grows more y y') → Grows more (cond b x y) (cond b x' y')
+    → (b ≡ true → StandsWithMore more x x') → (b ≡ false → StandsWithMore more y y') → StandsWithMore more (cond b x y) (cond b x' y')
 grows_cond more true x y x' y' then other = then refl
 grows_cond more false x y x' y' then other = other refl
 
 -- a fault is a fault
-pub grows_fault : (A : Type 0) (more : List ℕ) (stop : Stop) → Grows {A = A} more (Err stop) (Err stop)
+pub grows_fault : (A : Type 0) (more : List ℕ) (stop : Stop) → StandsWithMore {A = A} more (Err stop) (Err stop)
 grows_fault A more stops.More = tt
 grows_fault A more (stops.Malformed kind) = refl
 grows_fault A more (stops.Refused code) = refl
 
 pub grows_check : {A : Type 0} (more : List ℕ) (b : Bool) (stop : Stop) (x x' : Result (A × List ℕ) Stop)
-    → (b ≡ true → Grows more x x') → Grows more (check b stop >> x) (check b stop >> x')
+    → (b ≡ true → StandsWithMore more x x') → StandsWithMore more (check b stop >> x) (check b stop >> x')
 grows_check more true stop x x' go = go refl
 grows_check {A = A} more false stop x x' go = grows_fault A more stop
 
 -- a step that does not look at the bytes behind
 pub grows_same : {A B : Type 0} (more : List ℕ) (r : Result B Stop) (f f' : B → Result (A × List ℕ) Stop)
-    → ((y : B) → r ≡ Ok y → Grows more (f y) (f' y)) → Grows more (r >>= f) (r >>= f')
+    → ((y : B) → r ≡ Ok y → StandsWithMore more (f y) (f' y)) → StandsWithMore more (r >>= f) (r >>= f')
 grows_same more (Ok y) f f' go = go y refl
 grows_same {A = A} more (Err stop) f f' go = grows_fault A more stop
 
 -- a step that leaves them
 pub grows_then : {A B : Type 0} (more : List ℕ) (r r' : Result (B × List ℕ) Stop) (f f' : B × List ℕ → Result (A × List ℕ) Stop)
-    → Grows more r r' → ((y : B) (rest : List ℕ) → Grows more (f (y, rest)) (f' (y, rest ++ more))) → Grows more (r >>= f) (r' >>= f')
+    → StandsWithMore more r r' → ((y : B) (rest : List ℕ) → StandsWithMore more (f (y, rest)) (f' (y, rest ++ more))) → StandsWithMore more (r >>= f) (r' >>= f')
 grows_then more (Ok y) r' f f' same go = rw same (go y.0 y.1)
 grows_then more (Err stops.More) r' f f' same go = tt
 grows_then more (Err (stops.Malformed kind)) r' f f' same go = ap (λ r. r >>= f') same
 grows_then more (Err (stops.Refused code)) r' f f' same go = ap (λ r. r >>= f') same
 
-pub length_grows : (follow : ℕ) (bytes more : List ℕ) → Grows more (length_at follow bytes) (length_at follow (bytes ++ more))
+pub length_grows : (follow : ℕ) (bytes more : List ℕ) → StandsWithMore more (length_at follow bytes) (length_at follow (bytes ++ more))
 unfolding length_at
 length_grows follow [] more = tt
 length_grows follow (b ∷ bytes) more =

@@ -7,29 +7,29 @@ use Rattle.std.specs.Cmp.Lexicographic.{slice_cmp}
 use Rattle.std.specs.Ordering.{nat_cmp}
 use Rattle.topics.specs.Matching.{is_match}
 use Rattle.packet.specs.declared.qos.QoS.{QoS}
-use Rattle.retained.specs.declared.kept.Kept.{Kept}
+use Rattle.retained.specs.declared.retained_publication.RetainedPublication.{RetainedPublication}
 
 -- each topic once, with what is kept of its publication, in rising order of the topics' bytes
-abbrev pub Content : Type 0
-Content = List (List ℕ × Kept)
+abbrev pub RetainedTopics : Type 0
+RetainedTopics = List (List ℕ × RetainedPublication)
 
-abbrev pub IsRising : Content → Type 0
+abbrev pub IsRising : RetainedTopics → Type 0
 IsRising content = IsStrictlySortedBy (slice_cmp nat_cmp) (keys_of content)
 
 -- what is kept of the topic
-abbrev pub kept_of : List ℕ → Content → Option Kept
-kept_of topic content = lookup (is_at (slice_cmp nat_cmp topic)) content
+abbrev pub publication_on : List ℕ → RetainedTopics → Option RetainedPublication
+publication_on topic content = lookup (is_at (slice_cmp nat_cmp topic)) content
 
 -- the topic's publication is replaced, or comes to its place in the order
-abbrev pub with_topic : Content → List ℕ → Kept → Content
+abbrev pub with_topic : RetainedTopics → List ℕ → RetainedPublication → RetainedTopics
 with_topic content topic kept = insert_entry (slice_cmp nat_cmp) content topic kept
 
 -- nothing is kept of the topic
-abbrev pub without_topic : Content → List ℕ → Content
+abbrev pub without_topic : RetainedTopics → List ℕ → RetainedTopics
 without_topic content topic = remove_entry (is_at (slice_cmp nat_cmp topic)) content
 
 -- after a publication: an empty payload removes what was kept (MQTT 3.3.1.3)
-abbrev pub after_put : Content → List ℕ → QoS → List ℕ → Content
+abbrev pub after_put : RetainedTopics → List ℕ → QoS → List ℕ → RetainedTopics
 after_put content topic qos [] = without_topic content topic
 after_put content topic qos (byte ∷ payload) =
     with_topic content topic (record { qos = qos; payload = byte ∷ payload })
@@ -38,13 +38,13 @@ abbrev pub is_empty : List ℕ → Bool
 is_empty payload = length payload == 0
 
 -- the topic would be one more than 16,384, this broker's own limit
-abbrev pub is_full_for : Content → List ℕ → Bool
-is_full_for content topic = is_none (kept_of topic content) && nat_le 16384 (length content)
+abbrev pub is_full_for : RetainedTopics → List ℕ → Bool
+is_full_for content topic = is_none (publication_on topic content) && nat_le 16384 (length content)
 
 -- the publication is refused: an empty payload never is
-abbrev pub is_refused : Content → List ℕ → List ℕ → Bool
+abbrev pub is_refused : RetainedTopics → List ℕ → List ℕ → Bool
 is_refused content topic payload = not (is_empty payload) && is_full_for content topic
 
 -- the topics that the filter matches, with what is kept of them (MQTT 3.3.1.3)
-abbrev pub matching_entries : Content → List ℕ → Content
+abbrev pub matching_entries : RetainedTopics → List ℕ → RetainedTopics
 matching_entries content asked = filter (λ entry. is_match asked entry.0) content

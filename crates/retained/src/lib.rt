@@ -3,11 +3,11 @@
 #![tactic(auto)]
 
 mod error;
-mod kept;
+mod retained_publication;
 mod retained_store;
 #[cfg(test)]
 mod tests;
 
 pub use error::RetainedError;
-pub use kept::Kept;
+pub use retained_publication::RetainedPublication;
 pub use retained_store::RetainedStore;

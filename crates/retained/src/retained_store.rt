@@ -3,10 +3,10 @@
 ghost use Rattle.std.specs.Prelude.{◌≡◌, ◌++◌, ◌↔◌, [], length, take, Err, IsOk, IsNone, IsTrue, OnOk, OnErr, option_copied};
 ghost use Rattle.std.specs.Cmp.Lexicographic.{slice_cmp};
 ghost use Rattle.std.specs.Ordering.{nat_cmp};
-ghost use Rattle.retained.specs.Retained.{IsRising, kept_of, after_put, is_full_for, is_refused, matching_entries};
+ghost use Rattle.retained.specs.Retained.{IsRising, publication_on, after_put, is_full_for, is_refused, matching_entries};
 
 use crate::error::RetainedError;
-use crate::kept::Kept;
+use crate::retained_publication::RetainedPublication;
 use packet::{Payload, QoS};
 use std::alloc::{AllocError, Global};
 use std::collections::BTreeMap;
@@ -20,13 +20,13 @@ const MAX_TOPICS: usize = 16_384;
 /// For each topic its last publication with RETAIN 1 (MQTT 3.3.1.3), at most 16,384 of them.
 #[derive(Debug, Drop)]
 pub struct RetainedStore {
-    topics: BTreeMap<TopicName, Kept>,
+    topics: BTreeMap<TopicName, RetainedPublication>,
 }
 
 impl Model for RetainedStore {
-    ghost use Rattle.retained.specs.Retained.{Content};
+    ghost use Rattle.retained.specs.Retained.{RetainedTopics};
 
-    ghost Value = { Content };
+    ghost Value = { RetainedTopics };
 
     ghost view = { λ store. store.topics.entries };
 }
@@ -56,8 +56,8 @@ impl RetainedStore {
     }
 
     /// What is retained of the topic.
-    pub fn get(&self, topic: &TopicName) -> Option<&Kept>
-        ensures { option_copied result ≡ kept_of topic.now self.now }
+    pub fn get(&self, topic: &TopicName) -> Option<&RetainedPublication>
+        ensures { option_copied result ≡ publication_on topic.now self.now }
     {
         self.topics.get(topic)
     }
@@ -78,7 +78,7 @@ impl RetainedStore {
         // Each refusal leaves the store as it was.
         ensures full { (result ≡ Err RetainedError.RetainedFull)
             ↔ IsTrue (is_refused self.old topic payload) }
-        ensures memory { result ≡ Err RetainedError.Memory → IsNone (kept_of topic self.old) }
+        ensures memory { result ≡ Err RetainedError.Memory → IsNone (publication_on topic self.old) }
         ensures removal { payload ≡ [] → IsOk result }
         ensures err { OnErr result (self.new ≡ self.old) }
     {
@@ -89,7 +89,7 @@ impl RetainedStore {
         if self.refuses(&topic, &payload) {
             return Err(RetainedError::RetainedFull);
         }
-        self.topics.insert(topic, Kept { qos, payload })?;
+        self.topics.insert(topic, RetainedPublication { qos, payload })?;
         Ok(())
     }
 
@@ -98,7 +98,7 @@ impl RetainedStore {
     pub fn matching(
         &self,
         filter: &Filter,
-        entries: &mut Vec<(TopicName, Kept)>,
+        entries: &mut Vec<(TopicName, RetainedPublication)>,
     ) -> Result<(), AllocError>
         ensures ok { OnOk result
             (entries.new.items ≡ entries.old.items ++ matching_entries self.now filter.now) }
@@ -113,7 +113,7 @@ impl RetainedStore {
     }
 
     /// The topics in the order of their bytes, with what is retained of them.
-    pub fn iter(&self) -> Iter<'_, TopicName, Kept>
+    pub fn iter(&self) -> Iter<'_, TopicName, RetainedPublication>
         ensures entries { result ≡ self.now }
         ensures rising { IsRising self.now }
     {
@@ -130,9 +130,9 @@ impl RetainedStore {
 
 /// Appends the matching topics. Where memory is wanting, some of them may stand there.
 fn append_matching(
-    topics: &BTreeMap<TopicName, Kept>,
+    topics: &BTreeMap<TopicName, RetainedPublication>,
     filter: &Filter,
-    entries: &mut Vec<(TopicName, Kept)>,
+    entries: &mut Vec<(TopicName, RetainedPublication)>,
 ) -> Result<(), AllocError>
     ensures ok { OnOk result
         (entries.new.items ≡ entries.old.items ++ matching_entries topics.now.entries filter.now) }

@@ -1,7 +1,8 @@
 -- Identifiers are counted: lists with the same counts have one length and one least free number, and the least
 -- free number is not in its list.
 use Rattle.std.proofs.Common.{◌≡◌, ℕ, ◌+◌, ◌≤◌, zero, suc, Bool, true, false, not, ◌||◌, ◌==◌, nat_le, if◌then◌else◌, List, [], ◌∷◌, ◌++◌, length, refl, ap, ap₂, ◌∙◌, sym, arith}
-use Rattle.session_base.specs.Identifiers.{has_id, free_from, least_free}
+use Rattle.lists.specs.Lists.{has_id}
+use Rattle.session_base.specs.Identifiers.{free_from, least_free}
 
 -- 1 where the test holds
 abbrev pub one_if : Bool → ℕ

@@ -3,9 +3,10 @@ use Rattle.std.proofs.Common.{◌≡◌, ℕ, ◌+◌, ◌≤◌, ◌<◌, zero,
 use Rattle.std.proofs.lemmas.Bool.{or_parts, or_from}
 use Rattle.std.proofs.lemmas.List.{map-append}
 use Rattle.session_base.specs.declared.publication.Publication.{Publication}
-use Rattle.session_base.specs.Identifiers.{has_id, free_from, least_free}
+use Rattle.lists.specs.Lists.{has_id, IsDistinct}
+use Rattle.session_base.specs.Identifiers.{free_from, least_free}
 use Rattle.session_base.specs.Queue.{Flight, ids_of, started_flight, fill}
-use Rattle.session_base.specs.Laws.{IsDistinct, IsLeastFree, FillKeepsApart}
+use Rattle.session_base.specs.Laws.{IsLeastFree, FillKeepsApart}
 use Rattle.session_base.proofs.CountedIdentifiers.{not_among, least_is_free}
 
 -- ---- identifiers

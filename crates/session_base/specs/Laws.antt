@@ -6,7 +6,8 @@ use Rattle.session_base.specs.declared.publication.Publication.{Publication}
 use Rattle.session_base.specs.declared.awaits.Awaits.{Awaits}
 use Rattle.session_base.specs.declared.awaits.Awaits.TheVariants as waits_for
 use Rattle.session_base.specs.Publication.{publish_of}
-use Rattle.session_base.specs.Identifiers.{has_id, least_free}
+use Rattle.lists.specs.Lists.{has_id}
+use Rattle.session_base.specs.Identifiers.{least_free}
 use Rattle.session_base.specs.Queue.{Flight, ids_of, fill}
 use Rattle.session_base.specs.Sending.{fill_sends}
 

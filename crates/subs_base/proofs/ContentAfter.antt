@@ -7,7 +7,7 @@ use Rattle.std.specs.Cmp.Lexicographic.{slice_cmp, texts_ties, bytes_decides}
 use Rattle.std.specs.Ordering.{nat_cmp, is_eq}
 use Rattle.std.proofs.lemmas.Map.Made.{lookup-map_values}
 use Rattle.packet.specs.declared.qos.QoS.{QoS}
-use Rattle.subs_base.specs.Content.{Content, without_client, without_subscription}
+use Rattle.subs_base.specs.Content.{Content, without_client, without_row}
 use Rattle.subs_base.specs.ListIndex.{content_of, at}
 use Rattle.subs_base.specs.Inside.{listed}
 
@@ -110,7 +110,7 @@ same_both false = refl
 -- nothing is cleared of a client that is not there
 pub content_without_client :
     (m : Map) (client filter : List ℕ) → None ≡ get (slice_cmp nat_cmp) m client
-    → content_of (listed m.entries) ≡ without_subscription (content_of (listed m.entries)) client filter
+    → content_of (listed m.entries) ≡ without_row (content_of (listed m.entries)) client filter
 content_without_client m client filter none =
     let point : (c f : List ℕ) → held m c f ≡ cond (bytes_eq client c && bytes_eq filter f) None (held m c f) = λ c f.
     elim (bytes_eq client c) as (λ v. bytes_eq client c ≡ v → held m c f ≡ cond (v && bytes_eq filter f) None (held m c f)) [

@@ -11,13 +11,13 @@ abbrev pub no_subscriptions : Content
 no_subscriptions client filter = None
 
 -- an identical subscription is replaced (MQTT 3.8.4)
-abbrev pub with_subscription : Content → List ℕ → List ℕ → QoS → Content
-with_subscription content client filter qos c f =
+abbrev pub with_row : Content → List ℕ → List ℕ → QoS → Content
+with_row content client filter qos c f =
     if bytes_eq client c && bytes_eq filter f then Some qos else content c f
 
 -- the same characters alone are removed (MQTT 3.10.4)
-abbrev pub without_subscription : Content → List ℕ → List ℕ → Content
-without_subscription content client filter c f =
+abbrev pub without_row : Content → List ℕ → List ℕ → Content
+without_row content client filter c f =
     if bytes_eq client c && bytes_eq filter f then None else content c f
 
 -- none of the client's subscriptions is left

@@ -4,8 +4,8 @@ ghost use Rattle.std.specs.Prelude.{◌≡◌, ◌↔◌, IsTrue, IsSome, OnOk, 
 ghost use Rattle.subs_base.specs.Content.{
   Content,
   no_subscriptions,
-  with_subscription,
-  without_subscription,
+  with_row,
+  without_row,
   without_client,
 };
 ghost use Rattle.subs_base.specs.Granted.{AppendsGranted};
@@ -25,7 +25,7 @@ pub trait SubIndex: Drop {
     /// Sets the client's subscription of this filter, replacing an identical one (MQTT 3.8.4).
     fn set(&mut self, client: &ClientId, filter: &Filter, qos: QoS) -> Result<(), AllocError>
         ensures ok { OnOk result
-            (content self.new ≡ with_subscription (content self.old) client.now filter.now qos) }
+            (content self.new ≡ with_row (content self.old) client.now filter.now qos) }
         ensures err { OnErr result (content self.new ≡ content self.old) };
 
     /// Removes the client's subscription of this very filter, and says whether there was one
@@ -33,7 +33,7 @@ pub trait SubIndex: Drop {
     fn clear(&mut self, client: &ClientId, filter: &Filter) -> bool
         ensures found { IsTrue result ↔ IsSome (content self.old client.now filter.now) }
         ensures after { content self.new
-            ≡ without_subscription (content self.old) client.now filter.now };
+            ≡ without_row (content self.old) client.now filter.now };
 
     /// Removes all subscriptions of the client. Takes no memory.
     fn drop_client(&mut self, client: &ClientId)

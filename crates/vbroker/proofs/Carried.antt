@@ -1,14 +1,14 @@
 -- Carried.antt: one message is delivered, or dropped, and then the others.
 use Rattle.std.proofs.Common.{◌≡◌, ◌==◌, ℕ, true, List, [], ◌∷◌, length, sym, ap, subst, ◌∙◌, arith}
 use Rattle.std.proofs.lemmas.Bool.{eqb-true}
-use Rattle.connecting_base.specs.declared.command.Command.{Command}
-use Rattle.connecting_base.specs.declared.command.Output.{Output}
-use Rattle.ballot_base.specs.declared.message.Message.{Message}
-use Rattle.ballot_base.specs.declared.message.Effect.{Effect}
-use Rattle.ballot_base.specs.declared.message.Effect.TheVariants.{To}
-use Rattle.world_base.specs.declared.item.Item.TheVariants.{Peer}
-use Rattle.world_base.specs.Core.{CountedCore}
-use Rattle.world_base.specs.Losses.{Stepped}
+use Rattle.node.specs.Command.{Command}
+use Rattle.node.specs.Output.{Output}
+use Rattle.node.specs.Message.{Message}
+use Rattle.node.specs.Effect.{Effect}
+use Rattle.node.specs.Effect.TheVariants.{To}
+use Rattle.node.specs.Item.TheVariants.{Peer}
+use Rattle.node.specs.Core.{CountedCore}
+use Rattle.node.specs.Losses.{Stepped}
 use Rattle.vbroker.specs.TwoNodes.{TwoNodes, Delivers, IsElsewhere}
 use Rattle.vbroker.specs.TwoNodes.Delivers.{rests, to_one, to_two, dropped}
 

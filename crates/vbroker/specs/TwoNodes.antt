@@ -1,14 +1,14 @@
 -- Two nodes in one process, and the messages between them.
 use Rattle.std.specs.Prelude.{◌≢◌, List, [], ◌∷◌}
-use Rattle.connecting_base.specs.declared.command.Command.{Command}
-use Rattle.connecting_base.specs.declared.command.Output.{Output}
-use Rattle.ballot_base.specs.declared.message.Message.{Message}
-use Rattle.ballot_base.specs.declared.message.Effect.{Effect}
-use Rattle.ballot_base.specs.declared.message.Effect.TheVariants.{To, Out}
-use Rattle.world_base.specs.declared.item.Item.{Item}
-use Rattle.world_base.specs.declared.item.Item.TheVariants.{Peer}
-use Rattle.world_base.specs.Core.{CountedCore}
-use Rattle.world_base.specs.Losses.{Stepped}
+use Rattle.node.specs.Command.{Command}
+use Rattle.node.specs.Output.{Output}
+use Rattle.node.specs.Message.{Message}
+use Rattle.node.specs.Effect.{Effect}
+use Rattle.node.specs.Effect.TheVariants.{To, Out}
+use Rattle.node.specs.Item.{Item}
+use Rattle.node.specs.Item.TheVariants.{Peer}
+use Rattle.node.specs.Core.{CountedCore}
+use Rattle.node.specs.Losses.{Stepped}
 
 -- node 1 and node 2
 pub record TwoNodes : Type 0 where

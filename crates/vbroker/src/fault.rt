@@ -3,8 +3,7 @@
 ghost use Rattle.std.specs.Prelude.{◌≡◌};
 ghost use Rattle.vbroker.specs.Faults.{status_of};
 
-use ballot::OpeningError;
-use machine::Memory;
+use node::{Memory, OpeningError};
 use std::{fmt, io};
 
 /// Why the program ends with another status than 0.

@@ -9,8 +9,7 @@ mod pair;
 mod tests;
 
 use fault::Fault;
-use node::{Config, Ending, Members, Node, NodeState, Service, run_connection};
-use node_base::Counted;
+use node::{Config, Counted, Ending, Members, Node, NodeState, Service, run_connection};
 use pair::Pair;
 use std::alloc::Global;
 use std::process::ExitCode;

@@ -3,14 +3,10 @@
 ghost use Rattle.std.specs.Prelude.{◌∷◌, OnOk};
 ghost use Rattle.vbroker.specs.TwoNodes.{Delivers, Takes, TwoNodes};
 
-use ballot::{Effect, OpeningError};
-use connecting_base::{Command, Output};
-use machine::Memory;
-use node::Service;
+use node::{Command, Config, Effect, Handed, Item, Members, Memory, NodeCore, OpeningError, Output, Port, Service};
 use std::alloc::Global;
 use std::marker::Model;
 use std::sync::Wait;
-use world_base::{Config, Handed, Item, Members, NodeCore, Port};
 
 /// Nodes 1 and 2, the members of ballot 1, of which node 1 is the primary and has the clients.
 /// Messages between them are delivered at once.

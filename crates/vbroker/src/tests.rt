@@ -1,8 +1,7 @@
 // One connection over two nodes.
 
 use crate::pair::Pair;
-use node::{Ending, run_connection};
-use node_base::Counted;
+use node::{Counted, Ending, run_connection};
 use std::test::Fail;
 
 #[test]

@@ -6,12 +6,12 @@ use Rattle.connecting_base.specs.declared.command.Command.{Command}
 use Rattle.connecting_base.specs.declared.command.Output.{Output}
 use Rattle.ballot.specs.declared.error.ProposeError.{ProposeError}
 use Rattle.ballot.specs.declared.error.ProposeError.TheVariants.{NotActive, LogFull, Memory, Halted}
-use Rattle.ballot_base.specs.declared.message.Effect.{Effect}
-use Rattle.ballot_base.specs.Losses.{Stepped, Steps, one_more}
-use Rattle.ballot_base.specs.Replica.{Counted, ReplicaState, is_active}
-use Rattle.ballot_base.specs.Sending.{Outcome}
-use Rattle.ballot_base.specs.Serving.{most_places, proposed}
-use Rattle.ballot_base.proofs.StepRows.{proposed-adds, proposed-full, added-stopped}
+use Rattle.ballot.specs.Effect.{Effect}
+use Rattle.ballot.specs.Losses.{Stepped, Steps, one_more}
+use Rattle.ballot.specs.Replica.{CountedReplica, ReplicaState, is_active}
+use Rattle.ballot.specs.Sending.{Outcome}
+use Rattle.ballot.specs.Serving.{most_places, proposed}
+use Rattle.ballot.proofs.StepRows.{proposed-adds, proposed-full, added-stopped}
 use Rattle.world_base.specs.Core.{CoreState, rules, serves}
 use Rattle.world_base.specs.Turns.{has_room}
 
@@ -42,7 +42,7 @@ proposed-stopped r command active = by_order (cases_lt (length r.log) most_place
 pub no_loss : (old new : ℕ) → new ≡ one_more old → new ≡ old → old < 2 ^ 64 - 1 → ⊥
 no_loss old new more same below = omega arith
 
-pub room_answered : (result : Result (Unit {0}) ProposeError) (old new : Counted Command) (command : Command)
+pub room_answered : (result : Result (Unit {0}) ProposeError) (old new : CountedReplica Command) (command : Command)
     (before behind : List (Effect Command Output)) →
     is_active old.state.role ≡ true → old.state.stopped ≡ false →
     Stepped old (proposed rules old.state command) new before behind →
@@ -65,7 +65,7 @@ room_answered (Err NotActive) old new command before behind active running stepp
 room_answered (Err LogFull) old new command before behind active running stepped halted inactive full is_full memory same below =
     sym (le-ltb (length old.state.log) most_places (full refl))
 room_answered (Err Memory) old new command before behind active running stepped halted inactive full is_full memory same below =
-    absurd (no_loss old.losses new.losses (ap (λ (z : Counted Command). z.losses) (memory refl)) same below)
+    absurd (no_loss old.losses new.losses (ap (λ (z : CountedReplica Command). z.losses) (memory refl)) same below)
 room_answered (Err Halted) old new command before behind active running stepped halted inactive full is_full memory same below =
     absurd (by_steps stepped.steps)
   where

@@ -6,9 +6,9 @@ use Rattle.connecting_base.specs.declared.command.Command.{Command}
 use Rattle.connecting_base.specs.declared.command.Command.TheVariants as commands
 use Rattle.connecting_base.specs.declared.command.Output.{Output}
 use Rattle.packet.specs.declared.connect.Connect.{Connect}
-use Rattle.ballot_base.specs.declared.message.Effect.{Effect}
-use Rattle.ballot_base.specs.Serving.{most_places}
-use Rattle.ballot_base.proofs.StepRows.{proposed-full}
+use Rattle.ballot.specs.Effect.{Effect}
+use Rattle.ballot.specs.Serving.{most_places}
+use Rattle.ballot.proofs.StepRows.{proposed-full}
 use Rattle.world_base.specs.declared.item.Port.{Port}
 use Rattle.world_base.specs.declared.connection.Connection.{Connection}
 use Rattle.world_base.specs.Connections.{closed, is_proposed}

@@ -1,9 +1,9 @@
 -- Fronts.antt: what is done by what the unread bytes of a connection begin with.
 use Rattle.std.proofs.Common.{◌≡◌, ℕ, Bool, true, false, List, [], ◌∷◌, Some, None, Result, Ok, Err, ◌⊎◌, inl, inr, refl, sym, ap, subst, ◌∙◌}
 use Rattle.std.specs.List.{find}
-use Rattle.packet_base.specs.declared.stop.Stop.{Stop}
-use Rattle.packet_base.specs.declared.stop.Stop.TheVariants as stops
-use Rattle.packet_base.specs.declared.refusal_code.RefusalCode.{RefusalCode}
+use Rattle.packet.specs.Stop.{Stop}
+use Rattle.packet.specs.Stop.TheVariants as stops
+use Rattle.packet.specs.RefusalCode.{RefusalCode}
 use Rattle.packet.specs.declared.packet.Packet.{Packet}
 use Rattle.packet.specs.declared.packet.Packet.TheVariants as packets
 use Rattle.packet.specs.declared.connect.Connect.{Connect}
@@ -11,7 +11,7 @@ use Rattle.packet.specs.Verdict.{verdict}
 use Rattle.connecting_base.specs.declared.command.Command.{Command}
 use Rattle.connecting_base.specs.declared.command.Command.TheVariants as commands
 use Rattle.connecting_base.specs.declared.command.Output.{Output}
-use Rattle.ballot_base.specs.declared.message.Effect.{Effect}
+use Rattle.ballot.specs.Effect.{Effect}
 use Rattle.world_base.specs.declared.item.Port.{Port}
 use Rattle.world_base.specs.declared.front.Front.{Front}
 use Rattle.world_base.specs.declared.front.Front.TheVariants as fronts

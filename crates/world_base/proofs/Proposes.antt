@@ -2,10 +2,10 @@
 use Rattle.std.proofs.Common.{◌≡◌, true, false, List, refl, ap, subst, ◌∙◌}
 use Rattle.connecting_base.specs.declared.command.Command.{Command}
 use Rattle.connecting_base.specs.declared.command.Output.{Output}
-use Rattle.ballot_base.specs.declared.message.Effect.{Effect}
-use Rattle.ballot_base.specs.Protocol.{Input}
-use Rattle.ballot_base.specs.Sending.{Outcome}
-use Rattle.ballot_base.specs.Serving.{proposed}
+use Rattle.ballot.specs.Effect.{Effect}
+use Rattle.ballot.specs.Protocol.{Input}
+use Rattle.ballot.specs.Sending.{Outcome}
+use Rattle.ballot.specs.Serving.{proposed}
 use Rattle.world_base.specs.Core.{Turn, rules, serves}
 use Rattle.world_base.specs.Inside.{Running, Hears, Turns}
 use Rattle.world_base.specs.Turns.{delivered, drives, heard, moved, proposes}

@@ -6,7 +6,7 @@ use Rattle.std.proofs.lemmas.List.Sums.{fold_push}
 use Rattle.std.proofs.lemmas.List.Elements.{filter-append}
 use Rattle.connecting_base.specs.declared.command.Command.{Command}
 use Rattle.connecting_base.specs.declared.command.Output.{Output}
-use Rattle.ballot_base.specs.declared.message.Effect.{Effect}
+use Rattle.ballot.specs.Effect.{Effect}
 use Rattle.world_base.specs.Core.{CoreState, Turn}
 use Rattle.world_base.specs.Inside.{Running, Does, Turns}
 use Rattle.world_base.specs.Turns.{quiet, then_also, delivered, served, is_message}

@@ -1,19 +1,19 @@
 -- A node: one replica of the broker with its connections, and how it opens.
 use Rattle.std.specs.Prelude.{ℕ, Bool, not, ◌&&◌, List, []}
-use Rattle.machine.specs.Machine.{Rules}
+use Rattle.ballot.specs.Machine.{Rules}
 use Rattle.connecting_base.specs.Table.{Table}
 use Rattle.connecting_base.specs.State.{usual_limits}
 use Rattle.connecting_base.specs.Laws.{broker_rules}
 use Rattle.connecting_base.specs.declared.command.Command.{Command}
 use Rattle.connecting_base.specs.declared.command.Output.{Output}
-use Rattle.ballot_base.specs.declared.config.Config.{Config}
-use Rattle.ballot_base.specs.declared.message.Effect.{Effect}
-use Rattle.ballot_base.specs.Replica.{Counted, is_active, opening}
+use Rattle.ballot.specs.Config.{Config}
+use Rattle.ballot.specs.Effect.{Effect}
+use Rattle.ballot.specs.Replica.{CountedReplica, is_active, opening}
 use Rattle.world_base.specs.declared.connection.Connection.{Connection}
 
 -- what a node keeps; its connections stand in the order in which they were opened
 pub record CoreState : Type 0 where
-  pub replica : Counted Command
+  pub replica : CountedReplica Command
   -- how many connections of this ballot it accepted
   pub accepted : ℕ
   pub connections : List Connection

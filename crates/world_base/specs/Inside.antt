@@ -2,10 +2,10 @@
 use Rattle.std.specs.Prelude.{◌≡◌, ℕ, Bool, false, List, ◌++◌, Result, Ok, Err}
 use Rattle.connecting_base.specs.declared.command.Command.{Command}
 use Rattle.connecting_base.specs.declared.command.Output.{Output}
-use Rattle.ballot_base.specs.declared.message.Effect.{Effect}
-use Rattle.ballot_base.specs.Sending.{Outcome}
-use Rattle.packet_base.specs.declared.stop.Stop.{Stop}
-use Rattle.packet_base.specs.declared.stop.Stop.TheVariants as stops
+use Rattle.ballot.specs.Effect.{Effect}
+use Rattle.ballot.specs.Sending.{Outcome}
+use Rattle.packet.specs.Stop.{Stop}
+use Rattle.packet.specs.Stop.TheVariants as stops
 use Rattle.packet.specs.declared.packet.Packet.{Packet}
 use Rattle.packet.specs.declared.packet.Packet.TheVariants as packets
 use Rattle.packet.specs.Verdict.{verdict}

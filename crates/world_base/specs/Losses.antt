@@ -2,8 +2,8 @@
 use Rattle.std.specs.Prelude.{◌≡◌, ◌⊎◌, List, ◌++◌}
 use Rattle.connecting_base.specs.declared.command.Command.{Command}
 use Rattle.connecting_base.specs.declared.command.Output.{Output}
-use Rattle.ballot_base.specs.declared.message.Effect.{Effect}
-use Rattle.ballot_base.specs.Losses.{one_more}
+use Rattle.ballot.specs.Effect.{Effect}
+use Rattle.ballot.specs.Losses.{one_more}
 use Rattle.world_base.specs.declared.item.Item.{Item}
 use Rattle.world_base.specs.Core.{CountedCore, Turn}
 use Rattle.world_base.specs.Step.{node_step}

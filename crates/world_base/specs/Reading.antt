@@ -1,9 +1,9 @@
 -- What a node reads of a connection, and how a connection ends (MQTT 3.1.4, 3.2, 4.8).
 use Rattle.std.specs.Prelude.{ℕ, if◌then◌else◌, List, Option, Some, None, Result, Ok, Err}
 use Rattle.std.specs.List.{find}
-use Rattle.packet_base.specs.declared.stop.Stop.{Stop}
-use Rattle.packet_base.specs.declared.stop.Stop.TheVariants as stops
-use Rattle.packet_base.specs.declared.refusal_code.RefusalCode.{RefusalCode}
+use Rattle.packet.specs.Stop.{Stop}
+use Rattle.packet.specs.Stop.TheVariants as stops
+use Rattle.packet.specs.RefusalCode.{RefusalCode}
 use Rattle.packet.specs.declared.packet.Packet.{Packet}
 use Rattle.packet.specs.declared.packet.Packet.TheVariants as packets
 use Rattle.packet.specs.declared.connect.Connect.{Connect}

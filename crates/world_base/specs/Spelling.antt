@@ -1,7 +1,7 @@
 -- The bytes of the packets that a node puts out.
 use Rattle.std.specs.Prelude.{ℕ, List, [], ◌∷◌, length}
-use Rattle.packet_base.specs.Header.{first_byte}
-use Rattle.packet_base.specs.declared.header.Header.TheVariants as headers
+use Rattle.packet.specs.Header.{first_byte}
+use Rattle.packet.specs.Header.TheVariants as headers
 use Rattle.packet.specs.Connack.{connack}
 use Rattle.packet.specs.declared.packet.Packet.{Packet}
 use Rattle.packet.specs.declared.packet.Packet.TheVariants as packets

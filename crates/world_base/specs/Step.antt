@@ -2,8 +2,8 @@
 use Rattle.std.specs.Prelude.{◌+◌, not, ◌&&◌, if◌then◌else◌, [], ◌∷◌, ◌++◌, map, filter}
 use Rattle.std.specs.List.{list_any}
 use Rattle.connecting_base.specs.Connection.{ConnectionName, is_connection_name}
-use Rattle.ballot_base.specs.Losses.{halted}
-use Rattle.ballot_base.specs.Protocol.Input.{Receives, Ticks}
+use Rattle.ballot.specs.Losses.{halted}
+use Rattle.ballot.specs.Protocol.Input.{Receives, Ticks}
 use Rattle.world_base.specs.declared.item.Port.{Port}
 use Rattle.world_base.specs.declared.item.Item.{Item}
 use Rattle.world_base.specs.declared.item.Item.TheVariants.{Peer, Tick, Opened, Bytes, Ended, Crash}

@@ -13,7 +13,7 @@ use crate::item::Port;
 use crate::piece::Piece;
 use crate::unread::Unread;
 use connecting_base::ConnectionId;
-use machine::Memory;
+use ballot::Memory;
 use packet::{Connack, Packet, RefusalCode};
 use std::alloc::Global;
 

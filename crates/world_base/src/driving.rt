@@ -1,8 +1,8 @@
 // What comes to the replica, and what it gives at once.
 
 ghost use Rattle.std.specs.Prelude.{◌≡◌, ◌<◌, ◌-◌, ◌^◌, false, true, [], ◌∷◌};
-ghost use Rattle.ballot_base.specs.Protocol.Input.{Receives, Ticks};
-ghost use Rattle.ballot_base.specs.Serving.{proposed};
+ghost use Rattle.ballot.specs.Protocol.Input.{Receives, Ticks};
+ghost use Rattle.ballot.specs.Serving.{proposed};
 ghost use Rattle.world_base.specs.Core.{rules, serves};
 ghost use Rattle.world_base.specs.Inside.{Does, Hears, Turns};
 ghost use Rattle.world_base.specs.Turns.{delivered, drives, has_room, heard, proposes, served_by};

@@ -9,7 +9,7 @@ use crate::handed::Handed;
 use crate::item::Port;
 use crate::listing::keep_listed;
 use crate::serving::Serving;
-use machine::Memory;
+use ballot::Memory;
 
 impl Serving {
     /// Appends what was put out for a port and not handed over before. Where memory is wanting

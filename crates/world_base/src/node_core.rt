@@ -1,8 +1,8 @@
 // A replica with its connections.
 
 ghost use Rattle.std.specs.Prelude.{◌≡◌, ◌≤◌, ◌↔◌, ◌++◌, false, IfOk, IsErrOf, OnErr, OnOk};
-ghost use Rattle.ballot_base.specs.Config.{is_lawful};
-ghost use Rattle.ballot_base.specs.Replica.{status_of};
+ghost use Rattle.ballot.specs.LawfulConfig.{is_lawful};
+ghost use Rattle.ballot.specs.Replica.{status_of};
 ghost use Rattle.world_base.specs.Core.{opening_core};
 ghost use Rattle.world_base.specs.Handing.{answer_of, bytes_of, hands_over, listed_at};
 ghost use Rattle.world_base.specs.Losses.{Stepped};
@@ -10,9 +10,8 @@ ghost use Rattle.world_base.specs.Losses.{Stepped};
 use crate::handed::Handed;
 use crate::item::{Item, Port};
 use crate::serving::Serving;
-use ballot::{Config, Effect, OpeningError, Status};
+use ballot::{Config, Effect, Memory, OpeningError, Status};
 use connecting_base::{Command, Output};
-use machine::Memory;
 use std::alloc::Global;
 use std::marker::Model;
 

@@ -3,7 +3,7 @@
 ghost use Rattle.std.specs.Prelude.{◌≡◌, ◌==◌, ◌++◌, [], length, drop, OnOk, OnErr, IfOk};
 ghost use Rattle.world_base.specs.Spelling.{spelling, IsAnswer};
 
-use machine::Memory;
+use ballot::Memory;
 use packet::{Packet, encode, one_spelling};
 use std::alloc::Global;
 use std::marker::Model;

@@ -3,8 +3,8 @@
 ghost use Rattle.std.specs.Prelude.{◌≡◌, ◌≤◌, ◌↔◌, false, true, IfOk, IfSome, OnSome, IfNone, IsErrOf};
 ghost use Rattle.std.specs.List.{position};
 ghost use Rattle.connecting_base.specs.Connection.{is_connection_name};
-ghost use Rattle.ballot_base.specs.Config.{is_lawful};
-ghost use Rattle.ballot_base.specs.Replica.{status_of};
+ghost use Rattle.ballot.specs.LawfulConfig.{is_lawful};
+ghost use Rattle.ballot.specs.Replica.{status_of};
 ghost use Rattle.world_base.specs.Connections.{closed, holding, is_open_at, is_open_named, putting};
 ghost use Rattle.world_base.specs.Core.{opening_core, serves};
 ghost use Rattle.world_base.specs.Inside.{Does};

@@ -3,7 +3,7 @@
 ghost use Rattle.std.specs.Prelude.{◌≡◌, true};
 ghost use Rattle.world_base.specs.Connections.{holding};
 ghost use Rattle.world_base.specs.Inside.{Turns};
-ghost use Rattle.world_base.specs.Handing.{Extends};
+ghost use Rattle.lists.specs.Lists.{IsPrefixOf};
 ghost use Rattle.world_base.specs.Reading.{asks, begins, changes, ends, goes_on};
 ghost use Rattle.world_base.specs.Step.{takes_in};
 ghost use Rattle.world_base.specs.Turns.{quiet};
@@ -127,7 +127,7 @@ impl Serving {
     pub fn lose_failed(&mut self, effects: &mut Vec<Effect<Command, Output>>)
         requires { self.old.wanting ≡ true }
         ensures wanting { self.new.wanting ≡ true }
-        ensures extends { Extends effects.old.items effects.new.items }
+        ensures extends { IsPrefixOf effects.old.items effects.new.items }
     {
         for index in 0..self.connections.len() {
             self.lose_if_failed(index, effects);
@@ -138,7 +138,7 @@ impl Serving {
     fn lose_if_failed(&mut self, index: usize, effects: &mut Vec<Effect<Command, Output>>)
         requires { self.old.wanting ≡ true }
         ensures wanting { self.new.wanting ≡ true }
-        ensures extends { Extends effects.old.items effects.new.items }
+        ensures extends { IsPrefixOf effects.old.items effects.new.items }
     {
         let Some(connection) = self.connections.get_mut(index) else {
             return;

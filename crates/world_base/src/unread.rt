@@ -6,7 +6,7 @@ ghost use Rattle.world_base.specs.Inside.{Reads};
 use crate::front::Front;
 use crate::piece::Piece;
 use cutter::{CutError, Cutter};
-use machine::Memory;
+use ballot::Memory;
 use packet::{DecodeFault, Packet};
 use std::alloc::Global;
 use std::marker::Model;

@@ -2,8 +2,9 @@
 
 ghost use Rattle.std.specs.Prelude.{◌≡◌, ◌≤◌, ◌<◌, ◌↔◌, ◌⊎◌, true, false, [], length, IfOk, OnOk, OnErr, IsErr, IsErrOf, MatchResult, if◌then◌else◌};
 ghost use Rattle.machine.specs.Machine.{rules_by};
-ghost use Rattle.ballot.specs.Inside.{Sends, Grows, Lacks, Went};
-ghost use Rattle.ballot_base.specs.Config.{is_lawful};
+ghost use Rattle.ballot.specs.Inside.{Sends, Lacks, Went};
+ghost use Rattle.lists.specs.Lists.{IsPrefixOf};
+ghost use Rattle.ballot_base.specs.LawfulConfig.{is_lawful};
 ghost use Rattle.ballot_base.specs.Losses.{Stepped, Done, IsQuiet, halted, one_more};
 ghost use Rattle.ballot_base.specs.Replica.{is_active, opening, status_of};
 ghost use Rattle.ballot_base.specs.Protocol.{step_in_one_ballot};
@@ -12,7 +13,7 @@ ghost use Rattle.ballot_base.specs.Serving.{added, commit_at, follows, leads, mo
 
 use super::Replica;
 use crate::applying::apply_dropping;
-use crate::marking::{least_raised, raise};
+use crate::progress::{least_raised, raise};
 use crate::sending::send;
 use crate::taking::{counted, take_in};
 use ballot_base::{Body, Effect, Message};
@@ -124,10 +125,10 @@ impl<M: Machine> Replica<M> {
             return Ok(());
         }
         let before = out.len();
-        let least = least_raised(self.log.len() as u64, from, held, &self.marks);
+        let least = least_raised(self.log.len() as u64, from, held, &self.progress);
         match self.commit_at(least, out) {
             Ok(told) => {
-                raise(from, held, &mut self.marks);
+                raise(from, held, &mut self.progress);
                 self.losses = counted(self.losses, told);
                 Ok(())
             }

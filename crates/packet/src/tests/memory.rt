@@ -19,7 +19,7 @@ fn round(alloc: Global, bytes: &[u8], out: &mut Vec<u8>) -> Option<u8> {
     let Ok(copy) = packet.copy() else {
         return Some(12);
     };
-    if !copy.is_listed() || copy.is_too_large() {
+    if !copy.has_no_empty_list() || copy.is_too_large() {
         return Some(0);
     }
     encode(&copy, out).err().map(EncodeFault::number)

@@ -1,12 +1,12 @@
 use Rattle.std.proofs.Common.{arith}
 use Rattle.machine.specs.Machine.{rules_by}
 use Rattle.ballot.proofs.PlacesApplied.{on_err_any, place_applied, place_given}
-use Rattle.ballot.proofs.SendsJoin.{Grows-then}
+use Rattle.lists.proofs.Beginnings.{prefix_then}
 use Rattle.ballot.proofs.applying.apply_places.Goals as goal
 
 pub returns-in_err-put_out-clause-err : goal.returns-in_err-put_out-clause-err
 returns-in_err-put_out-clause-err g c =
-    on_err_any _ (Grows-then (record { rest = _; appended = c.loop-place.invariant.outputs }) c.in_err-put_out.ensures.err)
+    on_err_any _ (prefix_then (record { rest = _; appended = c.loop-place.invariant.outputs }) c.in_err-put_out.ensures.err)
 
 pub loop-place-preserved : goal.loop-place-preserved
 loop-place-preserved g c =

@@ -3,7 +3,7 @@ use Rattle.ballot_base.specs.Serving.{appends_behind}
 use Rattle.ballot.specs.Inside.{Sends}
 use Rattle.ballot.proofs.sending.send_behind.Given as goal
 
-abbrev pub invariant-loop-mark : goal.invariant-loop-mark
-invariant-loop-mark g l =
+abbrev pub invariant-loop-reached : goal.invariant-loop-reached
+invariant-loop-reached g l =
     Sends l.initial.out.items l.out.items
-    (appends_behind g.row.M-Output.Denot l.from l.ballot l.log (take l.mark-index l.marks)) l.whole
+    (appends_behind g.row.M-Output.Denot l.from l.ballot l.log (take l.reached-index l.progress)) l.whole

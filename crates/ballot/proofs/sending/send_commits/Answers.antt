@@ -3,12 +3,12 @@ use Rattle.ballot.proofs.SendsJoin.{Sends-nothing, Sends-more}
 use Rattle.ballot.proofs.sending.send_commits.Goals as goal
 use Rattle.ballot.proofs.sending.send_commits.Goals.{then-whole, else-whole}
 
-pub loop-mark-init : goal.loop-mark-init
-loop-mark-init g c = Sends-nothing _
+pub loop-reached-init : goal.loop-reached-init
+loop-reached-init g c = Sends-nothing _
 
-pub loop-mark-preserved : goal.loop-mark-preserved
-loop-mark-preserved g c =
-    let e : c.if-whole.whole ≡ (c.loop-mark.whole && c.send-sent.result) =
+pub loop-reached-preserved : goal.loop-reached-preserved
+loop-reached-preserved g c =
+    let e : c.if-whole.whole ≡ (c.loop-reached.whole && c.send-sent.result) =
     elim c.if-whole.branch [ then-whole w ↦ search rules | else-whole w ↦ search rules ] in
-    rw e (Sends-more _ c.args.marks.now c.loop-mark.mark-index (record { member = 0; held = 0 }) (omega arith)
-    c.loop-mark.invariant c.send-sent.ensures)
+    rw e (Sends-more _ c.args.progress.now c.loop-reached.reached-index (record { member = 0; held = 0 }) (omega arith)
+    c.loop-reached.invariant c.send-sent.ensures)

@@ -2,8 +2,8 @@ use Rattle.std.proofs.Common.{ap, sym, ◌∙◌, arith}
 use Rattle.std.specs.Prelude.{nat_lt}
 use Rattle.std.proofs.lemmas.Bool.{ltb-true}
 use Rattle.machine.specs.Machine.{rules_by}
-use Rattle.ballot_base.specs.Losses.{Stepped}
-use Rattle.ballot_base.specs.Protocol.{step_in_one_ballot}
+use Rattle.ballot.specs.Losses.{Stepped}
+use Rattle.ballot.specs.Protocol.{step_in_one_ballot}
 use Rattle.master.specs.Inside.{input_of}
 use Rattle.master.proofs.Turns.{took_in, stepped_as}
 use Rattle.master.proofs.turning.take_in.Goals as goal

@@ -1,6 +1,6 @@
 use Rattle.std.proofs.Common.{◌≡◌, ◌≤◌, length, refl, ap, sym, ◌∙◌, arith}
 use Rattle.machine.specs.Machine.{rules_by}
-use Rattle.ballot_base.specs.Replica.{Counted}
+use Rattle.ballot_base.specs.Replica.{CountedReplica}
 use Rattle.ballot_base.specs.Serving.{least, raised}
 use Rattle.ballot_base.proofs.StepRows.{least-le, commit_at-stopped}
 use Rattle.ballot_base.proofs.MessageRows.{on_held-elsewhere}
@@ -24,8 +24,8 @@ returns-in-Ok-clause-went g c =
     let steps = rules_by g.M.Machine.opening g.M.Machine.start_of g.M.Machine.after g.M.Machine.gives in
     let long : c.len.result ≡ length c.args.self.now.state.log =
     rw (← c.self.view_is) (omega (arith, c.self.inside.log.ok.0, c.len.ensures)) in
-    let written : length c.raise.new.marks ≡ c.self-2.inside.marks.len =
-    omega (arith, c.raise.auto.marks, ap length c.deref_mut.ensures.value, c.self-2.inside.marks.ok.0) in
+    let written : length c.raise.new.progress ≡ c.self-2.inside.progress.len =
+    omega (arith, c.raise.auto.progress, ap length c.deref_mut.ensures.value, c.self-2.inside.progress.ok.0) in
     held_taken steps c.args.self.now c.commit_at.new.self _ c.args.from c.args.ballot c.args.held c.least_raised-least.result
     c.deref.result.now _ c.len.result _ _ c.in-Ok.told
     (sym c.leads.ensures ∙ c.if-not-leads.false)
@@ -34,16 +34,16 @@ returns-in-Ok-clause-went g c =
     c.least_raised-least.ensures
     c.in-Ok.ensures.state
     c.in-Ok.ensures.effects
-    (written_back c.self-2.inside.marks.len c.raise.new.marks c.self-2.inside.marks.items written
+    (written_back c.self-2.inside.progress.len c.raise.new.progress c.self-2.inside.progress.items written
     ∙ c.raise.ensures ∙ ap (raised c.args.from c.args.held) c.deref_mut.ensures.value
-    ∙ ap (λ (z : Counted _). raised c.args.from c.args.held z.state.marks) c.self-2.view_is)
+    ∙ ap (λ (z : CountedReplica _). raised c.args.from c.args.held z.state.progress) c.self-2.view_is)
     (rw (← c.self-2.view_is) refl)
     (rw (← c.self-2.view_is) c.counted-self-inside.ensures)
 
 pub returns-in-Ok-clause-ok : goal.returns-in-Ok-clause-ok
 returns-in-Ok-clause-ok g c =
     let steps = rules_by g.M.Machine.opening g.M.Machine.start_of g.M.Machine.after g.M.Machine.gives in
-    ap (λ (z : Counted _). z.state.stopped) (c.self-2.view_is ∙ c.in-Ok.ensures.state)
+    ap (λ (z : CountedReplica _). z.state.stopped) (c.self-2.view_is ∙ c.in-Ok.ensures.state)
     ∙ commit_at-stopped steps c.args.self.now.state c.least_raised-least.result ∙ c.requires
 
 pub returns-in-Err-clause-went : goal.returns-in-Err-clause-went

@@ -1,5 +1,5 @@
 use Rattle.std.proofs.Common.{◌≡◌, drop}
-use Rattle.ballot_base.specs.Config.{are_rising}
+use Rattle.ballot_base.specs.LawfulConfig.{are_rising}
 use Rattle.ballot_base.proofs.config.Config.is_lawful.Given as goal
 
 abbrev pub invariant-loop-member : goal.invariant-loop-member

@@ -1,6 +1,6 @@
 use Rattle.std.proofs.Common.{ap}
 use Rattle.machine.specs.Machine.{rules_by}
-use Rattle.ballot_base.specs.Replica.{Counted}
+use Rattle.ballot.specs.Replica.{CountedReplica}
 use Rattle.master.specs.declared.event.Event.TheVariants.{Crash}
 use Rattle.master.proofs.Counting.{stops_turn, steps_turn}
 use Rattle.master.proofs.Turns.{crash_turn}
@@ -13,4 +13,4 @@ returns-clause-step g c =
     rw (← c.self.view_is) (steps_turn rules _ _ (Crash c.args.node) _ (stops_turn g.row.M-Output.Denot _ c.args.node c.in-Some.at x)
     (crash_turn c.self.inside.config c.self.inside.nodes.items c.self.inside.sent.items c.self.inside.left.items c.self.inside.losses c.in-Some.at
     c.index_mut-replica.result.now c.stop.new.self x.replica c.index_mut-replica.ensures.value x.stands
-    (ap (λ (z : Counted g.row.M-Command.Denot). z.state) c.stop.ensures)))
+    (ap (λ (z : CountedReplica g.row.M-Command.Denot). z.state) c.stop.ensures)))

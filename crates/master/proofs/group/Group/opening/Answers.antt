@@ -1,5 +1,5 @@
 use Rattle.std.proofs.Common.{◌≡◌, ap, sym, ◌∙◌, arith}
-use Rattle.ballot_base.specs.Replica.{Counted}
+use Rattle.ballot.specs.Replica.{CountedReplica}
 use Rattle.master.specs.Group.{GroupState, World}
 use Rattle.master.proofs.Opening.{opened_more}
 use Rattle.master.proofs.Turns.{opened_group}
@@ -8,7 +8,7 @@ use Rattle.master.proofs.group.Group.opening.Goals as goal
 pub loop-at-preserved : goal.loop-at-preserved
 loop-at-preserved g c =
     opened_more c.args.config c.loop-at.opened.items c.push.new.self.items c.in_ok-new.field-0 c.loop-at.at
-    c.loop-at.invariant (ap (λ (z : Counted _). z.state) c.in_ok-new.ensures.ok) c.in_ok-push.ensures.items
+    c.loop-at.invariant (ap (λ (z : CountedReplica _). z.state) c.in_ok-new.ensures.ok) c.in_ok-push.ensures.items
 
 pub returns-clause-ok : goal.returns-clause-ok
 returns-clause-ok g c =

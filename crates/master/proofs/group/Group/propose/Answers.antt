@@ -1,7 +1,7 @@
 use Rattle.std.proofs.Common.{◌≡◌, refl, ap, ◌∙◌}
 use Rattle.machine.specs.Machine.{rules_by}
-use Rattle.ballot_base.specs.Protocol.Input.{Proposes}
-use Rattle.ballot_base.specs.Replica.{status_of}
+use Rattle.ballot.specs.Protocol.Input.{Proposes}
+use Rattle.ballot.specs.Replica.{status_of}
 use Rattle.master.specs.declared.event.Event.TheVariants.{Propose}
 use Rattle.master.proofs.Counting.{takes_turn, cannot_take, proposal_refused, proposal_taken, some_idle, steps_turn, steps_lost, steps_idle}
 use Rattle.master.proofs.Turns.{same_replica}

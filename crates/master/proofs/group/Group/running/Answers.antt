@@ -1,5 +1,5 @@
 use Rattle.std.proofs.Common.{◌≡◌, ◌<◌, ◌≤◌, length, ap, sym, ◌∙◌, false, arith}
-use Rattle.ballot_base.specs.declared.status.Status.{Status}
+use Rattle.ballot.specs.Status.{Status}
 use Rattle.master.proofs.Turns.{runs_at, stopped_there}
 use Rattle.master.proofs.group.Group.running.Goals as goal
 

@@ -1,6 +1,6 @@
 use Rattle.std.proofs.Common.{◌≡◌, inl, inr, length, ◌∙◌, refl}
 use Rattle.machine.specs.Machine.{rules_by}
-use Rattle.ballot_base.specs.Protocol.{step_in_one_ballot}
+use Rattle.ballot.specs.Protocol.{step_in_one_ballot}
 use Rattle.master.specs.Inside.{input_of}
 use Rattle.master.proofs.Turns.{took_turn, below_of, going_of}
 use Rattle.master.proofs.group.Group.take_turn.Goals as goal

@@ -1,6 +1,6 @@
 use Rattle.std.proofs.Common.{refl}
 use Rattle.machine.specs.Machine.{rules_by}
-use Rattle.ballot_base.specs.Protocol.Input.{Ticks}
+use Rattle.ballot.specs.Protocol.Input.{Ticks}
 use Rattle.master.specs.declared.event.Event.TheVariants.{Tick}
 use Rattle.master.proofs.Counting.{takes_turn, steps_turn}
 use Rattle.master.proofs.group.Group.tick.Goals as goal

@@ -4,7 +4,7 @@ use Rattle.std.specs.Prelude.{option_and_then}
 use Rattle.std.specs.BTreeMap.{get}
 use Rattle.std.specs.Cmp.Lexicographic.{slice_cmp}
 use Rattle.std.specs.Ordering.{nat_cmp}
-use Rattle.subs_base.specs.Content.{without_subscription}
+use Rattle.subs_base.specs.Content.{without_row}
 use Rattle.subs_base.specs.ListIndex.{content_of}
 use Rattle.subs_base.specs.Inside.{listed}
 use Rattle.subs_base.proofs.ContentAfter.{content_changed, content_held, content_without_client, held_some, found_is}
@@ -38,10 +38,10 @@ returns-clause-after c =
           (λ f. held_some c.self.inside.clients c.args.client.now f w.in-Some.filters.now w.in-Some.ensures.value)
           w.clear_filter.ensures.after.0
           ((c.get_mut.follows.holds w.clear_filter.new.filters).3 (search rules)).0
-          ∙ ap (λ v. without_subscription (content_of v) c.args.client.now c.args.filter.now) c.self.view_is
+          ∙ ap (λ v. without_row (content_of v) c.args.client.now c.args.filter.now) c.self.view_is
       | in-None w ↦
           ap (λ s. content_of (listed s.clients.entries)) w.self-inside-is
           ∙ ap (λ m. content_of (listed m.entries)) c.get_mut.follows.holds-at-none
           ∙ content_without_client c.self.inside.clients c.args.client.now c.args.filter.now w.in-None.ensures.value
-          ∙ ap (λ v. without_subscription (content_of v) c.args.client.now c.args.filter.now) c.self.view_is
+          ∙ ap (λ v. without_row (content_of v) c.args.client.now c.args.filter.now) c.self.view_is
     ]

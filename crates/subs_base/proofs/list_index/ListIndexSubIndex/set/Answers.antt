@@ -3,7 +3,7 @@ use Rattle.std.proofs.Common.{rules, ◌≡◌, ◌∙◌, ap, sym, subst, ℕ, 
 use Rattle.std.specs.BTreeMap.{get, is_at}
 use Rattle.std.specs.Cmp.Lexicographic.{slice_cmp}
 use Rattle.std.specs.Ordering.{nat_cmp}
-use Rattle.subs_base.specs.Content.{with_subscription}
+use Rattle.subs_base.specs.Content.{with_row}
 use Rattle.subs_base.specs.ListIndex.{content_of}
 use Rattle.subs_base.specs.Inside.{listed}
 use Rattle.subs_base.proofs.ContentAfter.{content_changed, content_kept, held_some, held_none, on_ok, on_err}
@@ -18,7 +18,7 @@ returns-in-Some-clause-ok c =
     (λ f. held_some c.self.inside.clients c.args.client.now f c.in-Some.filters.now c.in-Some.ensures.value)
     u.0
     ((c.get_mut.follows.holds c.set_filter.new.filters).3 (search rules)).0
-    ∙ ap (λ v. with_subscription (content_of v) c.args.client.now c.args.filter.now c.args.qos) c.self.view_is)
+    ∙ ap (λ v. with_row (content_of v) c.args.client.now c.args.filter.now c.args.qos) c.self.view_is)
     c.set_filter.ensures.ok
 
 pub returns-in-Some-clause-err : goal.returns-in-Some-clause-err
@@ -43,5 +43,5 @@ returns-in_ok-insert-in-None-clause-ok c =
     (λ (k : List ℕ). (q : List ℕ) → get (slice_cmp nat_cmp) c.insert.new.self q ≡ cond (is_at (slice_cmp nat_cmp k) q) (Some c.set_filter-in-None.new.filters) (get (slice_cmp nat_cmp) c.get_mut.follows.lender-at-none q))
     c.in_ok-clone-in-None.ensures.cases
     c.in_ok-insert-in-None.ensures.updates.0)
-    ∙ ap (λ m. with_subscription (content_of (listed m.entries)) c.args.client.now c.args.filter.now c.args.qos) c.get_mut.follows.holds-at-none
-    ∙ ap (λ v. with_subscription (content_of v) c.args.client.now c.args.filter.now c.args.qos) c.self.view_is
+    ∙ ap (λ m. with_row (content_of (listed m.entries)) c.args.client.now c.args.filter.now c.args.qos) c.get_mut.follows.holds-at-none
+    ∙ ap (λ v. with_row (content_of v) c.args.client.now c.args.filter.now c.args.qos) c.self.view_is

@@ -1,6 +1,6 @@
 use Rattle.std.proofs.Common.{◌≡◌, true}
-use Rattle.world_base.specs.Handing.{Extends}
+use Rattle.lists.specs.Lists.{IsPrefixOf}
 use Rattle.world_base.proofs.serving.Serving.lose_failed.Given as goal
 
 abbrev pub invariant-loop-index : goal.invariant-loop-index
-invariant-loop-index l = (l.self.wanting ≡ true) × Extends l.initial.effects.items l.effects.items
+invariant-loop-index l = (l.self.wanting ≡ true) × IsPrefixOf l.initial.effects.items l.effects.items

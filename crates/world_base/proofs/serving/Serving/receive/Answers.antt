@@ -1,4 +1,4 @@
-use Rattle.ballot_base.specs.Protocol.Input.{Receives}
+use Rattle.ballot.specs.Protocol.Input.{Receives}
 use Rattle.world_base.proofs.Proposes.{turns_driven}
 use Rattle.world_base.proofs.serving.Serving.receive.Goals as goal
 

@@ -1,4 +1,4 @@
-use Rattle.ballot_base.specs.Protocol.Input.{Ticks}
+use Rattle.ballot.specs.Protocol.Input.{Ticks}
 use Rattle.world_base.proofs.Proposes.{turns_driven}
 use Rattle.world_base.proofs.serving.Serving.tick.Goals as goal
 

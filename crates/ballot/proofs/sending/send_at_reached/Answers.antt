@@ -1,7 +1,7 @@
 use Rattle.std.proofs.lemmas.Option.{slice_get_past}
 use Rattle.ballot.proofs.SendsJoin.{Sends-nothing}
-use Rattle.ballot.proofs.sending.send_at_mark.Goals as goal
+use Rattle.ballot.proofs.sending.send_at_reached.Goals as goal
 
 pub returns-in-None : goal.returns-in-None
 returns-in-None g c =
-    rw (slice_get_past c.args.log.now c.args.mark.held c.in-None.ensures.lookup.3) (Sends-nothing _)
+    rw (slice_get_past c.args.log.now c.args.reached.held c.in-None.ensures.lookup.3) (Sends-nothing _)

@@ -1,7 +1,0 @@
-use Rattle.std.proofs.Common.{◌≡◌, take}
-use Rattle.ballot_base.specs.Replica.{others, marks_at}
-use Rattle.ballot.proofs.marking.marks_of_others.Given as goal
-
-abbrev pub invariant-loop-member : goal.invariant-loop-member
-invariant-loop-member l =
-    l.marks.items ≡ marks_at l.held (others l.id (take l.member-index l.members))
