@@ -4,3 +4,7 @@ pub mod PlacesApplied
 pub mod ProposalAnswered
 pub mod SendsJoin
 pub mod TicksTaken
+pub use Rattle.ballot_base.proofs.AppliesInOrder
+pub use Rattle.ballot_base.proofs.MessageRows
+pub use Rattle.ballot_base.proofs.StepRows
+pub use Rattle.ballot_base.proofs.ThinnedEffects

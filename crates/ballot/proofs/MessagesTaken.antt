@@ -215,4 +215,4 @@ written_back n xs ys e = take_at xs (drop (length xs) ys) n e
 pub taken_back : {C O : Type 0} {before behind : List (Effect C O)} (back : List (Effect C O)) (n : ℕ) →
     IsPrefixOf before behind → n ≡ length before → back ≡ take n behind → back ≡ before
 taken_back {before = before} back n grew e cut =
-    cut ∙ ap (take n) grew.appended ∙ take_at before grew.rest n (sym e)
+    cut ∙ ap (take n) grew.is ∙ take_at before grew.rest n (sym e)

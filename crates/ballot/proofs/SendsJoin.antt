@@ -80,16 +80,6 @@ Sends-more_of f xs i d {old = old} {new = new} {first = first} {second = second}
     ∙ ap (λ ys. flat_map f (take i xs) ++ ys) (append-nil (f (get_or xs i d))) in
     subst (λ ys. Sends old new ys (first && second)) (sym e) (Sends-then p q)
 
--- what grew still grows
-pub prefix_then : {C O : Type 0} {old mid new : List (Effect C O)} → IsPrefixOf old mid → IsPrefixOf mid new → IsPrefixOf old new
-prefix_then {old = old} p q =
-    record {
-      rest = p.rest ++ q.rest;
-      appended = q.appended ∙ ap (λ zs. zs ++ q.rest) p.appended ∙ append_assoc old p.rest q.rest;
-    }
-
-pub prefix_same : {C O : Type 0} (old : List (Effect C O)) → IsPrefixOf old old
-prefix_same old = record { rest = []; appended = sym (append-nil old) }
-
-pub IsPrefixOf-sent : {C O : Type 0} {old new xs : List (Effect C O)} {whole : Bool} → Sends old new xs whole → IsPrefixOf old new
-IsPrefixOf-sent p = record { rest = p.given; appended = p.appended }
+-- what a send leaves begins with what was there
+pub prefix_sent : {C O : Type 0} {old new xs : List (Effect C O)} {whole : Bool} → Sends old new xs whole → IsPrefixOf old new
+prefix_sent p = record { rest = p.given; is = p.appended }

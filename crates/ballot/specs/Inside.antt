@@ -27,11 +27,6 @@ pub record Went {C O : Type 0} (old : CountedReplica C) (outcome : Outcome C O) 
       × (new.losses ≡ one_more old.losses)
       × (IsQuiet old.state outcome → ⊥))
 
--- something was appended
-pub record Grows {C O : Type 0} (old new : List (Effect C O)) : Type 0 where
-  pub rest : List (Effect C O)
-  pub appended : new ≡ old ++ rest
-
 -- what a proposal that found no memory leaves
 abbrev pub Lacks : {C : Type 0} → ProposeError → CountedReplica C → CountedReplica C → Type 0
 Lacks NotActive old new = ⊥

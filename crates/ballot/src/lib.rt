@@ -13,4 +13,5 @@ mod tests;
 
 pub use ballot_base::{Body, Config, Effect, Log, Members, Message, Role, Status};
 pub use error::{OpeningError, ProposeError};
+pub use machine::{Halted, Machine, Memory, ThawFault};
 pub use replica::{MOST_PLACES, Replica};

@@ -16,7 +16,7 @@ use crate::error::{OpeningError, ProposeError};
 use crate::progress::{least_held, least_raised, progress_of_others, raise};
 use crate::sending::{send, send_appends, send_behind, send_commits};
 use crate::taking::{counted, take_in};
-use ballot_base::{Body, Config, Effect, Progress, Message, Role, Status};
+use ballot_base::{Body, Config, Effect, Message, Progress, Role, Status};
 use machine::{Halted, Machine};
 use std::alloc::Global;
 use std::marker::Model;

@@ -5,7 +5,7 @@ ghost use Rattle.ballot.specs.Inside.{Sends};
 ghost use Rattle.ballot_base.specs.Serving.{append_at, appends_behind};
 ghost use Rattle.ballot_base.specs.Sending.{message_to, message_to_followed};
 
-use ballot_base::{Body, Effect, Progress, Message};
+use ballot_base::{Body, Effect, Message, Progress};
 use machine::Machine;
 use std::alloc::Global;
 
@@ -97,7 +97,15 @@ fn send_at_reached<M: Machine>(
 {
     match log.get(reached.held as usize) {
         Some(command) => {
-            send_append::<M>(alloc, from, ballot, reached.held, command, reached.member, out)
+            send_append::<M>(
+                alloc,
+                from,
+                ballot,
+                reached.held,
+                command,
+                reached.member,
+                out,
+            )
         }
         None => true,
     }

@@ -7,11 +7,7 @@ use Rattle.broker_base.specs.Entries.{Entry}
 use Rattle.broker_base.specs.Readings.{busy_ids}
 use Rattle.broker_base.specs.Times.{entries_of, window_at}
 use Rattle.broker_base.specs.Commands.{usual_limits}
-
--- each number once
-abbrev pub IsDistinct : List ℕ → Type 0
-IsDistinct (id ∷ ids) = (has_id id ids ≡ false) × IsDistinct ids
-IsDistinct [] = Unit {0}
+use Rattle.lists.specs.Lists.{IsDistinct}
 
 -- no two entries of a session that are under way have one identifier (MQTT 2.3.1)
 abbrev pub IdentifiersAreDistinct : Type 0

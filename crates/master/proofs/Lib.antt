@@ -2,7 +2,7 @@ pub mod Agreed
 pub mod Chosen
 pub mod Counting
 pub mod Events
-pub mod Lists
+pub mod Effects
 pub mod Opening
 pub mod Parting
 pub mod Rows

@@ -9,16 +9,7 @@ use Rattle.ballot.specs.Serving.{outputs_from}
 use Rattle.master.specs.declared.event.Event.{Event}
 use Rattle.master.specs.Group.{World, outputs, can_open, opening_world}
 use Rattle.master.specs.Steps.{Happens}
-
--- one of a list
-pub data In {X : Type 0} (x : X) : List X → Type 0 where
-  here : {xs : List X} → In x (x ∷ xs)
-  there : {y : X} {xs : List X} → In x xs → In x (y ∷ xs)
-
--- a beginning of a list
-pub record IsPrefixOf {X : Type 0} (xs ys : List X) : Type 0 where
-  pub rest : List X
-  pub is : ys ≡ xs ++ rest
+use Rattle.lists.specs.Lists.{In, IsPrefixOf}
 
 -- the log of a node, if it is there
 abbrev pub log_of : {C : Type 0} → Option (ReplicaState C) → List C

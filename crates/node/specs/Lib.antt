@@ -1,2 +1,14 @@
 pub mod Running
 pub mod State
+pub use Rattle.world_base.specs.Core
+pub use Rattle.world_base.specs.Losses
+pub use Rattle.world_base.specs.Handing
+pub use Rattle.world_base.specs.Effect
+pub use Rattle.world_base.specs.Message
+pub use Rattle.world_base.specs.Command
+pub use Rattle.world_base.specs.Output
+pub use Rattle.world_base.specs.LawfulConfig
+pub use Rattle.world_base.specs.Replica
+pub use Rattle.world_base.specs.declared.item.Item
+pub use Rattle.node_base.specs.Counted
+pub use Rattle.node_base.specs.Engines

@@ -12,7 +12,11 @@ mod tests;
 
 pub use ending::Ending;
 pub use node::Node;
+pub use node_base::{Counted, PIECE_BYTES, Written};
 pub use node_state::NodeState;
 pub use running::run_connection;
 pub use service::Service;
-pub use world_base::{Config, Handed, Item, Members, OpeningError, Piece, Port, Status};
+pub use world_base::{
+    Command, Config, ConnectionId, Effect, Handed, Item, Members, Memory, Message, NodeCore,
+    OpeningError, Output, Piece, Port, Status,
+};

@@ -5,9 +5,9 @@ ghost use Rattle.lists.specs.Lists.{IsPrefixOf};
 
 use crate::node_state::NodeState;
 use crate::service::Service;
-use world_base::{Command, Effect, Handed, Item, Memory, Output, Port, Status};
 use std::alloc::Global;
 use std::sync::{Mutex, Wait};
+use world_base::{Command, Effect, Handed, Item, Memory, Output, Port, Status};
 
 /// The lane by which the items of the one connection come.
 const LANE: u8 = 4;
@@ -68,12 +68,12 @@ impl Service for Node {
         Ok(())
     }
 
-    fn hand_over<R: Wait>(
+    fn outgoing<R: Wait>(
         &mut self,
         rt: &R,
         port: Port,
         out: &mut Vec<u8>,
     ) -> Result<Handed, Memory> {
-        self.outgoing(rt, port, out)
+        Node::outgoing(self, rt, port, out)
     }
 }

@@ -7,10 +7,12 @@ ghost use Rattle.world_base.specs.Core.{opening_core};
 ghost use Rattle.world_base.specs.Handing.{answer_of, bytes_of, hands_over, listed_at};
 ghost use Rattle.node.specs.State.{TakesOne};
 
-use world_base::{Command, Config, Effect, Handed, Item, Memory, NodeCore, OpeningError, Output, Port, Status};
 use std::alloc::Global;
 use std::collections::VecDeque;
 use std::marker::Model;
+use world_base::{
+    Command, Config, Effect, Handed, Item, Memory, NodeCore, OpeningError, Output, Port, Status,
+};
 
 /// A node with the items that wait for it, each with the lane that it came by.
 #[derive(Drop)]

@@ -7,11 +7,11 @@ ghost use Rattle.node.specs.Running.{TellsFaults, TellsWriteFault};
 
 use crate::ending::Ending;
 use crate::service::Service;
-use world_base::{Handed, Item, Memory, Piece, Port};
 use node_base::{Counted, PIECE_BYTES, Written};
 use std::alloc::Global;
 use std::io::{Read, Write};
 use std::sync::Wait;
+use world_base::{Handed, Item, Memory, Piece, Port};
 
 /// The port of the one connection.
 const PORT: Port = Port(1);
@@ -119,7 +119,7 @@ fn write_out<R: Wait, S: Service, O: Write>(
         output.old.faults output.new.faults) }
 {
     out.clear();
-    let handed = service.hand_over(rt, PORT, out)?;
+    let handed = service.outgoing(rt, PORT, out)?;
     match output.write_whole(out.as_slice()) {
         Written::Fault => Ok(Some(Ending::WriteFault)),
         Written::Stopped => Ok(Some(Ending::Stopped)),

@@ -3,9 +3,9 @@
 ghost use Rattle.std.specs.Prelude.{◌≡◌, OnErr, OnOk};
 ghost use Rattle.lists.specs.Lists.{IsPrefixOf};
 
-use world_base::{Handed, Item, Memory, Port};
 use std::alloc::Global;
 use std::sync::Wait;
+use world_base::{Handed, Item, Memory, Port};
 
 /// What takes in what comes from clients, and hands over what goes back to them: a node by itself,
 /// or one together with the nodes that it talks to.
@@ -16,12 +16,7 @@ pub trait Service {
 
     /// Appends what was put out for a port and not handed over before, and tells whether more may
     /// come, as [`NodeCore::outgoing`](world_base::NodeCore::outgoing).
-    fn hand_over<R: Wait>(
-        &mut self,
-        rt: &R,
-        port: Port,
-        out: &mut Vec<u8>,
-    ) -> Result<Handed, Memory>
+    fn outgoing<R: Wait>(&mut self, rt: &R, port: Port, out: &mut Vec<u8>) -> Result<Handed, Memory>
         ensures ok { OnOk result (IsPrefixOf out.old.items out.new.items) }
         ensures err { OnErr result (out.new.items ≡ out.old.items) };
 }

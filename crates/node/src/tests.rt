@@ -2,12 +2,12 @@
 // devices that may fail.
 
 use crate::{Ending, Handed, Item, Node, NodeState, Piece, Port, run_connection};
-use world_base::{Config, Members};
 use node_base::Counted;
 use std::alloc::Global;
 use std::io;
 use std::io::{Read, Write};
 use std::test::Fail;
+use world_base::{Config, Members};
 
 // Client `a`, keep alive 60, CleanSession 0.
 const CONNECT: [u8; 15] = [

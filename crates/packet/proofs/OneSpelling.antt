@@ -2,11 +2,12 @@
 use Rattle.std.proofs.Common.{◌≡◌, ℕ, List, ◌∷◌, ◌++◌, length, refl, sym, ap, ◌∙◌, arith}
 use Rattle.std.proofs.lemmas.List.{append_cancel_right}
 use Rattle.packet_base.specs.Header.{first_byte}
-use Rattle.packet_base.proofs.LengthForms.{form_of, one_form}
+use Rattle.packet_base.proofs.LengthForms.{form_of, length_spelled, one_form}
+use Rattle.packet_base.specs.Spelling.{remaining_length}
 use Rattle.packet.specs.declared.packet.Packet.{Packet}
-use Rattle.packet.specs.Spelling.{header, body}
+use Rattle.packet.specs.Spelling.{header, body, spelling}
 use Rattle.packet.specs.Verdict.{verdict}
-use Rattle.packet.specs.Laws.{HasOneSpelling, NoneBeginsAnother}
+use Rattle.packet.specs.Laws.{HasOneSpelling, SpellingSpells, NoneBeginsAnother}
 use Rattle.packet.proofs.PacketReads.{verdict_again}
 use Rattle.packet.proofs.Behind.{ok_is}
 
@@ -18,6 +19,16 @@ has_one p whole =
       λ other spelled.
           spelled.2 ∙ ap (λ (x : List ℕ). first_byte (header p) ∷ x ++ body p)
           (one_form spelled.0 form.0 (length (body p)) spelled.1 form.1),
+    )
+
+pub spelling_is : SpellingSpells
+unfolding spelling
+spelling_is p whole =
+    let form = length_spelled (length (body p)) (omega (arith, whole.2)) in (
+      (remaining_length (length (body p)), form, refl),
+      λ other spelled.
+          spelled.2 ∙ ap (λ (x : List ℕ). first_byte (header p) ∷ x ++ body p)
+          (one_form spelled.0 (remaining_length (length (body p))) (length (body p)) spelled.1 form),
     )
 
 pub none_begins : NoneBeginsAnother

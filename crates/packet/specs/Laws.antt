@@ -3,13 +3,18 @@ use Rattle.std.specs.Prelude.{◌≡◌, ◌≢◌, ℕ, List, ◌∷◌, ◌++�
 use Rattle.packet_base.specs.declared.stop.Stop.{Stop}
 use Rattle.packet_base.specs.declared.stop.Stop.TheVariants as stops
 use Rattle.packet.specs.declared.packet.Packet.{Packet}
-use Rattle.packet.specs.Spelling.{Spells, IsPacket}
+use Rattle.packet.specs.Spelling.{Spells, IsPacket, spelling}
 use Rattle.packet.specs.Verdict.{verdict, IsUnfinished}
 
 -- each packet has a spelling, and no other
 abbrev pub HasOneSpelling : Type 0
 HasOneSpelling = (p : Packet) → IsPacket p → (bytes : List ℕ) × Spells p bytes
     × ((other : List ℕ) → Spells p other → other ≡ bytes)
+
+-- these bytes spell the packet, and no others do
+abbrev pub SpellingSpells : Type 0
+SpellingSpells = (p : Packet) → IsPacket p →
+    Spells p (spelling p) × ((other : List ℕ) → Spells p other → other ≡ spelling p)
 
 -- where two spellings begin the same bytes, they are one, and of one packet
 abbrev pub NoneBeginsAnother : Type 0

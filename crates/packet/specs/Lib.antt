@@ -12,3 +12,6 @@ pub mod Spelling
 pub mod Verdict
 pub mod Numbers
 pub mod Laws
+pub use Rattle.packet_base.specs.declared.stop.Stop
+pub use Rattle.packet_base.specs.declared.refusal_code.RefusalCode
+pub use Rattle.packet_base.specs.declared.packet_id.PacketId

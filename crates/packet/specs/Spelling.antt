@@ -3,7 +3,7 @@ use Rattle.std.specs.Prelude.{◌≡◌, ℕ, ◌<◌, ◌≤◌, List, [], ◌�
 use Rattle.packet_base.specs.declared.header.Header.{Header}
 use Rattle.packet_base.specs.declared.header.Header.TheVariants as headers
 use Rattle.packet_base.specs.Header.{first_byte}
-use Rattle.packet_base.specs.Spelling.{IsLength, IsId, number}
+use Rattle.packet_base.specs.Spelling.{IsLength, IsId, number, remaining_length}
 use Rattle.packet.specs.declared.packet.Packet.{Packet}
 use Rattle.packet.specs.declared.packet.Packet.TheVariants as packets
 use Rattle.packet.specs.Connect.{connect, FitsConnect}
@@ -53,6 +53,10 @@ abbrev pub Spells : Packet → List ℕ → Type 0
 Spells p bytes =
     (len : List ℕ) × IsLength len (length (body p))
     × (bytes ≡ first_byte (header p) ∷ len ++ body p)
+
+-- the bytes of a packet: the one list of bytes that spells it
+unfoldable pub spelling : Packet → List ℕ
+spelling p = first_byte (header p) ∷ remaining_length (length (body p)) ++ body p
 
 -- each field is in its range, as it is in every packet of a program
 abbrev pub Fits : Packet → Type 0

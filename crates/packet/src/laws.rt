@@ -2,6 +2,7 @@
 
 ghost use Rattle.packet.specs.Laws.{
   HasOneSpelling,
+  SpellingSpells,
   NoneBeginsAnother,
   FrontsAreUnfinished,
   FaultsStay,
@@ -10,6 +11,11 @@ ghost use Rattle.packet.specs.Laws.{
 /// Each packet within the limit, its numbers in their ranges, has one spelling.
 pub fn one_spelling()
     ensures { HasOneSpelling }
+{}
+
+/// `spelling` gives the bytes of a packet, for all fourteen.
+pub fn spelling_spells()
+    ensures { SpellingSpells }
 {}
 
 /// No spelling is a beginning of another one, so packets that are joined can be told apart.

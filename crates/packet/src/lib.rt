@@ -27,7 +27,9 @@ pub use decoding::{Step, decode};
 pub use delivery::Delivery;
 pub use encoding::encode;
 pub use error::{DecodeFault, EncodeFault};
-pub use laws::{faults_stay, fronts_are_unfinished, no_spelling_begins_another, one_spelling};
+pub use laws::{
+    faults_stay, fronts_are_unfinished, no_spelling_begins_another, one_spelling, spelling_spells,
+};
 pub use packet::Packet;
 pub use packet_base::{PacketId, RefusalCode};
 pub use packet_list::PacketList;

@@ -1,10 +1,10 @@
 -- Each Remaining Length below 2 ^ 28 has a form, and that form is the one that is read.
-use Rattle.std.proofs.Common.{◌≡◌, ℕ, zero, suc, ◌+◌, ◌-◌, ◌*◌, ◌/◌, ◌%◌, ◌^◌, ◌<◌, ◌≤◌, false, ltb, eqb, List, [], ◌∷◌, ◌++◌, length, Ok, refl, sym, ap, subst, ◌∙◌, arith, inl, inr}
+use Rattle.std.proofs.Common.{◌≡◌, ℕ, zero, suc, ◌+◌, ◌-◌, ◌*◌, ◌/◌, ◌%◌, ◌^◌, ◌<◌, ◌≤◌, false, ltb, eqb, List, [], ◌∷◌, ◌++◌, length, Ok, refl, sym, ap, subst, ◌∙◌, arith, inl, inr, ◌⊎◌}
 use Rattle.std.specs.Prelude.{IfOk}
 use Rattle.std.proofs.lemmas.Bool.{cases_lt, ltb-false, ltb-true, le-ltb, lt-ltb}
 use Rattle.std.proofs.Math.Nat.{pow-succ'}
 use Rattle.std.proofs.Math.Dec.{eqb-suc-zero}
-use Rattle.packet_base.specs.Spelling.{IsLength}
+use Rattle.packet_base.specs.Spelling.{IsLength, length_digits, remaining_length}
 use Rattle.packet_base.specs.Reading.{length_at}
 use Rattle.packet_base.proofs.Steps.{then_if, check_if, cond_if}
 use Rattle.packet_base.proofs.Lengths.{length_longer}
@@ -75,6 +75,20 @@ form_from (suc fuel) n small =
 -- each length has one
 pub form_of : (n : ℕ) → n < 2 ^ 28 → (form : List ℕ) × IsLength form n
 form_of n small = form_from 3 n small
+
+-- the one that is written
+digits_spell : (fuel n : ℕ) → n < 128 ^ (suc fuel) → IsLength (length_digits fuel n) n
+digits_spell zero n small = (omega (arith, small), refl)
+digits_spell (suc fuel) n small = by (cases_lt n 128)
+    (λ high. let limit : 128 ^ suc (suc fuel) ≡ 128 * 128 ^ suc fuel = pow-succ' 128 (suc fuel) in
+    length_longer n (length_digits fuel (n / 128)) high (digits_spell fuel (n / 128) (omega (arith, limit, small))))
+  where
+    by : (n < 128) ⊎ (128 ≤ n) → (128 ≤ n → IsLength ((n % 128 + 128) ∷ length_digits fuel (n / 128)) n) → IsLength (length_digits (suc fuel) n) n
+    by (inl low) more = rw (lt-ltb _ _ low) (low, refl)
+    by (inr high) more = rw (le-ltb _ _ high) (more high)
+
+pub length_spelled : (n : ℕ) → n < 2 ^ 28 → IsLength (remaining_length n) n
+length_spelled n small = digits_spell 3 n small
 
 -- and no other one
 pub one_form : (a b : List ℕ) (n : ℕ) → IsLength a n → IsLength b n → a ≡ b

@@ -2,8 +2,12 @@
 use Rattle.std.specs.Prelude.{
   ◌≡◌,
   ℕ,
+  zero,
+  suc,
   ◌+◌,
   ◌*◌,
+  ◌/◌,
+  ◌%◌,
   ◌^◌,
   ◌<◌,
   ◌≤◌,
@@ -36,6 +40,16 @@ IsLength (b ∷ []) n = (b < 128) × (n ≡ b)
 IsLength (b ∷ c ∷ bs) n =
     (128 ≤ b) × (b < 256) × (high : ℕ) × (0 < high) × (n + 128 ≡ b + 128 * high)
     × IsLength (c ∷ bs) high
+
+-- the bytes of a length, of which at most so many stand behind the first
+abbrev pub length_digits : ℕ → ℕ → List ℕ
+length_digits zero n = n ∷ []
+length_digits (suc more) n =
+    if nat_lt n 128 then n ∷ [] else (n % 128 + 128) ∷ length_digits more (n / 128)
+
+-- the bytes of a length below 2 ^ 28 (MQTT 2.2.3)
+abbrev pub remaining_length : ℕ → List ℕ
+remaining_length n = length_digits 3 n
 
 -- how many bytes the length takes, for lengths below 2 ^ 28 (MQTT 2.2.3, table 2.4)
 abbrev pub length_bytes : ℕ → ℕ

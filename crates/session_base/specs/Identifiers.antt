@@ -1,10 +1,7 @@
 -- Packet Identifiers: which are busy, and which is free (MQTT 2.3.1).
 use Rattle.std.specs.Prelude.{ℕ, zero, suc, Bool, ◌==◌, if◌then◌else◌, List, length}
 use Rattle.std.specs.List.{list_any}
-
--- whether the identifier is among these
-abbrev pub has_id : ℕ → List ℕ → Bool
-has_id id = list_any (λ other. id == other)
+use Rattle.lists.specs.Lists.{has_id}
 
 -- the first number from i on that is not busy, where so many may be
 abbrev pub free_from : ℕ → ℕ → List ℕ → ℕ

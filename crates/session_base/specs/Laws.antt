@@ -10,11 +10,7 @@ use Rattle.lists.specs.Lists.{has_id}
 use Rattle.session_base.specs.Identifiers.{least_free}
 use Rattle.session_base.specs.Queue.{Flight, ids_of, fill}
 use Rattle.session_base.specs.Sending.{fill_sends}
-
--- no identifier comes twice
-abbrev pub IsDistinct : List ℕ → Type 0
-IsDistinct (id ∷ ids) = (has_id id ids ≡ false) × IsDistinct ids
-IsDistinct [] = Unit {0}
+use Rattle.lists.specs.Lists.{IsDistinct}
 
 -- the publications in flight: a released entry has none left
 abbrev pub publications_of : List Flight → List Publication

@@ -3,7 +3,10 @@
 ghost use Rattle.std.specs.Prelude.{◌∷◌, OnOk};
 ghost use Rattle.vbroker.specs.TwoNodes.{Delivers, Takes, TwoNodes};
 
-use node::{Command, Config, Effect, Handed, Item, Members, Memory, NodeCore, OpeningError, Output, Port, Service};
+use node::{
+    Command, Config, Effect, Handed, Item, Members, Memory, NodeCore, OpeningError, Output, Port,
+    Service,
+};
 use std::alloc::Global;
 use std::marker::Model;
 use std::sync::Wait;
@@ -77,7 +80,7 @@ impl Service for Pair {
         Ok(())
     }
 
-    fn hand_over<R: Wait>(
+    fn outgoing<R: Wait>(
         &mut self,
         _rt: &R,
         port: Port,

@@ -30,8 +30,3 @@ left_by port core (Some c) =
 
 unfoldable pub hands_over : Port → CoreState → CoreState
 hands_over port core = left_by port core (listed_at port core)
-
--- the second list is the first with more at its end
-pub record Extends {A : Type 0} (old new : List A) : Type 0 where
-  pub more : List A
-  pub appended : new ≡ old ++ more

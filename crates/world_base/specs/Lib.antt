@@ -4,6 +4,12 @@ pub mod Handing
 pub mod Inside
 pub mod Losses
 pub mod Reading
-pub mod Spelling
 pub mod Step
 pub mod Turns
+pub use Rattle.ballot.specs.LawfulConfig
+pub use Rattle.ballot.specs.Replica
+pub use Rattle.ballot.specs.Effect
+pub use Rattle.ballot.specs.Message
+pub use Rattle.ballot.specs.Config
+pub use Rattle.connecting_base.specs.declared.command.Command
+pub use Rattle.connecting_base.specs.declared.command.Output

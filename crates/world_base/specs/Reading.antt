@@ -15,7 +15,7 @@ use Rattle.world_base.specs.declared.item.Port.{Port}
 use Rattle.world_base.specs.declared.connection.Connection.{Connection}
 use Rattle.world_base.specs.Connections.{is_open_at, is_first, is_proposed, asked, closed, putting, changed}
 use Rattle.world_base.specs.Core.{CoreState, Turn}
-use Rattle.world_base.specs.Spelling.{spelling}
+use Rattle.packet.specs.Spelling.{spelling}
 use Rattle.world_base.specs.Turns.{quiet, proposes, has_room}
 
 abbrev pub open_at : Port → CoreState → Option Connection

@@ -14,7 +14,7 @@ use Rattle.ballot.specs.Serving.{proposed, most_places}
 use Rattle.world_base.specs.declared.connection.Connection.{Connection}
 use Rattle.world_base.specs.Connections.{is_open_named, closed, putting, changed}
 use Rattle.world_base.specs.Core.{CoreState, Turn, rules, serves}
-use Rattle.world_base.specs.Spelling.{spelling}
+use Rattle.packet.specs.Spelling.{spelling}
 
 -- no message is handed out
 abbrev pub quiet : CoreState → Turn

@@ -4,7 +4,7 @@ ghost use Rattle.std.specs.Prelude.{◌≡◌, ◌++◌, false, true, OnOk, OnEr
 ghost use Rattle.world_base.specs.Connections.{closed, fresh, handed, holding, is_at, is_first, is_listed, is_open_at, is_open_named, is_over, is_proposed, putting};
 ghost use Rattle.world_base.specs.Handing.{answer_of};
 ghost use Rattle.world_base.specs.Inside.{Begins, Follows, failing};
-ghost use Rattle.world_base.specs.Spelling.{spelling};
+ghost use Rattle.packet.specs.Spelling.{spelling};
 ghost use Rattle.world_base.specs.Reading.{refused};
 
 use crate::front::Front;
@@ -12,8 +12,8 @@ use crate::handed::Handed;
 use crate::item::Port;
 use crate::piece::Piece;
 use crate::unread::Unread;
-use connecting_base::ConnectionId;
 use ballot::Memory;
+use connecting_base::ConnectionId;
 use packet::{Connack, Packet, RefusalCode};
 use std::alloc::Global;
 
@@ -152,10 +152,10 @@ impl Connection {
         front
     }
 
-    /// Puts a packet out. Where memory is wanting nothing changes.
-    pub fn put(&mut self, packet: &Packet) -> Result<(), Memory>
-        ensures ok { OnOk result (self.new ≡ putting (spelling packet.now) self.old) }
-        ensures err { OnErr result (self.new ≡ self.old) }
+    /// Puts a packet out: whether it was. Where it has no bytes or memory is wanting nothing changes.
+    pub fn put(&mut self, packet: &Packet) -> bool
+        ensures whole { result ≡ true → self.new ≡ putting (spelling packet.now) self.old }
+        ensures same { result ≡ false → self.new ≡ self.old }
     {
         self.pending.put(packet)
     }
@@ -167,16 +167,16 @@ impl Connection {
     {
         let put = self.put(&Packet::Connack(Connack::Refused(code)));
         self.close();
-        put.is_ok()
+        put
     }
 
     /// Puts a packet out, or closes the connection as failed where there is no memory: whether there
     /// was.
-    pub fn send(&mut self, packet: &Packet) -> bool
+    pub fn put_or_fail(&mut self, packet: &Packet) -> bool
         ensures whole { result ≡ true → self.new ≡ putting (spelling packet.now) self.old }
         ensures lost { result ≡ false → self.new ≡ failing self.old }
     {
-        if self.put(packet).is_err() {
+        if !self.put(packet) {
             self.close();
             self.stage = Stage::Failed;
             return false;
@@ -185,7 +185,7 @@ impl Connection {
     }
 
     /// Hands over what was put out, behind what `out` holds. Where memory is wanting nothing changes.
-    pub fn hand_over(&mut self, out: &mut Vec<u8>) -> Result<(), Memory>
+    pub fn outgoing(&mut self, out: &mut Vec<u8>) -> Result<(), Memory>
         ensures bytes { OnOk result (out.new.items ≡ out.old.items ++ self.old.pending) }
         ensures ok { OnOk result (self.new ≡ handed self.old) }
         ensures err { OnErr result (out.new.items ≡ out.old.items) }

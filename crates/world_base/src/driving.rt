@@ -136,7 +136,7 @@ impl Serving {
         ensures { Does self.old self.new (served_by output.now self.old.core) }
     {
         match output {
-            Output::Send(name, packet) => self.send(*name, packet),
+            Output::Send(name, packet) => self.put(*name, packet),
             Output::Close(name) => self.close_named(*name),
         }
     }

@@ -14,7 +14,7 @@ use ballot::Memory;
 impl Serving {
     /// Appends what was put out for a port and not handed over before. Where memory is wanting
     /// nothing changes.
-    pub fn hand_over(&mut self, port: Port, out: &mut Vec<u8>) -> Result<Handed, Memory>
+    pub fn outgoing(&mut self, port: Port, out: &mut Vec<u8>) -> Result<Handed, Memory>
         ensures ok { OnOk result
             (self.new ≡ record self.old { core = hands_over port self.old.core }) }
         ensures bytes { OnOk result
@@ -29,7 +29,7 @@ impl Serving {
         };
         let connection = &mut self.connections[index];
         let answer = connection.answer();
-        connection.hand_over(out)?;
+        connection.outgoing(out)?;
         keep_listed(&mut self.connections);
         Ok(answer)
     }

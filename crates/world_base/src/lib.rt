@@ -17,7 +17,8 @@ mod taking;
 mod tests;
 mod unread;
 
-pub use ballot::{Config, Members, OpeningError, Status};
+pub use ballot::{Config, Effect, Members, Memory, Message, OpeningError, Status};
+pub use connecting_base::{Command, ConnectionId, Output};
 pub use handed::Handed;
 pub use item::{Item, Port};
 pub use node_core::NodeCore;

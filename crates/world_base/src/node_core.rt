@@ -91,6 +91,6 @@ impl NodeCore {
         ensures same { OnErr result (self.new ≡ self.old) }
         ensures err { OnErr result (out.new.items ≡ out.old.items) }
     {
-        self.serving.hand_over(port, out)
+        self.serving.outgoing(port, out)
     }
 }

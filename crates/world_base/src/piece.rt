@@ -1,10 +1,10 @@
 // Bytes in their order.
 
-ghost use Rattle.std.specs.Prelude.{◌≡◌, ◌==◌, ◌++◌, [], length, drop, OnOk, OnErr, IfOk};
-ghost use Rattle.world_base.specs.Spelling.{spelling, IsAnswer};
+ghost use Rattle.std.specs.Prelude.{◌≡◌, ◌==◌, ◌++◌, true, false, [], length, IfOk};
+ghost use Rattle.packet.specs.Spelling.{IsPacket, spelling};
 
 use ballot::Memory;
-use packet::{Packet, encode, one_spelling};
+use packet::{Packet, encode, spelling_spells};
 use std::alloc::Global;
 use std::marker::Model;
 
@@ -54,29 +54,18 @@ impl Piece {
         self.bytes.is_empty()
     }
 
-    /// Adds the bytes of a packet at the end; so far only those of a CONNACK, the one packet that
-    /// the broker gives. Where memory is wanting nothing changes.
-    pub(crate) fn put(&mut self, packet: &Packet) -> Result<(), Memory>
-        ensures ok { OnOk result (self.new ≡ self.old ++ spelling packet.now) }
-        ensures err { OnErr result (self.new ≡ self.old) }
+    /// Adds the bytes of a packet at the end: whether they were added. They are not where memory is
+    /// wanting, and for a packet that has none: one with an empty list, or over the size limit.
+    pub(crate) fn put(&mut self, packet: &Packet) -> bool
+        ensures whole { result ≡ true → self.new ≡ self.old ++ spelling packet.now }
+        ensures packet { result ≡ true → IsPacket packet.now }
+        ensures same { result ≡ false → self.new ≡ self.old }
     {
-        match packet {
-            Packet::Connack(_) => self.put_answer(packet),
-            _ => Ok(()),
+        if !packet.has_no_empty_list() {
+            return false;
         }
-    }
-
-    // Adds the bytes of a CONNACK at the end.
-    fn put_answer(&mut self, packet: &Packet) -> Result<(), Memory>
-        requires { IsAnswer packet.now }
-        ensures ok { OnOk result (self.new ≡ self.old ++ spelling packet.now) }
-        ensures err { OnErr result (self.new ≡ self.old) }
-    {
-        one_spelling();
-        match encode(packet, &mut self.bytes) {
-            Ok(()) => Ok(()),
-            Err(_) => Err(Memory),
-        }
+        spelling_spells();
+        encode(packet, &mut self.bytes).is_ok()
     }
 
     /// Takes all bytes away.

@@ -8,7 +8,7 @@ ghost use Rattle.ballot.specs.Replica.{status_of};
 ghost use Rattle.world_base.specs.Connections.{closed, holding, is_open_at, is_open_named, putting};
 ghost use Rattle.world_base.specs.Core.{opening_core, serves};
 ghost use Rattle.world_base.specs.Inside.{Does};
-ghost use Rattle.world_base.specs.Spelling.{spelling};
+ghost use Rattle.packet.specs.Spelling.{spelling};
 ghost use Rattle.world_base.specs.Reading.{changes, refused};
 ghost use Rattle.world_base.specs.Step.{next_name, opens, settled};
 ghost use Rattle.world_base.specs.Turns.{changes_named};
@@ -150,12 +150,12 @@ impl Serving {
     }
 
     /// Puts a packet out on the open connection of a name, which is closed where there is no memory.
-    pub fn send(&mut self, name: ConnectionId, packet: &Packet)
+    pub fn put(&mut self, name: ConnectionId, packet: &Packet)
         ensures { Does self.old self.new
             (changes_named name (putting (spelling packet.now)) self.old.core) }
     {
         if let Some(index) = self.place_of(name) {
-            let whole = self.connections[index].send(packet);
+            let whole = self.connections[index].put_or_fail(packet);
             if !whole {
                 self.wanting = true;
             }

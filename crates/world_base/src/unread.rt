@@ -5,8 +5,8 @@ ghost use Rattle.world_base.specs.Inside.{Reads};
 
 use crate::front::Front;
 use crate::piece::Piece;
-use cutter::{CutError, Cutter};
 use ballot::Memory;
+use cutter::{CutError, Cutter};
 use packet::{DecodeFault, Packet};
 use std::alloc::Global;
 use std::marker::Model;

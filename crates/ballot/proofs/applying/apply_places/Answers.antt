@@ -6,7 +6,7 @@ use Rattle.ballot.proofs.applying.apply_places.Goals as goal
 
 pub returns-in_err-put_out-clause-err : goal.returns-in_err-put_out-clause-err
 returns-in_err-put_out-clause-err g c =
-    on_err_any _ (prefix_then (record { rest = _; appended = c.loop-place.invariant.outputs }) c.in_err-put_out.ensures.err)
+    on_err_any _ (prefix_then (record { rest = _; is = c.loop-place.invariant.outputs }) c.in_err-put_out.ensures.err)
 
 pub loop-place-preserved : goal.loop-place-preserved
 loop-place-preserved g c =

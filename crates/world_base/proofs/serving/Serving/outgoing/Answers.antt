@@ -4,7 +4,7 @@ use Rattle.world_base.specs.Connections.{is_at}
 use Rattle.world_base.specs.Handing.{answer_of, bytes_of}
 use Rattle.world_base.proofs.HandsOver.{handed_none, handed_there}
 use Rattle.world_base.proofs.Places.{none_found, found_there}
-use Rattle.world_base.proofs.serving.Serving.hand_over.Goals as goal
+use Rattle.world_base.proofs.serving.Serving.outgoing.Goals as goal
 
 pub returns-in_default-clause-ok : goal.returns-in_default-clause-ok
 returns-in_default-clause-ok c =
@@ -24,15 +24,15 @@ pub returns-clause-ok : goal.returns-clause-ok
 returns-clause-ok c =
     let at = rw (← c.self.view_is) at c.place_listed.ensures in
     rw (← c.self.view_is) (handed_there c.args.port _ c.place_listed.result c.in-Some.index
-    c.index_mut-connection.result.now c.hand_over.new.self _ at c.in-Some.is c.index_mut-connection.ensures.value
+    c.index_mut-connection.result.now c.outgoing.new.self _ at c.in-Some.is c.index_mut-connection.ensures.value
     (found_there (is_at c.args.port) _ c.place_listed.result c.in-Some.index _ at c.in-Some.is
     c.index_mut-connection.ensures.value)
-    c.in_ok-hand_over.ensures.ok c.keep_listed.ensures)
+    c.in_ok-outgoing.ensures.ok c.keep_listed.ensures)
 
 pub returns-clause-bytes : goal.returns-clause-bytes
 returns-clause-bytes c =
     let at = rw (← c.self.view_is) at c.place_listed.ensures in
-    c.in_ok-hand_over.ensures.bytes
+    c.in_ok-outgoing.ensures.bytes
     ∙ rw (← c.self.view_is) (ap (λ l. c.args.out.now.items ++ bytes_of l) (sym
     (found_there (is_at c.args.port) _ c.place_listed.result c.in-Some.index _ at c.in-Some.is
     c.index_mut-connection.ensures.value)))

@@ -1,0 +1,15 @@
+pub mod BusyIdentifiers
+pub mod ItemsReleased
+pub mod ItemsFinished
+pub mod ItemsStarted
+pub mod ItemsKnown
+pub mod SidesStart
+pub mod SidesAccept
+pub mod SidesHear
+pub mod Taken
+pub mod LinksTaken
+pub mod LinksReleased
+pub mod LinksFinished
+pub mod LinksStarted
+pub mod LinksAnew
+pub mod Exact

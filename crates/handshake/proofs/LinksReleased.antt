@@ -1,0 +1,50 @@
+-- What is under way when a PUBREC is heard.
+use Rattle.std.proofs.Common.{◌≡◌, ℕ, Bool, true, false, ◌==◌, List, [], ◌∷◌, ◌++◌, map, ap, sym, ◌∙◌, subst, append_assoc}
+use Rattle.std.proofs.lemmas.List.{append-nil, map-append}
+use Rattle.lists.specs.Lists.{has_id, IsDistinct, Each}
+use Rattle.handshake.specs.Items.{Item, sent, has_sent, releasing}
+use Rattle.handshake.specs.Handshake.{Forward, Backward}
+use Rattle.handshake.specs.Sides.{publishes, forward_id, backward_id, IsMeant, IsDue, IsJoined}
+use Rattle.lists.proofs.Tests.{or_none, eq_turn}
+use Rattle.lists.proofs.Identifiers.{distinct_middle}
+use Rattle.lists.proofs.OfEach.{each_append, each_left, each_then}
+use Rattle.handshake.proofs.ItemsReleased.{sent_releasing, released_releasing, now_released}
+use Rattle.handshake.proofs.LinksTaken.{publishes_append, dues}
+
+-- ---- a PUBREC
+
+not_among : {V : Type 0} (i : ℕ) (f : List (Forward V)) → has_id i (map forward_id f) ≡ false → Each (λ (row : ℕ × V). (i == row.0) ≡ false) (publishes f)
+not_among i [] n = tt
+not_among i (Forward.Publish id v ∷ f) n = let h = or_none (i == id) (has_id i (map forward_id f)) n in (h.0, not_among i f h.1)
+not_among i (Forward.Pubrel id ∷ f) n = let h = or_none (i == id) (has_id i (map forward_id f)) n in not_among i f h.1
+
+knowns : {V : Type 0} (i : ℕ) (old : List (Item V)) (rows : List (ℕ × V)) → Each (λ (row : ℕ × V). (i == row.0) ≡ false) rows → Each (λ (row : ℕ × V). has_sent row.0 old ≡ true) rows
+    → Each (λ (row : ℕ × V). has_sent row.0 (map (releasing i) old) ≡ true) rows
+knowns i old [] n h = tt
+knowns i old (row ∷ rows) n h = (sent_releasing i row.0 old (eq_turn i row.0 n.0) h.0, knowns i old rows n.1 h.1)
+
+meant_releasing : {V : Type 0} (i : ℕ) (old : List (Item V)) (m : Forward V) → IsMeant old m → IsMeant (map (releasing i) old) m
+meant_releasing i old (Forward.Publish id v) h = tt
+meant_releasing i old (Forward.Pubrel id) h = released_releasing i id old h
+
+pub due_releasing : {V : Type 0} (received : ℕ → Bool) (i : ℕ) (old : List (Item V)) (m : Backward) → IsDue received old m → (i == backward_id m) ≡ false → IsDue received (map (releasing i) old) m
+due_releasing received i old (Backward.Pubrec id) h n = sent_releasing i id old (eq_turn i id n) h
+due_releasing received i old (Backward.Pubcomp id) h n = (released_releasing i id old h.0, h.1)
+
+pub joined_released : {V : Type 0} (received : ℕ → Bool) (old new : List (Item V)) (id : ℕ) (f : List (Forward V)) (b : List Backward)
+    → IsJoined received old new f (Backward.Pubrec id ∷ b) → IsJoined received (map (releasing id) old) new (f ++ Forward.Pubrel id ∷ []) b
+joined_released {V = X} received old new id f b j =
+    let away = distinct_middle (map forward_id f) id (map backward_id b) j.apart in
+    let rows = each_left (λ (row : ℕ × X). (id == row.0) ≡ false) j.comes.again (sent new)
+    (subst (Each (λ (row : ℕ × X). (id == row.0) ≡ false)) j.comes.is (not_among id f away.0)) in
+    record {
+      comes = record {
+        again = j.comes.again;
+        is = publishes_append f (Forward.Pubrel id ∷ []) ∙ append-nil (publishes f) ∙ j.comes.is;
+        known = knowns id old j.comes.again rows j.comes.known;
+        meant = each_append (IsMeant (map (releasing id) old)) f (Forward.Pubrel id ∷ [])
+            (each_then (IsMeant old) (IsMeant (map (releasing id) old)) f (meant_releasing id old) j.comes.meant) (now_released id old j.due.0, tt);
+      };
+      due = dues received received old (map (releasing id) old) id b (due_releasing received id old) away.1 j.due.1;
+      apart = subst IsDistinct (sym (ap (λ l. l ++ map backward_id b) (map-append forward_id f (Forward.Pubrel id ∷ [])) ∙ append_assoc (map forward_id f) (id ∷ []) (map backward_id b))) j.apart;
+    }

@@ -1,0 +1,24 @@
+-- What holds after every run of a handshake.
+use Rattle.std.specs.Prelude.{◌≡◌, Bool, true, false, List, ◌++◌, map}
+use Rattle.lists.specs.Lists.{Each}
+use Rattle.handshake.specs.Items.{Item, value_of}
+use Rattle.handshake.specs.Handshake.{Handshake, Run, opening}
+
+-- ---- what holds after every run
+
+abbrev pub is_over : {V : Type 0} → Item V → Bool
+is_over (Item.Released v id) = true
+is_over (Item.Finished v) = true
+is_over _ = false
+
+-- What is accepted is a beginning of the items, in order, and each that is released is among them.
+pub record IsExact {V : Type 0} (h : Handshake V) : Type 0 where
+  pub old : List (Item V)
+  pub new : List (Item V)
+  pub is : h.items ≡ old ++ new
+  pub accepted : h.accepted ≡ map value_of old
+  pub rest : Each (λ item. is_over item ≡ false) new
+
+-- so it is after every run from the opening
+abbrev pub RunsAreExact : Type 0 → Type 0
+RunsAreExact V = (h : Handshake V) → Run (opening V) h → IsExact h

@@ -1,0 +1,59 @@
+-- What a sender publishes at QoS 2, and where each publication stands (MQTT 4.3.3).
+use Rattle.std.specs.Prelude.{ℕ, Bool, false, ◌||◌, ◌==◌, if◌then◌else◌, List, [], ◌∷◌, Option, Some, None}
+
+-- ---- the sender's items
+
+-- one QoS 2 publication of a sender, and where it stands
+pub data Item (V : Type 0) : Type 0 where
+  Waits : (value : V) → Item V
+  Sent : (value : V) → (id : ℕ) → Item V
+  Released : (value : V) → (id : ℕ) → Item V
+  Finished : (value : V) → Item V
+
+abbrev pub value_of : {V : Type 0} → Item V → V
+value_of (Item.Waits v) = v
+value_of (Item.Sent v id) = v
+value_of (Item.Released v id) = v
+value_of (Item.Finished v) = v
+
+-- identifiers under way, and those of sent and of released ones
+abbrev pub busy : {V : Type 0} → List (Item V) → List ℕ
+busy (Item.Sent v id ∷ items) = id ∷ busy items
+busy (Item.Released v id ∷ items) = id ∷ busy items
+busy (_ ∷ items) = busy items
+busy [] = []
+
+abbrev pub sent : {V : Type 0} → List (Item V) → List (ℕ × V)
+sent (Item.Sent v id ∷ items) = (id, v) ∷ sent items
+sent (_ ∷ items) = sent items
+sent [] = []
+
+abbrev pub has_sent : {V : Type 0} → ℕ → List (Item V) → Bool
+has_sent i (Item.Sent v id ∷ items) = (i == id) || has_sent i items
+has_sent i (_ ∷ items) = has_sent i items
+has_sent i [] = false
+
+abbrev pub has_released : {V : Type 0} → ℕ → List (Item V) → Bool
+has_released i (Item.Released v id ∷ items) = (i == id) || has_released i items
+has_released i (_ ∷ items) = has_released i items
+has_released i [] = false
+
+-- PUBREC releases, PUBCOMP finishes
+abbrev pub releasing : {V : Type 0} → ℕ → Item V → Item V
+releasing i (Item.Sent v id) = if i == id then Item.Released v id else Item.Sent v id
+releasing i item = item
+
+abbrev pub finishing : {V : Type 0} → ℕ → Item V → Item V
+finishing i (Item.Released v id) = if i == id then Item.Finished v else Item.Released v id
+finishing i item = item
+
+-- the first that waits starts
+abbrev pub start_first : {V : Type 0} → ℕ → List (Item V) → List (Item V)
+start_first id (Item.Waits v ∷ items) = Item.Sent v id ∷ items
+start_first id (item ∷ items) = item ∷ start_first id items
+start_first id [] = []
+
+abbrev pub first_waiting : {V : Type 0} → List (Item V) → Option V
+first_waiting (Item.Waits v ∷ items) = Some v
+first_waiting (_ ∷ items) = first_waiting items
+first_waiting [] = None

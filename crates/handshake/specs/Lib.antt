@@ -1,0 +1,4 @@
+pub mod Items
+pub mod Handshake
+pub mod Exact
+pub mod Sides

@@ -1,0 +1,11 @@
+//! The handshake of QoS 2 between a sender and a receiver whose connections are lost and opened again:
+//! what is accepted is a beginning of what was sent, in order, and nothing twice (MQTT 4.3.3).
+#![tactic(auto)]
+
+ghost use Rattle.handshake.specs.Exact.{RunsAreExact};
+
+/// However connections are lost and opened again, what is accepted is a beginning of what was sent, in
+/// order and each once, and each item that is released is among it (MQTT 4.3.3).
+pub fn runs_are_exact<T>()
+    ensures { RunsAreExact T }
+{}

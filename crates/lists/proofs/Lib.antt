@@ -1,0 +1,6 @@
+pub mod Beginnings
+pub mod Places
+pub mod Members
+pub mod Tests
+pub mod Identifiers
+pub mod OfEach
