@@ -5,3 +5,5 @@ pub mod FrontGoesBy
 pub mod PlusGoesBy
 pub mod WhatIsLeft
 pub mod LeftInALoop
+pub mod OnePass
+pub mod ItselfAlone

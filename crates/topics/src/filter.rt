@@ -1,13 +1,13 @@
 // A Topic Filter: what a subscription asks for (MQTT 4.7.1).
 
 ghost use Rattle.std.specs.Prelude.{◌≡◌, ◌&&◌, Some, None, IfOk, OnOk, IfErr, IsTrue};
-ghost use Rattle.topics.specs.Text.{filter_fault, is_filter, RefusesBy, levels, has_length, has_wildcards_in_place, may_stand};
+ghost use Rattle.topics.specs.Text.{filter_fault, is_filter, named_topic, RefusesBy, levels, has_length, has_wildcards_in_place, has_no_wildcard, may_stand};
 
-use crate::level::{
-    has_length, has_no_wildcard, is_hash, is_last, is_plus, is_shallow, split_level,
-};
+use crate::level::{has_length, has_no_wildcard, is_hash, is_last, is_plus, split_level};
 use crate::malformed::MalformedKind;
+use crate::survey::Survey;
 use crate::text::Text;
+use crate::topic_name::TopicName;
 use std::alloc::{AllocError, Global};
 use std::fmt;
 use std::marker::Model;
@@ -51,6 +51,20 @@ impl Filter {
         Ok(Filter { text })
     }
 
+    /// The Topic Name of the same text, if the filter has no wildcard: the only one that it then
+    /// matches. The two share the text, so it takes no memory; it fails only where its owners can no
+    /// longer be counted.
+    #[tactic(auto, using(crate::proofs::Faultless::is_topic_bare))]
+    pub fn as_topic(&self) -> Result<Option<TopicName>, AllocError>
+        ensures { IfOk result (λ topic. topic ≡ named_topic self.now) }
+    {
+        if !has_no_wildcard(self.text.as_str().as_bytes()) {
+            return Ok(None);
+        }
+        let text = self.text.clone()?;
+        Ok(Some(TopicName::of_checked(text)))
+    }
+
     /// The text of this filter.
     pub fn as_str(&self) -> &str
         ensures value { result.now ≡ self.now }
@@ -60,26 +74,30 @@ impl Filter {
     }
 }
 
-/// The first fault of a text as a Topic Filter.
+/// The first fault of a text as a Topic Filter. Only a text with wildcards is gone through again.
 fn fault_of(text: &[u8]) -> Option<MalformedKind>
     ensures { result ≡ filter_fault text.now }
 {
-    if text.contains(&0) {
+    let survey = Survey::of(text);
+    if survey.has_null {
         return Some(MalformedKind::Text);
     }
-    if !is_formed(text) {
+    if !has_length(text) || !is_formed(text, survey.has_no_wildcard) {
         return Some(MalformedKind::Filter);
     }
-    if !is_shallow(text) {
+    if !survey.is_shallow {
         return Some(MalformedKind::TooDeep);
     }
     None
 }
 
-fn is_formed(text: &[u8]) -> bool
-    ensures { result ≡ (has_length text.now && has_wildcards_in_place (levels text.now)) }
+/// Whether the wildcards are in their places, as they are where there are none.
+#[tactic(auto, using(crate::proofs::OnePass::bare_is_in_place))]
+fn is_formed(text: &[u8], is_bare: bool) -> bool
+    requires { is_bare ≡ has_no_wildcard text.now }
+    ensures { result ≡ has_wildcards_in_place (levels text.now) }
 {
-    has_length(text) && has_wildcards_in_place(text)
+    is_bare || has_wildcards_in_place(text)
 }
 
 fn has_wildcards_in_place(text: &[u8]) -> bool

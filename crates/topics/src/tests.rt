@@ -247,6 +247,18 @@ fn filters_in_order(rt: HostRuntime) -> Result<(), Fail> {
     Ok(())
 }
 
+// A filter without wildcards is a Topic Name.
+#[test]
+fn bare_filters_are_topics(rt: HostRuntime) -> Result<(), Fail> {
+    let bare = filter(rt.alloc(), "sport/tennis")?;
+    let Some(topic) = bare.as_topic()? else {
+        return Err(Fail::from("the filter has no wildcard"));
+    };
+    assert_eq!(rt; topic.as_str(), "sport/tennis");
+    assert!(rt; filter(rt.alloc(), "sport/#")?.as_topic()?.is_none());
+    Ok(())
+}
+
 // Each remaining call of a kind once.
 #[test]
 fn kinds_and_their_texts(rt: HostRuntime) -> Result<(), Fail> {
@@ -257,5 +269,6 @@ fn kinds_and_their_texts(rt: HostRuntime) -> Result<(), Fail> {
     );
     assert_eq!(rt; MalformedKind::from(AllocError), MalformedKind::Memory);
     matches_is_tested();
+    bare_matches_itself();
     Ok(())
 }

@@ -1,10 +1,11 @@
 // A Topic Name: what a publication is about (MQTT 4.7).
 
-ghost use Rattle.std.specs.Prelude.{◌≡◌, ◌&&◌, Some, None, IfOk, OnOk, IfErr, IsTrue};
-ghost use Rattle.topics.specs.Text.{topic_fault, is_topic, RefusesBy, has_length, has_no_wildcard};
+ghost use Rattle.std.specs.Prelude.{◌≡◌, Some, None, IfOk, OnOk, IfErr, IsTrue, true};
+ghost use Rattle.topics.specs.Text.{topic_fault, is_topic, RefusesBy};
 
-use crate::level::{has_length, has_no_wildcard, is_shallow};
+use crate::level::has_length;
 use crate::malformed::MalformedKind;
+use crate::survey::Survey;
 use crate::text::Text;
 use std::alloc::{AllocError, Global};
 use std::fmt;
@@ -49,6 +50,14 @@ impl TopicName {
         Ok(TopicName { text })
     }
 
+    // The Topic Name of a text without a fault.
+    pub(crate) fn of_checked(text: Text) -> TopicName
+        requires { is_topic text ≡ true }
+        ensures { result ≡ text }
+    {
+        TopicName { text }
+    }
+
     /// The text of this name.
     pub fn as_str(&self) -> &str
         ensures value { result.now ≡ self.now }
@@ -62,22 +71,17 @@ impl TopicName {
 fn fault_of(text: &[u8]) -> Option<MalformedKind>
     ensures { result ≡ topic_fault text.now }
 {
-    if text.contains(&0) {
+    let survey = Survey::of(text);
+    if survey.has_null {
         return Some(MalformedKind::Text);
     }
-    if !is_name(text) {
+    if !has_length(text) || !survey.has_no_wildcard {
         return Some(MalformedKind::Topic);
     }
-    if !is_shallow(text) {
+    if !survey.is_shallow {
         return Some(MalformedKind::TooDeep);
     }
     None
-}
-
-fn is_name(text: &[u8]) -> bool
-    ensures { result ≡ (has_length text.now && has_no_wildcard text.now) }
-{
-    has_length(text) && has_no_wildcard(text)
 }
 
 impl Clone for TopicName {
