@@ -6,7 +6,11 @@ use retained::RetainedStore;
 use std::time::Instant;
 use topics::{Filter, TopicName};
 
-/// Prints the time of a put and of finding all topics, at 8,192 topics and at the most there may be.
+/// How often one topic is found by its name.
+const ROUNDS: u32 = 1_000;
+
+/// Prints the time of a put, of finding all topics, and of finding one by its name, at 8,192 topics
+/// and at the most there may be.
 pub fn run(rt: &HostRuntime) -> Result<()> {
     measure(rt, 8_192)?;
     measure(rt, 16_384)
@@ -32,6 +36,20 @@ fn measure(rt: &HostRuntime, topics: u32) -> Result<()> {
     if u64::try_from(found.len()) != Ok(u64::from(topics)) {
         bail!("{} of {topics} topics found", found.len());
     }
-    println!(rt; "{topics} topics: put in {put} us, all found in {matched} us")?;
+    let named = named_time(rt, &store)?;
+    println!(rt;
+        "{topics} topics: put in {put} us, all found in {matched} us, one by its name in {named} ns"
+    )?;
     Ok(())
+}
+
+fn named_time(rt: &HostRuntime, store: &RetainedStore) -> Result<u128> {
+    let filter = Filter::new(rt.alloc(), "house/77/light")?;
+    let mut found = Vec::new(rt.alloc());
+    let start = Instant::now(rt)?;
+    for _ in 0..ROUNDS {
+        found.clear();
+        store.matching(&filter, &mut found)?;
+    }
+    Ok(start.elapsed(rt)?.as_nanos() / u128::from(ROUNDS))
 }

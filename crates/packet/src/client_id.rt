@@ -1,44 +1,35 @@
 // The name by which a client's session is found again.
 
-ghost use Rattle.std.specs.Prelude.{◌≡◌, None, Some, IfOk, OnOk, IfErr, IsTrue, true, bytes_eq};
-ghost use Rattle.std.specs.Cmp;
-ghost use Rattle.std.specs.Cmp.Lexicographic.{
-  slice_cmp,
-  nat_list_eq_equiv,
-  nat_list_cmp_total,
-  texts_ties,
-  texts_po,
-};
-ghost use Rattle.std.specs.Ordering.{nat_cmp};
-ghost use Rattle.std.proofs.Common.{refl};
+ghost use Rattle.std.specs.Prelude.{◌≡◌, None, Some, IfOk, OnOk, IfErr, IsTrue, true};
 ghost use Rattle.packet.specs.ClientId.{client_fault, has_client_length, is_client};
 ghost use Rattle.topics.specs.Text.{RefusesBy};
 
 use std::alloc::{AllocError, Global};
-use std::cmp::Ordering;
 use std::fmt;
 use std::marker::Model;
-use topics::MalformedKind;
+use topics::{MalformedKind, Text};
 
 /// The most bytes of a Client Identifier.
 const MAX_BYTES: usize = 64;
 
 /// A Client Identifier of 1 to 64 bytes (MQTT 3.1.3.1). Compared and ordered by its bytes, which
 /// are what a contract sees.
-#[derive(Debug, Drop)]
+#[derive(Debug, PartialEq, Eq, PartialOrd, Ord, Drop)]
 pub struct ClientId {
-    text: String,
+    text: Text,
 }
 
 impl Model for ClientId {
-    ghost use Rattle.std.specs.Prelude.{List, ℕ, IsTrue, string_bytes};
+    ghost use Rattle.std.specs.Prelude.{List, ℕ, IsTrue};
     ghost use Rattle.packet.specs.ClientId.{is_client};
 
     ghost Value = { List ℕ };
 
-    ghost view = { λ client. string_bytes client.text };
+    ghost view = { λ client. client.text };
 
-    ghost invariant = { λ client. IsTrue (is_client (string_bytes client.text)) };
+    ghost invariant = { λ client. IsTrue (is_client client.text) };
+
+    ghost inverse = { λ bytes. record { text = bytes } };
 }
 
 impl ClientId {
@@ -66,7 +57,7 @@ impl ClientId {
         requires { is_client text.now ≡ true }
         ensures { IfOk result (λ client. client ≡ text.now) }
     {
-        let text = String::from_str(alloc, text)?;
+        let text = Text::new(alloc, text)?;
         Ok(ClientId { text })
     }
 
@@ -96,48 +87,10 @@ impl Clone for ClientId {
     }
 }
 
-impl PartialEq for ClientId {
-    ghost eq = { bytes_eq };
-
-    ghost laws = { Cmp.partial_equiv_from_equiv nat_list_eq_equiv };
-
-    fn eq(&self, other: &ClientId) -> bool {
-        self.text == other.text
-    }
-}
-
-impl Eq for ClientId {
-    ghost laws = { nat_list_eq_equiv };
-}
-
-impl PartialOrd for ClientId {
-    ghost partial_cmp = { λ x y. Some (slice_cmp nat_cmp x y) };
-
-    ghost laws = { texts_po };
-
-    fn partial_cmp(&self, other: &ClientId) -> Option<Ordering> {
-        Some(self.cmp(other))
-    }
-}
-
-impl Ord for ClientId {
-    ghost cmp = { slice_cmp nat_cmp };
-
-    ghost total = { nat_list_cmp_total };
-
-    ghost matches_partial_cmp = { λ x y. refl };
-
-    ghost matches_eq = { texts_ties };
-
-    fn cmp(&self, other: &ClientId) -> Ordering {
-        self.text.cmp(&other.text)
-    }
-}
-
 impl fmt::Display for ClientId {
     ghost output = { λ client. Some client };
 
     fn fmt<W: fmt::Write>(&self, f: &mut fmt::Formatter<W>) -> fmt::Result {
-        f.write_str(self.text.as_str())
+        self.text.fmt(f)
     }
 }

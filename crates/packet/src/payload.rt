@@ -6,27 +6,31 @@ ghost use Rattle.std.specs.Cmp.Lexicographic.{nat_list_eq_equiv};
 
 use std::alloc::{AllocError, Global};
 use std::marker::Model;
+use std::sync::ArcSlice;
 
-/// The payload of a publication: any bytes (MQTT 3.3.3). A contract sees its bytes.
+/// The payload of a publication: any bytes (MQTT 3.3.3), never changed. A contract sees its bytes. A
+/// copy is one more owner of them: it takes no memory, and fails only where the owners can no longer
+/// be counted.
 #[derive(Debug, Drop)]
 pub struct Payload {
-    bytes: Vec<u8>,
+    bytes: ArcSlice<u8>,
 }
 
 impl Model for Payload {
     ghost use Rattle.std.specs.Prelude.{List, ℕ};
+    ghost use Rattle.std.specs.Arc.{arc_slice_items};
 
     ghost Value = { List ℕ };
 
-    ghost view = { λ payload. payload.bytes.items };
+    ghost view = { λ payload. arc_slice_items payload.bytes };
 }
 
 impl Payload {
-    /// A payload of these bytes, which are copied.
+    /// A payload of these bytes, which are copied once.
     pub fn new(alloc: Global, bytes: &[u8]) -> Result<Payload, AllocError>
         ensures { IfOk result (λ payload. payload ≡ bytes.now) }
     {
-        let bytes = Vec::from_slice(alloc, bytes)?;
+        let bytes = ArcSlice::from_slice(alloc, bytes)?;
         Ok(Payload { bytes })
     }
 
@@ -42,7 +46,9 @@ impl Clone for Payload {
     ghost is_clone = { λ payload copy. copy ≡ payload };
 
     fn clone(&self) -> Result<Payload, AllocError> {
-        Payload::new(*self.bytes.allocator(), self.as_slice())
+        Ok(Payload {
+            bytes: self.bytes.clone()?,
+        })
     }
 }
 

@@ -1,2 +1,3 @@
 pub mod Retained
 pub mod Errors
+pub mod Inside

@@ -1,3 +1,4 @@
 pub mod ContentAfter
 pub mod RowsAreGranted
 pub mod GrantsOneList
+pub mod EmptyMapGoes

@@ -2,6 +2,8 @@
 
 ghost use Rattle.std.specs.Prelude.{
   ◌≡◌,
+  ◌≢◌,
+  [],
   ◌++◌,
   ◌↔◌,
   IsTrue,
@@ -21,7 +23,8 @@ ghost use Rattle.std.specs.Prelude.{
 ghost use Rattle.std.specs.Cmp.Lexicographic.{slice_cmp};
 ghost use Rattle.std.specs.Ordering.{nat_cmp};
 ghost use Rattle.std.specs.BTreeMap.{Updates, IsOrdered, get};
-ghost use Rattle.subs_base.specs.ListIndex.{content_of};
+ghost use Rattle.subs_base.specs.Content.{without_row};
+ghost use Rattle.subs_base.specs.ListIndex.{content_of, at};
 ghost use Rattle.subs_base.specs.Inside.{listed, greater, greatest_from, rows_of, AreOrdered};
 
 use crate::sub_index::SubIndex;
@@ -70,13 +73,11 @@ impl SubIndex for ListIndex {
     }
 
     fn clear(&mut self, client: &ClientId, filter: &Filter) -> bool {
-        match self.clients.get_mut(client) {
-            Some(filters) => clear_filter(filters, filter),
-            None => false,
-        }
+        let found = self.clear_row(client, filter);
+        self.drop_empty(client);
+        found
     }
 
-    #[tactic(auto, using(crate::proofs::ContentAfter::content_dropped))]
     fn drop_client(&mut self, client: &ClientId) {
         self.clients.remove(client);
     }
@@ -92,6 +93,33 @@ impl SubIndex for ListIndex {
             rows.truncate(before);
         }
         appended
+    }
+}
+
+impl ListIndex {
+    /// Removes the subscription, and leaves the client's map, which may then be empty.
+    fn clear_row(&mut self, client: &ClientId, filter: &Filter) -> bool
+        ensures found { IsTrue result ↔ IsSome (content_of self.old client.now filter.now) }
+        ensures after { content_of self.new
+            ≡ without_row (content_of self.old) client.now filter.now }
+    {
+        match self.clients.get_mut(client) {
+            Some(filters) => clear_filter(filters, filter),
+            None => false,
+        }
+    }
+
+    /// Removes the client's map if no filter stands in it.
+    fn drop_empty(&mut self, client: &ClientId)
+        ensures same { content_of self.new ≡ content_of self.old }
+        ensures gone { at client.now self.new ≢ Some [] }
+    {
+        let Some(filters) = self.clients.get(client) else {
+            return;
+        };
+        if filters.is_empty() {
+            let _empty = self.clients.remove(client);
+        }
     }
 }
 

@@ -1,3 +1,9 @@
 pub mod LevelByLevel
 pub mod MatchingIsTested
 pub mod Faultless
+pub mod FrontGoesBy
+pub mod PlusGoesBy
+pub mod WhatIsLeft
+pub mod LeftInALoop
+pub mod OnePass
+pub mod ItselfAlone

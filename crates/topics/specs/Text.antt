@@ -92,3 +92,7 @@ is_topic bytes = is_utf8 bytes && is_none (topic_fault bytes)
 -- bytes that a `Filter` may hold
 abbrev pub is_filter : List ℕ → Bool
 is_filter bytes = is_utf8 bytes && is_none (filter_fault bytes)
+
+-- the Topic Name that a filter without wildcards is
+abbrev pub named_topic : List ℕ → Option (List ℕ)
+named_topic filter = if has_no_wildcard filter then Some filter else None

@@ -1,37 +1,35 @@
 // A Topic Filter: what a subscription asks for (MQTT 4.7.1).
 
-ghost use Rattle.std.specs.Prelude.{◌≡◌, ◌&&◌, Some, None, IfOk, OnOk, IfErr, IsTrue, bytes_eq};
-ghost use Rattle.std.specs.Cmp;
-ghost use Rattle.std.specs.Cmp.Lexicographic.{slice_cmp, nat_list_eq_equiv, nat_list_cmp_total, texts_ties, texts_po};
-ghost use Rattle.std.specs.Ordering.{nat_cmp};
-ghost use Rattle.std.proofs.Common.{refl};
-ghost use Rattle.topics.specs.Text.{filter_fault, is_filter, RefusesBy, levels, has_length, has_wildcards_in_place, may_stand};
+ghost use Rattle.std.specs.Prelude.{◌≡◌, ◌&&◌, Some, None, IfOk, OnOk, IfErr, IsTrue};
+ghost use Rattle.topics.specs.Text.{filter_fault, is_filter, named_topic, RefusesBy, levels, has_length, has_wildcards_in_place, has_no_wildcard, may_stand};
 
-use crate::level::{
-    has_length, has_no_wildcard, is_hash, is_last, is_plus, is_shallow, split_level,
-};
+use crate::level::{has_length, has_no_wildcard, is_hash, is_last, is_plus, split_level};
 use crate::malformed::MalformedKind;
+use crate::survey::Survey;
+use crate::text::Text;
+use crate::topic_name::TopicName;
 use std::alloc::{AllocError, Global};
-use std::cmp::Ordering;
 use std::fmt;
 use std::marker::Model;
 
 /// A Topic Filter of 1 to 65,535 bytes and at most 32 levels, with its wildcards in their places:
 /// `+` alone in its level, `#` alone in the last one (MQTT 4.7.1). Compared and ordered by its bytes.
-#[derive(Debug, Drop)]
+#[derive(Debug, PartialEq, Eq, PartialOrd, Ord, Drop)]
 pub struct Filter {
-    text: String,
+    text: Text,
 }
 
 impl Model for Filter {
-    ghost use Rattle.std.specs.Prelude.{List, ℕ, IsTrue, string_bytes};
+    ghost use Rattle.std.specs.Prelude.{List, ℕ, IsTrue};
     ghost use Rattle.topics.specs.Text.{is_filter};
 
     ghost Value = { List ℕ };
 
-    ghost view = { λ filter. string_bytes filter.text };
+    ghost view = { λ filter. filter.text };
 
-    ghost invariant = { λ filter. IsTrue (is_filter (string_bytes filter.text)) };
+    ghost invariant = { λ filter. IsTrue (is_filter filter.text) };
+
+    ghost inverse = { λ bytes. record { text = bytes } };
 }
 
 impl Filter {
@@ -49,8 +47,22 @@ impl Filter {
         if let Some(fault) = fault_of(text.as_bytes()) {
             return Err(fault);
         }
-        let text = String::from_str(alloc, text)?;
+        let text = Text::new(alloc, text)?;
         Ok(Filter { text })
+    }
+
+    /// The Topic Name of the same text, if the filter has no wildcard: the only one that it then
+    /// matches. The two share the text, so it takes no memory; it fails only where its owners can no
+    /// longer be counted.
+    #[tactic(auto, using(crate::proofs::Faultless::is_topic_bare))]
+    pub fn as_topic(&self) -> Result<Option<TopicName>, AllocError>
+        ensures { IfOk result (λ topic. topic ≡ named_topic self.now) }
+    {
+        if !has_no_wildcard(self.text.as_str().as_bytes()) {
+            return Ok(None);
+        }
+        let text = self.text.clone()?;
+        Ok(Some(TopicName::of_checked(text)))
     }
 
     /// The text of this filter.
@@ -62,26 +74,30 @@ impl Filter {
     }
 }
 
-/// The first fault of a text as a Topic Filter.
+/// The first fault of a text as a Topic Filter. Only a text with wildcards is gone through again.
 fn fault_of(text: &[u8]) -> Option<MalformedKind>
     ensures { result ≡ filter_fault text.now }
 {
-    if text.contains(&0) {
+    let survey = Survey::of(text);
+    if survey.has_null {
         return Some(MalformedKind::Text);
     }
-    if !is_formed(text) {
+    if !has_length(text) || !is_formed(text, survey.has_no_wildcard) {
         return Some(MalformedKind::Filter);
     }
-    if !is_shallow(text) {
+    if !survey.is_shallow {
         return Some(MalformedKind::TooDeep);
     }
     None
 }
 
-fn is_formed(text: &[u8]) -> bool
-    ensures { result ≡ (has_length text.now && has_wildcards_in_place (levels text.now)) }
+/// Whether the wildcards are in their places, as they are where there are none.
+#[tactic(auto, using(crate::proofs::OnePass::bare_is_in_place))]
+fn is_formed(text: &[u8], is_bare: bool) -> bool
+    requires { is_bare ≡ has_no_wildcard text.now }
+    ensures { result ≡ has_wildcards_in_place (levels text.now) }
 {
-    has_length(text) && has_wildcards_in_place(text)
+    is_bare || has_wildcards_in_place(text)
 }
 
 fn has_wildcards_in_place(text: &[u8]) -> bool
@@ -115,48 +131,10 @@ impl Clone for Filter {
     }
 }
 
-impl PartialEq for Filter {
-    ghost eq = { bytes_eq };
-
-    ghost laws = { Cmp.partial_equiv_from_equiv nat_list_eq_equiv };
-
-    fn eq(&self, other: &Filter) -> bool {
-        self.text == other.text
-    }
-}
-
-impl Eq for Filter {
-    ghost laws = { nat_list_eq_equiv };
-}
-
-impl PartialOrd for Filter {
-    ghost partial_cmp = { λ x y. Some (slice_cmp nat_cmp x y) };
-
-    ghost laws = { texts_po };
-
-    fn partial_cmp(&self, other: &Filter) -> Option<Ordering> {
-        Some(self.cmp(other))
-    }
-}
-
-impl Ord for Filter {
-    ghost cmp = { slice_cmp nat_cmp };
-
-    ghost total = { nat_list_cmp_total };
-
-    ghost matches_partial_cmp = { λ x y. refl };
-
-    ghost matches_eq = { texts_ties };
-
-    fn cmp(&self, other: &Filter) -> Ordering {
-        self.text.cmp(&other.text)
-    }
-}
-
 impl fmt::Display for Filter {
     ghost output = { λ filter. Some filter };
 
     fn fmt<W: fmt::Write>(&self, f: &mut fmt::Formatter<W>) -> fmt::Result {
-        f.write_str(self.text.as_str())
+        self.text.fmt(f)
     }
 }

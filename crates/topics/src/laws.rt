@@ -1,8 +1,13 @@
 // Laws of the definitions: functions whose contract is the law.
 
-ghost use Rattle.topics.specs.Laws.{MatchesIsTested};
+ghost use Rattle.topics.specs.Laws.{MatchesIsTested, BareMatchesItself};
 
 /// The test `is_match` of the definitions is true exactly where a filter matches a topic.
 pub fn matches_is_tested()
     ensures { MatchesIsTested }
+{}
+
+/// A filter without wildcards matches the topic of its own text, and no other.
+pub fn bare_matches_itself()
+    ensures { BareMatchesItself }
 {}

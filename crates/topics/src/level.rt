@@ -1,14 +1,11 @@
 // Going through a text level by level.
 
 ghost use Rattle.std.specs.Prelude.{◌≡◌, ◌∷◌, ◌||◌, codes, bytes_eq};
-ghost use Rattle.topics.specs.Text.{levels, has_length, has_no_wildcard, is_shallow, is_last};
+ghost use Rattle.topics.specs.Text.{levels, has_length, has_no_wildcard, is_last};
 ghost use Rattle.topics.specs.Inside.{levels_of};
 
 /// The most bytes of a topic or a filter (MQTT 4.7.3).
 const MAX_BYTES: usize = 65_535;
-
-/// The most levels that this broker takes.
-const MAX_LEVELS: usize = 32;
 
 /// The first level, and what follows its `/`.
 #[tactic(auto, using(crate::proofs::LevelByLevel::levels_cut, crate::proofs::LevelByLevel::levels_whole))]
@@ -44,13 +41,6 @@ pub(crate) fn has_no_wildcard(text: &[u8]) -> bool
     ensures { result ≡ has_no_wildcard text.now }
 {
     !text.contains(&b'+') && !text.contains(&b'#')
-}
-
-#[tactic(auto, using(crate::proofs::LevelByLevel::is_shallow_count))]
-pub(crate) fn is_shallow(text: &[u8]) -> bool
-    ensures { result ≡ is_shallow text.now }
-{
-    text.iter().filter(|byte| **byte == b'/').count() < MAX_LEVELS
 }
 
 /// Whether the level is the wildcard for any one level.

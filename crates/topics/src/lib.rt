@@ -7,12 +7,15 @@ mod laws;
 mod level;
 mod malformed;
 mod matching;
+mod survey;
 #[cfg(test)]
 mod tests;
+mod text;
 mod topic_name;
 
 pub use filter::Filter;
-pub use laws::matches_is_tested;
+pub use laws::{bare_matches_itself, matches_is_tested};
 pub use malformed::MalformedKind;
 pub use matching::matches;
+pub use text::Text;
 pub use topic_name::TopicName;

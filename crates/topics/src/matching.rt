@@ -1,12 +1,11 @@
 // Which topics a filter matches (MQTT 4.7).
 
-ghost use Rattle.std.specs.Prelude.{◌≡◌, ◌||◌, ◌↔◌, IsTrue, codes, bytes_eq};
-ghost use Rattle.topics.specs.Text.{levels};
-ghost use Rattle.topics.specs.Matching.{Matches, is_match, matches_rest, is_all, starts_with, starts_with_wildcard, is_hidden};
-ghost use Rattle.topics.specs.Inside.{levels_of};
+ghost use Rattle.std.specs.Prelude.{◌≡◌, ◌≤◌, ◌||◌, ◌↔◌, IsTrue, false, length};
+ghost use Rattle.topics.specs.Matching.{Matches, is_match, starts_with, starts_with_wildcard, is_hidden};
+ghost use Rattle.topics.specs.Inside.{matches_levels, IsPair, IsLeft, IsApart, behind_level, ends_match};
 
 use crate::filter::Filter;
-use crate::level::{is_hash, is_last, is_plus, split_level};
+use crate::level::is_hash;
 use crate::topic_name::TopicName;
 
 /// Whether the filter matches the topic (MQTT 4.7): `#` stands for any number of levels, none
@@ -22,44 +21,68 @@ pub fn matches(filter: &Filter, topic: &TopicName) -> bool
 }
 
 fn is_match(filter: &[u8], topic: &[u8]) -> bool
+    requires { IsPair filter.now topic.now }
     ensures { result ≡ is_match filter.now topic.now }
 {
     !is_hidden(filter, topic) && matches_levels(filter, topic)
 }
 
+/// What both texts begin with goes by, and each `+` with the level that it stands for.
+#[tactic(auto, using(crate::proofs::LeftInALoop::some_first))]
 fn matches_levels(filter: &[u8], topic: &[u8]) -> bool
-    ensures { result ≡ matches_rest (levels filter.now) (levels topic.now) }
+    requires { IsPair filter.now topic.now }
+    ensures { result ≡ matches_levels filter.now topic.now }
 {
-    let mut parts = Some(filter);
-    let mut names = Some(topic);
-    while let Some(filter) = parts {
-        let (part, parts_behind) = split_level(filter);
-        if is_all(part, parts_behind) {
-            return true;
-        }
-        let Some(topic) = names else {
-            return false;
-        };
-        let (level, names_behind) = split_level(topic);
-        if !stands_for(part, level) {
-            return false;
+    let (mut parts, mut names) = behind_front(filter, topic);
+    while starts_with(b'+', parts) {
+        (parts, names) = behind_front(&parts[1..], behind_level(names));
+    }
+    ends_match(parts, names)
+}
+
+/// What is left of the texts behind the bytes with which both begin.
+#[tactic(auto, using(crate::proofs::LeftInALoop::front_step))]
+fn behind_front<'a>(filter: &'a [u8], topic: &'a [u8]) -> (&'a [u8], &'a [u8])
+    requires { IsPair filter.now topic.now }
+    ensures left { IsLeft filter.now topic.now result.0.now result.1.now }
+    ensures apart { IsApart result.0.now result.1.now }
+    ensures shorter { length result.0.now ≤ length filter.now }
+{
+    let mut parts = filter;
+    let mut names = topic;
+    while let ([part, parts_behind @ ..], [name, names_behind @ ..]) = (parts, names) {
+        if part != name {
+            break;
         }
         parts = parts_behind;
         names = names_behind;
     }
-    is_last(names)
+    (parts, names)
 }
 
-fn is_all(part: &[u8], rest: Option<&[u8]>) -> bool
-    ensures { result ≡ is_all part.now (levels_of rest.entry) }
+/// The text from its first `/` on.
+fn behind_level(text: &[u8]) -> &[u8]
+    ensures { result.now ≡ behind_level text.now }
 {
-    is_hash(part) && is_last(rest)
+    let mut rest = text;
+    while let [byte, behind @ ..] = rest {
+        if *byte == b'/' {
+            break;
+        }
+        rest = behind;
+    }
+    rest
 }
 
-fn stands_for(part: &[u8], level: &[u8]) -> bool
-    ensures { result ≡ (bytes_eq part.now (codes "+") || bytes_eq part.now level.now) }
+/// Whether what is left matches, where no byte goes by any more.
+fn ends_match(parts: &[u8], names: &[u8]) -> bool
+    ensures { result ≡ ends_match parts.now names.now }
 {
-    is_plus(part) || part == level
+    match parts {
+        [] => names.is_empty(),
+        [b'#', ..] => true,
+        [part, behind @ ..] => *part == b'/' && is_hash(behind) && names.is_empty(),
+    }
 }
 
 fn starts_with(byte: u8, text: &[u8]) -> bool

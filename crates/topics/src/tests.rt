@@ -213,23 +213,55 @@ fn lengths_and_levels(rt: HostRuntime) -> Result<(), Fail> {
     Ok(())
 }
 
-// Each remaining call once.
+// A text by itself, as other crates build on it.
 #[test]
-fn values_and_texts(rt: HostRuntime) -> Result<(), Fail> {
+fn a_text_and_its_copy(rt: HostRuntime) -> Result<(), Fail> {
+    let text = Text::new(rt.alloc(), "a/B")?;
+    assert_eq!(rt; text.clone()?.as_str(), "a/B");
+    assert!(rt; text < Text::new(rt.alloc(), "b")?);
+    assert_eq!(rt; format!(in rt.alloc(); "{text}")?.as_str(), "a/B");
+    Ok(())
+}
+
+// Each remaining call of a Topic Name once.
+#[test]
+fn names_in_order(rt: HostRuntime) -> Result<(), Fail> {
     let upper = topic(rt.alloc(), "B")?;
     let lower = topic(rt.alloc(), "a")?;
     assert_eq!(rt; lower.clone()?, lower);
     assert!(rt; upper < lower);
     assert!(rt; upper != lower);
     assert_eq!(rt; format!(in rt.alloc(); "{upper}")?.as_str(), "B");
+    Ok(())
+}
 
+// Each remaining call of a Topic Filter once.
+#[test]
+fn filters_in_order(rt: HostRuntime) -> Result<(), Fail> {
     let all = filter(rt.alloc(), "#")?;
     let one = filter(rt.alloc(), "+")?;
     assert_eq!(rt; one.clone()?, one);
     assert!(rt; all < one);
     assert!(rt; all != one);
     assert_eq!(rt; format!(in rt.alloc(); "{one}")?.as_str(), "+");
+    Ok(())
+}
 
+// A filter without wildcards is a Topic Name.
+#[test]
+fn bare_filters_are_topics(rt: HostRuntime) -> Result<(), Fail> {
+    let bare = filter(rt.alloc(), "sport/tennis")?;
+    let Some(topic) = bare.as_topic()? else {
+        return Err(Fail::from("the filter has no wildcard"));
+    };
+    assert_eq!(rt; topic.as_str(), "sport/tennis");
+    assert!(rt; filter(rt.alloc(), "sport/#")?.as_topic()?.is_none());
+    Ok(())
+}
+
+// Each remaining call of a kind once.
+#[test]
+fn kinds_and_their_texts(rt: HostRuntime) -> Result<(), Fail> {
     assert_eq!(rt; MalformedKind::TooDeep.number(), 14);
     assert_eq!(rt;
         format!(in rt.alloc(); "{}", MalformedKind::Topic)?.as_str(),
@@ -237,5 +269,6 @@ fn values_and_texts(rt: HostRuntime) -> Result<(), Fail> {
     );
     assert_eq!(rt; MalformedKind::from(AllocError), MalformedKind::Memory);
     matches_is_tested();
+    bare_matches_itself();
     Ok(())
 }

@@ -1,35 +1,34 @@
 // A Topic Name: what a publication is about (MQTT 4.7).
 
-ghost use Rattle.std.specs.Prelude.{◌≡◌, ◌&&◌, Some, None, IfOk, OnOk, IfErr, IsTrue, bytes_eq};
-ghost use Rattle.std.specs.Cmp;
-ghost use Rattle.std.specs.Cmp.Lexicographic.{slice_cmp, nat_list_eq_equiv, nat_list_cmp_total, texts_ties, texts_po};
-ghost use Rattle.std.specs.Ordering.{nat_cmp};
-ghost use Rattle.std.proofs.Common.{refl};
-ghost use Rattle.topics.specs.Text.{topic_fault, is_topic, RefusesBy, has_length, has_no_wildcard};
+ghost use Rattle.std.specs.Prelude.{◌≡◌, Some, None, IfOk, OnOk, IfErr, IsTrue, true};
+ghost use Rattle.topics.specs.Text.{topic_fault, is_topic, RefusesBy};
 
-use crate::level::{has_length, has_no_wildcard, is_shallow};
+use crate::level::has_length;
 use crate::malformed::MalformedKind;
+use crate::survey::Survey;
+use crate::text::Text;
 use std::alloc::{AllocError, Global};
-use std::cmp::Ordering;
 use std::fmt;
 use std::marker::Model;
 
 /// A Topic Name of 1 to 65,535 bytes and at most 32 levels, without wildcards (MQTT 4.7).
 /// Compared and ordered by its bytes.
-#[derive(Debug, Drop)]
+#[derive(Debug, PartialEq, Eq, PartialOrd, Ord, Drop)]
 pub struct TopicName {
-    text: String,
+    text: Text,
 }
 
 impl Model for TopicName {
-    ghost use Rattle.std.specs.Prelude.{List, ℕ, IsTrue, string_bytes};
+    ghost use Rattle.std.specs.Prelude.{List, ℕ, IsTrue};
     ghost use Rattle.topics.specs.Text.{is_topic};
 
     ghost Value = { List ℕ };
 
-    ghost view = { λ name. string_bytes name.text };
+    ghost view = { λ name. name.text };
 
-    ghost invariant = { λ name. IsTrue (is_topic (string_bytes name.text)) };
+    ghost invariant = { λ name. IsTrue (is_topic name.text) };
+
+    ghost inverse = { λ bytes. record { text = bytes } };
 }
 
 impl TopicName {
@@ -47,8 +46,16 @@ impl TopicName {
         if let Some(fault) = fault_of(text.as_bytes()) {
             return Err(fault);
         }
-        let text = String::from_str(alloc, text)?;
+        let text = Text::new(alloc, text)?;
         Ok(TopicName { text })
+    }
+
+    // The Topic Name of a text without a fault.
+    pub(crate) fn of_checked(text: Text) -> TopicName
+        requires { is_topic text ≡ true }
+        ensures { result ≡ text }
+    {
+        TopicName { text }
     }
 
     /// The text of this name.
@@ -64,22 +71,17 @@ impl TopicName {
 fn fault_of(text: &[u8]) -> Option<MalformedKind>
     ensures { result ≡ topic_fault text.now }
 {
-    if text.contains(&0) {
+    let survey = Survey::of(text);
+    if survey.has_null {
         return Some(MalformedKind::Text);
     }
-    if !is_name(text) {
+    if !has_length(text) || !survey.has_no_wildcard {
         return Some(MalformedKind::Topic);
     }
-    if !is_shallow(text) {
+    if !survey.is_shallow {
         return Some(MalformedKind::TooDeep);
     }
     None
-}
-
-fn is_name(text: &[u8]) -> bool
-    ensures { result ≡ (has_length text.now && has_no_wildcard text.now) }
-{
-    has_length(text) && has_no_wildcard(text)
 }
 
 impl Clone for TopicName {
@@ -92,48 +94,10 @@ impl Clone for TopicName {
     }
 }
 
-impl PartialEq for TopicName {
-    ghost eq = { bytes_eq };
-
-    ghost laws = { Cmp.partial_equiv_from_equiv nat_list_eq_equiv };
-
-    fn eq(&self, other: &TopicName) -> bool {
-        self.text == other.text
-    }
-}
-
-impl Eq for TopicName {
-    ghost laws = { nat_list_eq_equiv };
-}
-
-impl PartialOrd for TopicName {
-    ghost partial_cmp = { λ x y. Some (slice_cmp nat_cmp x y) };
-
-    ghost laws = { texts_po };
-
-    fn partial_cmp(&self, other: &TopicName) -> Option<Ordering> {
-        Some(self.cmp(other))
-    }
-}
-
-impl Ord for TopicName {
-    ghost cmp = { slice_cmp nat_cmp };
-
-    ghost total = { nat_list_cmp_total };
-
-    ghost matches_partial_cmp = { λ x y. refl };
-
-    ghost matches_eq = { texts_ties };
-
-    fn cmp(&self, other: &TopicName) -> Ordering {
-        self.text.cmp(&other.text)
-    }
-}
-
 impl fmt::Display for TopicName {
     ghost output = { λ name. Some name };
 
     fn fmt<W: fmt::Write>(&self, f: &mut fmt::Formatter<W>) -> fmt::Result {
-        f.write_str(self.text.as_str())
+        self.text.fmt(f)
     }
 }

@@ -8,8 +8,8 @@ use Rattle.subs_base.specs.Content.{without_row}
 use Rattle.subs_base.specs.ListIndex.{content_of}
 use Rattle.subs_base.specs.Inside.{listed}
 use Rattle.subs_base.proofs.ContentAfter.{content_changed, content_held, content_without_client, held_some, found_is}
-use Rattle.subs_base.proofs.list_index.ListIndexSubIndex.clear.Goals as goal
-use Rattle.subs_base.proofs.list_index.ListIndexSubIndex.clear.Goals.{in-Some, in-None}
+use Rattle.subs_base.proofs.list_index.ListIndex.clear_row.Goals as goal
+use Rattle.subs_base.proofs.list_index.ListIndex.clear_row.Goals.{in-Some, in-None}
 
 pub returns-clause-found : goal.returns-clause-found
 returns-clause-found c =

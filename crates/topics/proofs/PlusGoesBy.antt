@@ -1,0 +1,55 @@
+-- A `+` goes by with the level that it stands for.
+use Rattle.std.proofs.Common.{◌≡◌, ℕ, List, [], ◌∷◌, true, false, ◌==◌, cond, refl, ap, ◌∙◌}
+use Rattle.std.specs.List.{onto_first}
+use Rattle.std.proofs.lemmas.Bool.{and_parts}
+use Rattle.std.proofs.lemmas.List.Splits.{slice_split-cons_yes, slice_split-cons_no}
+use Rattle.topics.specs.Text.{Levels, levels, has_no_wildcard, may_stand, has_wildcards_in_place, is_last}
+use Rattle.topics.specs.Matching.{matches_rest}
+use Rattle.topics.specs.Inside.{IsPair, IsLeft, behind_level}
+use Rattle.topics.proofs.LevelByLevel.{is_last_levels}
+use Rattle.topics.proofs.FrontGoesBy.{no_wildcard_parts}
+
+-- the levels behind the first
+abbrev others : Levels → Levels
+others [] = []
+others (level ∷ rest) = rest
+
+others_on : (b : ℕ) (parts : Levels) → others (onto_first b parts) ≡ others parts
+others_on b [] = refl
+others_on b (part ∷ parts) = refl
+
+-- behind a level stand the others
+level_behind : (text : List ℕ) → levels (behind_level text) ≡ [] ∷ others (levels text)
+level_behind [] = refl
+level_behind (b ∷ text) =
+    elim (b == 47) as (λ v. (b == 47) ≡ v → levels (cond v (b ∷ text) (behind_level text)) ≡ [] ∷ others (levels (b ∷ text))) [
+      | true ↦ λ is. rw (slice_split-cons_yes (λ c. c == 47) b text is) refl
+      | false ↦ λ is. rw (slice_split-cons_no (λ c. c == 47) b text is, others_on b (levels text)) (level_behind text)
+    ] refl
+
+name_behind : (text : List ℕ) → has_no_wildcard text ≡ true → has_no_wildcard (behind_level text) ≡ true
+name_behind [] h = refl
+name_behind (b ∷ text) h =
+    elim (b == 47) as (λ v. has_no_wildcard (cond v (b ∷ text) (behind_level text)) ≡ true) [
+      | true ↦ h
+      | false ↦ name_behind text (no_wildcard_parts b text h).2
+    ]
+
+-- `+` is alone in its level, and stands for any first level
+plus_alone : (filter topic : Levels) → is_last filter ≡ false → is_last topic ≡ false → has_wildcards_in_place (onto_first 43 filter) ≡ true
+    → (has_wildcards_in_place filter ≡ true) × (matches_rest filter ([] ∷ others topic) ≡ matches_rest (onto_first 43 filter) topic)
+plus_alone [] topic some_f some_t h = absurd cc
+plus_alone (f ∷ filter) [] some_f some_t h = absurd cc
+plus_alone ([] ∷ filter) (t ∷ topic) some_f some_t h =
+    ((and_parts (may_stand (43 ∷ []) (is_last filter)) (has_wildcards_in_place filter) h).1, refl)
+plus_alone ((b ∷ f) ∷ filter) (t ∷ topic) some_f some_t h =
+    let stands : false ≡ true = (and_parts (may_stand (43 ∷ b ∷ f) (is_last filter)) (has_wildcards_in_place filter) h).0 in
+    absurd cc
+
+pub plus_goes_by : (filter topic : List ℕ) → IsPair (43 ∷ filter) topic → IsLeft (43 ∷ filter) topic filter (behind_level topic)
+plus_goes_by filter topic pair =
+    let one = plus_alone (levels filter) (levels topic) (is_last_levels filter) (is_last_levels topic) pair.in_place in
+    record {
+      pair = record { in_place = one.0; name = name_behind topic pair.name };
+      same = ap (matches_rest (levels filter)) (level_behind topic) ∙ one.1;
+    }
