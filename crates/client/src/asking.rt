@@ -61,7 +61,8 @@ fn subscribe_packet(
     qos: QoS,
 ) -> Result<Packet, ClientError>
     ensures ok { IfOk result (λ packet. packet
-        ≡ packets.Subscribe (record { id = id; filters = record { filter = filter; qos = qos } ∷ [] })) }
+        ≡ packets.Subscribe
+        (record { id = id; filters = record { filter = filter; qos = qos } ∷ [] })) }
     ensures memory { OnErr result (IsErrOf result ClientError.Memory) }
 {
     let mut filters = Vec::new(alloc);

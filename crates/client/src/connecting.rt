@@ -34,8 +34,8 @@ impl ClientCore {
     }
 
     /// Ends the connection: DISCONNECT is written where the server has accepted it, and then it is
-    /// lost. `NotActive` comes exactly where there is no connection; after `Memory` everything is as
-    /// it was.
+    /// lost. `NotActive` comes exactly where there is no connection; after `Memory` everything is
+    /// as it was.
     pub fn disconnect(&mut self) -> Result<(), ClientError>
         ensures { Leaves (keeper_step Call.Disconnects self.old.state) self.old result self.new }
     {

@@ -17,7 +17,8 @@ use packet::{Delivery, Packet, PacketId, Publish};
 impl ClientCore {
     // PUBLISH: accepted each time at QoS 0 and 1, and at QoS 2 once while its identifier is kept.
     pub(crate) fn on_publish(&mut self, publish: Publish) -> Result<(), ClientError>
-        ensures { Tries (on_publish publish publish.delivery self.old.state) self.old result self.new }
+        ensures { Tries (on_publish publish publish.delivery self.old.state)
+            self.old result self.new }
     {
         let delivery = publish.delivery;
         match delivery {
@@ -48,8 +49,8 @@ impl ClientCore {
         Ok(())
     }
 
-    // PUBLISH at QoS 2. Room for all that it leaves is made before, so that nothing is accepted whose
-    // identifier is not kept.
+    // PUBLISH at QoS 2. Room for all that it leaves is made before, so that nothing is accepted
+    // whose identifier is not kept.
     fn on_exactly_once(&mut self, id: PacketId, publish: Publish) -> Result<(), ClientError>
         ensures { Tries (on_publish publish (deliveries.ExactlyOnce false id) self.old.state)
             self.old result self.new }

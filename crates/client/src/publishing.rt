@@ -30,8 +30,8 @@ impl ClientCore {
         retain: bool,
         payload: Payload,
     ) -> Result<(), ClientError>
-        ensures { Does (keeper_step (Call.Publishes (publication_with retain qos topic payload)) self.old.state)
-            self.old result self.new }
+        ensures { let call = Call.Publishes (publication_with retain qos topic payload) in
+            Does (keeper_step call self.old.state) self.old result self.new }
     {
         let publication = Publication {
             retain,

@@ -13,8 +13,8 @@ use packet::{Connack, DecodeFault, Packet};
 impl ClientCore {
     /// Takes in the next bytes of the server, in pieces of any size, and handles each whole packet.
     /// `NotActive` comes where there is no connection, and nothing changes, or where the server
-    /// refused the connection; `Protocol` for a packet that may not come there; `Malformed` for bytes
-    /// that are no packet; `Memory`. After these the client is as after `lost`, and packets before
+    /// refused the connection; `Protocol` for a packet that may not come there; `Malformed` for
+    /// bytes that are no packet; `Memory`. After these the client is as after `lost`, and packets before
     /// stand. `SessionLost` comes where the server has lost the session: what was kept is given up
     /// and the connection goes on; what came behind that packet is handled by the next call.
     pub fn on_bytes(&mut self, piece: &[u8]) -> Result<(), ClientError>
@@ -61,7 +61,8 @@ impl ClientCore {
     // Handles the next whole packet, if there is one.
     fn read_one(&mut self) -> Result<bool, ClientError>
         ensures one { ReadsOne self.old result self.new }
-        ensures shorter { result ≡ Ok true → length self.new.unread.held < length self.old.unread.held }
+        ensures shorter { result ≡ Ok true →
+            length self.new.unread.held < length self.old.unread.held }
     {
         match self.next_packet() {
             Ok(Some(packet)) => match self.handle(packet) {

@@ -2,8 +2,8 @@
 
 use super::*;
 
-// PUBREC releases the second, and on the next connection it goes first, then the others in the order
-// in which they were published, and at last what was published offline.
+// PUBREC releases the second, and on the next connection it goes first, then the others in the
+// order in which they were published, and at last what was published offline.
 #[test]
 fn kept_publications_go_out_again(rt: HostRuntime) -> Result<(), Fail> {
     const FIRST: [u8; 10] = [0x34, 0x08, 0x00, 0x03, 0x74, 0x2F, 0x31, 0x00, 0x01, 0x78];
@@ -60,8 +60,8 @@ fn the_seventeenth_is_refused(rt: HostRuntime) -> Result<(), Fail> {
     check(&rt, rt.alloc(), &mut client, &offline)
 }
 
-// A session that the server lost takes with it what was kept and which identifiers were accepted. What
-// is behind its CONNACK is handled by the next call.
+// A session that the server lost takes with it what was kept and which identifiers were accepted.
+// What is behind its CONNACK is handled by the next call.
 #[test]
 fn a_lost_session_forgets(rt: HostRuntime) -> Result<(), Fail> {
     const FIRST: [u8; 10] = [0x34, 0x08, 0x00, 0x03, 0x74, 0x2F, 0x31, 0x00, 0x01, 0x78];
