@@ -1,4 +1,4 @@
--- The numbers of the refusals of the store.
+-- The numbers of the refusals of a session.
 use Rattle.std.specs.Prelude.{ℕ}
 use Rattle.session.specs.declared.error.EnqueueError.{EnqueueError}
 use Rattle.session.specs.declared.error.EnqueueError.TheVariants.{QueueFull, Memory}
