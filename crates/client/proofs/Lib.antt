@@ -1,3 +1,4 @@
 pub mod Used
 pub mod Spelled
 pub mod HandledBefore
+pub mod HandlingFails
