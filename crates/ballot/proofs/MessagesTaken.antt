@@ -200,8 +200,12 @@ commit_taken {S = S} {C = C} {O = O} rules old new ballot held machine follower 
     (record {
       given = [];
       appended = refl;
-      way = inl (state ∙ ap (λ t. let r : ReplicaState S C = record old.state { committed = held; machine = t } in r) done
-          ∙ ap (applied_to rules old.state) e, refl, losses);
+      way = inl (
+        state ∙ ap (λ t. let r : ReplicaState S C = record old.state { committed = held; machine = t } in r) done
+            ∙ ap (applied_to rules old.state) e,
+        refl,
+        losses,
+      );
     })
 
 -- Commit whose places found no memory when they were applied

@@ -76,6 +76,7 @@ distinct_insert (y ∷ xs) x ys d e f =
 
 pub distinct_joined : (xs ys : List ℕ) → IsDistinct xs → IsDistinct ys → ((i : ℕ) → has_id i xs ≡ true → has_id i ys ≡ false) → IsDistinct (xs ++ ys)
 distinct_joined [] ys d e h = e
-distinct_joined (x ∷ xs) ys d e h =
-    (has_join x xs ys d.0 (h x (or_left (x == x) (has_id x xs) (eq_same x))),
-    distinct_joined xs ys d.1 e (λ i f. h i (or_right (i == x) (has_id i xs) f)))
+distinct_joined (x ∷ xs) ys d e h = (
+  has_join x xs ys d.0 (h x (or_left (x == x) (has_id x xs) (eq_same x))),
+  distinct_joined xs ys d.1 e (λ i f. h i (or_right (i == x) (has_id i xs) f)),
+)

@@ -48,10 +48,13 @@ front_of {X = X} j k xs less within =
 -- in an activated ballot the members' least told length is chosen
 pub chosen_least : {S C O : Type 0} (rules : Rules S C O) (w : World S C O) (h : History C) (b : ℕ) (g : Given) (l : Line C) →
     IsSound rules w h → In b h.activated → h.given b ≡ Some g → h.line b ≡ Some l → IsChosenIn w h b (chosen_length w.sent b g l)
-chosen_least {S = S} {C = C} rules w h b g l s active given lined =
-    (g, given, λ m i. told_less w h m b (told_length w.sent b g l m) (chosen_length w.sent b g l)
-        (least_each (length l.list) (told_length w.sent b g l) g.members m i)
-        (told_whole w h m b g l given lined (some_told m i)))
+chosen_least {S = S} {C = C} rules w h b g l s active given lined = (
+  g,
+  given,
+  λ m i. told_less w h m b (told_length w.sent b g l m) (chosen_length w.sent b g l)
+      (least_each (length l.list) (told_length w.sent b g l) g.members m i)
+      (told_whole w h m b g l given lined (some_told m i)),
+)
   where
     some_told : (m : ℕ) → In m g.members → Told w h m b 0
     some_told m i =

@@ -82,9 +82,9 @@ group_goes_on {C = C} rules m k w v h s long all master (takes n r input {new = 
     record {
       run = record {
         group = by_history rules w _ h m _ (proposal_by r input) master x (λ rows own. own_goes_on rules w _ h r input rows x own);
-      long = long_moved rules w _ h _ n r new given s stands g long refl (loses_begins rules r input _ _ loses);
-      replays = step_replays rules w h n r input new given _ s g stands runs all loses;
-      begun = λ begun. begun_lines rules w _ h _ (λ b c a. a.1) s g begun;
+        long = long_moved rules w _ h _ n r new given s stands g long refl (loses_begins rules r input _ _ loses);
+        replays = step_replays rules w h n r input new given _ s g stands runs all loses;
+        begun = λ begun. begun_lines rules w _ h _ (λ b c a. a.1) s g begun;
       };
       tells = g.tells;
       gives = λ b o e. inl (sym (ap (λ (y : History C). y.given b) g.ballots) ∙ e);
@@ -95,9 +95,9 @@ group_goes_on {C = C} rules m k w v h s long all master (stops n r stands) =
     record {
       run = record {
         group = by_history rules w _ h m _ [] master g (λ rows own. own_goes_on rules w _ h r Ticks rows g own);
-      long = long_moved rules w _ h _ n r _ [] s stands g long refl (inl (λ f. (f, refl)));
-      replays = replays_moved rules w n r _ [] stands all (λ going. cc);
-      begun = λ begun. begun_lines rules w _ h _ (λ b c a. absurd a) s g begun;
+        long = long_moved rules w _ h _ n r _ [] s stands g long refl (inl (λ f. (f, refl)));
+        replays = replays_moved rules w n r _ [] stands all (λ going. cc);
+        begun = λ begun. begun_lines rules w _ h _ (λ b c a. absurd a) s g begun;
       };
       tells = g.tells;
       gives = λ b o e. inl (sym (ap (λ (y : History C). y.given b) g.ballots) ∙ e);

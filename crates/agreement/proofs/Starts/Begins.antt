@@ -78,8 +78,11 @@ keeps_begun {S = S} {C = C} rules w h n r (Proposes x) s long e ran i = by_role 
         KeepsAdding rules w h n (λ b c. AddsBy rules r (Proposes x) b c × BeginsOrFollows rules.start_of h b c) (replica_step rules r (Proposes x))
     by_role (inl a) =
         adds_less rules w h n (AddsBy rules r (Proposes x)) _ _
-        (λ b c z. (z, inr (λ l f still.
-        z.0 ∙ follows_active h r (long n r e (role_active r.role a)) l (ap h.line (sym z.0) ∙ f) still)))
+        (λ b c z. (
+          z,
+          inr (λ l f still.
+              z.0 ∙ follows_active h r (long n r e (role_active r.role a)) l (ap h.line (sym z.0) ∙ f) still),
+        ))
         (keeps_step rules w h n r (Proposes x) s e ran i)
     by_role (inr a) =
         adds_less rules w h n (λ b c. ⊥) _ _ (λ b c z. absurd z) (keeps_nothing rules w h n r _ s e (proposed-not_active rules r x a))
