@@ -1,2 +1,3 @@
 pub mod OneWay
 pub mod Taking
+pub mod EveryStream

@@ -40,7 +40,7 @@ begins-last : (bytes : List ℕ) (ps : List Packet) (p : Packet) (rest left : Li
 begins-last bytes [] p rest left b g = (left, subst (λ (z : List ℕ). GoesOnWith z p left) (sym b) g, refl)
 begins-last bytes (q ∷ ps) p rest left (l, h, more) g = (l, h, begins-last l ps p rest left more g)
 
-ran-begins : (fed : List ℕ) (given : List Packet) (s : Stream) → Ran fed given s → Begins fed given s.held
+pub ran-begins : (fed : List ℕ) (given : List Packet) (s : Stream) → Ran fed given s → Begins fed given s.held
 ran-begins fed given s begins = refl
 ran-begins fed given s (feeds {fed = f} {s = t} piece r) = begins-more f given t.held piece (ran-begins f given t r)
 ran-begins fed given s (gives {given = g} {s = t} p r k) = begins-last fed g p t.held s.held (ran-begins fed g t r) k.2

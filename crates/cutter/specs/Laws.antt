@@ -1,5 +1,5 @@
 -- The laws of streams that `src/laws.rt` proves.
-use Rattle.std.specs.Prelude.{◌≡◌, ℕ, false, List, [], ◌∷◌, ◌++◌, Option, Some, Result, Ok}
+use Rattle.std.specs.Prelude.{◌≡◌, ◌<◌, ℕ, false, List, [], ◌∷◌, ◌++◌, get_or, Option, Some, None, Result, Ok}
 use Rattle.packet.specs.declared.packet.Packet.{Packet}
 use Rattle.cutter.specs.declared.error.CutError.{CutError}
 use Rattle.cutter.specs.Stream.{Stream, CutsInto, Takes}
@@ -25,3 +25,24 @@ abbrev pub PacketsOfTheStream : Type 0
 PacketsOfTheStream = (fed : List ℕ) (given : List Packet) (s : Stream) → Ran fed given s
     → (packets : List Packet) (rest : List ℕ) → CutsInto fed packets rest
     → (later : List Packet) × (packets ≡ given ++ later)
+
+-- each number is a byte
+abbrev pub AreBytes : List ℕ → Type 0
+AreBytes bytes = (i : ℕ) → get_or bytes i 0 < 256
+
+-- every list of bytes is cut into packets and a rest that begins with no packet
+abbrev pub EveryStreamIsCut : Type 0
+EveryStreamIsCut = (bytes : List ℕ) → AreBytes bytes
+    → (packets : List Packet) × (rest : List ℕ) × CutsInto bytes packets rest
+
+-- behind an answer that no whole packet is there, what was given are all packets of the bytes that were taken in,
+-- and what is held is the rest
+abbrev pub NoPacketIsLeft : Type 0
+NoPacketIsLeft = (fed : List ℕ) (given : List Packet) (s t : Stream) → Ran fed given s → Takes s (Ok None) t
+    → CutsInto fed given s.held
+
+-- so two cutters that took in the same bytes, cut anywhere, gave the same and hold the same
+abbrev pub CuttingsAgree : Type 0
+CuttingsAgree = (fed : List ℕ) (given others : List Packet) (s t u v : Stream)
+    → Ran fed given s → Takes s (Ok None) t → Ran fed others u → Takes u (Ok None) v
+    → (given ≡ others) × (s.held ≡ u.held)

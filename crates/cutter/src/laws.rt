@@ -1,6 +1,6 @@
 // Laws of streams. The calls do nothing but call those that their laws rest on.
 
-ghost use Rattle.cutter.specs.Laws.{OneCut, PacketsOfTheStream};
+ghost use Rattle.cutter.specs.Laws.{CuttingsAgree, EveryStreamIsCut, NoPacketIsLeft, OneCut, PacketsOfTheStream};
 
 use packet::no_spelling_begins_another;
 
@@ -15,6 +15,20 @@ pub fn one_cut()
 /// of all bytes that it was fed.
 pub fn packets_of_the_stream()
     ensures { PacketsOfTheStream }
+{
+    no_spelling_begins_another();
+}
+
+/// Every list of bytes is cut into packets and a rest that begins with no whole packet.
+pub fn every_stream_is_cut()
+    ensures { EveryStreamIsCut }
+{}
+
+/// Behind an answer that no whole packet is there, a cutter has given all packets of the bytes that it
+/// took in and holds the rest; so two that took in the same bytes, cut anywhere, gave the same.
+pub fn no_packet_is_left()
+    ensures none { NoPacketIsLeft }
+    ensures agree { CuttingsAgree }
 {
     no_spelling_begins_another();
 }

@@ -9,4 +9,4 @@ mod tests;
 
 pub use cutting::Cutter;
 pub use error::CutError;
-pub use laws::{one_cut, packets_of_the_stream};
+pub use laws::{every_stream_is_cut, no_packet_is_left, one_cut, packets_of_the_stream};

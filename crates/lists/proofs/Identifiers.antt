@@ -1,5 +1,5 @@
 -- Which identifiers are among others, and lists in which none comes twice.
-use Rattle.std.proofs.Common.{◌≡◌, ℕ, Bool, true, false, ◌||◌, ◌==◌, List, [], ◌∷◌, ◌++◌, refl, ap, sym, ◌∙◌, subst, inl, inr, ◌⊎◌}
+use Rattle.std.proofs.Common.{◌≡◌, ℕ, true, false, ◌||◌, ◌==◌, List, [], ◌∷◌, ◌++◌, refl, ap, sym, ◌∙◌, subst, inl, inr, ◌⊎◌}
 use Rattle.std.proofs.lemmas.Bool.{or_cases, both_ways, cases_Bool}
 use Rattle.lists.specs.Lists.{has_id, IsDistinct}
 use Rattle.lists.proofs.Tests.{or_none, none_or, or_right, or_left, or_assoc, eq_same, eq_is, eq_turn}
