@@ -27,6 +27,9 @@ const PUBREC: [u8; 4] = [0x50, 0x02, 0x00, 0x01];
 
 const NOTHING: [u8; 0] = [];
 
+// No piece of the rows is longer.
+const LONGEST: usize = 26;
+
 // What is done with a client.
 #[derive(Clone, Copy)]
 enum Act<'a> {
@@ -108,7 +111,20 @@ fn ask(
     Ok(answer.err())
 }
 
-fn done(client: &mut ClientCore, alloc: Global, act: Act) -> Result<Option<ClientError>, Fail> {
+// Gives a piece in two parts, of which the first has so many bytes, or all: the first refusal.
+fn in_two(client: &mut ClientCore, bytes: &[u8], cut: usize) -> Option<ClientError> {
+    let at = cut.min(bytes.len());
+    let first = client.on_bytes(&bytes[..at]).err();
+    let second = client.on_bytes(&bytes[at..]).err();
+    first.or(second)
+}
+
+fn done(
+    client: &mut ClientCore,
+    alloc: Global,
+    act: Act,
+    cut: Option<usize>,
+) -> Result<Option<ClientError>, Fail> {
     match act {
         Act::Open => Ok(client.open().err()),
         Act::Lost => {
@@ -116,15 +132,24 @@ fn done(client: &mut ClientCore, alloc: Global, act: Act) -> Result<Option<Clien
             Ok(None)
         }
         Act::Disconnect => Ok(client.disconnect().err()),
-        Act::Bytes(bytes) => Ok(client.on_bytes(bytes).err()),
+        Act::Bytes(bytes) => match cut {
+            Some(cut) => Ok(in_two(client, bytes, cut)),
+            None => Ok(client.on_bytes(bytes).err()),
+        },
         Act::Subscribe => ask(client, alloc, true),
         Act::Unsubscribe => ask(client, alloc, false),
         Act::Publish(qos, payload) => publish(client, alloc, qos, payload),
     }
 }
 
-fn check(rt: &impl Abort, alloc: Global, client: &mut ClientCore, row: &Row) -> Result<(), Fail> {
-    let answer = done(client, alloc, row.act)?;
+fn check(
+    rt: &impl Abort,
+    alloc: Global,
+    client: &mut ClientCore,
+    row: &Row,
+    cut: Option<usize>,
+) -> Result<(), Fail> {
+    let answer = done(client, alloc, row.act, cut)?;
     assert_eq!(rt; answer, row.answer);
     let mut out = Vec::new(alloc);
     client.outgoing(&mut out)?;
@@ -134,11 +159,25 @@ fn check(rt: &impl Abort, alloc: Global, client: &mut ClientCore, row: &Row) -> 
     Ok(())
 }
 
-// Goes through the rows with a client that was never connected.
-fn play(rt: &impl Abort, alloc: Global, rows: &[Row]) -> Result<ClientCore, Fail> {
+// Goes through the rows with a client that was never connected, each piece of the server whole or
+// cut in two.
+fn play_cut(
+    rt: &impl Abort,
+    alloc: Global,
+    rows: &[Row],
+    cut: Option<usize>,
+) -> Result<ClientCore, Fail> {
     let mut client = new_client(alloc)?;
     for row in rows {
-        check(rt, alloc, &mut client, row)?;
+        check(rt, alloc, &mut client, row, cut)?;
     }
     Ok(client)
+}
+
+// The same with every cut of each piece, and at last with none.
+fn play(rt: &impl Abort, alloc: Global, rows: &[Row]) -> Result<ClientCore, Fail> {
+    for cut in 0..LONGEST {
+        play_cut(rt, alloc, rows, Some(cut))?;
+    }
+    play_cut(rt, alloc, rows, None)
 }

@@ -42,7 +42,7 @@ fn the_seventeenth_is_refused(rt: HostRuntime) -> Result<(), Fail> {
     let mut client = new_client(rt.alloc())?;
     for kept in 1..17 {
         let kept = writes(Act::Publish(QoS::ExactlyOnce, b'x'), &NOTHING, kept, 0);
-        check(&rt, rt.alloc(), &mut client, &kept)?;
+        check(&rt, rt.alloc(), &mut client, &kept, None)?;
     }
     let full = refused(
         Act::Publish(QoS::AtLeastOnce, b'x'),
@@ -50,14 +50,14 @@ fn the_seventeenth_is_refused(rt: HostRuntime) -> Result<(), Fail> {
         16,
         0,
     );
-    check(&rt, rt.alloc(), &mut client, &full)?;
+    check(&rt, rt.alloc(), &mut client, &full, None)?;
     let offline = refused(
         Act::Publish(QoS::AtMostOnce, b'x'),
         ClientError::NotActive,
         16,
         0,
     );
-    check(&rt, rt.alloc(), &mut client, &offline)
+    check(&rt, rt.alloc(), &mut client, &offline, None)
 }
 
 // A session that the server lost takes with it what was kept and which identifiers were accepted.
@@ -77,7 +77,7 @@ fn a_lost_session_forgets(rt: HostRuntime) -> Result<(), Fail> {
         refused(Act::Bytes(&CONNACK), ClientError::SessionLost, 0, 1),
         writes(Act::Bytes(&NOTHING), &PUBREC, 0, 2),
     ];
-    let client = play(&rt, rt.alloc(), &rows)?;
+    let client = play_cut(&rt, rt.alloc(), &rows, None)?;
     assert!(rt; client.connected());
     assert_eq!(rt; client.accepted().last().map(|one| one.session), Some(2));
     Ok(())
