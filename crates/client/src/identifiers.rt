@@ -4,7 +4,8 @@ ghost use Rattle.std.specs.Prelude.{◌≡◌, ◌==◌, filter, not, IfSome, Is
 ghost use Rattle.std.specs.List.{list_any};
 ghost use Rattle.lists.specs.Lists.{has_id};
 ghost use Rattle.client_base.specs.State.{id_of_request, used_ids};
-ghost use Rattle.client_base.specs.Answered.{without_id, awaits_puback, awaits_pubrec, is_subscribe, is_unsubscribe};
+ghost use Rattle.client_base.specs.Answered.{awaits_puback, awaits_pubrec, is_subscribe, is_unsubscribe};
+ghost use Rattle.session_base.specs.Identifiers.{without_id};
 ghost use Rattle.client_base.specs.Calls.{next_id, has_free_id};
 
 use crate::client_core::ClientCore;

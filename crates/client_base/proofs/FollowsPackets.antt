@@ -11,7 +11,8 @@ use Rattle.packet.specs.declared.publish.Publish.{Publish}
 use Rattle.session_base.specs.Publication.{publication_of, is_acknowledged}
 use Rattle.client_base.specs.declared.accepted.Accepted.{Accepted}
 use Rattle.client_base.specs.State.{ClientState}
-use Rattle.client_base.specs.Answered.{Turn, without_id, awaits_puback, on_publish, on_puback, on_pubrel}
+use Rattle.client_base.specs.Answered.{Turn, awaits_puback, on_publish, on_puback, on_pubrel}
+use Rattle.session_base.specs.Identifiers.{without_id}
 use Rattle.client_base.specs.Keeper.{Own, Connection, Keeper, Side}
 use Rattle.client_base.specs.Written.{plain, writing}
 use Rattle.client_base.specs.Handled.{at_puback, takes_in}

@@ -7,7 +7,8 @@ use Rattle.lists.proofs.Identifiers.{has_append}
 use Rattle.packet.specs.declared.packet.Packet.TheVariants as packets
 use Rattle.session_base.specs.Publication.{is_acknowledged}
 use Rattle.client_base.specs.State.{ClientState}
-use Rattle.client_base.specs.Answered.{without_id, awaits_pubrec, on_pubrec, on_pubcomp}
+use Rattle.client_base.specs.Answered.{awaits_pubrec, on_pubrec, on_pubcomp}
+use Rattle.session_base.specs.Identifiers.{without_id}
 use Rattle.client_base.specs.Keeper.{Own, Keeper, Side}
 use Rattle.client_base.specs.Written.{plain, writing}
 use Rattle.client_base.specs.Handled.{at_pubrec, at_pubcomp, is_sent_with, releasing}

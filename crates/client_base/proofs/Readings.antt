@@ -3,7 +3,8 @@ use Rattle.std.proofs.Common.{◌≡◌, ℕ, Bool, true, false, not, ◌&&◌, 
 use Rattle.std.specs.List.{list_any}
 use Rattle.session_base.specs.Publication.{is_acknowledged}
 use Rattle.client_base.specs.declared.kept_publication.KeptPublication.{KeptPublication}
-use Rattle.client_base.specs.Answered.{without_id, awaits_puback, awaits_pubrec}
+use Rattle.client_base.specs.Answered.{awaits_puback, awaits_pubrec}
+use Rattle.session_base.specs.Identifiers.{without_id}
 use Rattle.client_base.specs.Keeper.{Own}
 use Rattle.client_base.specs.Handled.{at_puback, at_pubrec, at_pubcomp, is_sent_with}
 use Rattle.client_base.specs.History.{sent_of, unsent_of, released_of}

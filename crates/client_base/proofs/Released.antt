@@ -2,7 +2,7 @@
 use Rattle.std.proofs.Common.{◌≡◌, ℕ, Bool, true, false, not, ◌&&◌, ◌||◌, ◌==◌, if◌then◌else◌, List, [], ◌∷◌, map, refl, ap, ap₂, sym, ◌∙◌, arith}
 use Rattle.lists.specs.Lists.{has_id}
 use Rattle.session_base.specs.Publication.{is_acknowledged}
-use Rattle.client_base.specs.Answered.{without_id}
+use Rattle.session_base.specs.Identifiers.{without_id}
 use Rattle.client_base.specs.Keeper.{Own}
 use Rattle.client_base.specs.Handled.{at_pubrec, is_sent_with}
 use Rattle.client_base.specs.History.{released_of}

@@ -15,6 +15,7 @@ use Rattle.client_base.specs.declared.kept_publication.KeptPublication.{KeptPubl
 use Rattle.client_base.specs.declared.request.Request.{Request}
 use Rattle.client_base.specs.declared.request.Request.TheVariants as requests
 use Rattle.client_base.specs.State.{ClientState, lost}
+use Rattle.session_base.specs.Identifiers.{without_id}
 
 -- what a step leaves, the packets that it writes, and why it is refused, where it is
 pub record Turn : Type 0 where
@@ -50,9 +51,6 @@ on_publish p (deliveries.ExactlyOnce dup id) state =
     (if has_id id state.received then state
     else record (accepting p state) { received = state.received ++ id ∷ [] })
     (packets.Pubrec id ∷ [])
-
-abbrev pub without_id : ℕ → List ℕ → List ℕ
-without_id id = filter (λ other. not (id == other))
 
 -- PUBREL: the identifier is kept no longer, and PUBCOMP answers in any case (MQTT 4.3.3)
 abbrev pub on_pubrel : ℕ → ClientState → Turn

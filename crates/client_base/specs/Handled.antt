@@ -9,7 +9,8 @@ use Rattle.session_base.specs.declared.publication.Publication.{Publication}
 use Rattle.session_base.specs.Publication.{publication_of, is_acknowledged}
 use Rattle.lists.specs.Lists.{has_id}
 use Rattle.client_base.specs.declared.request.Request.{Request}
-use Rattle.client_base.specs.Answered.{without_id, is_subscribe, is_unsubscribe}
+use Rattle.client_base.specs.Answered.{is_subscribe, is_unsubscribe}
+use Rattle.session_base.specs.Identifiers.{without_id}
 use Rattle.client_base.specs.Keeper.{Own, Keeper, Side}
 use Rattle.client_base.specs.Written.{plain, resent, sent_all, writing}
 
