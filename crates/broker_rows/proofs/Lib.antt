@@ -3,6 +3,7 @@ pub mod AnswersOfGranted
 pub mod CommandOfNobody
 pub mod CommandOfOwner
 pub mod ConnectSteps
+pub mod CopiesInParts
 pub mod FindsEach
 pub mod GrantedBySessions
 pub mod GreatestGranted
@@ -23,4 +24,5 @@ pub mod ServedGoesOn
 pub mod ServedStep
 pub mod SessionParted
 pub mod StartSteps
+pub mod SubscribesInTurn
 pub mod maps

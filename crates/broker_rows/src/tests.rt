@@ -23,6 +23,8 @@ fn laws_are_called() -> Result<(), Fail> {
     refused_publication_steps();
     taken_publication_steps();
     change_is_of_one_row();
+    copies_in_parts();
+    subscribes_in_turn();
     maps_stay();
     owners_of_connect();
     owners_of_end();
