@@ -8,6 +8,7 @@ mod laws;
 mod map_laws;
 mod packet_laws;
 mod publish_laws;
+mod rows;
 
 pub use connect_laws::{connect_steps, full_connect_steps, insertion_writes, start_steps};
 pub use copy_laws::{copies_in_parts, subscribes_in_turn};
@@ -24,6 +25,7 @@ pub use packet_laws::{
     subscribe_steps,
 };
 pub use publish_laws::{change_is_of_one_row, refused_publication_steps, taken_publication_steps};
+pub use rows::{maps_of_three_clients, one_publication_for_three_clients};
 
 #[cfg(test)]
 mod tests;

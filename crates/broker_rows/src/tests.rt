@@ -30,5 +30,7 @@ fn laws_are_called() -> Result<(), Fail> {
     owners_of_end();
     content_of_subscriptions();
     content_of_ended_sessions();
+    one_publication_for_three_clients();
+    maps_of_three_clients();
     Ok(())
 }
