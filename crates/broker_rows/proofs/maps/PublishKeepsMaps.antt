@@ -11,7 +11,7 @@ use Rattle.broker_rows.specs.Indexed.{qos_at, subscribed_in, content_in}
 use Rattle.broker_rows.specs.Owners.{owners_in}
 use Rattle.broker_rows.specs.OwnerLaws.{PublishingKeepsOwners}
 use Rattle.broker_rows.specs.IndexLaws.{PublishingKeepsContent}
-use Rattle.broker_rows.proofs.OneChanged.{changed_next}
+use Rattle.broker_rows.proofs.publications.OneChanged.{changed_next}
 use Rattle.broker_rows.proofs.maps.OwnersStay.{owners_changed}
 
 -- a row is changed, but for its subscriptions

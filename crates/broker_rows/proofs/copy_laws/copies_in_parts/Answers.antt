@@ -1,4 +1,4 @@
-use Rattle.broker_rows.proofs.CopiesInParts.{copies_join, copies_take_room}
+use Rattle.broker_rows.proofs.publications.CopiesInParts.{copies_join, copies_take_room}
 use Rattle.broker_rows.proofs.copy_laws.copies_in_parts.Goals as goal
 
 pub returns : goal.returns

@@ -13,8 +13,8 @@ use Rattle.broker_base.specs.State.{Sessions, session_in}
 use Rattle.broker_base.specs.StateLaws.{AreByClient}
 use Rattle.subs.specs.Granted.{Row, row_of}
 use Rattle.broker_rows.specs.Published.{granted_rows, changed, received_on, delivered_on, copy_answered, answered_in_turn}
-use Rattle.broker_rows.proofs.OneChanged.{changed_next, other_stays}
-use Rattle.broker_rows.proofs.PublishLeft.{GrantedBehind, behind_rows}
+use Rattle.broker_rows.proofs.publications.OneChanged.{changed_next, other_stays}
+use Rattle.broker_rows.proofs.publications.PublishLeft.{GrantedBehind, behind_rows}
 
 -- the granted rows rise
 abbrev pub AreRising : List Row → Type 0

@@ -14,7 +14,7 @@ use Rattle.broker_base.specs.Entries.{copies_for, copies_for_all}
 use Rattle.broker_base.specs.Marks.{is_one_too_many, entries_for, grants}
 use Rattle.broker_rows.specs.PacketLaws.{subscribed_to}
 use Rattle.broker_rows.specs.CopyLaws.{is_granted_in, granted_in_turn, subscribed_in_turn, sent_in_turn, SubscribesInTurn}
-use Rattle.broker_rows.proofs.CopiesInParts.{copies_join, copies_take_room}
+use Rattle.broker_rows.proofs.publications.CopiesInParts.{copies_join, copies_take_room}
 
 module _ (limits : Limits) (w : ℕ) (content : RetainedTopics) where
   -- ---- one filter that is granted
