@@ -7,6 +7,7 @@ pub mod GreatestGranted
 pub mod OneChanged
 pub mod PublishLeft
 pub mod PublishSteps
+pub mod RoomInTurn
 pub mod RoomOfGranted
 pub mod RowOfPublish
 pub mod SubscribesInTurn

@@ -24,7 +24,10 @@ pub use packet_laws::{
     handled_packet_steps, leaving_steps, nobodys_steps, repeat_steps, served_session_is_found,
     subscribe_steps,
 };
-pub use publish_laws::{change_is_of_one_row, refused_publication_steps, taken_publication_steps};
+pub use publish_laws::{
+    change_is_of_one_row, refused_publication_steps, room_lasts_to_its_turn,
+    taken_publication_steps,
+};
 pub use rows::{maps_of_three_clients, one_publication_for_three_clients};
 
 #[cfg(test)]

@@ -22,6 +22,7 @@ fn laws_are_called() -> Result<(), Fail> {
     start_steps();
     refused_publication_steps();
     taken_publication_steps();
+    room_lasts_to_its_turn();
     change_is_of_one_row();
     copies_in_parts();
     subscribes_in_turn();
