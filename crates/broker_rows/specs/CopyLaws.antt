@@ -1,10 +1,11 @@
 -- Copies that come to a connected client's session in parts, as a loop brings them, and a SUBSCRIBE filter by filter
 -- (MQTT 3.8.4, 4.6).
-use Rattle.std.specs.Prelude.{◌≡◌, ℕ, ◌-◌, Bool, not, ◌||◌, nat_lt, if◌then◌else◌, List, [], ◌∷◌, ◌++◌, length}
+use Rattle.std.specs.Prelude.{◌≡◌, ℕ, ◌-◌, Bool, true, false, not, ◌||◌, nat_lt, if◌then◌else◌, List, [], ◌∷◌, ◌++◌, length}
 use Rattle.packet.specs.declared.packet.Packet.{Packet}
 use Rattle.packet.specs.declared.subscribe.Subscription.{Subscription}
 use Rattle.retained.specs.Retained.{RetainedTopics}
 use Rattle.session_base.specs.declared.publication.Publication.{Publication}
+use Rattle.session_base.specs.Publication.{is_answered}
 use Rattle.session_base.specs.Session.{SessionState}
 use Rattle.session_base.specs.Queue.{Queue, room, copies_left}
 use Rattle.session_base.specs.Sending.{copies_sent}
@@ -27,6 +28,13 @@ abbrev pub CopiesTakeRoom : Type 0
 CopiesTakeRoom =
     (window limit : ℕ) → (copies : List Publication) → (queue : Queue) →
     room limit (copies_left window copies queue) ≡ room limit queue - length (queued copies)
+
+-- so where there is room for all of them, each finds some when its turn comes
+abbrev pub CopiesFindRoom : Type 0
+CopiesFindRoom =
+    (window limit : ℕ) → (before : List Publication) → (p : Publication) → (behind : List Publication) → (queue : Queue) →
+    nat_lt (room limit queue) (length (queued (before ++ p ∷ behind))) ≡ false → is_answered p.qos ≡ true →
+    nat_lt 0 (room limit (copies_left window before queue)) ≡ true
 
 -- ---- filter by filter
 

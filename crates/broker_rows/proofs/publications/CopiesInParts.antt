@@ -1,14 +1,16 @@
 -- Copies that come in parts: what they leave, what they send, and how much room they take.
 use Rattle.std.proofs.Common.{◌≡◌, ℕ, ◌+◌, ◌-◌, suc, Bool, true, false, nat_lt, if◌then◌else◌, List, [], ◌∷◌, ◌++◌, length, refl, ap, ◌∙◌, sym, arith}
 use Rattle.std.proofs.lemmas.List.{append_assoc, length-append}
+use Rattle.std.proofs.lemmas.List.Elements.{filter-append}
+use Rattle.std.proofs.lemmas.Bool.Decides.{nat_tests}
 use Rattle.packet.specs.declared.packet.Packet.{Packet}
 use Rattle.packet.specs.declared.packet.Packet.TheVariants as packets
 use Rattle.session_base.specs.declared.publication.Publication.{Publication}
 use Rattle.session_base.specs.Publication.{is_answered, publish_of}
-use Rattle.session_base.specs.Queue.{Flight, Queue, started_flight, enqueue, fill, filled, copies_left}
+use Rattle.session_base.specs.Queue.{Flight, Queue, started_flight, enqueue, fill, filled, room, copies_left}
 use Rattle.session_base.specs.Sending.{fill_sends, copies_sent}
 use Rattle.broker_base.specs.Entries.{queued}
-use Rattle.broker_rows.specs.CopyLaws.{CopiesJoin, CopiesTakeRoom}
+use Rattle.broker_rows.specs.CopyLaws.{CopiesJoin, CopiesTakeRoom, CopiesFindRoom}
 
 -- ---- two parts
 
@@ -97,3 +99,21 @@ copies_take_room w limit copies queue = ap (λ n. limit - n) (copies_hold w copi
   where
     apart : (limit n k : ℕ) → limit - (n + k) ≡ limit - n - k
     apart limit n k = omega arith
+
+-- how many are queued of these
+queued_among : (before : List Publication) (p : Publication) (behind : List Publication) → is_answered p.qos ≡ true →
+    length (queued (before ++ p ∷ behind)) ≡ length (queued before) + suc (length (queued behind))
+queued_among before p behind answered =
+    ap length (filter-append (λ (q : Publication). is_answered q.qos) before (p ∷ behind))
+    ∙ length-append (queued before) (queued (p ∷ behind))
+    ∙ ap (λ b. length (queued before) + length (if b then p ∷ queued behind else queued behind)) answered
+
+-- so each finds some
+pub copies_find_room : CopiesFindRoom
+copies_find_room w limit before p behind queue enough answered =
+    let many = queued_among before p behind answered in
+    let left = copies_take_room w limit before queue in
+    by (room limit queue) (length (queued (before ++ p ∷ behind))) (length (queued before)) (length (queued behind)) (room limit (copies_left w before queue)) enough many left
+  where
+    by : (r n k m l : ℕ) → nat_lt r n ≡ false → n ≡ k + suc m → l ≡ r - k → nat_lt 0 l ≡ true
+    by r n k m l enough many left = grind (arith, nat_tests)
