@@ -1,4 +1,5 @@
--- A command touches one row at most, but for a taken publication, an accepted Connect and a Start (MQTT 3.1.4).
+-- A command touches one row at most, but for a taken publication, an accepted Connect and a Start
+-- (MQTT 3.1.4).
 use Rattle.std.specs.Prelude.{◌≡◌, ℕ, false, Some, None}
 use Rattle.broker_base.specs.Connection.{ConnectionName}
 use Rattle.broker_base.specs.Place.{Client, Limits}
@@ -11,26 +12,32 @@ use Rattle.broker_base.specs.Command.{Command}
 use Rattle.broker_rows.specs.Touched.{written, comes_on, is_taken, is_accepted}
 use Rattle.broker_rows.specs.Owners.{Owners, owners_in, row_in}
 
--- a command on a client's current connection, other than a PUBLISH that is taken, changes that client's row alone
+-- a command on a client's current connection, other than a PUBLISH that is taken, changes that
+-- client's row alone
 abbrev pub OneRowIsWritten : Type 0
 OneRowIsWritten =
-    (limits : Limits) → (later : ℕ) → (state : State) → (command : Command) → (x : ConnectionName) → (owner : Client × ClientSession) →
-    AreByClient state.sessions → AreApart state.sessions → comes_on command ≡ Some x → owner_in x state.sessions ≡ Some owner →
+    (limits : Limits) → (later : ℕ) → (state : State) → (command : Command) → (x : ConnectionName) →
+    (owner : Client × ClientSession) →
+    AreByClient state.sessions → AreApart state.sessions → comes_on command ≡ Some x →
+    owner_in x state.sessions ≡ Some owner →
     is_taken (mark_in limits state command) ≡ false →
     (step limits later state command).0.sessions
     ≡ written owner.0
     (session_after (window_after later command state.window) (place_in limits state command) state.retained owner.0 owner.1)
     state.sessions
 
--- a command on a connection that is nobody's, other than an accepted Connect, leaves all rows as they are
+-- a command on a connection that is nobody's, other than an accepted Connect, leaves all rows as
+-- they are
 abbrev pub NobodyChangesNothing : Type 0
 NobodyChangesNothing =
-    (limits : Limits) → (later : ℕ) → (state : State) → (command : Command) → (x : ConnectionName) → comes_on command ≡ Some x →
+    (limits : Limits) → (later : ℕ) → (state : State) → (command : Command) → (x : ConnectionName) →
+    comes_on command ≡ Some x →
     owner_in x state.sessions ≡ None → is_accepted (mark_in limits state command) ≡ false →
     (step limits later state command).0.sessions ≡ state.sessions
 
 -- a map from connections to clients that is kept in step finds the row that owns a connection
 abbrev pub OwnerIsFoundByMap : Type 0
 OwnerIsFoundByMap =
-    (owners : Owners) → (x : ConnectionName) → (sessions : Sessions) → AreByClient sessions → owners ≡ owners_in sessions →
+    (owners : Owners) → (x : ConnectionName) → (sessions : Sessions) → AreByClient sessions →
+    owners ≡ owners_in sessions →
     owner_in x sessions ≡ row_in sessions (owners x)

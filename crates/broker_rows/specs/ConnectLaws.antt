@@ -1,5 +1,5 @@
--- What a Connect on nobody's connection does: the client's session begins or goes on, and no other is touched; and
--- what a Start leaves (MQTT 3.1.2.4, 3.1.4, 3.2.2, 4.4).
+-- What a Connect on nobody's connection does: the client's session begins or goes on, and no other
+-- is touched; and what a Start leaves (MQTT 3.1.2.4, 3.1.4, 3.2.2, 4.4).
 use Rattle.std.specs.Prelude.{◌≡◌, ℕ, Bool, true, false, ◌||◌, nat_lt, length, [], ◌∷◌, ◌++◌, map, Some, None, is_some, option_map}
 use Rattle.std.specs.BTreeMap.{insert_entry}
 use Rattle.session_base.specs.Sending.{fill_sends, resend}
@@ -25,14 +25,17 @@ is_admitted limits state c =
 
 -- whether an accepted Connect with this flag begins a session of the client
 abbrev pub begins_in : State → Client → Bool → Bool
-begins_in state c clean = begins_session clean (option_map (λ (kept : ClientSession). kept.clean) (session_in c state.sessions))
+begins_in state c clean =
+    begins_session clean (option_map (λ (kept : ClientSession). kept.clean) (session_in c state.sessions))
 
--- A Connect that is clean, that finds no session or that finds a clean one, begins one with nothing in it; the
--- connection that the client had is closed (MQTT 3.1.2.4, 3.1.4).
+-- A Connect that is clean, that finds no session or that finds a clean one, begins one with nothing
+-- in it; the connection that the client had is closed (MQTT 3.1.2.4, 3.1.4).
 abbrev pub BeginningStep : Type 0
 BeginningStep =
-    (limits : Limits) → (later : ℕ) → (state : State) → (x : ConnectionName) → (c : Client) → (clean : Bool) → IsSound state →
-    owner_in x state.sessions ≡ None → is_admitted limits state c ≡ true → begins_in state c clean ≡ true →
+    (limits : Limits) → (later : ℕ) → (state : State) → (x : ConnectionName) → (c : Client) →
+    (clean : Bool) → IsSound state →
+    owner_in x state.sessions ≡ None → is_admitted limits state c ≡ true →
+    begins_in state c clean ≡ true →
     step limits later state (commands.Connect x c clean)
     ≡ (
       record {
@@ -43,12 +46,14 @@ BeginningStep =
       closed (connection_of (session_in c state.sessions)) ++ welcome x false ∷ [],
     )
 
--- Any other goes on with the session that it finds: what is in flight is sent again in its order, and what may
--- start then starts (MQTT 4.4).
+-- Any other goes on with the session that it finds: what is in flight is sent again in its order,
+-- and what may start then starts (MQTT 4.4).
 abbrev pub ResumingStep : Type 0
 ResumingStep =
-    (limits : Limits) → (later : ℕ) → (state : State) → (x : ConnectionName) → (c : Client) → (kept : ClientSession) → IsSound state →
-    owner_in x state.sessions ≡ None → session_in c state.sessions ≡ Some kept → kept.clean ≡ false →
+    (limits : Limits) → (later : ℕ) → (state : State) → (x : ConnectionName) → (c : Client) →
+    (kept : ClientSession) → IsSound state →
+    owner_in x state.sessions ≡ None → session_in c state.sessions ≡ Some kept →
+    kept.clean ≡ false →
     step limits later state (commands.Connect x c false)
     ≡ (
       with_session c (Some (kept_resumed state.window (x, false) kept)) state,
@@ -61,14 +66,16 @@ ResumingStep =
 -- one that would begin a session too many is turned away (MQTT 3.2.2.3)
 abbrev pub FullStep : Type 0
 FullStep =
-    (limits : Limits) → (later : ℕ) → (state : State) → (x : ConnectionName) → (c : Client) → (clean : Bool) →
+    (limits : Limits) → (later : ℕ) → (state : State) → (x : ConnectionName) → (c : Client) →
+    (clean : Bool) →
     owner_in x state.sessions ≡ None → is_admitted limits state c ≡ false →
     step limits later state (commands.Connect x c clean) ≡ (state, turned_away x ∷ Close x ∷ [])
 
 -- where the client has a session, the insertion of one writes it
 abbrev pub InsertionWrites : Type 0
 InsertionWrites =
-    (c : Client) → (old new : ClientSession) → (sessions : Sessions) → AreByClient sessions → session_in c sessions ≡ Some old →
+    (c : Client) → (old new : ClientSession) → (sessions : Sessions) → AreByClient sessions →
+    session_in c sessions ≡ Some old →
     insert_entry by_bytes sessions c new ≡ written c (Some new) sessions
 
 -- ---- a Start

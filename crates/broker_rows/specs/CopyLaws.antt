@@ -1,5 +1,5 @@
--- Copies that come to a connected client's session in parts, as a loop brings them, and a SUBSCRIBE filter by filter
--- (MQTT 3.8.4, 4.6).
+-- Copies that come to a connected client's session in parts, as a loop brings them, and a SUBSCRIBE
+-- filter by filter (MQTT 3.8.4, 4.6).
 use Rattle.std.specs.Prelude.{◌≡◌, ℕ, ◌-◌, Bool, true, false, not, ◌||◌, nat_lt, if◌then◌else◌, List, [], ◌∷◌, ◌++◌, length}
 use Rattle.packet.specs.declared.packet.Packet.{Packet}
 use Rattle.packet.specs.declared.subscribe.Subscription.{Subscription}
@@ -32,26 +32,33 @@ CopiesTakeRoom =
 -- so where there is room for all of them, each finds some when its turn comes
 abbrev pub CopiesFindRoom : Type 0
 CopiesFindRoom =
-    (window limit : ℕ) → (before : List Publication) → (p : Publication) → (behind : List Publication) → (queue : Queue) →
-    nat_lt (room limit queue) (length (queued (before ++ p ∷ behind))) ≡ false → is_answered p.qos ≡ true →
+    (window limit : ℕ) → (before : List Publication) → (p : Publication) →
+    (behind : List Publication) → (queue : Queue) →
+    nat_lt (room limit queue) (length (queued (before ++ p ∷ behind))) ≡ false →
+    is_answered p.qos ≡ true →
     nat_lt 0 (room limit (copies_left window before queue)) ≡ true
 
 -- ---- filter by filter
 
--- whether a filter is granted, where the session is this one: it is not one too many, and there is room for its copies
+-- whether a filter is granted, where the session is this one: it is not one too many, and there is
+-- room for its copies
 abbrev pub is_granted_in : Limits → RetainedTopics → SessionState → Subscription → Bool
 is_granted_in limits content held new =
-    not (is_one_too_many limits held.subscriptions new || nat_lt (room limits.entries held.queue) (entries_for content new))
+    not
+    (is_one_too_many limits held.subscriptions new
+    || nat_lt (room limits.entries held.queue) (entries_for content new))
 
 -- the session behind one filter
 abbrev pub subscribed_by : Limits → ℕ → RetainedTopics → SessionState → Subscription → SessionState
 subscribed_by limits window content held new =
-    if is_granted_in limits content held new then subscribed_to window content (new ∷ []) held else held
+    if is_granted_in limits content held new then subscribed_to window content (new ∷ []) held
+    else held
 
 -- the packets that it is sent behind one filter
 abbrev pub sent_by : Limits → ℕ → RetainedTopics → SessionState → Subscription → List Packet
 sent_by limits window content held new =
-    if is_granted_in limits content held new then copies_sent window (copies_for content new) held.queue else []
+    if is_granted_in limits content held new then copies_sent window (copies_for content new) held.queue
+    else []
 
 -- which filters are granted, each of the session that those before it left
 abbrev pub granted_in_turn : Limits → ℕ → RetainedTopics → SessionState → List Subscription → List Bool
@@ -76,9 +83,11 @@ sent_in_turn limits window content held [] = []
 -- one pass over the filters decides, subscribes and sends as the step at a SUBSCRIBE does
 abbrev pub SubscribesInTurn : Type 0
 SubscribesInTurn =
-    (limits : Limits) → (window : ℕ) → (content : RetainedTopics) → (held : SessionState) → (filters : List Subscription) →
+    (limits : Limits) → (window : ℕ) → (content : RetainedTopics) → (held : SessionState) →
+    (filters : List Subscription) →
     let which = granted_in_turn limits window content held filters in
     (grants limits content held.subscriptions (room limits.entries held.queue) filters ≡ which)
-    × (subscribed_to window content (granted_of filters which) held ≡ subscribed_in_turn limits window content held filters)
+    × (subscribed_to window content (granted_of filters which) held
+    ≡ subscribed_in_turn limits window content held filters)
     × (copies_sent window (copies_for_all content (granted_of filters which)) held.queue
     ≡ sent_in_turn limits window content held filters)

@@ -1,4 +1,5 @@
--- How the map from connections to clients follows a step: what is to be done to it, where it held what the sessions say.
+-- How the map from connections to clients follows a step: what is to be done to it, where it held
+-- what the sessions say.
 use Rattle.std.specs.Prelude.{◌≡◌, ℕ, List, Some, None}
 use Rattle.std.specs.BTreeMap.{insert_entry}
 use Rattle.packet.specs.declared.delivery.Delivery.{Delivery}
@@ -20,16 +21,20 @@ use Rattle.broker_rows.specs.Owners.{owners_in, with_owner, without_owner}
 abbrev pub WritingKeepsOwners : Type 0
 WritingKeepsOwners =
     (c : Client) → (old new : ClientSession) → (rows : Sessions) → session_in c rows ≡ Some old →
-    new.connection ≡ old.connection → (y : ConnectionName) → owners_in (written c (Some new) rows) y ≡ owners_in rows y
+    new.connection ≡ old.connection → (y : ConnectionName) →
+    owners_in (written c (Some new) rows) y ≡ owners_in rows y
 
 -- where a served client's connection ends, it is removed
 abbrev pub LeavingRemovesTheOwner : Type 0
 LeavingRemovesTheOwner =
-    (state : State) → (x : ConnectionName) → (c : Client) → (kept : ClientSession) → IsServed state x c kept →
+    (state : State) → (x : ConnectionName) → (c : Client) → (kept : ClientSession) →
+    IsServed state x c kept →
     (y : ConnectionName) →
-    owners_in (written c (left_off kept) state.sessions) y ≡ without_owner (Some x) (owners_in state.sessions) y
+    owners_in (written c (left_off kept) state.sessions) y
+    ≡ without_owner (Some x) (owners_in state.sessions) y
 
--- where a session is inserted on a connection of nobody, that one is the client's, and the one that it had is removed
+-- where a session is inserted on a connection of nobody, that one is the client's, and the one that
+-- it had is removed
 abbrev pub ConnectingSetsTheOwner : Type 0
 ConnectingSetsTheOwner =
     (state : State) → (x : ConnectionName) → (c : Client) → (new : ClientSession) → IsSound state →
@@ -40,8 +45,10 @@ ConnectingSetsTheOwner =
 -- the same where a session goes on
 abbrev pub ResumingSetsTheOwner : Type 0
 ResumingSetsTheOwner =
-    (state : State) → (x : ConnectionName) → (c : Client) → (old new : ClientSession) → IsSound state →
-    owner_in x state.sessions ≡ None → session_in c state.sessions ≡ Some old → new.connection ≡ Some x →
+    (state : State) → (x : ConnectionName) → (c : Client) → (old new : ClientSession) →
+    IsSound state →
+    owner_in x state.sessions ≡ None → session_in c state.sessions ≡ Some old →
+    new.connection ≡ Some x →
     (y : ConnectionName) →
     owners_in (written c (Some new) state.sessions) y
     ≡ with_owner x c (without_owner old.connection (owners_in state.sessions)) y
@@ -53,6 +60,8 @@ StartRemovesTheOwners = (rows : Sessions) → (y : ConnectionName) → owners_in
 -- nothing, where a publication is noted and delivered
 abbrev pub PublishingKeepsOwners : Type 0
 PublishingKeepsOwners =
-    (window : ℕ) → (p : Publication) → (granted : List Row) → (c : Client) → (delivery : Delivery) → (rows : Sessions) →
+    (window : ℕ) → (p : Publication) → (granted : List Row) → (c : Client) → (delivery : Delivery) →
+    (rows : Sessions) →
     (y : ConnectionName) →
-    owners_in (all_delivered window p granted (changed c (received_on delivery) rows)) y ≡ owners_in rows y
+    owners_in (all_delivered window p granted (changed c (received_on delivery) rows)) y
+    ≡ owners_in rows y

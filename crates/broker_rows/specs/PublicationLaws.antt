@@ -17,11 +17,14 @@ use Rattle.broker_base.specs.StepAnswers.{copies_answered}
 use Rattle.broker_rows.specs.Indexed.{content_in}
 use Rattle.broker_rows.specs.Published.{granted_rows, is_full_at, copy_answered}
 
--- the rows that an index grants, where it holds the sessions' subscriptions, are the sessions that match
+-- the rows that an index grants, where it holds the sessions' subscriptions, are the sessions that
+-- match
 abbrev pub GrantedRowsMatch : Type 0
 GrantedRowsMatch =
-    (content : Content) → (topic : List ℕ) → (sessions : Sessions) → (rows : List Row) → AreByClient sessions → AllSound sessions →
-    content ≡ content_in sessions → IsGranted content topic rows → rows ≡ granted_rows topic sessions
+    (content : Content) → (topic : List ℕ) → (sessions : Sessions) → (rows : List Row) →
+    AreByClient sessions → AllSound sessions →
+    content ≡ content_in sessions → IsGranted content topic rows →
+    rows ≡ granted_rows topic sessions
 
 -- a session lacks room for a publication exactly where a granted one does
 abbrev pub RoomIsOfGrantedRows : Type 0
@@ -33,6 +36,7 @@ RoomIsOfGrantedRows =
 -- what all sessions are sent of it is what the granted ones are, in their order
 abbrev pub AnswersAreOfGrantedRows : Type 0
 AnswersAreOfGrantedRows =
-    (window : ℕ) → (x : ConnectionName) → (p : Publish) → (d : Client) → (content : RetainedTopics) → (rows : Sessions) → AreByClient rows →
+    (window : ℕ) → (x : ConnectionName) → (p : Publish) → (d : Client) →
+    (content : RetainedTopics) → (rows : Sessions) → AreByClient rows →
     flat_map (copies_answered window (taken x p d) content) rows
     ≡ flat_map (λ row. copy_answered window (publication_of p) row.1 (session_in row.0 rows)) (granted_rows p.topic rows)

@@ -1,5 +1,5 @@
--- What a PUBLISH of a served client does that is no repeat: it is refused whole, or it is taken, and the granted
--- rows alone are touched, each of them once (MQTT 3.3.1.3, 3.3.4, 3.3.5, 4.3).
+-- What a PUBLISH of a served client does that is no repeat: it is refused whole, or it is taken,
+-- and the granted rows alone are touched, each of them once (MQTT 3.3.1.3, 3.3.4, 3.3.5, 4.3).
 use Rattle.std.specs.Prelude.{◌≡◌, ℕ, Bool, false, true, ◌||◌, List, [], ◌∷◌, ◌++◌, Some, None}
 use Rattle.std.specs.List.{list_any}
 use Rattle.packet.specs.declared.publish.Publish.{Publish}
@@ -26,22 +26,27 @@ use Rattle.broker_rows.specs.Published.{granted_rows, changed, received_on, deli
 -- whether a granted row's session is full for it, or it would be retained on a topic too many
 abbrev pub is_refused_in : Limits → State → Publication → Bool
 is_refused_in limits state p =
-    list_any (λ row. is_full_at limits p row.1 (session_in row.0 state.sessions)) (granted_rows p.topic state.sessions)
+    list_any (λ row. is_full_at limits p row.1 (session_in row.0 state.sessions))
+    (granted_rows p.topic state.sessions)
     || is_one_topic_over limits state.retained p
 
 -- a publication that is refused closes its publisher's connection, and nobody gets it (MQTT 4.8)
 abbrev pub RefusedStep : Type 0
 RefusedStep =
-    (limits : Limits) → (later : ℕ) → (state : State) → (x : ConnectionName) → (c : Client) → (kept : ClientSession) →
+    (limits : Limits) → (later : ℕ) → (state : State) → (x : ConnectionName) → (c : Client) →
+    (kept : ClientSession) →
     IsServed state x c kept → (p : Publish) → is_again kept p.delivery ≡ false →
     is_refused_in limits state (publication_of p) ≡ true →
-    step limits later state (commands.Packet x (packets.Publish p)) ≡ (with_session c (left_off kept) state, Close x ∷ [])
+    step limits later state (commands.Packet x (packets.Publish p))
+    ≡ (with_session c (left_off kept) state, Close x ∷ [])
 
--- A publication that is taken is retained, its publisher's session takes note of it, and each granted session gets its
--- copy; its publisher is answered first (MQTT 3.3.4), then each granted client in turn.
+-- A publication that is taken is retained, its publisher's session takes note of it, and each
+-- granted session gets its copy; its publisher is answered first (MQTT 3.3.4), then each granted
+-- client in turn.
 abbrev pub TakenStep : Type 0
 TakenStep =
-    (limits : Limits) → (later : ℕ) → (state : State) → (x : ConnectionName) → (c : Client) → (kept : ClientSession) →
+    (limits : Limits) → (later : ℕ) → (state : State) → (x : ConnectionName) → (c : Client) →
+    (kept : ClientSession) →
     IsServed state x c kept → (p : Publish) → is_again kept p.delivery ≡ false →
     is_refused_in limits state (publication_of p) ≡ false →
     let granted = granted_rows p.topic state.sessions in
@@ -68,8 +73,10 @@ HaveRoomInTurn limits window p [] rows = Unit {0}
 -- so it is where none is full before: no copy of a taken publication finds its queue full
 abbrev pub RoomLastsToItsTurn : Type 0
 RoomLastsToItsTurn =
-    (limits : Limits) → (window : ℕ) → (p : Publication) → (c : Client) → (delivery : Delivery) → (rows : Sessions) → AreByClient rows →
-    list_any (λ row. is_full_at limits p row.1 (session_in row.0 rows)) (granted_rows p.topic rows) ≡ false →
+    (limits : Limits) → (window : ℕ) → (p : Publication) → (c : Client) → (delivery : Delivery) →
+    (rows : Sessions) → AreByClient rows →
+    list_any (λ row. is_full_at limits p row.1 (session_in row.0 rows)) (granted_rows p.topic rows)
+    ≡ false →
     HaveRoomInTurn limits window p (granted_rows p.topic rows) (changed c (received_on delivery) rows)
 
 -- ---- one session changed
@@ -78,6 +85,8 @@ RoomLastsToItsTurn =
 abbrev pub ChangeIsOfOneRow : Type 0
 ChangeIsOfOneRow =
     (d : Client) → (change : ClientSession → ClientSession) → (rows : Sessions) →
-    ((kept : ClientSession) → session_in d rows ≡ Some kept → changed d change rows ≡ written d (Some (change kept)) rows)
-    × ((kept : ClientSession) → session_in d rows ≡ Some kept → change kept ≡ kept → changed d change rows ≡ rows)
+    ((kept : ClientSession) → session_in d rows ≡ Some kept →
+    changed d change rows ≡ written d (Some (change kept)) rows)
+    × ((kept : ClientSession) → session_in d rows ≡ Some kept → change kept ≡ kept →
+    changed d change rows ≡ rows)
     × (session_in d rows ≡ None → changed d change rows ≡ rows)

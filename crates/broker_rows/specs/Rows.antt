@@ -1,5 +1,6 @@
--- Three clients' sessions, and what the words of the laws say of them, computed: a is clean and served on connection 1,
--- b is away and holds t/# at QoS 1, and c is clean, served on connection 2 and holds t/1 at QoS 2.
+-- Three clients' sessions, and what the words of the laws say of them, computed: a is clean and
+-- served on connection 1, b is away and holds t/# at QoS 1, and c is clean, served on connection 2
+-- and holds t/1 at QoS 2.
 use Rattle.std.specs.Prelude.{◌≡◌, ℕ, Bool, true, false, List, [], ◌∷◌, Option, Some, None, codes}
 use Rattle.packet.specs.declared.qos.QoS.{QoS}
 use Rattle.packet.specs.declared.qos.QoS.TheVariants as levels
@@ -56,12 +57,14 @@ seventh = deliveries.ExactlyOnce false 7
 
 -- b and c are granted it, each at its own QoS
 abbrev pub TwoAreGranted : Type 0
-TwoAreGranted = granted_rows (codes "t/1") three ≡ (b, levels.AtLeastOnce) ∷ (c, levels.ExactlyOnce) ∷ []
+TwoAreGranted =
+    granted_rows (codes "t/1") three ≡ (b, levels.AtLeastOnce) ∷ (c, levels.ExactlyOnce) ∷ []
 
 -- a's session takes note of 7, o waits for b, and c is sent it and owes PUBREC
 abbrev pub EachGetsItsCopy : Type 0
 EachGetsItsCopy =
-    all_delivered 16 (o_at levels.ExactlyOnce) (granted_rows (codes "t/1") three) (changed a (received_on seventh) three)
+    all_delivered 16 (o_at levels.ExactlyOnce) (granted_rows (codes "t/1") three)
+    (changed a (received_on seventh) three)
     ≡ row a true (Some (nth 1)) [] (7 ∷ []) empty_queue
     ∷ row b false None of_b [] (record { in_flight = []; waiting = o_at levels.AtLeastOnce ∷ [] })
     ∷ row c true (Some (nth 2)) of_c []
@@ -70,7 +73,8 @@ EachGetsItsCopy =
 
 abbrev pub OneIsAnswered : Type 0
 OneIsAnswered =
-    answered_in_turn 16 (o_at levels.ExactlyOnce) (granted_rows (codes "t/1") three) (changed a (received_on seventh) three)
+    answered_in_turn 16 (o_at levels.ExactlyOnce) (granted_rows (codes "t/1") three)
+    (changed a (received_on seventh) three)
     ≡ sends 2 (publish (deliveries.ExactlyOnce false 1) false (codes "o")) ∷ []
 
 -- ---- the maps
@@ -78,7 +82,8 @@ OneIsAnswered =
 -- connection 1 is a's until it ends, and c's where c connects on it
 abbrev pub EachOwnsItsConnection : Type 0
 EachOwnsItsConnection =
-    (owners_in three (nth 1) ≡ Some a) × (owners_in three (nth 2) ≡ Some c) × (owners_in three (nth 3) ≡ None)
+    (owners_in three (nth 1) ≡ Some a) × (owners_in three (nth 2) ≡ Some c)
+    × (owners_in three (nth 3) ≡ None)
     × (without_owner (Some (nth 1)) (owners_in three) (nth 1) ≡ None)
     × (without_owner (Some (nth 1)) (owners_in three) (nth 2) ≡ Some c)
     × (with_owner (nth 1) c (owners_in three) (nth 1) ≡ Some c)
@@ -86,13 +91,16 @@ EachOwnsItsConnection =
 -- a filter is held character by character, replaced, given up, and dropped with its client
 abbrev pub EachHoldsItsFilters : Type 0
 EachHoldsItsFilters =
-    (content_in three b (codes "t/#") ≡ Some levels.AtLeastOnce) × (content_in three b (codes "t/1") ≡ None)
+    (content_in three b (codes "t/#") ≡ Some levels.AtLeastOnce)
+    × (content_in three b (codes "t/1") ≡ None)
     × (content_in three a (codes "t/#") ≡ None)
-    × (all_set b ((codes "t/#", levels.ExactlyOnce) ∷ []) (content_in three) b (codes "t/#") ≡ Some levels.ExactlyOnce)
+    × (all_set b ((codes "t/#", levels.ExactlyOnce) ∷ []) (content_in three) b (codes "t/#")
+    ≡ Some levels.ExactlyOnce)
     × (all_cleared b (codes "t/#" ∷ []) (content_in three) b (codes "t/#") ≡ None)
     × (all_dropped (clean_clients three) (content_in three) c (codes "t/1") ≡ None)
     × (all_dropped (clean_clients three) (content_in three) b (codes "t/#") ≡ Some levels.AtLeastOnce)
 
 -- a Start leaves b's session alone
 abbrev pub OneIsLeftByAStart : Type 0
-OneIsLeftByAStart = (all_left_off three ≡ row b false None of_b [] empty_queue ∷ []) × (clean_clients three ≡ a ∷ c ∷ [])
+OneIsLeftByAStart =
+    (all_left_off three ≡ row b false None of_b [] empty_queue ∷ []) × (clean_clients three ≡ a ∷ c ∷ [])

@@ -1,4 +1,5 @@
--- A client that is served on a connection, and what a step leaves of its session (MQTT 3.1.2.4, 4.1).
+-- A client that is served on a connection, and what a step leaves of its session (MQTT 3.1.2.4,
+-- 4.1).
 use Rattle.std.specs.Prelude.{◌≡◌, if◌then◌else◌, Option, Some, None}
 use Rattle.session_base.specs.Session.{SessionState}
 use Rattle.broker_base.specs.Connection.{ConnectionName}
@@ -30,5 +31,6 @@ left_off kept =
 -- a served client's session is on the connection, and is the one that is found by the client
 abbrev pub IsOnItsConnection : Type 0
 IsOnItsConnection =
-    (state : State) → (x : ConnectionName) → (c : Client) → (kept : ClientSession) → IsServed state x c kept →
+    (state : State) → (x : ConnectionName) → (c : Client) → (kept : ClientSession) →
+    IsServed state x c kept →
     (kept.connection ≡ Some x) × (session_in c state.sessions ≡ Some kept)

@@ -31,7 +31,8 @@ written d None rows = remove_entry (is_at (by_bytes d)) rows
 -- the place touches no session but the client's and that of the connection
 abbrev pub IsOnes : Place → ConnectionName → Client → Type 0
 IsOnes place x d =
-    (c : Client) (kept : ClientSession) → same_client d c ≡ false → any_connection (same_connection x) kept.connection ≡ false →
+    (c : Client) (kept : ClientSession) → same_client d c ≡ false →
+    any_connection (same_connection x) kept.connection ≡ false →
     touches place c kept ≡ false
 
 -- the connection on which a command comes

@@ -29,7 +29,8 @@ pub fn room_is_of_granted_rows()
     ensures { RoomIsOfGrantedRows }
 {}
 
-/// What all clients are sent of a publication is what those of the granted rows are, in their order.
+/// What all clients are sent of a publication is what those of the granted rows are, in their
+/// order.
 pub fn answers_are_of_granted_rows()
     ensures { AnswersAreOfGrantedRows }
 {}

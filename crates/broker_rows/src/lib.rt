@@ -1,5 +1,5 @@
-//! The step on all clients, taken apart into the rows that a command touches: which row it writes, and
-//! which rows a taken publication asks.
+//! The step on all clients, taken apart into the rows that a command touches: which row it writes,
+//! and which rows a taken publication asks.
 #![tactic(auto)]
 
 mod connect_laws;

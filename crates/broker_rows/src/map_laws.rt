@@ -1,5 +1,5 @@
-// Laws of the map of owners and of the index of subscriptions: what each step does to them. The calls do
-// nothing; their contracts are the laws.
+// Laws of the map of owners and of the index of subscriptions: what each step does to them. The
+// calls do nothing; their contracts are the laws.
 
 ghost use Rattle.broker_rows.specs.OwnerLaws.{
   WritingKeepsOwners,
@@ -28,8 +28,8 @@ pub fn maps_stay()
     ensures published_content { PublishingKeepsContent }
 {}
 
-/// The connection of an accepted Connect is its client's, and the one that the client had is nobody's
-/// (MQTT 3.1.4).
+/// The connection of an accepted Connect is its client's, and the one that the client had is
+/// nobody's (MQTT 3.1.4).
 pub fn owners_of_connect()
     ensures begins { ConnectingSetsTheOwner }
     ensures resumes { ResumingSetsTheOwner }
@@ -48,8 +48,8 @@ pub fn content_of_subscriptions()
     ensures clears { UnsubscribingClears }
 {}
 
-/// The subscriptions of a session that is over are dropped: where a clean one loses its connection, where
-/// another begins in its place, and at a Start (MQTT 3.1.2.4).
+/// The subscriptions of a session that is over are dropped: where a clean one loses its connection,
+/// where another begins in its place, and at a Start (MQTT 3.1.2.4).
 pub fn content_of_ended_sessions()
     ensures leaving { LeavingDropsTheClean }
     ensures begins { BeginningDrops }

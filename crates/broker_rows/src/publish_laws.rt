@@ -2,14 +2,14 @@
 
 ghost use Rattle.broker_rows.specs.PublishLaws.{RefusedStep, TakenStep, RoomLastsToItsTurn, ChangeIsOfOneRow};
 
-/// A publication for which a granted row's session is full, or that would be retained on a topic too many,
-/// is refused whole: its publisher's connection ends (MQTT 4.8).
+/// A publication for which a granted row's session is full, or that would be retained on a topic
+/// too many, is refused whole: its publisher's connection ends (MQTT 4.8).
 pub fn refused_publication_steps()
     ensures { RefusedStep }
 {}
 
-/// Any other is taken: it is retained, its publisher's session takes note of its identifier, and each
-/// granted session in turn gets its copy and what that sends (MQTT 3.3.4, 3.3.5, 4.3).
+/// Any other is taken: it is retained, its publisher's session takes note of its identifier, and
+/// each granted session in turn gets its copy and what that sends (MQTT 3.3.4, 3.3.5, 4.3).
 pub fn taken_publication_steps()
     ensures { TakenStep }
 {}
