@@ -3,6 +3,7 @@ pub mod ContentAfter
 pub mod ContentOfStart
 pub mod ContentOfSteps
 pub mod FiltersHeld
+pub mod MadeAnew
 pub mod OwnersConnect
 pub mod OwnersLeave
 pub mod OwnersStay

@@ -5,19 +5,19 @@ use Rattle.std.specs.BTreeMap.{insert_entry}
 use Rattle.packet.specs.declared.delivery.Delivery.{Delivery}
 use Rattle.session_base.specs.declared.publication.Publication.{Publication}
 use Rattle.session_base.specs.Subscriptions.{HeldFilter, with_subscriptions, without_filters}
-use Rattle.subs.specs.Content.{without_client}
+use Rattle.subs.specs.Content.{no_subscriptions, without_client}
 use Rattle.subs.specs.Granted.{Row}
 use Rattle.broker_base.specs.Connection.{ConnectionName}
 use Rattle.broker_base.specs.Place.{Client, by_bytes}
 use Rattle.broker_base.specs.ClientSession.{ClientSession}
 use Rattle.broker_base.specs.SessionStep.{kept_anew}
 use Rattle.broker_base.specs.State.{Sessions, session_in}
-use Rattle.broker_base.specs.StateLaws.{AreByClient}
+use Rattle.broker_base.specs.StateLaws.{AllSound, AreByClient}
 use Rattle.broker_rows.specs.Touched.{written}
 use Rattle.broker_rows.specs.Served.{left_off}
 use Rattle.broker_rows.specs.ConnectLaws.{all_left_off}
 use Rattle.broker_rows.specs.Published.{changed, received_on, all_delivered}
-use Rattle.broker_rows.specs.Indexed.{content_in, all_set, all_cleared, all_dropped, clean_clients}
+use Rattle.broker_rows.specs.Indexed.{content_in, all_set, all_cleared, all_dropped, clean_clients, all_told}
 
 -- nothing, where a session is written with the subscriptions that it had
 abbrev pub WritingKeepsContent : Type 0
@@ -73,3 +73,8 @@ PublishingKeepsContent =
     (rows : Sessions) →
     content_in (all_delivered window p granted (changed c (received_on delivery) rows))
     ≡ content_in rows
+
+-- an index that is made anew is told of each session's filters
+abbrev pub IndexMadeAnew : Type 0
+IndexMadeAnew =
+    (rows : Sessions) → AreByClient rows → AllSound rows → content_in rows ≡ all_told rows no_subscriptions

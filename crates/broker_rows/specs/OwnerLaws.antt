@@ -9,13 +9,13 @@ use Rattle.broker_base.specs.Connection.{ConnectionName}
 use Rattle.broker_base.specs.Place.{Client, by_bytes}
 use Rattle.broker_base.specs.ClientSession.{ClientSession}
 use Rattle.broker_base.specs.State.{Sessions, State, session_in, owner_in}
-use Rattle.broker_base.specs.StateLaws.{IsSound}
+use Rattle.broker_base.specs.StateLaws.{AreApart, IsSound}
 use Rattle.broker_base.specs.StepAnswers.{connection_of}
 use Rattle.broker_rows.specs.Touched.{written}
 use Rattle.broker_rows.specs.Served.{IsServed, left_off}
 use Rattle.broker_rows.specs.ConnectLaws.{all_left_off}
 use Rattle.broker_rows.specs.Published.{changed, received_on, all_delivered}
-use Rattle.broker_rows.specs.Owners.{owners_in, with_owner, without_owner}
+use Rattle.broker_rows.specs.Owners.{owners_in, with_owner, without_owner, no_owners, all_owned}
 
 -- nothing, where a session is written with the connection that it had
 abbrev pub WritingKeepsOwners : Type 0
@@ -65,3 +65,8 @@ PublishingKeepsOwners =
     (y : ConnectionName) →
     owners_in (all_delivered window p granted (changed c (received_on delivery) rows)) y
     ≡ owners_in rows y
+
+-- a map that is made anew is told of each session's connection
+abbrev pub OwnersMadeAnew : Type 0
+OwnersMadeAnew =
+    (rows : Sessions) → AreApart rows → (y : ConnectionName) → owners_in rows y ≡ all_owned rows no_owners y

@@ -1,5 +1,5 @@
 -- Whose current connection each connection is, as a map keeps it.
-use Rattle.std.specs.Prelude.{if◌then◌else◌, Option, Some, None, option_map}
+use Rattle.std.specs.Prelude.{if◌then◌else◌, [], ◌∷◌, Option, Some, None, option_map}
 use Rattle.broker_base.specs.Connection.{ConnectionName, same_connection}
 use Rattle.broker_base.specs.Place.{Client}
 use Rattle.broker_base.specs.ClientSession.{ClientSession}
@@ -26,3 +26,17 @@ with_owner x c owners y = if same_connection x y then Some c else owners y
 abbrev pub without_owner : Option ConnectionName → Owners → Owners
 without_owner (Some x) owners y = if same_connection x y then None else owners y
 without_owner None owners y = owners y
+
+-- no connection is anybody's
+abbrev pub no_owners : Owners
+no_owners y = None
+
+-- a connection that there may be becomes the client's
+abbrev pub owned_by : Option ConnectionName → Client → Owners → Owners
+owned_by (Some x) c owners = with_owner x c owners
+owned_by None c owners = owners
+
+-- the connections of all these sessions become their clients'
+abbrev pub all_owned : Sessions → Owners → Owners
+all_owned (row ∷ rows) owners = all_owned rows (owned_by row.1.connection row.0 owners)
+all_owned [] owners = owners

@@ -17,8 +17,8 @@ pub use laws::{
     owner_is_found_by_map, room_is_of_granted_rows,
 };
 pub use map_laws::{
-    content_of_ended_sessions, content_of_subscriptions, maps_stay, owners_of_connect,
-    owners_of_end,
+    content_of_ended_sessions, content_of_subscriptions, maps_made_anew, maps_stay,
+    owners_of_connect, owners_of_end,
 };
 pub use packet_laws::{
     handled_packet_steps, leaving_steps, nobodys_steps, repeat_steps, served_session_is_found,

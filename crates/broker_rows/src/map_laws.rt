@@ -8,6 +8,7 @@ ghost use Rattle.broker_rows.specs.OwnerLaws.{
   ResumingSetsTheOwner,
   StartRemovesTheOwners,
   PublishingKeepsOwners,
+  OwnersMadeAnew,
 };
 ghost use Rattle.broker_rows.specs.IndexLaws.{
   WritingKeepsContent,
@@ -17,6 +18,7 @@ ghost use Rattle.broker_rows.specs.IndexLaws.{
   BeginningDrops,
   StartDropsTheClean,
   PublishingKeepsContent,
+  IndexMadeAnew,
 };
 
 /// A session that is written with its own connection leaves the map of owners, and with its own
@@ -54,4 +56,10 @@ pub fn content_of_ended_sessions()
     ensures leaving { LeavingDropsTheClean }
     ensures begins { BeginningDrops }
     ensures start { StartDropsTheClean }
+{}
+
+/// A map of owners and an index that are made anew from the sessions are in step with them.
+pub fn maps_made_anew()
+    ensures owners { OwnersMadeAnew }
+    ensures content { IndexMadeAnew }
 {}

@@ -27,6 +27,7 @@ fn laws_are_called() -> Result<(), Fail> {
     copies_in_parts();
     subscribes_in_turn();
     maps_stay();
+    maps_made_anew();
     owners_of_connect();
     owners_of_end();
     content_of_subscriptions();

@@ -39,7 +39,7 @@ is_clean (Some kept) = kept.clean
 is_clean None = false
 
 -- bytes are tested equal as clients are
-same_bytes : (c d : Client) → bytes_eq d c ≡ same_client c d
+pub same_bytes : (c d : Client) → bytes_eq d c ≡ same_client c d
 same_bytes c d = by (bytes_eq d c) refl (same_client c d) refl
   where
     by : (a : Bool) → bytes_eq d c ≡ a → (b : Bool) → same_client c d ≡ b → a ≡ b

@@ -7,7 +7,7 @@ use Rattle.session_base.specs.Subscriptions.{HeldFilter, with_subscription, with
 use Rattle.broker_rows.specs.Indexed.{qos_at}
 
 -- bytes that are tested equal, either way round
-bytes_back : (f g : List ℕ) → bytes_eq f g ≡ bytes_eq g f
+pub bytes_back : (f g : List ℕ) → bytes_eq f g ≡ bytes_eq g f
 bytes_back f g = by (bytes_eq f g) refl (bytes_eq g f) refl
   where
     by : (a : Bool) → bytes_eq f g ≡ a → (b : Bool) → bytes_eq g f ≡ b → a ≡ b

@@ -76,7 +76,7 @@ at_behind s others f p apart found =
     ] refl
 
 -- a filter that is not held has no QoS
-none_held : (f : List ℕ) (held : List HeldFilter) → is_held f held ≡ false → qos_at f held ≡ None
+pub none_held : (f : List ℕ) (held : List HeldFilter) → is_held f held ≡ false → qos_at f held ≡ None
 none_held f [] e = refl
 none_held f (old ∷ others) e =
     let parts = or_parts (bytes_eq f old.0) (is_held f others) e in rw (parts.0) (none_held f others parts.1)
