@@ -42,6 +42,7 @@ served_on state x c kept served = on_is x kept.connection (on_owner x (c, kept) 
 pub served_found : (state : State) (x : ConnectionName) (c : Client) (kept : ClientSession) → IsServed state x c kept → session_in c state.sessions ≡ Some kept
 served_found state x c kept served = owner_found x (c, kept) state.sessions served.sound.by_client served.owner
 
+-- both
 pub on_its_connection : IsOnItsConnection
 on_its_connection state x c kept served = (served_on state x c kept served, served_found state x c kept served)
 
