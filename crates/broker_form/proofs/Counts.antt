@@ -22,7 +22,8 @@ use Rattle.broker_base.specs.StateLaws.{AreByClient}
 use Rattle.broker_base.specs.Decisions.{is_one_topic_over, has_no_room_for, refuses, is_again, packet_mark_in, connect_mark_in, place_in}
 use Rattle.broker_base.specs.Step.{session_after, sessions_left, sessions_with, window_after, step}
 use Rattle.broker_base.proofs.SessionsStayByClient.{left_by_client}
-use Rattle.broker_form.specs.InRange.{CanBeSent, IsRetained}
+use Rattle.session_form.specs.InRange.{CanBeSent}
+use Rattle.broker_form.specs.InRange.{IsRetained}
 use Rattle.broker_form.proofs.Publications.{made, marked}
 use Rattle.broker_form.proofs.Tables.{put_one_more, put_known, put_rises, without_rises, without_fewer, all_put, all_without}
 

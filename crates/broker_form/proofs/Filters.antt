@@ -30,7 +30,8 @@ use Rattle.broker_model.specs.Logged.{IsBrokerCommand}
 use Rattle.broker_model.specs.declared.command.Command.{Command}
 use Rattle.broker_model.specs.declared.command.Command.TheVariants as commands
 use Rattle.broker_base.specs.SessionStep.{copies_with}
-use Rattle.broker_form.specs.InRange.{CanBeSent, IsRetained, IsHeld}
+use Rattle.session_form.specs.InRange.{CanBeSent, IsHeld}
+use Rattle.broker_form.specs.InRange.{IsRetained}
 use Rattle.broker_form.proofs.Publications.{marked, lower, lower_asked, carried}
 use Rattle.broker_form.proofs.Queues.{all_append, all_filter}
 

@@ -12,7 +12,7 @@ use Rattle.session_base.specs.Queue.{Flight, Queue, ids_of, awaited, is_released
 use Rattle.session_base.proofs.IdentifiersStayApart.{pubrec_length}
 use Rattle.broker_model.proofs.LeastFree.{least-in-reach}
 use Rattle.broker_model.specs.Entries.{queued}
-use Rattle.broker_form.specs.InRange.{CanBeSent, IsWaiting, IsInFlight, IsQueue}
+use Rattle.session_form.specs.InRange.{CanBeSent, IsWaiting, IsInFlight, IsQueue}
 use Rattle.broker_form.proofs.Publications.{made}
 
 -- ---- lists

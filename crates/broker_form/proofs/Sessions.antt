@@ -20,7 +20,8 @@ use Rattle.broker_base.specs.ClientSession.{ClientSession}
 use Rattle.broker_base.specs.SessionStep.{copies_with, filled_on, answered_queue, copied_queue, kept_on, kept_anew, kept_resumed, kept_connected, kept_by, kept_after}
 use Rattle.broker_base.specs.Step.{touches, session_after}
 use Rattle.broker_base.specs.StateLaws.{IsSoundSession}
-use Rattle.broker_form.specs.InRange.{CanBeSent, IsRetained, IsNamed, IsQueue, IsSession}
+use Rattle.session_form.specs.InRange.{CanBeSent, IsQueue}
+use Rattle.broker_form.specs.InRange.{IsRetained, IsNamed, IsSession}
 use Rattle.broker_form.proofs.Queues.{wider, fill_in_range, puback_in_range, pubrec_in_range, pubcomp_in_range, copies_in_range, waiting_in_range}
 use Rattle.broker_form.proofs.Filters.{filters_in_range, received_in_range, copies_can_be_sent}
 

@@ -21,7 +21,8 @@ use Rattle.broker_base.specs.StateLaws.{AllSound}
 use Rattle.broker_base.specs.Decisions.{place_in, mark_in}
 use Rattle.broker_base.specs.Step.{session_after, sessions_left, sessions_with, window_after}
 use Rattle.broker_base.proofs.StatesStaySound.{stays_sound}
-use Rattle.broker_form.specs.InRange.{CanBeSent, IsRetained, IsSession}
+use Rattle.session_form.specs.InRange.{CanBeSent}
+use Rattle.broker_form.specs.InRange.{IsRetained, IsSession}
 use Rattle.broker_form.specs.RangeLaws.{StaysInRange}
 use Rattle.broker_form.proofs.Publications.{carried}
 use Rattle.broker_form.proofs.Sessions.{IfSession, connected, session_in_range}
