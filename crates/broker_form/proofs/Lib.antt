@@ -10,3 +10,6 @@ pub mod States
 pub mod Sends
 pub mod Answers
 pub mod EveryAnswer
+pub mod RowsAgain
+pub mod RowsFollow
+pub mod Thawing

@@ -19,18 +19,18 @@ use Rattle.session_form.specs.InRange.{CanBeSent, IsWaiting, IsInFlight, IsHeld}
 use Rattle.session_form.specs.Form.{long_number, one_byte, publication_bytes, held_bytes, awaits_bytes, flight_bytes, flag_at, long_number_at, qos_at, body_length, publication_at, held_at, waiting_at, sent_at, awaits_at, flight_at}
 use Rattle.session_form.proofs.Counted.{IsReadAgain}
 
-flag_again : (b : Bool) (rest : List ℕ) → flag_at (bit b ∷ rest) ≡ Ok (b, rest)
+pub flag_again : (b : Bool) (rest : List ℕ) → flag_at (bit b ∷ rest) ≡ Ok (b, rest)
 unfolding flag_at
 flag_again true rest = refl
 flag_again false rest = refl
 
-qos_again : (q : QoS) (rest : List ℕ) → qos_at (qos_number q ∷ rest) ≡ Ok (q, rest)
+pub qos_again : (q : QoS) (rest : List ℕ) → qos_at (qos_number q ∷ rest) ≡ Ok (q, rest)
 unfolding qos_at
 qos_again levels.AtMostOnce rest = refl
 qos_again levels.AtLeastOnce rest = refl
 qos_again levels.ExactlyOnce rest = refl
 
-long_again : (n : ℕ) (rest : List ℕ) → n < 2 ^ 32 → long_number_at (long_number n ++ rest) ≡ Ok (n, rest)
+pub long_again : (n : ℕ) (rest : List ℕ) → n < 2 ^ 32 → long_number_at (long_number n ++ rest) ≡ Ok (n, rest)
 unfolding long_number_at
 long_again n rest small = rw (front_again (long_number n) rest 4 refl, from_be_bytes-to_be_bytes_4 n small) refl
 
