@@ -1,6 +1,6 @@
 -- The bytes to which a session is frozen, form 1, and the session that bytes stand for. Numbers are big-endian, a
 -- text has its length in two bytes before it.
-use Rattle.std.specs.Prelude.{ℕ, ◌+◌, ◌-◌, Bool, true, not, ◌&&◌, ◌||◌, ◌==◌, nat_lt, nat_le, if◌then◌else◌, List, [], ◌∷◌, ◌++◌, length, Option, Some, None, Result, Ok}
+use Rattle.std.specs.Prelude.{ℕ, ◌+◌, ◌-◌, ◌<◌, ◌^◌, Bool, true, not, ◌&&◌, ◌||◌, ◌==◌, nat_lt, nat_le, if◌then◌else◌, List, [], ◌∷◌, ◌++◌, length, Option, Some, None, Result, Ok}
 use Rattle.std.specs.Int.{w32, to_be_bytes, from_be_bytes}
 use Rattle.packet_base.specs.declared.stop.Stop.{Stop}
 use Rattle.packet_base.specs.Spelling.{number, text, bit}
@@ -169,3 +169,15 @@ state_at bytes = do
     },
     waiting.1,
   )
+
+-- ---- what can be written
+
+-- the payload's length fits four bytes
+abbrev pub HasLength : Publication → Type 0
+HasLength p = length p.payload < 2 ^ 32
+
+-- so does that of an entry's publication, if it has one
+abbrev pub IsWritable : Awaits → Type 0
+IsWritable (waits_for.Puback p) = HasLength p
+IsWritable (waits_for.Pubrec p) = HasLength p
+IsWritable waits_for.Pubcomp = Unit {0}

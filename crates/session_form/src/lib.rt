@@ -2,8 +2,17 @@
 #![tactic(auto)]
 
 mod laws;
+mod reading;
+mod writing;
 
 pub use laws::{frozen_is_read, read_has_form};
+pub use reading::{
+    body_length, keep, read_flag, read_flight, read_held, read_long_number, read_publication,
+    read_qos, read_waiting,
+};
+pub use writing::{
+    write_flight, write_held, write_number, write_payload, write_publication, write_text,
+};
 
 #[cfg(test)]
 mod tests;
