@@ -6,3 +6,4 @@ pub mod Found
 pub mod FieldsFound
 pub mod FollowsFound
 pub mod FormFound
+pub mod ReadingLoops

@@ -1,5 +1,5 @@
 -- Lists whose count stands before them: each item is read behind those before it, and has to go with them.
-use Rattle.std.specs.Prelude.{ℕ, zero, suc, Bool, nat_le, List, [], ◌∷◌, ◌++◌, length, flat_map, Option, None, Result, Ok}
+use Rattle.std.specs.Prelude.{◌≡◌, ℕ, true, false, zero, suc, Bool, nat_le, List, [], ◌∷◌, ◌++◌, length, flat_map, Option, None, Result, Ok, Err}
 use Rattle.std.specs.List.{last_or}
 use Rattle.topics.specs.declared.malformed.MalformedKind.TheVariants as kinds
 use Rattle.packet_base.specs.declared.stop.Stop.{Stop}
@@ -31,3 +31,10 @@ counted_at count follows item most bytes = do
 -- and as they are written
 abbrev pub counted : {A : Type 0} → (ℕ → List ℕ) → (A → List ℕ) → List A → List ℕ
 counted count bytes items = count (length items) ++ flat_map bytes items
+
+-- what adding an item to those that were read does: it comes last where it may, and all else stops the reading; memory
+-- may be wanting
+abbrev pub Adds : {A : Type 0} → (List A → A → Bool) → List A → A → Result (Unit {0}) Stop → List A → Type 0
+Adds follows front one (Ok done) after = (follows front one ≡ true) × (after ≡ front ++ one ∷ [])
+Adds follows front one (Err (stops.Malformed kinds.Memory)) after = Unit {0}
+Adds follows front one (Err stop) after = (follows front one ≡ false) × (stop ≡ stops.Malformed kinds.Shape)
