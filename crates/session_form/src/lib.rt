@@ -1,0 +1,18 @@
+//! Form 1 of a session: the bytes to which it is frozen, and the session that bytes stand for.
+#![tactic(auto)]
+
+mod laws;
+mod reading;
+mod writing;
+
+pub use laws::{frozen_is_read, read_has_form};
+pub use reading::{
+    body_length, keep, read_flag, read_flight, read_held, read_long_number, read_publication,
+    read_qos, read_waiting,
+};
+pub use writing::{
+    write_flight, write_held, write_number, write_payload, write_publication, write_text,
+};
+
+#[cfg(test)]
+mod tests;
