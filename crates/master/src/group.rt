@@ -107,8 +107,9 @@ impl<M: Machine> Group<M> {
     /// Lets events happen one after the other. Idle ones are passed over.
     pub fn run(&mut self, events: &[Event<M::Command>])
         ensures config { self.new.config ≡ self.old.config }
+        // Each event is done exactly, or with losses that are counted there.
         ensures run { Run (rules_by M.opening M.start_of M.after M.gives)
-            self.old.world events.now self.new.world }
+            self.old events.now self.new }
         ensures exact { LosesNothing self.old self.new →
             self.new.world ≡ group_run
             (rules_by M.opening M.start_of M.after M.gives) events.now self.old.world }
