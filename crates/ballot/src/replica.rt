@@ -1,13 +1,13 @@
 // One replica.
 
-ghost use Rattle.std.specs.Prelude.{◌≡◌, ◌≤◌, ◌<◌, ◌↔◌, ◌⊎◌, true, false, [], length, IfOk, OnOk, OnErr, IsErr, IsErrOf, MatchResult, if◌then◌else◌};
+ghost use Rattle.std.specs.Prelude.{◌≡◌, ◌≤◌, ◌<◌, ◌↔◌, ◌⊎◌, true, false, length, IfOk, OnOk, OnErr, IsErrOf, MatchResult, if◌then◌else◌};
 ghost use Rattle.machine.specs.Machine.{rules_by};
-ghost use Rattle.ballot.specs.Inside.{Sends, Lacks, Went};
+ghost use Rattle.ballot.specs.Inside.{Sends, Lacks};
 ghost use Rattle.lists.specs.Lists.{IsPrefixOf};
 ghost use Rattle.ballot_base.specs.LawfulConfig.{is_lawful};
-ghost use Rattle.ballot_base.specs.Losses.{Stepped, Done, IsQuiet, halted, one_more};
+ghost use Rattle.ballot_base.specs.Losses.{Stepped, Done, halted, one_more};
 ghost use Rattle.ballot_base.specs.Replica.{is_active, opening, status_of};
-ghost use Rattle.ballot_base.specs.Serving.{added, commit_at, follows, leads, most_places, on_append, on_commit, on_held, proposed};
+ghost use Rattle.ballot_base.specs.Serving.{added, commit_at, most_places, proposed};
 
 use crate::applying::apply_places;
 use crate::error::{OpeningError, ProposeError};
@@ -20,6 +20,7 @@ use std::marker::Model;
 
 mod activating;
 mod changing;
+mod installing;
 mod messages;
 mod ticking;
 

@@ -1,10 +1,9 @@
-// What a replica does with the messages by which a ballot becomes active, or is put out.
+// What a replica does when its ballot becomes active.
 
-ghost use Rattle.std.specs.Prelude.{◌≡◌, ◌≤◌, ◌++◌, ◌&&◌, ◌||◌, ◌==◌, nat_lt, nat_le, true, false, [], ◌∷◌, ◌-◌, ◌<◌, List, length, take, IfOk, OnOk, OnErr, MatchResult};
-ghost use Rattle.std.specs.List.{list_any};
+ghost use Rattle.std.specs.Prelude.{◌≡◌, ◌++◌, ◌&&◌, ◌==◌, nat_lt, nat_le, true, false, [], ◌∷◌, ◌-◌, ◌<◌, List, length, take, IfOk, OnOk, OnErr, MatchResult};
 ghost use Rattle.machine.specs.Machine.{rules_by};
 ghost use Rattle.ballot.specs.Inside.{Begins, Sends, Went};
-ghost use Rattle.ballot_base.specs.Changing.{on_installed, on_activated, on_superseded};
+ghost use Rattle.ballot_base.specs.Changing.{on_activated};
 ghost use Rattle.ballot_base.specs.Replica.{is_installing, others, progress_at};
 ghost use Rattle.ballot_base.specs.Serving.{commit, most_places};
 ghost use Rattle.ballot_base.specs.Sending.{message_to_followed};
@@ -14,47 +13,14 @@ ghost use Rattle.lists.specs.Lists.{IsPrefixOf};
 
 use super::{MOST_PLACES, Replica};
 use crate::applying::apply_dropping;
-use crate::progress::{forget, least_held, progress_of_others};
-use crate::sending::{MASTER, send_appends};
+use crate::progress::{least_held, progress_of_others};
+use crate::sending::send_appends;
 use crate::taking::counted;
 use ballot_base::{Body, Effect, Progress, Role};
 use machine::{Halted, Machine, Memory};
 use std::mem;
 
 impl<M: Machine> Replica<M> {
-    // A member lacks the log no more. With the last the master may activate the ballot.
-    pub(super) fn on_installed(
-        &mut self,
-        from: u8,
-        ballot: u64,
-        out: &mut Vec<Effect<M::Command, M::Output>>,
-    )
-        ensures went { Went (rules_by M.opening M.start_of M.after M.gives) self.old
-            (on_installed M.Output self.old.state from ballot)
-            self.new out.old.items out.new.items }
-        ensures runs { self.new.state.stopped ≡ self.old.state.stopped }
-    {
-        if !self.waits_for_answer(from, ballot) {
-            return;
-        }
-        forget(from, &mut self.lacking);
-        if !self.lacking.is_empty() {
-            return;
-        }
-        self.say(MASTER, Body::Activate(self.joined), out);
-    }
-
-    // The ballot was put out.
-    pub(super) fn on_superseded(&mut self, ballot: u64)
-        ensures went { Went (rules_by M.opening M.start_of M.after M.gives) self.old
-            (on_superseded M.Output self.old.state ballot) self.new [] [] }
-        ensures runs { self.new.state.stopped ≡ self.old.state.stopped }
-    {
-        if self.installs(ballot) {
-            self.role = Role::Backup;
-        }
-    }
-
     // The ballot is active: the places of the log are applied, their outputs dropped, and the start
     // of the ballot is added behind them. Where memory is wanting for the start the message is lost;
     // where a place cannot be applied the replica stops, and takes back what it did.
@@ -244,22 +210,5 @@ impl<M: Machine> Replica<M> {
             && nat_lt (length self.now.state.log) most_places)) }
     {
         self.installs(ballot) && (self.lacking.is_empty() && (self.log.len() as u64) < MOST_PLACES)
-    }
-
-    // Whether this new primary has not heard yet that a member took the log.
-    fn waits_for_answer(&self, from: u8, ballot: u64) -> bool
-        ensures { result ≡ ((self.now.state.joined == ballot
-            && is_installing self.now.state.role)
-            && list_any (λ member. member == from) self.now.state.lacking) }
-    {
-        self.installs(ballot) && self.lacking.contains(&from)
-    }
-
-    // Whether this is the new primary of a ballot, which hands its log over.
-    fn installs(&self, ballot: u64) -> bool
-        ensures { result ≡ (self.now.state.joined == ballot
-            && is_installing self.now.state.role) }
-    {
-        self.joined == ballot && self.role.is_installing()
     }
 }

@@ -1,6 +1,6 @@
 // What a replica does with each message of another node.
 
-ghost use Rattle.std.specs.Prelude.{◌≡◌, ◌≤◌, ◌<◌, ◌↔◌, ◌⊎◌, true, false, [], ◌∷◌, OnOk, OnErr, IsErr};
+ghost use Rattle.std.specs.Prelude.{◌≡◌, ◌<◌, ◌↔◌, true, false, [], ◌∷◌, OnOk, OnErr, IsErr};
 ghost use Rattle.machine.specs.Machine.{rules_by};
 ghost use Rattle.ballot.specs.Inside.{Says, Went};
 ghost use Rattle.ballot_base.specs.Losses.{Stepped, IsQuiet};

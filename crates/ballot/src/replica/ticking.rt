@@ -1,8 +1,8 @@
 // What a replica does as time passes.
 
-ghost use Rattle.std.specs.Prelude.{◌≡◌, ◌≤◌, ◌++◌, ◌&&◌, ◌||◌, ◌==◌, nat_lt, nat_le, true, false, [], length, OnOk, OnErr};
+ghost use Rattle.std.specs.Prelude.{◌≡◌, ◌++◌, true, false};
 ghost use Rattle.machine.specs.Machine.{rules_by};
-ghost use Rattle.ballot.specs.Inside.{Sends, Went};
+ghost use Rattle.ballot.specs.Inside.{Sends};
 ghost use Rattle.ballot_base.specs.Losses.{Stepped, IsQuiet};
 ghost use Rattle.ballot_base.specs.Protocol.{replica_step, ticked};
 ghost use Rattle.ballot_base.specs.Protocol.Input.{Ticks};
