@@ -18,7 +18,6 @@ pub mod Outputs
 pub mod Quiet
 pub mod QuietWorlds
 pub mod Roles
-pub mod Rows
 pub mod Bases
 pub mod Sealing
 pub mod Taking

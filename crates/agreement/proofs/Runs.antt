@@ -4,5 +4,7 @@ pub mod OpeningNodes
 pub mod OpeningServes
 pub mod OpeningWorlds
 pub mod RunsGoOn
+pub mod Senders
+pub mod SendersStay
 pub mod Serves
 pub mod Steps

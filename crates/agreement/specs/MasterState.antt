@@ -1,9 +1,9 @@
 -- MasterState.antt: what the master keeps, and what it does on Assign and Activate.
-use Rattle.std.specs.Prelude.{ℕ, Bool, true, ◌+◌, ◌==◌, List, Option, Some, None, if◌then◌else◌, ◌^◌, not, nat_le}
+use Rattle.std.specs.Prelude.{ℕ, Bool, true, ◌+◌, ◌==◌, List, Option, Some, None, if◌then◌else◌, ◌^◌, nat_le}
 use Rattle.ballot.specs.Config.{Config}
+use Rattle.ballot.specs.LawfulConfig.{is_lawful}
 use Rattle.ballot.specs.Body.{Body}
 use Rattle.ballot.specs.Body.TheVariants.{NewBallot, Activated, Superseded}
-use Rattle.agreement.specs.World.{can_open}
 
 -- the active ballot and its members, the ballot that waits to be activated, and how many were given
 pub record MasterState : Type 0 where
@@ -68,15 +68,15 @@ pub data AssignRefusal : Type 0 where
 abbrev pub last_ballot : ℕ
 last_ballot = 2 ^ 32
 
--- a group of so many nodes refuses members that may not be, and after the last ballot any
--- configuration; the members are tested first
-abbrev pub refusal : ℕ → MasterState → Config → Option AssignRefusal
-refusal nodes m config =
-    if not (can_open nodes config) then Some bad_members
-    else if nat_le last_ballot m.given then Some ballots_spent
-    else None
+-- members that no ballot may have are refused, and after the last ballot any configuration; the
+-- members are tested first. Which nodes there are the master does not know
+abbrev pub refusal : MasterState → Config → Option AssignRefusal
+refusal m config =
+    if is_lawful config.members config.primary
+    then if nat_le last_ballot m.given then Some ballots_spent else None
+    else Some bad_members
 
 -- the master behind an Assign: where it is refused, nothing changes
-abbrev pub master_behind : (C : Type 0) → MasterState → Config → Option AssignRefusal → MasterState
-master_behind C m config (Some why) = m
-master_behind C m config None = (assigned C m config).state
+abbrev pub master_behind : MasterState → Config → Option AssignRefusal → MasterState
+master_behind m config (Some why) = m
+master_behind m config None = assigning m config

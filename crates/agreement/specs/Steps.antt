@@ -1,6 +1,6 @@
 -- Steps.antt: what may happen in a group: a node takes its step, perhaps with losses, or stops; its
 -- master answers an Assign, or hears an Activate. Messages of the master may be lost, too.
-use Rattle.std.specs.Prelude.{ℕ, ◌+◌, ◌≡◌, false, List, [], slice_get, Some, ◌∷◌, ◌++◌, Option, None, length}
+use Rattle.std.specs.Prelude.{ℕ, ◌+◌, ◌≡◌, false, List, [], slice_get, Some, ◌∷◌, ◌++◌, Option, None}
 use Rattle.machine.specs.Machine.{Rules}
 use Rattle.ballot.specs.Config.{Config}
 use Rattle.ballot.specs.Body.TheVariants.{Activate}
@@ -42,15 +42,15 @@ pub data MayHappen {S C O : Type 0} (rules : Rules S C O) :
   node_stops : {m : MasterState} {w : World S C O} (n : ℕ) (r : ReplicaState S C) →
       slice_get w.nodes n ≡ Some r → MayHappen rules m w m (moved w n (halted rules r) [])
   master_assigns : {m : MasterState} {w : World S C O} (config : Config) →
-      MayHappen rules m w (master_behind C m config (refusal (length w.nodes) m config))
-      (world_behind m w config (refusal (length w.nodes) m config))
+      MayHappen rules m w (master_behind m config (refusal m config))
+      (world_behind m w config (refusal m config))
   master_hears : {m : MasterState} {w : World S C O} (from b : ℕ) →
       In (0, record { from = from; body = Activate b }) w.sent →
       MayHappen rules m w (activated C m b from m.waiting).state
       (tells_from_master w (activated C m b from m.waiting))
   -- the same where the master's message is lost
   assignment_lost : {m : MasterState} {w : World S C O} (config : Config) →
-      MayHappen rules m w (master_behind C m config (refusal (length w.nodes) m config)) w
+      MayHappen rules m w (master_behind m config (refusal m config)) w
   answer_lost : {m : MasterState} {w : World S C O} (from b : ℕ) →
       In (0, record { from = from; body = Activate b }) w.sent →
       MayHappen rules m w (activated C m b from m.waiting).state w

@@ -1,3 +1,5 @@
+pub mod ActivationTaken
+pub mod ChangesTaken
 pub mod Committed
 pub mod MessagesTaken
 pub mod PlacesApplied
@@ -5,6 +7,7 @@ pub mod ProposalAnswered
 pub mod SendsJoin
 pub mod TicksTaken
 pub use Rattle.ballot_base.proofs.AppliesInOrder
+pub use Rattle.ballot_base.proofs.ChangeRows
 pub use Rattle.ballot_base.proofs.MessageRows
 pub use Rattle.ballot_base.proofs.StepRows
 pub use Rattle.ballot_base.proofs.ThinnedEffects

@@ -1,56 +1,66 @@
--- TicksTaken.antt: what an active primary does at a tick is the row of the protocol.
-use Rattle.std.proofs.Common.{◌≡◌, Bool, true, ◌&&◌, cond, List, ◌++◌, ap, sym, ◌∙◌, subst}
+-- TicksTaken.antt: what a replica says at a tick is the row of the protocol.
+use Rattle.std.proofs.Common.{◌≡◌, ℕ, Bool, true, ◌&&◌, cond, List, ◌++◌, ap, sym, ◌∙◌, refl, subst}
 use Rattle.machine.specs.Machine.{Rules}
 use Rattle.ballot_base.specs.declared.message.Body.TheVariants.{Commit}
 use Rattle.ballot_base.specs.declared.message.Effect.{Effect}
 use Rattle.ballot_base.specs.declared.status.Progress.{Progress}
-use Rattle.ballot_base.specs.Replica.{ReplicaState, CountedReplica, is_active}
+use Rattle.ballot_base.specs.declared.status.Role.{Role}
+use Rattle.ballot_base.specs.declared.status.Role.TheVariants.{Backup, Fetching, Installing, Active}
+use Rattle.ballot_base.specs.Replica.{ReplicaState, CountedReplica}
 use Rattle.ballot_base.specs.Losses.{IsQuiet, one_more}
-use Rattle.ballot_base.specs.Sending.{Outcome, nothing_done, message_to_followed}
+use Rattle.ballot_base.specs.Sending.{Outcome, message_to_followed}
 use Rattle.ballot_base.specs.Serving.{appends_behind}
-use Rattle.ballot_base.specs.Protocol.{step_in_one_ballot, ticked}
+use Rattle.ballot_base.specs.Protocol.{replica_step, ticked}
 use Rattle.ballot_base.specs.Protocol.Input.{Ticks}
-use Rattle.ballot_base.proofs.MessageRows.{ticked-active, on_tick_active-is}
+use Rattle.ballot_base.proofs.MessageRows.{on_tick_active-is}
 use Rattle.ballot.specs.Inside.{Sends, Went}
-use Rattle.ballot.proofs.SendsJoin.{Sends-then}
+use Rattle.ballot.proofs.SendsJoin.{Sends-nothing, Sends-then}
 use Rattle.ballot.proofs.MessagesTaken.{went_sent, went_quiet}
 
--- the step of an active primary at a tick
-step_at_tick : {S C O : Type 0} (rules : Rules S C O) (r : ReplicaState S C) → is_active r.role ≡ true →
-    step_in_one_ballot rules r Ticks ≡ record {
-      state = r;
-      effects = appends_behind O r.id r.joined r.log r.progress
-          ++ message_to_followed O r.id (Commit r.joined r.committed) r.progress;
-    }
-step_at_tick {O = O} rules r active =
-    ap (λ b. cond b (ticked O r r.role) (nothing_done O r)) active
-    ∙ ticked-active O r r.role active ∙ on_tick_active-is O r
+-- a tick is no step of the replica's own
+pub ticked-state : {S C : Type 0} (O : Type 0) (r : ReplicaState S C) (role : Role) → (ticked O r role).state ≡ r
+ticked-state O r Backup = refl
+ticked-state O r Fetching = refl
+ticked-state O r Installing = refl
+ticked-state {S = S} {C = C} O r Active = ap (λ (o : Outcome S C O). o.state) (on_tick_active-is O r)
 
 -- its messages are sent, but for those that are lost
-pub tick_taken : {S C O : Type 0} (rules : Rules S C O) (old new : CountedReplica S C) (log : List C) (progress progress' : List Progress)
-    (before mid behind : List (Effect C O)) (first second whole : Bool) →
-    is_active old.state.role ≡ true → log ≡ old.state.log → progress ≡ old.state.progress → progress' ≡ old.state.progress →
-    Sends before mid (appends_behind O old.state.id old.state.joined log progress) first →
-    Sends mid behind (message_to_followed O old.state.id (Commit old.state.joined old.state.committed) progress') second →
-    whole ≡ (first && second) →
+pub tick_taken : {S C O : Type 0} (rules : Rules S C O) (old new : CountedReplica S C) (before behind : List (Effect C O)) (whole : Bool) →
+    Sends before behind (ticked O old.state old.state.role).effects whole →
     new.state ≡ old.state → new.losses ≡ cond whole old.losses (one_more old.losses) →
-    Went rules old (step_in_one_ballot rules old.state Ticks) new before behind
-tick_taken {S = S} {C = C} {O = O} rules old new log progress progress' before mid behind first second whole active l m m' p q w state losses =
-    let r = old.state in
-    let appends : Sends before mid (appends_behind O r.id r.joined r.log r.progress) first =
-    subst (λ xs. Sends before mid (appends_behind O r.id r.joined r.log xs) first) m
-    (subst (λ xs. Sends before mid (appends_behind O r.id r.joined xs progress) first) l p) in
-    let commits : Sends mid behind (message_to_followed O r.id (Commit r.joined r.committed) r.progress) second =
-    subst (λ xs. Sends mid behind (message_to_followed O r.id (Commit r.joined r.committed) xs) second) m' q in
-    subst (λ (o : Outcome S C O). Went rules old o new before behind) (sym (step_at_tick rules r active))
-    (went_sent old _ new before behind (first && second) (Sends-then appends commits) state
-    (losses ∙ ap (λ b. cond b old.losses (one_more old.losses)) w))
+    Went rules old (replica_step rules old.state Ticks) new before behind
+tick_taken {O = O} rules old new before behind whole sends state losses =
+    went_sent old _ new before behind whole sends (state ∙ sym (ticked-state O old.state old.state.role)) losses
 
 -- a tick that sends nothing leaves the replica whole
 pub tick_quiet : {S C O : Type 0} (rules : Rules S C O) (old new : CountedReplica S C) (before behind : List (Effect C O)) →
-    is_active old.state.role ≡ true → Went rules old (step_in_one_ballot rules old.state Ticks) new before behind →
-    IsQuiet old.state (step_in_one_ballot rules old.state Ticks) → new ≡ old
-tick_quiet {S = S} {C = C} {O = O} rules old new before behind active went quiet =
+    Went rules old (replica_step rules old.state Ticks) new before behind →
+    IsQuiet old.state (replica_step rules old.state Ticks) → new ≡ old
+tick_quiet {S = S} {C = C} {O = O} rules old new before behind went quiet =
     went_quiet went quiet
-    ∙ ap (λ (o : Outcome S C O). let z : CountedReplica S C = record { state = o.state; losses = old.losses } in z)
-    (step_at_tick rules old.state active)
+    ∙ ap (λ s. let z : CountedReplica S C = record { state = s; losses = old.losses } in z) (ticked-state O old.state old.state.role)
+
+-- what an active primary says again is said in two sends
+pub told : {C : Type 0} (O : Type 0) (id joined committed : ℕ) (log log' : List C) (progress progress' shown : List Progress)
+    (before mid behind : List (Effect C O)) (first second : Bool) →
+    log' ≡ log → progress ≡ shown → progress' ≡ shown →
+    Sends before mid (appends_behind O id joined log' progress) first →
+    Sends mid behind (message_to_followed O id (Commit joined committed) progress') second →
+    Sends before behind (appends_behind O id joined log shown ++ message_to_followed O id (Commit joined committed) shown) (first && second)
+told O id joined committed log log' progress progress' shown before mid behind first second l p p' sends commits =
+    Sends-then
+    (subst (λ ps. Sends before mid (appends_behind O id joined log ps) first) p
+    (subst (λ us. Sends before mid (appends_behind O id joined us progress) first) l sends))
+    (subst (λ ps. Sends mid behind (message_to_followed O id (Commit joined committed) ps) second) p' commits)
+
+-- and that is its tick
+pub told_ticks : {S C : Type 0} (O : Type 0) (r : ReplicaState S C) (role : Role) (before behind : List (Effect C O)) (whole : Bool) → role ≡ Active →
+    Sends before behind (appends_behind O r.id r.joined r.log r.progress ++ message_to_followed O r.id (Commit r.joined r.committed) r.progress) whole →
+    Sends before behind (ticked O r role).effects whole
+told_ticks {S = S} {C = C} O r role before behind whole e sends =
+    subst (λ (o : Outcome S C O). Sends before behind o.effects whole) (sym (ap (ticked O r) e ∙ on_tick_active-is O r)) sends
+
+pub silent_ticks : {S C : Type 0} (O : Type 0) (r : ReplicaState S C) (role : Role) (out : List (Effect C O)) → role ≡ Backup →
+    Sends out out (ticked O r role).effects true
+silent_ticks {S = S} {C = C} O r role out e =
+    subst (λ (o : Outcome S C O). Sends out out o.effects true) (sym (ap (ticked O r) e)) (Sends-nothing out)

@@ -1,10 +1,12 @@
 -- Inside.antt: what the helpers of a replica say of the list of effects.
-use Rattle.std.specs.Prelude.{◌≡◌, ◌⊎◌, Bool, true, List, [], ◌++◌}
+use Rattle.std.specs.Prelude.{◌≡◌, ◌⊎◌, Bool, true, List, [], ◌∷◌, ◌++◌, length, if◌then◌else◌}
 use Rattle.machine.specs.Machine.{Rules}
 use Rattle.ballot_base.specs.declared.message.Effect.{Effect}
 use Rattle.ballot_base.specs.Losses.{Thinned, Loses, IsQuiet, halted, one_more}
 use Rattle.ballot_base.specs.Replica.{CountedReplica}
-use Rattle.ballot_base.specs.Sending.{Outcome}
+use Rattle.ballot_base.specs.Sending.{Outcome, message_to_followed}
+use Rattle.ballot_base.specs.Serving.{commit}
+use Rattle.ballot_base.specs.declared.message.Body.TheVariants.{Append}
 use Rattle.ballot.specs.declared.error.ProposeError.{ProposeError}
 use Rattle.ballot.specs.declared.error.ProposeError.TheVariants.{NotActive, LogFull, Memory, Halted}
 
@@ -16,6 +18,14 @@ pub record Sends {C O : Type 0} (old new wanted : List (Effect C O)) (whole : Bo
   pub exact : whole ≡ true → given ≡ wanted
   -- nothing is lost where nothing is sent
   pub idle : wanted ≡ [] → whole ≡ true
+
+-- a replica sent messages, and counted it where some were lost
+pub record Says {S C O : Type 0} (old : CountedReplica S C) (wanted : List (Effect C O))
+    (new : CountedReplica S C) (before behind : List (Effect C O)) : Type 0 where
+  pub whole : Bool
+  pub sends : Sends before behind wanted whole
+  pub counted : new
+      ≡ record old { losses = if whole then old.losses else one_more old.losses }
 
 -- the step was done, or one with losses that were counted, and only where there was something to
 -- lose
@@ -36,3 +46,15 @@ Lacks rules LogFull old new = ⊥
 Lacks rules Memory old new = new ≡ record old { losses = one_more old.losses }
 Lacks rules Halted old new =
     new ≡ record { state = halted rules old.state; losses = one_more old.losses }
+
+-- a primary that has become active tells the others of the last place of its log, and commits what
+-- all hold; messages that were lost are counted
+pub record Begins {S C O : Type 0} (rules : Rules S C O) (old new : CountedReplica S C)
+    (before behind : List (Effect C O)) : Type 0 where
+  pub whole : Bool
+  pub state : new.state ≡ (commit rules old.state).state
+  pub sends : (front : List C) (last : C) → old.state.log ≡ front ++ last ∷ [] →
+      Sends before behind
+      (message_to_followed O old.state.id (Append old.state.joined (length front) last) old.state.progress
+      ++ (commit rules old.state).effects) whole
+  pub counted : new.losses ≡ (if whole then old.losses else one_more old.losses)

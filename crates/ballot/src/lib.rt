@@ -3,6 +3,7 @@
 #![tactic(auto)]
 
 mod applying;
+mod copying;
 mod error;
 mod progress;
 mod replica;
@@ -12,6 +13,7 @@ mod taking;
 mod tests;
 
 pub use ballot_base::{Body, Config, Effect, Log, Members, Message, Role, Status};
+pub use copying::copy_log;
 pub use error::{OpeningError, ProposeError};
 pub use machine::{Halted, Machine, Memory, ThawFault};
 pub use replica::{MOST_PLACES, Replica};

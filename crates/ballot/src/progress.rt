@@ -1,4 +1,4 @@
-// What an active primary knows of the other members.
+// The other members, and what a primary knows of them.
 
 ghost use Rattle.std.specs.Prelude.{◌≡◌, IfOk};
 ghost use Rattle.ballot_base.specs.Replica.{others, progress_at};
@@ -7,6 +7,26 @@ ghost use Rattle.ballot_base.specs.Serving.{least, raised, raised_progress};
 use ballot_base::Progress;
 use machine::Memory;
 use std::alloc::Global;
+
+/// The members other than `id`.
+pub fn others_of(alloc: Global, id: u8, members: &[u8]) -> Result<Vec<u8>, Memory>
+    ensures { IfOk result (λ them. them.items ≡ others id members.now) }
+{
+    let mut them = Vec::new(alloc);
+    for member in members {
+        if *member != id {
+            them.push(*member)?;
+        }
+    }
+    Ok(them)
+}
+
+/// Takes a member out of a list.
+pub fn forget(member: u8, members: &mut Vec<u8>)
+    ensures { members.new.items ≡ others member members.old.items }
+{
+    members.retain(|other| *other != member);
+}
 
 /// A progress of `held` places for each member other than `id`.
 pub fn progress_of_others(

@@ -1,27 +1,28 @@
 // One replica.
 
-ghost use Rattle.std.specs.Prelude.{◌≡◌, ◌≤◌, ◌<◌, ◌↔◌, ◌⊎◌, true, false, [], length, IfOk, OnOk, OnErr, IsErr, IsErrOf, MatchResult, if◌then◌else◌};
+ghost use Rattle.std.specs.Prelude.{◌≡◌, ◌≤◌, ◌<◌, ◌↔◌, ◌⊎◌, true, false, length, IfOk, OnOk, OnErr, IsErrOf, MatchResult, if◌then◌else◌};
 ghost use Rattle.machine.specs.Machine.{rules_by};
-ghost use Rattle.ballot.specs.Inside.{Sends, Lacks, Went};
+ghost use Rattle.ballot.specs.Inside.{Sends, Lacks};
 ghost use Rattle.lists.specs.Lists.{IsPrefixOf};
 ghost use Rattle.ballot_base.specs.LawfulConfig.{is_lawful};
-ghost use Rattle.ballot_base.specs.Losses.{Stepped, Done, IsQuiet, halted, one_more};
+ghost use Rattle.ballot_base.specs.Losses.{Stepped, Done, halted, one_more};
 ghost use Rattle.ballot_base.specs.Replica.{is_active, opening, status_of};
-ghost use Rattle.ballot_base.specs.Protocol.{step_in_one_ballot};
-ghost use Rattle.ballot_base.specs.Protocol.Input.{Receives, Ticks};
-ghost use Rattle.ballot_base.specs.Serving.{added, commit_at, follows, leads, most_places, on_append, on_commit, on_held, proposed};
+ghost use Rattle.ballot_base.specs.Serving.{added, commit_at, most_places, proposed};
 
-use crate::applying::{apply_dropping, apply_places};
+use crate::applying::apply_places;
 use crate::error::{OpeningError, ProposeError};
-use crate::progress::{least_held, least_raised, progress_of_others, raise};
-use crate::sending::{send, send_appends, send_behind, send_commits};
-use crate::taking::{counted, take_in};
-use ballot_base::{Body, Config, Effect, Message, Progress, Role, Status};
+use crate::progress::{least_held, progress_of_others};
+use crate::sending::{send_appends, send_commits};
+use ballot_base::{Config, Effect, Members, Progress, Role, Status};
 use machine::{Halted, Machine};
 use std::alloc::Global;
 use std::marker::Model;
 
+mod activating;
+mod changing;
+mod installing;
 mod messages;
+mod ticking;
 
 /// How many places a log can have.
 pub const MOST_PLACES: u64 = 1 << 40;
@@ -35,7 +36,10 @@ pub struct Replica<M: Machine> {
     joined: u64,
     held_in: u64,
     role: Role,
-    members: Vec<u8>,
+    members: Members,
+    previous: u64,
+    previous_members: Members,
+    lacking: Vec<u8>,
     progress: Vec<Progress>,
     log: Vec<M::Command>,
     committed: u64,
@@ -61,10 +65,10 @@ impl<M: Machine> Model for Replica<M> {
             committed = r.committed;
             machine = if r.stopped then M.opening else r.machine;
             role = r.role;
-            members = r.members.items;
-            previous = 0;
-            previous_members = [];
-            lacking = [];
+            members = r.members;
+            previous = r.previous;
+            previous_members = r.previous_members;
+            lacking = r.lacking.items;
             progress = r.progress.items;
             stopped = r.stopped;
           };
@@ -99,7 +103,10 @@ impl<M: Machine> Replica<M> {
             joined: ballot,
             held_in: ballot,
             role: Role::Backup,
-            members: Vec::new(alloc),
+            members: Members::new(alloc),
+            previous: 0,
+            previous_members: Members::new(alloc),
+            lacking: Vec::new(alloc),
             progress: Vec::new(alloc),
             log: Vec::new(alloc),
             committed: 0,
@@ -109,7 +116,7 @@ impl<M: Machine> Replica<M> {
         };
         if id == config.primary {
             replica.role = Role::Active;
-            replica.members = Vec::from_slice(alloc, members)?;
+            replica.members = Members::from_slice(alloc, members)?;
             replica.progress = progress_of_others(alloc, 0, id, members)?;
         }
         Ok(replica)
@@ -288,37 +295,6 @@ impl<M: Machine> Replica<M> {
                 Err(halted)
             }
         }
-    }
-
-    /// Says again what others may have missed. It takes no step of its own, and never halts.
-    pub fn tick(&mut self, out: &mut Vec<Effect<M::Command, M::Output>>)
-        ensures step { self.old.state.stopped ≡ false →
-            Stepped (rules_by M.opening M.start_of M.after M.gives) self.old
-            (step_in_one_ballot (rules_by M.opening M.start_of M.after M.gives)
-            self.old.state Ticks)
-            self.new out.old.items out.new.items }
-        ensures quiet { self.old.state.stopped ≡ false →
-            IsQuiet self.old.state
-            (step_in_one_ballot (rules_by M.opening M.start_of M.after M.gives)
-            self.old.state Ticks) →
-            self.new ≡ self.old }
-        ensures state { self.new.state ≡ self.old.state }
-        ensures stopped { self.old.state.stopped ≡ true →
-            (self.new ≡ self.old) × (out.new.items ≡ out.old.items) }
-    {
-        if self.stopped || !self.role.is_active() {
-            return;
-        }
-        let behind = send_behind::<M>(
-            self.alloc,
-            self.id,
-            self.joined,
-            &self.log,
-            &self.progress,
-            out,
-        );
-        let told = send_commits(self.id, self.joined, self.committed, &self.progress, out);
-        self.losses = counted(self.losses, behind && told);
     }
 
     // Counts a call in which memory was wanting.

@@ -3,11 +3,15 @@
 ghost use Rattle.std.specs.Prelude.{[], ◌∷◌, slice_get};
 ghost use Rattle.ballot.specs.Inside.{Sends};
 ghost use Rattle.ballot_base.specs.Serving.{append_at, appends_behind};
-ghost use Rattle.ballot_base.specs.Sending.{message_to, message_to_followed};
+ghost use Rattle.ballot_base.specs.Sending.{message_to, message_to_each, message_to_followed};
 
+use crate::copying::copy_log;
 use ballot_base::{Body, Effect, Message, Progress};
 use machine::Machine;
 use std::alloc::Global;
+
+/// The number by which the master is named.
+pub const MASTER: u8 = 0;
 
 /// Appends a message to a node. Whether it found memory is the result.
 pub fn send<C: Drop, O: Drop>(
@@ -126,6 +130,88 @@ pub fn send_commits<C: Drop, O: Drop>(
     for reached in progress {
         let body = Body::Commit(ballot, committed);
         let sent = send(out, reached.member, Message { from, body });
+        whole = whole && sent;
+    }
+    whole
+}
+
+/// Asks each of some nodes for its log.
+pub fn send_joins<C: Drop, O: Drop>(
+    from: u8,
+    ballot: u64,
+    previous: u64,
+    receivers: &[u8],
+    out: &mut Vec<Effect<C, O>>,
+) -> bool
+    ensures { Sends out.old.items out.new.items
+        (message_to_each O from (Body.Join ballot previous) receivers.now) result }
+{
+    let mut whole = true;
+    for receiver in receivers {
+        let body = Body::Join(ballot, previous);
+        let sent = send(out, *receiver, Message { from, body });
+        whole = whole && sent;
+    }
+    whole
+}
+
+/// Sends a copy of a log to the primary that asked for it.
+pub fn send_state<M: Machine>(
+    alloc: Global,
+    from: u8,
+    ballot: u64,
+    log: &[M::Command],
+    receiver: u8,
+    out: &mut Vec<Effect<M::Command, M::Output>>,
+) -> bool
+    ensures { Sends out.old.items out.new.items
+        (message_to M.Output from (Body.State ballot log.now) receiver ∷ []) result }
+{
+    match copy_log::<M>(alloc, log) {
+        Ok(copied) => {
+            let body = Body::State(ballot, copied);
+            send(out, receiver, Message { from, body })
+        }
+        Err(_) => false,
+    }
+}
+
+/// Hands a copy of a log to a member.
+fn send_install<M: Machine>(
+    alloc: Global,
+    from: u8,
+    ballot: u64,
+    log: &[M::Command],
+    receiver: u8,
+    out: &mut Vec<Effect<M::Command, M::Output>>,
+) -> bool
+    ensures { Sends out.old.items out.new.items
+        (message_to M.Output from (Body.Install ballot log.now) receiver ∷ []) result }
+{
+    match copy_log::<M>(alloc, log) {
+        Ok(copied) => {
+            let body = Body::Install(ballot, copied);
+            send(out, receiver, Message { from, body })
+        }
+        Err(_) => false,
+    }
+}
+
+/// Hands a copy of a log to each of some members.
+pub fn send_installs<M: Machine>(
+    alloc: Global,
+    from: u8,
+    ballot: u64,
+    log: &[M::Command],
+    receivers: &[u8],
+    out: &mut Vec<Effect<M::Command, M::Output>>,
+) -> bool
+    ensures { Sends out.old.items out.new.items
+        (message_to_each M.Output from (Body.Install ballot log.now) receivers.now) result }
+{
+    let mut whole = true;
+    for receiver in receivers {
+        let sent = send_install::<M>(alloc, from, ballot, log, *receiver, out);
         whole = whole && sent;
     }
     whole

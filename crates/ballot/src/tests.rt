@@ -6,6 +6,8 @@ use machine::{Memory, Tally, TallyCommand};
 use std::alloc::Global;
 use std::test::Fail;
 
+mod changes;
+
 fn config(alloc: Global, members: &[u8], primary: u8) -> Result<Config, Memory> {
     Ok(Config {
         members: Members::from_slice(alloc, members)?,

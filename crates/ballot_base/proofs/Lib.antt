@@ -1,4 +1,5 @@
 pub mod AppliesInOrder
+pub mod ChangeRows
 pub mod MessageRows
 pub mod StepRows
 pub mod ThinnedEffects

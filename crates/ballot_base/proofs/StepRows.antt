@@ -72,3 +72,32 @@ pub added-stopped : {S C O : Type 0} (rules : Rules S C O) (r : ReplicaState S C
 added-stopped {S = S} {C = C} {O = O} rules r command =
     ap (λ (o : Outcome S C O). o.state.stopped) (added-is rules r command)
     ∙ commit_at-stopped rules (record r { log = r.log ++ command ∷ [] }) _
+
+-- a command that is added is sent, and then what all hold is committed
+pub added-commits : {S C O : Type 0} (rules : Rules S C O) (r : ReplicaState S C) (command : C) →
+    added rules r command ≡ sent_first
+    (message_to_followed O r.id (Append r.joined (length r.log) command) r.progress)
+    (commit rules (record r { log = r.log ++ command ∷ [] }))
+unfolding added
+added-commits rules r command = refl
+
+-- committing leaves the log
+pub commit_at-log : {S C O : Type 0} (rules : Rules S C O) (r : ReplicaState S C) (held : ℕ) →
+    (commit_at rules r held).state.log ≡ r.log
+commit_at-log {S = S} {C = C} {O = O} rules r held = by_order (cases_lt r.committed held)
+  where
+    by_order : (r.committed < held) ⊎ (held ≤ r.committed) → (commit_at rules r held).state.log ≡ r.log
+    by_order (inl above) = ap (λ (o : Outcome S C O). o.state.log) (commit_at-goes rules r held above)
+    by_order (inr below) = ap (λ (o : Outcome S C O). o.state.log) (commit_at-stays rules r held below)
+
+-- and adding makes it longer by the command
+pub added-log : {S C O : Type 0} (rules : Rules S C O) (r : ReplicaState S C) (command : C) →
+    (added rules r command).state.log ≡ r.log ++ command ∷ []
+added-log {S = S} {C = C} {O = O} rules r command =
+    ap (λ (o : Outcome S C O). o.state.log) (added-is rules r command)
+    ∙ commit_at-log rules (record r { log = r.log ++ command ∷ [] }) _
+
+-- committing what all hold stops no replica either
+pub commit-stopped : {S C O : Type 0} (rules : Rules S C O) (r : ReplicaState S C) → (commit rules r).state.stopped ≡ r.stopped
+unfolding commit
+commit-stopped rules r = commit_at-stopped rules r _

@@ -1,5 +1,5 @@
 -- Protocol.antt: the step of a replica on a message, a proposal or a tick.
-use Rattle.std.specs.Prelude.{ℕ, Bool, true, false, if◌then◌else◌}
+use Rattle.std.specs.Prelude.{ℕ}
 use Rattle.machine.specs.Machine.{Rules}
 use Rattle.ballot_base.specs.declared.message.Message.{Message}
 use Rattle.ballot_base.specs.declared.message.Body.{Body}
@@ -9,7 +9,7 @@ use Rattle.ballot_base.specs.declared.status.Role.TheVariants.{Backup, Fetching,
 use Rattle.ballot_base.specs.Sending.{Outcome, nothing_done}
 use Rattle.ballot_base.specs.Serving.{proposed, on_append, on_held, on_commit, on_tick_active}
 use Rattle.ballot_base.specs.Changing.{on_new_ballot, on_join, on_state, on_install, on_installed, on_activated, on_superseded, on_tick_fetching, on_tick_installing}
-use Rattle.ballot_base.specs.Replica.{ReplicaState, is_active}
+use Rattle.ballot_base.specs.Replica.{ReplicaState}
 
 -- what a replica takes in at one step
 pub data Input (C : Type 0) : Type 0 where
@@ -46,21 +46,3 @@ abbrev pub replica_step : {S C O : Type 0} →
 replica_step rules r (Receives message) = received rules r message.from message.body
 replica_step rules r (Proposes command) = proposed rules r command
 replica_step {O = O} rules r Ticks = ticked O r r.role
-
--- whether a message belongs to a change of ballots
-abbrev pub changes_ballots : {C : Type 0} → Body C → Bool
-changes_ballots (Append ballot place command) = false
-changes_ballots (Held ballot held) = false
-changes_ballots (Commit ballot held) = false
-changes_ballots _ = true
-
--- the step of a replica that stays in one ballot: messages of a change of ballots are ignored
-abbrev pub step_in_one_ballot : {S C O : Type 0} →
-    Rules S C O → ReplicaState S C → Input C → Outcome S C O
-step_in_one_ballot {O = O} rules r (Receives message) =
-    if changes_ballots message.body
-    then nothing_done O r
-    else replica_step rules r (Receives message)
-step_in_one_ballot rules r (Proposes command) = replica_step rules r (Proposes command)
-step_in_one_ballot {O = O} rules r Ticks =
-    if is_active r.role then replica_step rules r Ticks else nothing_done O r

@@ -1,6 +1,6 @@
 // Who is in a ballot.
 
-ghost use Rattle.std.specs.Prelude.{◌≡◌, IfOk, length};
+ghost use Rattle.std.specs.Prelude.{◌≡◌, [], IfOk, length};
 ghost use Rattle.ballot_base.specs.LawfulConfig.{is_lawful};
 
 use machine::Memory;
@@ -22,6 +22,15 @@ impl Model for Members {
 }
 
 impl Members {
+    /// No number. It takes no memory.
+    pub fn new(alloc: Global) -> Members
+        ensures { result ≡ [] }
+    {
+        Members {
+            numbers: Vec::new(alloc),
+        }
+    }
+
     /// A copy of the numbers. The only error is want of memory.
     pub fn from_slice(alloc: Global, numbers: &[u8]) -> Result<Members, Memory>
         ensures { IfOk result (λ members. members ≡ numbers.now) }

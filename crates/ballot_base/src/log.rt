@@ -30,6 +30,20 @@ impl<C: Drop> Log<C> {
         }
     }
 
+    /// The log of these places.
+    pub fn from_places(places: Vec<C>) -> Self
+        ensures { result ≡ places.items }
+    {
+        Log { places }
+    }
+
+    /// Gives its places out.
+    pub fn into_places(self) -> Vec<C>
+        ensures { result.items ≡ self }
+    {
+        self.places
+    }
+
     /// Adds a place. Where memory is wanting the log stays as it was.
     pub fn push(&mut self, command: C) -> Result<(), Memory>
         ensures ok { OnOk result (self.new ≡ self.old ++ command ∷ []) }

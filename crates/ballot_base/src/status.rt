@@ -1,7 +1,7 @@
 // What a replica shows of itself.
 
 ghost use Rattle.std.specs.Prelude.{◌≡◌};
-ghost use Rattle.ballot_base.specs.Replica.{is_active, is_backup};
+ghost use Rattle.ballot_base.specs.Replica.{is_active, is_backup, is_fetching, is_installing};
 
 /// What a replica does in the ballot that it joined.
 #[derive(Clone, Copy, Debug, PartialEq, Eq)]
@@ -24,6 +24,26 @@ impl Role {
         match self {
             Role::Active => true,
             Role::Backup | Role::Fetching | Role::Installing => false,
+        }
+    }
+
+    /// Whether this is a new primary that asks for a log.
+    pub fn is_fetching(self) -> bool
+        ensures { result ≡ is_fetching self }
+    {
+        match self {
+            Role::Fetching => true,
+            Role::Backup | Role::Installing | Role::Active => false,
+        }
+    }
+
+    /// Whether this is a new primary that hands its log to the members.
+    pub fn is_installing(self) -> bool
+        ensures { result ≡ is_installing self }
+    {
+        match self {
+            Role::Installing => true,
+            Role::Backup | Role::Fetching | Role::Active => false,
         }
     }
 

@@ -14,7 +14,7 @@ use Rattle.agreement.specs.World.{World, log_of}
 use Rattle.master.specs.Exact.{Turn, running, unless_stopped, can_take, taking, stopping, takes, comes, turn}
 use Rattle.master.specs.Steps.{Happens}
 use Rattle.master.specs.Steps.Happens.{nothing_happens, goes}
-use Rattle.ballot.specs.Protocol.{Input, step_in_one_ballot}
+use Rattle.ballot.specs.Protocol.{Input, replica_step}
 use Rattle.ballot.specs.Protocol.Input.{Receives, Proposes, Ticks}
 use Rattle.lists.specs.Lists.{In, IsPrefixOf}
 use Rattle.master.specs.Agreement.{outputs_of, HasTold, IsChosen, IsAgreed, Agreement}
@@ -62,14 +62,14 @@ record OwesTurn {S C O : Type 0} (rules : Rules S C O) (config : Config) (p : �
 
 -- a turn by which a node takes something in
 owes_taking : {S C O : Type 0} (rules : Rules S C O) (config : Config) (p : ℕ) (w : World S C O) (node : ℕ) (input : Input C) (t : Turn S C O) →
-    ((r : ReplicaState S C) → slice_get w.nodes (node - 1) ≡ Some r → r.stopped ≡ false → Owes rules config p w (node - 1) r (step_in_one_ballot rules r input)) →
+    ((r : ReplicaState S C) → slice_get w.nodes (node - 1) ≡ Some r → r.stopped ≡ false → Owes rules config p w (node - 1) r (replica_step rules r input)) →
     takes rules w node input ≡ Some t → OwesTurn rules config p w t
 owes_taking {S = S} {C = C} {O = O} rules config p w node input t owes e = by_node (running w.nodes node) refl e
   where
     by_input : (r : ReplicaState S C) → running w.nodes node ≡ Some r → (b : Bool) →
-        cond b (Some (record { place = node - 1; before = r; outcome = step_in_one_ballot rules r input })) None ≡ Some t → OwesTurn rules config p w t
+        cond b (Some (record { place = node - 1; before = r; outcome = replica_step rules r input })) None ≡ Some t → OwesTurn rules config p w t
     by_input r runs true f =
-        let g : record { place = node - 1; before = r; outcome = step_in_one_ballot rules r input } ≡ t = cc in
+        let g : record { place = node - 1; before = r; outcome = replica_step rules r input } ≡ t = cc in
         let stands = runs_there w.nodes node r runs in
         subst (λ (x : Turn S C O). OwesTurn rules config p w x) g (record { stands = stands; owes = owes r stands (runs_on w.nodes node r runs) })
     by_input r runs false f = cc

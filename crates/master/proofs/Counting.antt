@@ -7,7 +7,7 @@ use Rattle.ballot.specs.Message.{Message}
 use Rattle.ballot.specs.Effect.{Effect}
 use Rattle.ballot.specs.Status.{Status}
 use Rattle.ballot.specs.Losses.{Loses, halted, one_more}
-use Rattle.ballot.specs.Protocol.{Input, step_in_one_ballot}
+use Rattle.ballot.specs.Protocol.{Input, replica_step}
 use Rattle.ballot.specs.Protocol.Input.{Receives, Proposes}
 use Rattle.ballot.specs.Replica.{ReplicaState, is_active, status_of}
 use Rattle.ballot.specs.Serving.{most_places}
@@ -23,11 +23,11 @@ use Rattle.master.specs.Inside.{RunsAt, TookTurn}
 -- the turn of a node that runs
 pub takes_turn : {S C O : Type 0} (rules : Rules S C O) (w : World S C O) (node at : ℕ) (input : Input C) (x : RunsAt w.nodes node at) →
     can_take x.replica input ≡ true →
-    takes rules w node input ≡ Some (record { place = at; before = x.replica; outcome = step_in_one_ballot rules x.replica input })
+    takes rules w node input ≡ Some (record { place = at; before = x.replica; outcome = replica_step rules x.replica input })
 takes_turn {S = S} {C = C} {O = O} rules w node at input x can =
     ap (λ o. taking rules (node - 1) o input) x.runs
-    ∙ ap (λ b. cond b (Some (record { place = node - 1; before = x.replica; outcome = step_in_one_ballot rules x.replica input })) None) can
-    ∙ ap (λ n. let t : Turn S C O = record { place = n; before = x.replica; outcome = step_in_one_ballot rules x.replica input } in Some t) (sym x.place)
+    ∙ ap (λ b. cond b (Some (record { place = node - 1; before = x.replica; outcome = replica_step rules x.replica input })) None) can
+    ∙ ap (λ n. let t : Turn S C O = record { place = n; before = x.replica; outcome = replica_step rules x.replica input } in Some t) (sym x.place)
 
 pub takes_nothing : {S C O : Type 0} (rules : Rules S C O) (w : World S C O) (node : ℕ) (input : Input C) →
     running w.nodes node ≡ None → takes rules w node input ≡ None
@@ -37,7 +37,7 @@ pub cannot_take : {S C O : Type 0} (rules : Rules S C O) (w : World S C O) (node
     can_take x.replica input ≡ false → takes rules w node input ≡ None
 cannot_take {S = S} {C = C} {O = O} rules w node at input x can =
     ap (λ o. taking rules (node - 1) o input) x.runs
-    ∙ ap (λ b. cond b (Some (record { place = node - 1; before = x.replica; outcome = step_in_one_ballot rules x.replica input })) None) can
+    ∙ ap (λ b. cond b (Some (record { place = node - 1; before = x.replica; outcome = replica_step rules x.replica input })) None) can
 
 pub stops_turn : {S C O : Type 0} (rules : Rules S C O) (nodes : List (ReplicaState S C)) (node at : ℕ) (x : RunsAt nodes node at) →
     stopping rules (node - 1) (running nodes node) ≡ Some (record { place = at; before = x.replica; outcome = record { state = halted rules x.replica; effects = [] } })
@@ -97,10 +97,10 @@ came rules w k (receiver, m) e = ap (comes rules w) e
 
 pub delivers_turn : {S C O : Type 0} (rules : Rules S C O) (w : World S C O) (k at : ℕ) (x : ℕ × Message C) (m : Message C) →
     slice_get w.sent k ≡ Some x → m ≡ x.1 → (a : RunsAt w.nodes x.0 at) →
-    turn rules w (Deliver k) ≡ Some (record { place = at; before = a.replica; outcome = step_in_one_ballot rules a.replica (Receives m) })
+    turn rules w (Deliver k) ≡ Some (record { place = at; before = a.replica; outcome = replica_step rules a.replica (Receives m) })
 delivers_turn {S = S} {C = C} {O = O} rules w k at x m e same a =
     came rules w k x e ∙ takes_turn rules w x.0 at (Receives x.1) a refl
-    ∙ ap (λ y. let t : Turn S C O = record { place = at; before = a.replica; outcome = step_in_one_ballot rules a.replica (Receives y) } in Some t) (sym same)
+    ∙ ap (λ y. let t : Turn S C O = record { place = at; before = a.replica; outcome = replica_step rules a.replica (Receives y) } in Some t) (sym same)
 
 pub delivers_nothing : {S C O : Type 0} (rules : Rules S C O) (w : World S C O) (k : ℕ) (x : ℕ × Message C) →
     slice_get w.sent k ≡ Some x → running w.nodes x.0 ≡ None → turn rules w (Deliver k) ≡ None

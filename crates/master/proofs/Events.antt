@@ -10,12 +10,13 @@ use Rattle.ballot.specs.Body.{Body}
 use Rattle.ballot.specs.Body.TheVariants.{NewBallot, Join, State, Install, Installed, Activate, Activated, Superseded, Append, Held, Commit}
 use Rattle.ballot.specs.Progress.{Progress}
 use Rattle.ballot.specs.Replica.{ReplicaState, is_active, is_backup}
-use Rattle.ballot.specs.Sending.{Outcome, nothing_done, message_to_followed, sent_first}
+use Rattle.ballot.specs.Sending.{Outcome, message_to_followed, sent_first}
 use Rattle.ballot.specs.Serving.{least, commit_at, added, proposed, most_places, extended, follows, leads, raised, raised_progress, on_append, on_held, on_commit, append_at, appends_behind}
-use Rattle.ballot.specs.Protocol.{step_in_one_ballot, ticked}
+use Rattle.ballot.specs.Protocol.{replica_step}
 use Rattle.ballot.specs.Protocol.Input.{Receives, Ticks}
 use Rattle.ballot.proofs.AppliesInOrder.{replay_goes_on}
 use Rattle.ballot.proofs.StepRows.{commit_at-goes, commit_at-stays, added-is, proposed-adds, proposed-not_active, proposed-full}
+use Rattle.ballot.proofs.ChangeRows.{ticked-backup}
 use Rattle.ballot.proofs.MessageRows.{raised_progress-member, on_append-elsewhere, on_append-gap, on_append-takes, on_held-elsewhere, on_held-raises, on_commit-elsewhere, on_commit-past, on_commit-takes, ticked-active, on_tick_active-is}
 use Rattle.agreement.specs.World.{World, messages, outputs}
 use Rattle.lists.specs.Lists.{In, IsPrefixOf}
@@ -87,6 +88,7 @@ owes_added {S = S} {C = C} {O = O} rules config p w old c sound stands running a
     (λ v x l. let t = node_kept rules config p w v p old x s in record {
       id = t.id;
       leads = t.leads;
+      stays = t.stays;
       follows = t.follows;
       front = subst (λ (us : List C). IsPrefixOf (old.log ++ c ∷ []) us) (sym l) (prefix_same (old.log ++ c ∷ []));
       within = (let a = s.within in omega (arith, a, room));
@@ -178,6 +180,7 @@ owes_raised {S = S} {C = C} {O = O} rules config p w old from ballot held receiv
     (λ v x l. let t = node_kept rules config p w v p old x s in record {
       id = t.id;
       leads = t.leads;
+      stays = t.stays;
       follows = t.follows;
       front = t.front;
       within = t.within;
@@ -264,6 +267,7 @@ owes_append {S = S} {C = C} {O = O} rules config p w n old from ballot place c s
           fits = λ v x l. let t = node_kept rules config p w v n old x s in record {
             id = t.id;
             leads = t.leads;
+            stays = t.stays;
             follows = t.follows;
             front = prefix_then (extended_front old.log (log_at w p) place c s.front said.1) (x.logs p);
             within = (let a = s.within in let b = prefix_length grown in omega (arith, a, b));
@@ -317,6 +321,7 @@ owes_commit_taken {S = S} {C = C} {O = O} rules config p w n old from ballot hel
           fits = λ v x l. let t = node_kept rules config p w v n old x s in record {
             id = t.id;
             leads = t.leads;
+            stays = t.stays;
             follows = t.follows;
             front = t.front;
             within = (let a = s.within in omega (arith, a));
@@ -345,21 +350,21 @@ owes_commit_taken {S = S} {C = C} {O = O} rules config p w n old from ballot hel
 pub owes_received : {S C O : Type 0} (rules : Rules S C O) (config : Config) (p : ℕ) (w : World S C O) (n : ℕ) (old : ReplicaState S C)
     (receiver from : ℕ) (body : Body C) → IsSound rules config p w → slice_get w.nodes n ≡ Some old → old.stopped ≡ false →
     In (receiver, record { from = from; body = body }) w.sent →
-    Owes rules config p w n old (step_in_one_ballot rules old (Receives (record { from = from; body = body })))
+    Owes rules config p w n old (replica_step rules old (Receives (record { from = from; body = body })))
 owes_received {O = O} rules config p w n old receiver from (Append b k c) sound stands running i =
     owes_append rules config p w n old from b k c sound stands (sound.said receiver _ i)
 owes_received rules config p w n old receiver from (Held b k) sound stands running i =
     owes_held rules config p w n old from b k receiver sound stands running i
 owes_received rules config p w n old receiver from (Commit b k) sound stands running i =
     owes_commit_taken rules config p w n old from b k sound stands (sound.said receiver _ i)
-owes_received rules config p w n old receiver from (NewBallot b m a am) sound stands running i = owes_nothing rules config p w n old _ sound stands refl
-owes_received rules config p w n old receiver from (Join b a) sound stands running i = owes_nothing rules config p w n old _ sound stands refl
-owes_received rules config p w n old receiver from (State b l) sound stands running i = owes_nothing rules config p w n old _ sound stands refl
-owes_received rules config p w n old receiver from (Install b l) sound stands running i = owes_nothing rules config p w n old _ sound stands refl
-owes_received rules config p w n old receiver from (Installed b k) sound stands running i = owes_nothing rules config p w n old _ sound stands refl
-owes_received rules config p w n old receiver from (Activate b) sound stands running i = owes_nothing rules config p w n old _ sound stands refl
-owes_received rules config p w n old receiver from (Activated b) sound stands running i = owes_nothing rules config p w n old _ sound stands refl
-owes_received rules config p w n old receiver from (Superseded b) sound stands running i = owes_nothing rules config p w n old _ sound stands refl
+owes_received rules config p w n old receiver from (NewBallot b m a am) sound stands running i = absurd (sound.said receiver _ i)
+owes_received rules config p w n old receiver from (Join b a) sound stands running i = absurd (sound.said receiver _ i)
+owes_received rules config p w n old receiver from (State b l) sound stands running i = absurd (sound.said receiver _ i)
+owes_received rules config p w n old receiver from (Install b l) sound stands running i = absurd (sound.said receiver _ i)
+owes_received rules config p w n old receiver from (Installed b k) sound stands running i = absurd (sound.said receiver _ i)
+owes_received rules config p w n old receiver from (Activate b) sound stands running i = absurd (sound.said receiver _ i)
+owes_received rules config p w n old receiver from (Activated b) sound stands running i = absurd (sound.said receiver _ i)
+owes_received rules config p w n old receiver from (Superseded b) sound stands running i = absurd (sound.said receiver _ i)
 
 -- the place that a tick sends for a progress
 said_at_reached : {C : Type 0} (O : Type 0) (P : ℕ × Message C → Type 0) (id ballot : ℕ) (log : List C) (reached : Progress) →
@@ -405,7 +410,7 @@ silent_tick {C = C} O id ballot committed log progress =
 
 -- a tick
 pub owes_ticked : {S C O : Type 0} (rules : Rules S C O) (config : Config) (p : ℕ) (w : World S C O) (n : ℕ) (old : ReplicaState S C) →
-    IsSound rules config p w → slice_get w.nodes n ≡ Some old → Owes rules config p w n old (step_in_one_ballot rules old Ticks)
+    IsSound rules config p w → slice_get w.nodes n ≡ Some old → Owes rules config p w n old (replica_step rules old Ticks)
 owes_ticked {S = S} {C = C} {O = O} rules config p w n old sound stands = by_role (cases_Bool (is_active old.role))
   where
     by_part : is_active old.role ≡ true → (v : World S C O) → HasGrown w v → log_at v n ≡ old.log → (receiver : ℕ) (m : Message C) →
@@ -424,10 +429,14 @@ owes_ticked {S = S} {C = C} {O = O} rules config p w n old sound stands = by_rol
         said_to_followed O (λ (y : ℕ × Message C). Says config p v y.1.from y.1.body) old.id (Commit old.joined old.committed) old.progress
         (λ receiver. ((s.leads active).1, all_told_kept config p w v old.committed x s.committed)) (receiver, m) i
 
-    by_role : (is_active old.role ≡ true) ⊎ (is_active old.role ≡ false) → Owes rules config p w n old (step_in_one_ballot rules old Ticks)
+    by_stay : is_active old.role ≡ false → (is_active old.role ≡ true) ⊎ (is_backup old.role ≡ true) → is_backup old.role ≡ true
+    by_stay inactive (inl active) = cc
+    by_stay inactive (inr backup) = backup
+
+    by_role : (is_active old.role ≡ true) ⊎ (is_active old.role ≡ false) → Owes rules config p w n old (replica_step rules old Ticks)
     by_role (inl active) =
         subst (λ (z : Outcome S C O). Owes rules config p w n old z)
-        (sym (ap (λ b. cond b (ticked O old old.role) (nothing_done O old)) active ∙ ticked-active O old old.role active ∙ on_tick_active-is O old))
+        (sym (ticked-active O old old.role active ∙ on_tick_active-is O old))
         (record {
           grown = prefix_same old.log;
           fits = λ v x l. node_kept rules config p w v n old x (sound.nodes n old stands);
@@ -440,4 +449,4 @@ owes_ticked {S = S} {C = C} {O = O} rules config p w n old sound stands = by_rol
         })
     by_role (inr inactive) =
         owes_nothing rules config p w n old _ sound stands
-        (ap (λ b. cond b (ticked O old old.role) (nothing_done O old)) inactive)
+        (ticked-backup O old old.role (by_stay inactive (sound.nodes n old stands).stays))

@@ -60,6 +60,7 @@ node_opens {S = S} {C = C} {O = O} rules config p w n primary member = by_place 
         record {
           id = refl;
           leads = λ a. (e, ap (λ b. cond b 1 0) (subst (λ k. list_any (λ member. member == k) config.members ≡ true) here_primary member));
+          stays = inl refl;
           follows = λ a h. cc;
           front = record { rest = log_at w p; is = refl };
           within = omega arith;
@@ -81,6 +82,7 @@ node_opens {S = S} {C = C} {O = O} rules config p w n primary member = by_place 
         record {
           id = refl;
           leads = λ a. cc;
+          stays = inr refl;
           follows = λ a h. ne h;
           front = record { rest = log_at w p; is = refl };
           within = omega arith;

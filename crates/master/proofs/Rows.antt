@@ -112,6 +112,7 @@ lossy_sound {S = S} {C = C} {O = O} rules config p w n old o new given sound sta
         (record {
           id = s.id;
           leads = s.leads;
+          stays = s.stays;
           follows = s.follows;
           front = s.front;
           within = s.within;
@@ -148,6 +149,7 @@ owes_halted {S = S} {C = C} {O = O} rules config p w n old sound stands =
       fits = λ v x l. let s = node_kept rules config p w v n old x (sound.nodes n old stands) in record {
         id = s.id;
         leads = s.leads;
+        stays = s.stays;
         follows = s.follows;
         front = s.front;
         within = s.within;
@@ -242,6 +244,7 @@ owes_commit {S = S} {C = C} {O = O} rules config p w old r active joined grown f
           fits = λ v x l. let s = fits v x l in record {
             id = s.id;
             leads = s.leads;
+            stays = s.stays;
             follows = s.follows;
             front = s.front;
             within = least-le (length r.log) r.progress;

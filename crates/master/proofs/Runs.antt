@@ -23,15 +23,15 @@ use Rattle.master.proofs.Counting.{steps_exactly}
 -- what is seen of a group behind some events
 pub record Ran {S C O : Type 0} (rules : Rules S C O) (old : GroupState S C O) (events : List (Event C)) (new : GroupState S C O) : Type 0 where
   pub same_config : new.config ≡ old.config
-  pub ran : Run rules old.world events new.world
+  pub ran : Run rules old events new
   pub counts : old.losses ≤ 2 ^ 64 - 1 → (old.losses ≤ new.losses) × (new.losses ≤ 2 ^ 64 - 1)
   pub exact : LosesNothing old new → new.world ≡ group_run rules events old.world
 
 -- one event more
-run_more : {S C O : Type 0} {rules : Rules S C O} {w v u : World S C O} {events : List (Event C)} {e : Event C} →
-    Run rules w events v → Happens rules v e u → Run rules w (events ++ e ∷ []) u
-run_more ends h = goes_on h ends
-run_more (goes_on g r) h = goes_on g (run_more r h)
+run_more : {S C O : Type 0} {rules : Rules S C O} {w v u : GroupState S C O} {events : List (Event C)} {e : Event C} →
+    Run rules w events v → StepsBy rules v e u → Run rules w (events ++ e ∷ []) u
+run_more ends s = goes_on s ends
+run_more (goes_on t r) s = goes_on t (run_more r s)
 
 group_run-more : {S C O : Type 0} (rules : Rules S C O) (events : List (Event C)) (e : Event C) (w : World S C O) →
     group_run rules (events ++ e ∷ []) w ≡ group_step rules e (group_run rules events w)
@@ -74,7 +74,7 @@ ran_next {S = S} {C = C} rules old now new events i e below read r s =
     (sym (take_more events i e below ∙ ap (λ (x : Event C). take i events ++ x ∷ []) (sym read)))
     (record {
       same_config = s.same_config ∙ r.same_config;
-      ran = run_more r.ran (happens_of rules now new e s);
+      ran = run_more r.ran s;
       counts = λ few. counts (r.counts few) (counted rules now new e s);
       exact = λ h. exact h (r.counts (let a = h.1 in omega (arith, a))) (counted rules now new e s);
     })
@@ -94,19 +94,21 @@ ran_next {S = S} {C = C} rules old now new events i e below read r s =
         let g : new.losses ≡ min (now.losses + 1) (2 ^ 64 - 1) = f in absurd (omega (arith, same, few, a, b, g))
 
 -- the past that a run leaves, in which what was chosen stays so
-went : {S C O : Type 0} (rules : Rules S C O) (config : Config) (w v : World S C O) (past : List (World S C O)) (events : List (Event C)) →
-    Past rules config (w ∷ past) → Run rules w events v →
-    (later : List (World S C O)) × Past rules config (v ∷ later)
-    × ((xs : List C) → IsChosen config (w ∷ past) xs → IsChosen config (v ∷ later) xs)
+went : {S C O : Type 0} (rules : Rules S C O) (config : Config) (w v : GroupState S C O) (past : List (World S C O)) (events : List (Event C)) →
+    Past rules config (w.world ∷ past) → Run rules w events v →
+    (later : List (World S C O)) × Past rules config (v.world ∷ later)
+    × ((xs : List C) → IsChosen config (w.world ∷ past) xs → IsChosen config (v.world ∷ later) xs)
 went rules config w v past events came ends = (past, came, λ xs c. c)
-went rules config w v past events came (goes_on {v = u} {e = e} {events = rest} h r) =
-    let q = went rules config u v (w ∷ past) rest (went_on came h) r in
-    (q.0, q.1, λ xs c. q.2 xs (chosen_stays config u (w ∷ past) xs c))
+went rules config w v past events came (goes_on {next = u} {e = e} {events = rest} s r) =
+    let q = went rules config u v (w.world ∷ past) rest (went_on came (happens_of rules w u e s)) r in
+    (q.0, q.1, λ xs c. q.2 xs (chosen_stays config u.world (w.world ∷ past) xs c))
 
-pub agrees_after : {S C O : Type 0} (rules : Rules S C O) (config : Config) (w v : World S C O) (past : List (World S C O)) (events : List (Event C)) →
-    Past rules config (w ∷ past) → Run rules w events v → AgreesAfter rules config (w ∷ past) v
-agrees_after {S = S} {C = C} rules config w v past events came r =
-    let q = went rules config w v past events came r in
+pub agrees_after : {S C O : Type 0} (rules : Rules S C O) (config : Config) (first last : GroupState S C O) (past : List (World S C O)) (events : List (Event C)) →
+    Past rules config (first.world ∷ past) → Run rules first events last → AgreesAfter rules config (first.world ∷ past) last.world
+agrees_after {S = S} {C = C} rules config first last past events came r =
+    let w = first.world in
+    let v = last.world in
+    let q = went rules config first last past events came r in
     let l = lawful_config config (past_lawful rules config (w ∷ past) came) in
     let agreed = agreed_is rules config v q.0 q.1 in
     record {
@@ -118,6 +120,6 @@ agrees_after {S = S} {C = C} rules config w v past events came r =
       only_grown = λ ys before. grown ys _ before.chosen (λ h. agreed.longest ys (q.2 ys h));
     }
   where
-    grown : (ys xs : List C) → (ys ≡ []) ⊎ IsChosen config (w ∷ past) ys → (IsChosen config (w ∷ past) ys → IsPrefixOf ys xs) → IsPrefixOf ys xs
+    grown : (ys xs : List C) → (ys ≡ []) ⊎ IsChosen config (first.world ∷ past) ys → (IsChosen config (first.world ∷ past) ys → IsPrefixOf ys xs) → IsPrefixOf ys xs
     grown ys xs (inl e) f = subst (λ (us : List C). IsPrefixOf us xs) (sym e) (record { rest = xs; is = refl })
     grown ys xs (inr h) f = f h

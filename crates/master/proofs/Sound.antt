@@ -56,6 +56,7 @@ Says config p w from (Superseded b) = ⊥
 pub record IsSoundNode {S C O : Type 0} (rules : Rules S C O) (config : Config) (p : ℕ) (w : World S C O) (n : ℕ) (r : ReplicaState S C) : Type 0 where
   pub id : r.id ≡ n + 1
   pub leads : is_active r.role ≡ true → (n ≡ p) × (r.joined ≡ 1)
+  pub stays : (is_active r.role ≡ true) ⊎ (is_backup r.role ≡ true)
   pub follows : is_backup r.role ≡ true → n ≡ p → ⊥
   pub front : IsPrefixOf r.log (log_at w p)
   pub within : r.committed ≤ length r.log
@@ -113,6 +114,7 @@ node_kept rules config p w v n r x s =
     record {
       id = s.id;
       leads = s.leads;
+      stays = s.stays;
       follows = s.follows;
       front = prefix_then s.front (x.logs p);
       within = s.within;

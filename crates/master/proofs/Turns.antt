@@ -10,7 +10,7 @@ use Rattle.ballot.specs.Replica.{ReplicaState, CountedReplica, status_of}
 use Rattle.ballot.specs.Losses.{Stepped, Steps, Loses, Thinned, halted, one_more}
 use Rattle.ballot.specs.Losses.Thinned.{none, keeps, loses}
 use Rattle.ballot.specs.Sending.{Outcome}
-use Rattle.ballot.specs.Protocol.{Input, step_in_one_ballot}
+use Rattle.ballot.specs.Protocol.{Input, replica_step}
 use Rattle.ballot.proofs.ThinnedEffects.{Thinned-same}
 use Rattle.ballot.specs.Config.{Config}
 use Rattle.ballot.specs.Status.{Status}
@@ -44,12 +44,12 @@ took_in {rules = rules} whole s same =
 
 -- the same step by other names
 pub stepped_as : {S C O : Type 0} (rules : Rules S C O) (old new new' : CountedReplica S C) (i i' : Input C) (before behind behind' : List (Effect C O)) →
-    i' ≡ i → new' ≡ new → behind' ≡ behind → Stepped rules old (step_in_one_ballot rules old.state i) new before behind →
-    Stepped rules old (step_in_one_ballot rules old.state i') new' before behind'
+    i' ≡ i → new' ≡ new → behind' ≡ behind → Stepped rules old (replica_step rules old.state i) new before behind →
+    Stepped rules old (replica_step rules old.state i') new' before behind'
 stepped_as {S = S} {C = C} {O = O} rules old new new' i i' before behind behind' e f h s =
-    subst (λ (j : Input C). Stepped rules old (step_in_one_ballot rules old.state j) new' before behind') (sym e)
-    (subst (λ (n : CountedReplica S C). Stepped rules old (step_in_one_ballot rules old.state i) n before behind') (sym f)
-    (subst (λ (us : List (Effect C O)). Stepped rules old (step_in_one_ballot rules old.state i) new before us) (sym h) s))
+    subst (λ (j : Input C). Stepped rules old (replica_step rules old.state j) new' before behind') (sym e)
+    (subst (λ (n : CountedReplica S C). Stepped rules old (replica_step rules old.state i) n before behind') (sym f)
+    (subst (λ (us : List (Effect C O)). Stepped rules old (replica_step rules old.state i) new before us) (sym h) s))
 
 thinned_then : {C O : Type 0} {xs ys zs : List (Effect C O)} → Thinned xs ys → Thinned ys zs → Thinned xs zs
 thinned_then t none = t

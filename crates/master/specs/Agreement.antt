@@ -1,6 +1,6 @@
 -- Agreement.antt: what members have told, which lists are chosen, and what it means that nodes
 -- agree.
-use Rattle.std.specs.Prelude.{ℕ, true, ◌+◌, ◌≡◌, ◌⊎◌, List, [], ◌∷◌, ◌++◌, length, take, slice_get, Option, Some, None}
+use Rattle.std.specs.Prelude.{ℕ, true, ◌+◌, ◌≡◌, ◌⊎◌, List, [], ◌∷◌, length, take, slice_get, Some}
 use Rattle.machine.specs.Machine.{Rules}
 use Rattle.ballot.specs.Body.TheVariants.{Held}
 use Rattle.ballot.specs.Config.{Config}

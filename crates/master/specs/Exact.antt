@@ -3,7 +3,7 @@ use Rattle.std.specs.Prelude.{ℕ, zero, suc, Bool, true, ◌-◌, List, [], ◌
 use Rattle.machine.specs.Machine.{Rules}
 use Rattle.ballot.specs.Message.{Message}
 use Rattle.ballot.specs.Losses.{halted}
-use Rattle.ballot.specs.Protocol.{Input, step_in_one_ballot}
+use Rattle.ballot.specs.Protocol.{Input, replica_step}
 use Rattle.ballot.specs.Protocol.Input.{Receives, Proposes, Ticks}
 use Rattle.ballot.specs.Replica.{ReplicaState, is_active}
 use Rattle.ballot.specs.Sending.{Outcome}
@@ -38,7 +38,7 @@ abbrev pub taking : {S C O : Type 0} →
 taking rules n None input = None
 taking rules n (Some r) input =
     if can_take r input
-    then Some (record { place = n; before = r; outcome = step_in_one_ballot rules r input })
+    then Some (record { place = n; before = r; outcome = replica_step rules r input })
     else None
 
 abbrev pub stopping : {S C O : Type 0} →

@@ -2,7 +2,7 @@
 
 ghost use Rattle.std.specs.Prelude.{◌≡◌, IfOk};
 
-use ballot::{Body, Log, Members, Message};
+use ballot::{Body, Members, Message, copy_log};
 use machine::{Machine, Memory};
 use std::alloc::Global;
 
@@ -21,8 +21,8 @@ pub fn copy_of<M: Machine>(
             Body::NewBallot(*ballot, members, *previous, previous_members)
         }
         Body::Join(ballot, previous) => Body::Join(*ballot, *previous),
-        Body::State(ballot, log) => Body::State(*ballot, copy_log::<M>(alloc, log)?),
-        Body::Install(ballot, log) => Body::Install(*ballot, copy_log::<M>(alloc, log)?),
+        Body::State(ballot, log) => Body::State(*ballot, copy_log::<M>(alloc, log.as_slice())?),
+        Body::Install(ballot, log) => Body::Install(*ballot, copy_log::<M>(alloc, log.as_slice())?),
         Body::Installed(ballot, held) => Body::Installed(*ballot, *held),
         Body::Activate(ballot) => Body::Activate(*ballot),
         Body::Activated(ballot) => Body::Activated(*ballot),
@@ -34,15 +34,4 @@ pub fn copy_of<M: Machine>(
         Body::Commit(ballot, committed) => Body::Commit(*ballot, *committed),
     };
     Ok(Message { from, body })
-}
-
-// A copy of a log.
-fn copy_log<M: Machine>(alloc: Global, log: &Log<M::Command>) -> Result<Log<M::Command>, Memory>
-    ensures { IfOk result (λ copied. copied ≡ log.now) }
-{
-    let mut copied = Log::new(alloc);
-    for command in log.as_slice() {
-        copied.push(M::copy(alloc, command)?)?;
-    }
-    Ok(copied)
 }

@@ -2,7 +2,7 @@
 
 ghost use Rattle.std.specs.Prelude.{◌≡◌, ◌<◌, ◌↔◌, false, None, Some, [], length, slice_get, map, List, ◌∷◌, IfOk, IfSome, OnErr, IsErr, IsErrOf};
 ghost use Rattle.machine.specs.Machine.{rules_by};
-ghost use Rattle.ballot.specs.Protocol.{step_in_one_ballot};
+ghost use Rattle.ballot.specs.Protocol.{replica_step};
 ghost use Rattle.ballot.specs.Losses.{one_more};
 ghost use Rattle.ballot.specs.Replica.{ReplicaState};
 ghost use Rattle.master.specs.Agreement.{IsOpening, Past, IsAgreed, AgreesAfter};
@@ -107,8 +107,9 @@ impl<M: Machine> Group<M> {
     /// Lets events happen one after the other. Idle ones are passed over.
     pub fn run(&mut self, events: &[Event<M::Command>])
         ensures config { self.new.config ≡ self.old.config }
+        // Each event is done exactly, or with losses that are counted there.
         ensures run { Run (rules_by M.opening M.start_of M.after M.gives)
-            self.old.world events.now self.new.world }
+            self.old events.now self.new }
         ensures exact { LosesNothing self.old self.new →
             self.new.world ≡ group_run
             (rules_by M.opening M.start_of M.after M.gives) events.now self.old.world }
@@ -263,7 +264,7 @@ impl<M: Machine> Group<M> {
             (record {
               place = at;
               before = replica;
-              outcome = step_in_one_ballot (rules_by M.opening M.start_of M.after M.gives)
+              outcome = replica_step (rules_by M.opening M.start_of M.after M.gives)
                   replica (input_of taken);
             }) self.new }
     {

@@ -1,7 +1,8 @@
 // Who gives ballots their configurations, and makes them active.
 
-ghost use Rattle.std.specs.Prelude.{◌≡◌, ◌+◌, ◌≤◌, ◌↔◌, true, false, IfOk, OnOk, OnErr, IsErrOf, if◌then◌else◌};
-ghost use Rattle.agreement.specs.MasterState.{activating, assigning, is_granted, last_ballot, opening_master};
+ghost use Rattle.std.specs.Prelude.{◌≡◌, ◌+◌, ◌↔◌, false, Some, IfOk, IsErrOf, if◌then◌else◌};
+ghost use Rattle.agreement.specs.MasterState.{activating, is_granted, master_behind, opening_master, refusal};
+ghost use Rattle.agreement.specs.MasterState.AssignRefusal.{bad_members, ballots_spent};
 ghost use Rattle.ballot.specs.LawfulConfig.{is_lawful};
 
 use crate::activation::Activation;
@@ -63,14 +64,13 @@ impl Master {
     /// for good. The new ballot is the result.
     pub fn assign(&mut self, config: Config) -> Result<u64, AssignError>
         ensures ok { IfOk result (λ ballot. ballot ≡ self.old.given + 1) }
-        ensures state { OnOk result (self.new ≡ assigning self.old config) }
-
-        // Bad members are named first.
         ensures bad { IsErrOf result AssignError.BadMembers
-            ↔ (is_lawful config.members config.primary ≡ false) }
+            ↔ (refusal self.old config ≡ Some bad_members) }
         ensures spent { IsErrOf result AssignError.BallotsSpent
-            ↔ ((is_lawful config.members config.primary ≡ true) × (last_ballot ≤ self.old.given)) }
-        ensures same { OnErr result (self.new ≡ self.old) }
+            ↔ (refusal self.old config ≡ Some ballots_spent) }
+
+        // Where it is refused, nothing changes.
+        ensures state { self.new ≡ master_behind self.old config (refusal self.old config) }
     {
         if !config.is_lawful() {
             return Err(AssignError::BadMembers);

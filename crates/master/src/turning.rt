@@ -3,7 +3,7 @@
 ghost use Rattle.std.specs.Prelude.{◌≡◌, ◌≤◌, false, [], ◌∷◌, ◌++◌, length, take, drop};
 ghost use Rattle.std.specs.Bool.{OnTrue, OnFalse};
 ghost use Rattle.machine.specs.Machine.{rules_by};
-ghost use Rattle.ballot.specs.Protocol.{step_in_one_ballot};
+ghost use Rattle.ballot.specs.Protocol.{replica_step};
 ghost use Rattle.agreement.specs.World.{messages};
 ghost use Rattle.master.specs.Inside.{Parted, TookIn, input_of, is_message};
 
@@ -29,7 +29,7 @@ pub fn take_in<M: Machine>(
 ) -> bool
     requires { replica.old.state.stopped ≡ false }
     ensures { TookIn (rules_by M.opening M.start_of M.after M.gives) replica.old.state
-        (step_in_one_ballot (rules_by M.opening M.start_of M.after M.gives)
+        (replica_step (rules_by M.opening M.start_of M.after M.gives)
         replica.old.state (input_of taken))
         replica.new.state out.old.items out.new.items result }
 {

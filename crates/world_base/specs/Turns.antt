@@ -8,7 +8,7 @@ use Rattle.connecting_base.specs.declared.command.Output.{Output}
 use Rattle.connecting_base.specs.declared.command.Output.TheVariants as outputs
 use Rattle.ballot.specs.Effect.{Effect}
 use Rattle.ballot.specs.Effect.TheVariants.{To, Out}
-use Rattle.ballot.specs.Protocol.{Input, step_in_one_ballot}
+use Rattle.ballot.specs.Protocol.{Input, replica_step}
 use Rattle.ballot.specs.Replica.{ReplicaState}
 use Rattle.ballot.specs.Sending.{Outcome, nothing_done}
 use Rattle.ballot.specs.Serving.{proposed, most_places}
@@ -69,7 +69,7 @@ proposes command core =
 
 -- a message of another node or a tick; a replica that has stopped does nothing
 abbrev pub heard : Input Command → ReplicaState Table Command → Outcome Table Command Output
-heard input r = if r.stopped then nothing_done Output r else step_in_one_ballot rules r input
+heard input r = if r.stopped then nothing_done Output r else replica_step rules r input
 
 unfoldable pub drives : Input Command → CoreState → Turn
 drives input core = moved (heard input core.replica.state) core

@@ -15,6 +15,7 @@ use Rattle.agreement.specs.World.{World}
 use Rattle.agreement.proofs.Frame.Going.{goes_same, extends_then}
 use Rattle.agreement.proofs.Agreed.PastGrows.{config_stays, active_stays, told_stays}
 use Rattle.agreement.proofs.Runs.RunsGoOn.{StepGoesOn}
+use Rattle.agreement.proofs.Runs.SendersStay.{senders_stay, led_then}
 use Rattle.agreement.proofs.Runs.Serves.{serving_step}
 use Rattle.agreement.proofs.Agreed.PastIsKnown.{IsKnown, told_now}
 
@@ -27,6 +28,8 @@ serves_then rules m k w v h adds s x step =
       master = x.run.group.master;
       replays = x.run.replays;
       serving = serving_step rules m w k v step s.serving;
+      senders = senders_stay rules m w k v h s.sound step s.senders;
+      led = led_then rules m w k v h x.run.group.goes_on.history s x.run.group.goes_on.extends step;
       begun = x.run.begun s.begun;
       long = x.run.long;
     }

@@ -53,7 +53,7 @@ nodes_agree rules config a past xs came agreed =
     let q = past_known rules config a past came in
     let z = agreed_known rules config a past q xs agreed in (
       sound_agrees rules a.master a.world q.history xs q.serves.sound q.serves.master z,
-      serves_held rules a.master a.world q.history xs q.serves.sound q.serves.master q.serves.serving z,
+      serves_held rules a.master a.world q.history xs q.serves.sound q.serves.master q.serves.led z,
     )
 
 -- and machines are replays

@@ -13,7 +13,7 @@ use Rattle.agreement.specs.Past.Past.{began, went_on}
 use Rattle.agreement.specs.Past.HasConfig.{opened_with}
 use Rattle.agreement.specs.Proposals.{proposal_of}
 use Rattle.agreement.specs.World.{can_open}
-use Rattle.agreement.proofs.Masters.Assigns.{can_open_is}
+use Rattle.agreement.proofs.Masters.Assigns.{can_open_is, lawful_is}
 use Rattle.agreement.proofs.Frame.Going.{goes_same}
 use Rattle.agreement.proofs.Runs.OpeningServes.{opening_is_serving}
 use Rattle.agreement.proofs.Runs.OpeningTold.{first_given, told_opens}
@@ -27,12 +27,12 @@ known_opening : {S C O : Type 0} (rules : Rules S C O) (config : Config) (nodes 
     IsKnown rules config (opening_moment rules nodes config) []
 known_opening {S = S} {C = C} {O = O} rules config nodes lawful =
     let z = opening_is_serving rules nodes config lawful in
-    let opens = can_open_is nodes config lawful in
+    let opens = lawful_is config (can_open_is nodes config lawful).0 in
     record {
       history = opening_history C config;
       serves = z;
       first = refl;
-      numbers = λ x i. let y = opens.1 x i in (y.0, y.1);
+      numbers = opens.1;
       moments = λ c i. moments c i;
       configs = λ b g e. let y = first_given C config b g e in
           (config, opened_with y.0 refl, sym (ap (λ (u : Given). u.members) y.1), sym (ap (λ (u : Given). u.primary) y.1));

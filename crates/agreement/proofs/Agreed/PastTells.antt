@@ -42,7 +42,7 @@ config_known rules config a past q b c (was_assigned v i waits) =
       z.2.given b y.0 y.1,
       y.3,
       y.4,
-      λ x j. let n = z.1.serving.waiting b c waits x j in (n.0, n.1),
+      λ x j. z.1.serving.waiting b c waits x j,
     )
 
 -- a log at a moment begins the list of the ballot in which it is held

@@ -29,7 +29,7 @@ use Rattle.agreement.proofs.Frame.Later.{takes}
 use Rattle.agreement.proofs.Frame.Quiet.{keeps_nothing}
 use Rattle.agreement.proofs.Frame.Bases.{chosen_told}
 use Rattle.agreement.proofs.Frame.Roles.{role_installing}
-use Rattle.agreement.proofs.Frame.Rows.{on_activated-stays, on_activated-adds}
+use Rattle.ballot.proofs.ChangeRows.{on_activated-stays, on_activated-adds}
 
 -- the progress that are made for some members
 pub reached_of : (held : ℕ) (ms : List ℕ) (reached : Progress) → In reached (progress_at held ms) → In reached.member ms × (reached.held ≡ held)

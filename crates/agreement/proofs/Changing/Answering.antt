@@ -23,7 +23,7 @@ use Rattle.agreement.proofs.Changing.Installs.{install_taken}
 use Rattle.agreement.proofs.Frame.Leaving.{left_same}
 use Rattle.agreement.proofs.Frame.Moved.{move_sound}
 use Rattle.agreement.proofs.Frame.Quiet.{keeps_nothing}
-use Rattle.agreement.proofs.Frame.Rows.{on_install-takes, on_install-answers, on_install-stays}
+use Rattle.ballot.proofs.ChangeRows.{on_install-takes, on_install-answers, on_install-stays}
 use Rattle.agreement.proofs.Changing.SameNode.{same_node}
 
 -- an Install that is answered

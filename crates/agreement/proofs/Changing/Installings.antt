@@ -14,7 +14,7 @@ use Rattle.agreement.specs.Inside.Ballots.{History}
 use Rattle.agreement.specs.Inside.Keeps.{Keeps}
 use Rattle.agreement.specs.Inside.Sound.{IsSound}
 use Rattle.agreement.proofs.Frame.Quiet.{keeps_nothing}
-use Rattle.agreement.proofs.Frame.Rows.{on_installed-stays, on_installed-counts}
+use Rattle.ballot.proofs.ChangeRows.{on_installed-stays, on_installed-counts}
 use Rattle.agreement.proofs.Changing.InstalledCounts.{installed_noted}
 
 -- an Installed that comes

@@ -23,7 +23,7 @@ use Rattle.agreement.proofs.Frame.SaysLater.{joined_kept}
 use Rattle.agreement.proofs.Frame.Joining.{AreSilent, MovesQuietly, quiet_extends}
 use Rattle.agreement.proofs.Frame.QuietWorlds.{quiet_lines}
 use Rattle.agreement.proofs.Frame.Quiet.{before_quiet, quiet_keeps, keeps_nothing}
-use Rattle.agreement.proofs.Frame.Rows.{on_join-stays, on_join-answers}
+use Rattle.ballot.proofs.ChangeRows.{on_join-stays, on_join-answers}
 use Rattle.agreement.proofs.Frame.Sealing.{joined_seals, joined_offers}
 
 -- what a node is that answers a Join: as it was, or a backup of the ballot

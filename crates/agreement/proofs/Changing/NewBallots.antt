@@ -22,7 +22,7 @@ use Rattle.agreement.specs.Inside.Sound.{Says, IsSoundNode, IsSound}
 use Rattle.lists.proofs.Places.{get_set}
 use Rattle.agreement.proofs.Frame.Joining.{IsSilent, MovesQuietly}
 use Rattle.agreement.proofs.Frame.Quiet.{before_quiet, quiet_keeps, keeps_nothing}
-use Rattle.agreement.proofs.Frame.Rows.{on_new_ballot-joins, on_new_ballot-stays}
+use Rattle.ballot.proofs.ChangeRows.{on_new_ballot-joins, on_new_ballot-stays}
 
 -- a message to each of some nodes
 pub said_to_each : {C : Type 0} (O : Type 0) (P : ℕ → Message C → Type 0) (id : ℕ) (body : Body C) (tos : List ℕ) →

@@ -15,7 +15,7 @@ use Rattle.agreement.specs.Inside.Keeps.{Keeps}
 use Rattle.agreement.specs.Inside.Sound.{IsSound}
 use Rattle.agreement.proofs.Frame.Quiet.{keeps_nothing}
 use Rattle.agreement.proofs.Frame.Roles.{role_fetching}
-use Rattle.agreement.proofs.Frame.Rows.{on_state-stays, on_state-takes}
+use Rattle.ballot.proofs.ChangeRows.{on_state-stays, on_state-takes}
 use Rattle.agreement.proofs.Changing.StateHears.{state_heard}
 use Rattle.agreement.proofs.Changing.StateTaken.{state_taken}
 

@@ -16,7 +16,7 @@ use Rattle.ballot.specs.Sending.{Outcome}
 use Rattle.ballot.specs.Serving.{most_places, proposed, follows, leads, least, raised, commit, on_append, on_held, on_commit, on_tick_active}
 use Rattle.ballot.proofs.StepRows.{proposed-adds, proposed-full, proposed-not_active}
 use Rattle.agreement.proofs.Machines.Applies.{Applies, applies_nothing, applies_to, commit_applies, added_applies, added_behind}
-use Rattle.agreement.proofs.Frame.Rows.{on_activated-stays, on_activated-adds}
+use Rattle.ballot.proofs.ChangeRows.{on_activated-stays, on_activated-adds}
 use Rattle.agreement.proofs.Starts.StaysActive.{added_keeps}
 use Rattle.agreement.proofs.Machines.ChangingApplies.{new_ballot_applies, join_applies, state_applies, install_applies, installed_applies, superseded_applies}
 

@@ -1,5 +1,5 @@
--- GroupServes.antt: a group opens as it should be.
-use Rattle.std.proofs.Common.{Bool, cond, inl, ◌≡◌, ℕ, zero, suc, ◌+◌, true, false, [], ◌∷◌, length, refl, sym, subst, arith}
+-- OpeningServes.antt: a group opens as it should be.
+use Rattle.std.proofs.Common.{Bool, cond, inl, ◌≡◌, ℕ, zero, suc, ◌+◌, true, false, [], ◌∷◌, length, refl, subst, arith}
 use Rattle.std.specs.Prelude.{◌==◌}
 use Rattle.std.proofs.lemmas.List.{length-append}
 use Rattle.machine.specs.Machine.{Rules}
@@ -9,12 +9,12 @@ use Rattle.ballot.specs.Replica.{ReplicaState, opening, opening_member, progress
 use Rattle.agreement.specs.World.{can_open, opening_nodes, opening_world}
 use Rattle.agreement.specs.Inside.Masters.{IsServing}
 use Rattle.agreement.specs.Inside.Begun.{AreLong}
-use Rattle.agreement.specs.Inside.Serves.{Serves}
-use Rattle.agreement.specs.Inside.OpeningHistory.{opening_history}
+use Rattle.agreement.specs.Inside.Serves.{IsLed, Serves}
+use Rattle.agreement.specs.Inside.OpeningHistory.{first_ballot, opening_history}
 use Rattle.agreement.specs.MasterState.{opening_master}
 use Rattle.agreement.specs.Replays.{IsReplay, AreReplays}
 use Rattle.agreement.specs.Inside.Sound.{IsSound}
-use Rattle.agreement.proofs.Masters.Assigns.{can_open_is}
+use Rattle.agreement.proofs.Masters.Assigns.{can_open_is, lawful_is}
 use Rattle.agreement.proofs.Runs.RunsGoOn.{opening_begun}
 use Rattle.agreement.proofs.Runs.OpeningTold.{first_given}
 use Rattle.agreement.proofs.Runs.OpeningWorlds.{opens_node, opening_sound, opening_is_master}
@@ -26,11 +26,18 @@ nodes_open rules (suc n) config =
     let e = nodes_open rules n config in omega (arith, e, length-append (opening_nodes rules n config) (opening rules (n + 1) config ∷ []))
 
 -- a group that opens
-pub opening_serves : {S C O : Type 0} (rules : Rules S C O) (nodes : ℕ) (config : Config) → can_open nodes config ≡ true →
-    IsServing (length (opening_world rules nodes config).nodes) (opening_master config)
-opening_serves rules nodes config e =
-    subst (λ j. IsServing j (opening_master config)) (sym (nodes_open rules nodes config))
-    (record { members = (can_open_is nodes config e).1; waiting = λ b c f. cc; given = omega arith })
+opening_serves : (config : Config) → IsServing (opening_master config)
+opening_serves config = record { waiting = λ b c f. cc; given = omega arith }
+
+-- its primary is one of the nodes
+opening_led : {S C O : Type 0} (rules : Rules S C O) (nodes : ℕ) (config : Config) → can_open nodes config ≡ true →
+    IsLed (length (opening_world rules nodes config).nodes) (opening_history C config) 1
+opening_led {C = C} rules nodes config e =
+    let lawful = lawful_is config (can_open_is nodes config e).0 in
+    let within = (can_open_is nodes config e).1 config.primary lawful.0 in
+    let number = lawful.1 config.primary lawful.0 in
+    let there = nodes_open rules nodes config in
+    (first_ballot config, refl, (number.0, number.1, (let is = number.1 in omega (arith, is, within, there))))
 
 -- the first ballot alone has an active primary
 opening_long : {S C O : Type 0} (rules : Rules S C O) (nodes : ℕ) (config : Config) →
@@ -58,12 +65,14 @@ opening_replays {S = S} {C = C} rules nodes config n r e runs =
 pub opening_is_serving : {S C O : Type 0} (rules : Rules S C O) (nodes : ℕ) (config : Config) → can_open nodes config ≡ true →
     Serves rules (opening_master config) (opening_world rules nodes config) (opening_history C config)
 opening_is_serving {C = C} rules nodes config e =
-    let first = opening_sound rules nodes config (can_open_is nodes config e).0 in
+    let first = opening_sound rules nodes config (lawful_is config (can_open_is nodes config e).0).0 in
     record {
       sound = first;
       master = opening_is_master C config;
       replays = opening_replays rules nodes config;
-      serving = opening_serves rules nodes config e;
+      serving = opening_serves config;
+      senders = λ to m i. elim i [ ];
+      led = opening_led rules nodes config e;
       begun = opening_begun rules.start_of config;
       long = opening_long rules nodes config first;
     }

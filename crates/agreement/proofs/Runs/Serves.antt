@@ -1,8 +1,6 @@
 -- Serves.antt: in a group whose master answers each Assign, some member of the active ballot is a node that holds the agreed list.
-use Rattle.std.proofs.Common.{◌⊎◌, inl, inr, ◌≡◌, ℕ, zero, suc, ◌+◌, ◌<◌, List, [], ◌∷◌, length, Some, None, Option, refl, sym, subst, arith}
+use Rattle.std.proofs.Common.{◌⊎◌, inl, inr, ◌≡◌, ℕ, zero, suc, ◌+◌, ◌<◌, List, [], ◌∷◌, length, Some, None, Option, refl, subst, arith}
 use Rattle.std.specs.Prelude.{slice_get}
-use Rattle.std.proofs.lemmas.List.{length-set}
-use Rattle.ballot.specs.Losses.{halted}
 use Rattle.machine.specs.Machine.{Rules}
 use Rattle.agreement.specs.Proposals.{proposal_of}
 use Rattle.agreement.specs.World.{World}
@@ -18,7 +16,8 @@ use Rattle.agreement.specs.Inside.GroupSteps.{adds_of, GroupStep}
 use Rattle.agreement.specs.Inside.GroupSteps.GroupStep.{takes, stops, assigns, hears, assigns_unheard, hears_unanswered}
 use Rattle.agreement.specs.Inside.Sound.{IsSound}
 use Rattle.agreement.proofs.Agreed.Agreeing.{sound_agrees}
-use Rattle.agreement.proofs.Masters.Assigns.{can_open_is, not_refused, serving_assigned, serving_activated}
+use Rattle.agreement.specs.Inside.Serves.{IsLed, IsNode}
+use Rattle.agreement.proofs.Masters.Assigns.{lawful_is, not_refused, serving_assigned, serving_activated}
 
 -- a step of such a group changes nothing, or is one of the group that takes in the same proposal
 pub one_step : {S C O : Type 0} (rules : Rules S C O) (m : MasterState) (w : World S C O) (k : MasterState) (v : World S C O) →
@@ -28,37 +27,29 @@ one_step rules m w k v (node_takes n r input stands runs may loses) = inr (takes
 one_step rules m w k v (node_stops n r stands) = inr (stops n r stands, refl)
 one_step rules m w k v (master_hears from b sent) = inr (hears from b sent, refl)
 one_step rules m w k v (answer_lost from b sent) = inr (hears_unanswered from b sent, refl)
-one_step {S = S} {C = C} {O = O} rules m w k v (master_assigns config) = by_refusal (refusal (length w.nodes) m config) refl
+one_step {S = S} {C = C} {O = O} rules m w k v (master_assigns config) = by_refusal (refusal m config) refl
   where
-    by_refusal : (o : Option AssignRefusal) → refusal (length w.nodes) m config ≡ o →
-        ((master_behind C m config o ≡ m) × (world_behind m w config o ≡ w))
-        ⊎ ((g : GroupStep rules m w (master_behind C m config o) (world_behind m w config o)) × (adds_of g ≡ []))
+    by_refusal : (o : Option AssignRefusal) → refusal m config ≡ o →
+        ((master_behind m config o ≡ m) × (world_behind m w config o ≡ w))
+        ⊎ ((g : GroupStep rules m w (master_behind m config o) (world_behind m w config o)) × (adds_of g ≡ []))
     by_refusal (Some why) e = inl (refl, refl)
-    by_refusal None e = inr (assigns config (can_open_is (length w.nodes) config (not_refused (length w.nodes) m config e).0).0, refl)
-one_step {S = S} {C = C} {O = O} rules m w k v (assignment_lost config) = by_refusal (refusal (length w.nodes) m config) refl
+    by_refusal None e = inr (assigns config (lawful_is config (not_refused m config e).0).0, refl)
+one_step {S = S} {C = C} {O = O} rules m w k v (assignment_lost config) = by_refusal (refusal m config) refl
   where
-    by_refusal : (o : Option AssignRefusal) → refusal (length w.nodes) m config ≡ o →
-        ((master_behind C m config o ≡ m) × (w ≡ w)) ⊎ ((g : GroupStep rules m w (master_behind C m config o) w) × (adds_of g ≡ []))
+    by_refusal : (o : Option AssignRefusal) → refusal m config ≡ o →
+        ((master_behind m config o ≡ m) × (w ≡ w)) ⊎ ((g : GroupStep rules m w (master_behind m config o) w) × (adds_of g ≡ []))
     by_refusal (Some why) e = inl (refl, refl)
-    by_refusal None e = inr (assigns_unheard config (can_open_is (length w.nodes) config (not_refused (length w.nodes) m config e).0).0, refl)
+    by_refusal None e = inr (assigns_unheard config (lawful_is config (not_refused m config e).0).0, refl)
 
--- a step keeps how many nodes there are, and that members are nodes
+-- a step keeps that members of the ballot that waits have numbers of nodes
 pub serving_step : {S C O : Type 0} (rules : Rules S C O) (m : MasterState) (w : World S C O) (k : MasterState) (v : World S C O) → MayHappen rules m w k v →
-    IsServing (length w.nodes) m → IsServing (length v.nodes) k
-serving_step rules m w k v (node_takes n r input {new = new} stands runs may loses) s =
-    subst (λ j. IsServing j m) (sym (length-set w.nodes n new)) s
-serving_step rules m w k v (node_stops n r stands) s =
-    subst (λ j. IsServing j m) (sym (length-set w.nodes n (halted rules r))) s
-serving_step {S = S} {C = C} rules m w k v (master_hears from b sent) s = serving_activated C (length w.nodes) m b from m.waiting refl s
-serving_step {S = S} {C = C} rules m w k v (answer_lost from b sent) s = serving_activated C (length w.nodes) m b from m.waiting refl s
-serving_step {S = S} {C = C} {O = O} rules m w k v (master_assigns config) s = by_refusal (refusal (length w.nodes) m config) refl
-  where
-    by_refusal : (o : Option AssignRefusal) → refusal (length w.nodes) m config ≡ o →
-        IsServing (length (world_behind m w config o).nodes) (master_behind C m config o)
-    by_refusal (Some why) e = s
-    by_refusal None e = serving_assigned C (length w.nodes) m config None e s
-serving_step {S = S} {C = C} rules m w k v (assignment_lost config) s =
-    serving_assigned C (length w.nodes) m config (refusal (length w.nodes) m config) refl s
+    IsServing m → IsServing k
+serving_step rules m w k v (node_takes n r input stands runs may loses) s = s
+serving_step rules m w k v (node_stops n r stands) s = s
+serving_step {C = C} rules m w k v (master_hears from b sent) s = serving_activated C m b from m.waiting refl s
+serving_step {C = C} rules m w k v (answer_lost from b sent) s = serving_activated C m b from m.waiting refl s
+serving_step rules m w k v (master_assigns config) s = serving_assigned m config (refusal m config) refl s
+serving_step rules m w k v (assignment_lost config) s = serving_assigned m config (refusal m config) refl s
 
 -- there is a node at each place below their number
 node_there : {X : Type 0} (xs : List X) (n : ℕ) → n < length xs → (x : X) × (slice_get xs n ≡ Some x)
@@ -68,11 +59,11 @@ node_there (x ∷ xs) (suc n) low = node_there xs n (omega (arith, low))
 
 -- the primary of the active ballot is a member that is a node, and holds the agreed list
 pub serves_held : {S C O : Type 0} (rules : Rules S C O) (m : MasterState) (w : World S C O) (h : History C) (xs : List C) → IsSound rules w h →
-    IsMaster m h → IsServing (length w.nodes) m → IsAgreedIn w h xs → Holds m w xs
-serves_held {S = S} {C = C} {O = O} rules m w h xs s k serving agreed = by_number (serving.members g.0.primary member)
+    IsMaster m h → IsLed (length w.nodes) h m.active → IsAgreedIn w h xs → Holds m w xs
+serves_held {S = S} {C = C} {O = O} rules m w h xs s k led agreed = by_number (subst (λ (y : Given). IsNode (length w.nodes) y.primary) same led.2)
   where
-    g : (g : Given) × (h.given m.active ≡ Some g) × (g.members ≡ m.members)
-    g = k.active_members
+    same : led.0 ≡ k.active_members.0
+    same = let a = led.1 in let b = k.active_members.1 in cc
 
     member : In k.active_members.0.primary m.members
     member = subst (λ ms. In k.active_members.0.primary ms) k.active_members.2 (s.ballots.led m.active k.active_members.0 k.active_members.1)

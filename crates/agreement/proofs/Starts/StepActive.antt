@@ -16,7 +16,7 @@ use Rattle.ballot.specs.Serving.{most_places, proposed, on_tick_active}
 use Rattle.ballot.proofs.StepRows.{proposed-adds, proposed-not_active, proposed-full}
 use Rattle.ballot.specs.Changing.{on_activated}
 use Rattle.agreement.proofs.Frame.Roles.{role_active, role_installing}
-use Rattle.agreement.proofs.Frame.Rows.{on_activated-stays, on_activated-adds}
+use Rattle.ballot.proofs.ChangeRows.{on_activated-stays, on_activated-adds}
 use Rattle.agreement.proofs.Starts.StaysActive.{StaysActive, active_new_ballot, active_join, active_state, active_install, active_installed, active_superseded, active_append, active_held, active_commit, added_keeps}
 
 -- a node that has just begun its ballot

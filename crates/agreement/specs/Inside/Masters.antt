@@ -16,14 +16,12 @@ pub record IsMaster {C : Type 0} (m : MasterState) (h : History C) : Type 0 wher
       (b ≡ m.given) × (m.active < b) × ((g : Given) × (h.given b ≡ Some g) × (g.previous ≡ m.active)
       × (g.members ≡ config.members) × (g.primary ≡ config.primary))
 
--- numbers of nodes, of which there are so many
-abbrev pub AreNodes : ℕ → List ℕ → Type 0
-AreNodes nodes members = (x : ℕ) → In x members → (n : ℕ) × (x ≡ n + 1) × (n < nodes)
+-- numbers that nodes may have
+abbrev pub AreNodes : List ℕ → Type 0
+AreNodes members = (x : ℕ) → In x members → (n : ℕ) × (x ≡ n + 1)
 
--- the members of the active ballot are nodes, those of the ballot that waits too, and at most the
--- last ballot was given
-pub record IsServing (nodes : ℕ) (m : MasterState) : Type 0 where
-  pub members : AreNodes nodes m.members
-  pub waiting : (b : ℕ) (config : Config) → m.waiting ≡ Some (b, config) →
-      AreNodes nodes config.members
+-- the members of the ballot that waits have numbers of nodes, whether or not there are so many, and
+-- at most the last ballot was given
+pub record IsServing (m : MasterState) : Type 0 where
+  pub waiting : (b : ℕ) (config : Config) → m.waiting ≡ Some (b, config) → AreNodes config.members
   pub given : m.given < last_ballot + 1

@@ -1,15 +1,13 @@
 // What a replica does with each message of another node.
 
-ghost use Rattle.std.specs.Prelude.{◌≡◌, ◌≤◌, ◌<◌, ◌↔◌, ◌⊎◌, true, false, [], length, IfOk, OnOk, OnErr, IsErr, IsErrOf, MatchResult, if◌then◌else◌};
+ghost use Rattle.std.specs.Prelude.{◌≡◌, ◌<◌, ◌↔◌, true, false, [], ◌∷◌, OnOk, OnErr, IsErr};
 ghost use Rattle.machine.specs.Machine.{rules_by};
-ghost use Rattle.ballot.specs.Inside.{Sends, Lacks, Went};
-ghost use Rattle.lists.specs.Lists.{IsPrefixOf};
-ghost use Rattle.ballot_base.specs.LawfulConfig.{is_lawful};
-ghost use Rattle.ballot_base.specs.Losses.{Stepped, Done, IsQuiet, halted, one_more};
-ghost use Rattle.ballot_base.specs.Replica.{is_active, opening, status_of};
-ghost use Rattle.ballot_base.specs.Protocol.{step_in_one_ballot};
-ghost use Rattle.ballot_base.specs.Protocol.Input.{Receives, Ticks};
-ghost use Rattle.ballot_base.specs.Serving.{added, commit_at, follows, leads, most_places, on_append, on_commit, on_held, proposed};
+ghost use Rattle.ballot.specs.Inside.{Says, Went};
+ghost use Rattle.ballot_base.specs.Losses.{Stepped, IsQuiet};
+ghost use Rattle.ballot_base.specs.Sending.{message_to};
+ghost use Rattle.ballot_base.specs.Protocol.{received, replica_step};
+ghost use Rattle.ballot_base.specs.Protocol.Input.{Receives};
+ghost use Rattle.ballot_base.specs.Serving.{follows, leads, on_append, on_commit, on_held};
 
 use super::Replica;
 use crate::applying::apply_dropping;
@@ -29,16 +27,16 @@ impl<M: Machine> Replica<M> {
         // The protocol's step, or one in which memory was wanting and that was counted.
         ensures step { self.old.state.stopped ≡ false →
             Stepped (rules_by M.opening M.start_of M.after M.gives) self.old
-            (step_in_one_ballot (rules_by M.opening M.start_of M.after M.gives)
+            (replica_step (rules_by M.opening M.start_of M.after M.gives)
             self.old.state (Receives message))
             self.new out.old.items out.new.items }
         // What sends, adds and applies nothing never wants memory.
         ensures quiet { self.old.state.stopped ≡ false →
             IsQuiet self.old.state
-            (step_in_one_ballot (rules_by M.opening M.start_of M.after M.gives)
+            (replica_step (rules_by M.opening M.start_of M.after M.gives)
             self.old.state (Receives message)) →
             self.new ≡ record self.old {
-              state = (step_in_one_ballot (rules_by M.opening M.start_of M.after M.gives)
+              state = (replica_step (rules_by M.opening M.start_of M.after M.gives)
                   self.old.state (Receives message)).state;
             } }
 
@@ -49,23 +47,42 @@ impl<M: Machine> Replica<M> {
         if self.stopped {
             return Err(Halted);
         }
-        let from = message.from;
-        match message.body {
+        self.hear(message.from, message.body, out)
+    }
+
+    // What a message does, by its kind.
+    fn hear(
+        &mut self,
+        from: u8,
+        body: Body<M::Command>,
+        out: &mut Vec<Effect<M::Command, M::Output>>,
+    ) -> Result<(), Halted>
+        requires { self.old.state.stopped ≡ false }
+        ensures went { Went (rules_by M.opening M.start_of M.after M.gives) self.old
+            (received (rules_by M.opening M.start_of M.after M.gives) self.old.state from body)
+            self.new out.old.items out.new.items }
+        ensures ok { OnOk result (self.new.state.stopped ≡ false) }
+        ensures err { OnErr result ((self.new.state.stopped ≡ true) ×
+            (out.new.items ≡ out.old.items)) }
+    {
+        match body {
+            Body::NewBallot(ballot, members, previous, previous_members) => {
+                self.on_new_ballot(ballot, members, previous, previous_members, out);
+            }
+            Body::Join(ballot, previous) => self.on_join(from, ballot, previous, out),
+            Body::State(ballot, log) => self.on_state(ballot, log, out),
+            Body::Install(ballot, log) => self.on_install(from, ballot, log, out),
+            Body::Installed(ballot, _) => self.on_installed(from, ballot, out),
+            Body::Activate(_) => {}
+            Body::Activated(ballot) => return self.on_activated(ballot, out),
+            Body::Superseded(ballot) => self.on_superseded(ballot),
             Body::Append(ballot, place, command) => {
                 self.on_append(from, ballot, place, command, out);
-                Ok(())
             }
-            Body::Held(ballot, held) => self.on_held(from, ballot, held, out),
-            Body::Commit(ballot, held) => self.on_commit(ballot, held),
-            Body::NewBallot(_, _, _, _)
-            | Body::Join(_, _)
-            | Body::State(_, _)
-            | Body::Install(_, _)
-            | Body::Installed(_, _)
-            | Body::Activate(_)
-            | Body::Activated(_)
-            | Body::Superseded(_) => Ok(()),
+            Body::Held(ballot, held) => return self.on_held(from, ballot, held, out),
+            Body::Commit(ballot, held) => return self.on_commit(ballot, held),
         }
+        Ok(())
     }
 
     // A backup takes the next place, and says how many places it holds.
@@ -101,6 +118,21 @@ impl<M: Machine> Replica<M> {
                 body,
             },
         );
+        self.losses = counted(self.losses, sent);
+    }
+
+    // Sends one message, and counts it where it was lost.
+    pub(super) fn say(
+        &mut self,
+        receiver: u8,
+        body: Body<M::Command>,
+        out: &mut Vec<Effect<M::Command, M::Output>>,
+    )
+        ensures { Says self.old (message_to M.Output self.old.state.id body receiver ∷ [])
+            self.new out.old.items out.new.items }
+    {
+        let from = self.id;
+        let sent = send(out, receiver, Message { from, body });
         self.losses = counted(self.losses, sent);
     }
 

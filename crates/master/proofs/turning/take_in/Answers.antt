@@ -3,7 +3,7 @@ use Rattle.std.specs.Prelude.{nat_lt}
 use Rattle.std.proofs.lemmas.Bool.{ltb-true}
 use Rattle.machine.specs.Machine.{rules_by}
 use Rattle.ballot.specs.Losses.{Stepped}
-use Rattle.ballot.specs.Protocol.{step_in_one_ballot}
+use Rattle.ballot.specs.Protocol.{replica_step}
 use Rattle.master.specs.Inside.{input_of}
 use Rattle.master.proofs.Turns.{took_in, stepped_as}
 use Rattle.master.proofs.turning.take_in.Goals as goal
@@ -12,7 +12,7 @@ use Rattle.master.proofs.turning.take_in.Goals.{in-Received, in-Proposed, in-Tic
 pub returns-then-losses-before : goal.returns-then-losses-before
 returns-then-losses-before g c =
     let rules = rules_by g.M.Machine.opening g.M.Machine.start_of g.M.Machine.after g.M.Machine.gives in
-    let step : Stepped rules c.args.replica.now (step_in_one_ballot rules c.args.replica.now.state (input_of c.args.taken))
+    let step : Stepped rules c.args.replica.now (replica_step rules c.args.replica.now.state (input_of c.args.taken))
     c.match-taken.replica c.args.out.now.items c.match-taken.out.items =
     elim c.match-taken.branch [
       | in-Received w ↦ stepped_as rules c.args.replica.now _ _ _ _ c.args.out.now.items _ _ (ap input_of w.in-Received.is) w.replica-is (ap (λ v. v.items) w.out-is) (w.on.ensures.step c.requires)

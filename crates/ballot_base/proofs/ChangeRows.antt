@@ -1,16 +1,18 @@
--- Rows.antt: what each row between ballots gives.
+-- ChangeRows.antt: what each row between ballots gives, and each tick of a new primary.
 use Rattle.std.proofs.Common.{◌≡◌, ℕ, ◌<◌, ◌≤◌, true, false, cond, List, [], ◌∷◌, length, refl}
 use Rattle.std.specs.Prelude.{nat_lt, nat_le, ◌&&◌, ◌||◌, ◌==◌}
 use Rattle.std.specs.List.{list_any}
 use Rattle.std.proofs.lemmas.Bool.{lt-ltb, le-ltb}
 use Rattle.machine.specs.Machine.{Rules}
-use Rattle.ballot.specs.Applying.{applied_to}
-use Rattle.ballot.specs.Body.TheVariants.{Join, State, Installed}
-use Rattle.ballot.specs.Role.TheVariants.{Backup, Fetching, Installing, Active}
-use Rattle.ballot.specs.Replica.{ReplicaState, is_fetching, is_installing, others, progress_at}
-use Rattle.ballot.specs.Sending.{nothing_done, message_to, message_to_each}
-use Rattle.ballot.specs.Serving.{most_places, added}
-use Rattle.ballot.specs.Changing.{on_new_ballot, on_join, on_install, on_superseded, installs, on_state, activates, on_installed, on_activated}
+use Rattle.ballot_base.specs.Applying.{applied_to}
+use Rattle.ballot_base.specs.declared.message.Body.TheVariants.{Join, State, Install, Installed}
+use Rattle.ballot_base.specs.declared.status.Role.TheVariants.{Backup, Fetching, Installing, Active}
+use Rattle.ballot_base.specs.declared.status.Role.{Role}
+use Rattle.ballot_base.specs.Protocol.{ticked}
+use Rattle.ballot_base.specs.Replica.{ReplicaState, is_backup, is_fetching, is_installing, others, progress_at}
+use Rattle.ballot_base.specs.Sending.{nothing_done, message_to, message_to_each}
+use Rattle.ballot_base.specs.Serving.{most_places, added}
+use Rattle.ballot_base.specs.Changing.{on_new_ballot, on_join, on_install, on_superseded, installs, on_state, activates, on_installed, on_activated, on_tick_fetching, on_tick_installing}
 
 -- NewBallot
 pub on_new_ballot-joins : {S C : Type 0} (O : Type 0) (r : ReplicaState S C) (b : ℕ) (members : List ℕ) (a : ℕ) (old : List ℕ) →
@@ -126,3 +128,32 @@ pub on_activated-adds : {S C O : Type 0} (rules : Rules S C O) (r : ReplicaState
     (rules.start_of b)
 unfolding on_activated
 on_activated-adds rules r b e = rw e refl
+
+-- the log that is sent where members lack it, and where none does
+pub installs-some : {S C : Type 0} (O : Type 0) (r : ReplicaState S C) (members : List ℕ) → (members ≡ [] → ⊥) →
+    installs O r members ≡ message_to_each O r.id (Install r.joined r.log) members
+installs-some O r [] some = absurd (some refl)
+installs-some O r (member ∷ members) some = refl
+
+-- a tick of a new primary
+pub ticked-fetching : {S C : Type 0} (O : Type 0) (r : ReplicaState S C) (role : Role) →
+    is_fetching role ≡ true → ticked O r role ≡ on_tick_fetching O r
+ticked-fetching O r Backup e = cc
+ticked-fetching O r Fetching e = refl
+ticked-fetching O r Installing e = cc
+ticked-fetching O r Active e = cc
+
+pub ticked-installing : {S C : Type 0} (O : Type 0) (r : ReplicaState S C) (role : Role) →
+    is_installing role ≡ true → ticked O r role ≡ on_tick_installing O r
+ticked-installing O r Backup e = cc
+ticked-installing O r Fetching e = cc
+ticked-installing O r Installing e = refl
+ticked-installing O r Active e = cc
+
+-- and one of a backup
+pub ticked-backup : {S C : Type 0} (O : Type 0) (r : ReplicaState S C) (role : Role) →
+    is_backup role ≡ true → ticked O r role ≡ nothing_done O r
+ticked-backup O r Backup e = refl
+ticked-backup O r Fetching e = cc
+ticked-backup O r Installing e = cc
+ticked-backup O r Active e = cc

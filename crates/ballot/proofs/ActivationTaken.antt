@@ -1,0 +1,218 @@
+-- ActivationTaken.antt: what a replica does when its ballot is active is the row of the protocol.
+use Rattle.std.proofs.Common.{◌≡◌, ℕ, ◌-◌, ◌<◌, ◌≤◌, Bool, true, false, ◌&&◌, List, [], ◌∷◌, ◌++◌, length, get_or, take, drop, Result, Ok, Err, OnOk, OnErr, refl, ap, sym, ◌∙◌, subst, arith}
+use Rattle.std.specs.Prelude.{nat_lt, nat_le, ◌==◌}
+use Rattle.std.specs.Result.{MatchResult}
+use Rattle.std.proofs.lemmas.Bool.{and_parts}
+use Rattle.std.proofs.lemmas.List.{length-append, take_at, take-append-le}
+use Rattle.machine.specs.Machine.{Rules, replay_from}
+use Rattle.ballot_base.specs.declared.message.Body.TheVariants.{Append}
+use Rattle.ballot_base.specs.declared.message.Effect.{Effect}
+use Rattle.ballot_base.specs.declared.status.Progress.{Progress}
+use Rattle.ballot_base.specs.declared.status.Role.{Role}
+use Rattle.ballot_base.specs.declared.status.Role.TheVariants.{Backup, Fetching, Installing, Active}
+use Rattle.ballot_base.specs.Replica.{ReplicaState, CountedReplica, is_installing, others, progress_at}
+use Rattle.ballot_base.specs.Losses.{IsQuiet, halted, one_more}
+use Rattle.ballot_base.specs.Sending.{Outcome, message_to_followed}
+use Rattle.ballot_base.specs.Applying.{applied_to}
+use Rattle.ballot_base.specs.Serving.{commit, commit_at, least, most_places, added}
+use Rattle.ballot_base.specs.Changing.{on_activated}
+use Rattle.ballot_base.proofs.ChangeRows.{on_activated-adds}
+use Rattle.ballot_base.proofs.StepRows.{added-commits, added-log, commit-stopped}
+use Rattle.ballot.specs.Inside.{Sends, Begins, Went}
+use Rattle.ballot.proofs.MessagesTaken.{went_sent, went_ignored, went_halted}
+use Rattle.ballot.proofs.SendsJoin.{Sends-then}
+
+-- a ballot may begin at a replica
+abbrev pub may_begin : {S C : Type 0} → ReplicaState S C → ℕ → Bool
+may_begin r b = (r.joined == b && is_installing r.role) && (nat_le (length r.lacking) 0 && nat_lt (length r.log) most_places)
+
+-- a replica that becomes active, before its start is added, and then
+abbrev pub active_of : {S C O : Type 0} → Rules S C O → ReplicaState S C → ReplicaState S C
+active_of rules r = record (applied_to rules r (length r.log)) { role = Active; progress = progress_at (length r.log) (others r.id r.members) }
+
+abbrev pub begun_of : {S C O : Type 0} → Rules S C O → CountedReplica S C → ℕ → CountedReplica S C
+begun_of rules old b = record old { state = record (active_of rules old.state) { log = old.state.log ++ rules.start_of b ∷ [] } }
+
+-- the row is not quiet
+activated_loud : {S C O : Type 0} (rules : Rules S C O) (r : ReplicaState S C) (b : ℕ) → IsQuiet r (added rules (active_of rules r) (rules.start_of b)) → ⊥
+activated_loud rules r b quiet =
+    let e : r.log ++ rules.start_of b ∷ [] ≡ r.log = sym (added-log rules (active_of rules r) (rules.start_of b)) ∙ quiet.same_log in
+    let n : length (r.log ++ rules.start_of b ∷ []) ≡ length r.log = ap length e in
+    omega (arith, n, length-append r.log (rules.start_of b ∷ []))
+
+-- the start found no memory
+pub activated_lost : {S C O : Type 0} (rules : Rules S C O) (old new : CountedReplica S C) (b : ℕ) (before : List (Effect C O)) →
+    may_begin old.state b ≡ true → new.state ≡ old.state → new.losses ≡ one_more old.losses →
+    Went rules old (on_activated rules old.state b) new before before
+activated_lost {S = S} {C = C} {O = O} rules old new b before may state losses =
+    subst (λ (o : Outcome S C O). Went rules old o new before before) (sym (on_activated-adds rules old.state b may))
+    (went_ignored old _ new before before state losses refl (activated_loud rules old.state b))
+
+-- what stands before the last place
+pub front_is : {X : Type 0} (xs : List X) (x : X) → take (length (xs ++ x ∷ []) - 1) (xs ++ x ∷ []) ≡ xs
+front_is xs x = let n = length-append xs (x ∷ []) in take_at xs (x ∷ []) (length (xs ++ x ∷ []) - 1) (omega (arith, n))
+
+-- a place could not be applied
+pub activated_halted : {S C O : Type 0} (rules : Rules S C O) (old pushed stopped new : CountedReplica S C) (b : ℕ) (before : List (Effect C O)) →
+    may_begin old.state b ≡ true →
+    pushed ≡ record old { state = record old.state { log = old.state.log ++ rules.start_of b ∷ [] } } →
+    stopped ≡ record pushed { state = halted rules pushed.state } →
+    new ≡ record { state = record stopped.state { log = take (length stopped.state.log - 1) stopped.state.log }; losses = one_more stopped.losses } →
+    Went rules old (on_activated rules old.state b) new before before
+activated_halted {S = S} {C = C} {O = O} rules old pushed stopped new b before may p h n =
+    let z : CountedReplica S C = record old { state = halted rules (record old.state { log = old.state.log ++ rules.start_of b ∷ [] }) } in
+    let same : stopped ≡ z = h ∙ ap (λ (y : CountedReplica S C). let x : CountedReplica S C = record y { state = halted rules y.state } in x) p in
+    let is : new ≡ record { state = halted rules old.state; losses = one_more old.losses } =
+    n ∙ ap (λ (y : CountedReplica S C). let x : CountedReplica S C = record { state = record y.state { log = take (length y.state.log - 1) y.state.log }; losses = one_more y.losses } in x) same
+    ∙ ap (λ us. let x : CountedReplica S C = record { state = halted rules (record old.state { log = us }); losses = one_more old.losses } in x)
+    (front_is old.state.log (rules.start_of b)) in
+    subst (λ (o : Outcome S C O). Went rules old o new before before) (sym (on_activated-adds rules old.state b may))
+    (went_halted old _ new before before (ap (λ (y : CountedReplica S C). y.state) is) (ap (λ (y : CountedReplica S C). y.losses) is) refl
+    (activated_loud rules old.state b))
+
+-- the role that hands a log over
+installing_is : (role : Role) → is_installing role ≡ true → role ≡ Installing
+installing_is Backup e = cc
+installing_is Fetching e = cc
+installing_is Installing e = refl
+installing_is Active e = cc
+
+-- a replica that has become active
+pub become_active_is : {S C O : Type 0} (rules : Rules S C O) (old pushed active : CountedReplica S C) (b : ℕ) (progress : List Progress) →
+    pushed ≡ record old { state = record old.state { log = old.state.log ++ rules.start_of b ∷ [] } } →
+    progress ≡ progress_at (length old.state.log) (others old.state.id old.state.members) →
+    active ≡ record pushed { state = record (applied_to rules pushed.state (length pushed.state.log - 1)) { role = Active; progress = progress } } →
+    active ≡ begun_of rules old b
+become_active_is {S = S} {C = C} {O = O} rules old pushed active b progress p m a =
+    let start = rules.start_of b in
+    let long : length (old.state.log ++ start ∷ []) - 1 ≡ length old.state.log = let n = length-append old.state.log (start ∷ []) in omega (arith, n) in
+    a ∙ ap (λ (y : CountedReplica S C). let x : CountedReplica S C = record y { state = record (applied_to rules y.state (length y.state.log - 1)) { role = Active; progress = progress } } in x) p
+    ∙ ap (λ k. let x : CountedReplica S C = record old { state = record (applied_to rules (record old.state { log = old.state.log ++ start ∷ [] }) k) { role = Active; progress = progress } } in x) long
+    ∙ ap (λ ps. let x : CountedReplica S C = record old { state = record (applied_to rules (record old.state { log = old.state.log ++ start ∷ [] }) (length old.state.log)) { role = Active; progress = ps } } in x) m
+    ∙ ap (λ us. let x : CountedReplica S C = record old {
+      state = record (active_of rules old.state) {
+        log = old.state.log ++ start ∷ [];
+        machine = replay_from rules old.state.machine (drop old.state.committed us);
+      };
+    } in x) (take-append-le (length old.state.log) old.state.log (start ∷ []) (omega arith))
+
+-- the ballot has begun, or a place could not be applied behind its start
+abbrev pub Begun : {S C O : Type 0} → Rules S C O → CountedReplica S C → CountedReplica S C → ℕ → List Progress → List (Effect C O) →
+    List (Effect C O) → CountedReplica S C → Type 0
+Begun rules active new committed waiting before behind old = (behind ≡ before) × (new ≡ record {
+  state = record active.state {
+    log = take (length active.state.log - 1) active.state.log;
+    committed = committed;
+    role = Installing;
+    progress = waiting;
+    stopped = true;
+    machine = rules.opening;
+  };
+  losses = one_more active.losses;
+})
+
+pub activated_begun : {S C O T E : Type 0} (rules : Rules S C O) (result : Result T E) (old active new : CountedReplica S C) (b committed : ℕ)
+    (waiting : List Progress) (before behind : List (Effect C O)) →
+    may_begin old.state b ≡ true → active ≡ begun_of rules old b → committed ≡ old.state.committed → waiting ≡ old.state.progress →
+    MatchResult result (λ _. Begins rules active new before behind) (λ _. Begun rules active new committed waiting before behind old) →
+    Went rules old (on_activated rules old.state b) new before behind
+activated_begun {S = S} {C = C} {O = O} rules (Ok x) old active new b committed waiting before behind may a m w begins =
+    let y : Begins rules (begun_of rules old b) new before behind = subst (λ (z : CountedReplica S C). Begins rules z new before behind) a begins in
+    subst (λ (o : Outcome S C O). Went rules old o new before behind) (sym (on_activated-adds rules old.state b may
+    ∙ added-commits rules (active_of rules old.state) (rules.start_of b)))
+    (went_sent old _ new before behind y.whole (y.sends old.state.log (rules.start_of b) refl) y.state y.counted)
+activated_begun {S = S} {C = C} {O = O} rules (Err x) old active new b committed waiting before behind may a m w (same, n) =
+    let role : old.state.role ≡ Installing =
+    installing_is old.state.role (and_parts (old.state.joined == b) (is_installing old.state.role)
+    (and_parts (old.state.joined == b && is_installing old.state.role) (nat_le (length old.state.lacking) 0 && nat_lt (length old.state.log) most_places) may).0).1 in
+    let is : new ≡ record { state = halted rules old.state; losses = one_more old.losses } =
+    n ∙ ap (λ (y : CountedReplica S C). let x : CountedReplica S C = record {
+      state = record y.state {
+        log = take (length y.state.log - 1) y.state.log;
+        committed = committed;
+        role = Installing;
+        progress = waiting;
+        stopped = true;
+        machine = rules.opening;
+      };
+      losses = one_more y.losses;
+    } in x) a
+    ∙ ap (λ us. let x : CountedReplica S C = record {
+      state = record old.state { log = us; committed = committed; role = Installing; progress = waiting; stopped = true; machine = rules.opening };
+      losses = one_more old.losses;
+    } in x) (front_is old.state.log (rules.start_of b))
+    ∙ ap (λ k. let x : CountedReplica S C = record {
+      state = record old.state { committed = k; role = Installing; progress = waiting; stopped = true; machine = rules.opening };
+      losses = one_more old.losses;
+    } in x) m
+    ∙ ap (λ ps. let x : CountedReplica S C = record {
+      state = record old.state { role = Installing; progress = ps; stopped = true; machine = rules.opening };
+      losses = one_more old.losses;
+    } in x) w
+    ∙ ap (λ q. let x : CountedReplica S C = record {
+      state = record old.state { role = q; stopped = true; machine = rules.opening };
+      losses = one_more old.losses;
+    } in x) (sym role) in
+    subst (λ (o : Outcome S C O). Went rules old o new before behind) (sym (on_activated-adds rules old.state b may))
+    (went_halted old _ new before behind (ap (λ (y : CountedReplica S C). y.state) is) (ap (λ (y : CountedReplica S C). y.losses) is) same
+    (activated_loud rules old.state b))
+
+-- and such a replica runs
+pub begun_runs : {S C O T E : Type 0} (rules : Rules S C O) (result : Result T E) (old active new : CountedReplica S C) (b committed : ℕ)
+    (waiting : List Progress) (before behind : List (Effect C O)) →
+    active ≡ begun_of rules old b → old.state.stopped ≡ false →
+    MatchResult result (λ _. Begins rules active new before behind) (λ _. Begun rules active new committed waiting before behind old) →
+    OnOk result (new.state.stopped ≡ false) × OnErr result ((new.state.stopped ≡ true) × (behind ≡ before))
+begun_runs {S = S} {C = C} {O = O} rules (Ok x) old active new b committed waiting before behind a running begins =
+    (ap (λ (r : ReplicaState S C). r.stopped) begins.state ∙ commit-stopped rules active.state ∙ ap (λ (z : CountedReplica S C). z.state.stopped) a ∙ running, tt)
+begun_runs {S = S} {C = C} {O = O} rules (Err x) old active new b committed waiting before behind a running (same, n) =
+    (tt, (ap (λ (z : CountedReplica S C). z.state.stopped) n, same))
+
+-- the places that are applied stay below the start
+pub start_behind : {S C : Type 0} (old pushed : CountedReplica S C) (start : C) →
+    pushed ≡ record old { state = record old.state { log = old.state.log ++ start ∷ [] } } → old.state.committed ≤ length old.state.log →
+    pushed.state.committed < length pushed.state.log
+start_behind {S = S} {C = C} old pushed start p within =
+    let k : pushed.state.committed ≡ old.state.committed = ap (λ (z : CountedReplica S C). z.state.committed) p in
+    let n : length pushed.state.log ≡ length (old.state.log ++ start ∷ []) = ap (λ (z : CountedReplica S C). length z.state.log) p in
+    omega (arith, within, k, n, length-append old.state.log (start ∷ []))
+
+pub start_behind_active : {S C O : Type 0} (rules : Rules S C O) (old active : CountedReplica S C) (b k : ℕ) → active ≡ begun_of rules old b →
+    k ≡ old.state.committed → old.state.committed ≤ length old.state.log → k < length active.state.log
+start_behind_active {S = S} {C = C} rules old active b k a e within =
+    let n : length active.state.log ≡ length (old.state.log ++ rules.start_of b ∷ []) = ap (λ (z : CountedReplica S C). length z.state.log) a in
+    omega (arith, within, e, n, length-append old.state.log (rules.start_of b ∷ []))
+
+pub start_behind_stopped : {S C O : Type 0} (rules : Rules S C O) (pushed stopped : CountedReplica S C) →
+    stopped ≡ record pushed { state = halted rules pushed.state } → pushed.state.committed < length pushed.state.log →
+    stopped.state.committed < length stopped.state.log
+start_behind_stopped {S = S} {C = C} rules pushed stopped h low = subst (λ (z : CountedReplica S C). z.state.committed < length z.state.log) (sym h) low
+
+-- what the helpers commit is what all hold
+pub told_commit : {S C O : Type 0} (rules : Rules S C O) (r : ReplicaState S C) (held long : ℕ) (progress : List Progress) →
+    held ≡ least long progress → long ≡ length r.log → progress ≡ r.progress → commit_at rules r held ≡ commit rules r
+unfolding commit
+told_commit rules r held long progress h l p =
+    ap (commit_at rules r) (h ∙ ap (λ k. least k progress) l ∙ ap (least (length r.log)) p)
+
+-- the last place of a log
+last_is : {X : Type 0} (front : List X) (last d : X) → get_or (front ++ last ∷ []) (length front) d ≡ last
+last_is [] last d = refl
+last_is (x ∷ front) last d = last_is front last d
+
+-- the start was sent, and then what all hold was committed
+pub start_sent : {S C O : Type 0} (rules : Rules S C O) (r : ReplicaState S C) (front : List C) (last found : C) (long held long' : ℕ)
+    (progress progress' : List Progress) (before mid behind : List (Effect C O)) (sent told : Bool) →
+    r.log ≡ front ++ last ∷ [] → long ≡ length r.log → found ≡ get_or r.log (long - 1) found → progress ≡ r.progress →
+    Sends before mid (message_to_followed O r.id (Append r.joined (long - 1) found) progress) sent →
+    held ≡ least long' progress' → long' ≡ length r.log → progress' ≡ r.progress →
+    Sends mid behind (commit_at rules r held).effects told →
+    Sends before behind (message_to_followed O r.id (Append r.joined (length front) last) r.progress ++ (commit rules r).effects) (sent && told)
+start_sent {S = S} {C = C} {O = O} rules r front last found long held long' progress progress' before mid behind sent told e l f p sends h l' p' commits =
+    let place : long - 1 ≡ length front = let n : length r.log ≡ length (front ++ last ∷ []) = ap length e in omega (arith, n, l, length-append front (last ∷ [])) in
+    let is : found ≡ last = f ∙ ap (λ us. get_or us (long - 1) found) e ∙ ap (λ k. get_or (front ++ last ∷ []) k found) place ∙ last_is front last found in
+    Sends-then
+    (subst (λ ps. Sends before mid (message_to_followed O r.id (Append r.joined (length front) last) ps) sent) p
+    (subst (λ (x : C). Sends before mid (message_to_followed O r.id (Append r.joined (length front) x) progress) sent) is
+    (subst (λ k. Sends before mid (message_to_followed O r.id (Append r.joined k found) progress) sent) place sends)))
+    (subst (λ (o : Outcome S C O). Sends mid behind o.effects told) (told_commit rules r held long' progress' h l' p') commits)

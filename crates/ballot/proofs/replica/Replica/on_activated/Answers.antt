@@ -1,0 +1,68 @@
+use Rattle.std.proofs.Common.{◌≤◌, length, ap, sym, ◌∙◌}
+use Rattle.machine.specs.Machine.{rules_by}
+use Rattle.ballot_base.specs.Losses.{one_more}
+use Rattle.ballot_base.specs.Replica.{CountedReplica}
+use Rattle.ballot_base.proofs.ChangeRows.{on_activated-stays}
+use Rattle.ballot.proofs.MessagesTaken.{went_same}
+use Rattle.ballot.proofs.ActivationTaken.{activated_lost, activated_halted, become_active_is, activated_begun, begun_runs, start_behind, start_behind_active, start_behind_stopped}
+use Rattle.ballot.proofs.replica.Replica.on_activated.Goals as goal
+
+pub returns-then-not-may_begin-clause-went : goal.returns-then-not-may_begin-clause-went
+returns-then-not-may_begin-clause-went g c =
+    let steps = rules_by g.M.Machine.opening g.M.Machine.start_of g.M.Machine.after g.M.Machine.gives in
+    went_same _ _ _ (on_activated-stays steps _ c.args.ballot (sym c.may_begin.ensures ∙ c.if-not-may_begin.true))
+
+pub returns-in_default-clause-went : goal.returns-in_default-clause-went
+returns-in_default-clause-went g c =
+    let steps = rules_by g.M.Machine.opening g.M.Machine.start_of g.M.Machine.after g.M.Machine.gives in
+    activated_lost steps c.args.self.now _ c.args.ballot _ (sym c.may_begin.ensures ∙ c.if-not-may_begin.false)
+    (ap (λ (z : CountedReplica _ _). z.state) (c.self-2.view_is ∙ c.in_default.ensures.err))
+    (c.counted-self-inside.ensures ∙ ap (λ (z : CountedReplica _ _). one_more z.losses) (c.self-2.view_is ∙ c.in_default.ensures.err))
+
+pub become_active-requires-clause-behind : goal.become_active-requires-clause-behind
+become_active-requires-clause-behind g c =
+    let within : c.args.self.now.state.committed ≤ length c.args.self.now.state.log = rw (← c.self.view_is) c.self.invariant in
+    start_behind c.args.self.now c.add_start.new.self _ c.in-Ok.ensures.state within
+
+pub begin-requires-clause-behind : goal.begin-requires-clause-behind
+begin-requires-clause-behind g c =
+    let steps = rules_by g.M.Machine.opening g.M.Machine.start_of g.M.Machine.after g.M.Machine.gives in
+    let within : c.args.self.now.state.committed ≤ length c.args.self.now.state.log = rw (← c.self.view_is) c.self.invariant in
+    start_behind_active steps c.args.self.now c.become_active.new.self c.args.ballot c.self.inside.committed
+    (become_active_is steps c.args.self.now c.add_start.new.self c.become_active.new.self c.args.ballot c.in-Ok.progress.items
+    c.in-Ok.ensures.state c.in-Ok.ensures.progress c.in-Ok-become_active.ensures.state)
+    (ap (λ (z : CountedReplica _ _). z.state.committed) c.self.view_is) within
+
+pub take_back_start-requires : goal.take_back_start-requires
+take_back_start-requires g c =
+    let steps = rules_by g.M.Machine.opening g.M.Machine.start_of g.M.Machine.after g.M.Machine.gives in
+    let within : c.args.self.now.state.committed ≤ length c.args.self.now.state.log = rw (← c.self.view_is) c.self.invariant in
+    record {
+      behind = start_behind_stopped steps c.add_start.new.self c.become_active.new.self c.in-Err.ensures.stops
+          (start_behind c.args.self.now c.add_start.new.self _ c.in-Ok.ensures.state within);
+    }
+
+pub returns-in-Ok-become_active-clause-went : goal.returns-in-Ok-become_active-clause-went
+returns-in-Ok-become_active-clause-went g c =
+    let steps = rules_by g.M.Machine.opening g.M.Machine.start_of g.M.Machine.after g.M.Machine.gives in
+    activated_begun steps c.begin.result c.args.self.now c.become_active.new.self c.begin.new.self c.args.ballot c.self.inside.committed
+    c.in-Ok-become_active.waiting.items _ _ (sym c.may_begin.ensures ∙ c.if-not-may_begin.false)
+    (become_active_is steps c.args.self.now c.add_start.new.self c.become_active.new.self c.args.ballot c.in-Ok.progress.items
+    c.in-Ok.ensures.state c.in-Ok.ensures.progress c.in-Ok-become_active.ensures.state)
+    (ap (λ (z : CountedReplica _ _). z.state.committed) c.self.view_is)
+    (c.in-Ok-become_active.ensures.earlier ∙ ap (λ (z : CountedReplica _ _). z.state.progress) c.in-Ok.ensures.state)
+    c.begin.ensures.outcome
+
+pub returns-in-Ok-become_active-clause-ok : goal.returns-in-Ok-become_active-clause-ok
+returns-in-Ok-become_active-clause-ok g c =
+    let steps = rules_by g.M.Machine.opening g.M.Machine.start_of g.M.Machine.after g.M.Machine.gives in
+    (begun_runs steps c.begin.result c.args.self.now c.become_active.new.self c.begin.new.self c.args.ballot c.self.inside.committed
+    c.in-Ok-become_active.waiting.items _ _
+    (become_active_is steps c.args.self.now c.add_start.new.self c.become_active.new.self c.args.ballot c.in-Ok.progress.items
+    c.in-Ok.ensures.state c.in-Ok.ensures.progress c.in-Ok-become_active.ensures.state) c.requires c.begin.ensures.outcome).0
+
+pub returns-in-Err-clause-went : goal.returns-in-Err-clause-went
+returns-in-Err-clause-went g c =
+    let steps = rules_by g.M.Machine.opening g.M.Machine.start_of g.M.Machine.after g.M.Machine.gives in
+    activated_halted steps c.args.self.now c.add_start.new.self c.become_active.new.self _ c.args.ballot _
+    (sym c.may_begin.ensures ∙ c.if-not-may_begin.false) c.in-Ok.ensures.state c.in-Err.ensures.stops c.take_back_start.ensures

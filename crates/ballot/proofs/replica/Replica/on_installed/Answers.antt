@@ -1,0 +1,27 @@
+use Rattle.std.proofs.Common.{ap, refl, sym, ◌∙◌}
+use Rattle.ballot_base.specs.Replica.{CountedReplica}
+use Rattle.ballot_base.proofs.ChangeRows.{on_installed-stays}
+use Rattle.ballot.proofs.MessagesTaken.{went_same}
+use Rattle.ballot.proofs.ChangesTaken.{installed_noted, installed_last, empty_is, not_empty_is}
+use Rattle.ballot.proofs.replica.Replica.on_installed.Goals as goal
+
+pub returns-then-not-waits_for_answer-clause-went : goal.returns-then-not-waits_for_answer-clause-went
+returns-then-not-waits_for_answer-clause-went g c =
+    went_same _ _ _ (on_installed-stays _ _ c.args.from c.args.ballot (sym c.waits_for_answer.ensures ∙ c.if-not-waits_for_answer.true))
+
+pub returns-then-not-is_empty-clause-went : goal.returns-then-not-is_empty-clause-went
+returns-then-not-is_empty-clause-went g c =
+    installed_noted _ c.args.self.now _ c.args.from c.args.ballot c.forget.new.members.items _
+    (sym c.waits_for_answer.ensures ∙ c.if-not-waits_for_answer.false)
+    (rw (← c.self.view_is) c.forget.ensures)
+    (not_empty_is _ _ c.is_empty.ensures c.forget.new.members.ok.0 c.if-not-is_empty.true)
+    (rw (← c.self.view_is) refl)
+
+pub returns-clause-went : goal.returns-clause-went
+returns-clause-went g c =
+    rw (← c.self.view_is)
+    (installed_last _ _ _ _ c.args.from c.args.ballot c.say.inside.joined c.forget.new.members.items _ _
+    (rw (← c.self.view_is) at (sym c.waits_for_answer.ensures ∙ c.if-not-waits_for_answer.false))
+    c.forget.ensures
+    (empty_is _ _ c.is_empty.ensures c.forget.new.members.ok.0 c.if-not-is_empty.false)
+    (ap (λ (z : CountedReplica _ _). z.state.joined) c.say.view_is) refl c.say-2.ensures)

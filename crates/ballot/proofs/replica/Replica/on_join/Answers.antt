@@ -1,0 +1,19 @@
+use Rattle.std.proofs.Common.{refl, sym, ◌∙◌}
+use Rattle.ballot_base.proofs.ChangeRows.{on_join-stays}
+use Rattle.ballot.proofs.MessagesTaken.{went_same}
+use Rattle.ballot.proofs.ChangesTaken.{join_answered}
+use Rattle.ballot.proofs.replica.Replica.on_join.Goals as goal
+
+pub returns-then-not-may_join-clause-went : goal.returns-then-not-may_join-clause-went
+returns-then-not-may_join-clause-went g c =
+    went_same _ _ _ (on_join-stays _ _ c.args.from c.args.ballot c.args.previous (sym c.may_join.ensures ∙ c.if-not-may_join.true))
+
+pub returns-clause-went : goal.returns-clause-went
+returns-clause-went g c =
+    join_answered _ c.args.self.now c.leave_for.new.self _ c.args.from c.args.ballot c.args.previous c.deref.result.now _ _ c.send_state-sent.result
+    (sym c.may_join.ensures ∙ c.if-not-may_join.false)
+    (rw (← c.self.view_is) c.deref.ensures.value)
+    (rw (← c.self.view_is) c.send_state-sent.ensures)
+    c.leave_for.ensures
+    (rw (← c.self-2.view_is) refl)
+    (rw (← c.self-2.view_is) c.counted-self-inside.ensures)

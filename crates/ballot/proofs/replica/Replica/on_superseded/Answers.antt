@@ -1,0 +1,13 @@
+use Rattle.std.proofs.Common.{[], refl, sym, ◌∙◌}
+use Rattle.ballot_base.proofs.ChangeRows.{on_superseded-stays}
+use Rattle.ballot.proofs.MessagesTaken.{went_same}
+use Rattle.ballot.proofs.ChangesTaken.{superseded_left}
+use Rattle.ballot.proofs.replica.Replica.on_superseded.Goals as goal
+
+pub returns-then-installs-clause-went : goal.returns-then-installs-clause-went
+returns-then-installs-clause-went g c =
+    superseded_left _ c.args.self.now _ c.args.ballot (sym c.installs.ensures ∙ c.if-installs.true) (rw (← c.self.view_is) refl)
+
+pub returns-else-installs-clause-went : goal.returns-else-installs-clause-went
+returns-else-installs-clause-went g c =
+    went_same _ _ [] (on_superseded-stays _ _ c.args.ballot (sym c.installs.ensures ∙ c.if-installs.false))

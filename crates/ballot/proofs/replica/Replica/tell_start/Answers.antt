@@ -1,0 +1,37 @@
+use Rattle.std.proofs.Common.{◌≡◌, ◌≤◌, length, ap, ◌∙◌, arith}
+use Rattle.machine.specs.Machine.{rules_by}
+use Rattle.ballot_base.specs.Replica.{CountedReplica}
+use Rattle.ballot_base.specs.Serving.{least}
+use Rattle.ballot_base.proofs.StepRows.{least-le}
+use Rattle.ballot.proofs.ActivationTaken.{told_commit, start_sent}
+use Rattle.ballot.proofs.replica.Replica.tell_start.Goals as goal
+
+pub commit_at-requires-clause-within : goal.commit_at-requires-clause-within
+commit_at-requires-clause-within g c =
+    let below : least c.len.result c.deref-2.result.now ≤ c.len.result = least-le _ c.deref-2.result.now in
+    rw (← c.self.view_is, c.least_held-held.ensures) (omega (arith, below, c.self.inside.log.ok.0, c.len.ensures))
+
+pub returns-clause-state : goal.returns-clause-state
+returns-clause-state g c =
+    let steps = rules_by g.M.Machine.opening g.M.Machine.start_of g.M.Machine.after g.M.Machine.gives in
+    let long : c.len.result ≡ length c.args.self.now.state.log =
+    rw (← c.self.view_is) (omega (arith, c.self.inside.log.ok.0, c.len.ensures)) in
+    c.in_ok-told.ensures.state
+    ∙ ap (λ s. let z : CountedReplica _ _ = record { state = s; losses = c.args.self.now.losses } in z)
+    (ap (λ o. o.state) (told_commit steps c.args.self.now.state c.least_held-held.result c.len.result c.deref-2.result.now
+    c.least_held-held.ensures long (rw (← c.self.view_is) c.deref-2.ensures.value)))
+
+pub returns-clause-effects : goal.returns-clause-effects
+returns-clause-effects g c front last e =
+    let steps = rules_by g.M.Machine.opening g.M.Machine.start_of g.M.Machine.after g.M.Machine.gives in
+    let long : c.len.result ≡ length c.args.self.now.state.log =
+    rw (← c.self.view_is) (omega (arith, c.self.inside.log.ok.0, c.len.ensures)) in
+    let place : c.len-last.result ≡ length c.args.self.now.state.log =
+    rw (← c.self.view_is) (omega (arith, c.self.inside.log.ok.0, c.len-last.ensures)) in
+    start_sent steps c.args.self.now.state front last c.index.result.now c.len-last.result
+    c.least_held-held.result c.len.result c.deref.result.now c.deref-2.result.now _ _ _ c.send_appends-sent.result c.in_ok-told.told
+    e place (rw (← c.self.view_is) c.index.ensures)
+    (rw (← c.self.view_is) c.deref.ensures.value)
+    (rw (← c.self.view_is) c.send_appends-sent.ensures)
+    c.least_held-held.ensures long (rw (← c.self.view_is) c.deref-2.ensures.value)
+    c.in_ok-told.ensures.effects

@@ -1,0 +1,214 @@
+// What a replica does when its ballot becomes active.
+
+ghost use Rattle.std.specs.Prelude.{◌≡◌, ◌++◌, ◌&&◌, ◌==◌, nat_lt, nat_le, true, false, [], ◌∷◌, ◌-◌, ◌<◌, List, length, take, IfOk, OnOk, OnErr, MatchResult};
+ghost use Rattle.machine.specs.Machine.{rules_by};
+ghost use Rattle.ballot.specs.Inside.{Begins, Sends, Went};
+ghost use Rattle.ballot_base.specs.Changing.{on_activated};
+ghost use Rattle.ballot_base.specs.Replica.{is_installing, others, progress_at};
+ghost use Rattle.ballot_base.specs.Serving.{commit, most_places};
+ghost use Rattle.ballot_base.specs.Sending.{message_to_followed};
+ghost use Rattle.ballot_base.specs.Losses.{halted, one_more};
+ghost use Rattle.ballot_base.specs.Applying.{applied_to};
+ghost use Rattle.lists.specs.Lists.{IsPrefixOf};
+
+use super::{MOST_PLACES, Replica};
+use crate::applying::apply_dropping;
+use crate::progress::{least_held, progress_of_others};
+use crate::sending::send_appends;
+use crate::taking::counted;
+use ballot_base::{Body, Effect, Progress, Role};
+use machine::{Halted, Machine, Memory};
+use std::mem;
+
+impl<M: Machine> Replica<M> {
+    // The ballot is active: the places of the log are applied, their outputs dropped, and the start
+    // of the ballot is added behind them. Where memory is wanting for the start the message is lost;
+    // where a place cannot be applied the replica stops, and takes back what it did.
+    pub(super) fn on_activated(
+        &mut self,
+        ballot: u64,
+        out: &mut Vec<Effect<M::Command, M::Output>>,
+    ) -> Result<(), Halted>
+        requires { self.old.state.stopped ≡ false }
+        ensures went { Went (rules_by M.opening M.start_of M.after M.gives) self.old
+            (on_activated (rules_by M.opening M.start_of M.after M.gives) self.old.state ballot)
+            self.new out.old.items out.new.items }
+        ensures ok { OnOk result (self.new.state.stopped ≡ false) }
+        ensures err { OnErr result ((self.new.state.stopped ≡ true) ×
+            (out.new.items ≡ out.old.items)) }
+    {
+        if !self.may_begin(ballot) {
+            return Ok(());
+        }
+        let committed = self.committed;
+        let Ok(progress) = self.add_start(ballot) else {
+            self.losses = counted(self.losses, false);
+            return Ok(());
+        };
+        match self.become_active(progress) {
+            Ok(waiting) => self.begin(committed, waiting, out),
+            Err(halted) => {
+                self.take_back_start();
+                Err(halted)
+            }
+        }
+    }
+
+    // Takes the last place back, for want of memory.
+    fn take_back_start(&mut self)
+        requires behind { self.old.state.committed < length self.old.state.log }
+        ensures { self.new ≡ record {
+          state = record self.old.state {
+            log = take (length self.old.state.log - 1) self.old.state.log;
+          };
+          losses = one_more self.old.losses;
+        } }
+    {
+        self.log.pop();
+        self.losses = counted(self.losses, false);
+    }
+
+    // Adds the start of a ballot behind the log, and gives the progress of the other members, which
+    // hold what was there before. On an error nothing has changed.
+    fn add_start(&mut self, ballot: u64) -> Result<Vec<Progress>, Memory>
+        ensures progress { IfOk result (λ progress. progress.items ≡
+            progress_at (length self.old.state.log)
+            (others self.old.state.id self.old.state.members)) }
+        ensures state { OnOk result (self.new ≡ record self.old {
+          state = record self.old.state { log = self.old.state.log ++ M.start_of ballot ∷ [] };
+        }) }
+        ensures err { OnErr result (self.new ≡ self.old) }
+    {
+        let held = self.log.len() as u64;
+        let members = self.members.as_slice();
+        let progress = progress_of_others(self.alloc, held, self.id, members)?;
+        self.log.push(M::start(ballot))?;
+        Ok(progress)
+    }
+
+    // Applies all places but the last, and becomes active with this progress of the other members.
+    // The earlier progress is the result. On an error the replica has stopped.
+    fn become_active(&mut self, progress: Vec<Progress>) -> Result<Vec<Progress>, Halted>
+        requires running { self.old.state.stopped ≡ false }
+        requires behind { self.old.state.committed < length self.old.state.log }
+        ensures earlier { IfOk result (λ waiting. waiting.items ≡ self.old.state.progress) }
+        ensures state { OnOk result (self.new ≡ record self.old {
+          state = record (applied_to (rules_by M.opening M.start_of M.after M.gives)
+              self.old.state (length self.old.state.log - 1)) {
+                role = Role.Active;
+                progress = progress.items;
+              };
+        }) }
+        ensures stops { OnErr result (self.new ≡ record self.old {
+          state = halted (rules_by M.opening M.start_of M.after M.gives) self.old.state;
+        }) }
+    {
+        let held = self.log.len() as u64 - 1;
+        let from = self.committed;
+        match apply_dropping(self.alloc, &mut self.machine, &self.log, from, held) {
+            Ok(()) => {
+                self.committed = held;
+                self.role = Role::Active;
+                Ok(mem::replace(&mut self.progress, progress))
+            }
+            Err(halted) => {
+                self.stopped = true;
+                Err(halted)
+            }
+        }
+    }
+
+    // A primary that has become active tells the others of the last place, and commits what all
+    // hold. Where it stops, it is again as it was while it handed its log over, with this many places
+    // applied and this progress.
+    fn begin(
+        &mut self,
+        committed: u64,
+        waiting: Vec<Progress>,
+        out: &mut Vec<Effect<M::Command, M::Output>>,
+    ) -> Result<(), Halted>
+        requires running { self.old.state.stopped ≡ false }
+        requires some { 0 < length self.old.state.log }
+        requires behind { committed < length self.old.state.log }
+        ensures outcome { MatchResult result
+            (λ _. Begins (rules_by M.opening M.start_of M.after M.gives) self.old self.new
+            out.old.items out.new.items)
+            (λ _. (out.new.items ≡ out.old.items) × (self.new ≡ record {
+              state = record self.old.state {
+                log = take (length self.old.state.log - 1) self.old.state.log;
+                committed = committed;
+                role = Role.Installing;
+                progress = waiting.items;
+                stopped = true;
+                machine = M.opening;
+              };
+              losses = one_more self.old.losses;
+            })) }
+    {
+        let before = out.len();
+        match self.tell_start(out) {
+            Ok(sent) => {
+                self.losses = counted(self.losses, sent);
+                Ok(())
+            }
+            Err(halted) => {
+                self.log.pop();
+                self.committed = committed;
+                self.role = Role::Installing;
+                self.progress = waiting;
+                out.truncate(before);
+                self.losses = counted(self.losses, false);
+                Err(halted)
+            }
+        }
+    }
+
+    // Sends the last place to the other members, and commits what all hold. Whether all messages
+    // found memory is the result. On an error the replica has stopped, and some outputs may stand
+    // behind `out`.
+    fn tell_start(&mut self, out: &mut Vec<Effect<M::Command, M::Output>>) -> Result<bool, Halted>
+        requires running { self.old.state.stopped ≡ false }
+        requires some { 0 < length self.old.state.log }
+        ensures state { OnOk result
+            (self.new ≡ record self.old {
+              state = (commit (rules_by M.opening M.start_of M.after M.gives)
+                  self.old.state).state;
+            }) }
+        ensures effects { IfOk result (λ whole. (front : List M.Command) (last : M.Command) →
+            self.old.state.log ≡ front ++ last ∷ [] →
+            Sends out.old.items out.new.items
+            (message_to_followed M.Output self.old.state.id
+            (Body.Append self.old.state.joined (length front) last) self.old.state.progress
+            ++ (commit (rules_by M.opening M.start_of M.after M.gives)
+            self.old.state).effects) whole) }
+        ensures stops { OnErr result
+            (self.new ≡ record self.old {
+              state = halted (rules_by M.opening M.start_of M.after M.gives) self.old.state;
+            }) }
+        ensures err { OnErr result (IsPrefixOf out.old.items out.new.items) }
+    {
+        let last = self.log.len() - 1;
+        let sent = send_appends::<M>(
+            self.alloc,
+            self.id,
+            self.joined,
+            last as u64,
+            &self.log[last],
+            &self.progress,
+            out,
+        );
+        let held = least_held(self.log.len() as u64, &self.progress);
+        let told = self.commit_at(held, out)?;
+        Ok(sent & told)
+    }
+
+    // Whether an activated ballot begins here: all members hold its log, and there is a place left.
+    fn may_begin(&self, ballot: u64) -> bool
+        ensures { result ≡ ((self.now.state.joined == ballot
+            && is_installing self.now.state.role)
+            && (nat_le (length self.now.state.lacking) 0
+            && nat_lt (length self.now.state.log) most_places)) }
+    {
+        self.installs(ballot) && (self.lacking.is_empty() && (self.log.len() as u64) < MOST_PLACES)
+    }
+}

@@ -1,0 +1,168 @@
+// What a replica does with the messages by which a log goes over to a new ballot.
+
+ghost use Rattle.std.specs.Prelude.{◌≡◌, ◌&&◌, ◌||◌, ◌==◌, nat_lt, nat_le, if◌then◌else◌};
+ghost use Rattle.machine.specs.Machine.{rules_by};
+ghost use Rattle.ballot.specs.Inside.{Went};
+ghost use Rattle.ballot_base.specs.Changing.{on_new_ballot, on_join, on_state, on_install};
+ghost use Rattle.ballot_base.specs.Replica.{is_fetching};
+
+use super::Replica;
+use crate::progress::others_of;
+use crate::sending::{send_joins, send_state};
+use crate::taking::counted;
+use ballot_base::{Body, Effect, Log, Members, Role};
+use machine::Machine;
+
+impl<M: Machine> Replica<M> {
+    // A new primary asks the earlier ballot's members for their logs.
+    pub(super) fn on_new_ballot(
+        &mut self,
+        ballot: u64,
+        members: Members,
+        previous: u64,
+        previous_members: Members,
+        out: &mut Vec<Effect<M::Command, M::Output>>,
+    )
+        ensures went { Went (rules_by M.opening M.start_of M.after M.gives) self.old
+            (on_new_ballot M.Output self.old.state ballot members previous previous_members)
+            self.new out.old.items out.new.items }
+        ensures runs { self.new.state.stopped ≡ self.old.state.stopped }
+    {
+        if ballot <= self.joined {
+            return;
+        }
+        self.joined = ballot;
+        self.role = Role::Fetching;
+        self.members = members;
+        self.previous = previous;
+        self.previous_members = previous_members;
+        self.lacking.clear();
+        self.progress.clear();
+        let receivers = self.previous_members.as_slice();
+        let sent = send_joins(self.id, ballot, previous, receivers, out);
+        self.losses = counted(self.losses, sent);
+    }
+
+    // Whoever joins leaves all lower ballots, and sends its log.
+    pub(super) fn on_join(
+        &mut self,
+        from: u8,
+        ballot: u64,
+        previous: u64,
+        out: &mut Vec<Effect<M::Command, M::Output>>,
+    )
+        ensures went { Went (rules_by M.opening M.start_of M.after M.gives) self.old
+            (on_join M.Output self.old.state from ballot previous)
+            self.new out.old.items out.new.items }
+        ensures runs { self.new.state.stopped ≡ self.old.state.stopped }
+    {
+        if !self.may_join(ballot, previous) {
+            return;
+        }
+        let sent = send_state::<M>(self.alloc, self.id, ballot, &self.log, from, out);
+        self.leave_for(ballot);
+        self.losses = counted(self.losses, sent);
+    }
+
+    // All ballots below this one are left.
+    fn leave_for(&mut self, ballot: u64)
+        ensures { self.new ≡ record self.old {
+          state = if nat_lt self.old.state.joined ballot
+              then record self.old.state { joined = ballot; role = Role.Backup }
+              else self.old.state;
+        } }
+    {
+        if self.joined < ballot {
+            self.joined = ballot;
+            self.role = Role::Backup;
+        }
+    }
+
+    // A new primary takes the first log that comes, and hands it to the other members.
+    pub(super) fn on_state(
+        &mut self,
+        ballot: u64,
+        log: Log<M::Command>,
+        out: &mut Vec<Effect<M::Command, M::Output>>,
+    )
+        ensures went { Went (rules_by M.opening M.start_of M.after M.gives) self.old
+            (on_state M.Output self.old.state ballot log) self.new out.old.items out.new.items }
+        ensures runs { self.new.state.stopped ≡ self.old.state.stopped }
+    {
+        let places = log.into_places();
+        if !self.waits_for(ballot, places.len() as u64) {
+            return;
+        }
+        match others_of(self.alloc, self.id, self.members.as_slice()) {
+            Ok(lacking) => {
+                self.held_in = ballot;
+                self.log = places;
+                self.role = Role::Installing;
+                self.lacking = lacking;
+                let sent = self.hand_over(out);
+                self.losses = counted(self.losses, sent);
+            }
+            Err(_) => self.losses = counted(self.losses, false),
+        }
+    }
+
+    // A member takes the log of a new ballot once. Later it only answers, since more may have been
+    // added behind it.
+    pub(super) fn on_install(
+        &mut self,
+        from: u8,
+        ballot: u64,
+        log: Log<M::Command>,
+        out: &mut Vec<Effect<M::Command, M::Output>>,
+    )
+        ensures went { Went (rules_by M.opening M.start_of M.after M.gives) self.old
+            (on_install M.Output self.old.state from ballot log)
+            self.new out.old.items out.new.items }
+        ensures runs { self.new.state.stopped ≡ self.old.state.stopped }
+    {
+        let places = log.into_places();
+        let held = places.len() as u64;
+        if self.lacks(ballot, held) {
+            self.joined = ballot;
+            self.held_in = ballot;
+            self.log = places;
+            self.role = Role::Backup;
+            self.say(from, Body::Installed(ballot, held), out);
+        } else if self.holds(ballot) {
+            self.say(from, Body::Installed(ballot, held), out);
+        }
+    }
+
+    // Whether the log is sent to the primary of a ballot.
+    fn may_join(&self, ballot: u64, previous: u64) -> bool
+        ensures { result ≡ (nat_le self.now.state.joined ballot
+            && nat_le previous self.now.state.held_in) }
+    {
+        self.joined <= ballot && previous <= self.held_in
+    }
+
+    // Whether a new primary takes a log of this length, which lacks no applied place.
+    fn waits_for(&self, ballot: u64, held: u64) -> bool
+        ensures { result ≡ (self.now.state.joined == ballot
+            && (is_fetching self.now.state.role && nat_le self.now.state.committed held)) }
+    {
+        self.joined == ballot && (self.role.is_fetching() && self.committed <= held)
+    }
+
+    // Whether the log is of a ballot that is joined.
+    fn holds(&self, ballot: u64) -> bool
+        ensures { result ≡ (self.now.state.joined == ballot && self.now.state.held_in == ballot) }
+    {
+        self.joined == ballot && self.held_in == ballot
+    }
+
+    // Whether a member takes a log of this length, which lacks no applied place.
+    fn lacks(&self, ballot: u64, held: u64) -> bool
+        ensures { result ≡ ((nat_lt self.now.state.joined ballot
+            || (self.now.state.joined == ballot && nat_lt self.now.state.held_in ballot))
+            && nat_le self.now.state.committed held) }
+    {
+        (self.joined < ballot || (self.joined == ballot && self.held_in < ballot))
+            && self.committed <= held
+    }
+}

@@ -1,0 +1,66 @@
+// What a new primary does once it has handed its log over, or its ballot was put out.
+
+ghost use Rattle.std.specs.Prelude.{◌≡◌, ◌&&◌, ◌==◌, []};
+ghost use Rattle.std.specs.List.{list_any};
+ghost use Rattle.machine.specs.Machine.{rules_by};
+ghost use Rattle.ballot.specs.Inside.{Went};
+ghost use Rattle.ballot_base.specs.Changing.{on_installed, on_superseded};
+ghost use Rattle.ballot_base.specs.Replica.{is_installing};
+
+use super::Replica;
+use crate::progress::forget;
+use crate::sending::MASTER;
+use ballot_base::{Body, Effect, Role};
+use machine::Machine;
+
+impl<M: Machine> Replica<M> {
+    // A member lacks the log no more. With the last the master may activate the ballot.
+    pub(super) fn on_installed(
+        &mut self,
+        from: u8,
+        ballot: u64,
+        out: &mut Vec<Effect<M::Command, M::Output>>,
+    )
+        ensures went { Went (rules_by M.opening M.start_of M.after M.gives) self.old
+            (on_installed M.Output self.old.state from ballot)
+            self.new out.old.items out.new.items }
+        ensures runs { self.new.state.stopped ≡ self.old.state.stopped }
+    {
+        if !self.waits_for_answer(from, ballot) {
+            return;
+        }
+        forget(from, &mut self.lacking);
+        if !self.lacking.is_empty() {
+            return;
+        }
+        self.say(MASTER, Body::Activate(self.joined), out);
+    }
+
+    // The ballot was put out.
+    pub(super) fn on_superseded(&mut self, ballot: u64)
+        ensures went { Went (rules_by M.opening M.start_of M.after M.gives) self.old
+            (on_superseded M.Output self.old.state ballot) self.new [] [] }
+        ensures runs { self.new.state.stopped ≡ self.old.state.stopped }
+    {
+        if self.installs(ballot) {
+            self.role = Role::Backup;
+        }
+    }
+
+    // Whether this new primary has not heard yet that a member took the log.
+    fn waits_for_answer(&self, from: u8, ballot: u64) -> bool
+        ensures { result ≡ ((self.now.state.joined == ballot
+            && is_installing self.now.state.role)
+            && list_any (λ member. member == from) self.now.state.lacking) }
+    {
+        self.installs(ballot) && self.lacking.contains(&from)
+    }
+
+    // Whether this is the new primary of a ballot, which hands its log over.
+    pub(super) fn installs(&self, ballot: u64) -> bool
+        ensures { result ≡ (self.now.state.joined == ballot
+            && is_installing self.now.state.role) }
+    {
+        self.joined == ballot && self.role.is_installing()
+    }
+}

@@ -1,0 +1,87 @@
+// What a replica does as time passes.
+
+ghost use Rattle.std.specs.Prelude.{◌≡◌, ◌++◌, true, false};
+ghost use Rattle.machine.specs.Machine.{rules_by};
+ghost use Rattle.ballot.specs.Inside.{Sends};
+ghost use Rattle.ballot_base.specs.Losses.{Stepped, IsQuiet};
+ghost use Rattle.ballot_base.specs.Protocol.{replica_step, ticked};
+ghost use Rattle.ballot_base.specs.Protocol.Input.{Ticks};
+ghost use Rattle.ballot_base.specs.Serving.{appends_behind};
+ghost use Rattle.ballot_base.specs.Sending.{message_to_followed};
+ghost use Rattle.ballot_base.specs.Changing.{installs};
+
+use super::Replica;
+use crate::sending::{MASTER, send, send_behind, send_commits, send_installs, send_joins};
+use crate::taking::counted;
+use ballot_base::{Body, Effect, Message, Role};
+use machine::Machine;
+
+impl<M: Machine> Replica<M> {
+    /// Says again what others may have missed: a new primary what it waits for, an active one what
+    /// the others may lack. It takes no step of its own, and never halts.
+    pub fn tick(&mut self, out: &mut Vec<Effect<M::Command, M::Output>>)
+        ensures step { self.old.state.stopped ≡ false →
+            Stepped (rules_by M.opening M.start_of M.after M.gives) self.old
+            (replica_step (rules_by M.opening M.start_of M.after M.gives)
+            self.old.state Ticks)
+            self.new out.old.items out.new.items }
+        ensures quiet { self.old.state.stopped ≡ false →
+            IsQuiet self.old.state
+            (replica_step (rules_by M.opening M.start_of M.after M.gives)
+            self.old.state Ticks) →
+            self.new ≡ self.old }
+        ensures state { self.new.state ≡ self.old.state }
+        ensures stopped { self.old.state.stopped ≡ true →
+            (self.new ≡ self.old) × (out.new.items ≡ out.old.items) }
+    {
+        if self.stopped {
+            return;
+        }
+        let whole = self.say_again(out);
+        self.losses = counted(self.losses, whole);
+    }
+
+    // What a tick says, by the role.
+    fn say_again(&self, out: &mut Vec<Effect<M::Command, M::Output>>) -> bool
+        ensures { Sends out.old.items out.new.items
+            (ticked M.Output self.now.state self.now.state.role).effects result }
+    {
+        match self.role {
+            Role::Backup => true,
+            Role::Fetching => {
+                let receivers = self.previous_members.as_slice();
+                send_joins(self.id, self.joined, self.previous, receivers, out)
+            }
+            Role::Installing => self.hand_over(out),
+            Role::Active => self.tell(out),
+        }
+    }
+
+    // What the other members of an active primary may lack, and what is committed.
+    fn tell(&self, out: &mut Vec<Effect<M::Command, M::Output>>) -> bool
+        ensures { Sends out.old.items out.new.items
+            (appends_behind M.Output self.now.state.id self.now.state.joined self.now.state.log
+            self.now.state.progress ++ message_to_followed M.Output self.now.state.id
+            (Body.Commit self.now.state.joined self.now.state.committed) self.now.state.progress)
+            result }
+    {
+        let log = self.log.as_slice();
+        let behind = send_behind::<M>(self.alloc, self.id, self.joined, log, &self.progress, out);
+        let told = send_commits(self.id, self.joined, self.committed, &self.progress, out);
+        behind & told
+    }
+
+    // Sends the log to the members that lack it; with none, the master may activate the ballot.
+    pub(super) fn hand_over(&self, out: &mut Vec<Effect<M::Command, M::Output>>) -> bool
+        ensures { Sends out.old.items out.new.items
+            (installs M.Output self.now.state self.now.state.lacking) result }
+    {
+        if self.lacking.is_empty() {
+            let body = Body::Activate(self.joined);
+            let from = self.id;
+            return send(out, MASTER, Message { from, body });
+        }
+        let log = self.log.as_slice();
+        send_installs::<M>(self.alloc, self.id, self.joined, log, &self.lacking, out)
+    }
+}
