@@ -44,3 +44,6 @@ pub use Rattle.broker_model.proofs.TakenPublishAddsOne
 pub use Rattle.broker_model.proofs.WaitingStays
 pub use Rattle.broker_model.proofs.WhatFlightsAwait
 pub use Rattle.broker_model.proofs.PublicationEnters
+pub use Rattle.broker_model.proofs.ConnectionNames
+pub use Rattle.broker_model.proofs.MarksOfPlaces
+pub use Rattle.broker_model.proofs.NothingAfterTheEnd

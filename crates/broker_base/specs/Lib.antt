@@ -11,6 +11,7 @@ pub use Rattle.broker_model.specs.AnswerLaws
 pub use Rattle.broker_model.specs.Answers
 pub use Rattle.broker_model.specs.Commands
 pub use Rattle.broker_model.specs.Connection
+pub use Rattle.broker_model.specs.EndingLaws
 pub use Rattle.broker_model.specs.Entries
 pub use Rattle.broker_model.specs.EntryLaws
 pub use Rattle.broker_model.specs.IdentifierLaws

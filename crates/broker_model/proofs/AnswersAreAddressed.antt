@@ -96,7 +96,7 @@ pubrels-to : (x : ConnectionName) (ids : List ℕ) → Each (To x) (map (λ id. 
 pubrels-to x [] = tt
 pubrels-to x (id ∷ ids) = (refl, pubrels-to x ids)
 
-resent-to : (x : ConnectionName) (n : ℕ) (es : List Entry) → Each (To x) (resent x n es)
+pub resent-to : (x : ConnectionName) (n : ℕ) (es : List Entry) → Each (To x) (resent x n es)
 resent-to x n es =
     joined (To x) (map (λ id. Send x (packets.Pubrel id)) (released_below n es) ++ flat_map (sent_again x n) es) (all_started x n es)
     (joined (To x) (map (λ id. Send x (packets.Pubrel id)) (released_below n es)) (flat_map (sent_again x n) es)
