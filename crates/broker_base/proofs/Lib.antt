@@ -47,3 +47,5 @@ pub use Rattle.broker_model.proofs.PublicationEnters
 pub use Rattle.broker_model.proofs.ConnectionNames
 pub use Rattle.broker_model.proofs.MarksOfPlaces
 pub use Rattle.broker_model.proofs.NothingAfterTheEnd
+pub use Rattle.broker_model.proofs.CopiesAreUnasked
+pub use Rattle.broker_model.proofs.EntersWhereTaken

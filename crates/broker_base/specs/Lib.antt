@@ -36,6 +36,7 @@ pub use Rattle.broker_model.specs.SessionRows
 pub use Rattle.broker_model.specs.Sized
 pub use Rattle.broker_model.specs.StartLaws
 pub use Rattle.broker_model.specs.Subscriptions
+pub use Rattle.broker_model.specs.TakenLaws
 pub use Rattle.broker_model.specs.Times
 pub use Rattle.broker_model.specs.declared.command.Command
 pub use Rattle.broker_model.specs.declared.command.Output

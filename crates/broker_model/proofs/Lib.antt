@@ -24,3 +24,5 @@ pub mod MarksOfPlaces
 pub mod OwnersAreServed
 pub mod SentToLive
 pub mod NothingAfterTheEnd
+pub mod EntersWhereTaken
+pub mod CopiesAreUnasked

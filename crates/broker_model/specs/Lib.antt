@@ -27,4 +27,5 @@ pub mod SessionRows
 pub mod Sized
 pub mod StartLaws
 pub mod Subscriptions
+pub mod TakenLaws
 pub mod Times

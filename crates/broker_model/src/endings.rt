@@ -1,9 +1,15 @@
-// What holds of sessions that have ended. The calls do nothing; their contracts are the laws.
+// What does not happen: to sessions that have ended, and of publications that are not taken. The calls do nothing; their contracts are the laws.
 
 ghost use Rattle.broker_model.specs.EndingLaws.{NothingAfterTheEnd};
+ghost use Rattle.broker_model.specs.TakenLaws.{EntersWhereTaken};
 
 /// A connection whose accepted Connect stands in a session is sent packets at places of that session alone: once it
 /// has ended there is nothing more for it, where no later connection has its name (MQTT 3.1.2.4, 4.1).
 pub fn nothing_after_the_end()
     ensures { NothingAfterTheEnd }
+{}
+
+/// From a place that takes no publication, as a repeat or a refused one, no session has an entry of one (MQTT 4.3.3).
+pub fn enters_where_taken()
+    ensures { EntersWhereTaken }
 {}
