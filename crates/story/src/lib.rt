@@ -4,4 +4,4 @@
 
 mod laws;
 
-pub use laws::{stories_accept_in_order, stories_enter, stories_publish_once};
+pub use laws::{stories_accept_in_order, stories_are_exact, stories_enter, stories_publish_once};

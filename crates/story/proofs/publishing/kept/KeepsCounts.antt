@@ -18,7 +18,7 @@ use Rattle.client_base.specs.Written.{writes_first}
 use Rattle.client_base.specs.Called.{written_for}
 use Rattle.story.specs.Story.Happens.{takes, others_take, receives, opens_anew, loses, disconnects, publishes_one, subscribes, unsubscribes}
 use Rattle.story.specs.Inside.Shape.{NamesApart}
-use Rattle.story.proofs.places.Names.{same_itself}
+use Rattle.broker_base.proofs.ConnectionNames.{same_itself}
 use Rattle.story.proofs.publishing.Grown.{Grown, handled_grows}
 use Rattle.story.proofs.publishing.Last.{each_there, none_named}
 
