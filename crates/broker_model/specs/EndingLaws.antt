@@ -16,13 +16,14 @@ pub record StandsAt (past : Past) (place : Place) (below : Past) : Type 0 where
   pub later : Past
   pub is : past ≡ later ++ place ∷ below
 
--- how many Connects there are with this connection's name
+-- whether it is a Connect with this connection's name
+abbrev pub is_connect_of : ConnectionName → Command → Bool
+is_connect_of x (commands.Connect y c clean) = same_connection x y
+is_connect_of x _ = false
+
+-- how many of these there are
 abbrev pub connects_of : ConnectionName → Past → ℕ
-connects_of x (place ∷ past) = (if is_connect_of place.command then 1 else 0) + connects_of x past
-  where
-    is_connect_of : Command → Bool
-    is_connect_of (commands.Connect y c clean) = same_connection x y
-    is_connect_of _ = false
+connects_of x (place ∷ past) = (if is_connect_of x place.command then 1 else 0) + connects_of x past
 connects_of x [] = 0
 
 -- A connection with one Connect, which was accepted and stands in a session of its client, is sent packets at places
