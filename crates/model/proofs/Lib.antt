@@ -5,3 +5,4 @@ pub mod Parted
 pub mod Holds
 pub mod Agrees
 pub mod WorldsExact
+pub mod Serving

@@ -1,3 +1,4 @@
 pub mod World
 pub mod Goes
 pub mod Exact
+pub mod Served

@@ -1,10 +1,17 @@
-// The law of every world of clients and nodes. The call does nothing; its contract is the law.
+// Laws of every world of clients and nodes. The calls do nothing; their contracts are the laws.
 
 ghost use Rattle.model.specs.Exact.{WorldsAreExact};
+ghost use Rattle.model.specs.Served.{WorldsAreServed};
 
 /// Whatever clients, nodes and the network between them do, connections carry packets in order, each client's
 /// publications are published once and what it accepts is in order, and an ended session gets nothing more, as long as
 /// the nodes agree on one list of commands that only grows, in which each connection's commands stand in their order.
 pub fn worlds_are_exact()
     ensures { WorldsAreExact }
+{}
+
+/// Where the list on which the nodes agree grows, and keeps of each connection the order in which its packets were
+/// proposed, a world comes to the longer list: so its steps ask no more of the nodes than their agreement.
+pub fn worlds_are_served()
+    ensures { WorldsAreServed }
 {}

@@ -1,7 +1,7 @@
 //! Clients and nodes as the two ends of their connections, over one list of commands that only grows: what holds of every
-//! such world. Its function does nothing; its contract is the law.
+//! such world. Its functions do nothing; their contracts are the laws.
 #![tactic(auto)]
 
 mod laws;
 
-pub use laws::worlds_are_exact;
+pub use laws::{worlds_are_exact, worlds_are_served};
