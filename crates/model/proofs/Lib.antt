@@ -6,3 +6,4 @@ pub mod Holds
 pub mod Agrees
 pub mod WorldsExact
 pub mod Serving
+pub mod AgreedInOrder

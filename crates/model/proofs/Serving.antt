@@ -53,7 +53,7 @@ next_there x n (suc taken) (suc read) (w ∷ ws) y more few within e =
     let same : suc n + taken ≡ n + suc taken = omega arith in
     record { written = next.written; stands = next.stands; less = omega (arith, less); is = next.is ∙ ap (λ k. command_of x k next.written.packet) same }
 
-filter_joined : {X : Type 0} (test : X → Bool) (xs ys : List X) → filter test (xs ++ ys) ≡ filter test xs ++ filter test ys
+pub filter_joined : {X : Type 0} (test : X → Bool) (xs ys : List X) → filter test (xs ++ ys) ≡ filter test xs ++ filter test ys
 filter_joined test [] ys = refl
 filter_joined test (x ∷ xs) ys = by (test x) (filter_joined test xs ys)
   where

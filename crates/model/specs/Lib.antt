@@ -2,3 +2,4 @@ pub mod World
 pub mod Goes
 pub mod Exact
 pub mod Served
+pub mod Agreed

@@ -4,4 +4,4 @@
 
 mod laws;
 
-pub use laws::{worlds_are_exact, worlds_are_served};
+pub use laws::{agreed_keeps_the_order, worlds_are_exact, worlds_are_served};
