@@ -7,3 +7,4 @@ pub mod Agrees
 pub mod WorldsExact
 pub mod Serving
 pub mod AgreedInOrder
+pub mod TakeoverRun

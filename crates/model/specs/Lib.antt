@@ -3,3 +3,4 @@ pub mod Goes
 pub mod Exact
 pub mod Served
 pub mod Agreed
+pub mod Rows

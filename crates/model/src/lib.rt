@@ -3,5 +3,7 @@
 #![tactic(auto)]
 
 mod laws;
+mod rows;
 
 pub use laws::{agreed_keeps_the_order, worlds_are_exact, worlds_are_served};
+pub use rows::accepts_once_over_a_takeover;
