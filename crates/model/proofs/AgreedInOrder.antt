@@ -5,7 +5,7 @@ use Rattle.lists.specs.Lists.{IsPrefixOf}
 use Rattle.lists.proofs.Beginnings.{prefix_then}
 use Rattle.agreement.specs.Laws.{KeepsTheOrder, NodesAgree}
 use Rattle.model.specs.Agreed.{AgreedKeepsTheOrder}
-use Rattle.model.proofs.Serving.{filter_joined}
+use Rattle.model.proofs.NextPackets.{filter_joined}
 
 filter_front : {X : Type 0} (test : X → Bool) (xs ys : List X) → IsPrefixOf xs ys → IsPrefixOf (filter test xs) (filter test ys)
 filter_front test xs ys front = record { rest = filter test front.rest; is = ap (filter test) front.is ∙ filter_joined test xs front.rest }

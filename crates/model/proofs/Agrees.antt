@@ -1,5 +1,5 @@
 -- What every world keeps, where one more command is agreed.
-use Rattle.std.proofs.Common.{◌≡◌, ◌≤◌, ◌<◌, ◌+◌, ℕ, zero, suc, Bool, true, false, ◌||◌, if◌then◌else◌, List, [], ◌∷◌, ◌++◌, filter, set, Some, refl, ap, ap₂, sym, ◌∙◌, subst, arith, inl, inr, ◌⊎◌}
+use Rattle.std.proofs.Common.{◌≡◌, ◌<◌, ℕ, zero, suc, Bool, true, false, ◌||◌, List, [], ◌∷◌, ◌++◌, set, Some, refl, ap, ap₂, sym, ◌∙◌, subst, inl, inr, ◌⊎◌}
 use Rattle.std.specs.Prelude.{slice_get}
 use Rattle.std.proofs.lemmas.Bool.{both_ways, cases_Bool}
 use Rattle.packet.specs.declared.packet.Packet.{Packet}
@@ -7,15 +7,14 @@ use Rattle.packet.specs.declared.packet.Packet.TheVariants as packets
 use Rattle.broker_base.specs.Connection.{ConnectionName, same_connection}
 use Rattle.broker_base.specs.Place.{Client, Past, Limits}
 use Rattle.broker_base.specs.Commands.{place_of, past_of, usual_limits}
-use Rattle.broker_base.specs.EndingLaws.{is_connect_of, connects_of}
 use Rattle.broker_base.specs.Command.{Command}
 use Rattle.broker_base.specs.Command.TheVariants as commands
-use Rattle.broker_base.proofs.ConnectionNames.{same_name, same_itself}
+use Rattle.broker_base.proofs.ConnectionNames.{same_name}
 use Rattle.broker_base.proofs.PacketOfNobody.{window_is_steady}
 use Rattle.client_base.specs.Keeper.{Written}
 use Rattle.client_base.specs.Called.{opens}
 use Rattle.story.specs.Sides.{Connection}
-use Rattle.story.specs.Story.{Story, Told, any_named, is_packet_of, count_of, counted_at, command_of, names_client}
+use Rattle.story.specs.Story.{Story, Told, any_named, is_packet_of, counted_at, command_of, names_client}
 use Rattle.story.specs.Story.Told.{goes_on}
 use Rattle.story.specs.Story.Happens.{takes, others_take}
 use Rattle.story.specs.Inside.Shape.{ConnectionInShape, HasShape}
@@ -24,11 +23,12 @@ use Rattle.story.proofs.publishing.Last.{none_named, each_there, is_named}
 use Rattle.story.proofs.publishing.kept.KeepsNames.{counted_named}
 use Rattle.model.specs.World.{End, ClientEnds, World, story_of, IsFresh}
 use Rattle.model.specs.Goes.{is_of_connection, HasPipe}
-use Rattle.model.proofs.Lists.{each_get, each_by, set_get, filter_push}
-use Rattle.model.proofs.Answers.{of_name, past_push}
-use Rattle.model.proofs.Ends.{others_agreed, one_agreed, command_is_of}
+use Rattle.model.proofs.Lists.{each_get, each_by, set_get}
+use Rattle.model.proofs.Answers.{past_push}
+use Rattle.model.proofs.EndsAgreed.{others_agreed, one_agreed, command_is_of}
 use Rattle.model.proofs.Parted.{Parted, IsSameParty, is_named_by, same_parted, fresh_before}
 use Rattle.model.proofs.Holds.{IsTold, HasPipes, IsOnce, Holds}
+use Rattle.model.proofs.OneConnect.{none_more, once_other, once_own, once_longer}
 
 -- a story that went on by one place is the story of the longer list
 pub told_longer : (agreed : List Command) (command : Command) (c : ClientEnds) (d : Client)
@@ -45,61 +45,6 @@ others_told agreed command c told not none = told_longer agreed command c c.keep
 
 pub others_hold : (agreed : List Command) (command : Command) (c : ClientEnds) → HasPipes agreed c → any_named (is_packet_of command) c.connections ≡ false → HasPipes (agreed ++ command ∷ []) c
 others_hold agreed command c pipes none = others_agreed agreed command c.connections c.ends (none_named (is_packet_of command) c.connections none) pipes
-
--- ---- names
-
-none_more : (x : ConnectionName) (agreed : List Command) (command : Command) → filter (of_name x) agreed ≡ [] → is_packet_of command x ≡ false → filter (of_name x) (agreed ++ command ∷ []) ≡ []
-none_more x agreed command e none = filter_push (of_name x) agreed command ∙ ap₂ (λ l b. l ++ (if b then command ∷ [] else [])) e none
-
-no_connect : (x : ConnectionName) (command : Command) → is_packet_of command x ≡ false → is_connect_of x command ≡ true → ⊥
-no_connect x (commands.Connect y c clean) none e =
-    both_ways (same_connection y x) none (ap (λ z. same_connection y z) (same_name x y e) ∙ same_itself y)
-no_connect x (commands.Packet y packet) none e = both_ways false refl e
-no_connect x (commands.Lost y) none e = both_ways false refl e
-no_connect x (commands.Start b) none e = both_ways false refl e
-
--- a name whose command it is not
-pub once_other : (past : Past) (command : Command) (x : ConnectionName) → is_packet_of command x ≡ false → IsOnce past x → IsOnce (place_of usual_limits past command ∷ past) x
-once_other past command x none o =
-    let few = o.1 in
-    let counts : count_of x (place_of usual_limits past command ∷ past) ≡ count_of x past = ap (λ b. if b then suc (count_of x past) else count_of x past) none in
-    (λ e. by (is_connect_of x command) refl (o.0 (sym counts ∙ e)), less (is_connect_of x command) refl few)
-  where
-    by : (b : Bool) → is_connect_of x command ≡ b → connects_of x past ≡ 0 → (if b then 1 else 0) + connects_of x past ≡ 0
-    by true e none' = absurd (no_connect x command none e)
-    by false e none' = omega (arith, none')
-
-    less : (b : Bool) → is_connect_of x command ≡ b → connects_of x past ≤ 1 → (if b then 1 else 0) + connects_of x past ≤ 1
-    less true e few = absurd (no_connect x command none e)
-    less false e few = omega (arith, few)
-
-later_connect : (x y : ConnectionName) (n : ℕ) (packet : Packet) → is_connect_of x (command_of y (suc n) packet) ≡ false
-later_connect x y n (packets.Connect q) = refl
-later_connect x y n _ = refl
-
--- the name whose command it is, where so many of it stand there
-once_own : (past : Past) (x : ConnectionName) (n : ℕ) (packet : Packet) → count_of x past ≡ n → IsOnce past x → IsOnce (place_of usual_limits past (command_of x n packet) ∷ past) x
-once_own past x n packet counted o =
-    let mine : is_packet_of (command_of x n packet) x ≡ true = command_is_of x x n packet ∙ same_itself x in
-    let counts : count_of x (place_of usual_limits past (command_of x n packet) ∷ past) ≡ suc (count_of x past) = ap (λ b. if b then suc (count_of x past) else count_of x past) mine in
-    (λ e. absurd (never (count_of x past) (sym counts ∙ e)), less n counted)
-  where
-    never : (k : ℕ) → suc k ≡ 0 → ⊥
-    never k e = cc
-
-    first : (b : Bool) → connects_of x past ≡ 0 → (if b then 1 else 0) + connects_of x past ≤ 1
-    first true none = omega (arith, none)
-    first false none = omega (arith, none)
-
-    less : (m : ℕ) → count_of x past ≡ m → (if is_connect_of x (command_of x m packet) then 1 else 0) + connects_of x past ≤ 1
-    less zero e = first (is_connect_of x (command_of x zero packet)) (o.0 e)
-    less (suc m) e =
-        let few = o.1 in
-        subst (λ (b : Bool). (if b then 1 else 0) + connects_of x past ≤ 1) (sym (later_connect x x m packet)) (omega (arith, few))
-
-once_longer : (agreed : List Command) (command : Command) (x : ConnectionName) → IsOnce (place_of usual_limits (past_of usual_limits agreed) command ∷ past_of usual_limits agreed) x
-    → IsOnce (past_of usual_limits (agreed ++ command ∷ [])) x
-once_longer agreed command x o = subst (λ (past : Past). IsOnce past x) (sym (past_push usual_limits agreed command)) o
 
 -- ---- a loss, or a start
 

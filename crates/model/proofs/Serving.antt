@@ -1,5 +1,5 @@
 -- A world comes to each later list on which the nodes agree.
-use Rattle.std.proofs.Common.{◌≡◌, ◌≤◌, ◌<◌, ◌+◌, ℕ, zero, suc, Bool, true, false, if◌then◌else◌, List, [], ◌∷◌, ◌++◌, length, filter, map, set, take, Some, refl, ap, ap₂, sym, ◌∙◌, subst, arith, inl, inr, ◌⊎◌, append_assoc}
+use Rattle.std.proofs.Common.{◌≡◌, ◌+◌, ℕ, true, false, List, [], ◌∷◌, ◌++◌, filter, set, take, Some, refl, ap, sym, ◌∙◌, subst, arith, inl, inr, ◌⊎◌, append_assoc}
 use Rattle.std.specs.Prelude.{slice_get}
 use Rattle.std.proofs.lemmas.Bool.{cases_Bool}
 use Rattle.std.proofs.lemmas.List.{append-nil}
@@ -19,92 +19,11 @@ use Rattle.model.specs.Goes.Goes.{agrees, agrees_else}
 use Rattle.model.specs.Goes.Reached.{goes_on}
 use Rattle.model.specs.Exact.{commands_from}
 use Rattle.model.specs.Served.{IsOfPipe, IsServed, untaken, ComesTo, WorldsAreServed}
-use Rattle.model.proofs.Lists.{each_get, set_get, same_or_other}
+use Rattle.model.proofs.Lists.{set_get, same_or_other}
 use Rattle.model.proofs.Answers.{of_name}
-use Rattle.model.proofs.Ends.{PipeHolds, pipe_at}
-use Rattle.model.proofs.Holds.{HasPipes, Holds}
 use Rattle.model.proofs.WorldsExact.{reached_holds}
-
--- ---- the next of a connection's packets
-
-pub record IsNext (x : ConnectionName) (n taken read : ℕ) (ws : List Written) (y : Command) : Type 0 where
-  pub written : Written
-  pub stands : slice_get ws taken ≡ Some written
-  pub less : taken < read
-  pub is : y ≡ command_of x (n + taken) written.packet
-
-no_cons : {X : Type 0} (y : X) (more : List X) → [] ≡ y ∷ more → ⊥
-no_cons y more e = cc
-
-next_there : (x : ConnectionName) (n taken read : ℕ) (ws : List Written) (y : Command) (more : List Command) → taken ≤ read → read ≤ length ws
-    → commands_from x n (take read ws) ≡ commands_from x n (take taken ws) ++ y ∷ more → IsNext x n taken read ws y
-next_there x n zero zero ws y more few within e = absurd (no_cons y more e)
-next_there x n zero (suc read) [] y more few within e = absurd (no_cons y more e)
-next_there x n zero (suc read) (w ∷ ws) y more few within e =
-    let first : command_of x n w.packet ≡ y = cc in
-    let same : n ≡ n + 0 = omega arith in
-    record { written = w; stands = refl; less = omega arith; is = sym first ∙ ap (λ k. command_of x k w.packet) same }
-next_there x n (suc taken) zero ws y more few within e = absurd (omega (arith, few))
-next_there x n (suc taken) (suc read) [] y more few within e = absurd (omega (arith, within))
-next_there x n (suc taken) (suc read) (w ∷ ws) y more few within e =
-    let rest : commands_from x (suc n) (take read ws) ≡ commands_from x (suc n) (take taken ws) ++ y ∷ more = cc in
-    let next = next_there x (suc n) taken read ws y more (omega (arith, few)) (omega (arith, within)) rest in
-    let less = next.less in
-    let same : suc n + taken ≡ n + suc taken = omega arith in
-    record { written = next.written; stands = next.stands; less = omega (arith, less); is = next.is ∙ ap (λ k. command_of x k next.written.packet) same }
-
-pub filter_joined : {X : Type 0} (test : X → Bool) (xs ys : List X) → filter test (xs ++ ys) ≡ filter test xs ++ filter test ys
-filter_joined test [] ys = refl
-filter_joined test (x ∷ xs) ys = by (test x) (filter_joined test xs ys)
-  where
-    by : (b : Bool) → filter test (xs ++ ys) ≡ filter test xs ++ filter test ys → (if b then x ∷ filter test (xs ++ ys) else filter test (xs ++ ys)) ≡ (if b then x ∷ filter test xs else filter test xs) ++ filter test ys
-    by true ih = ap (λ l. x ∷ l) ih
-    by false ih = ih
-
-next_of : (w : World) (later rest : List Command) (y : Command) (i j : ℕ) (c : ClientEnds) (κ : Connection) (e : End) → Holds w → IsServed w later → later ≡ w.agreed ++ y ∷ rest
-    → HasPipe w i c j κ e → is_packet_of y κ.name ≡ true → IsNext κ.name 0 κ.taken e.read κ.written y
-next_of w later rest y i j c κ e h served is pipe mine =
-    let holds : PipeHolds w.agreed κ e = pipe_at w.agreed c.connections c.ends j κ e (each_get (HasPipes w.agreed) w.clients i c h.pipes pipe.client) pipe.connection pipe.end in
-    let order = served.order i j c κ e pipe in
-    let test = of_name κ.name in
-    let cut : filter test later ≡ commands_from κ.name 0 (take κ.taken κ.written) ++ y ∷ filter test rest =
-    ap (filter test) is ∙ filter_joined test w.agreed (y ∷ rest) ∙ ap₂ (λ l b. l ++ (if b then y ∷ filter test rest else filter test rest)) holds.up mine in
-    next_there κ.name 0 κ.taken e.read κ.written y (filter test rest ++ order.rest) holds.read holds.within
-    (order.is ∙ ap (λ l. l ++ order.rest) cut ∙ append_assoc (commands_from κ.name 0 (take κ.taken κ.written)) (y ∷ filter test rest) order.rest)
-
--- ---- one more of a connection's packets is taken: names and what was written stay
-
-pub record IsKept (κ later : Connection) : Type 0 where
-  pub name : later.name ≡ κ.name
-  pub written : later.written ≡ κ.written
-
-counted_back : (j k : ℕ) (connections : List Connection) (later : Connection) → slice_get (counted_at j connections) k ≡ Some later → (κ : Connection) × (slice_get connections k ≡ Some κ) × IsKept κ later
-counted_back j k [] later e = cc
-counted_back zero zero (κ ∷ connections) later e =
-    let same : record κ { taken = suc κ.taken } ≡ later = cc in
-    (κ, refl, record { name = ap (λ (μ : Connection). μ.name) (sym same); written = ap (λ (μ : Connection). μ.written) (sym same) })
-counted_back zero (suc k) (κ ∷ connections) later e = (later, e, record { name = refl; written = refl })
-counted_back (suc j) zero (κ ∷ connections) later e = (later, e, record { name = refl; written = refl })
-counted_back (suc j) (suc k) (κ ∷ connections) later e = counted_back j k connections later e
-
-counted_on : (j k : ℕ) (connections : List Connection) (κ : Connection) → slice_get connections k ≡ Some κ → (later : Connection) × (slice_get (counted_at j connections) k ≡ Some later) × IsKept κ later
-counted_on j k [] κ e = cc
-counted_on zero zero (μ ∷ connections) κ e =
-    let same : μ ≡ κ = cc in
-    (record μ { taken = suc μ.taken }, refl, record { name = ap (λ (ν : Connection). ν.name) same; written = ap (λ (ν : Connection). ν.written) same })
-counted_on zero (suc k) (μ ∷ connections) κ e = (κ, e, record { name = refl; written = refl })
-counted_on (suc j) zero (μ ∷ connections) κ e = (κ, e, record { name = refl; written = refl })
-counted_on (suc j) (suc k) (μ ∷ connections) κ e = counted_on j k connections κ e
-
-counted_untaken : (j : ℕ) (connections : List Connection) → map (λ (κ : Connection). record κ { taken = 0 }) (counted_at j connections) ≡ map (λ (κ : Connection). record κ { taken = 0 }) connections
-counted_untaken j [] = refl
-counted_untaken zero (κ ∷ connections) = refl
-counted_untaken (suc j) (κ ∷ connections) = ap (λ l. (let z : Connection = record κ { taken = 0 } in z) ∷ l) (counted_untaken j connections)
-
-map_set : {X Y : Type 0} (f : X → Y) (xs : List X) (i : ℕ) (x y : X) → slice_get xs i ≡ Some x → f y ≡ f x → map f (set xs i y) ≡ map f xs
-map_set f [] i x y e s = refl
-map_set f (z ∷ xs) zero x y e s = let same : z ≡ x = cc in ap (λ u. u ∷ map f xs) (s ∙ ap f (sym same))
-map_set f (z ∷ xs) (suc i) x y e s = ap (λ l. f z ∷ l) (map_set f xs i x y e s)
+use Rattle.model.proofs.NextPackets.{next_of}
+use Rattle.model.proofs.TakenOn.{IsKept, counted_back, counted_on, counted_untaken, map_set}
 
 -- ---- the world behind it
 

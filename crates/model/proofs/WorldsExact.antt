@@ -16,7 +16,9 @@ use Rattle.model.specs.Exact.{PipesInOrder, WorldsAreExact}
 use Rattle.model.proofs.Lists.{each_get}
 use Rattle.model.proofs.Ends.{PipeHolds, pipe_at, pipes_in_order, end_set, more_read, more_shown, end_closed}
 use Rattle.model.proofs.Parted.{opened_parted}
-use Rattle.model.proofs.Holds.{IsTold, HasPipes, Holds, opening_holds, keeps_party, keeps_call, keeps_handled, keeps_opened}
+use Rattle.model.proofs.Holds.{IsTold, HasPipes, Holds, opening_holds, keeps_party}
+use Rattle.model.proofs.Calls.{keeps_call}
+use Rattle.model.proofs.Handling.{keeps_handled, keeps_opened}
 use Rattle.model.proofs.Agrees.{keeps_agreed, keeps_else}
 
 -- a node's end becomes another

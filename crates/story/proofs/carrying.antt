@@ -5,6 +5,7 @@ pub mod KeepsNumbers
 pub mod PlacesSay
 pub mod SaysTaken
 pub mod KeepsPlaces
+pub mod Acknowledging
 pub mod Answered
 pub mod Distinct
 pub mod EntersOnce

@@ -29,7 +29,7 @@ use Rattle.story.specs.Headline.{is_this, made_by}
 use Rattle.story.specs.Inside.Shape.{IsSoundStory}
 use Rattle.story.proofs.carrying.PlacesSay.{Says}
 use Rattle.story.proofs.carrying.KeepsPlaces.{IsCarried}
-use Rattle.story.proofs.carrying.Answered.{carried_publish, says_at}
+use Rattle.story.proofs.carrying.Acknowledging.{carried_publish, says_at}
 use Rattle.story.proofs.carrying.Distinct.{IsTwo, two_is, published_apart, count_id, count_more, count_apart}
 
 -- ---- entries from places behind
