@@ -50,3 +50,4 @@ pub use Rattle.broker_model.proofs.NothingAfterTheEnd
 pub use Rattle.broker_model.proofs.SentToLive
 pub use Rattle.broker_model.proofs.CopiesAreUnasked
 pub use Rattle.broker_model.proofs.EntersWhereTaken
+pub use Rattle.broker_model.proofs.EntersAsPublished

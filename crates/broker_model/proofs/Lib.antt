@@ -26,3 +26,4 @@ pub mod SentToLive
 pub mod NothingAfterTheEnd
 pub mod EntersWhereTaken
 pub mod CopiesAreUnasked
+pub mod EntersAsPublished

@@ -3,7 +3,7 @@ use Rattle.broker_base.specs.Place.{Client, Limits}
 use Rattle.broker_base.specs.QuietLaws.{IsSteady}
 use Rattle.story.specs.Story.{Story, Told}
 use Rattle.story.specs.Headline.{PublishedOnce, ExactlyOnce}
-use Rattle.story.proofs.Entering.{entering}
+use Rattle.story.proofs.Entering.{entering, entering_as}
 use Rattle.story.proofs.Ends.{numbers_in_order}
 use Rattle.story.proofs.keeping.Told.{told_stories_are_sound, told_stories_accept}
 use Rattle.story.proofs.carrying.KeepsPlaces.{told_carried}
@@ -22,6 +22,7 @@ told_stories_publish_once limits steady c s told =
       answered = answered_is_new limits s carried;
       enters_once = publication_enters_once limits s sound carried in_order;
       enters = entering limits s;
+      enters_as = λ place below x p d stands. entering_as limits s.keeper.client place below x p d;
       acknowledged = acknowledged_is_taken limits s carried;
     }
 

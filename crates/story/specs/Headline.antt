@@ -15,6 +15,7 @@ use Rattle.broker_base.specs.Times.{entries_of}
 use Rattle.broker_base.specs.Answers.{answers_at}
 use Rattle.broker_base.specs.OriginLaws.{is_from_publish}
 use Rattle.broker_base.specs.EndingLaws.{StandsAt}
+use Rattle.broker_base.specs.TakenLaws.{queued_at}
 use Rattle.broker_base.specs.Command.TheVariants as commands
 use Rattle.broker_base.specs.Output.TheVariants.{Send}
 use Rattle.lists.specs.Lists.{In, IsPrefixOf, Each}
@@ -70,6 +71,11 @@ pub record PublishedOnce (limits : Limits) (s : Story) : Type 0 where
       place.command ≡ commands.Packet x (packets.Publish p) → place.mark ≡ Mark.Taken s.keeper.client →
       length (filter (is_from_publish (length below)) (entries_of limits (place ∷ below) d))
       ≡ (if is_queued_at (effective_qos below d (publication_of p)) then 1 else 0)
+  -- as it was published, at the effective QoS
+  pub enters_as : (place : Place) (below : Past) (x : ConnectionName) (p : Publish) (d : Client) → StandsAt s.past place below →
+      place.command ≡ commands.Packet x (packets.Publish p) → place.mark ≡ Mark.Taken s.keeper.client →
+      map publication_in (filter (is_from_publish (length below)) (entries_of limits (place ∷ below) d))
+      ≡ queued_at (publication_of p) (effective_qos below d (publication_of p))
   -- one at QoS 1 that was answered is taken at the place that is answered
   pub acknowledged : (place : Place) (below : Past) (x : ConnectionName) (id k : ℕ) → StandsAt s.past place below →
       carries s.connections place.command below ≡ Some k → IsAnsweredBy limits place below x (packets.Puback id) →
