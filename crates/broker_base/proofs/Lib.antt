@@ -44,3 +44,10 @@ pub use Rattle.broker_model.proofs.TakenPublishAddsOne
 pub use Rattle.broker_model.proofs.WaitingStays
 pub use Rattle.broker_model.proofs.WhatFlightsAwait
 pub use Rattle.broker_model.proofs.PublicationEnters
+pub use Rattle.broker_model.proofs.ConnectionNames
+pub use Rattle.broker_model.proofs.MarksOfPlaces
+pub use Rattle.broker_model.proofs.NothingAfterTheEnd
+pub use Rattle.broker_model.proofs.SentToLive
+pub use Rattle.broker_model.proofs.CopiesAreUnasked
+pub use Rattle.broker_model.proofs.EntersWhereTaken
+pub use Rattle.broker_model.proofs.EntersAsPublished

@@ -11,6 +11,7 @@ pub use Rattle.broker_model.specs.AnswerLaws
 pub use Rattle.broker_model.specs.Answers
 pub use Rattle.broker_model.specs.Commands
 pub use Rattle.broker_model.specs.Connection
+pub use Rattle.broker_model.specs.EndingLaws
 pub use Rattle.broker_model.specs.Entries
 pub use Rattle.broker_model.specs.EntryLaws
 pub use Rattle.broker_model.specs.IdentifierLaws
@@ -35,6 +36,7 @@ pub use Rattle.broker_model.specs.SessionRows
 pub use Rattle.broker_model.specs.Sized
 pub use Rattle.broker_model.specs.StartLaws
 pub use Rattle.broker_model.specs.Subscriptions
+pub use Rattle.broker_model.specs.TakenLaws
 pub use Rattle.broker_model.specs.Times
 pub use Rattle.broker_model.specs.declared.command.Command
 pub use Rattle.broker_model.specs.declared.command.Output

@@ -35,11 +35,11 @@ joined : (P : Output → Type 0) (xs ys : List Output) → Each P xs → Each P 
 joined P [] ys a b = b
 joined P (x ∷ xs) ys a b = (a.0, joined P xs ys a.1 b)
 
-of-each : {X : Type 0} (P : Output → Type 0) (f : X → List Output) (xs : List X) → ((x : X) → Each P (f x)) → Each P (flat_map f xs)
+pub of-each : {X : Type 0} (P : Output → Type 0) (f : X → List Output) (xs : List X) → ((x : X) → Each P (f x)) → Each P (flat_map f xs)
 of-each P f [] h = tt
 of-each P f (x ∷ xs) h = joined P (f x) (flat_map f xs) (h x) (of-each P f xs h)
 
-weaker : (P Q : Output → Type 0) → ((answer : Output) → P answer → Q answer) → (xs : List Output) → Each P xs → Each Q xs
+pub weaker : (P Q : Output → Type 0) → ((answer : Output) → P answer → Q answer) → (xs : List Output) → Each P xs → Each Q xs
 weaker P Q h [] a = tt
 weaker P Q h (x ∷ xs) a = (h x a.0, weaker P Q h xs a.1)
 
@@ -70,7 +70,7 @@ handed-by : (x : ConnectionName) (n : ℕ) (p : Publication) (copies : List Publ
 handed-by x n p copies es ih true = joined (Unasked x) (all_started x n (take 1 es)) (handed x n copies (drop 1 es)) (started-unasked x n (take 1 es)) (ih (drop 1 es))
 handed-by x n p copies es ih false = ((refl, refl), ih es)
 
-handed-unasked : (x : ConnectionName) (n : ℕ) (copies : List Publication) (es : List Entry) → Each (Unasked x) (handed x n copies es)
+pub handed-unasked : (x : ConnectionName) (n : ℕ) (copies : List Publication) (es : List Entry) → Each (Unasked x) (handed x n copies es)
 handed-unasked x n [] es = tt
 handed-unasked x n (p ∷ copies) es = handed-by x n p copies es (λ rest. handed-unasked x n copies rest) (is_answered p.qos)
 
@@ -96,7 +96,7 @@ pubrels-to : (x : ConnectionName) (ids : List ℕ) → Each (To x) (map (λ id. 
 pubrels-to x [] = tt
 pubrels-to x (id ∷ ids) = (refl, pubrels-to x ids)
 
-resent-to : (x : ConnectionName) (n : ℕ) (es : List Entry) → Each (To x) (resent x n es)
+pub resent-to : (x : ConnectionName) (n : ℕ) (es : List Entry) → Each (To x) (resent x n es)
 resent-to x n es =
     joined (To x) (map (λ id. Send x (packets.Pubrel id)) (released_below n es) ++ flat_map (sent_again x n) es) (all_started x n es)
     (joined (To x) (map (λ id. Send x (packets.Pubrel id)) (released_below n es)) (flat_map (sent_again x n) es)

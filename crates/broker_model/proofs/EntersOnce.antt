@@ -47,7 +47,7 @@ same-kind n m f a (Entry.Released made p id start release) = by (a (Entry.Releas
     by (inr e) = ap (is_from_publish n) e
 same-kind n m f a (Entry.Finished made p id start release finish) = ap (is_from_publish n) (a (Entry.Finished made p id start release finish))
 
-times-answered : (n m : ℕ) (f : Entry → Entry) → Answering m f → (es : List Entry) → times n (map f es) ≡ times n es
+pub times-answered : (n m : ℕ) (f : Entry → Entry) → Answering m f → (es : List Entry) → times n (map f es) ≡ times n es
 times-answered n m f a [] = refl
 times-answered n m f a (e ∷ es) = ap (λ z. one_if z + times n (map f es)) (same-kind n m f a e) ∙ ap (λ z. one_if (is_from_publish n e) + z) (times-answered n m f a es)
 
@@ -84,7 +84,7 @@ and-less true b = omega arith
 and-less false true = omega arith
 and-less false false = omega arith
 
-times-new : (n m : ℕ) (ps : List Publication) → times n (map (Entry.Waits m) ps) ≤ fresh ps
+pub times-new : (n m : ℕ) (ps : List Publication) → times n (map (Entry.Waits m) ps) ≤ fresh ps
 times-new n m [] = omega arith
 times-new n m (p ∷ ps) = let h = times-new n m ps in let g = and-less (m == n) (not p.retain) in omega (arith, h, g)
 
@@ -92,7 +92,7 @@ other-place : (a b : Bool) → a ≡ false → one_if (a && b) ≡ 0
 other-place false b e = refl
 other-place true b e = cc
 
-times-elsewhere : (n m : ℕ) (ps : List Publication) → (m == n) ≡ false → times n (map (Entry.Waits m) ps) ≡ 0
+pub times-elsewhere : (n m : ℕ) (ps : List Publication) → (m == n) ≡ false → times n (map (Entry.Waits m) ps) ≡ 0
 times-elsewhere n m [] e = refl
 times-elsewhere n m (p ∷ ps) e = let h = times-elsewhere n m ps e in let g = other-place (m == n) (not p.retain) e in omega (arith, h, g)
 
@@ -100,11 +100,11 @@ fresh-queued-by : (b : Bool) (p : Publication) (ps qs : List Publication) → fr
 fresh-queued-by true p ps qs h = omega (arith, h)
 fresh-queued-by false p ps qs h = omega (arith, h)
 
-fresh-queued : (ps : List Publication) → fresh (queued ps) ≤ fresh ps
+pub fresh-queued : (ps : List Publication) → fresh (queued ps) ≤ fresh ps
 fresh-queued [] = omega arith
 fresh-queued (p ∷ ps) = fresh-queued-by (is_answered p.qos) p ps (queued ps) (fresh-queued ps)
 
-fresh-copy : (p : Publication) (qos : Option QoS) → fresh (copy_of p qos) ≤ 1
+pub fresh-copy : (p : Publication) (qos : Option QoS) → fresh (copy_of p qos) ≤ 1
 fresh-copy p None = omega arith
 fresh-copy p (Some q) = omega arith
 
@@ -116,7 +116,7 @@ fresh-more : (ps qs : List Publication) → fresh (ps ++ qs) ≡ fresh ps + fres
 fresh-more [] qs = omega arith
 fresh-more (p ∷ ps) qs = let h = fresh-more ps qs in omega (arith, h)
 
-fresh-all : (content : RetainedTopics) (filters : List Subscription) → fresh (copies_for_all content filters) ≡ 0
+pub fresh-all : (content : RetainedTopics) (filters : List Subscription) → fresh (copies_for_all content filters) ≡ 0
 fresh-all content [] = refl
 fresh-all content (s ∷ more) =
     fresh-more (copies_for content s) (copies_for_all content more)

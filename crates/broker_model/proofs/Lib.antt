@@ -19,3 +19,11 @@ pub mod TakenPublishAddsOne
 pub mod WaitingStays
 pub mod WhatFlightsAwait
 pub mod PublicationEnters
+pub mod ConnectionNames
+pub mod MarksOfPlaces
+pub mod OwnersAreServed
+pub mod SentToLive
+pub mod NothingAfterTheEnd
+pub mod EntersWhereTaken
+pub mod CopiesAreUnasked
+pub mod EntersAsPublished

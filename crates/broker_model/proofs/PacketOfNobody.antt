@@ -102,7 +102,7 @@ no-copy packets.Pingreq x past c = refl
 no-copy packets.Pingresp x past c = refl
 no-copy packets.Disconnect x past c = refl
 
-no-answer : (packet : Packet) (limits : Limits) (place : Place) (past : Past) (x : ConnectionName) → packet_answers limits place past x packet Mark.NoPart ≡ []
+pub no-answer : (packet : Packet) (limits : Limits) (place : Place) (past : Past) (x : ConnectionName) → packet_answers limits place past x packet Mark.NoPart ≡ []
 no-answer (packets.Connect q) limits place past x = refl
 no-answer (packets.Connack q) limits place past x = refl
 no-answer (packets.Publish p) limits place past x = refl

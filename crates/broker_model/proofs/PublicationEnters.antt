@@ -43,17 +43,17 @@ unfolding subscriptions_of
 no_filters [] c e = refl
 no_filters (place ∷ past) c e = nothing_kept (session_of (place ∷ past) c) (begins place past c) [] _ e
 
-no_qos : (past : Past) (c : Client) (p : Publication) → session_of past c ≡ None → effective_qos past c p ≡ None
+pub no_qos : (past : Past) (c : Client) (p : Publication) → session_of past c ≡ None → effective_qos past c p ≡ None
 no_qos past c p e = ap (λ held. option_map (lower_qos p.qos) (granted_qos p.topic held)) (no_filters past c e)
 
-gone_before : (past : Past) (x : ConnectionName) (p : Publish) (d c : Client) → session_of (taken x p d ∷ past) c ≡ None → session_of past c ≡ None
+pub gone_before : (past : Past) (x : ConnectionName) (p : Publish) (d c : Client) → session_of (taken x p d ∷ past) c ≡ None → session_of past c ≡ None
 unfolding session_of
 gone_before past x p d c e =
     no_session (ends_any (taken x p d) (current_connection past c)) (session_of past c) (ends_none x p d (current_connection past c)) e
 
 -- ---- where there is one
 
-same_number : (n : ℕ) → (n == n) ≡ true
+pub same_number : (n : ℕ) → (n == n) ≡ true
 same_number n = grind arith
 
 -- the copy is of this place, and has RETAIN 0

@@ -2,6 +2,7 @@ pub mod AnswerLaws
 pub mod Answers
 pub mod Commands
 pub mod Connection
+pub mod EndingLaws
 pub mod Entries
 pub mod EntryLaws
 pub mod IdentifierLaws
@@ -26,4 +27,5 @@ pub mod SessionRows
 pub mod Sized
 pub mod StartLaws
 pub mod Subscriptions
+pub mod TakenLaws
 pub mod Times

@@ -4,12 +4,14 @@
 
 mod command;
 mod connection_id;
+mod endings;
 mod laws;
 mod rows;
 mod sized_packet;
 
 pub use command::{Command, Output};
 pub use connection_id::ConnectionId;
+pub use endings::{enters_as_published, enters_where_taken, nothing_after_the_end};
 pub use laws::{
     answers_are_addressed, current_is_last_accepted, enters_once, entries_only_grow,
     filter_has_last_granting, identifiers_are_distinct, nothing_waits_in_vain,

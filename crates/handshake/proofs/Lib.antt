@@ -5,6 +5,7 @@ pub mod ItemsStarted
 pub mod ItemsKnown
 pub mod SidesStart
 pub mod SidesAccept
+pub mod RowsSent
 pub mod SidesHear
 pub mod Taken
 pub mod LinksTaken
@@ -13,3 +14,4 @@ pub mod LinksFinished
 pub mod LinksStarted
 pub mod LinksAnew
 pub mod Exact
+pub mod Repeats

@@ -2,11 +2,12 @@
 use Rattle.std.proofs.Common.{◌≡◌, ℕ, Bool, true, false, ◌||◌, ◌==◌, List, [], ◌∷◌, ◌++◌, map, refl, ap, sym, ◌∙◌, subst, inl, inr, ◌⊎◌}
 use Rattle.std.proofs.lemmas.List.{append-nil}
 use Rattle.std.proofs.lemmas.Bool.{or_cases, both_ways}
-use Rattle.lists.specs.Lists.{has_id, IsDistinct, Each}
+use Rattle.lists.specs.Lists.{In, has_id, IsDistinct, Each}
+use Rattle.lists.specs.Lists.In.{here, there}
 use Rattle.handshake.specs.Items.{Item, busy, sent, has_sent, has_released}
 use Rattle.handshake.specs.Handshake.{Forward, resend, publishing}
 use Rattle.handshake.specs.Sides.{IsNew, AreSides, publishes, forward_id, IsMeant, IsJoined}
-use Rattle.lists.proofs.Tests.{or_none, none_or, or_left, or_right, eq_same, eq_is}
+use Rattle.lists.proofs.Tests.{or_none, none_or, eq_is}
 use Rattle.lists.proofs.Identifiers.{distinct_joined}
 use Rattle.lists.proofs.OfEach.{each_then}
 use Rattle.handshake.proofs.BusyIdentifiers.{sent_append}
@@ -22,15 +23,9 @@ publishes_rows : {V : Type 0} (rows : List (ℕ × V)) → publishes (map publis
 publishes_rows [] = refl
 publishes_rows ((id, v) ∷ rows) = ap (λ z. (id, v) ∷ z) (publishes_rows rows)
 
-all_sent : {V : Type 0} (items : List (Item V)) → Each (λ (row : ℕ × V). has_sent row.0 items ≡ true) (sent items)
-all_sent [] = tt
-all_sent (Item.Waits v ∷ items) = all_sent items
-all_sent {V = X} (Item.Sent v id ∷ items) = (
-  or_left (id == id) (has_sent id items) (eq_same id),
-  each_then (λ (row : ℕ × X). has_sent row.0 items ≡ true) (λ (row : ℕ × X). ((row.0 == id) || has_sent row.0 items) ≡ true) (sent items) (λ row. or_right (row.0 == id) (has_sent row.0 items)) (all_sent items),
-)
-all_sent (Item.Released v id ∷ items) = all_sent items
-all_sent (Item.Finished v ∷ items) = all_sent items
+all_in : {X : Type 0} (xs : List X) → Each (λ (x : X). In x xs) xs
+all_in [] = tt
+all_in {X = Y} (x ∷ xs) = (here, each_then (λ (y : Y). In y xs) (λ (y : Y). In y (x ∷ xs)) xs (λ y. there) (all_in xs))
 
 none_released : {V : Type 0} (received : ℕ → Bool) (i : ℕ) (new : List (Item V)) → Each (IsNew received) new → has_released i new ≡ false
 none_released received i [] h = refl
@@ -110,7 +105,7 @@ joined_anew {V = X} items accepted received old new ids s d r =
       comes = record {
         again = sent old;
         is = publishes_releases ids (map publishing (sent items)) ∙ publishes_rows (sent items) ∙ ap sent s.is ∙ sent_append old new;
-        known = all_sent old;
+        known = all_in (sent old);
         meant = releases_meant old ids (sent items) r';
       };
       due = tt;

@@ -1,15 +1,16 @@
 -- What is under way when a PUBCOMP is heard.
-use Rattle.std.proofs.Common.{◌≡◌, ℕ, Bool, true, false, ◌==◌, List, [], ◌∷◌, ◌++◌, map, sym, subst}
+use Rattle.std.proofs.Common.{◌≡◌, ℕ, Bool, false, ◌==◌, List, [], ◌∷◌, ◌++◌, map, sym, subst}
 use Rattle.std.proofs.lemmas.List.{append-nil}
 use Rattle.lists.specs.Lists.{has_id, Each}
-use Rattle.handshake.specs.Items.{Item, has_sent, releasing, finishing}
+use Rattle.handshake.specs.Items.{Item, releasing, finishing}
 use Rattle.handshake.specs.Handshake.{Forward, Backward}
-use Rattle.handshake.specs.Sides.{forward_id, backward_id, IsMeant, IsDue, IsJoined, IsBehind}
+use Rattle.handshake.specs.Sides.{forward_id, backward_id, IsMeant, IsDue, IsSent, IsJoined, IsBehind}
 use Rattle.lists.proofs.Tests.{or_none, eq_turn}
 use Rattle.lists.proofs.Identifiers.{distinct_without, distinct_middle}
 use Rattle.lists.proofs.OfEach.{each_then}
 use Rattle.handshake.proofs.ItemsFinished.{sent_finishing, released_finishing}
 use Rattle.handshake.proofs.LinksTaken.{dues}
+use Rattle.handshake.proofs.RowsSent.{row_finishing}
 use Rattle.handshake.proofs.LinksReleased.{due_releasing}
 
 -- ---- a PUBCOMP
@@ -32,7 +33,7 @@ joined_finished {V = X} received old new id f b j =
       comes = record {
         again = j.comes.again;
         is = j.comes.is;
-        known = each_then (λ (row : ℕ × X). has_sent row.0 old ≡ true) (λ (row : ℕ × X). has_sent row.0 (map (finishing id) old) ≡ true) j.comes.again (λ row. sent_finishing id row.0 old) j.comes.known;
+        known = each_then (IsSent old) (IsSent (map (finishing id) old)) j.comes.again (λ row. row_finishing id row old) j.comes.known;
         meant = meants_finishing id old f away.0 j.comes.meant;
       };
       due = dues received received old (map (finishing id) old) id b (due_finishing received id old) away.1 j.due.1;

@@ -1,15 +1,16 @@
 -- What is under way when a PUBREC is heard.
-use Rattle.std.proofs.Common.{◌≡◌, ℕ, Bool, true, false, ◌==◌, List, [], ◌∷◌, ◌++◌, map, ap, sym, ◌∙◌, subst, append_assoc}
+use Rattle.std.proofs.Common.{◌≡◌, ℕ, Bool, false, ◌==◌, List, [], ◌∷◌, ◌++◌, map, ap, sym, ◌∙◌, subst, append_assoc}
 use Rattle.std.proofs.lemmas.List.{append-nil, map-append}
 use Rattle.lists.specs.Lists.{has_id, IsDistinct, Each}
-use Rattle.handshake.specs.Items.{Item, sent, has_sent, releasing}
+use Rattle.handshake.specs.Items.{Item, sent, releasing}
 use Rattle.handshake.specs.Handshake.{Forward, Backward}
-use Rattle.handshake.specs.Sides.{publishes, forward_id, backward_id, IsMeant, IsDue, IsJoined}
+use Rattle.handshake.specs.Sides.{publishes, forward_id, backward_id, IsMeant, IsDue, IsSent, IsJoined}
 use Rattle.lists.proofs.Tests.{or_none, eq_turn}
 use Rattle.lists.proofs.Identifiers.{distinct_middle}
 use Rattle.lists.proofs.OfEach.{each_append, each_left, each_then}
 use Rattle.handshake.proofs.ItemsReleased.{sent_releasing, released_releasing, now_released}
 use Rattle.handshake.proofs.LinksTaken.{publishes_append, dues}
+use Rattle.handshake.proofs.RowsSent.{row_releasing}
 
 -- ---- a PUBREC
 
@@ -18,10 +19,10 @@ not_among i [] n = tt
 not_among i (Forward.Publish id v ∷ f) n = let h = or_none (i == id) (has_id i (map forward_id f)) n in (h.0, not_among i f h.1)
 not_among i (Forward.Pubrel id ∷ f) n = let h = or_none (i == id) (has_id i (map forward_id f)) n in not_among i f h.1
 
-knowns : {V : Type 0} (i : ℕ) (old : List (Item V)) (rows : List (ℕ × V)) → Each (λ (row : ℕ × V). (i == row.0) ≡ false) rows → Each (λ (row : ℕ × V). has_sent row.0 old ≡ true) rows
-    → Each (λ (row : ℕ × V). has_sent row.0 (map (releasing i) old) ≡ true) rows
+knowns : {V : Type 0} (i : ℕ) (old : List (Item V)) (rows : List (ℕ × V)) → Each (λ (row : ℕ × V). (i == row.0) ≡ false) rows → Each (IsSent old) rows
+    → Each (IsSent (map (releasing i) old)) rows
 knowns i old [] n h = tt
-knowns i old (row ∷ rows) n h = (sent_releasing i row.0 old (eq_turn i row.0 n.0) h.0, knowns i old rows n.1 h.1)
+knowns i old (row ∷ rows) n h = (row_releasing i row old n.0 h.0, knowns i old rows n.1 h.1)
 
 meant_releasing : {V : Type 0} (i : ℕ) (old : List (Item V)) (m : Forward V) → IsMeant old m → IsMeant (map (releasing i) old) m
 meant_releasing i old (Forward.Publish id v) h = tt

@@ -2,12 +2,13 @@
 use Rattle.std.proofs.Common.{◌≡◌, ℕ, Bool, true, false, ◌==◌, List, [], ◌∷◌, ◌++◌, map, refl, ap, sym, ◌∙◌, subst, append_assoc}
 use Rattle.std.proofs.lemmas.List.{append-nil, map-append}
 use Rattle.lists.specs.Lists.{has_id, IsDistinct, Each}
-use Rattle.handshake.specs.Items.{Item, busy, sent, has_sent, start_first}
+use Rattle.handshake.specs.Items.{Item, busy, sent, start_first}
 use Rattle.handshake.specs.Handshake.{Forward, Backward, Link, sending}
-use Rattle.handshake.specs.Sides.{publishes, forward_id, backward_id, IsMeant, IsDue, Comes, IsJoined, IsBehind, IsAhead, IsLinked}
+use Rattle.handshake.specs.Sides.{publishes, forward_id, backward_id, IsMeant, IsDue, IsSent, Comes, IsJoined, IsBehind, IsAhead, IsLinked}
 use Rattle.lists.proofs.Tests.{or_none, none_or}
 use Rattle.lists.proofs.Identifiers.{other_id, distinct_behind, distinct_insert}
 use Rattle.lists.proofs.OfEach.{each_append, each_then}
+use Rattle.handshake.proofs.RowsSent.{row_sent}
 use Rattle.handshake.proofs.BusyIdentifiers.{sent_busy, released_busy}
 use Rattle.handshake.proofs.ItemsStarted.{Started}
 use Rattle.handshake.proofs.LinksTaken.{publishes_append}
@@ -42,8 +43,8 @@ backward_away received i old (Backward.Pubcomp id ∷ b) n d =
 pub linked_start : {V : Type 0} (received : ℕ → Bool) (old new : List (Item V)) (id : ℕ) (v : V) (l : Link V) → has_id id (busy old) ≡ false → has_id id (busy new) ≡ false
     → Started received id v new → IsLinked received old new l → IsLinked received old (start_first id new) (sending (Forward.Publish id v) l)
 linked_start {V = X} received old new id v (Link.Joined f b) n n' s j =
-    let known = each_then (λ (row : ℕ × X). has_sent row.0 old ≡ true) (λ (row : ℕ × X). (id == row.0) ≡ false) j.comes.again
-    (λ row h. not_busy id row.0 old n (sent_busy row.0 old h)) j.comes.known in
+    let known = each_then (IsSent old) (λ (row : ℕ × X). (id == row.0) ≡ false) j.comes.again
+    (λ row h. not_busy id row.0 old n (sent_busy row.0 old (row_sent row old h))) j.comes.known in
     let rows = subst (Each (λ (row : ℕ × X). (id == row.0) ≡ false)) (sym j.comes.is)
     (each_append (λ (row : ℕ × X). (id == row.0) ≡ false) j.comes.again (sent new) known (rows_away id new n')) in
     let away = forward_away id old f n j.comes.meant rows in

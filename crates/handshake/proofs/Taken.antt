@@ -4,10 +4,11 @@ use Rattle.std.proofs.lemmas.Bool.{both_ways}
 use Rattle.lists.specs.Lists.{Each}
 use Rattle.handshake.specs.Items.{Item, sent, has_sent, has_released}
 use Rattle.handshake.specs.Handshake.{Forward, Backward, Link, Handshake, answer, accepting, taking}
-use Rattle.handshake.specs.Sides.{AreSides, publishes, forward_id, backward_id, IsMeant, IsDue, Comes}
+use Rattle.handshake.specs.Sides.{AreSides, publishes, forward_id, backward_id, IsMeant, IsDue, IsSent, Comes}
 use Rattle.lists.proofs.Tests.{none_or, eq_same, eq_turn, or_left, or_right, or_then}
 use Rattle.lists.proofs.OfEach.{each_then}
 use Rattle.handshake.proofs.ItemsKnown.{cons_is, pair_is, olds_sent, first_sent, with, without}
+use Rattle.handshake.proofs.RowsSent.{row_sent}
 use Rattle.handshake.proofs.SidesAccept.{sides_accept, sides_forget}
 
 pub record Took {V : Type 0} (m : Forward V) (received : ℕ → Bool) (old : List (Item V)) (f : List (Forward V)) (more : List (ℕ × V)) (after : Handshake V) : Type 0 where
@@ -69,7 +70,7 @@ now_less received id = ap (λ b. not b && received id) (eq_same id)
 
 -- one that the receiver knows: only answered
 took_again : {V : Type 0} (h : Handshake V) (id : ℕ) (v : V) (f : List (Forward V)) (l : Link V) (old new : List (Item V)) (next more again : List (ℕ × V))
-    → AreSides h.items h.accepted h.received old new → (b : Bool) → b ≡ true → publishes f ≡ again ++ next → Each (λ (row : ℕ × V). has_sent row.0 old ≡ true) again
+    → AreSides h.items h.accepted h.received old new → (b : Bool) → b ≡ true → publishes f ≡ again ++ next → Each (IsSent old) again
     → Each (IsMeant old) f → has_sent id old ≡ true → sent new ≡ next ++ more → Took (Forward.Publish id v) h.received old f more (accepting id v b h l)
 took_again h id v f l old new next more again s false e is known meant here front = absurd (both_ways false refl e)
 took_again h id v f l old new next more again s true e is known meant here front =
@@ -102,11 +103,11 @@ took_next h id v f l old later more s false e meant front =
     }
 
 took_publish : {V : Type 0} (h : Handshake V) (id : ℕ) (v : V) (f : List (Forward V)) (l : Link V) (old new : List (Item V)) (next more again : List (ℕ × V))
-    → AreSides h.items h.accepted h.received old new → (id, v) ∷ publishes f ≡ again ++ next → Each (λ (row : ℕ × V). has_sent row.0 old ≡ true) again
+    → AreSides h.items h.accepted h.received old new → (id, v) ∷ publishes f ≡ again ++ next → Each (IsSent old) again
     → Each (IsMeant old) f → sent new ≡ next ++ more → Took (Forward.Publish id v) h.received old f more (accepting id v (h.received id) h l)
 took_publish h id v f l old new next more (row ∷ again) s is known meant front =
     let e = cons_is (id, v) row (publishes f) (again ++ next) is in
-    let here : has_sent id old ≡ true = subst (λ (i : ℕ). has_sent i old ≡ true) (sym (pair_is (id, v) row e.0).0) known.0 in
+    let here : has_sent id old ≡ true = subst (λ (i : ℕ). has_sent i old ≡ true) (sym (pair_is (id, v) row e.0).0) (row_sent row old known.0) in
     took_again h id v f l old new next more again s (h.received id) (olds_sent h.received id old s.olds here) e.1 known.1 meant here front
 took_publish {V = X} h id v f l old new next more [] s is known meant front =
     let front' : sent new ≡ (id, v) ∷ (publishes f ++ more) = front ∙ ap (λ z. z ++ more) (sym is) in

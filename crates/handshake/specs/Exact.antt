@@ -1,8 +1,8 @@
 -- What holds after every run of a handshake.
-use Rattle.std.specs.Prelude.{◌≡◌, Bool, true, false, List, ◌++◌, map}
-use Rattle.lists.specs.Lists.{Each}
+use Rattle.std.specs.Prelude.{◌≡◌, ℕ, Bool, true, false, List, ◌∷◌, ◌++◌, map, Option, Some, None}
+use Rattle.lists.specs.Lists.{In, Each}
 use Rattle.handshake.specs.Items.{Item, value_of}
-use Rattle.handshake.specs.Handshake.{Handshake, Run, opening}
+use Rattle.handshake.specs.Handshake.{Forward, Link, Handshake, Run, opening}
 
 -- ---- what holds after every run
 
@@ -22,3 +22,15 @@ pub record IsExact {V : Type 0} (h : Handshake V) : Type 0 where
 -- so it is after every run from the opening
 abbrev pub RunsAreExact : Type 0 → Type 0
 RunsAreExact V = (h : Handshake V) → Run (opening V) h → IsExact h
+
+-- what comes next to the receiver
+abbrev pub next_of : {V : Type 0} → Link V → Option (Forward V)
+next_of (Link.Joined (m ∷ f) b) = Some m
+next_of (Link.Ahead (m ∷ f)) = Some m
+next_of _ = None
+
+-- a publication that comes with an identifier that the receiver knows was accepted before, the same one
+abbrev pub RepeatsWereAccepted : Type 0 → Type 0
+RepeatsWereAccepted V =
+    (h : Handshake V) → Run (opening V) h → (id : ℕ) (v : V) → next_of h.link ≡ Some (Forward.Publish id v) →
+    h.received id ≡ true → In v h.accepted

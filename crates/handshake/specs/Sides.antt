@@ -1,6 +1,6 @@
 -- What every run of a handshake keeps: the two sides, and what is under way between them.
 use Rattle.std.specs.Prelude.{◌≡◌, ℕ, Bool, true, false, List, [], ◌∷◌, ◌++◌, map}
-use Rattle.lists.specs.Lists.{has_id, IsDistinct, Each}
+use Rattle.lists.specs.Lists.{In, has_id, IsDistinct, Each}
 use Rattle.handshake.specs.Items.{Item, value_of, busy, sent, has_sent, has_released}
 use Rattle.handshake.specs.Handshake.{Forward, Backward, Link, Handshake}
 
@@ -53,11 +53,15 @@ abbrev pub IsDue : {V : Type 0} → (ℕ → Bool) → List (Item V) → Backwar
 IsDue received old (Backward.Pubrec id) = has_sent id old ≡ true
 IsDue received old (Backward.Pubcomp id) = (has_released id old ≡ true) × (received id ≡ false)
 
--- what comes to the receiver: some that it has, and then exactly these
+-- an item that is sent, with the identifier and the value of this row
+abbrev pub IsSent : {V : Type 0} → List (Item V) → ℕ × V → Type 0
+IsSent items row = In row (sent items)
+
+-- what comes to the receiver: some that it has, each with the value that was first sent, and then exactly these
 pub record Comes {V : Type 0} (old : List (Item V)) (f : List (Forward V)) (next : List (ℕ × V)) : Type 0 where
   pub again : List (ℕ × V)
   pub is : publishes f ≡ again ++ next
-  pub known : Each (λ row. has_sent row.0 old ≡ true) again
+  pub known : Each (IsSent old) again
   pub meant : Each (IsMeant old) f
 
 pub record IsJoined {V : Type 0} (received : ℕ → Bool) (old new : List (Item V)) (f : List (Forward V)) (b : List Backward)

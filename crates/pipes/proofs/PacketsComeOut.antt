@@ -1,5 +1,6 @@
 -- Packets that are written into a pipe come out of the cutter in their order, however the bytes are cut.
-use Rattle.std.proofs.Common.{◌≡◌, ℕ, List, [], ◌∷◌, ◌++◌, Result, Ok, Err, refl, ap, sym, ◌∙◌, subst, append_assoc}
+use Rattle.std.proofs.Common.{◌≡◌, ℕ, List, [], ◌∷◌, ◌++◌, length, Some, Result, Ok, Err, refl, ap, sym, ◌∙◌, subst, append_assoc}
+use Rattle.std.specs.Prelude.{slice_get}
 use Rattle.std.proofs.lemmas.List.{append-nil, append_cancel_left}
 use Rattle.std.proofs.lemmas.Bool.{both_ways}
 use Rattle.packet.specs.Stop.{Stop}
@@ -14,7 +15,7 @@ use Rattle.packet.proofs.MoreBytes.{faults_stay_so}
 use Rattle.packet.proofs.OneSpelling.{none_begins}
 use Rattle.cutter.specs.Stream.{GoesOnWith, IsFault}
 use Rattle.cutter.specs.declared.error.CutError.TheVariants as errors
-use Rattle.pipes.specs.Pipe.{Joins, IsPiped, PipeGrows, PipeCarries, PipeGives, PipeHasNoFault, PipeOpens}
+use Rattle.pipes.specs.Pipe.{Joins, IsPiped, PipeGrows, PipeCarries, PipeGives, PipeGivesNext, PipeHasNoFault, PipeOpens}
 
 -- ---- opening
 
@@ -68,6 +69,16 @@ pipe_gives written handled s t under_way p h takes = by h.rest h.is h.joined tak
         }
 
 -- ---- no fault
+
+-- it is the one that stands behind those handled
+stands_next : (ps rest : List Packet) (p : Packet) → slice_get ((ps ++ p ∷ []) ++ rest) (length ps) ≡ Some p
+stands_next [] rest p = refl
+stands_next (q ∷ ps) rest p = stands_next ps rest p
+
+pub pipe_gives_next : PipeGivesNext
+pipe_gives_next written handled s t under_way p piped takes =
+    let after = pipe_gives written handled s t under_way p piped takes in
+    ap (λ l. slice_get l (length handled)) after.is ∙ stands_next handled after.rest p
 
 abbrev pub fault_of : DecodeFault → Stop
 fault_of (faults.Malformed kind) = stops.Malformed kind

@@ -1,5 +1,5 @@
 -- A pipe into which packets are written, and the cutter at its other end.
-use Rattle.std.specs.Prelude.{◌≡◌, ℕ, false, List, [], ◌∷◌, ◌++◌, Some, Ok, Err}
+use Rattle.std.specs.Prelude.{◌≡◌, ℕ, false, List, [], ◌∷◌, ◌++◌, length, slice_get, Some, Ok, Err}
 use Rattle.packet.specs.declared.packet.Packet.{Packet}
 use Rattle.packet.specs.Spelling.{Spells, IsPacket}
 use Rattle.cutter.specs.Stream.{Stream, Takes}
@@ -37,6 +37,11 @@ PipeCarries = (written handled : List Packet) (s : Stream) (piece under_way : Li
 abbrev pub PipeGives : Type 0
 PipeGives = (written handled : List Packet) (s t : Stream) (under_way : List ℕ) (p : Packet) → IsPiped written handled s under_way
     → Takes s (Ok (Some p)) t → IsPiped written (handled ++ p ∷ []) t under_way
+
+-- it stands at its place in what was written
+abbrev pub PipeGivesNext : Type 0
+PipeGivesNext = (written handled : List Packet) (s t : Stream) (under_way : List ℕ) (p : Packet) → IsPiped written handled s under_way
+    → Takes s (Ok (Some p)) t → slice_get written (length handled) ≡ Some p
 
 -- and it never answers a fault
 abbrev pub PipeHasNoFault : Type 0

@@ -8,12 +8,10 @@ use Rattle.broker_base.specs.Times.{entries_of}
 use Rattle.handshake.specs.Sides.{IsGood}
 use Rattle.story.specs.Story.{Story, Told, no_story}
 use Rattle.story.specs.Story.Told.{begins, goes_on}
-use Rattle.story.specs.Carried.{new_numbers, published}
-use Rattle.lists.specs.Lists.{IsPrefixOf}
 use Rattle.story.specs.Headline.{AcceptedInOrder}
 use Rattle.story.specs.Inside.Projections.{as_publisher, as_subscriber}
 use Rattle.story.specs.Inside.Shape.{HasShape, IsSoundStory, EventKeepsShape, EventPublishes, EventSubscribes}
-use Rattle.story.proofs.Ends.{good_goes, accepted_in_order, numbers_in_order}
+use Rattle.story.proofs.Ends.{good_goes, accepted_in_order}
 
 opening_shape : (limits : Limits) (c : Client) → HasShape limits (no_story c)
 unfolding current_connection session_of
@@ -62,12 +60,7 @@ stories_are_sound keeps publishes subscribes limits steady c s (goes_on {s = r} 
       subscriber = good_goes (as_subscriber limits r) (as_subscriber limits s) sound.subscriber (subscribes limits r s steady sound happens);
     }
 
--- so a client accepts a beginning of its entries, and its publications are new in order
+-- so a client accepts a beginning of its entries
 pub stories_accept : EventKeepsShape → EventPublishes → EventSubscribes → (limits : Limits) → IsSteady limits → (c : Client) (s : Story) → Told limits c s → AcceptedInOrder limits s
 stories_accept keeps publishes subscribes limits steady c s told =
     accepted_in_order limits s (stories_are_sound keeps publishes subscribes limits steady c s told).subscriber
-
-pub stories_publish : EventKeepsShape → EventPublishes → EventSubscribes → (limits : Limits) → IsSteady limits → (c : Client) (s : Story) → Told limits c s
-    → IsPrefixOf (new_numbers s.connections s.past) (published s.keeper.own)
-stories_publish keeps publishes subscribes limits steady c s told =
-    numbers_in_order limits s (stories_are_sound keeps publishes subscribes limits steady c s told).publisher

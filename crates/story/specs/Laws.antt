@@ -9,20 +9,18 @@ use Rattle.broker_base.specs.Commands.{usual_limits}
 use Rattle.broker_base.specs.Connection.{ConnectionName}
 use Rattle.broker_base.specs.Marks.{is_queued_at}
 use Rattle.broker_base.specs.OriginLaws.{is_from_publish}
+use Rattle.broker_base.specs.EndingLaws.{StandsAt}
 use Rattle.broker_base.specs.Place.{Client, Limits, Mark, Past, Place}
 use Rattle.broker_base.specs.Subscriptions.{effective_qos}
 use Rattle.broker_base.specs.Times.{entries_of}
 use Rattle.broker_base.specs.QuietLaws.{IsSteady}
-use Rattle.lists.specs.Lists.{IsPrefixOf}
-use Rattle.story.specs.Carried.{new_numbers, published}
-use Rattle.story.specs.Headline.{AcceptedInOrder, StandsAt}
+use Rattle.story.specs.Headline.{AcceptedInOrder, PublishedOnce, StoriesAreExact}
 use Rattle.story.specs.Story.{Story, Told}
 
--- the client's QoS 2 publications become new in the list in the order of its calls, each at most once
+-- the client's publications: those at QoS 2 become new in the list in the order of its calls, each at most once; those that
+-- were answered are there; each enters each session at most once
 abbrev pub PublishesOnce : Limits → Type 0
-PublishesOnce limits =
-    (c : Client) (s : Story) → Told limits c s →
-    IsPrefixOf (new_numbers s.connections s.past) (published s.keeper.own)
+PublishesOnce limits = (c : Client) (s : Story) → Told limits c s → PublishedOnce limits s
 
 -- the client accepts a beginning of the QoS 2 entries of its session, in order, each once, and every one that was
 -- released
@@ -52,3 +50,10 @@ SteadyStoriesPublishOnce = (limits : Limits) → IsSteady limits → PublishesOn
 
 abbrev pub SteadyStoriesAcceptInOrder : Type 0
 SteadyStoriesAcceptInOrder = (limits : Limits) → IsSteady limits → AcceptsInOrder limits
+
+-- both sides
+abbrev pub UsualStoriesAreExact : Type 0
+UsualStoriesAreExact = StoriesAreExact usual_limits
+
+abbrev pub SteadyStoriesAreExact : Type 0
+SteadyStoriesAreExact = (limits : Limits) → IsSteady limits → StoriesAreExact limits

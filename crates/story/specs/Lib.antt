@@ -5,3 +5,4 @@ pub mod Carried
 pub mod Headline
 pub mod Laws
 pub mod Inside
+pub mod Rows

@@ -1,9 +1,10 @@
 // Laws of every story of a client. The calls do nothing; their contracts are the laws.
 
-ghost use Rattle.story.specs.Laws.{SteadyStoriesAcceptInOrder, SteadyStoriesPublishOnce, StoriesAcceptInOrder, StoriesEnter, StoriesPublishOnce};
+ghost use Rattle.story.specs.Laws.{SteadyStoriesAcceptInOrder, SteadyStoriesAreExact, SteadyStoriesPublishOnce, StoriesAcceptInOrder, StoriesEnter, StoriesPublishOnce, UsualStoriesAreExact};
 
 /// Whatever happens to its connections and to the nodes, a client's QoS 2 publications become new in the list of
-/// commands in the order of its calls, each at most once (MQTT 4.3.3).
+/// commands in the order of its calls, each at most once, and each that was answered with PUBREC is there; over all its
+/// repeats each enters each session at most once. One at QoS 1 that was answered with PUBACK is taken (MQTT 4.3.2, 4.3.3).
 pub fn stories_publish_once()
     ensures usual { StoriesPublishOnce }
     ensures steady { SteadyStoriesPublishOnce }
@@ -20,4 +21,10 @@ pub fn stories_accept_in_order()
 /// effective QoS of 1 or 2, once each (MQTT 3.3.5).
 pub fn stories_enter()
     ensures { StoriesEnter }
+{}
+
+/// Every story keeps both promises: to the client that publishes, and to the client that subscribes (MQTT 4.3.3).
+pub fn stories_are_exact()
+    ensures usual { UsualStoriesAreExact }
+    ensures steady { SteadyStoriesAreExact }
 {}

@@ -20,7 +20,7 @@ use Rattle.lists.proofs.OfEach.{each_append}
 use Rattle.story.specs.Sends.{sends_to}
 use Rattle.story.specs.Story.{is_packet_of, count_of}
 use Rattle.story.specs.Inside.Shape.{is_connack, no_connacks}
-use Rattle.story.proofs.places.Names.{same_name, same_itself}
+use Rattle.broker_base.proofs.ConnectionNames.{same_name, same_itself}
 use Rattle.story.proofs.places.Counts.{current_counted}
 use Rattle.story.proofs.connections.Answers.{is_connect_of, GoesRight, MayBeSent, each_flat, resent_right, deliveries_right, acknowledged_right, handled_right}
 

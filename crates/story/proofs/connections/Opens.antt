@@ -22,7 +22,7 @@ use Rattle.story.specs.Sides.{Connection}
 use Rattle.story.specs.Story.{command_of}
 use Rattle.story.specs.Inside.Projections.{backward_of_own}
 use Rattle.story.specs.Inside.Shape.{is_connack, no_connacks, ConnackFirst, ConnectionInShape}
-use Rattle.story.proofs.places.Names.{same_itself}
+use Rattle.broker_base.proofs.ConnectionNames.{same_itself}
 use Rattle.story.proofs.places.Counts.{current_counted}
 use Rattle.story.proofs.publishing.AtPlaces.{put_more}
 use Rattle.story.proofs.publishing.Elsewhere.{connect_none}

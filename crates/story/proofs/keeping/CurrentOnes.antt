@@ -17,7 +17,7 @@ use Rattle.story.specs.Sides.{Connection}
 use Rattle.story.specs.Story.{Story, any_named, names_client, command_of, counted_at}
 use Rattle.client_base.specs.Written.{writes_first}
 use Rattle.story.specs.Inside.Shape.{ConnackFirst, ConnectionInShape, LastIsCurrent, NewestIsServed, NamesApart, HasShape}
-use Rattle.story.proofs.places.Names.{same_name}
+use Rattle.broker_base.proofs.ConnectionNames.{same_name}
 use Rattle.story.proofs.places.After.{current_opens}
 use Rattle.story.proofs.publishing.Last.{each_there, is_named}
 use Rattle.story.proofs.publishing.kept.KeepsNames.{counted_named}

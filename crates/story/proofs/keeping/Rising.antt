@@ -13,7 +13,7 @@ use Rattle.client_base.specs.Written.{writes_first}
 use Rattle.story.specs.Inside.Projections.{last_confirmed}
 use Rattle.story.specs.Inside.Shape.{NamesApart}
 use Rattle.story.proofs.Takes.{same_name_self}
-use Rattle.story.proofs.places.Names.{same_name}
+use Rattle.broker_base.proofs.ConnectionNames.{same_name}
 use Rattle.story.proofs.subscribing.Newest.{Unconfirmed}
 use Rattle.story.proofs.subscribing.Counted.{named_at}
 

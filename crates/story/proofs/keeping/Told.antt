@@ -1,17 +1,15 @@
--- Every event keeps the shape, so every story is sound: the publications of its client are new in order, and it
+-- Every event keeps the shape, so every story is sound, and its client
 -- accepts a beginning of its session's entries.
 use Rattle.broker_base.specs.Place.{Client, Limits}
 use Rattle.broker_base.specs.QuietLaws.{IsSteady}
 use Rattle.story.specs.Story.{Story, Told}
-use Rattle.story.specs.Carried.{new_numbers, published}
-use Rattle.lists.specs.Lists.{IsPrefixOf}
 use Rattle.story.specs.Headline.{AcceptedInOrder}
 use Rattle.story.specs.Inside.Shape.{EventKeepsShape, IsSoundStory}
 use Rattle.story.proofs.connections.KeepsConnections.{events_keep_connections}
 use Rattle.story.proofs.keeping.KeepsShape.{events_keep_rest}
 use Rattle.story.proofs.publishing.events.Publishing.{events_publish}
 use Rattle.story.proofs.subscribing.events.Every.{event_subscribes}
-use Rattle.story.proofs.Whole.{stories_are_sound, stories_accept, stories_publish}
+use Rattle.story.proofs.Whole.{stories_are_sound, stories_accept}
 
 -- the shape is kept by each event
 pub events_keep_shape : EventKeepsShape
@@ -25,8 +23,3 @@ told_stories_are_sound = stories_are_sound events_keep_shape events_publish even
 -- the client accepts a beginning of its entries, and each released one is among it
 pub told_stories_accept : (limits : Limits) → IsSteady limits → (c : Client) (s : Story) → Told limits c s → AcceptedInOrder limits s
 told_stories_accept = stories_accept events_keep_shape events_publish event_subscribes
-
--- its publications are new in the list in the order of its calls, each at most once
-pub told_stories_publish : (limits : Limits) → IsSteady limits → (c : Client) (s : Story) → Told limits c s
-    → IsPrefixOf (new_numbers s.connections s.past) (published s.keeper.own)
-told_stories_publish = stories_publish events_keep_shape events_publish event_subscribes

@@ -7,7 +7,7 @@ use Rattle.broker_base.specs.Past.{accepts, ends_any, newest_connection, current
 use Rattle.broker_base.specs.Command.{Command}
 use Rattle.broker_base.specs.Command.TheVariants as commands
 use Rattle.story.specs.Story.{is_packet_of, count_of}
-use Rattle.story.proofs.places.Names.{same_itself}
+use Rattle.broker_base.proofs.ConnectionNames.{same_itself}
 
 -- a packet of x counts
 pub counted_here : (x : ConnectionName) (place : Place) (past : Past) → is_packet_of place.command x ≡ true → count_of x past < count_of x (place ∷ past)

@@ -15,7 +15,7 @@ use Rattle.broker_base.proofs.ClientsInOrder.{same_self}
 use Rattle.story.specs.Sides.{Connection}
 use Rattle.story.specs.Story.{any_named}
 use Rattle.story.proofs.Packets.{at_packet}
-use Rattle.story.proofs.places.Names.{same_itself}
+use Rattle.broker_base.proofs.ConnectionNames.{same_itself}
 use Rattle.story.proofs.places.After.{IsKeptSession, current_stays, current_ends, current_opens, session_stays, session_opens, received_live, received_stays, received_opens}
 use Rattle.story.proofs.places.Owned.{NobodyElse, none_owns, own_owner}
 

@@ -9,7 +9,7 @@ use Rattle.broker_base.specs.Owner.{owner_of}
 use Rattle.broker_base.proofs.ClientsInOrder.{same_is}
 use Rattle.story.specs.Sides.{Connection}
 use Rattle.story.specs.Story.{any_named}
-use Rattle.story.proofs.places.Names.{same_name, same_itself}
+use Rattle.broker_base.proofs.ConnectionNames.{same_name, same_itself}
 use Rattle.story.proofs.places.Owners.{owner_has, owner_there}
 
 -- nobody else is on one of these connections

@@ -18,7 +18,7 @@ use Rattle.story.specs.Story.{counted_at}
 use Rattle.story.specs.Inside.Projections.{is_current, last_confirmed, as_publisher, GoesTo}
 use Rattle.story.specs.Inside.Shape.{HasShape}
 use Rattle.story.proofs.Packets.{at_packet}
-use Rattle.story.proofs.places.Names.{same_name}
+use Rattle.broker_base.proofs.ConnectionNames.{same_name}
 use Rattle.story.proofs.places.After.{current_stays, received_stays}
 use Rattle.story.proofs.places.Owned.{none_owns}
 use Rattle.story.proofs.publishing.Links.{current_last, forward_last, backward_last}

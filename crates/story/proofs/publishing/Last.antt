@@ -10,7 +10,7 @@ use Rattle.story.specs.Sides.{Connection}
 use Rattle.story.specs.Story.{any_named, counted_at}
 use Rattle.story.specs.Inside.Projections.{last_confirmed}
 use Rattle.story.specs.Inside.Shape.{NamesApart}
-use Rattle.story.proofs.places.Names.{same_itself}
+use Rattle.broker_base.proofs.ConnectionNames.{same_itself}
 
 -- what holds of each holds of the last confirmed one
 pub each_last : (P : Connection → Type 0) (connections : List Connection) (κ : Connection) → Each P connections → last_confirmed connections ≡ Some κ → P κ

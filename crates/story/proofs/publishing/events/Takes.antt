@@ -17,7 +17,7 @@ use Rattle.story.specs.Story.{counted_at, command_of}
 use Rattle.story.specs.Inside.Projections.{as_publisher, GoesTo}
 use Rattle.story.specs.Inside.Shape.{HasShape}
 use Rattle.story.proofs.Packets.{at_packet}
-use Rattle.story.proofs.places.Names.{same_name, same_itself}
+use Rattle.broker_base.proofs.ConnectionNames.{same_name, same_itself}
 use Rattle.story.proofs.places.Owned.{own_owner}
 use Rattle.story.proofs.publishing.First.{story_by}
 use Rattle.story.proofs.publishing.Last.{is_named}
@@ -27,7 +27,7 @@ use Rattle.story.proofs.publishing.events.TakesOwn.{behind_place}
 use Rattle.story.proofs.publishing.events.TakesPacket.{takes_own, on_current}
 
 -- the current connection, or another
-current_or_not : (o : Option ConnectionName) (x : ConnectionName) → (o ≡ Some x) ⊎ (o ≡ Some x → ⊥)
+pub current_or_not : (o : Option ConnectionName) (x : ConnectionName) → (o ≡ Some x) ⊎ (o ≡ Some x → ⊥)
 current_or_not None x = inr (λ e. cc)
 current_or_not (Some y) x = by (cases_Bool (same_connection y x))
   where

@@ -18,7 +18,7 @@ use Rattle.story.specs.Story.{counted_at, command_of}
 use Rattle.client_base.specs.Called.{opens}
 use Rattle.story.specs.Inside.Projections.{last_confirmed, as_publisher, GoesTo}
 use Rattle.story.specs.Inside.Shape.{ConnackFirst, ConnectionInShape, HasShape}
-use Rattle.story.proofs.places.Names.{same_name}
+use Rattle.broker_base.proofs.ConnectionNames.{same_name}
 use Rattle.story.proofs.places.Counts.{current_counted}
 use Rattle.story.proofs.places.After.{current_stays, current_opens, received_stays, received_opens}
 use Rattle.story.proofs.places.Owned.{none_owns}

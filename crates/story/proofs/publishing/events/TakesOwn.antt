@@ -18,7 +18,7 @@ use Rattle.story.specs.Story.{counted_at}
 use Rattle.story.specs.Inside.Projections.{forward_of_own, forward_of_one, backward_of_own, to_come, to_be_taken, is_current, last_confirmed, link_of_own, as_publisher, GoesTo}
 use Rattle.story.specs.Inside.Shape.{ConnectionInShape, HasShape}
 use Rattle.story.proofs.Packets.{at_packet, current_packet}
-use Rattle.story.proofs.places.Names.{same_itself}
+use Rattle.broker_base.proofs.ConnectionNames.{same_itself}
 use Rattle.story.proofs.places.After.{current_ends, received_live}
 use Rattle.story.proofs.publishing.Links.{link_by, current_last, forward_last, link_is}
 use Rattle.story.proofs.publishing.Written.{dropped_next}

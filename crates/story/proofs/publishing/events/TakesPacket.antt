@@ -20,7 +20,7 @@ use Rattle.client_base.specs.Called.{opens}
 use Rattle.story.specs.Inside.Projections.{forward_of_one, last_confirmed, as_publisher, GoesTo}
 use Rattle.story.specs.Inside.Shape.{ConnectionInShape, HasShape, LastIsCurrent, is_two_unnumbered}
 use Rattle.story.proofs.Packets.{at_packet}
-use Rattle.story.proofs.places.Names.{same_itself}
+use Rattle.broker_base.proofs.ConnectionNames.{same_itself}
 use Rattle.story.proofs.places.Sessions.{current_has_session}
 use Rattle.story.proofs.places.After.{IsKeptSession}
 use Rattle.story.proofs.publishing.First.{story_by}

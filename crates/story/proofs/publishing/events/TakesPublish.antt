@@ -23,7 +23,7 @@ use Rattle.story.specs.Sides.{Connection}
 use Rattle.story.specs.Story.{counted_at}
 use Rattle.story.specs.Inside.Projections.{forward_of_one, backward_of_own, as_publisher, GoesTo}
 use Rattle.story.proofs.Packets.{at_packet, copies_none}
-use Rattle.story.proofs.places.Names.{same_itself}
+use Rattle.broker_base.proofs.ConnectionNames.{same_itself}
 use Rattle.story.proofs.publishing.kept.Numbers.{same_counted}
 use Rattle.story.proofs.publishing.First.{story_by}
 use Rattle.story.proofs.publishing.Elsewhere.{NoneSent, none_both}

@@ -25,7 +25,7 @@ use Rattle.story.specs.Inside.Projections.{backward_of_own, as_publisher, GoesTo
 use Rattle.story.specs.Inside.Shape.{NamesApart}
 use Rattle.story.proofs.Packets.{at_packet, copies_none}
 use Rattle.session_base.proofs.KeptIdentifiers.{has_with}
-use Rattle.story.proofs.places.Names.{same_itself}
+use Rattle.broker_base.proofs.ConnectionNames.{same_itself}
 use Rattle.story.proofs.places.Counts.{counted_here}
 use Rattle.story.proofs.publishing.Last.{each_there, none_named}
 use Rattle.story.proofs.Deliveries.{sends_append}
@@ -48,7 +48,7 @@ connection_at (suc i) (μ ∷ connections) κ apart e =
     ap (λ b. if b then Some μ else connection_named κ.name connections) other ∙ connection_at i connections κ apart.1 e
 
 -- the place carries the publication of the packet that is taken
-carries_it : (past : Past) (i : ℕ) (connections : List Connection) (κ : Connection) (w : Written) (mark : Mark) → NamesApart connections → slice_get connections i ≡ Some κ
+pub carries_it : (past : Past) (i : ℕ) (connections : List Connection) (κ : Connection) (w : Written) (mark : Mark) → NamesApart connections → slice_get connections i ≡ Some κ
     → slice_get κ.written κ.taken ≡ Some w → count_of κ.name past ≡ κ.taken → number_at (count_of κ.name past) (connection_named κ.name (counted_at i connections)) ≡ w.number
 carries_it past i connections κ w mark apart stands next counted =
     same_counted (at_packet κ.name packets.Pingreq mark ∷ past) i connections κ.name (count_of κ.name past) (counted_here κ.name (at_packet κ.name packets.Pingreq mark) past (same_itself κ.name))

@@ -18,7 +18,7 @@ use Rattle.client_base.specs.Written.{writes_first}
 use Rattle.client_base.specs.Called.{written_for}
 use Rattle.story.specs.Story.Happens.{takes, others_take, receives, opens_anew, loses, disconnects, publishes_one, subscribes, unsubscribes}
 use Rattle.story.specs.Inside.Shape.{NamesApart}
-use Rattle.story.proofs.places.Names.{same_itself}
+use Rattle.broker_base.proofs.ConnectionNames.{same_itself}
 use Rattle.story.proofs.publishing.Grown.{Grown, handled_grows}
 use Rattle.story.proofs.publishing.Last.{each_there, none_named}
 
@@ -65,7 +65,7 @@ takes_counts place past (suc i) (μ ∷ connections) κ w is apart stands next r
     let other = each_there (λ (ν : Connection). same_connection μ.name ν.name ≡ false) i connections κ stands (none_named (same_connection μ.name) connections apart.0) in
     (counts_stay place past μ (is μ.name ∙ same_turned κ.name μ.name ∙ other) rows.0, takes_counts place past i connections κ w is apart.1 stands next rows.1)
 
-packet_of : (x y : ConnectionName) (n : ℕ) (packet : Packet) → is_packet_of (command_of x n packet) y ≡ same_connection x y
+pub packet_of : (x y : ConnectionName) (n : ℕ) (packet : Packet) → is_packet_of (command_of x n packet) y ≡ same_connection x y
 packet_of x y zero (packets.Connect q) = refl
 packet_of x y zero _ = refl
 packet_of x y (suc n) (packets.Connect q) = refl

@@ -20,7 +20,7 @@ use Rattle.client_base.specs.Called.{opens, written_for, new_connection}
 use Rattle.client_base.specs.Written.{writes_first}
 use Rattle.story.specs.Story.Happens.{takes, others_take, receives, opens_anew, loses, disconnects, publishes_one, subscribes, unsubscribes}
 use Rattle.story.specs.Inside.Shape.{ConnectionInShape, IsSoundStory}
-use Rattle.story.proofs.places.Names.{same_name}
+use Rattle.broker_base.proofs.ConnectionNames.{same_name}
 use Rattle.story.proofs.places.Counts.{only_there, current_counted}
 use Rattle.story.proofs.places.Owned.{NobodyElse}
 use Rattle.story.proofs.publishing.Grown.{handled_grows}

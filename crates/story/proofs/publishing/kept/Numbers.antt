@@ -12,7 +12,7 @@ use Rattle.client_base.specs.Keeper.{Written}
 use Rattle.story.specs.Sides.{Connection}
 use Rattle.story.specs.Story.{is_packet_of, count_of, counted_at}
 use Rattle.story.specs.Carried.{carries, connection_named, number_at, number_of, more_by, new_numbers}
-use Rattle.story.proofs.places.Names.{same_name, same_itself}
+use Rattle.broker_base.proofs.ConnectionNames.{same_name, same_itself}
 use Rattle.story.proofs.places.Counts.{counted_here, counted_still}
 
 -- both lists of connections give the same number to each packet of x that is taken

@@ -1,0 +1,16 @@
+pub mod Lists
+pub mod Answers
+pub mod Ends
+pub mod EndsAgreed
+pub mod Parted
+pub mod Holds
+pub mod Calls
+pub mod Handling
+pub mod OneConnect
+pub mod Agrees
+pub mod WorldsExact
+pub mod NextPackets
+pub mod TakenOn
+pub mod Serving
+pub mod AgreedInOrder
+pub mod TakeoverRun

@@ -1,0 +1,46 @@
+-- What holds of every world of clients and nodes.
+use Rattle.std.specs.Prelude.{◌≤◌, ℕ, suc, List, [], ◌∷◌, length, filter}
+use Rattle.broker_base.specs.Connection.{ConnectionName}
+use Rattle.broker_base.specs.Place.{Client}
+use Rattle.broker_base.specs.Commands.{past_of, usual_limits}
+use Rattle.broker_base.specs.EndingLaws.{connects_of, EndsWithTheSession}
+use Rattle.broker_base.specs.Command.{Command}
+use Rattle.lists.specs.Lists.{Each, IsPrefixOf}
+use Rattle.client_base.specs.Keeper.{Written}
+use Rattle.story.specs.Sends.{put_to}
+use Rattle.story.specs.Sides.{Connection}
+use Rattle.story.specs.Story.{command_of, is_packet_of}
+use Rattle.story.specs.Headline.{ExactlyOnce}
+use Rattle.model.specs.World.{End, ClientEnds, World, story_of, AreApart}
+use Rattle.model.specs.Goes.{Reached}
+
+-- the commands that a connection's written packets become
+abbrev pub commands_from : ConnectionName → ℕ → List Written → List Command
+commands_from x n (w ∷ more) = command_of x n w.packet ∷ commands_from x (suc n) more
+commands_from x n [] = []
+
+-- A connection's commands in the agreed list are a beginning of what its client wrote, in order; what its node put out
+-- is a beginning of the answers to it; and its client handled a beginning of that.
+pub record PipeInOrder (agreed : List Command) (κ : Connection) (e : End) : Type 0 where
+  pub up : IsPrefixOf (filter (λ command. is_packet_of command κ.name) agreed) (commands_from κ.name 0 κ.written)
+  pub down : IsPrefixOf e.put (put_to usual_limits (past_of usual_limits agreed) κ.name)
+  pub handled : κ.handled ≤ length e.put
+
+-- each connection
+abbrev pub PipesInOrder : List Command → List Connection → List End → Type 0
+PipesInOrder agreed (κ ∷ connections) (e ∷ ends) = PipeInOrder agreed κ e × PipesInOrder agreed connections ends
+PipesInOrder agreed [] [] = Unit {0}
+PipesInOrder agreed _ _ = ⊥
+
+pub record WorldIsExact (w : World) : Type 0 where
+  -- connections carry packets in order, both ways
+  pub pipes : Each (λ (c : ClientEnds). PipesInOrder w.agreed c.connections c.ends) w.clients
+  -- each client's publications are published once, and each client accepts in order
+  pub clients : Each (λ (c : ClientEnds). ExactlyOnce usual_limits (story_of w.agreed c)) w.clients
+  -- an ended session gets nothing more, since each connection has a name of its own
+  pub names : (x : ConnectionName) → connects_of x (past_of usual_limits w.agreed) ≤ 1
+  pub sessions : EndsWithTheSession usual_limits (past_of usual_limits w.agreed)
+
+-- so every world is that clients with identifiers of their own reach
+abbrev pub WorldsAreExact : Type 0
+WorldsAreExact = (cs : List Client) (w : World) → AreApart cs → Reached cs w → WorldIsExact w

@@ -1,0 +1,6 @@
+pub mod World
+pub mod Goes
+pub mod Exact
+pub mod Served
+pub mod Agreed
+pub mod Rows

@@ -1,0 +1,17 @@
+-- A short run of a world, computed to its end: another node takes over while a publication is under way.
+use Rattle.std.specs.Prelude.{◌≡◌, List, [], ◌∷◌, map, reverse}
+use Rattle.session_base.specs.declared.publication.Publication.{Publication}
+use Rattle.story.specs.Headline.{accepted_on}
+use Rattle.story.specs.Rows.{writer, news, commands_there}
+use Rattle.model.specs.World.{ClientEnds, World}
+use Rattle.model.specs.Goes.{Reached}
+
+abbrev pub accepted_by : ClientEnds → List Publication
+accepted_by c = accepted_on c.connections
+
+-- the list of that story, oldest first, with the same end: what was published once is accepted once
+pub record AcceptsOnce : Type 0 where
+  pub end : World
+  pub reached : Reached (writer ∷ []) end
+  pub agreed : reverse end.agreed ≡ commands_there
+  pub accepted : map accepted_by end.clients ≡ (news ∷ []) ∷ []

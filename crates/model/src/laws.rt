@@ -1,0 +1,27 @@
+// Laws of every world of clients and nodes. The calls do nothing; their contracts are the laws.
+
+ghost use Rattle.machine.specs.Machine.{rules_by};
+ghost use Rattle.model.specs.Agreed.{AgreedKeepsTheOrder};
+ghost use Rattle.model.specs.Exact.{WorldsAreExact};
+ghost use Rattle.model.specs.Served.{WorldsAreServed};
+
+use machine::Machine;
+
+/// Whatever clients, nodes and the network between them do, connections carry packets in order, each client's
+/// publications are published once and what it accepts is in order, and an ended session gets nothing more, as long as
+/// the nodes agree on one list of commands that only grows, in which each connection's commands stand in their order.
+pub fn worlds_are_exact()
+    ensures { WorldsAreExact }
+{}
+
+/// Where the list on which the nodes agree grows, and keeps of each connection the order in which its packets were
+/// proposed, a world comes to the longer list: so its steps ask no more of the nodes than their agreement.
+pub fn worlds_are_served()
+    ensures { WorldsAreServed }
+{}
+
+/// Of the commands that were proposed in one ballot only, as those of one connection are, the list on which nodes agree has a
+/// beginning in the order of proposing, of those that a primary took.
+pub fn agreed_keeps_the_order<M: Machine>()
+    ensures { AgreedKeepsTheOrder (rules_by M.opening M.start_of M.after M.gives) }
+{}

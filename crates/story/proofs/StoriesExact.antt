@@ -1,0 +1,31 @@
+-- Every story keeps its promises: what is shown of its two handshakes and of the places of its list, in one.
+use Rattle.broker_base.specs.Place.{Client, Limits}
+use Rattle.broker_base.specs.QuietLaws.{IsSteady}
+use Rattle.story.specs.Story.{Story, Told}
+use Rattle.story.specs.Headline.{PublishedOnce, ExactlyOnce}
+use Rattle.story.proofs.Entering.{entering, entering_as}
+use Rattle.story.proofs.Ends.{numbers_in_order}
+use Rattle.story.proofs.keeping.Told.{told_stories_are_sound, told_stories_accept}
+use Rattle.story.proofs.carrying.KeepsPlaces.{told_carried}
+use Rattle.story.proofs.carrying.Answered.{answered_is_new, acknowledged_is_taken, new_taken, carried_is_own}
+use Rattle.story.proofs.carrying.EntersOnce.{publication_enters_once}
+
+pub told_stories_publish_once : (limits : Limits) → IsSteady limits → (c : Client) (s : Story) → Told limits c s → PublishedOnce limits s
+told_stories_publish_once limits steady c s told =
+    let sound = told_stories_are_sound limits steady c s told in
+    let carried = told_carried limits steady c s told in
+    let in_order = numbers_in_order limits s sound.publisher in
+    record {
+      carried = carried_is_own limits s carried;
+      in_order = in_order;
+      taken = new_taken limits s carried;
+      answered = answered_is_new limits s carried;
+      enters_once = publication_enters_once limits s sound carried in_order;
+      enters = entering limits s;
+      enters_as = λ place below x p d stands. entering_as limits s.keeper.client place below x p d;
+      acknowledged = acknowledged_is_taken limits s carried;
+    }
+
+pub told_stories_are_exact : (limits : Limits) → IsSteady limits → (c : Client) (s : Story) → Told limits c s → ExactlyOnce limits s
+told_stories_are_exact limits steady c s told =
+    record { publishers = told_stories_publish_once limits steady c s told; subscribers = told_stories_accept limits steady c s told }

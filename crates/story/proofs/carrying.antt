@@ -1,0 +1,11 @@
+pub mod Publications
+pub mod Handles
+pub mod KeepsWritten
+pub mod KeepsNumbers
+pub mod PlacesSay
+pub mod SaysTaken
+pub mod KeepsPlaces
+pub mod Acknowledging
+pub mod Answered
+pub mod Distinct
+pub mod EntersOnce

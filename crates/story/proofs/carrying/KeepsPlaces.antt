@@ -1,0 +1,97 @@
+-- In every story each place says what it carries, and each PUBLISH that is written is of the client's.
+use Rattle.std.proofs.Common.{◌≡◌, false, if◌then◌else◌, List, [], ◌∷◌, Some, None, refl, sym, ◌∙◌, ap, subst}
+use Rattle.packet.specs.declared.packet.Packet.TheVariants as packets
+use Rattle.broker_base.specs.Connection.{ConnectionName, same_connection}
+use Rattle.broker_base.specs.Place.{Client, Past, Limits}
+use Rattle.broker_base.specs.Commands.{place_of}
+use Rattle.broker_base.specs.QuietLaws.{IsSteady}
+use Rattle.broker_base.specs.Command.{Command}
+use Rattle.broker_base.specs.Command.TheVariants as commands
+use Rattle.broker_base.proofs.MarksOfPlaces.{AreMarked}
+use Rattle.lists.specs.Lists.{Each}
+use Rattle.lists.proofs.Tests.{or_none}
+use Rattle.story.specs.Sides.{Connection}
+use Rattle.story.specs.Story.{Story, Told, Happens, any_named, is_packet_of}
+use Rattle.story.specs.Story.Told.{begins, goes_on}
+use Rattle.story.specs.Story.Happens.{takes, others_take, receives, opens_anew, loses, disconnects, publishes_one, subscribes, unsubscribes}
+use Rattle.story.specs.Carried.{carries, connection_named, number_at, publications_of}
+use Rattle.story.specs.Inside.Shape.{IsSoundStory}
+use Rattle.story.proofs.keeping.KeepsShape.{same_story}
+use Rattle.story.proofs.keeping.Told.{told_stories_are_sound}
+use Rattle.story.proofs.publishing.Last.{each_there}
+use Rattle.story.proofs.publishing.events.Receives.{each_at}
+use Rattle.story.proofs.carrying.Publications.{IsOfOwn, AreOfOwn}
+use Rattle.story.proofs.carrying.KeepsWritten.{events_say, events_keep_of}
+use Rattle.story.proofs.carrying.KeepsNumbers.{events_keep_numbers}
+use Rattle.story.proofs.carrying.PlacesSay.{PlacesSay, says_nothing, places_later}
+use Rattle.story.proofs.carrying.SaysTaken.{taken_says}
+
+-- what this page keeps
+pub record IsCarried (limits : Limits) (s : Story) : Type 0 where
+  pub written : AreOfOwn (publications_of s.keeper.own) s.connections
+  pub places : PlacesSay s.keeper.client (publications_of s.keeper.own) s.connections s.past
+  pub marked : AreMarked limits s.past
+
+-- ---- a command of none of them
+
+none_there : (x : ConnectionName) (connections : List Connection) → any_named (same_connection x) connections ≡ false → connection_named x connections ≡ None
+none_there x [] e = refl
+none_there x (κ ∷ connections) e =
+    let h = or_none (same_connection x κ.name) (any_named (same_connection x) connections) e in
+    ap (λ b. if b then Some κ else connection_named x connections) h.0 ∙ none_there x connections h.1
+
+none_carried : (connections : List Connection) (command : Command) (past : Past) → any_named (is_packet_of command) connections ≡ false → carries connections command past ≡ None
+none_carried connections (commands.Packet x (packets.Publish p)) past e = ap (number_at _) (none_there x connections e)
+none_carried connections (commands.Packet x _) past e = refl
+none_carried connections (commands.Connect x d clean) past e = refl
+none_carried connections (commands.Lost x) past e = refl
+none_carried connections (commands.Start ballot) past e = refl
+
+-- ---- the events
+
+-- where no place is added
+stays_carried : (limits : Limits) (s t : Story) → IsSoundStory limits s → Happens limits s t → t.past ≡ s.past → IsCarried limits s → IsCarried limits t
+stays_carried limits s t sound h same c =
+    record {
+      written = events_keep_of limits s t sound h c.written;
+      places = subst (λ (z : Past). PlacesSay t.keeper.client (publications_of t.keeper.own) t.connections z) (sym same)
+          (subst (λ (d : Client). PlacesSay d (publications_of t.keeper.own) t.connections s.past) (sym (same_story limits s t h))
+          (places_later s.keeper.client (publications_of s.keeper.own) (publications_of t.keeper.own) s.connections t.connections s.past (events_say limits s t sound h)
+          (events_keep_numbers limits s t sound.shape h) c.places));
+      marked = subst (AreMarked limits) (sym same) c.marked;
+    }
+
+events_keep_carried : (limits : Limits) (s t : Story) → IsSoundStory limits s → Happens limits s t → IsCarried limits s → IsCarried limits t
+events_keep_carried limits s t sound (takes i κ w stands next) c =
+    let ps = publications_of s.keeper.own in
+    let of = each_at (IsOfOwn ps) κ.taken κ.written w next (each_there (λ (μ : Connection). Each (IsOfOwn ps) μ.written) i s.connections κ stands c.written) in
+    record {
+      written = events_keep_of limits s t sound (takes i κ w stands next) c.written;
+      places = (
+        taken_says limits s.past s.keeper s.connections ps i κ w.packet w.number κ.taken sound.shape sound.publisher stands next refl of,
+        places_later s.keeper.client ps ps s.connections t.connections s.past (events_say limits s t sound (takes i κ w stands next)) (events_keep_numbers limits s t sound.shape (takes i κ w stands next)) c.places,
+      );
+      marked = (refl, c.marked);
+    }
+events_keep_carried limits s t sound (others_take command other none) c =
+    record {
+      written = c.written;
+      places = (
+        says_nothing s.keeper.client (publications_of s.keeper.own) s.connections (place_of limits s.past command) s.past (none_carried s.connections command s.past none),
+        c.places,
+      );
+      marked = (refl, c.marked);
+    }
+events_keep_carried limits s t sound (receives κ others packet are opened next) c = stays_carried limits s t sound (receives κ others packet are opened next) refl c
+events_keep_carried limits s t sound (opens_anew x fresh none uncounted) c = stays_carried limits s t sound (opens_anew x fresh none uncounted) refl c
+events_keep_carried limits s t sound loses c = stays_carried limits s t sound loses refl c
+events_keep_carried limits s t sound disconnects c = stays_carried limits s t sound disconnects refl c
+events_keep_carried limits s t sound (publishes_one p needs) c = stays_carried limits s t sound (publishes_one p needs) refl c
+events_keep_carried limits s t sound (subscribes p on id) c = stays_carried limits s t sound (subscribes p on id) refl c
+events_keep_carried limits s t sound (unsubscribes p on id) c = stays_carried limits s t sound (unsubscribes p on id) refl c
+
+-- every story
+pub told_carried : (limits : Limits) → IsSteady limits → (c : Client) (s : Story) → Told limits c s → IsCarried limits s
+told_carried limits steady c s begins = record { written = tt; places = tt; marked = tt }
+told_carried limits steady c s (goes_on {s = r} told happens) =
+    events_keep_carried limits r s (told_stories_are_sound limits steady c r told) happens (told_carried limits steady c r told)

@@ -1,0 +1,122 @@
+-- Each event keeps it so that every PUBLISH that is written is of a publication of the client, and none of these is lost.
+use Rattle.std.proofs.Common.{◌≡◌, ℕ, zero, suc, Bool, true, false, if◌then◌else◌, List, [], ◌∷◌, ◌++◌, length, Some, refl, ap, sym, ◌∙◌, subst}
+use Rattle.std.specs.Prelude.{slice_get}
+use Rattle.std.proofs.lemmas.List.{map-append, length-map}
+use Rattle.packet.specs.declared.connack.Connack.TheVariants as connacks
+use Rattle.packet.specs.declared.packet.Packet.{Packet}
+use Rattle.packet.specs.declared.packet.Packet.TheVariants as packets
+use Rattle.session_base.specs.declared.publication.Publication.{Publication}
+use Rattle.session_base.specs.Publication.{is_answered, publication_of, publish_of}
+use Rattle.session_base.specs.Identifiers.{least_free}
+use Rattle.broker_base.specs.Place.{Limits}
+use Rattle.lists.specs.Lists.{Each, IsPrefixOf}
+use Rattle.lists.proofs.Beginnings.{prefix_same}
+use Rattle.lists.proofs.OfEach.{each_append, each_then}
+use Rattle.lists.proofs.Places.{get_pushed}
+use Rattle.client_base.specs.Keeper.{Own, Written, Keeper, ids_in_use}
+use Rattle.client_base.specs.Written.{plain, publishes, writes_first}
+use Rattle.client_base.specs.Called.{adds_own, written_for}
+use Rattle.client_base.specs.Handled.{handled}
+use Rattle.story.specs.Sends.{put_to}
+use Rattle.story.specs.Sides.{Connection}
+use Rattle.story.specs.Carried.{publication_in, publications_of}
+use Rattle.story.specs.Story.{Story, Happens, counted_at}
+use Rattle.story.specs.Story.Happens.{takes, others_take, receives, opens_anew, loses, disconnects, publishes_one, subscribes, unsubscribes}
+use Rattle.story.specs.Inside.Shape.{HasShape, HeldInShape, IsSoundStory}
+use Rattle.story.proofs.publishing.events.Receives.{each_at}
+use Rattle.story.proofs.carrying.Publications.{IsOfOwn, AreOfOwn, of_more, carried_is}
+use Rattle.story.proofs.carrying.Handles.{Handles, handles}
+
+-- ---- what is published
+
+said_more : (keeper : Keeper) (p : Publication) → publications_of (adds_own p keeper).own ≡ publications_of keeper.own ++ p ∷ []
+said_more keeper p = map-append publication_in keeper.own (new (is_answered p.qos) keeper.is_online ∷ []) ∙ ap (λ q. publications_of keeper.own ++ q ∷ []) (same (is_answered p.qos) keeper.is_online)
+  where
+    new : Bool → Bool → Own
+    new a on =
+        if a then (if on then Own.Sent (length keeper.own) p (least_free (ids_in_use keeper)) else Own.Unsent (length keeper.own) p (least_free (ids_in_use keeper)))
+        else Own.Done (length keeper.own) p
+
+    same : (a on : Bool) → publication_in (new a on) ≡ p
+    same true true = refl
+    same true false = refl
+    same false on = refl
+
+-- what the client handles, where the connection is its newest one
+handled_by : (limits : Limits) (s : Story) (κ : Connection) (others : List Connection) (packet : Packet) → HasShape limits s → s.connections ≡ κ ∷ others → s.keeper.is_open ≡ true
+    → slice_get (put_to limits s.past κ.name) κ.handled ≡ Some packet → Handles s.keeper κ (handled packet (record { keeper = s.keeper; connection = κ }))
+handled_by limits s κ others packet shape are opened next =
+    let held = subst (HeldInShape limits s.past s.keeper) are shape.held in
+    handles s.keeper κ packet shape.own.numbered
+    (λ off served. each_at (λ (q : Packet). (q ≡ packets.Connack (connacks.Accepted false)) → ⊥) κ.handled (put_to limits s.past κ.name) packet next (held.2 opened off served))
+
+same_said : (ps qs : List Publication) → qs ≡ ps → IsPrefixOf ps qs
+same_said ps qs e = subst (λ (rs : List Publication). IsPrefixOf ps rs) (sym e) (prefix_same ps)
+
+-- no event loses what was published
+pub events_say : (limits : Limits) (s t : Story) → IsSoundStory limits s → Happens limits s t → IsPrefixOf (publications_of s.keeper.own) (publications_of t.keeper.own)
+events_say limits s t sound (takes i κ w stands next) = prefix_same (publications_of s.keeper.own)
+events_say limits s t sound (others_take command other none) = prefix_same (publications_of s.keeper.own)
+events_say limits s t sound (receives κ others packet are opened next) =
+    same_said (publications_of s.keeper.own) (publications_of t.keeper.own) (handled_by limits s κ others packet sound.shape are opened next).said
+events_say limits s t sound (opens_anew x fresh none uncounted) = prefix_same (publications_of s.keeper.own)
+events_say limits s t sound loses = prefix_same (publications_of s.keeper.own)
+events_say limits s t sound disconnects = prefix_same (publications_of s.keeper.own)
+events_say limits s t sound (publishes_one p needs) = record { rest = p ∷ []; is = said_more s.keeper p }
+events_say limits s t sound (subscribes p on id) = prefix_same (publications_of s.keeper.own)
+events_say limits s t sound (unsubscribes p on id) = prefix_same (publications_of s.keeper.own)
+
+-- ---- what is written
+
+-- more is published
+more_published : (ps qs : List Publication) (connections : List Connection) → IsPrefixOf ps qs → AreOfOwn ps connections → AreOfOwn qs connections
+more_published ps qs connections front all =
+    each_then (λ (κ : Connection). Each (IsOfOwn ps) κ.written) (λ (κ : Connection). Each (IsOfOwn qs) κ.written) connections
+    (λ κ each. each_then (IsOfOwn ps) (IsOfOwn qs) κ.written (λ w. of_more ps qs front w.packet w.number) each) all
+
+-- more is written
+more_written : (ps : List Publication) (more : List Written) (connections : List Connection) → Each (IsOfOwn ps) more → AreOfOwn ps connections → AreOfOwn ps (writes_first more connections)
+more_written ps more [] of all = tt
+more_written ps more (κ ∷ connections) of all = (each_append (IsOfOwn ps) κ.written more all.0 of, all.1)
+
+-- one more is taken
+counted_of : (ps : List Publication) (i : ℕ) (connections : List Connection) → AreOfOwn ps connections → AreOfOwn ps (counted_at i connections)
+counted_of ps i [] all = tt
+counted_of ps zero (κ ∷ connections) all = all
+counted_of ps (suc i) (κ ∷ connections) all = (all.0, counted_of ps i connections all.1)
+
+published_of : (keeper : Keeper) (p : Publication) → Each (IsOfOwn (publications_of (adds_own p keeper).own)) (written_for p keeper)
+published_of keeper p = by keeper.is_online
+  where
+    id : ℕ
+    id = least_free (ids_in_use keeper)
+
+    there' : slice_get (publications_of (adds_own p keeper).own) (length keeper.own) ≡ Some (publication_of (publish_of false (least_free (ids_in_use keeper)) p))
+    there' =
+        ap (λ ps. slice_get ps (length keeper.own)) (said_more keeper p)
+        ∙ ap (λ n. slice_get (publications_of keeper.own ++ p ∷ []) n) (sym (length-map keeper.own publication_in))
+        ∙ get_pushed (publications_of keeper.own) p ∙ ap (λ q. Some q) (sym (carried_is false id p))
+
+    by : (b : Bool) → Each (IsOfOwn (publications_of (adds_own p keeper).own)) (if b then publishes false (length keeper.own) (least_free (ids_in_use keeper)) p ∷ [] else [])
+    by true = (there', tt)
+    by false = tt
+
+pub events_keep_of : (limits : Limits) (s t : Story) → IsSoundStory limits s → Happens limits s t → AreOfOwn (publications_of s.keeper.own) s.connections → AreOfOwn (publications_of t.keeper.own) t.connections
+events_keep_of limits s t sound (takes i κ w stands next) all = counted_of (publications_of s.keeper.own) i s.connections all
+events_keep_of limits s t sound (others_take command other none) all = all
+events_keep_of limits s t sound (receives κ others packet are opened next) all =
+    let mine = subst (AreOfOwn (publications_of s.keeper.own)) are all in
+    let h = handled_by limits s κ others packet sound.shape are opened next in
+    subst (λ (ps : List Publication). AreOfOwn ps t.connections) (sym h.said) (h.of mine.0, mine.1)
+events_keep_of limits s t sound (opens_anew x fresh none uncounted) all = ((tt, tt), all)
+events_keep_of limits s t sound loses all = all
+events_keep_of limits s t sound disconnects all = by s.keeper.is_online
+  where
+    by : (b : Bool) → AreOfOwn (publications_of s.keeper.own) (if b then writes_first (plain packets.Disconnect ∷ []) s.connections else s.connections)
+    by true = more_written (publications_of s.keeper.own) (plain packets.Disconnect ∷ []) s.connections (tt, tt) all
+    by false = all
+events_keep_of limits s t sound (publishes_one p needs) all =
+    more_written (publications_of t.keeper.own) (written_for p s.keeper) s.connections (published_of s.keeper p)
+    (more_published (publications_of s.keeper.own) (publications_of t.keeper.own) s.connections (events_say limits s t sound (publishes_one p needs)) all)
+events_keep_of limits s t sound (subscribes p on id) all = more_written (publications_of s.keeper.own) (plain (packets.Subscribe p) ∷ []) s.connections (tt, tt) all
+events_keep_of limits s t sound (unsubscribes p on id) all = more_written (publications_of s.keeper.own) (plain (packets.Unsubscribe p) ∷ []) s.connections (tt, tt) all
