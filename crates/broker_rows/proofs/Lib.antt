@@ -4,8 +4,14 @@ pub mod CommandOfOwner
 pub mod FindsEach
 pub mod GrantedBySessions
 pub mod GreatestGranted
+pub mod LeavingSteps
+pub mod NobodysSteps
 pub mod OneCommand
 pub mod OneRow
 pub mod OwnerByMap
 pub mod OwnersRow
+pub mod PacketSteps
 pub mod RoomOfGranted
+pub mod ServedGoesOn
+pub mod ServedStep
+pub mod SessionParted

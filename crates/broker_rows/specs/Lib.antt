@@ -2,5 +2,8 @@ pub mod Touched
 pub mod Owners
 pub mod Indexed
 pub mod Published
+pub mod Served
 pub mod CommandLaws
+pub mod PacketLaws
+pub mod LeavingLaws
 pub mod PublicationLaws

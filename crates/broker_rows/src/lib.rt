@@ -3,10 +3,15 @@
 #![tactic(auto)]
 
 mod laws;
+mod packet_laws;
 
 pub use laws::{
     answers_are_of_granted_rows, granted_rows_match, nobody_changes_nothing, one_row_is_written,
     owner_is_found_by_map, room_is_of_granted_rows,
+};
+pub use packet_laws::{
+    handled_packet_steps, leaving_steps, nobodys_steps, repeat_steps, served_session_is_found,
+    subscribe_steps,
 };
 
 #[cfg(test)]

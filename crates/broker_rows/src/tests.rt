@@ -10,5 +10,11 @@ fn laws_are_called() -> Result<(), Fail> {
     granted_rows_match();
     room_is_of_granted_rows();
     answers_are_of_granted_rows();
+    served_session_is_found();
+    handled_packet_steps();
+    subscribe_steps();
+    repeat_steps();
+    leaving_steps();
+    nobodys_steps();
     Ok(())
 }

@@ -1,0 +1,40 @@
+-- What ends a served client's connection (MQTT 3.1.0, 3.14.4, 4.8): its session is left without one, and a clean
+-- session is over (MQTT 3.1.2.4).
+use Rattle.std.specs.Prelude.{◌≡◌, ℕ, true, Bool, [], ◌∷◌, None}
+use Rattle.packet.specs.declared.packet.Packet.{Packet}
+use Rattle.broker_base.specs.Connection.{ConnectionName}
+use Rattle.broker_base.specs.Place.{Client, Limits}
+use Rattle.broker_base.specs.Past.{is_leaving}
+use Rattle.broker_base.specs.ClientSession.{ClientSession}
+use Rattle.broker_base.specs.State.{State, owner_in}
+use Rattle.broker_base.specs.Decisions.{owned_mark}
+use Rattle.broker_base.specs.Step.{step}
+use Rattle.broker_base.specs.Command.TheVariants as commands
+use Rattle.broker_base.specs.Output.TheVariants.{Close}
+use Rattle.broker_rows.specs.Served.{IsServed, with_session, left_off}
+
+-- a DISCONNECT, a violation or a refused PUBLISH closes the connection
+abbrev pub LeavingStep : Type 0
+LeavingStep =
+    (limits : Limits) → (later : ℕ) → (state : State) → (x : ConnectionName) → (c : Client) → (kept : ClientSession) →
+    IsServed state x c kept → (packet : Packet) → is_leaving (owned_mark limits state (c, kept) packet) ≡ true →
+    step limits later state (commands.Packet x packet) ≡ (with_session c (left_off kept) state, Close x ∷ [])
+
+-- so does a further Connect on it, of whatever client
+abbrev pub FurtherConnectStep : Type 0
+FurtherConnectStep =
+    (limits : Limits) → (later : ℕ) → (state : State) → (x : ConnectionName) → (c : Client) → (kept : ClientSession) →
+    IsServed state x c kept → (named : Client) → (clean : Bool) →
+    step limits later state (commands.Connect x named clean) ≡ (with_session c (left_off kept) state, Close x ∷ [])
+
+-- its loss has no answer
+abbrev pub LostStep : Type 0
+LostStep =
+    (limits : Limits) → (later : ℕ) → (state : State) → (x : ConnectionName) → (c : Client) → (kept : ClientSession) →
+    IsServed state x c kept → step limits later state (commands.Lost x) ≡ (with_session c (left_off kept) state, [])
+
+-- the loss of nobody's connection changes nothing
+abbrev pub NobodysLossStep : Type 0
+NobodysLossStep =
+    (limits : Limits) → (later : ℕ) → (state : State) → (x : ConnectionName) → owner_in x state.sessions ≡ None →
+    step limits later state (commands.Lost x) ≡ (state, [])

@@ -1,0 +1,104 @@
+-- What a packet of a served client does where its connection goes on: one session is written, and its client
+-- alone is answered (MQTT 3.8.4, 3.10.4, 3.12.4, 4.3, 4.6).
+use Rattle.std.specs.Prelude.{◌≡◌, ℕ, Bool, true, List, [], ◌∷◌, map, Some, None}
+use Rattle.packet.specs.declared.subscribe.Subscription.{Subscription}
+use Rattle.packet.specs.declared.subscribe.Subscribe.{Subscribe}
+use Rattle.packet.specs.declared.publish.Publish.{Publish}
+use Rattle.packet.specs.declared.packet.Packet.{Packet}
+use Rattle.packet.specs.declared.packet.Packet.TheVariants as packets
+use Rattle.retained.specs.Retained.{RetainedTopics}
+use Rattle.session_base.specs.Identifiers.{without_id}
+use Rattle.session_base.specs.Session.{SessionState, with_filters, with_received, with_queue, with_flights}
+use Rattle.session_base.specs.Subscriptions.{with_subscriptions, without_filters}
+use Rattle.session_base.specs.Queue.{room, on_puback, on_pubrec, on_pubcomp, filled, copies_left}
+use Rattle.session_base.specs.Sending.{copies_sent}
+use Rattle.broker_base.specs.Connection.{ConnectionName}
+use Rattle.broker_base.specs.Place.{Client, Mark, Limits}
+use Rattle.broker_base.specs.Subscriptions.{as_held, granted_of}
+use Rattle.broker_base.specs.Entries.{copies_for_all}
+use Rattle.broker_base.specs.Marks.{grants}
+use Rattle.broker_base.specs.Answers.{acknowledged, codes_of}
+use Rattle.broker_base.specs.ClientSession.{ClientSession}
+use Rattle.broker_base.specs.State.{State, owner_in}
+use Rattle.broker_base.specs.Decisions.{is_again, owned_mark}
+use Rattle.broker_base.specs.StepAnswers.{handled_in}
+use Rattle.broker_base.specs.Step.{step}
+use Rattle.broker_base.specs.Command.TheVariants as commands
+use Rattle.broker_base.specs.Output.TheVariants.{Send}
+use Rattle.broker_rows.specs.Served.{IsServed, with_session, holding}
+
+-- ---- the packets that are handled
+
+-- What a packet makes of its sender's session, with this window: PUBACK and PUBCOMP finish an entry, and what may
+-- start then starts; PUBREC releases one; PUBREL takes away an identifier that came in; UNSUBSCRIBE gives up filters.
+abbrev pub handled_state : ℕ → Packet → SessionState → SessionState
+handled_state window (packets.Puback id) held =
+    with_queue (filled window (with_flights (on_puback id held.queue.in_flight) held.queue)) held
+handled_state window (packets.Pubrec id) held =
+    with_queue (with_flights (on_pubrec id held.queue.in_flight) held.queue) held
+handled_state window (packets.Pubcomp id) held =
+    with_queue (filled window (with_flights (on_pubcomp id held.queue.in_flight) held.queue)) held
+handled_state window (packets.Pubrel id) held = with_received (without_id id held.received) held
+handled_state window (packets.Unsubscribe u) held =
+    with_filters (without_filters u.filters held.subscriptions) held
+handled_state window _ held = held
+
+-- a packet that is handled writes that to its sender's session, and is answered to its sender alone
+abbrev pub HandledStep : Type 0
+HandledStep =
+    (limits : Limits) → (later : ℕ) → (state : State) → (x : ConnectionName) → (c : Client) → (kept : ClientSession) →
+    IsServed state x c kept → (packet : Packet) → owned_mark limits state (c, kept) packet ≡ Mark.Handled c →
+    step limits later state (commands.Packet x packet)
+    ≡ (
+      with_session c (Some (holding (handled_state state.window packet kept.state) kept)) state,
+      handled_in state.window x (Some kept) packet,
+    )
+
+-- ---- SUBSCRIBE
+
+-- a session whose client is granted these filters: each is set, and the copies of what is retained come (MQTT 3.8.4)
+abbrev pub subscribed_to : ℕ → RetainedTopics → List Subscription → SessionState → SessionState
+subscribed_to window content granted held =
+    with_filters (with_subscriptions (map as_held granted) held.subscriptions)
+    (with_queue (copies_left window (copies_for_all content granted) held.queue) held)
+
+-- the packets that answer a SUBSCRIBE of whose filters these are granted: SUBACK, then those copies (MQTT 3.8.4)
+abbrev pub subscribe_answers : ℕ → RetainedTopics → Subscribe → List Bool → SessionState → List Packet
+subscribe_answers window content s which held =
+    packets.Suback (record { id = s.id; codes = codes_of s.filters which })
+    ∷ copies_sent window (copies_for_all content (granted_of s.filters which)) held.queue
+
+-- SUBSCRIBE sets the filters that are granted, and its client is sent what is retained of them (MQTT 3.8.4)
+abbrev pub SubscribeStep : Type 0
+SubscribeStep =
+    (limits : Limits) → (later : ℕ) → (state : State) → (x : ConnectionName) → (c : Client) → (kept : ClientSession) →
+    IsServed state x c kept → (s : Subscribe) → (which : List Bool) →
+    grants limits state.retained kept.state.subscriptions (room limits.entries kept.state.queue) s.filters ≡ which →
+    step limits later state (commands.Packet x (packets.Subscribe s))
+    ≡ (
+      with_session c (Some (holding (subscribed_to state.window state.retained (granted_of s.filters which) kept.state) kept)) state,
+      map (Send x) (subscribe_answers state.window state.retained s which kept.state),
+    )
+
+-- ---- what changes nothing
+
+-- PINGREQ is answered by PINGRESP (MQTT 3.12.4)
+abbrev pub PingreqStep : Type 0
+PingreqStep =
+    (limits : Limits) → (later : ℕ) → (state : State) → (x : ConnectionName) → (c : Client) → (kept : ClientSession) →
+    IsServed state x c kept →
+    step limits later state (commands.Packet x packets.Pingreq) ≡ (state, Send x packets.Pingresp ∷ [])
+
+-- another try of a PUBLISH that was taken is answered once more (MQTT 4.3.3)
+abbrev pub RepeatStep : Type 0
+RepeatStep =
+    (limits : Limits) → (later : ℕ) → (state : State) → (x : ConnectionName) → (c : Client) → (kept : ClientSession) →
+    IsServed state x c kept → (p : Publish) → is_again kept p.delivery ≡ true →
+    step limits later state (commands.Packet x (packets.Publish p)) ≡ (state, acknowledged x p.delivery)
+
+-- a packet on nobody's connection changes nothing, and has no answer
+abbrev pub NobodysPacketStep : Type 0
+NobodysPacketStep =
+    (limits : Limits) → (later : ℕ) → (state : State) → (x : ConnectionName) → (packet : Packet) →
+    owner_in x state.sessions ≡ None →
+    step limits later state (commands.Packet x packet) ≡ (state, [])

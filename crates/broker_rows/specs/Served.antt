@@ -1,0 +1,34 @@
+-- A client that is served on a connection, and what a step leaves of its session (MQTT 3.1.2.4, 4.1).
+use Rattle.std.specs.Prelude.{◌≡◌, if◌then◌else◌, Option, Some, None}
+use Rattle.session_base.specs.Session.{SessionState}
+use Rattle.broker_base.specs.Connection.{ConnectionName}
+use Rattle.broker_base.specs.Place.{Client}
+use Rattle.broker_base.specs.ClientSession.{ClientSession}
+use Rattle.broker_base.specs.State.{State, session_in, owner_in}
+use Rattle.broker_base.specs.StateLaws.{IsSound}
+use Rattle.broker_rows.specs.Touched.{written}
+
+-- in a sound state the client is served on the connection, and this is kept of its session
+pub record IsServed (state : State) (x : ConnectionName) (c : Client) (kept : ClientSession) : Type 0 where
+  pub sound : IsSound state
+  pub owner : owner_in x state.sessions ≡ Some (c, kept)
+
+-- the state with this session of the client, or with none
+abbrev pub with_session : Client → Option ClientSession → State → State
+with_session c session state =
+    record { window = state.window; sessions = written c session state.sessions; retained = state.retained }
+
+-- a session with this in it
+abbrev pub holding : SessionState → ClientSession → ClientSession
+holding held kept = record { clean = kept.clean; connection = kept.connection; state = held }
+
+-- a session whose connection is over: a clean one is over with it (MQTT 3.1.2.4)
+abbrev pub left_off : ClientSession → Option ClientSession
+left_off kept =
+    if kept.clean then None else Some (record { clean = kept.clean; connection = None; state = kept.state })
+
+-- a served client's session is on the connection, and is the one that is found by the client
+abbrev pub IsOnItsConnection : Type 0
+IsOnItsConnection =
+    (state : State) → (x : ConnectionName) → (c : Client) → (kept : ClientSession) → IsServed state x c kept →
+    (kept.connection ≡ Some x) × (session_in c state.sessions ≡ Some kept)
