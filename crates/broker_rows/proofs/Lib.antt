@@ -1,10 +1,12 @@
 pub mod AnswersOfGranted
 pub mod CommandOfNobody
 pub mod CommandOfOwner
+pub mod ConnectSteps
 pub mod FindsEach
 pub mod GrantedBySessions
 pub mod GreatestGranted
 pub mod LeavingSteps
+pub mod NewConnection
 pub mod NobodysSteps
 pub mod OneCommand
 pub mod OneRow
@@ -15,3 +17,4 @@ pub mod RoomOfGranted
 pub mod ServedGoesOn
 pub mod ServedStep
 pub mod SessionParted
+pub mod StartSteps

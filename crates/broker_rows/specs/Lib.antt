@@ -6,4 +6,5 @@ pub mod Served
 pub mod CommandLaws
 pub mod PacketLaws
 pub mod LeavingLaws
+pub mod ConnectLaws
 pub mod PublicationLaws

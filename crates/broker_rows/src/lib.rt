@@ -2,9 +2,11 @@
 //! which rows a taken publication asks.
 #![tactic(auto)]
 
+mod connect_laws;
 mod laws;
 mod packet_laws;
 
+pub use connect_laws::{connect_steps, full_connect_steps, insertion_writes, start_steps};
 pub use laws::{
     answers_are_of_granted_rows, granted_rows_match, nobody_changes_nothing, one_row_is_written,
     owner_is_found_by_map, room_is_of_granted_rows,

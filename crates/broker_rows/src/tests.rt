@@ -16,5 +16,9 @@ fn laws_are_called() -> Result<(), Fail> {
     repeat_steps();
     leaving_steps();
     nobodys_steps();
+    connect_steps();
+    full_connect_steps();
+    insertion_writes();
+    start_steps();
     Ok(())
 }

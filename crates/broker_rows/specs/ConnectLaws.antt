@@ -1,0 +1,86 @@
+-- What a Connect on nobody's connection does: the client's session begins or goes on, and no other is touched; and
+-- what a Start leaves (MQTT 3.1.2.4, 3.1.4, 3.2.2, 4.4).
+use Rattle.std.specs.Prelude.{◌≡◌, ℕ, Bool, true, false, ◌||◌, nat_lt, length, [], ◌∷◌, ◌++◌, map, Some, None, is_some, option_map}
+use Rattle.std.specs.BTreeMap.{insert_entry}
+use Rattle.session_base.specs.Sending.{fill_sends, resend}
+use Rattle.broker_base.specs.Connection.{ConnectionName}
+use Rattle.broker_base.specs.Place.{Client, by_bytes, Limits}
+use Rattle.broker_base.specs.Past.{begins_session}
+use Rattle.broker_base.specs.Answers.{closed, welcome, turned_away}
+use Rattle.broker_base.specs.ClientSession.{ClientSession}
+use Rattle.broker_base.specs.SessionStep.{kept_anew, kept_resumed}
+use Rattle.broker_base.specs.State.{Sessions, State, keyed, session_in, owner_in}
+use Rattle.broker_base.specs.StateLaws.{IsSound, AreByClient}
+use Rattle.broker_base.specs.StepAnswers.{connection_of}
+use Rattle.broker_base.specs.Step.{step}
+use Rattle.broker_base.specs.Command.TheVariants as commands
+use Rattle.broker_base.specs.Output.TheVariants.{Send, Close}
+use Rattle.broker_rows.specs.Touched.{written}
+use Rattle.broker_rows.specs.Served.{with_session, left_off}
+
+-- whether the client has a session, or one more may begin
+abbrev pub is_admitted : Limits → State → Client → Bool
+is_admitted limits state c =
+    is_some (session_in c state.sessions) || nat_lt (length state.sessions) limits.sessions
+
+-- whether an accepted Connect with this flag begins a session of the client
+abbrev pub begins_in : State → Client → Bool → Bool
+begins_in state c clean = begins_session clean (option_map (λ (kept : ClientSession). kept.clean) (session_in c state.sessions))
+
+-- A Connect that is clean, that finds no session or that finds a clean one, begins one with nothing in it; the
+-- connection that the client had is closed (MQTT 3.1.2.4, 3.1.4).
+abbrev pub BeginningStep : Type 0
+BeginningStep =
+    (limits : Limits) → (later : ℕ) → (state : State) → (x : ConnectionName) → (c : Client) → (clean : Bool) → IsSound state →
+    owner_in x state.sessions ≡ None → is_admitted limits state c ≡ true → begins_in state c clean ≡ true →
+    step limits later state (commands.Connect x c clean)
+    ≡ (
+      record {
+        window = state.window;
+        sessions = insert_entry by_bytes state.sessions c (kept_anew (x, clean));
+        retained = state.retained;
+      },
+      closed (connection_of (session_in c state.sessions)) ++ welcome x false ∷ [],
+    )
+
+-- Any other goes on with the session that it finds: what is in flight is sent again in its order, and what may
+-- start then starts (MQTT 4.4).
+abbrev pub ResumingStep : Type 0
+ResumingStep =
+    (limits : Limits) → (later : ℕ) → (state : State) → (x : ConnectionName) → (c : Client) → (kept : ClientSession) → IsSound state →
+    owner_in x state.sessions ≡ None → session_in c state.sessions ≡ Some kept → kept.clean ≡ false →
+    step limits later state (commands.Connect x c false)
+    ≡ (
+      with_session c (Some (kept_resumed state.window (x, false) kept)) state,
+      closed kept.connection
+          ++ welcome x true
+          ∷ map (Send x)
+          (resend kept.state.queue.in_flight ++ fill_sends state.window kept.state.queue.in_flight kept.state.queue.waiting),
+    )
+
+-- one that would begin a session too many is turned away (MQTT 3.2.2.3)
+abbrev pub FullStep : Type 0
+FullStep =
+    (limits : Limits) → (later : ℕ) → (state : State) → (x : ConnectionName) → (c : Client) → (clean : Bool) →
+    owner_in x state.sessions ≡ None → is_admitted limits state c ≡ false →
+    step limits later state (commands.Connect x c clean) ≡ (state, turned_away x ∷ Close x ∷ [])
+
+-- where the client has a session, the insertion of one writes it
+abbrev pub InsertionWrites : Type 0
+InsertionWrites =
+    (c : Client) → (old new : ClientSession) → (sessions : Sessions) → AreByClient sessions → session_in c sessions ≡ Some old →
+    insert_entry by_bytes sessions c new ≡ written c (Some new) sessions
+
+-- ---- a Start
+
+-- each session without its connection: the clean ones go
+abbrev pub all_left_off : Sessions → Sessions
+all_left_off (row ∷ rows) = keyed row.0 (left_off row.1) (all_left_off rows)
+all_left_off [] = []
+
+-- a new ballot ends every connection, and the window is the later one from then on
+abbrev pub StartStep : Type 0
+StartStep =
+    (limits : Limits) → (later : ℕ) → (state : State) → (ballot : ℕ) → IsSound state →
+    step limits later state (commands.Start ballot)
+    ≡ (record { window = later; sessions = all_left_off state.sessions; retained = state.retained }, [])
