@@ -1,0 +1,3 @@
+pub mod FoundByMaps
+pub mod TiesOfRows
+pub mod Handshakes

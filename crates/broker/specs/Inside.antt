@@ -1,0 +1,23 @@
+-- Words of private calls: the steps of handshakes.
+use Rattle.std.specs.Prelude.{Bool, true, false, List, [], ◌∷◌}
+use Rattle.packet.specs.declared.packet.Packet.{Packet}
+use Rattle.packet.specs.declared.packet.Packet.TheVariants as packets
+use Rattle.session_base.specs.Session.{SessionState}
+use Rattle.session_base.specs.Queue.{on_puback, on_pubrec, on_pubcomp}
+use Rattle.session_base.specs.Sending.{fill_sends, pubrec_sends}
+
+-- whether a packet is a step of a handshake
+abbrev pub is_handshake : Packet → Bool
+is_handshake (packets.Puback id) = true
+is_handshake (packets.Pubrec id) = true
+is_handshake (packets.Pubrel id) = true
+is_handshake (packets.Pubcomp id) = true
+is_handshake _ = false
+
+-- what its sender is sent for it
+abbrev pub handshake_sends : Packet → SessionState → List Packet
+handshake_sends (packets.Puback id) held = fill_sends 16 (on_puback id held.queue.in_flight) held.queue.waiting
+handshake_sends (packets.Pubrec id) held = pubrec_sends id (on_pubrec id held.queue.in_flight)
+handshake_sends (packets.Pubrel id) held = packets.Pubcomp id ∷ []
+handshake_sends (packets.Pubcomp id) held = fill_sends 16 (on_pubcomp id held.queue.in_flight) held.queue.waiting
+handshake_sends _ held = []
