@@ -1,3 +1,4 @@
+pub mod AnswersInTurn
 pub mod AnswersOfGranted
 pub mod CommandOfNobody
 pub mod CommandOfOwner
@@ -8,12 +9,16 @@ pub mod GreatestGranted
 pub mod LeavingSteps
 pub mod NewConnection
 pub mod NobodysSteps
+pub mod OneChanged
 pub mod OneCommand
 pub mod OneRow
 pub mod OwnerByMap
 pub mod OwnersRow
 pub mod PacketSteps
+pub mod PublishLeft
+pub mod PublishSteps
 pub mod RoomOfGranted
+pub mod RowOfPublish
 pub mod ServedGoesOn
 pub mod ServedStep
 pub mod SessionParted

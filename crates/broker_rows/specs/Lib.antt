@@ -7,4 +7,5 @@ pub mod CommandLaws
 pub mod PacketLaws
 pub mod LeavingLaws
 pub mod ConnectLaws
+pub mod PublishLaws
 pub mod PublicationLaws

@@ -1,24 +1,53 @@
 -- A taken publication, by the rows that an index grants it (MQTT 3.3.5): who gets it, whose room it needs, and
 -- what each of them is sent.
-use Rattle.std.specs.Prelude.{ℕ, Bool, false, ◌&&◌, ◌==◌, List, [], ◌∷◌, ◌++◌, Option, Some, None}
+use Rattle.std.specs.Prelude.{ℕ, Bool, false, ◌&&◌, ◌==◌, List, [], ◌∷◌, ◌++◌, Option, Some, None, option_map}
+use Rattle.std.specs.List.{fold}
 use Rattle.packet.specs.declared.qos.QoS.{QoS}
+use Rattle.packet.specs.declared.delivery.Delivery.{Delivery}
 use Rattle.session_base.specs.declared.publication.Publication.{Publication}
 use Rattle.session_base.specs.Publication.{is_answered, lower_qos}
 use Rattle.session_base.specs.Queue.{room}
+use Rattle.session_base.specs.Session.{with_received, with_queue}
 use Rattle.session_base.specs.Sending.{copies_sent}
-use Rattle.broker_base.specs.Place.{Limits}
+use Rattle.broker_base.specs.Place.{Client, Limits}
 use Rattle.session_base.specs.Subscriptions.{granted_qos}
 use Rattle.broker_base.specs.Entries.{copy_of}
+use Rattle.broker_base.specs.Received.{receives}
+use Rattle.broker_base.specs.SessionStep.{copied_queue}
 use Rattle.broker_base.specs.ClientSession.{ClientSession}
-use Rattle.broker_base.specs.State.{Sessions}
+use Rattle.broker_base.specs.State.{Sessions, session_in}
 use Rattle.broker_base.specs.StepAnswers.{sent_on}
 use Rattle.broker_base.specs.Output.{Output}
 use Rattle.subs.specs.Granted.{Row, row_of}
+use Rattle.broker_rows.specs.Touched.{written}
+use Rattle.broker_rows.specs.Served.{holding}
 
 -- a row for each session with a subscription that matches the topic, with the greatest QoS
 abbrev pub granted_rows : List ℕ → Sessions → List Row
 granted_rows topic (row ∷ rows) = row_of row.0 (granted_qos topic row.1.state.subscriptions) ++ granted_rows topic rows
 granted_rows topic [] = []
+
+-- ---- sessions
+
+-- the client's session changed in its place, if the client has one
+abbrev pub changed : Client → (ClientSession → ClientSession) → Sessions → Sessions
+changed d change rows = written d (option_map change (session_in d rows)) rows
+
+-- a publisher's session takes note of the identifier of a PUBLISH at QoS 2 (MQTT 4.3.3)
+abbrev pub received_on : Delivery → ClientSession → ClientSession
+received_on delivery kept = holding (with_received (receives delivery kept.state.received) kept.state) kept
+
+-- a session that is granted a publication at this QoS gets its copy, and what may start then starts
+abbrev pub delivered_on : ℕ → Publication → QoS → ClientSession → ClientSession
+delivered_on window p qos kept =
+    holding
+    (with_queue
+    (copied_queue window kept.connection (copy_of p (Some (lower_qos p.qos qos))) kept.state.queue) kept.state) kept
+
+-- each granted row's session in turn
+abbrev pub all_delivered : ℕ → Publication → List Row → Sessions → Sessions
+all_delivered window p granted sessions =
+    fold (λ rows row. changed row.0 (delivered_on window p row.1) rows) sessions granted
 
 -- ---- room and answers, of a granted row's session
 
@@ -32,3 +61,10 @@ abbrev pub copy_answered : ℕ → Publication → QoS → Option ClientSession 
 copy_answered window p qos (Some kept) =
     sent_on kept.connection (copies_sent window (copy_of p (Some (lower_qos p.qos qos))) kept.state.queue)
 copy_answered window p qos None = []
+
+-- what they all are sent, each from the sessions as those before it left them
+abbrev pub answered_in_turn : ℕ → Publication → List Row → Sessions → List Output
+answered_in_turn window p (row ∷ granted) rows =
+    copy_answered window p row.1 (session_in row.0 rows)
+    ++ answered_in_turn window p granted (changed row.0 (delivered_on window p row.1) rows)
+answered_in_turn window p [] rows = []

@@ -5,6 +5,7 @@
 mod connect_laws;
 mod laws;
 mod packet_laws;
+mod publish_laws;
 
 pub use connect_laws::{connect_steps, full_connect_steps, insertion_writes, start_steps};
 pub use laws::{
@@ -15,6 +16,7 @@ pub use packet_laws::{
     handled_packet_steps, leaving_steps, nobodys_steps, repeat_steps, served_session_is_found,
     subscribe_steps,
 };
+pub use publish_laws::{change_is_of_one_row, refused_publication_steps, taken_publication_steps};
 
 #[cfg(test)]
 mod tests;

@@ -20,5 +20,8 @@ fn laws_are_called() -> Result<(), Fail> {
     full_connect_steps();
     insertion_writes();
     start_steps();
+    refused_publication_steps();
+    taken_publication_steps();
+    change_is_of_one_row();
     Ok(())
 }

@@ -1,0 +1,64 @@
+-- What a PUBLISH of a served client does that is no repeat: it is refused whole, or it is taken, and the granted
+-- rows alone are touched, each of them once (MQTT 3.3.1.3, 3.3.4, 3.3.5, 4.3).
+use Rattle.std.specs.Prelude.{◌≡◌, ℕ, Bool, false, true, ◌||◌, [], ◌∷◌, ◌++◌, Some, None}
+use Rattle.std.specs.List.{list_any}
+use Rattle.packet.specs.declared.publish.Publish.{Publish}
+use Rattle.packet.specs.declared.packet.Packet.TheVariants as packets
+use Rattle.session_base.specs.declared.publication.Publication.{Publication}
+use Rattle.session_base.specs.Publication.{publication_of}
+use Rattle.broker_base.specs.Connection.{ConnectionName}
+use Rattle.broker_base.specs.Place.{Client, Limits}
+use Rattle.broker_base.specs.Answers.{acknowledged}
+use Rattle.broker_base.specs.Retained.{retains}
+use Rattle.broker_base.specs.ClientSession.{ClientSession}
+use Rattle.broker_base.specs.State.{Sessions, State, session_in}
+use Rattle.broker_base.specs.Decisions.{is_one_topic_over, is_again}
+use Rattle.broker_base.specs.Step.{step}
+use Rattle.broker_base.specs.Command.TheVariants as commands
+use Rattle.broker_base.specs.Output.TheVariants.{Close}
+use Rattle.broker_rows.specs.Touched.{written}
+use Rattle.broker_rows.specs.Served.{IsServed, with_session, left_off}
+use Rattle.broker_rows.specs.Published.{granted_rows, changed, received_on, all_delivered, is_full_at, answered_in_turn}
+
+-- whether a granted row's session is full for it, or it would be retained on a topic too many
+abbrev pub is_refused_in : Limits → State → Publication → Bool
+is_refused_in limits state p =
+    list_any (λ row. is_full_at limits p row.1 (session_in row.0 state.sessions)) (granted_rows p.topic state.sessions)
+    || is_one_topic_over limits state.retained p
+
+-- a publication that is refused closes its publisher's connection, and nobody gets it (MQTT 4.8)
+abbrev pub RefusedStep : Type 0
+RefusedStep =
+    (limits : Limits) → (later : ℕ) → (state : State) → (x : ConnectionName) → (c : Client) → (kept : ClientSession) →
+    IsServed state x c kept → (p : Publish) → is_again kept p.delivery ≡ false →
+    is_refused_in limits state (publication_of p) ≡ true →
+    step limits later state (commands.Packet x (packets.Publish p)) ≡ (with_session c (left_off kept) state, Close x ∷ [])
+
+-- A publication that is taken is retained, its publisher's session takes note of it, and each granted session gets its
+-- copy; its publisher is answered first (MQTT 3.3.4), then each granted client in turn.
+abbrev pub TakenStep : Type 0
+TakenStep =
+    (limits : Limits) → (later : ℕ) → (state : State) → (x : ConnectionName) → (c : Client) → (kept : ClientSession) →
+    IsServed state x c kept → (p : Publish) → is_again kept p.delivery ≡ false →
+    is_refused_in limits state (publication_of p) ≡ false →
+    let granted = granted_rows p.topic state.sessions in
+    let noted = changed c (received_on p.delivery) state.sessions in
+    step limits later state (commands.Packet x (packets.Publish p))
+    ≡ (
+      record {
+        window = state.window;
+        sessions = all_delivered state.window (publication_of p) granted noted;
+        retained = retains (publication_of p) state.retained;
+      },
+      acknowledged x p.delivery ++ answered_in_turn state.window (publication_of p) granted noted,
+    )
+
+-- ---- one session changed
+
+-- it is written where it is found, and stays where it is none or the change leaves it
+abbrev pub ChangeIsOfOneRow : Type 0
+ChangeIsOfOneRow =
+    (d : Client) → (change : ClientSession → ClientSession) → (rows : Sessions) →
+    ((kept : ClientSession) → session_in d rows ≡ Some kept → changed d change rows ≡ written d (Some (change kept)) rows)
+    × ((kept : ClientSession) → session_in d rows ≡ Some kept → change kept ≡ kept → changed d change rows ≡ rows)
+    × (session_in d rows ≡ None → changed d change rows ≡ rows)

@@ -1,0 +1,20 @@
+// Laws of a PUBLISH that is no repeat. The calls do nothing; their contracts are the laws.
+
+ghost use Rattle.broker_rows.specs.PublishLaws.{RefusedStep, TakenStep, ChangeIsOfOneRow};
+
+/// A publication for which a granted row's session is full, or that would be retained on a topic too many,
+/// is refused whole: its publisher's connection ends (MQTT 4.8).
+pub fn refused_publication_steps()
+    ensures { RefusedStep }
+{}
+
+/// Any other is taken: it is retained, its publisher's session takes note of its identifier, and each
+/// granted session in turn gets its copy and what that sends (MQTT 3.3.4, 3.3.5, 4.3).
+pub fn taken_publication_steps()
+    ensures { TakenStep }
+{}
+
+/// To change one session in its place is to write it where it is found.
+pub fn change_is_of_one_row()
+    ensures { ChangeIsOfOneRow }
+{}
