@@ -23,3 +23,4 @@ pub mod ServedGoesOn
 pub mod ServedStep
 pub mod SessionParted
 pub mod StartSteps
+pub mod maps

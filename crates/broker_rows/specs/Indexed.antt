@@ -1,10 +1,12 @@
 -- What an index of the sessions' subscriptions shows.
-use Rattle.std.specs.Prelude.{ℕ, if◌then◌else◌, List, [], ◌∷◌, bytes_eq, Option, Some, None}
+use Rattle.std.specs.Prelude.{ℕ, if◌then◌else◌, List, [], ◌∷◌, filter, bytes_eq, Option, Some, None}
+use Rattle.std.specs.Map.{keys_of}
 use Rattle.packet.specs.declared.qos.QoS.{QoS}
 use Rattle.session_base.specs.Subscriptions.{HeldFilter}
+use Rattle.broker_base.specs.Place.{Client}
 use Rattle.broker_base.specs.ClientSession.{ClientSession}
 use Rattle.broker_base.specs.State.{Sessions, session_in}
-use Rattle.subs.specs.Content.{Content}
+use Rattle.subs.specs.Content.{Content, with_row, without_row, without_client}
 
 -- the QoS at which this very filter is subscribed
 abbrev pub qos_at : List ℕ → List HeldFilter → Option QoS
@@ -19,3 +21,26 @@ subscribed_in filter None = None
 -- the content of an index that holds the subscriptions of these sessions
 abbrev pub content_in : Sessions → Content
 content_in sessions client filter = subscribed_in filter (session_in client sessions)
+
+-- ---- what an index is told of one client
+
+-- these filters are subscribed, one by one (MQTT 3.8.4)
+abbrev pub all_set : List ℕ → List HeldFilter → Content → Content
+all_set client (held ∷ more) content = all_set client more (with_row content client held.0 held.1)
+all_set client [] content = content
+
+-- these filters are given up, one by one (MQTT 3.10.4)
+abbrev pub all_cleared : List ℕ → List (List ℕ) → Content → Content
+all_cleared client (filter ∷ more) content = all_cleared client more (without_row content client filter)
+all_cleared client [] content = content
+
+-- ---- and of several
+
+-- these clients are dropped, one by one
+abbrev pub all_dropped : List (List ℕ) → Content → Content
+all_dropped (client ∷ more) content = all_dropped more (without_client content client)
+all_dropped [] content = content
+
+-- the clients whose sessions are clean
+abbrev pub clean_clients : Sessions → List (List ℕ)
+clean_clients sessions = keys_of (filter (λ (row : Client × ClientSession). row.1.clean) sessions)

@@ -8,4 +8,6 @@ pub mod PacketLaws
 pub mod LeavingLaws
 pub mod ConnectLaws
 pub mod PublishLaws
+pub mod OwnerLaws
+pub mod IndexLaws
 pub mod PublicationLaws

@@ -4,6 +4,7 @@
 
 mod connect_laws;
 mod laws;
+mod map_laws;
 mod packet_laws;
 mod publish_laws;
 
@@ -11,6 +12,10 @@ pub use connect_laws::{connect_steps, full_connect_steps, insertion_writes, star
 pub use laws::{
     answers_are_of_granted_rows, granted_rows_match, nobody_changes_nothing, one_row_is_written,
     owner_is_found_by_map, room_is_of_granted_rows,
+};
+pub use map_laws::{
+    content_of_ended_sessions, content_of_subscriptions, maps_stay, owners_of_connect,
+    owners_of_end,
 };
 pub use packet_laws::{
     handled_packet_steps, leaving_steps, nobodys_steps, repeat_steps, served_session_is_found,

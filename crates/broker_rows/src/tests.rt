@@ -23,5 +23,10 @@ fn laws_are_called() -> Result<(), Fail> {
     refused_publication_steps();
     taken_publication_steps();
     change_is_of_one_row();
+    maps_stay();
+    owners_of_connect();
+    owners_of_end();
+    content_of_subscriptions();
+    content_of_ended_sessions();
     Ok(())
 }

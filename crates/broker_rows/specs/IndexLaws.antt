@@ -1,0 +1,67 @@
+-- How an index of the sessions' subscriptions follows a step: what it is to be told, where it held them before
+-- (MQTT 3.1.2.4, 3.8.4, 3.10.4).
+use Rattle.std.specs.Prelude.{◌≡◌, ℕ, Bool, if◌then◌else◌, List, Some}
+use Rattle.std.specs.BTreeMap.{insert_entry}
+use Rattle.packet.specs.declared.delivery.Delivery.{Delivery}
+use Rattle.session_base.specs.declared.publication.Publication.{Publication}
+use Rattle.session_base.specs.Subscriptions.{HeldFilter, with_subscriptions, without_filters}
+use Rattle.subs.specs.Content.{without_client}
+use Rattle.subs.specs.Granted.{Row}
+use Rattle.broker_base.specs.Connection.{ConnectionName}
+use Rattle.broker_base.specs.Place.{Client, by_bytes}
+use Rattle.broker_base.specs.ClientSession.{ClientSession}
+use Rattle.broker_base.specs.SessionStep.{kept_anew}
+use Rattle.broker_base.specs.State.{Sessions, session_in}
+use Rattle.broker_base.specs.StateLaws.{AreByClient}
+use Rattle.broker_rows.specs.Touched.{written}
+use Rattle.broker_rows.specs.Served.{left_off}
+use Rattle.broker_rows.specs.ConnectLaws.{all_left_off}
+use Rattle.broker_rows.specs.Published.{changed, received_on, all_delivered}
+use Rattle.broker_rows.specs.Indexed.{content_in, all_set, all_cleared, all_dropped, clean_clients}
+
+-- nothing, where a session is written with the subscriptions that it had
+abbrev pub WritingKeepsContent : Type 0
+WritingKeepsContent =
+    (c : Client) → (old new : ClientSession) → (rows : Sessions) → AreByClient rows → session_in c rows ≡ Some old →
+    new.state.subscriptions ≡ old.state.subscriptions → content_in (written c (Some new) rows) ≡ content_in rows
+
+-- a SUBSCRIBE sets each filter that is granted (MQTT 3.8.4)
+abbrev pub SubscribingSets : Type 0
+SubscribingSets =
+    (c : Client) → (old new : ClientSession) → (granted : List HeldFilter) → (rows : Sessions) → AreByClient rows →
+    session_in c rows ≡ Some old →
+    new.state.subscriptions ≡ with_subscriptions granted old.state.subscriptions →
+    content_in (written c (Some new) rows) ≡ all_set c granted (content_in rows)
+
+-- an UNSUBSCRIBE clears each of its filters (MQTT 3.10.4)
+abbrev pub UnsubscribingClears : Type 0
+UnsubscribingClears =
+    (c : Client) → (old new : ClientSession) → (filters : List (List ℕ)) → (rows : Sessions) → AreByClient rows →
+    session_in c rows ≡ Some old →
+    new.state.subscriptions ≡ without_filters filters old.state.subscriptions →
+    content_in (written c (Some new) rows) ≡ all_cleared c filters (content_in rows)
+
+-- where a connection ends, the client of a clean session is dropped (MQTT 3.1.2.4)
+abbrev pub LeavingDropsTheClean : Type 0
+LeavingDropsTheClean =
+    (c : Client) → (kept : ClientSession) → (rows : Sessions) → AreByClient rows → session_in c rows ≡ Some kept →
+    content_in (written c (left_off kept) rows)
+    ≡ (if kept.clean then without_client (content_in rows) c else content_in rows)
+
+-- where a session begins, what the client had before is dropped (MQTT 3.1.2.4)
+abbrev pub BeginningDrops : Type 0
+BeginningDrops =
+    (c : Client) → (opened : ConnectionName × Bool) → (rows : Sessions) → AreByClient rows →
+    content_in (insert_entry by_bytes rows c (kept_anew opened)) ≡ without_client (content_in rows) c
+
+-- a Start drops the clients of the clean sessions
+abbrev pub StartDropsTheClean : Type 0
+StartDropsTheClean =
+    (rows : Sessions) → AreByClient rows →
+    content_in (all_left_off rows) ≡ all_dropped (clean_clients rows) (content_in rows)
+
+-- nothing, where a publication is noted and delivered
+abbrev pub PublishingKeepsContent : Type 0
+PublishingKeepsContent =
+    (window : ℕ) → (p : Publication) → (granted : List Row) → (c : Client) → (delivery : Delivery) → (rows : Sessions) →
+    content_in (all_delivered window p granted (changed c (received_on delivery) rows)) ≡ content_in rows

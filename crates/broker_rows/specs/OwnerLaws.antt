@@ -1,0 +1,58 @@
+-- How the map from connections to clients follows a step: what is to be done to it, where it held what the sessions say.
+use Rattle.std.specs.Prelude.{◌≡◌, ℕ, List, Some, None}
+use Rattle.std.specs.BTreeMap.{insert_entry}
+use Rattle.packet.specs.declared.delivery.Delivery.{Delivery}
+use Rattle.session_base.specs.declared.publication.Publication.{Publication}
+use Rattle.subs.specs.Granted.{Row}
+use Rattle.broker_base.specs.Connection.{ConnectionName}
+use Rattle.broker_base.specs.Place.{Client, by_bytes}
+use Rattle.broker_base.specs.ClientSession.{ClientSession}
+use Rattle.broker_base.specs.State.{Sessions, State, session_in, owner_in}
+use Rattle.broker_base.specs.StateLaws.{IsSound}
+use Rattle.broker_base.specs.StepAnswers.{connection_of}
+use Rattle.broker_rows.specs.Touched.{written}
+use Rattle.broker_rows.specs.Served.{IsServed, left_off}
+use Rattle.broker_rows.specs.ConnectLaws.{all_left_off}
+use Rattle.broker_rows.specs.Published.{changed, received_on, all_delivered}
+use Rattle.broker_rows.specs.Owners.{owners_in, with_owner, without_owner}
+
+-- nothing, where a session is written with the connection that it had
+abbrev pub WritingKeepsOwners : Type 0
+WritingKeepsOwners =
+    (c : Client) → (old new : ClientSession) → (rows : Sessions) → session_in c rows ≡ Some old →
+    new.connection ≡ old.connection → (y : ConnectionName) → owners_in (written c (Some new) rows) y ≡ owners_in rows y
+
+-- where a served client's connection ends, it is removed
+abbrev pub LeavingRemovesTheOwner : Type 0
+LeavingRemovesTheOwner =
+    (state : State) → (x : ConnectionName) → (c : Client) → (kept : ClientSession) → IsServed state x c kept →
+    (y : ConnectionName) →
+    owners_in (written c (left_off kept) state.sessions) y ≡ without_owner (Some x) (owners_in state.sessions) y
+
+-- where a session is inserted on a connection of nobody, that one is the client's, and the one that it had is removed
+abbrev pub ConnectingSetsTheOwner : Type 0
+ConnectingSetsTheOwner =
+    (state : State) → (x : ConnectionName) → (c : Client) → (new : ClientSession) → IsSound state →
+    owner_in x state.sessions ≡ None → new.connection ≡ Some x → (y : ConnectionName) →
+    owners_in (insert_entry by_bytes state.sessions c new) y
+    ≡ with_owner x c (without_owner (connection_of (session_in c state.sessions)) (owners_in state.sessions)) y
+
+-- the same where a session goes on
+abbrev pub ResumingSetsTheOwner : Type 0
+ResumingSetsTheOwner =
+    (state : State) → (x : ConnectionName) → (c : Client) → (old new : ClientSession) → IsSound state →
+    owner_in x state.sessions ≡ None → session_in c state.sessions ≡ Some old → new.connection ≡ Some x →
+    (y : ConnectionName) →
+    owners_in (written c (Some new) state.sessions) y
+    ≡ with_owner x c (without_owner old.connection (owners_in state.sessions)) y
+
+-- a Start leaves none
+abbrev pub StartRemovesTheOwners : Type 0
+StartRemovesTheOwners = (rows : Sessions) → (y : ConnectionName) → owners_in (all_left_off rows) y ≡ None
+
+-- nothing, where a publication is noted and delivered
+abbrev pub PublishingKeepsOwners : Type 0
+PublishingKeepsOwners =
+    (window : ℕ) → (p : Publication) → (granted : List Row) → (c : Client) → (delivery : Delivery) → (rows : Sessions) →
+    (y : ConnectionName) →
+    owners_in (all_delivered window p granted (changed c (received_on delivery) rows)) y ≡ owners_in rows y
