@@ -47,3 +47,11 @@ is_nobodys tables x owned = by (owner_in x tables.sessions.entries) owned
     by : (o : Option (Client × ClientSession)) → option_map (λ (row : Client × ClientSession). row.0) o ≡ None → o ≡ None
     by (Some row) e = absurd (cc)
     by None e = refl
+
+-- what is found twice is one
+pub some_is : (a b : ClientSession) → Some a ≡ Some b → a ≡ b
+some_is a b e = ap (λ o. value o) e
+  where
+    value : Option ClientSession → ClientSession
+    value (Some k) = k
+    value None = a

@@ -1,3 +1,5 @@
 pub mod FoundByMaps
 pub mod TiesOfRows
 pub mod Handshakes
+pub mod Connections
+pub mod Losses

@@ -1,7 +1,10 @@
--- Words of private calls: the steps of handshakes.
+-- Words of private calls: the steps of handshakes, and copies of publications.
 use Rattle.std.specs.Prelude.{Bool, true, false, List, [], ◌∷◌}
+use Rattle.packet.specs.declared.qos.QoS.{QoS}
 use Rattle.packet.specs.declared.packet.Packet.{Packet}
 use Rattle.packet.specs.declared.packet.Packet.TheVariants as packets
+use Rattle.session_base.specs.declared.publication.Publication.{Publication}
+use Rattle.session_base.specs.Publication.{lower_qos}
 use Rattle.session_base.specs.Session.{SessionState}
 use Rattle.session_base.specs.Queue.{on_puback, on_pubrec, on_pubcomp}
 use Rattle.session_base.specs.Sending.{fill_sends, pubrec_sends}
@@ -21,3 +24,7 @@ handshake_sends (packets.Pubrec id) held = pubrec_sends id (on_pubrec id held.qu
 handshake_sends (packets.Pubrel id) held = packets.Pubcomp id ∷ []
 handshake_sends (packets.Pubcomp id) held = fill_sends 16 (on_pubcomp id held.queue.in_flight) held.queue.waiting
 handshake_sends _ held = []
+
+-- the copy of a publication for who is granted it at this QoS (MQTT 3.3.1.3, 3.3.5)
+abbrev pub lowered : Publication → QoS → Publication
+lowered p qos = record { retain = false; qos = lower_qos p.qos qos; topic = p.topic; payload = p.payload }

@@ -4,7 +4,11 @@
 
 mod answers;
 mod client_row;
+mod delivering;
+mod leaving;
 mod limits;
+mod publishing;
+mod retained_copies;
 mod sending;
 mod serving;
 mod tables;

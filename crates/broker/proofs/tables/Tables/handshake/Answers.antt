@@ -57,7 +57,7 @@ returns-clause-tied c =
     let kept = c.unwrap-row.result.now in
     let held : session_in c.args.client.now t.sessions.entries ≡ Some kept
     = sym c.get_mut.ensures.value ∙ ap option_copied_mut c.unwrap-row.ensures in
-    ties_of_set t _ c.args.client.now kept _ c.requires.in_step.tied refl refl (c.get_mut.follows.holds _).0 held
+    ties_of_set t _ c.args.client.now kept _ c.requires.in_step refl refl (c.get_mut.follows.holds _).0 held
     (ap (λ (k : ClientSession). k.connection) c.row.view_is)
     (ap (λ s. s.subscriptions) c.in_ok-take_step.ensures.state ∙ handshake_keeps_filters c.args.packet.now c.row.inside.state c.requires.kind
     ∙ ap (λ (k : ClientSession). k.state.subscriptions) c.row.view_is)
