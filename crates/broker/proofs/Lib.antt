@@ -3,3 +3,5 @@ pub mod TiesOfRows
 pub mod Handshakes
 pub mod Connections
 pub mod Losses
+pub mod Publications
+pub mod Unsubscriptions

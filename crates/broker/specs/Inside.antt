@@ -1,11 +1,13 @@
 -- Words of private calls: the steps of handshakes, and copies of publications.
-use Rattle.std.specs.Prelude.{Bool, true, false, List, [], ◌∷◌}
+use Rattle.std.specs.Prelude.{◌≡◌, Bool, true, false, List, [], ◌∷◌}
 use Rattle.packet.specs.declared.qos.QoS.{QoS}
 use Rattle.packet.specs.declared.packet.Packet.{Packet}
 use Rattle.packet.specs.declared.packet.Packet.TheVariants as packets
 use Rattle.session_base.specs.declared.publication.Publication.{Publication}
 use Rattle.session_base.specs.Publication.{lower_qos}
 use Rattle.session_base.specs.Session.{SessionState}
+use Rattle.subs_base.specs.ListIndex.{content_of}
+use Rattle.broker.specs.declared.tables.Tables.{Tables}
 use Rattle.session_base.specs.Queue.{on_puback, on_pubrec, on_pubcomp}
 use Rattle.session_base.specs.Sending.{fill_sends, pubrec_sends}
 
@@ -28,3 +30,9 @@ handshake_sends _ held = []
 -- the copy of a publication for who is granted it at this QoS (MQTT 3.3.1.3, 3.3.5)
 abbrev pub lowered : Publication → QoS → Publication
 lowered p qos = record { retain = false; qos = lower_qos p.qos qos; topic = p.topic; payload = p.payload }
+
+-- all but the sessions is as it was
+pub record HasOthersOf (tables after : Tables) : Type 0 where
+  pub owners : after.owners.entries ≡ tables.owners.entries
+  pub index : content_of after.index ≡ content_of tables.index
+  pub retained : after.retained ≡ tables.retained

@@ -12,3 +12,4 @@ mod retained_copies;
 mod sending;
 mod serving;
 mod tables;
+mod unsubscribing;

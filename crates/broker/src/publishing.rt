@@ -1,23 +1,105 @@
 // PUBLISH: a client's publication, to everybody who subscribed to it (MQTT 3.3).
 
-ghost use Rattle.std.specs.Prelude.{◌≡◌, ◌++◌, false, OnOk};
+ghost use Rattle.std.specs.Prelude.{◌≡◌, ◌++◌, false, Some, OnOk, IfOk, IfSome};
 ghost use Rattle.std.specs.List.{list_any};
+ghost use Rattle.packet.specs.declared.packet.Packet.TheVariants as packets;
+ghost use Rattle.broker_model.specs.declared.command.Command.TheVariants as commands;
+ghost use Rattle.broker_rows.specs.Owners.{owners_in};
+ghost use Rattle.broker_rows.specs.PublishLaws.{is_refused_in};
+ghost use Rattle.broker.specs.Tables.{IsInStep, IsTied, state_in, stepped};
+ghost use Rattle.broker.specs.Inside.{HasOthersOf};
 ghost use Rattle.broker_model.specs.Answers.{acknowledged};
 ghost use Rattle.broker_model.specs.Commands.{usual_limits};
 ghost use Rattle.broker_model.specs.Retained.{retains};
 ghost use Rattle.broker_base.specs.Decisions.{is_again, is_one_topic_over};
 ghost use Rattle.broker_base.specs.State.{session_in};
-ghost use Rattle.broker_rows.specs.Published.{is_full_at, all_delivered, answered_in_turn, changed, copy_answered, delivered_on, received_on};
+ghost use Rattle.broker_rows.specs.Published.{is_full_at, all_delivered, answered_in_turn, changed, copy_answered, delivered_on, granted_rows, received_on};
 
 use crate::client_row::ClientRow;
-use crate::delivering::{deliver, lower};
+use crate::delivering::{deliver, lower, publication_of};
+use crate::tables::Tables;
 use broker_model::{ConnectionId, Output};
 use machine::Halted;
-use packet::{ClientId, Delivery, Packet, QoS};
+use packet::{ClientId, Delivery, Packet, Publish, QoS};
 use retained::RetainedStore;
 use session_base::Publication;
-use std::alloc::Global;
+use std::alloc::AllocError;
 use std::collections::BTreeMap;
+use subs::SubIndex;
+use topics::TopicName;
+
+impl Tables {
+    /// Does a PUBLISH of the client that is served on this connection: another try is answered once
+    /// more, one for which there is no room closes the connection, and any other is taken.
+    pub(crate) fn publish(
+        &mut self,
+        connection: ConnectionId,
+        client: &ClientId,
+        publish: &Publish,
+        out: &mut Vec<Output>,
+    ) -> Result<(), Halted>
+        requires in_step { IsInStep self.old }
+        requires served { owners_in self.old.sessions.entries connection ≡ Some client.now }
+        ensures state { OnOk result
+            (state_in self.new
+            ≡ (stepped self.old (commands.Packet connection (packets.Publish publish.now))).0) }
+        ensures outputs { OnOk result
+            (out.new.items
+            ≡ out.old.items
+            ++ (stepped self.old (commands.Packet connection (packets.Publish publish.now))).1) }
+        ensures tied { OnOk result (IsTied self.new) }
+    {
+        if is_again(&self.sessions[client], publish.delivery) {
+            acknowledge(connection, publish.delivery, out)?;
+            return Ok(());
+        }
+        let publication = publication_of(publish)?;
+        let granted = self.granted(&publish.topic)?;
+        if self.refuses(&publication, &granted) {
+            self.expel(connection, out)?;
+            return Ok(());
+        }
+        acknowledge(connection, publish.delivery, out)?;
+        self.note(client, publish.delivery)?;
+        deliver_all(&mut self.sessions, &publication, &granted, out)?;
+        retain(&mut self.retained, publication)?;
+        Ok(())
+    }
+
+    // The clients with a subscription that matches, each with the greatest QoS.
+    fn granted(&self, topic: &TopicName) -> Result<Vec<(ClientId, QoS)>, AllocError>
+        requires { IsInStep self.now }
+        ensures { IfOk result (λ rows. rows.items ≡ granted_rows topic.now self.now.sessions.entries) }
+    {
+        let mut rows = Vec::new(self.alloc);
+        self.index.granted(topic, &mut rows)?;
+        Ok(rows)
+    }
+
+    // Whether a session that is granted the publication lacks room for it, or it is one topic over.
+    fn refuses(&self, publication: &Publication, granted: &[(ClientId, QoS)]) -> bool
+        requires { granted.now ≡ granted_rows publication.now.topic self.now.sessions.entries }
+        ensures { result ≡ is_refused_in usual_limits (state_in self.now) publication.now }
+    {
+        is_any_full(&self.sessions, publication, granted)
+            || is_one_topic_over(&self.retained, publication)
+    }
+
+    // The publisher's session takes note of the identifier of a PUBLISH at QoS 2 (MQTT 4.3.3).
+    fn note(&mut self, client: &ClientId, delivery: Delivery) -> Result<(), Halted>
+        requires { IfSome (session_in client.now self.old.sessions.entries)
+            (λ kept. is_again kept delivery ≡ false) }
+        ensures sessions { OnOk result
+            (self.new.sessions.entries
+            ≡ changed client.now (received_on delivery) self.old.sessions.entries) }
+        ensures others { HasOthersOf self.old self.new }
+    {
+        if let Some(row) = self.sessions.get_mut(client) {
+            note(row, delivery)?;
+        }
+        Ok(())
+    }
+}
 
 // Whether a delivery is another try of one that the session took (MQTT 4.3.3).
 fn is_again(row: &ClientRow, delivery: Delivery) -> bool
