@@ -5,3 +5,5 @@ pub mod Connections
 pub mod Losses
 pub mod Publications
 pub mod Unsubscriptions
+pub mod Connects
+pub mod Starts

@@ -36,3 +36,9 @@ pub record HasOthersOf (tables after : Tables) : Type 0 where
   pub owners : after.owners.entries ≡ tables.owners.entries
   pub index : content_of after.index ≡ content_of tables.index
   pub retained : after.retained ≡ tables.retained
+
+-- all but the map of connections is as it was
+pub record HasOthersThanOwners (tables after : Tables) : Type 0 where
+  pub sessions : after.sessions.entries ≡ tables.sessions.entries
+  pub index : content_of after.index ≡ content_of tables.index
+  pub retained : after.retained ≡ tables.retained

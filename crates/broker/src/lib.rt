@@ -4,6 +4,7 @@
 
 mod answers;
 mod client_row;
+mod connecting;
 mod delivering;
 mod leaving;
 mod limits;
@@ -11,5 +12,6 @@ mod publishing;
 mod retained_copies;
 mod sending;
 mod serving;
+mod starting;
 mod tables;
 mod unsubscribing;
