@@ -8,6 +8,8 @@ pub mod PacketLaws
 pub mod LeavingLaws
 pub mod ConnectLaws
 pub mod PublishLaws
+pub mod CopyLaws
+pub mod Rows
 pub mod OwnerLaws
 pub mod IndexLaws
 pub mod PublicationLaws

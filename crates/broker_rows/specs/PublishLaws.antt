@@ -1,8 +1,9 @@
 -- What a PUBLISH of a served client does that is no repeat: it is refused whole, or it is taken, and the granted
 -- rows alone are touched, each of them once (MQTT 3.3.1.3, 3.3.4, 3.3.5, 4.3).
-use Rattle.std.specs.Prelude.{◌≡◌, ℕ, Bool, false, true, ◌||◌, [], ◌∷◌, ◌++◌, Some, None}
+use Rattle.std.specs.Prelude.{◌≡◌, ℕ, Bool, false, true, ◌||◌, List, [], ◌∷◌, ◌++◌, Some, None}
 use Rattle.std.specs.List.{list_any}
 use Rattle.packet.specs.declared.publish.Publish.{Publish}
+use Rattle.packet.specs.declared.delivery.Delivery.{Delivery}
 use Rattle.packet.specs.declared.packet.Packet.TheVariants as packets
 use Rattle.session_base.specs.declared.publication.Publication.{Publication}
 use Rattle.session_base.specs.Publication.{publication_of}
@@ -13,12 +14,14 @@ use Rattle.broker_base.specs.Retained.{retains}
 use Rattle.broker_base.specs.ClientSession.{ClientSession}
 use Rattle.broker_base.specs.State.{Sessions, State, session_in}
 use Rattle.broker_base.specs.Decisions.{is_one_topic_over, is_again}
+use Rattle.broker_base.specs.StateLaws.{AreByClient}
 use Rattle.broker_base.specs.Step.{step}
 use Rattle.broker_base.specs.Command.TheVariants as commands
 use Rattle.broker_base.specs.Output.TheVariants.{Close}
+use Rattle.subs.specs.Granted.{Row}
 use Rattle.broker_rows.specs.Touched.{written}
 use Rattle.broker_rows.specs.Served.{IsServed, with_session, left_off}
-use Rattle.broker_rows.specs.Published.{granted_rows, changed, received_on, all_delivered, is_full_at, answered_in_turn}
+use Rattle.broker_rows.specs.Published.{granted_rows, changed, received_on, delivered_on, all_delivered, is_full_at, answered_in_turn}
 
 -- whether a granted row's session is full for it, or it would be retained on a topic too many
 abbrev pub is_refused_in : Limits → State → Publication → Bool
@@ -52,6 +55,22 @@ TakenStep =
       },
       acknowledged x p.delivery ++ answered_in_turn state.window (publication_of p) granted noted,
     )
+
+-- ---- room
+
+-- each granted row's session has room when its turn comes
+abbrev pub HaveRoomInTurn : Limits → ℕ → Publication → List Row → Sessions → Type 0
+HaveRoomInTurn limits window p (row ∷ granted) rows =
+    (is_full_at limits p row.1 (session_in row.0 rows) ≡ false)
+    × HaveRoomInTurn limits window p granted (changed row.0 (delivered_on window p row.1) rows)
+HaveRoomInTurn limits window p [] rows = Unit {0}
+
+-- so it is where none is full before: no copy of a taken publication finds its queue full
+abbrev pub RoomLastsToItsTurn : Type 0
+RoomLastsToItsTurn =
+    (limits : Limits) → (window : ℕ) → (p : Publication) → (c : Client) → (delivery : Delivery) → (rows : Sessions) → AreByClient rows →
+    list_any (λ row. is_full_at limits p row.1 (session_in row.0 rows)) (granted_rows p.topic rows) ≡ false →
+    HaveRoomInTurn limits window p (granted_rows p.topic rows) (changed c (received_on delivery) rows)
 
 -- ---- one session changed
 

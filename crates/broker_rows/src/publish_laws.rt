@@ -1,6 +1,6 @@
 // Laws of a PUBLISH that is no repeat. The calls do nothing; their contracts are the laws.
 
-ghost use Rattle.broker_rows.specs.PublishLaws.{RefusedStep, TakenStep, ChangeIsOfOneRow};
+ghost use Rattle.broker_rows.specs.PublishLaws.{RefusedStep, TakenStep, RoomLastsToItsTurn, ChangeIsOfOneRow};
 
 /// A publication for which a granted row's session is full, or that would be retained on a topic too many,
 /// is refused whole: its publisher's connection ends (MQTT 4.8).
@@ -12,6 +12,12 @@ pub fn refused_publication_steps()
 /// granted session in turn gets its copy and what that sends (MQTT 3.3.4, 3.3.5, 4.3).
 pub fn taken_publication_steps()
     ensures { TakenStep }
+{}
+
+/// Where no granted row's session is full for it, none is when its turn comes: no copy of a taken
+/// publication finds its queue full.
+pub fn room_lasts_to_its_turn()
+    ensures { RoomLastsToItsTurn }
 {}
 
 /// To change one session in its place is to write it where it is found.

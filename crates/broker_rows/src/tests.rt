@@ -22,11 +22,16 @@ fn laws_are_called() -> Result<(), Fail> {
     start_steps();
     refused_publication_steps();
     taken_publication_steps();
+    room_lasts_to_its_turn();
     change_is_of_one_row();
+    copies_in_parts();
+    subscribes_in_turn();
     maps_stay();
     owners_of_connect();
     owners_of_end();
     content_of_subscriptions();
     content_of_ended_sessions();
+    one_publication_for_three_clients();
+    maps_of_three_clients();
     Ok(())
 }

@@ -10,7 +10,7 @@ use Rattle.broker_rows.specs.Touched.{written}
 use Rattle.broker_rows.specs.Published.{changed}
 use Rattle.broker_rows.specs.Owners.{owners_in}
 use Rattle.broker_rows.specs.OwnerLaws.{WritingKeepsOwners}
-use Rattle.broker_rows.proofs.OneChanged.{changed_next}
+use Rattle.broker_rows.proofs.publications.OneChanged.{changed_next}
 
 -- the client is that of the row, or of one behind it
 pub owners_row : (y : ConnectionName) (row : Client × ClientSession) (rows : Sessions) →

@@ -1,4 +1,4 @@
-use Rattle.broker_rows.proofs.GrantedBySessions.{rows_are}
+use Rattle.broker_rows.proofs.publications.GrantedBySessions.{rows_are}
 use Rattle.broker_rows.proofs.laws.granted_rows_match.Goals as goal
 
 pub returns : goal.returns

@@ -1,4 +1,4 @@
-use Rattle.broker_rows.proofs.PublishSteps.{taken_step}
+use Rattle.broker_rows.proofs.publications.PublishSteps.{taken_step}
 use Rattle.broker_rows.proofs.publish_laws.taken_publication_steps.Goals as goal
 
 pub returns : goal.returns

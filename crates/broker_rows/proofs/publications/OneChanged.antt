@@ -1,5 +1,5 @@
 -- One session changed in its place.
-use Rattle.std.proofs.Common.{◌≡◌, Bool, true, false, if◌then◌else◌, [], ◌∷◌, Some, None, refl, ap, ◌∙◌, sym}
+use Rattle.std.proofs.Common.{◌≡◌, Bool, true, false, if◌then◌else◌, [], ◌∷◌, Option, Some, None, refl, ap, ◌∙◌, sym}
 use Rattle.std.specs.Prelude.{option_map}
 use Rattle.std.specs.Ordering.{is_eq}
 use Rattle.broker_base.specs.Place.{Client, same_client}
@@ -56,6 +56,28 @@ other_stays d c change (row ∷ rows) other =
         absurd (cc)
     by true e false f more = ap (λ b. if b then Some (change row.1) else session_in c rows) f ∙ sym (ap (λ b. if b then Some row.1 else session_in c rows) f)
     by false e asked f more = ap (λ found. if same_client c row.0 then Some row.1 else found) more
+
+-- what the change leaves of a session stands in each of them
+pub changed_as : {A : Type 0} (look : Option ClientSession → A) (d : Client) (change : ClientSession → ClientSession) (c : Client) (rows : Sessions) →
+    ((kept : ClientSession) → look (Some (change kept)) ≡ look (Some kept)) → look (session_in c (changed d change rows)) ≡ look (session_in c rows)
+changed_as look d change c [] same = refl
+changed_as look d change c (row ∷ rows) same =
+    ap (λ all. look (session_in c all)) (changed_next d change row rows)
+    ∙ by (same_client d row.0) (changed_as look d change c rows same)
+  where
+    here : (b : Bool) → look (if b then Some (change row.1) else session_in c rows) ≡ look (if b then Some row.1 else session_in c rows)
+    here true = same row.1
+    here false = refl
+
+    behind : (b : Bool) → look (session_in c (changed d change rows)) ≡ look (session_in c rows) →
+        look (if b then Some row.1 else session_in c (changed d change rows)) ≡ look (if b then Some row.1 else session_in c rows)
+    behind true more = refl
+    behind false more = more
+
+    by : (mine : Bool) → look (session_in c (changed d change rows)) ≡ look (session_in c rows) →
+        look (session_in c (if mine then (row.0, change row.1) ∷ rows else row ∷ changed d change rows)) ≡ look (session_in c (row ∷ rows))
+    by true more = here (same_client c row.0)
+    by false more = behind (same_client c row.0) more
 
 -- where it is found, and where it is not
 pub change_is_of_one_row : ChangeIsOfOneRow

@@ -14,10 +14,10 @@ use Rattle.broker_base.specs.Step.{step_at}
 use Rattle.broker_base.specs.StateLaws.{AreByClient}
 use Rattle.broker_base.specs.Command.TheVariants as commands
 use Rattle.broker_rows.specs.PublishLaws.{is_refused_in, RefusedStep, TakenStep}
-use Rattle.broker_rows.proofs.RoomOfGranted.{full_of_granted}
-use Rattle.broker_rows.proofs.AnswersOfGranted.{answers_of_granted}
-use Rattle.broker_rows.proofs.PublishLeft.{publish_left}
-use Rattle.broker_rows.proofs.AnswersInTurn.{answered_from_noted}
+use Rattle.broker_rows.proofs.publications.RoomOfGranted.{full_of_granted}
+use Rattle.broker_rows.proofs.publications.AnswersOfGranted.{answers_of_granted}
+use Rattle.broker_rows.proofs.publications.PublishLeft.{publish_left}
+use Rattle.broker_rows.proofs.publications.AnswersInTurn.{answered_from_noted}
 use Rattle.broker_rows.proofs.LeavingSteps.{leaving_step}
 
 -- what becomes of it

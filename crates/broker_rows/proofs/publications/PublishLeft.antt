@@ -20,8 +20,8 @@ use Rattle.broker_base.proofs.ClientsInOrder.{same_self, same_is, less_turned}
 use Rattle.broker_base.proofs.SessionsStayByClient.{ComesBefore}
 use Rattle.subs.specs.Granted.{Row, row_of}
 use Rattle.broker_rows.specs.Published.{granted_rows, changed, received_on, delivered_on, all_delivered}
-use Rattle.broker_rows.proofs.OneChanged.{changed_next, changed_none}
-use Rattle.broker_rows.proofs.RowOfPublish.{received_if, delivered_if, published_is}
+use Rattle.broker_rows.proofs.publications.OneChanged.{changed_next, changed_none}
+use Rattle.broker_rows.proofs.publications.RowOfPublish.{received_if, delivered_if, published_is}
 
 -- the publisher's identifier is noted in the first row, and in those behind it
 changed_first : (d : Client) (p : Publish) (row : Client × ClientSession) (rows : Sessions) → ComesBefore row.0 rows →

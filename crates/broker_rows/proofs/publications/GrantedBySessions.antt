@@ -23,7 +23,7 @@ use Rattle.broker_rows.specs.Indexed.{subscribed_in, content_in}
 use Rattle.session_base.specs.KeepingLaws.{AreFiltersApart}
 use Rattle.broker_base.specs.StateLaws.{AllSound}
 use Rattle.broker_rows.proofs.FindsEach.{Finds, finds_each}
-use Rattle.broker_rows.proofs.GreatestGranted.{reaches, comes}
+use Rattle.broker_rows.proofs.publications.GreatestGranted.{reaches, comes}
 
 -- ---- the rows rise
 

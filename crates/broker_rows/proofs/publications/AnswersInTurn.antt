@@ -1,5 +1,5 @@
 -- The answers to a taken PUBLISH, where each granted row's is made as its session gets its copy.
-use Rattle.std.proofs.Common.{◌≡◌, ℕ, Bool, true, false, if◌then◌else◌, List, [], ◌∷◌, ◌++◌, Option, Some, None, refl, ap, ap₂, ◌∙◌, sym}
+use Rattle.std.proofs.Common.{◌≡◌, ℕ, List, [], ◌∷◌, ◌++◌, Option, Some, None, refl, ap, ap₂, ◌∙◌, sym}
 use Rattle.std.specs.Prelude.{flat_map}
 use Rattle.std.specs.Ordering.{is_eq}
 use Rattle.std.specs.List.Sorted.{IsStrictlySortedBy}
@@ -7,14 +7,14 @@ use Rattle.packet.specs.declared.qos.QoS.{QoS}
 use Rattle.packet.specs.declared.delivery.Delivery.{Delivery}
 use Rattle.session_base.specs.declared.publication.Publication.{Publication}
 use Rattle.session_base.specs.Subscriptions.{granted_qos}
-use Rattle.broker_base.specs.Place.{Client, same_client}
+use Rattle.broker_base.specs.Place.{Client}
 use Rattle.broker_base.specs.ClientSession.{ClientSession}
 use Rattle.broker_base.specs.State.{Sessions, session_in}
 use Rattle.broker_base.specs.StateLaws.{AreByClient}
 use Rattle.subs.specs.Granted.{Row, row_of}
 use Rattle.broker_rows.specs.Published.{granted_rows, changed, received_on, delivered_on, copy_answered, answered_in_turn}
-use Rattle.broker_rows.proofs.OneChanged.{changed_next, other_stays}
-use Rattle.broker_rows.proofs.PublishLeft.{GrantedBehind, behind_rows}
+use Rattle.broker_rows.proofs.publications.OneChanged.{changed_as, other_stays}
+use Rattle.broker_rows.proofs.publications.PublishLeft.{GrantedBehind, behind_rows}
 
 -- the granted rows rise
 abbrev pub AreRising : List Row → Type 0
@@ -22,7 +22,7 @@ AreRising (row ∷ granted) = GrantedBehind row.0 granted × AreRising granted
 AreRising [] = Unit {0}
 
 -- as the sessions do
-granted_rise : (topic : List ℕ) (rows : Sessions) → AreByClient rows → AreRising (granted_rows topic rows)
+pub granted_rise : (topic : List ℕ) (rows : Sessions) → AreByClient rows → AreRising (granted_rows topic rows)
 unfolding IsStrictlySortedBy
 granted_rise topic [] by_client = tt
 granted_rise topic (row ∷ rows) by_client = by (granted_qos topic row.1.state.subscriptions) (granted_rise topic rows by_client.1)
@@ -48,34 +48,13 @@ in_turn w p (row ∷ granted) rows rise =
     (in_turn w p granted (changed row.0 (delivered_on w p row.1) rows) rise.1 ∙ answers_behind w p row.0 (delivered_on w p row.1) granted rows rise.0)
 
 -- the publisher's identifier changes no answer
-noted : (w : ℕ) (p : Publication) (d : Client) (delivery : Delivery) (qos : QoS) (c : Client) (rows : Sessions) →
-    copy_answered w p qos (session_in c (changed d (received_on delivery) rows)) ≡ copy_answered w p qos (session_in c rows)
-noted w p d delivery qos c [] = refl
-noted w p d delivery qos c (row ∷ rows) =
-    ap (λ all. copy_answered w p qos (session_in c all)) (changed_next d (received_on delivery) row rows)
-    ∙ by (same_client d row.0) (noted w p d delivery qos c rows)
-  where
-    here : (b : Bool) → copy_answered w p qos (if b then Some (received_on delivery row.1) else session_in c rows) ≡ copy_answered w p qos (if b then Some row.1 else session_in c rows)
-    here true = refl
-    here false = refl
-
-    behind : (b : Bool) → copy_answered w p qos (session_in c (changed d (received_on delivery) rows)) ≡ copy_answered w p qos (session_in c rows) →
-        copy_answered w p qos (if b then Some row.1 else session_in c (changed d (received_on delivery) rows)) ≡ copy_answered w p qos (if b then Some row.1 else session_in c rows)
-    behind true more = refl
-    behind false more = more
-
-    by : (mine : Bool) → copy_answered w p qos (session_in c (changed d (received_on delivery) rows)) ≡ copy_answered w p qos (session_in c rows) →
-        copy_answered w p qos (session_in c (if mine then (row.0, received_on delivery row.1) ∷ rows else row ∷ changed d (received_on delivery) rows))
-        ≡ copy_answered w p qos (session_in c (row ∷ rows))
-    by true more = here (same_client c row.0)
-    by false more = behind (same_client c row.0) more
-
--- of all granted rows
 noted_all : (w : ℕ) (p : Publication) (d : Client) (delivery : Delivery) (granted : List Row) (rows : Sessions) →
     flat_map (λ row. copy_answered w p row.1 (session_in row.0 (changed d (received_on delivery) rows))) granted
     ≡ flat_map (λ row. copy_answered w p row.1 (session_in row.0 rows)) granted
 noted_all w p d delivery [] rows = refl
-noted_all w p d delivery (row ∷ granted) rows = ap₂ (λ here more. here ++ more) (noted w p d delivery row.1 row.0 rows) (noted_all w p d delivery granted rows)
+noted_all w p d delivery (row ∷ granted) rows =
+    ap₂ (λ here more. here ++ more) (changed_as (copy_answered w p row.1) d (received_on delivery) row.0 rows (λ kept. refl))
+    (noted_all w p d delivery granted rows)
 
 -- so one loop may note, deliver and answer
 pub answered_from_noted : (w : ℕ) (p : Publication) (d : Client) (delivery : Delivery) (rows : Sessions) → AreByClient rows →

@@ -1,0 +1,84 @@
+-- Copies that come to a connected client's session in parts, as a loop brings them, and a SUBSCRIBE filter by filter
+-- (MQTT 3.8.4, 4.6).
+use Rattle.std.specs.Prelude.{◌≡◌, ℕ, ◌-◌, Bool, true, false, not, ◌||◌, nat_lt, if◌then◌else◌, List, [], ◌∷◌, ◌++◌, length}
+use Rattle.packet.specs.declared.packet.Packet.{Packet}
+use Rattle.packet.specs.declared.subscribe.Subscription.{Subscription}
+use Rattle.retained.specs.Retained.{RetainedTopics}
+use Rattle.session_base.specs.declared.publication.Publication.{Publication}
+use Rattle.session_base.specs.Publication.{is_answered}
+use Rattle.session_base.specs.Session.{SessionState}
+use Rattle.session_base.specs.Queue.{Queue, room, copies_left}
+use Rattle.session_base.specs.Sending.{copies_sent}
+use Rattle.broker_base.specs.Place.{Limits}
+use Rattle.broker_base.specs.Subscriptions.{granted_of}
+use Rattle.broker_base.specs.Entries.{copies_for, copies_for_all, queued}
+use Rattle.broker_base.specs.Marks.{is_one_too_many, entries_for, grants}
+use Rattle.broker_rows.specs.PacketLaws.{subscribed_to}
+
+-- copies that come in two parts leave what all of them leave, and send the same
+abbrev pub CopiesJoin : Type 0
+CopiesJoin =
+    (window : ℕ) → (copies more : List Publication) → (queue : Queue) →
+    (copies_left window (copies ++ more) queue ≡ copies_left window more (copies_left window copies queue))
+    × (copies_sent window (copies ++ more) queue
+    ≡ copies_sent window copies queue ++ copies_sent window more (copies_left window copies queue))
+
+-- each copy of QoS 1 or 2 takes one place, whether it starts or waits
+abbrev pub CopiesTakeRoom : Type 0
+CopiesTakeRoom =
+    (window limit : ℕ) → (copies : List Publication) → (queue : Queue) →
+    room limit (copies_left window copies queue) ≡ room limit queue - length (queued copies)
+
+-- so where there is room for all of them, each finds some when its turn comes
+abbrev pub CopiesFindRoom : Type 0
+CopiesFindRoom =
+    (window limit : ℕ) → (before : List Publication) → (p : Publication) → (behind : List Publication) → (queue : Queue) →
+    nat_lt (room limit queue) (length (queued (before ++ p ∷ behind))) ≡ false → is_answered p.qos ≡ true →
+    nat_lt 0 (room limit (copies_left window before queue)) ≡ true
+
+-- ---- filter by filter
+
+-- whether a filter is granted, where the session is this one: it is not one too many, and there is room for its copies
+abbrev pub is_granted_in : Limits → RetainedTopics → SessionState → Subscription → Bool
+is_granted_in limits content held new =
+    not (is_one_too_many limits held.subscriptions new || nat_lt (room limits.entries held.queue) (entries_for content new))
+
+-- the session behind one filter
+abbrev pub subscribed_by : Limits → ℕ → RetainedTopics → SessionState → Subscription → SessionState
+subscribed_by limits window content held new =
+    if is_granted_in limits content held new then subscribed_to window content (new ∷ []) held else held
+
+-- the packets that it is sent behind one filter
+abbrev pub sent_by : Limits → ℕ → RetainedTopics → SessionState → Subscription → List Packet
+sent_by limits window content held new =
+    if is_granted_in limits content held new then copies_sent window (copies_for content new) held.queue else []
+
+-- which filters are granted, each of the session that those before it left
+abbrev pub granted_in_turn : Limits → ℕ → RetainedTopics → SessionState → List Subscription → List Bool
+granted_in_turn limits window content held (new ∷ more) =
+    is_granted_in limits content held new
+    ∷ granted_in_turn limits window content (subscribed_by limits window content held new) more
+granted_in_turn limits window content held [] = []
+
+-- the session behind all of them
+abbrev pub subscribed_in_turn : Limits → ℕ → RetainedTopics → SessionState → List Subscription → SessionState
+subscribed_in_turn limits window content held (new ∷ more) =
+    subscribed_in_turn limits window content (subscribed_by limits window content held new) more
+subscribed_in_turn limits window content held [] = held
+
+-- the packets of all of them
+abbrev pub sent_in_turn : Limits → ℕ → RetainedTopics → SessionState → List Subscription → List Packet
+sent_in_turn limits window content held (new ∷ more) =
+    sent_by limits window content held new
+    ++ sent_in_turn limits window content (subscribed_by limits window content held new) more
+sent_in_turn limits window content held [] = []
+
+-- one pass over the filters decides, subscribes and sends as the step at a SUBSCRIBE does
+abbrev pub SubscribesInTurn : Type 0
+SubscribesInTurn =
+    (limits : Limits) → (window : ℕ) → (content : RetainedTopics) → (held : SessionState) → (filters : List Subscription) →
+    let which = granted_in_turn limits window content held filters in
+    (grants limits content held.subscriptions (room limits.entries held.queue) filters ≡ which)
+    × (subscribed_to window content (granted_of filters which) held ≡ subscribed_in_turn limits window content held filters)
+    × (copies_sent window (copies_for_all content (granted_of filters which)) held.queue
+    ≡ sent_in_turn limits window content held filters)

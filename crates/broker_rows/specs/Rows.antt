@@ -1,0 +1,98 @@
+-- Three clients' sessions, and what the words of the laws say of them, computed: a is clean and served on connection 1,
+-- b is away and holds t/# at QoS 1, and c is clean, served on connection 2 and holds t/1 at QoS 2.
+use Rattle.std.specs.Prelude.{◌≡◌, ℕ, Bool, true, false, List, [], ◌∷◌, Option, Some, None, codes}
+use Rattle.packet.specs.declared.qos.QoS.{QoS}
+use Rattle.packet.specs.declared.qos.QoS.TheVariants as levels
+use Rattle.packet.specs.declared.delivery.Delivery.{Delivery}
+use Rattle.packet.specs.declared.delivery.Delivery.TheVariants as deliveries
+use Rattle.session_base.specs.declared.publication.Publication.{Publication}
+use Rattle.session_base.specs.declared.awaits.Awaits.TheVariants as waits_for
+use Rattle.session_base.specs.Subscriptions.{HeldFilter}
+use Rattle.session_base.specs.Queue.{Queue, empty_queue}
+use Rattle.broker_base.specs.Connection.{ConnectionName}
+use Rattle.broker_base.specs.Place.{Client}
+use Rattle.broker_base.specs.ClientSession.{ClientSession}
+use Rattle.broker_base.specs.State.{Sessions}
+use Rattle.broker_base.specs.RowWords.{a, b, nth, sends, publish}
+use Rattle.broker_rows.specs.Owners.{owners_in, with_owner, without_owner}
+use Rattle.broker_rows.specs.Indexed.{content_in, all_set, all_cleared, all_dropped, clean_clients}
+use Rattle.broker_rows.specs.Published.{granted_rows, changed, received_on, all_delivered, answered_in_turn}
+use Rattle.broker_rows.specs.ConnectLaws.{all_left_off}
+
+abbrev pub c : Client
+c = codes "c"
+
+-- a client's row, with this in its session
+abbrev pub row : Client → Bool → Option ConnectionName → List HeldFilter → List ℕ → Queue → Client × ClientSession
+row client clean connection held received queue = (
+  client,
+  record {
+    clean = clean;
+    connection = connection;
+    state = record { subscriptions = held; received = received; queue = queue };
+  },
+)
+
+-- what b and c hold
+abbrev pub of_b : List HeldFilter
+of_b = (codes "t/#", levels.AtLeastOnce) ∷ []
+
+abbrev pub of_c : List HeldFilter
+of_c = (codes "t/1", levels.ExactlyOnce) ∷ []
+
+abbrev pub three : Sessions
+three =
+    row a true (Some (nth 1)) [] [] empty_queue
+    ∷ row b false None of_b [] empty_queue
+    ∷ row c true (Some (nth 2)) of_c [] empty_queue ∷ []
+
+-- ---- a publishes o at QoS 2 on t/1, with the identifier 7
+
+abbrev pub o_at : QoS → Publication
+o_at qos = record { retain = false; qos = qos; topic = codes "t/1"; payload = codes "o" }
+
+abbrev pub seventh : Delivery
+seventh = deliveries.ExactlyOnce false 7
+
+-- b and c are granted it, each at its own QoS
+abbrev pub TwoAreGranted : Type 0
+TwoAreGranted = granted_rows (codes "t/1") three ≡ (b, levels.AtLeastOnce) ∷ (c, levels.ExactlyOnce) ∷ []
+
+-- a's session takes note of 7, o waits for b, and c is sent it and owes PUBREC
+abbrev pub EachGetsItsCopy : Type 0
+EachGetsItsCopy =
+    all_delivered 16 (o_at levels.ExactlyOnce) (granted_rows (codes "t/1") three) (changed a (received_on seventh) three)
+    ≡ row a true (Some (nth 1)) [] (7 ∷ []) empty_queue
+    ∷ row b false None of_b [] (record { in_flight = []; waiting = o_at levels.AtLeastOnce ∷ [] })
+    ∷ row c true (Some (nth 2)) of_c []
+    (record { in_flight = (1, waits_for.Pubrec (o_at levels.ExactlyOnce)) ∷ []; waiting = [] })
+    ∷ []
+
+abbrev pub OneIsAnswered : Type 0
+OneIsAnswered =
+    answered_in_turn 16 (o_at levels.ExactlyOnce) (granted_rows (codes "t/1") three) (changed a (received_on seventh) three)
+    ≡ sends 2 (publish (deliveries.ExactlyOnce false 1) false (codes "o")) ∷ []
+
+-- ---- the maps
+
+-- connection 1 is a's until it ends, and c's where c connects on it
+abbrev pub EachOwnsItsConnection : Type 0
+EachOwnsItsConnection =
+    (owners_in three (nth 1) ≡ Some a) × (owners_in three (nth 2) ≡ Some c) × (owners_in three (nth 3) ≡ None)
+    × (without_owner (Some (nth 1)) (owners_in three) (nth 1) ≡ None)
+    × (without_owner (Some (nth 1)) (owners_in three) (nth 2) ≡ Some c)
+    × (with_owner (nth 1) c (owners_in three) (nth 1) ≡ Some c)
+
+-- a filter is held character by character, replaced, given up, and dropped with its client
+abbrev pub EachHoldsItsFilters : Type 0
+EachHoldsItsFilters =
+    (content_in three b (codes "t/#") ≡ Some levels.AtLeastOnce) × (content_in three b (codes "t/1") ≡ None)
+    × (content_in three a (codes "t/#") ≡ None)
+    × (all_set b ((codes "t/#", levels.ExactlyOnce) ∷ []) (content_in three) b (codes "t/#") ≡ Some levels.ExactlyOnce)
+    × (all_cleared b (codes "t/#" ∷ []) (content_in three) b (codes "t/#") ≡ None)
+    × (all_dropped (clean_clients three) (content_in three) c (codes "t/1") ≡ None)
+    × (all_dropped (clean_clients three) (content_in three) b (codes "t/#") ≡ Some levels.AtLeastOnce)
+
+-- a Start leaves b's session alone
+abbrev pub OneIsLeftByAStart : Type 0
+OneIsLeftByAStart = (all_left_off three ≡ row b false None of_b [] empty_queue ∷ []) × (clean_clients three ≡ a ∷ c ∷ [])

@@ -1,0 +1,17 @@
+// Laws of copies that come to a session in parts. The calls do nothing; their contracts are the laws.
+
+ghost use Rattle.broker_rows.specs.CopyLaws.{CopiesJoin, CopiesTakeRoom, CopiesFindRoom, SubscribesInTurn};
+
+/// Copies that come to a session in two parts leave and send what all of them do, and each of QoS 1 or 2
+/// takes one place of its room, so that each finds some where there is enough for all (MQTT 4.6).
+pub fn copies_in_parts()
+    ensures joins { CopiesJoin }
+    ensures room { CopiesTakeRoom }
+    ensures enough { CopiesFindRoom }
+{}
+
+/// A SUBSCRIBE may be taken filter by filter: each is granted by the session that those before it left
+/// (MQTT 3.8.4).
+pub fn subscribes_in_turn()
+    ensures { SubscribesInTurn }
+{}
