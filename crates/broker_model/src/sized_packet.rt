@@ -1,7 +1,7 @@
 // A packet that the log may hold.
 
 ghost use Rattle.std.specs.Prelude.{◌≡◌, ◌↔◌, IfOk, IsErr};
-ghost use Rattle.packet.specs.Spelling.{Fits, IsTooLarge};
+ghost use Rattle.packet.specs.Spelling.{Fits, IsListed, IsTooLarge};
 ghost use Rattle.broker_model.specs.Sized.{IsSized};
 
 use packet::Packet;
@@ -10,8 +10,8 @@ use std::error::Error;
 use std::fmt;
 use std::marker::Model;
 
-/// A packet whose body has at most 1,048,572 bytes, so that what a log holds can be written down.
-/// A contract sees the packet.
+/// A packet that can be written down, as what a log holds has to be: its body has at most 1,048,572
+/// bytes and none of its lists is empty. A contract sees the packet.
 #[derive(Debug, Drop)]
 pub struct SizedPacket {
     packet: Packet,
@@ -50,8 +50,10 @@ impl fmt::Display for TooLarge {
 impl Error for TooLarge {}
 
 impl SizedPacket {
-    /// This packet, or `TooLarge` exactly where its body has more than 1,048,572 bytes.
+    /// This packet, or `TooLarge` exactly where its body has more than 1,048,572 bytes. A decoded
+    /// packet has no empty list (MQTT 3.8.3, 3.9.3, 3.10.3).
     pub fn new(packet: Packet) -> Result<SizedPacket, TooLarge>
+        requires listed { IsListed packet }
         ensures value { IfOk result (λ sized. sized ≡ packet) }
         ensures large { IsErr result ↔ IsTooLarge packet }
     {

@@ -7,7 +7,7 @@ use Rattle.session_base.specs.Subscriptions.{HeldFilter, is_held, with_subscript
 use Rattle.session_base.specs.KeepingLaws.{AreFiltersApart, FiltersStayApart}
 
 -- texts that differ do so either way round
-turned : (f g : List ℕ) → bytes_eq f g ≡ false → bytes_eq g f ≡ false
+pub turned : (f g : List ℕ) → bytes_eq f g ≡ false → bytes_eq g f ≡ false
 turned f g e = by (bytes_eq g f) refl
   where
     by : (b : Bool) → bytes_eq g f ≡ b → bytes_eq g f ≡ false

@@ -1,0 +1,134 @@
+-- The bytes to which a broker is frozen, form 1, and the broker that bytes stand for. Numbers are big-endian, a text
+-- has its length in two bytes before it.
+use Rattle.std.specs.Prelude.{ℕ, true, false, not, ◌&&◌, ◌||◌, ◌==◌, Bool, nat_lt, nat_le, if◌then◌else◌, List, [], ◌∷◌, ◌++◌, length, Option, Some, None, is_some, Result, Ok, Err}
+use Rattle.std.specs.Int.{w64, to_be_bytes, from_be_bytes}
+use Rattle.std.specs.Ordering.{is_lt}
+use Rattle.packet_base.specs.declared.stop.Stop.{Stop}
+use Rattle.packet_base.specs.Spelling.{number, text, bit}
+use Rattle.packet_base.specs.Reading.{◌>>=◌, ◌>>◌, byte_at, front_at, number_at, text_at, topic_at, ended}
+use Rattle.packet.specs.ClientId.{is_client}
+use Rattle.packet.specs.QoS.{qos_number}
+use Rattle.packet.specs.Spelling.{longest_body}
+use Rattle.retained.specs.declared.retained_publication.RetainedPublication.{RetainedPublication}
+use Rattle.session_form.specs.Counted.{keep, last_of, counted, counted_at}
+use Rattle.session_form.specs.Form.{long_number, long_number_at, flag_at, qos_at, body_length, state_bytes, state_at}
+use Rattle.broker_model.specs.Connection.{ConnectionName, is_connection_name}
+use Rattle.broker_model.specs.Place.{Client, by_bytes}
+use Rattle.broker_base.specs.ClientSession.{ClientSession}
+use Rattle.broker_base.specs.State.{Sessions, State, owner_in}
+use Rattle.broker_form.specs.InRange.{as_publication}
+
+-- ---- writing
+
+-- a number of eight bytes
+abbrev pub wide_number : ℕ → List ℕ
+wide_number n = to_be_bytes w64 n
+
+-- whether there is a current connection, and which
+abbrev pub connection_bytes : Option ConnectionName → List ℕ
+connection_bytes None = 0 ∷ []
+connection_bytes (Some x) = 1 ∷ (wide_number x.ballot ++ wide_number x.count)
+
+-- a client with its session
+abbrev pub row_bytes : Client × ClientSession → List ℕ
+row_bytes row = text row.0 ++ (bit row.1.clean ∷ (connection_bytes row.1.connection ++ state_bytes row.1.state))
+
+-- a topic with what is retained of it
+abbrev pub retained_bytes : List ℕ × RetainedPublication → List ℕ
+retained_bytes row =
+    qos_number row.1.qos ∷ (text row.0 ++ (long_number (length row.1.payload) ++ row.1.payload))
+
+-- the number of the form, the sessions by the bytes of their clients, the retained publications by topic
+abbrev pub frozen : State → List ℕ
+frozen state = 1 ∷ (counted number row_bytes state.sessions ++ counted number retained_bytes state.retained)
+
+-- ---- reading
+
+unfoldable pub wide_number_at : List ℕ → Result (ℕ × List ℕ) Stop
+wide_number_at bytes = do
+  front ← front_at 8 bytes
+  Ok (from_be_bytes w64 front.0, front.1)
+
+unfoldable pub name_at : List ℕ → Result (Option ConnectionName × List ℕ) Stop
+name_at bytes = do
+  ballot ← wide_number_at bytes
+  count ← wide_number_at ballot.1
+  keep (is_connection_name (record { ballot = ballot.0; count = count.0 }))
+  Ok (Some (record { ballot = ballot.0; count = count.0 }), count.1)
+
+unfoldable pub connection_at : List ℕ → Result (Option ConnectionName × List ℕ) Stop
+connection_at bytes = flag_at bytes >>= (λ flag. if flag.0 then name_at flag.1 else Ok (None, flag.1))
+
+unfoldable pub client_at : List ℕ → Result (Client × List ℕ) Stop
+client_at bytes = do
+  client ← text_at bytes
+  keep (is_client client.0)
+  Ok client
+
+-- a clean session has a connection
+unfoldable pub row_at : List ℕ → Result ((Client × ClientSession) × List ℕ) Stop
+row_at bytes = do
+  client ← client_at bytes
+  clean ← flag_at client.1
+  connection ← connection_at clean.1
+  keep (not clean.0 || is_some connection.0)
+  state ← state_at connection.1
+  Ok ((client.0, record { clean = clean.0; connection = connection.0; state = state.0 }), state.1)
+
+-- a retained publication has a payload, and its PUBLISH is within the limit
+abbrev pub is_retainable : List ℕ × RetainedPublication → Bool
+is_retainable row = nat_lt 0 (length row.1.payload) && nat_le (body_length (as_publication row)) longest_body
+
+abbrev pub retainable : List ℕ × RetainedPublication → Result (List ℕ × RetainedPublication) Stop
+retainable row = do
+  keep (is_retainable row)
+  Ok row
+
+unfoldable pub retained_at : List ℕ → Result ((List ℕ × RetainedPublication) × List ℕ) Stop
+retained_at bytes = do
+  qos ← qos_at bytes
+  topic ← topic_at qos.1
+  len ← long_number_at topic.1
+  payload ← front_at len.0 len.1
+  row ← retainable (topic.0, record { qos = qos.0; payload = payload.0 })
+  Ok (row, payload.1)
+
+-- ---- which may stand behind which
+
+-- the key comes behind the last row's, if there is one
+abbrev pub is_behind : {X : Type 0} → Option (List ℕ × X) → List ℕ → Bool
+is_behind (Some last) key = is_lt (by_bytes last.0 key)
+is_behind None key = true
+
+-- the connection is that of one of these
+abbrev pub is_taken : Sessions → Option ConnectionName → Bool
+is_taken rows (Some x) = is_some (owner_in x rows)
+is_taken rows None = false
+
+-- clients rise, and no connection is another's
+abbrev pub row_follows : Sessions → Client × ClientSession → Bool
+row_follows front row = is_behind (last_of front) row.0 && not (is_taken front row.1.connection)
+
+-- topics rise
+abbrev pub topic_follows : List (List ℕ × RetainedPublication) → List ℕ × RetainedPublication → Bool
+topic_follows front row = is_behind (last_of front) row.0
+
+-- ---- the broker
+
+-- at most 4,096 sessions and 16,384 topics, and nothing behind them
+unfoldable pub broker_at : List ℕ → Result State Stop
+broker_at bytes = do
+  form ← byte_at bytes
+  keep (form.0 == 1)
+  sessions ← counted_at number_at row_follows row_at 4096 form.1
+  retained ← counted_at number_at topic_follows retained_at 16384 sessions.1
+  ended retained.1
+  Ok (record { window = 16; sessions = sessions.0; retained = retained.0 })
+
+abbrev pub found : {A : Type 0} → Result A Stop → Option A
+found (Ok a) = Some a
+found (Err stop) = None
+
+-- the broker that bytes stand for, if any
+abbrev pub thawed : List ℕ → Option State
+thawed bytes = found (broker_at bytes)

@@ -1,0 +1,5 @@
+pub mod InRange
+pub mod RangeLaws
+pub mod Form
+pub mod FormLaws
+pub mod FormRows

@@ -1,0 +1,33 @@
+-- Lists whose count stands before them: each item is read behind those before it, and has to go with them.
+use Rattle.std.specs.Prelude.{ℕ, zero, suc, Bool, nat_le, List, [], ◌∷◌, ◌++◌, length, flat_map, Option, None, Result, Ok}
+use Rattle.std.specs.List.{last_or}
+use Rattle.topics.specs.declared.malformed.MalformedKind.TheVariants as kinds
+use Rattle.packet_base.specs.declared.stop.Stop.{Stop}
+use Rattle.packet_base.specs.declared.stop.Stop.TheVariants as stops
+use Rattle.packet_base.specs.Reading.{◌>>=◌, ◌>>◌, check}
+use Rattle.packet_base.specs.Lists.{ItemAt}
+
+-- goes on where the test is true: all else is not of the form
+abbrev pub keep : Bool → Result (Unit {0}) Stop
+keep test = check test (stops.Malformed kinds.Shape)
+
+-- the last one of those that were read, if there is one
+abbrev pub last_of : {A : Type 0} → List A → Option A
+last_of = last_or None
+
+-- so many items more, each of which may stand behind those before it
+unfoldable pub items_behind : {A : Type 0} → (List A → A → Bool) → ItemAt A → ℕ → List A → List ℕ → Result (List A × List ℕ) Stop
+items_behind follows item zero front bytes = Ok (front, bytes)
+items_behind follows item (suc more) front bytes =
+    item bytes >>= (λ one. keep (follows front one.0) >> items_behind follows item more (front ++ one.0 ∷ []) one.1)
+
+-- the count, no more than `most`, and the items
+unfoldable pub counted_at : {A : Type 0} → ItemAt ℕ → (List A → A → Bool) → ItemAt A → ℕ → List ℕ → Result (List A × List ℕ) Stop
+counted_at count follows item most bytes = do
+  many ← count bytes
+  keep (nat_le many.0 most)
+  items_behind follows item many.0 [] many.1
+
+-- and as they are written
+abbrev pub counted : {A : Type 0} → (ℕ → List ℕ) → (A → List ℕ) → List A → List ℕ
+counted count bytes items = count (length items) ++ flat_map bytes items

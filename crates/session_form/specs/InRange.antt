@@ -1,0 +1,37 @@
+-- What stands in a session is in its range: no more entries and filters than it may hold, and each number, text and
+-- publication as the standard has it (MQTT 1.5.3, 2.3.1, 3.3, 4.7).
+use Rattle.std.specs.Prelude.{◌≡◌, ℕ, ◌+◌, ◌≤◌, IsTrue, false, length}
+use Rattle.std.specs.List.{AllByRecursion}
+use Rattle.topics.specs.Text.{is_filter}
+use Rattle.packet_base.specs.Spelling.{IsId}
+use Rattle.packet.specs.Spelling.{IsPacket}
+use Rattle.packet.specs.declared.packet.Packet.TheVariants as packets
+use Rattle.packet.specs.declared.qos.QoS.TheVariants as levels
+use Rattle.session_base.specs.declared.publication.Publication.{Publication}
+use Rattle.session_base.specs.declared.awaits.Awaits.TheVariants as waits_for
+use Rattle.session_base.specs.Publication.{publish_of, is_answered}
+use Rattle.session_base.specs.Subscriptions.{HeldFilter}
+use Rattle.session_base.specs.Queue.{Flight, Queue}
+
+-- a publication whose PUBLISH can be spelled: a topic name, and a packet within the limit
+abbrev pub CanBeSent : Publication → Type 0
+CanBeSent p = IsPacket (packets.Publish (publish_of false 1 p))
+
+-- a publication that waits: it is to be answered
+abbrev pub IsWaiting : Publication → Type 0
+IsWaiting p = IsTrue (is_answered p.qos) × CanBeSent p
+
+-- an entry in flight: PUBACK answers QoS 1, PUBREC answers QoS 2 (MQTT 4.3)
+abbrev pub IsInFlight : Flight → Type 0
+IsInFlight (id, waits_for.Puback p) = IsId id × (p.qos ≡ levels.AtLeastOnce) × CanBeSent p
+IsInFlight (id, waits_for.Pubrec p) = IsId id × (p.qos ≡ levels.ExactlyOnce) × CanBeSent p
+IsInFlight (id, waits_for.Pubcomp) = IsId id
+
+abbrev pub IsHeld : HeldFilter → Type 0
+IsHeld held = IsTrue (is_filter held.0)
+
+-- a queue of no more entries than the limit, each in its range
+pub record IsQueue (limit : ℕ) (queue : Queue) : Type 0 where
+  pub in_flight : AllByRecursion IsInFlight queue.in_flight
+  pub waiting : AllByRecursion IsWaiting queue.waiting
+  pub few : length queue.in_flight + length queue.waiting ≤ limit

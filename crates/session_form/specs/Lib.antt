@@ -1,0 +1,4 @@
+pub mod InRange
+pub mod Counted
+pub mod Form
+pub mod FormLaws
