@@ -7,3 +7,7 @@ pub mod Publications
 pub mod Unsubscriptions
 pub mod Connects
 pub mod Starts
+pub mod Grantings
+pub mod Packets
+pub mod InPairs
+pub mod Commands

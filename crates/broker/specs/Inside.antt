@@ -19,7 +19,17 @@ is_handshake (packets.Pubrel id) = true
 is_handshake (packets.Pubcomp id) = true
 is_handshake _ = false
 
--- what its sender is sent for it
+-- whether it ends its connection: DISCONNECT, and what a client may not send (MQTT 3.1.0, 3.14.4, 4.8)
+abbrev pub is_violation : Packet → Bool
+is_violation (packets.Connect connect) = true
+is_violation (packets.Connack connack) = true
+is_violation (packets.Suback suback) = true
+is_violation (packets.Unsuback id) = true
+is_violation packets.Pingresp = true
+is_violation packets.Disconnect = true
+is_violation _ = false
+
+-- what its sender is sent for a step of a handshake
 abbrev pub handshake_sends : Packet → SessionState → List Packet
 handshake_sends (packets.Puback id) held = fill_sends 16 (on_puback id held.queue.in_flight) held.queue.waiting
 handshake_sends (packets.Pubrec id) held = pubrec_sends id (on_pubrec id held.queue.in_flight)

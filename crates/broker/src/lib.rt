@@ -3,6 +3,8 @@
 #![tactic(auto)]
 
 mod answers;
+mod applying;
+mod broker_machine;
 mod client_row;
 mod connecting;
 mod delivering;
@@ -13,5 +15,11 @@ mod retained_copies;
 mod sending;
 mod serving;
 mod starting;
+mod subscribing;
 mod tables;
 mod unsubscribing;
+
+pub use broker_machine::BrokerMachine;
+
+#[cfg(test)]
+mod tests;
