@@ -11,3 +11,4 @@ pub mod Grantings
 pub mod Packets
 pub mod InPairs
 pub mod Commands
+pub mod StandsForLists

@@ -8,6 +8,7 @@ mod broker_machine;
 mod client_row;
 mod connecting;
 mod delivering;
+mod laws;
 mod leaving;
 mod limits;
 mod publishing;
@@ -20,6 +21,7 @@ mod tables;
 mod unsubscribing;
 
 pub use broker_machine::BrokerMachine;
+pub use laws::broker_stands_for;
 
 #[cfg(test)]
 mod tests;
