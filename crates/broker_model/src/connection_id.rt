@@ -10,8 +10,9 @@ pub const MAX_BALLOT: u64 = 0x1_0000_0000;
 pub const MAX_COUNT: u64 = 0x100_0000_0000;
 
 /// The name of a Network Connection: the ballot in which its node accepted it, and its number
-/// among the connections of that ballot. No two connections of a run have the same name.
-#[derive(Clone, Copy, Debug, PartialEq, Eq)]
+/// among the connections of that ballot. No two connections of a run have the same name. Ordered by
+/// ballot, then by number.
+#[derive(Clone, Copy, Debug, PartialEq, Eq, PartialOrd, Ord)]
 pub struct ConnectionId {
     ballot: u64,
     count: u64,

@@ -1,0 +1,23 @@
+-- Which list of commands a broker's state stands for.
+use Rattle.std.specs.Prelude.{◌≡◌, List, [], ◌∷◌, ◌++◌}
+use Rattle.broker_model.specs.Answers.{answers_of}
+use Rattle.broker_model.specs.Commands.{past_of, usual_limits}
+use Rattle.broker_model.specs.declared.command.Command.{Command}
+use Rattle.broker_base.specs.State.{State, state_of, empty_state}
+use Rattle.broker_base.specs.Step.{step}
+
+-- the state is the one that this list of commands means
+abbrev pub StandsFor : State → List Command → Type 0
+StandsFor state commands = state ≡ state_of usual_limits (past_of usual_limits commands)
+
+-- a broker that begins stands for no command
+abbrev pub BeginsEmpty : Type 0
+BeginsEmpty = StandsFor (empty_state 16) []
+
+-- one more command: behind it the state stands for the list with that command, and its answers are those that the
+-- list means
+abbrev pub GoesOnStanding : Type 0
+GoesOnStanding =
+    (state : State) → (commands : List Command) → (command : Command) → StandsFor state commands →
+    StandsFor (step usual_limits 16 state command).0 (commands ++ command ∷ [])
+    × ((step usual_limits 16 state command).1 ≡ answers_of usual_limits (past_of usual_limits commands) command)

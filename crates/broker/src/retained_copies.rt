@@ -1,0 +1,75 @@
+// What a subscriber is sent of the retained publications (MQTT 3.3.1.3, 3.8.4).
+
+ghost use Rattle.std.specs.Prelude.{◌≡◌, ◌++◌, length, OnOk, IfOk};
+ghost use Rattle.session_base.specs.Queue.{copies_left};
+ghost use Rattle.session_base.specs.Sending.{copies_sent};
+ghost use Rattle.session_base.specs.Session.{with_queue};
+ghost use Rattle.broker_model.specs.Entries.{copies_for, queued, retained_copy};
+
+use crate::delivering::{lower, take_copy};
+use machine::Halted;
+use packet::{Packet, QoS, Subscription};
+use retained::{RetainedPublication, RetainedStore};
+use session::Session;
+use session_base::Publication;
+use std::alloc::{AllocError, Global};
+use topics::TopicName;
+
+// A copy of a retained publication, with RETAIN 1, at the lower of its QoS and the one that is asked for.
+fn retained_copy(asked: QoS, topic: TopicName, kept: RetainedPublication) -> Publication
+    ensures { result ≡ retained_copy asked (topic, kept) }
+{
+    Publication {
+        retain: true,
+        qos: lower(asked, kept.qos),
+        topic,
+        payload: kept.payload,
+    }
+}
+
+/// What a filter is sent of the retained publications, by topic.
+pub(crate) fn copies_for(
+    alloc: Global,
+    retained: &RetainedStore,
+    subscription: &Subscription,
+) -> Result<Vec<Publication>, AllocError>
+    ensures { IfOk result (λ copies. copies.items ≡ copies_for retained.now subscription.now) }
+{
+    let mut entries = Vec::new(alloc);
+    retained.matching(&subscription.filter, &mut entries)?;
+    let mut copies = Vec::new(alloc);
+    for (topic, kept) in entries {
+        copies.push(retained_copy(subscription.qos, topic, kept))?;
+    }
+    Ok(copies)
+}
+
+/// How many of these are queued: those of QoS 1 and 2.
+pub(crate) fn queued(copies: &[Publication]) -> usize
+    ensures { result ≡ length (queued copies.now) }
+{
+    let mut many = 0;
+    for copy in copies {
+        if copy.qos != QoS::AtMostOnce {
+            many += 1;
+        }
+    }
+    many
+}
+
+/// Copies come one by one to the session of a connected client.
+pub(crate) fn take_copies(
+    session: &mut Session,
+    copies: Vec<Publication>,
+    sent: &mut Vec<Packet>,
+) -> Result<(), Halted>
+    ensures state { OnOk result
+        (session.new ≡ with_queue (copies_left 16 copies.items session.old.queue) session.old) }
+    ensures sends { OnOk result
+        (sent.new.items ≡ sent.old.items ++ copies_sent 16 copies.items session.old.queue) }
+{
+    for copy in copies {
+        take_copy(session, copy, sent)?;
+    }
+    Ok(())
+}

@@ -1,0 +1,22 @@
+// Packets as outputs.
+
+ghost use Rattle.std.specs.Prelude.{◌≡◌, ◌++◌, OnOk, map};
+ghost use Rattle.broker_model.specs.declared.command.Output.TheVariants as outputs;
+
+use broker_model::{ConnectionId, Output};
+use machine::Halted;
+use packet::Packet;
+
+/// Packets go out on a connection, in order.
+pub(crate) fn send_all(
+    connection: ConnectionId,
+    sent: Vec<Packet>,
+    out: &mut Vec<Output>,
+) -> Result<(), Halted>
+    ensures { OnOk result (out.new.items ≡ out.old.items ++ map (outputs.Send connection) sent.items) }
+{
+    for packet in sent {
+        out.push(Output::Send(connection, packet))?;
+    }
+    Ok(())
+}
