@@ -40,9 +40,9 @@ cause_of (faults.Refused code) = errors.Protocol
 abbrev pub StopsFor : ClientError → Core → Type 0
 StopsFor cause core =
     ((fault : DecodeFault) × (rest : Stream) × Takes core.unread (Err (cuts.Decode fault)) rest
-      × (cause ≡ cause_of fault))
+    × (cause ≡ cause_of fault))
     ⊎ ((packet : Packet) × (next : Core) × Reads core packet next
-      × ((turn_of packet next).refusal ≡ Some cause))
+    × ((turn_of packet next).refusal ≡ Some cause))
 
 -- How it ends. A lost session lets the connection go on, and what is behind its CONNACK is not
 -- read; else the connection is gone, and what was handled before stands.

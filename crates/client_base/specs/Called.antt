@@ -26,15 +26,21 @@ opens = connects 0
 
 abbrev pub new_connection : {Name : Type 0} → List ℕ → Name → Connection Name
 new_connection c x =
-    record { name = x; written = opens c ∷ []; taken = 0; handled = 0; confirmed = false;
-      accepted = [] }
+    record {
+      name = x;
+      written = opens c ∷ [];
+      taken = 0;
+      handled = 0;
+      confirmed = false;
+      accepted = [];
+    }
 
 abbrev pub opened : {Name : Type 0} → ℕ → Name → Keeper → Side Name
 opened keep_alive x keeper =
     record {
       keeper = record (lost keeper) { is_open = true };
       connection =
-        record (new_connection keeper.client x)
+          record (new_connection keeper.client x)
           { written = connects keep_alive keeper.client ∷ [] };
     }
 
@@ -49,7 +55,7 @@ adds_own p keeper =
       own = keeper.own
           ++ (if is_answered p.qos
           then (if keeper.is_online
-            then Own.Sent (length keeper.own) p (least_free (ids_in_use keeper))
+          then Own.Sent (length keeper.own) p (least_free (ids_in_use keeper))
           else Own.Unsent (length keeper.own) p (least_free (ids_in_use keeper)))
           else Own.Done (length keeper.own) p) ∷ [];
     }
@@ -80,8 +86,10 @@ unsubscribe_of filter keeper =
 abbrev pub keeper_goes : {Name : Type 0} → Name → Call → Side Name → Side Name
 keeper_goes fresh Call.Opens side = opened 0 fresh side.keeper
 keeper_goes fresh (Call.Publishes p) side =
-    record { keeper = adds_own p side.keeper;
-      connection = writes (written_for p side.keeper) side.connection }
+    record {
+      keeper = adds_own p side.keeper;
+      connection = writes (written_for p side.keeper) side.connection;
+    }
 keeper_goes fresh (Call.Subscribes filter qos) side =
     record {
       keeper = asks (requests.Subscribes (least_free (ids_in_use side.keeper))) side.keeper;
@@ -95,5 +103,7 @@ keeper_goes fresh (Call.Unsubscribes filter) side =
 keeper_goes fresh (Call.Receives packet) side = handled packet side
 keeper_goes fresh Call.Loses side = record side { keeper = lost side.keeper }
 keeper_goes fresh Call.Disconnects side =
-    record { keeper = lost side.keeper;
-      connection = writes (disconnects side.keeper) side.connection }
+    record {
+      keeper = lost side.keeper;
+      connection = writes (disconnects side.keeper) side.connection;
+    }

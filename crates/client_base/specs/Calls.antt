@@ -26,7 +26,7 @@ abbrev pub opened : ClientState → Turn
 opened state =
     going_on (record (lost state) { stage = stages.Opened })
     (packets.Connect
-      (record { client = state.client; clean = false; keep_alive = state.keep_alive }) ∷ [])
+    (record { client = state.client; clean = false; keep_alive = state.keep_alive }) ∷ [])
 
 -- whether the server has no session of a client that had one
 abbrev pub loses_session : Bool → ClientState → Bool
@@ -123,6 +123,6 @@ published p state =
     let kept : KeptPublication = record { id = next_id state; publication = p } in
     if is_online state.stage
     then going_on
-      (if is_answered p.qos then record state { sent = state.sent ++ kept ∷ [] } else state)
-      (publish_packet p state ∷ [])
+    (if is_answered p.qos then record state { sent = state.sent ++ kept ∷ [] } else state)
+    (publish_packet p state ∷ [])
     else going_on (record state { unsent = state.unsent ++ kept ∷ [] }) []

@@ -40,10 +40,12 @@ abbrev pub releasing : {Name : Type 0} → ℕ → Side Name → Side Name
 releasing i side =
     if is_sent_with i side.keeper.own
     then writing (plain (packets.Pubrel i) ∷ [])
-    (record side { keeper = record side.keeper {
-      own = map (at_pubrec i) side.keeper.own;
-      releases = side.keeper.releases ++ i ∷ [];
-    } })
+    (record side {
+      keeper = record side.keeper {
+        own = map (at_pubrec i) side.keeper.own;
+        releases = side.keeper.releases ++ i ∷ [];
+      };
+    })
     else if has_id i side.keeper.releases then writing (plain (packets.Pubrel i) ∷ []) side
     else side
 
@@ -69,7 +71,7 @@ discarded keeper = record keeper { own = []; releases = []; received = [] }
 abbrev pub confirmed : {Name : Type 0} → Bool → Side Name → Side Name
 confirmed present side =
     let kept =
-        if not present && side.keeper.was_served then discarded side.keeper else side.keeper in
+    if not present && side.keeper.was_served then discarded side.keeper else side.keeper in
     record {
       keeper = record kept { own = sent_all kept.own; is_online = true; was_served = true };
       connection = record side.connection {
@@ -96,19 +98,25 @@ handled_online (packets.Puback i) side =
     record side { keeper = record side.keeper { own = map (at_puback i) side.keeper.own } }
 handled_online (packets.Pubrec i) side = releasing i side
 handled_online (packets.Pubcomp i) side =
-    record side { keeper = record side.keeper {
-      own = map (at_pubcomp i) side.keeper.own;
-      releases = without_id i side.keeper.releases;
-    } }
+    record side {
+      keeper = record side.keeper {
+        own = map (at_pubcomp i) side.keeper.own;
+        releases = without_id i side.keeper.releases;
+      };
+    }
 handled_online (packets.Pubrel i) side =
     writing (plain (packets.Pubcomp i) ∷ [])
-      (record side { keeper = record side.keeper { received = without_id i side.keeper.received } })
+    (record side { keeper = record side.keeper { received = without_id i side.keeper.received } })
 handled_online (packets.Suback s) side =
-    record side { keeper =
-      record side.keeper { requests = filter (not_subscribes s.id) side.keeper.requests } }
+    record side {
+      keeper =
+          record side.keeper { requests = filter (not_subscribes s.id) side.keeper.requests };
+    }
 handled_online (packets.Unsuback i) side =
-    record side { keeper =
-      record side.keeper { requests = filter (not_unsubscribes i) side.keeper.requests } }
+    record side {
+      keeper =
+          record side.keeper { requests = filter (not_unsubscribes i) side.keeper.requests };
+    }
 handled_online packets.Pingresp side = side
 handled_online _ side = record side { keeper = lost side.keeper }
 
@@ -119,5 +127,5 @@ handled_first _ side = record side { keeper = lost side.keeper }
 abbrev pub handled : {Name : Type 0} → Packet → Side Name → Side Name
 handled packet side =
     let counted = record side
-          { connection = record side.connection { handled = suc side.connection.handled } } in
+    { connection = record side.connection { handled = suc side.connection.handled } } in
     if side.keeper.is_online then handled_online packet counted else handled_first packet counted

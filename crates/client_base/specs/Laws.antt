@@ -25,4 +25,4 @@ StaysKept =
     (id : ℕ) (call : Call) (state : ClientState) → has_id id state.received ≡ true →
     (has_id id (keeper_step call state).state.received ≡ true)
     ⊎ ((call ≡ Call.Receives (packets.Pubrel id))
-      ⊎ (call ≡ Call.Receives (packets.Connack (connacks.Accepted false))))
+    ⊎ (call ≡ Call.Receives (packets.Connack (connacks.Accepted false))))

@@ -31,7 +31,7 @@ abbrev pub subscribed : List ℕ → QoS → ClientState → Turn
 subscribed filter qos state =
     asked (requests.Subscribes (next_id state))
     (packets.Subscribe
-      (record { id = next_id state; filters = record { filter = filter; qos = qos } ∷ [] })) state
+    (record { id = next_id state; filters = record { filter = filter; qos = qos } ∷ [] })) state
 
 abbrev pub unsubscribed : List ℕ → ClientState → Turn
 unsubscribed filter state =

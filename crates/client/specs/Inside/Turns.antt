@@ -92,5 +92,5 @@ TakesNext old (Ok None) new = Takes old.unread (Ok None) old.unread × (new ≡ 
 TakesNext old (Err errors.Memory) new = (new.state ≡ old.state) × (new.out ≡ old.out)
 TakesNext old (Err cause) new =
     ((fault : DecodeFault) × (rest : Stream) × Takes old.unread (Err (cuts.Decode fault)) rest
-      × (cause ≡ cause_of fault))
+    × (cause ≡ cause_of fault))
     × (new.state ≡ old.state) × (new.out ≡ old.out)
