@@ -21,7 +21,8 @@ abbrev pub nothing_read : Stream
 nothing_read = record { held = []; failed = false }
 
 abbrev pub new_core : List ℕ → ℕ → Core
-new_core client keep_alive = record { state = new_client client keep_alive; unread = nothing_read; out = [] }
+new_core client keep_alive =
+    record { state = new_client client keep_alive; unread = nothing_read; out = [] }
 
 -- new is old with the spellings of these packets at its end, one behind the other
 abbrev pub AppendsAll : List ℕ → List ℕ → List Packet → Type 0
@@ -31,9 +32,11 @@ AppendsAll old new (packet ∷ packets) =
 
 -- the step is done: its state, and what it writes behind what was written
 abbrev pub IsDone : Turn → Core → Core → Type 0
-IsDone turn old new = (new.state ≡ turn.state) × AppendsAll old.out new.out turn.writes × (new.unread ≡ old.unread)
+IsDone turn old new =
+    (new.state ≡ turn.state) × AppendsAll old.out new.out turn.writes × (new.unread ≡ old.unread)
 
--- A call is its step, whole; it is refused where the step is, and for want of memory nothing changes.
+-- A call is its step, whole; it is refused where the step is, and for want of memory nothing
+-- changes.
 abbrev pub Does : Turn → Core → Result (Unit {0}) ClientError → Core → Type 0
 Does turn old (Ok done) new = (turn.refusal ≡ None) × IsDone turn old new
 Does turn old (Err errors.Memory) new = new ≡ old
@@ -52,7 +55,8 @@ Opens turn old (Err cause) new = (cause ≡ errors.Memory) × (new ≡ old)
 -- it leaves: as a call, and what it did not read is dropped
 abbrev pub Leaves : Turn → Core → Result (Unit {0}) ClientError → Core → Type 0
 Leaves turn old (Ok done) new =
-    (turn.refusal ≡ None) × (new.state ≡ turn.state) × AppendsAll old.out new.out turn.writes × (new.unread ≡ nothing_read)
+    (turn.refusal ≡ None) × (new.state ≡ turn.state) × AppendsAll old.out new.out turn.writes
+    × (new.unread ≡ nothing_read)
 Leaves turn old (Err errors.Memory) new = new ≡ old
 Leaves turn old (Err cause) new = (turn.refusal ≡ Some cause) × (new ≡ old)
 
@@ -62,4 +66,5 @@ without_accepted core = record core { state = record core.state { accepted = [] 
 
 -- a publication of these parts
 abbrev pub publication_with : Bool → QoS → List ℕ → List ℕ → Publication
-publication_with retain qos topic payload = record { retain = retain; qos = qos; topic = topic; payload = payload }
+publication_with retain qos topic payload =
+    record { retain = retain; qos = qos; topic = topic; payload = payload }

@@ -26,10 +26,12 @@ Reads old packet new =
 -- Packets, each whole, and none of them refused, lead from the first client to the second.
 pub data Handles (start : Core) : Core → Type 0 where
   none : Handles start start
-  more : {s t u : Core} (packet : Packet) → Handles start s → Reads s packet t → (turn_of packet t).refusal ≡ None
+  more : {s t u : Core} (packet : Packet) → Handles start s → Reads s packet t
+      → (turn_of packet t).refusal ≡ None
       → IsDone (turn_of packet t) t u → Handles start u
 
--- A fault of the stream: a CONNECT that is refused with a code is a packet that only a client sends.
+-- A fault of the stream: a CONNECT that is refused with a code is a packet that only a client
+-- sends.
 abbrev pub cause_of : DecodeFault → ClientError
 cause_of (faults.Malformed kind) = errors.Malformed kind
 cause_of (faults.Refused code) = errors.Protocol
@@ -37,17 +39,20 @@ cause_of (faults.Refused code) = errors.Protocol
 -- why the reading stops at this client: for a fault of the stream, or for the next packet
 abbrev pub StopsFor : ClientError → Core → Type 0
 StopsFor cause core =
-    ((fault : DecodeFault) × (rest : Stream) × Takes core.unread (Err (cuts.Decode fault)) rest × (cause ≡ cause_of fault))
-    ⊎ ((packet : Packet) × (next : Core) × Reads core packet next × ((turn_of packet next).refusal ≡ Some cause))
+    ((fault : DecodeFault) × (rest : Stream) × Takes core.unread (Err (cuts.Decode fault)) rest
+    × (cause ≡ cause_of fault))
+    ⊎ ((packet : Packet) × (next : Core) × Reads core packet next
+    × ((turn_of packet next).refusal ≡ Some cause))
 
--- How it ends. A lost session lets the connection go on, and what is behind its CONNACK is not read; else the
--- connection is gone, and what was handled before stands.
+-- How it ends. A lost session lets the connection go on, and what is behind its CONNACK is not
+-- read; else the connection is gone, and what was handled before stands.
 abbrev pub EndsWith : Core → Result (Unit {0}) ClientError → Core → Type 0
 EndsWith core (Ok done) new = Takes core.unread (Ok None) core.unread × (new ≡ core)
 EndsWith core (Err errors.Memory) new = new ≡ gone core
 EndsWith core (Err errors.SessionLost) new =
     (packet : Packet) × (next : Core) × Reads core packet next
-    × ((turn_of packet next).refusal ≡ Some errors.SessionLost) × IsDone (turn_of packet next) next new
+    × ((turn_of packet next).refusal ≡ Some errors.SessionLost)
+    × IsDone (turn_of packet next) next new
 EndsWith core (Err cause) new = StopsFor cause core × (new ≡ gone core)
 
 -- the piece is behind what is not read yet
@@ -57,4 +62,5 @@ fed piece core = record core { unread = record core.unread { held = core.unread.
 -- what a piece of the server's bytes makes of a client
 abbrev pub OnBytes : List ℕ → Stage → Core → Result (Unit {0}) ClientError → Core → Type 0
 OnBytes piece stages.Closed old result new = (result ≡ Err errors.NotActive) × (new ≡ old)
-OnBytes piece stage old result new = (last : Core) × Handles (fed piece old) last × EndsWith last result new
+OnBytes piece stage old result new =
+    (last : Core) × Handles (fed piece old) last × EndsWith last result new

@@ -76,9 +76,8 @@ fn refused<'a>(act: Act<'a>, cause: ClientError, kept: usize, accepted: usize) -
 }
 
 // Client `a`, never connected.
-fn new_client(alloc: Global) -> Result<ClientCore, Fail> {
-    let client = ClientId::new(alloc, "a").ok();
-    let client = client.ok_or("memory is left").map_err(Fail::from)?;
+fn new_client(alloc: Global) -> Result<ClientCore, ClientError> {
+    let client = ClientId::new(alloc, "a").ok().ok_or(ClientError::Memory)?;
     Ok(ClientCore::new(alloc, client, 0))
 }
 
@@ -88,56 +87,47 @@ fn publish(
     alloc: Global,
     qos: QoS,
     payload: u8,
-) -> Result<Option<ClientError>, Fail> {
-    let topic = TopicName::new(alloc, "t/1").ok();
-    let topic = topic.ok_or("memory is left").map_err(Fail::from)?;
+) -> Result<(), ClientError> {
+    let topic = TopicName::new(alloc, "t/1")
+        .ok()
+        .ok_or(ClientError::Memory)?;
     let payload = Payload::new(alloc, &[payload])?;
-    Ok(client.publish(topic, qos, false, payload).err())
+    client.publish(topic, qos, false, payload)
 }
 
-// Asks for `t/#`, or gives it up.
-fn ask(
-    client: &mut ClientCore,
-    alloc: Global,
-    subscribes: bool,
-) -> Result<Option<ClientError>, Fail> {
-    let filter = Filter::new(alloc, "t/#").ok();
-    let filter = filter.ok_or("memory is left").map_err(Fail::from)?;
-    let answer = if subscribes {
-        client.subscribe(filter, QoS::ExactlyOnce)
-    } else {
-        client.unsubscribe(filter)
-    };
-    Ok(answer.err())
+// The filter `t/#`.
+fn filter(alloc: Global) -> Result<Filter, ClientError> {
+    Filter::new(alloc, "t/#").ok().ok_or(ClientError::Memory)
 }
 
 // Gives a piece in two parts, of which the first has so many bytes, or all: the first refusal.
-fn in_two(client: &mut ClientCore, bytes: &[u8], cut: usize) -> Option<ClientError> {
+fn in_two(client: &mut ClientCore, bytes: &[u8], cut: usize) -> Result<(), ClientError> {
     let at = cut.min(bytes.len());
-    let first = client.on_bytes(&bytes[..at]).err();
-    let second = client.on_bytes(&bytes[at..]).err();
-    first.or(second)
+    let first = client.on_bytes(&bytes[..at]);
+    let second = client.on_bytes(&bytes[at..]);
+    first.and(second)
 }
 
+// Does this; `Memory` also where there is none for what it is given.
 fn done(
     client: &mut ClientCore,
     alloc: Global,
     act: Act,
     cut: Option<usize>,
-) -> Result<Option<ClientError>, Fail> {
+) -> Result<(), ClientError> {
     match act {
-        Act::Open => Ok(client.open().err()),
+        Act::Open => client.open(),
         Act::Lost => {
             client.lost();
-            Ok(None)
+            Ok(())
         }
-        Act::Disconnect => Ok(client.disconnect().err()),
+        Act::Disconnect => client.disconnect(),
         Act::Bytes(bytes) => match cut {
-            Some(cut) => Ok(in_two(client, bytes, cut)),
-            None => Ok(client.on_bytes(bytes).err()),
+            Some(cut) => in_two(client, bytes, cut),
+            None => client.on_bytes(bytes),
         },
-        Act::Subscribe => ask(client, alloc, true),
-        Act::Unsubscribe => ask(client, alloc, false),
+        Act::Subscribe => client.subscribe(filter(alloc)?, QoS::ExactlyOnce),
+        Act::Unsubscribe => client.unsubscribe(filter(alloc)?),
         Act::Publish(qos, payload) => publish(client, alloc, qos, payload),
     }
 }
@@ -149,7 +139,7 @@ fn check(
     row: &Row,
     cut: Option<usize>,
 ) -> Result<(), Fail> {
-    let answer = done(client, alloc, row.act, cut)?;
+    let answer = done(client, alloc, row.act, cut).err();
     assert_eq!(rt; answer, row.answer);
     let mut out = Vec::new(alloc);
     client.outgoing(&mut out)?;

@@ -36,7 +36,13 @@ ending cause state = record { state = lost state; writes = []; refusal = Some ca
 -- what is accepted of a PUBLISH, in the session of this number
 abbrev pub accepted_of : ℕ → Publish → Accepted
 accepted_of session p =
-    record { session = session; qos = delivery_qos p.delivery; retain = p.retain; topic = p.topic; payload = p.payload }
+    record {
+      session = session;
+      qos = delivery_qos p.delivery;
+      retain = p.retain;
+      topic = p.topic;
+      payload = p.payload;
+    }
 
 -- the publication is accepted, in the session that lasts
 abbrev pub accepting : Publish → ClientState → ClientState
@@ -45,7 +51,8 @@ accepting p state = record state { accepted = state.accepted ++ accepted_of stat
 -- QoS 0 and 1 are accepted each time, QoS 2 once while its identifier is kept (MQTT 4.3)
 abbrev pub on_publish : Publish → Delivery → ClientState → Turn
 on_publish p deliveries.AtMostOnce state = going_on (accepting p state) []
-on_publish p (deliveries.AtLeastOnce dup id) state = going_on (accepting p state) (packets.Puback id ∷ [])
+on_publish p (deliveries.AtLeastOnce dup id) state =
+    going_on (accepting p state) (packets.Puback id ∷ [])
 on_publish p (deliveries.ExactlyOnce dup id) state =
     going_on
     (if has_id id state.received then state
@@ -54,7 +61,8 @@ on_publish p (deliveries.ExactlyOnce dup id) state =
 
 -- PUBREL: the identifier is kept no longer, and PUBCOMP answers in any case (MQTT 4.3.3)
 abbrev pub on_pubrel : ℕ → ClientState → Turn
-on_pubrel id state = going_on (record state { received = without_id id state.received }) (packets.Pubcomp id ∷ [])
+on_pubrel id state =
+    going_on (record state { received = without_id id state.received }) (packets.Pubcomp id ∷ [])
 
 -- ---- its own publications
 
@@ -66,9 +74,11 @@ awaits_pubrec id kept = (id == kept.id) && not (is_acknowledged kept.publication
 
 -- PUBACK ends a QoS 1 publication that was sent (MQTT 4.3.2)
 abbrev pub on_puback : ℕ → ClientState → Turn
-on_puback id state = going_on (record state { sent = filter (λ kept. not (awaits_puback id kept)) state.sent }) []
+on_puback id state =
+    going_on (record state { sent = filter (λ kept. not (awaits_puback id kept)) state.sent }) []
 
--- PUBREC releases a QoS 2 publication that was sent; for a released one PUBREL goes out again (MQTT 4.3.3)
+-- PUBREC releases a QoS 2 publication that was sent; for a released one PUBREL goes out again (MQTT
+-- 4.3.3)
 abbrev pub on_pubrec : ℕ → ClientState → Turn
 on_pubrec id state =
     if list_any (awaits_pubrec id) state.sent
@@ -95,4 +105,5 @@ is_unsubscribe id (requests.Subscribes other) = false
 is_unsubscribe id (requests.Unsubscribes other) = id == other
 
 abbrev pub answered : (Request → Bool) → ClientState → Turn
-answered test state = going_on (record state { requests = filter (λ request. not (test request)) state.requests }) []
+answered test state =
+    going_on (record state { requests = filter (λ request. not (test request)) state.requests }) []

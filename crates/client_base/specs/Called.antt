@@ -17,20 +17,31 @@ use Rattle.client_base.specs.Steps.{Call}
 
 -- CONNECT with CleanSession 0 and this keep alive
 abbrev pub connects : ℕ → List ℕ → Written
-connects keep_alive c = plain (packets.Connect (record { client = c; clean = false; keep_alive = keep_alive }))
+connects keep_alive c =
+    plain (packets.Connect (record { client = c; clean = false; keep_alive = keep_alive }))
 
 -- with keep alive 0, as the clients of the headline have it
 abbrev pub opens : List ℕ → Written
 opens = connects 0
 
 abbrev pub new_connection : {Name : Type 0} → List ℕ → Name → Connection Name
-new_connection c x = record { name = x; written = opens c ∷ []; taken = 0; handled = 0; confirmed = false; accepted = [] }
+new_connection c x =
+    record {
+      name = x;
+      written = opens c ∷ [];
+      taken = 0;
+      handled = 0;
+      confirmed = false;
+      accepted = [];
+    }
 
 abbrev pub opened : {Name : Type 0} → ℕ → Name → Keeper → Side Name
 opened keep_alive x keeper =
     record {
       keeper = record (lost keeper) { is_open = true };
-      connection = record (new_connection keeper.client x) { written = connects keep_alive keeper.client ∷ [] };
+      connection =
+          record (new_connection keeper.client x)
+          { written = connects keep_alive keeper.client ∷ [] };
     }
 
 abbrev pub disconnects : Keeper → List Written
@@ -43,33 +54,42 @@ adds_own p keeper =
     record keeper {
       own = keeper.own
           ++ (if is_answered p.qos
-          then (if keeper.is_online then Own.Sent (length keeper.own) p (least_free (ids_in_use keeper))
+          then (if keeper.is_online
+          then Own.Sent (length keeper.own) p (least_free (ids_in_use keeper))
           else Own.Unsent (length keeper.own) p (least_free (ids_in_use keeper)))
           else Own.Done (length keeper.own) p) ∷ [];
     }
 
 abbrev pub written_for : Publication → Keeper → List Written
 written_for p keeper =
-    if keeper.is_online then publishes false (length keeper.own) (least_free (ids_in_use keeper)) p ∷ [] else []
+    if keeper.is_online
+    then publishes false (length keeper.own) (least_free (ids_in_use keeper)) p ∷ []
+    else []
 
 abbrev pub asks : Request → Keeper → Keeper
 asks request keeper = record keeper { requests = keeper.requests ++ request ∷ [] }
 
 abbrev pub subscribe_of : List ℕ → QoS → Keeper → Packet
 subscribe_of filter qos keeper =
-    packets.Subscribe (record { id = least_free (ids_in_use keeper); filters = record { filter = filter; qos = qos } ∷ [] })
+    packets.Subscribe (record {
+      id = least_free (ids_in_use keeper);
+      filters = record { filter = filter; qos = qos } ∷ [];
+    })
 
 abbrev pub unsubscribe_of : List ℕ → Keeper → Packet
 unsubscribe_of filter keeper =
     packets.Unsubscribe (record { id = least_free (ids_in_use keeper); filters = filter ∷ [] })
 
--- ---- the step: a call that is not refused, or a packet, on the connection that was opened last; one that it opens
--- gets the fresh name
+-- ---- the step: a call that is not refused, or a packet, on the connection that was opened last;
+-- one that it opens gets the fresh name
 
 abbrev pub keeper_goes : {Name : Type 0} → Name → Call → Side Name → Side Name
 keeper_goes fresh Call.Opens side = opened 0 fresh side.keeper
 keeper_goes fresh (Call.Publishes p) side =
-    record { keeper = adds_own p side.keeper; connection = writes (written_for p side.keeper) side.connection }
+    record {
+      keeper = adds_own p side.keeper;
+      connection = writes (written_for p side.keeper) side.connection;
+    }
 keeper_goes fresh (Call.Subscribes filter qos) side =
     record {
       keeper = asks (requests.Subscribes (least_free (ids_in_use side.keeper))) side.keeper;
@@ -83,4 +103,7 @@ keeper_goes fresh (Call.Unsubscribes filter) side =
 keeper_goes fresh (Call.Receives packet) side = handled packet side
 keeper_goes fresh Call.Loses side = record side { keeper = lost side.keeper }
 keeper_goes fresh Call.Disconnects side =
-    record { keeper = lost side.keeper; connection = writes (disconnects side.keeper) side.connection }
+    record {
+      keeper = lost side.keeper;
+      connection = writes (disconnects side.keeper) side.connection;
+    }

@@ -25,7 +25,8 @@ refused cause state = record { state = state; writes = []; refusal = Some cause 
 abbrev pub opened : ClientState → Turn
 opened state =
     going_on (record (lost state) { stage = stages.Opened })
-    (packets.Connect (record { client = state.client; clean = false; keep_alive = state.keep_alive }) ∷ [])
+    (packets.Connect
+    (record { client = state.client; clean = false; keep_alive = state.keep_alive }) ∷ [])
 
 -- whether the server has no session of a client that had one
 abbrev pub loses_session : Bool → ClientState → Bool
@@ -52,7 +53,12 @@ confirmed present state =
     let lacking = loses_session present state in
     let kept = if lacking then discarded state else numbered state in
     record {
-      state = record kept { sent = kept.sent ++ kept.unsent; unsent = []; stage = stages.Online; present = present };
+      state = record kept {
+        sent = kept.sent ++ kept.unsent;
+        unsent = [];
+        stage = stages.Online;
+        present = present;
+      };
       writes = resent kept;
       refusal = if lacking then Some errors.SessionLost else None;
     }
@@ -102,10 +108,12 @@ publish_packet p state = packets.Publish (publish_of false (next_id state) p)
 abbrev pub is_over_limit : Packet → Bool
 is_over_limit packet = nat_lt longest_body (length (body packet))
 
--- why a publication is refused: at QoS 1 and 2 for want of room, at QoS 0 while it is offline, or as too large
+-- why a publication is refused: at QoS 1 and 2 for want of room, at QoS 0 while it is offline, or
+-- as too large
 abbrev pub publish_refusal : Publication → ClientState → Option ClientError
 publish_refusal p state =
-    if is_answered p.qos && not (nat_lt (kept_count state) window && has_free_id state) then Some errors.WindowFull else
+    if is_answered p.qos && not (nat_lt (kept_count state) window && has_free_id state)
+    then Some errors.WindowFull else
     if not (is_answered p.qos) && not (is_online state.stage) then Some errors.NotActive else
     if is_over_limit (publish_packet p state) then Some errors.TooLarge else None
 
@@ -114,5 +122,7 @@ abbrev pub published : Publication → ClientState → Turn
 published p state =
     let kept : KeptPublication = record { id = next_id state; publication = p } in
     if is_online state.stage
-    then going_on (if is_answered p.qos then record state { sent = state.sent ++ kept ∷ [] } else state) (publish_packet p state ∷ [])
+    then going_on
+    (if is_answered p.qos then record state { sent = state.sent ++ kept ∷ [] } else state)
+    (publish_packet p state ∷ [])
     else going_on (record state { unsent = state.unsent ++ kept ∷ [] }) []

@@ -49,4 +49,5 @@ pub record StandsFor (keeper : Keeper) (state : ClientState) : Type 0 where
 -- what was written more on a connection is, packet by packet, what the step writes
 abbrev pub WritesMore : {Name : Type 0} → Connection Name → Connection Name → List Packet → Type 0
 WritesMore before after packets =
-    (more : List Written) × (after.written ≡ before.written ++ more) × (map (λ written. written.packet) more ≡ packets)
+    (more : List Written) × (after.written ≡ before.written ++ more)
+    × (map (λ written. written.packet) more ≡ packets)

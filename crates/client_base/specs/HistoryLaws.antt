@@ -7,7 +7,8 @@ use Rattle.client_base.specs.Steps.{Call, keeper_step}
 use Rattle.client_base.specs.Called.{keeper_goes}
 use Rattle.client_base.specs.History.{StandsFor, WritesMore}
 
--- whether something becomes of a call: one that is refused changes nothing, and a packet comes on an open connection
+-- whether something becomes of a call: one that is refused changes nothing, and a packet comes on
+-- an open connection
 abbrev pub IsTaken : Call → ClientState → Type 0
 IsTaken (Call.Receives packet) state = is_open state.stage ≡ true
 IsTaken call state = (keeper_step call state).refusal ≡ None

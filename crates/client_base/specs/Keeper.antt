@@ -1,11 +1,13 @@
--- A client with its history: all that it published, and what it wrote on which connection (MQTT 4.3, 4.4).
+-- A client with its history: all that it published, and what it wrote on which connection (MQTT
+-- 4.3, 4.4).
 use Rattle.std.specs.Prelude.{ℕ, Bool, false, List, [], ◌∷◌, ◌++◌, map, Option}
 use Rattle.packet.specs.declared.packet.Packet.{Packet}
 use Rattle.session_base.specs.declared.publication.Publication.{Publication}
 use Rattle.client_base.specs.declared.request.Request.{Request}
 use Rattle.client_base.specs.State.{id_of_request}
 
--- A publication of the client, with the number of its call and where it stands. One of QoS 0 is done at once.
+-- A publication of the client, with the number of its call and where it stands. One of QoS 0 is
+-- done at once.
 pub data Own : Type 0 where
   Unsent : (number : ℕ) → (publication : Publication) → (id : ℕ) → Own
   Sent : (number : ℕ) → (publication : Publication) → (id : ℕ) → Own
@@ -17,8 +19,9 @@ pub record Written : Type 0 where
   pub packet : Packet
   pub number : Option ℕ
 
--- A connection that it opened: what it wrote on it, how much of that stands in the server's list of commands, how
--- many packets it handled there, and what it accepted at QoS 2 -- history: no field keeps it.
+-- A connection that it opened: what it wrote on it, how much of that stands in the server's list of
+-- commands, how many packets it handled there, and what it accepted at QoS 2
+-- history: no field keeps it.
 pub record Connection (Name : Type 0) : Type 0 where
   pub name : Name
   pub written : List Written
@@ -30,7 +33,9 @@ pub record Connection (Name : Type 0) : Type 0 where
 -- The client: of its publications all, and of the rest what it keeps.
 pub record Keeper : Type 0 where
   pub client : List ℕ
-  pub own : List Own  -- all that it published in the session that it knows, in order -- history: the done ones
+  -- all that it published in the session that it knows, in order
+  -- history: the done ones
+  pub own : List Own
   pub releases : List ℕ  -- identifiers of the released ones, in the order of their PUBREC
   pub requests : List Request
   pub received : List ℕ  -- of QoS 2 publications that it accepted and has no PUBREL for

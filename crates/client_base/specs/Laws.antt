@@ -9,7 +9,8 @@ use Rattle.client_base.specs.State.{ClientState}
 use Rattle.client_base.specs.Answered.{on_publish, accepting}
 use Rattle.client_base.specs.Steps.{Call, keeper_step}
 
--- Under an identifier that is kept nothing is accepted; under another the publication is, and it is kept then.
+-- Under an identifier that is kept nothing is accepted; under another the publication is, and it is
+-- kept then.
 abbrev pub AcceptsUnlessKept : Type 0
 AcceptsUnlessKept =
     (p : Publish) (dup : Bool) (id : ℕ) (state : ClientState) →
@@ -23,4 +24,5 @@ abbrev pub StaysKept : Type 0
 StaysKept =
     (id : ℕ) (call : Call) (state : ClientState) → has_id id state.received ≡ true →
     (has_id id (keeper_step call state).state.received ≡ true)
-    ⊎ ((call ≡ Call.Receives (packets.Pubrel id)) ⊎ (call ≡ Call.Receives (packets.Connack (connacks.Accepted false))))
+    ⊎ ((call ≡ Call.Receives (packets.Pubrel id))
+    ⊎ (call ≡ Call.Receives (packets.Connack (connacks.Accepted false))))

@@ -37,7 +37,9 @@ NumbersStay =
     (call : Call) (fresh : ℕ) (side : Side ℕ) →
     AreNumbered 0 side.keeper.own → AreNumbered 0 (keeper_goes fresh call side).keeper.own
 
--- what a CONNACK 0 makes go out of it, again or for the first time, goes out in the order of the calls
+-- what a CONNACK 0 makes go out of it, again or for the first time, goes out in the order of the
+-- calls
 abbrev pub GoesOutInOrder : Type 0
 GoesOutInOrder =
-    (own : List Own) → AreNumbered 0 own → IsSentFirst own → RisesFrom 0 (numbers_of (sent_again own ++ sent_first own))
+    (own : List Own) → AreNumbered 0 own → IsSentFirst own
+    → RisesFrom 0 (numbers_of (sent_again own ++ sent_first own))

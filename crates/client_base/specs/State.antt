@@ -10,7 +10,8 @@ use Rattle.client_base.specs.declared.request.Request.TheVariants as requests
 use Rattle.client_base.specs.declared.stage.Stage.{Stage}
 use Rattle.client_base.specs.declared.stage.Stage.TheVariants as stages
 
--- A client between two calls. Its kept publications are the released, the sent and the unsent ones, in this order.
+-- A client between two calls. Its kept publications are the released, the sent and the unsent ones,
+-- in this order.
 pub record ClientState : Type 0 where
   pub client : List ℕ  -- its Client Identifier
   pub keep_alive : ℕ  -- in seconds
@@ -82,7 +83,8 @@ used_ids state = publication_ids state ++ request_ids state
 abbrev pub publish_kept : Bool → KeptPublication → Packet
 publish_kept dup kept = packets.Publish (publish_of dup kept.id kept.publication)
 
--- behind a CONNACK 0: PUBREL for what is released, PUBLISH with DUP 1 for what was sent, then what was not
+-- behind a CONNACK 0: PUBREL for what is released, PUBLISH with DUP 1 for what was sent, then what
+-- was not
 abbrev pub resent : ClientState → List Packet
 resent state =
     map packets.Pubrel state.released

@@ -24,12 +24,14 @@ request_refusal state =
 
 -- it is under way until its answer comes
 abbrev pub asked : Request → Packet → ClientState → Turn
-asked request packet state = going_on (record state { requests = state.requests ++ request ∷ [] }) (packet ∷ [])
+asked request packet state =
+    going_on (record state { requests = state.requests ++ request ∷ [] }) (packet ∷ [])
 
 abbrev pub subscribed : List ℕ → QoS → ClientState → Turn
 subscribed filter qos state =
     asked (requests.Subscribes (next_id state))
-    (packets.Subscribe (record { id = next_id state; filters = record { filter = filter; qos = qos } ∷ [] })) state
+    (packets.Subscribe
+    (record { id = next_id state; filters = record { filter = filter; qos = qos } ∷ [] })) state
 
 abbrev pub unsubscribed : List ℕ → ClientState → Turn
 unsubscribed filter state =
@@ -61,9 +63,12 @@ unless_refused None turn state = turn
 
 abbrev pub keeper_step : Call → ClientState → Turn
 keeper_step Call.Opens state = opened state
-keeper_step (Call.Publishes p) state = unless_refused (publish_refusal p state) (published p state) state
-keeper_step (Call.Subscribes filter qos) state = unless_refused (request_refusal state) (subscribed filter qos state) state
-keeper_step (Call.Unsubscribes filter) state = unless_refused (request_refusal state) (unsubscribed filter state) state
+keeper_step (Call.Publishes p) state =
+    unless_refused (publish_refusal p state) (published p state) state
+keeper_step (Call.Subscribes filter qos) state =
+    unless_refused (request_refusal state) (subscribed filter qos state) state
+keeper_step (Call.Unsubscribes filter) state =
+    unless_refused (request_refusal state) (unsubscribed filter state) state
 keeper_step (Call.Receives packet) state = received packet state.stage state
 keeper_step Call.Loses state = going_on (lost state) []
 keeper_step Call.Disconnects state = disconnected state.stage state

@@ -10,7 +10,8 @@ abbrev pub plain : Packet → Written
 plain packet = record { packet = packet; number = None }
 
 abbrev pub publishes : Bool → ℕ → ℕ → Publication → Written
-publishes dup number id p = record { packet = packets.Publish (publish_of dup id p); number = Some number }
+publishes dup number id p =
+    record { packet = packets.Publish (publish_of dup id p); number = Some number }
 
 abbrev pub sent_again : List Own → List Written
 sent_again (Own.Sent k p id ∷ own) = publishes true k id p ∷ sent_again own
@@ -22,9 +23,12 @@ sent_first (Own.Unsent k p id ∷ own) = publishes false k id p ∷ sent_first o
 sent_first (_ ∷ own) = sent_first own
 sent_first [] = []
 
--- behind a CONNACK 0: PUBREL for what is released, then PUBLISH with DUP 1 for what was sent, then what was not
+-- behind a CONNACK 0: PUBREL for what is released, then PUBLISH with DUP 1 for what was sent, then
+-- what was not
 abbrev pub resent : Keeper → List Written
-resent keeper = map (λ id. plain (packets.Pubrel id)) keeper.releases ++ sent_again keeper.own ++ sent_first keeper.own
+resent keeper =
+    map (λ id. plain (packets.Pubrel id)) keeper.releases
+    ++ sent_again keeper.own ++ sent_first keeper.own
 
 abbrev pub sent_all : List Own → List Own
 sent_all (Own.Unsent k p id ∷ own) = Own.Sent k p id ∷ sent_all own
@@ -39,6 +43,7 @@ abbrev pub writing : {Name : Type 0} → List Written → Side Name → Side Nam
 writing more side = record side { connection = writes more side.connection }
 
 -- on the connection that was opened last
-abbrev pub writes_first : {Name : Type 0} → List Written → List (Connection Name) → List (Connection Name)
+abbrev pub writes_first : {Name : Type 0} → List Written → List (Connection Name)
+    → List (Connection Name)
 writes_first more (κ ∷ connections) = writes more κ ∷ connections
 writes_first more [] = []

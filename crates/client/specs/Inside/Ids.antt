@@ -13,6 +13,7 @@ RequestId state (Err cause) = request_refusal state ≡ Some cause
 
 -- the next one where fewer than sixteen publications are kept and one is free, and else WindowFull
 abbrev pub PublicationId : ClientState → Result ℕ ClientError → Type 0
-PublicationId state (Ok id) = (id ≡ next_id state) × ((nat_lt (kept_count state) window && has_free_id state) ≡ true)
+PublicationId state (Ok id) =
+    (id ≡ next_id state) × ((nat_lt (kept_count state) window && has_free_id state) ≡ true)
 PublicationId state (Err cause) =
     (cause ≡ errors.WindowFull) × ((nat_lt (kept_count state) window && has_free_id state) ≡ false)

@@ -16,19 +16,22 @@ use Rattle.client.specs.Reading.{Reads, turn_of, StopsFor, Handles, cause_of, fe
 abbrev pub Tries : Turn → Core → Result (Unit {0}) ClientError → Core → Type 0
 Tries turn old (Ok done) new = (turn.refusal ≡ None) × IsDone turn old new
 Tries turn old (Err errors.Memory) new = new ≡ old
-Tries turn old (Err errors.SessionLost) new = (turn.refusal ≡ Some errors.SessionLost) × IsDone turn old new
+Tries turn old (Err errors.SessionLost) new =
+    (turn.refusal ≡ Some errors.SessionLost) × IsDone turn old new
 Tries turn old (Err cause) new = (turn.refusal ≡ Some cause) × (new ≡ old)
 
 -- one packet is read and handled, where there is one
 abbrev pub ReadsOne : Core → Result Bool ClientError → Core → Type 0
 ReadsOne old (Ok false) new = Takes old.unread (Ok None) old.unread × (new ≡ old)
 ReadsOne old (Ok true) new =
-    (packet : Packet) × (next : Core) × Reads old packet next × ((turn_of packet next).refusal ≡ None)
+    (packet : Packet) × (next : Core) × Reads old packet next
+    × ((turn_of packet next).refusal ≡ None)
     × IsDone (turn_of packet next) next new
 ReadsOne old (Err errors.Memory) new = (new.state ≡ old.state) × (new.out ≡ old.out)
 ReadsOne old (Err errors.SessionLost) new =
     (packet : Packet) × (next : Core) × Reads old packet next
-    × ((turn_of packet next).refusal ≡ Some errors.SessionLost) × IsDone (turn_of packet next) next new
+    × ((turn_of packet next).refusal ≡ Some errors.SessionLost)
+    × IsDone (turn_of packet next) next new
 ReadsOne old (Err cause) new = StopsFor cause old × (new.state ≡ old.state) × (new.out ≡ old.out)
 
 -- a turn that writes nothing
@@ -42,7 +45,10 @@ with_state state core = record core { state = state }
 -- the client with these bytes written, and none of its publications unsent
 abbrev pub all_sent : List ℕ → Core → Core
 all_sent bytes core =
-    record core { state = record core.state { sent = core.state.sent ++ core.state.unsent; unsent = [] }; out = bytes }
+    record core {
+      state = record core.state { sent = core.state.sent ++ core.state.unsent; unsent = [] };
+      out = bytes;
+    }
 
 -- why the reading stops; a stream that failed is given up at once, and is met no more
 abbrev pub cut_cause : CutError → ClientError
@@ -56,7 +62,8 @@ StopsAt core (Ok done) new = Takes core.unread (Ok None) core.unread × (new ≡
 StopsAt core (Err errors.Memory) new = (new.state ≡ core.state) × (new.out ≡ core.out)
 StopsAt core (Err errors.SessionLost) new =
     (packet : Packet) × (next : Core) × Reads core packet next
-    × ((turn_of packet next).refusal ≡ Some errors.SessionLost) × IsDone (turn_of packet next) next new
+    × ((turn_of packet next).refusal ≡ Some errors.SessionLost)
+    × IsDone (turn_of packet next) next new
 StopsAt core (Err cause) new = StopsFor cause core × (new.state ≡ core.state) × (new.out ≡ core.out)
 
 -- whole packets are handled, and then it ends
@@ -84,5 +91,6 @@ TakesNext old (Ok (Some packet)) new = Reads old packet new
 TakesNext old (Ok None) new = Takes old.unread (Ok None) old.unread × (new ≡ old)
 TakesNext old (Err errors.Memory) new = (new.state ≡ old.state) × (new.out ≡ old.out)
 TakesNext old (Err cause) new =
-    ((fault : DecodeFault) × (rest : Stream) × Takes old.unread (Err (cuts.Decode fault)) rest × (cause ≡ cause_of fault))
+    ((fault : DecodeFault) × (rest : Stream) × Takes old.unread (Err (cuts.Decode fault)) rest
+    × (cause ≡ cause_of fault))
     × (new.state ≡ old.state) × (new.out ≡ old.out)
