@@ -5,3 +5,4 @@ mod AnswersToPubrec
 mod OneIsRemoved
 pub mod GreatestOfAll
 pub mod FilterSet
+pub mod LastIdentifiers

@@ -9,6 +9,7 @@ use Rattle.session_base.specs.declared.awaits.Awaits.TheVariants as waits_for
 use Rattle.session_base.specs.Publication.{publish_of, greater_qos}
 use Rattle.session_base.specs.Subscriptions.{HeldFilter}
 use Rattle.session_base.specs.Queue.{Flight, Queue, started_flight}
+use Rattle.session_form.specs.Form.{IsWritable}
 
 abbrev pub started_with : List Flight → List Publication → Queue
 started_with flights (p ∷ waiting) = record { in_flight = flights ++ started_flight flights p ∷ []; waiting = waiting }
@@ -43,3 +44,7 @@ greater_of None other = other
 abbrev pub place_of : List ℕ → List HeldFilter → ℕ
 place_of filter (held ∷ others) = if bytes_eq filter held.0 then 0 else suc (place_of filter others)
 place_of filter [] = 0
+
+-- an entry whose publication, if it has one, can be written
+abbrev pub AreWritable : Flight → Type 0
+AreWritable flight = IsWritable flight.1

@@ -4,11 +4,13 @@
 
 mod arrival;
 mod error;
+mod freezing;
 mod received;
 mod sending;
 mod session;
 mod session_queue;
 mod subscriptions;
+mod thawing;
 
 pub use arrival::Arrival;
 pub use error::EnqueueError;

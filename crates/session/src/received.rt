@@ -12,7 +12,7 @@ use std::marker::Model;
 /// Identifiers of publications without a PUBREL, in rising order.
 #[derive(Drop)]
 pub(crate) struct Received {
-    ids: BTreeSet<PacketId>,
+    pub(crate) ids: BTreeSet<PacketId>,
 }
 
 impl Model for Received {

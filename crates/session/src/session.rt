@@ -28,9 +28,9 @@ pub const MAX_ENTRIES: usize = 4096;
 /// came in, the entries in flight and those that wait.
 #[derive(Drop)]
 pub struct Session {
-    subscriptions: Subscriptions,
-    received: Received,
-    queue: SessionQueue,
+    pub(crate) subscriptions: Subscriptions,
+    pub(crate) received: Received,
+    pub(crate) queue: SessionQueue,
 }
 
 impl Model for Session {

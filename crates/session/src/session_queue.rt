@@ -23,8 +23,8 @@ use std::marker::Model;
 /// The entries in flight, the released ones first, and the publications that wait, in order.
 #[derive(Drop)]
 pub(crate) struct SessionQueue {
-    in_flight: IndexMap<PacketId, Awaits>,
-    waiting: VecDeque<Publication>,
+    pub(crate) in_flight: IndexMap<PacketId, Awaits>,
+    pub(crate) waiting: VecDeque<Publication>,
 }
 
 impl Model for SessionQueue {
@@ -219,7 +219,7 @@ fn free_id(in_flight: &IndexMap<PacketId, Awaits>) -> PacketId
 }
 
 // An entry comes behind those in flight.
-fn put_last(
+pub(crate) fn put_last(
     in_flight: &mut IndexMap<PacketId, Awaits>,
     id: PacketId,
     awaits: Awaits,

@@ -13,7 +13,7 @@ use topics::{Filter, TopicName, matches};
 /// Filters with the QoS at which each was granted last, in the order of their first granting.
 #[derive(Drop)]
 pub(crate) struct Subscriptions {
-    held: Vec<(Filter, QoS)>,
+    pub(crate) held: Vec<(Filter, QoS)>,
 }
 
 impl Model for Subscriptions {

@@ -1,5 +1,6 @@
 use crate::*;
 use packet::{Delivery, Packet, PacketId, Payload, QoS};
+use packet_base::Reader;
 use session_base::Publication;
 use std::alloc::Global;
 use std::test::*;
@@ -167,4 +168,39 @@ fn the_queue_is_full(rt: HostRuntime) -> Result<(), Fail> {
     let text = format!(in alloc; "{}", EnqueueError::QueueFull)?;
     assert_eq!(rt; text.as_str(), "the session's queue is full");
     Ok(())
+}
+
+// One subscription at QoS 2, the received identifier 7, nothing in flight, and a publication at QoS 1
+// that waits; written by hand from the description of the form.
+const FROZEN: [u8; 29] = [
+    1, 0, 3, 0x74, 0x2F, 0x31, 2, 0, 1, 0, 7, 0, 0, 0, 1, 0, 1, 0, 3, 0x74, 0x2F, 0x31, 0, 0, 0, 1,
+    0x78, 0xAA, 0xBB,
+];
+
+fn thawed(alloc: Global, bytes: &[u8]) -> Option<Session> {
+    let mut reader = Reader::new(bytes);
+    Session::read(alloc, &mut reader).ok()
+}
+
+#[test]
+fn a_frozen_session_is_read(rt: HostRuntime) -> Result<(), Fail> {
+    let session = thawed(rt.alloc(), &FROZEN)
+        .ok_or("the bytes are of the form")
+        .map_err(Fail::from)?;
+    assert!(rt; session.is_received(PacketId::new(7)) && !session.is_received(PacketId::new(8)));
+    assert!(rt; session.room() == MAX_ENTRIES - 1);
+    assert!(rt; session.granted(&topic(rt.alloc())?) == Some(QoS::ExactlyOnce));
+    Ok(())
+}
+
+#[test]
+fn other_bytes_are_no_session(rt: HostRuntime) {
+    // Two subscriptions, identifier 0, a publication at QoS 0, bytes that are missing.
+    let rows: [(usize, u8); 3] = [(0, 2), (10, 0), (16, 0)];
+    for (place, byte) in rows {
+        let mut bytes = FROZEN;
+        bytes[place] = byte;
+        assert!(rt; thawed(rt.alloc(), &bytes).is_none());
+    }
+    assert!(rt; thawed(rt.alloc(), &FROZEN[..26]).is_none());
 }

@@ -18,7 +18,7 @@ use Rattle.session_form.proofs.Fields.{held_again, flight_again, waiting_again}
 use Rattle.session_form.proofs.Follows.{filters_follow, received_follow, flights_follow, waiting_follow}
 
 -- what holds of each in range holds of each
-each : {A : Type 0} (P Q : A → Type 0) → ((one : A) → P one → Q one) → (xs : List A) → AllByRecursion P xs → AllByRecursion Q xs
+pub each : {A : Type 0} (P Q : A → Type 0) → ((one : A) → P one → Q one) → (xs : List A) → AllByRecursion P xs → AllByRecursion Q xs
 each P Q to [] h = tt
 each P Q to (x ∷ xs) h = (to x h.0, each P Q to xs h.1)
 
@@ -26,7 +26,7 @@ above_zero : (i : ℕ) → IsId i → nat_cmp 0 i ≡ Less
 above_zero i h = let some = h.0 in grind (arith, some)
 
 -- rising identifiers are no more than there are
-few_ids : (ids : List ℕ) → IsStrictlySortedBy nat_cmp ids → AllByRecursion IsId ids → length ids ≤ 65535
+pub few_ids : (ids : List ℕ) → IsStrictlySortedBy nat_cmp ids → AllByRecursion IsId ids → length ids ≤ 65535
 unfolding IsStrictlySortedBy
 few_ids ids rising h =
     let all : length (0 ∷ ids) ≤ 2 ^ 16 = length-le_from_below (2 ^ 16) (0 ∷ ids) (each IsId (λ (i : ℕ). nat_cmp 0 i ≡ Less) above_zero ids h, rising)

@@ -7,3 +7,5 @@ pub mod FieldsFound
 pub mod FollowsFound
 pub mod FormFound
 pub mod ReadingLoops
+pub mod FollowRead
+pub mod Writable

@@ -1,0 +1,9 @@
+use Rattle.std.proofs.Common.{◌≡◌, ◌++◌, drop}
+use Rattle.std.specs.List.{flat_map, AllByRecursion}
+use Rattle.session_form.specs.Form.{publication_bytes, HasLength}
+use Rattle.session.proofs.session_queue.SessionQueue.write_waiting.Given as goal
+
+abbrev pub invariant-loop-place : goal.invariant-loop-place
+invariant-loop-place l =
+    (l.bytes.items ++ flat_map publication_bytes (drop l.place l.self.waiting) ≡ l.initial.bytes.items ++ flat_map publication_bytes l.self.waiting)
+    × AllByRecursion HasLength (drop l.place l.self.waiting)

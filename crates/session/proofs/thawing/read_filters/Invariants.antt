@@ -1,0 +1,8 @@
+use Rattle.std.proofs.Common.{◌≡◌, ◌-◌, []}
+use Rattle.session_form.specs.Counted.{items_behind}
+use Rattle.session_form.specs.Form.{is_new_filter, held_at}
+use Rattle.session.proofs.thawing.read_filters.Given as goal
+
+abbrev pub invariant-loop : goal.invariant-loop
+invariant-loop l =
+    items_behind is_new_filter held_at (l.count - l.counter) l.read l.reader ≡ items_behind is_new_filter held_at l.count [] l.initial.reader

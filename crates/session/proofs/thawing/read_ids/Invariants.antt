@@ -1,0 +1,9 @@
+use Rattle.std.proofs.Common.{◌≡◌, ◌-◌, []}
+use Rattle.session_form.specs.Counted.{items_behind}
+use Rattle.session_form.specs.Form.{is_above}
+use Rattle.packet_base.specs.Reading.{id_at}
+use Rattle.session.proofs.thawing.read_ids.Given as goal
+
+abbrev pub invariant-loop : goal.invariant-loop
+invariant-loop l =
+    items_behind is_above id_at (l.count - l.counter) l.read l.reader ≡ items_behind is_above id_at l.count [] l.initial.reader

@@ -1,0 +1,115 @@
+// A session as bytes, form 1.
+
+ghost use Rattle.std.specs.Prelude.{◌≡◌, ◌≤◌, ◌++◌, length, OnOk};
+ghost use Rattle.std.specs.List.{flat_map, AllByRecursion};
+ghost use Rattle.packet_base.specs.Spelling.{number};
+ghost use Rattle.session_form.specs.Counted.{counted};
+ghost use Rattle.session_form.specs.Form.{one_byte, held_bytes, flight_bytes, publication_bytes, state_bytes, HasLength, IsWritable};
+ghost use Rattle.session_form.specs.FormLaws.{HasForm};
+ghost use Rattle.session.specs.Inside.{AreWritable};
+
+use crate::received::Received;
+use crate::session::Session;
+use crate::session_queue::SessionQueue;
+use crate::subscriptions::Subscriptions;
+use packet::PacketId;
+use session_base::{Awaits, Publication};
+use session_form::{write_flight, write_held, write_number, write_publication};
+use std::alloc::AllocError;
+
+impl Session {
+    /// Appends the session's bytes, form 1. A session that may be written has a form: it is within
+    /// its limits, and each part in its range. Without memory a part of the bytes may stand there.
+    pub fn write(&self, bytes: &mut Vec<u8>) -> Result<(), AllocError>
+        requires { HasForm self.now }
+        ensures { OnOk result (bytes.new.items ≡ bytes.old.items ++ state_bytes self.now) }
+    {
+        self.subscriptions.write(bytes)?;
+        self.received.write(bytes)?;
+        self.queue.write(bytes)
+    }
+}
+
+impl Subscriptions {
+    /// Appends how many there are, and each.
+    pub(crate) fn write(&self, bytes: &mut Vec<u8>) -> Result<(), AllocError>
+        requires { length self.now ≤ 64 }
+        ensures { OnOk result (bytes.new.items ≡ bytes.old.items ++ counted one_byte held_bytes self.now) }
+    {
+        bytes.push(self.held.len() as u8)?;
+        self.write_each(bytes)
+    }
+
+    fn write_each(&self, bytes: &mut Vec<u8>) -> Result<(), AllocError>
+        ensures { OnOk result (bytes.new.items ≡ bytes.old.items ++ flat_map held_bytes self.now) }
+    {
+        for (filter, qos) in &self.held {
+            write_held(filter, *qos, bytes)?;
+        }
+        Ok(())
+    }
+}
+
+impl Received {
+    /// Appends how many there are, and each.
+    pub(crate) fn write(&self, bytes: &mut Vec<u8>) -> Result<(), AllocError>
+        requires { length self.now ≤ 65535 }
+        ensures { OnOk result (bytes.new.items ≡ bytes.old.items ++ counted number number self.now) }
+    {
+        write_number(self.ids.len() as u16, bytes)?;
+        self.write_each(bytes)
+    }
+
+    fn write_each(&self, bytes: &mut Vec<u8>) -> Result<(), AllocError>
+        ensures { OnOk result (bytes.new.items ≡ bytes.old.items ++ flat_map number self.now) }
+    {
+        for id in &self.ids {
+            write_number(id.number(), bytes)?;
+        }
+        Ok(())
+    }
+}
+
+impl SessionQueue {
+    /// Appends what is in flight and what waits, each with how many there are.
+    pub(crate) fn write(&self, bytes: &mut Vec<u8>) -> Result<(), AllocError>
+        requires few { length self.now.in_flight ≤ 4096 }
+        requires fewer { length self.now.waiting ≤ 4096 }
+        requires flights { AllByRecursion AreWritable self.now.in_flight }
+        requires waiting { AllByRecursion HasLength self.now.waiting }
+        ensures { OnOk result
+            (bytes.new.items
+            ≡ bytes.old.items
+            ++ (counted number flight_bytes self.now.in_flight
+            ++ counted number publication_bytes self.now.waiting)) }
+    {
+        write_number(self.in_flight.len() as u16, bytes)?;
+        self.write_flights(bytes)?;
+        write_number(self.waiting.len() as u16, bytes)?;
+        self.write_waiting(bytes)
+    }
+
+    fn write_flights(&self, bytes: &mut Vec<u8>) -> Result<(), AllocError>
+        requires { AllByRecursion AreWritable self.now.in_flight }
+        ensures { OnOk result
+            (bytes.new.items ≡ bytes.old.items ++ flat_map flight_bytes self.now.in_flight) }
+    {
+        for (id, awaits) in &self.in_flight {
+            write_flight(*id, awaits, bytes)?;
+        }
+        Ok(())
+    }
+
+    fn write_waiting(&self, bytes: &mut Vec<u8>) -> Result<(), AllocError>
+        requires { AllByRecursion HasLength self.now.waiting }
+        ensures { OnOk result
+            (bytes.new.items ≡ bytes.old.items ++ flat_map publication_bytes self.now.waiting) }
+    {
+        for place in 0..self.waiting.len() {
+            if let Some(publication) = self.waiting.get(place) {
+                write_publication(publication, bytes)?;
+            }
+        }
+        Ok(())
+    }
+}

@@ -1,0 +1,248 @@
+// The session that bytes stand for, form 1.
+
+ghost use Rattle.std.specs.Prelude.{◌≡◌, ◌≤◌, [], length, IfOk};
+ghost use Rattle.std.specs.List.Sorted.{IsStrictlySortedBy};
+ghost use Rattle.std.specs.Ordering.{nat_cmp};
+ghost use Rattle.packet_base.specs.Outcome.{Gives, Reads};
+ghost use Rattle.packet_base.specs.Reading.{byte_at, number_at, id_at};
+ghost use Rattle.session_form.specs.Counted.{counted_at, items_behind, last_of, Adds};
+ghost use Rattle.session_form.specs.Form.{is_new_filter, held_at, is_above, may_follow, flight_at, anything, was_released, waiting_at, state_at};
+ghost use Rattle.lists.specs.Lists.{has_id};
+ghost use Rattle.session_base.specs.Queue.{ids_of};
+ghost use Rattle.session_base.specs.OrderLaws.{IsReleasedFirst};
+
+use crate::received::Received;
+use crate::sending::waits_for_pubcomp;
+use crate::session::{MAX_ENTRIES, Session};
+use crate::session_queue::{SessionQueue, put_last};
+use crate::subscriptions::Subscriptions;
+use indexmap::IndexMap;
+use packet::{PacketId, QoS};
+use packet_base::{Reader, Stop};
+use session_base::{Awaits, Publication};
+use session_form::{keep, read_flight, read_held, read_waiting};
+use std::alloc::Global;
+use std::collections::VecDeque;
+use topics::{Filter, MalformedKind};
+
+/// The most subscriptions of a session.
+const MAX_SUBSCRIPTIONS: u8 = 64;
+
+const OUT_OF_MEMORY: Stop = Stop::Malformed(MalformedKind::Memory);
+
+impl Subscriptions {
+    /// As many filters as their count says, none of them twice.
+    #[tactic(auto, unfolding(session_form::specs::Counted::counted_at))]
+    pub(crate) fn read(alloc: Global, reader: &mut Reader) -> Result<Subscriptions, Stop>
+        ensures { Reads (λ x. x) result reader.new (counted_at byte_at is_new_filter held_at 64 reader.old) }
+    {
+        let count = reader.byte()?;
+        keep(count <= MAX_SUBSCRIPTIONS)?;
+        read_filters(alloc, count, reader)
+    }
+
+    // One more, which is not held yet.
+    fn add(&mut self, filter: Filter, qos: QoS) -> Result<(), Stop>
+        ensures { Adds is_new_filter self.old (filter, qos) result self.new }
+    {
+        keep(!self.contains(&filter))?;
+        match self.held.push((filter, qos)) {
+            Ok(()) => Ok(()),
+            Err(_) => Err(OUT_OF_MEMORY),
+        }
+    }
+}
+
+fn read_filters(alloc: Global, count: u8, reader: &mut Reader) -> Result<Subscriptions, Stop>
+    ensures { Reads (λ x. x) result reader.new (items_behind is_new_filter held_at count [] reader.old) }
+{
+    let mut read = Subscriptions::new(alloc);
+    for _ in 0..count {
+        let (filter, qos) = read_held(alloc, reader)?;
+        read.add(filter, qos)?;
+    }
+    Ok(read)
+}
+
+impl Received {
+    /// As many identifiers as their count says, in rising order.
+    #[tactic(auto, unfolding(session_form::specs::Counted::counted_at))]
+    pub(crate) fn read(alloc: Global, reader: &mut Reader) -> Result<Received, Stop>
+        ensures { Reads (λ x. x) result reader.new (counted_at number_at is_above id_at 65535 reader.old) }
+    {
+        let count = reader.number()?;
+        read_ids(alloc, count, reader)
+    }
+
+    // One more, which is above the last.
+    #[tactic(auto, using(crate::proofs::LastIdentifiers::comes_last))]
+    fn add(&mut self, id: PacketId) -> Result<(), Stop>
+        ensures { Adds is_above self.old id result self.new }
+    {
+        keep(self.is_above(id))?;
+        match self.insert(id) {
+            Ok(()) => Ok(()),
+            Err(_) => Err(OUT_OF_MEMORY),
+        }
+    }
+
+    // Whether the identifier is above the last. All of them rise.
+    #[tactic(auto, using(crate::proofs::LastIdentifiers::above_last))]
+    fn is_above(&self, id: PacketId) -> bool
+        ensures test { result ≡ is_above self.now id }
+        ensures rising { IsStrictlySortedBy nat_cmp self.now }
+    {
+        let _count = self.ids.len();
+        match self.ids.last() {
+            Some(last) => *last < id,
+            None => true,
+        }
+    }
+}
+
+fn read_ids(alloc: Global, count: u16, reader: &mut Reader) -> Result<Received, Stop>
+    ensures { Reads (λ x. x) result reader.new (items_behind is_above id_at count [] reader.old) }
+{
+    let mut read = Received::new(alloc);
+    for _ in 0..count {
+        let id = reader.id()?;
+        read.add(id)?;
+    }
+    Ok(read)
+}
+
+impl Session {
+    /// The session at the front of the bytes that are left, form 1. All that is not of the form stops
+    /// the reading: a filter or an identifier that stands twice, a part out of its range, a 65th
+    /// subscription, a 4,097th entry. `Memory` for want of memory.
+    #[tactic(auto, unfolding(session_form::specs::Form::state_at))]
+    pub fn read(alloc: Global, reader: &mut Reader) -> Result<Session, Stop>
+        ensures { Reads (λ x. x) result reader.new (state_at reader.old) }
+    {
+        let subscriptions = Subscriptions::read(alloc, reader)?;
+        let received = Received::read(alloc, reader)?;
+        let in_flight = read_in_flight(alloc, reader)?;
+        let waiting = read_all_waiting(alloc, MAX_ENTRIES - in_flight.len(), reader)?;
+        Ok(Session {
+            subscriptions,
+            received,
+            queue: SessionQueue { in_flight, waiting },
+        })
+    }
+}
+
+// As many entries in flight as their count says, the released ones first.
+#[tactic(auto, using(session_form::proofs::FollowRead::read_first, session_form::proofs::FollowRead::read_few))]
+fn read_in_flight(alloc: Global, reader: &mut Reader) -> Result<IndexMap<PacketId, Awaits>, Stop>
+    ensures exact { Reads (λ x. x.entries) result reader.new (counted_at number_at may_follow flight_at 4096 reader.old) }
+    ensures first { IfOk result (λ x. IsReleasedFirst x.entries) }
+    ensures few { IfOk result (λ x. length x.entries ≤ 4096) }
+{
+    read_counted_flights(alloc, reader)
+}
+
+#[tactic(auto, unfolding(session_form::specs::Counted::counted_at))]
+fn read_counted_flights(
+    alloc: Global,
+    reader: &mut Reader,
+) -> Result<IndexMap<PacketId, Awaits>, Stop>
+    ensures { Reads (λ x. x.entries) result reader.new (counted_at number_at may_follow flight_at 4096 reader.old) }
+{
+    let count = reader.number()?;
+    keep(usize::from(count) <= MAX_ENTRIES)?;
+    read_flights(alloc, count, reader)
+}
+
+fn read_flights(
+    alloc: Global,
+    count: u16,
+    reader: &mut Reader,
+) -> Result<IndexMap<PacketId, Awaits>, Stop>
+    ensures { Reads (λ x. x.entries) result reader.new (items_behind may_follow flight_at count [] reader.old) }
+{
+    let mut read = IndexMap::new(alloc);
+    for _ in 0..count {
+        let (id, awaits) = read_flight(alloc, reader)?;
+        add_flight(&mut read, id, awaits)?;
+    }
+    Ok(read)
+}
+
+// One more entry, with an identifier of its own.
+fn add_flight(
+    in_flight: &mut IndexMap<PacketId, Awaits>,
+    id: PacketId,
+    awaits: Awaits,
+) -> Result<(), Stop>
+    ensures { Adds may_follow in_flight.old.entries (id, awaits) result in_flight.new.entries }
+{
+    keep(may_follow(in_flight, id, &awaits))?;
+    match put_last(in_flight, id, awaits) {
+        Ok(()) => Ok(()),
+        Err(_) => Err(OUT_OF_MEMORY),
+    }
+}
+
+// Whether an entry may stand behind these.
+fn may_follow(in_flight: &IndexMap<PacketId, Awaits>, id: PacketId, awaits: &Awaits) -> bool
+    ensures { result ≡ may_follow in_flight.now.entries (id, awaits.now) }
+{
+    !is_in_flight(in_flight, id) && (!waits_for_pubcomp(awaits) || last_is_released(in_flight))
+}
+
+// Whether an entry has the identifier.
+fn is_in_flight(in_flight: &IndexMap<PacketId, Awaits>, id: PacketId) -> bool
+    ensures { result ≡ has_id id (ids_of in_flight.now.entries) }
+{
+    in_flight.contains_key(&id)
+}
+
+// Whether the last entry, if there is one, is released.
+#[tactic(auto, using(crate::proofs::LastIdentifiers::last_at))]
+fn last_is_released(in_flight: &IndexMap<PacketId, Awaits>) -> bool
+    ensures { result ≡ was_released (last_of in_flight.now.entries) }
+{
+    match in_flight.last() {
+        Some((_, awaits)) => waits_for_pubcomp(awaits),
+        None => true,
+    }
+}
+
+// As many publications that wait as their count says, and no more than these.
+#[tactic(auto, unfolding(session_form::specs::Counted::counted_at))]
+fn read_all_waiting(
+    alloc: Global,
+    most: usize,
+    reader: &mut Reader,
+) -> Result<VecDeque<Publication>, Stop>
+    ensures { Reads (λ x. x.items) result reader.new (counted_at number_at anything waiting_at most reader.old) }
+{
+    let count = reader.number()?;
+    keep(usize::from(count) <= most)?;
+    read_publications(alloc, count, reader)
+}
+
+fn read_publications(
+    alloc: Global,
+    count: u16,
+    reader: &mut Reader,
+) -> Result<VecDeque<Publication>, Stop>
+    ensures { Reads (λ x. x.items) result reader.new (items_behind anything waiting_at count [] reader.old) }
+{
+    let mut read = VecDeque::new(alloc);
+    for _ in 0..count {
+        let publication = read_waiting(alloc, reader)?;
+        add_waiting(&mut read, publication)?;
+    }
+    Ok(read)
+}
+
+// One more that waits.
+fn add_waiting(waiting: &mut VecDeque<Publication>, publication: Publication) -> Result<(), Stop>
+    ensures { Adds anything waiting.old.items publication result waiting.new.items }
+{
+    match waiting.push_back(publication) {
+        Ok(()) => Ok(()),
+        Err(_) => Err(OUT_OF_MEMORY),
+    }
+}
