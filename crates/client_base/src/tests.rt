@@ -38,3 +38,14 @@ fn laws_are_called() -> Result<(), Fail> {
     publishing_order_is_kept();
     Ok(())
 }
+
+// What a fault says to a user.
+#[test]
+fn refusals_have_their_texts(rt: HostRuntime) -> Result<(), Fail> {
+    let text = format!(in rt.alloc(); "{}; {}", ClientError::WindowFull, ClientError::NotActive)?;
+    assert_eq!(rt;
+        text.as_str(),
+        "too many publications under way; not connected"
+    );
+    Ok(())
+}
