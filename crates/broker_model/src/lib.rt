@@ -26,4 +26,4 @@ pub use rows::{
     pubrel_twice, retained_at_subscribe, sessions_begin_and_end, subscribe_is_granted,
     two_filters_one_publication, window_of_64,
 };
-pub use sized_packet::{SizedPacket, TooLarge};
+pub use sized_packet::{SizedPacket, Unspellable};

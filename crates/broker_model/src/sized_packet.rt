@@ -1,8 +1,8 @@
 // A packet that the log may hold.
 
-ghost use Rattle.std.specs.Prelude.{◌≡◌, ◌↔◌, IfOk, IsErr};
+ghost use Rattle.std.specs.Prelude.{◌≡◌, ◌↔◌, IfOk, IsOk, IsErrOf};
 ghost use Rattle.packet.specs.Spelling.{Fits, IsListed, IsTooLarge};
-ghost use Rattle.broker_model.specs.Sized.{IsSized};
+ghost use Rattle.broker_model.specs.Sized.{IsSized, unspellable_number};
 
 use packet::Packet;
 use std::alloc::AllocError;
@@ -28,37 +28,51 @@ impl Model for SizedPacket {
     ghost invariant = { λ sized. IsSized sized.packet };
 }
 
-/// The packet's body has more than 1,048,572 bytes, this broker's own limit.
+/// Why a packet cannot be written down.
 #[derive(Clone, Copy, Debug, PartialEq, Eq)]
-pub struct TooLarge;
+pub enum Unspellable {
+    /// Its body has more than 1,048,572 bytes, this broker's own limit.
+    TooLarge,
+    /// A SUBSCRIBE, SUBACK or UNSUBSCRIBE without an entry (MQTT 3.8.3, 3.9.3, 3.10.3).
+    Shape,
+}
 
-impl TooLarge {
+impl Unspellable {
     /// The number of this refusal, the same in every program and document of this broker.
     pub fn number(self) -> u8
-        ensures { result ≡ 4 }
+        ensures { result ≡ unspellable_number self }
     {
-        4
+        match self {
+            Unspellable::TooLarge => 4,
+            Unspellable::Shape => 10,
+        }
     }
 }
 
-impl fmt::Display for TooLarge {
+impl fmt::Display for Unspellable {
     fn fmt<W: fmt::Write>(&self, f: &mut fmt::Formatter<W>) -> fmt::Result {
-        f.write_str("packet too large")
+        f.write_str(match self {
+            Unspellable::TooLarge => "packet too large",
+            Unspellable::Shape => "empty list",
+        })
     }
 }
 
-impl Error for TooLarge {}
+impl Error for Unspellable {}
 
 impl SizedPacket {
-    /// This packet, or `TooLarge` exactly where its body has more than 1,048,572 bytes. A decoded
-    /// packet has no empty list (MQTT 3.8.3, 3.9.3, 3.10.3).
-    pub fn new(packet: Packet) -> Result<SizedPacket, TooLarge>
-        requires listed { IsListed packet }
+    /// This packet, where it can be written down. `TooLarge` comes exactly where its body has more
+    /// than 1,048,572 bytes, `Shape` where only a list of it is empty.
+    pub fn new(packet: Packet) -> Result<SizedPacket, Unspellable>
         ensures value { IfOk result (λ sized. sized ≡ packet) }
-        ensures large { IsErr result ↔ IsTooLarge packet }
+        ensures ok { IsOk result ↔ IsSized packet }
+        ensures large { IsErrOf result Unspellable.TooLarge ↔ IsTooLarge packet }
     {
         if packet.is_too_large() {
-            return Err(TooLarge);
+            return Err(Unspellable::TooLarge);
+        }
+        if !packet.has_no_empty_list() {
+            return Err(Unspellable::Shape);
         }
         Ok(SizedPacket { packet })
     }
