@@ -25,7 +25,7 @@ use Rattle.broker_base.proofs.SessionsStayByClient.{left_by_client}
 use Rattle.session_form.specs.InRange.{CanBeSent}
 use Rattle.broker_form.specs.InRange.{IsRetained}
 use Rattle.broker_form.proofs.Publications.{made, marked}
-use Rattle.broker_form.proofs.Tables.{put_one_more, put_known, put_rises, without_rises, without_fewer, all_put, all_without}
+use Rattle.lists.proofs.Tables.{put_one_more, put_known, put_rises, without_rises, without_fewer, all_put, all_without}
 
 -- ---- sessions
 

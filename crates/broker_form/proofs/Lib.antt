@@ -4,7 +4,6 @@ pub mod Filters
 pub mod Sessions
 pub mod Grants
 pub mod Rooms
-pub mod Tables
 pub mod Counts
 pub mod States
 pub mod Sends

@@ -27,7 +27,7 @@ use Rattle.broker_form.specs.RangeLaws.{StaysInRange}
 use Rattle.broker_form.proofs.Publications.{carried}
 use Rattle.broker_form.proofs.Sessions.{IfSession, connected, session_in_range}
 use Rattle.broker_form.proofs.Rooms.{AllInRange, AllHaveRoom, rooms}
-use Rattle.broker_form.proofs.Tables.{all_put}
+use Rattle.lists.proofs.Tables.{all_put}
 use Rattle.broker_form.proofs.Counts.{few_sessions, stays_retained}
 
 keyed_in_range : (limits : Limits) (c : Client) (o : Option ClientSession) (rows : Sessions) → IfSession limits c o → AllInRange limits rows →

@@ -4,3 +4,4 @@ pub mod Members
 pub mod Tests
 pub mod Identifiers
 pub mod OfEach
+pub mod Tables

@@ -1,3 +1,4 @@
 pub mod Retained
 pub mod Errors
 pub mod Inside
+pub mod Laws

@@ -3,11 +3,13 @@
 #![tactic(auto)]
 
 mod error;
+mod laws;
 mod retained_publication;
 mod retained_store;
 #[cfg(test)]
 mod tests;
 
 pub use error::RetainedError;
+pub use laws::{last_is_retained, stays_in_bounds};
 pub use retained_publication::RetainedPublication;
 pub use retained_store::RetainedStore;

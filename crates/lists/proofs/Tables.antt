@@ -1,19 +1,49 @@
 -- Tables by bytes: what a row more, in place of another, or less leaves of their order, of their size, and of what
 -- each row meets.
-use Rattle.std.proofs.Common.{◌≡◌, ℕ, ◌≤◌, suc, Bool, true, false, if◌then◌else◌, Some, None, List, [], ◌∷◌, length, refl, ap, ◌∙◌, arith}
+use Rattle.std.proofs.Common.{◌≡◌, ℕ, ◌≤◌, suc, Bool, true, false, if◌then◌else◌, Option, Some, None, sym, List, [], ◌∷◌, length, refl, ap, ◌∙◌, arith}
 use Rattle.std.specs.declared.cmp.Ordering.{Ordering}
 use Rattle.std.specs.declared.cmp.Ordering.TheVariants.{Less, Equal, Greater}
-use Rattle.std.specs.Ordering.{match_ordering, is_eq}
+use Rattle.std.specs.Ordering.{match_ordering, is_eq, nat_cmp, ordering_reverse}
+use Rattle.std.specs.Cmp.Lexicographic.{slice_cmp}
 use Rattle.std.specs.BTreeMap.{insert_entry, is_at}
 use Rattle.std.specs.Map.{keys_of, lookup, remove_entry}
 use Rattle.std.specs.List.{AllByRecursion}
 use Rattle.std.specs.List.Sorted.{IsStrictlySortedBy}
 use Rattle.std.proofs.lemmas.Cmp.{nat_list_cmp_total}
-use Rattle.broker_model.specs.Place.{by_bytes}
-use Rattle.broker_model.proofs.ClientsInOrder.{greater_turned}
+use Rattle.std.proofs.lemmas.Map.Lookups.{exact_bytes}
 
 abbrev pub Table : Type 0 → Type 0
 Table X = List (List ℕ × X)
+
+-- bytes in their order
+abbrev pub by_bytes : List ℕ → List ℕ → Ordering
+by_bytes = slice_cmp nat_cmp
+
+greater_turned : (c d : List ℕ) → by_bytes c d ≡ Greater → by_bytes d c ≡ Less
+greater_turned c d e = nat_list_cmp_total.antisymm d c ∙ ap ordering_reverse e
+
+own_reverse : (o : Ordering) → o ≡ ordering_reverse o → o ≡ Equal
+own_reverse Less e = absurd (cc)
+own_reverse Equal e = refl
+own_reverse Greater e = absurd (cc)
+
+by_bytes_self : (c : List ℕ) → by_bytes c c ≡ Equal
+by_bytes_self c = own_reverse (by_bytes c c) (nat_list_cmp_total.antisymm c c)
+
+equal_of : (o : Ordering) → is_eq o ≡ true → o ≡ Equal
+equal_of Less e = absurd (cc)
+equal_of Equal e = refl
+equal_of Greater e = absurd (cc)
+
+is_same : (b c : List ℕ) → is_eq (by_bytes b c) ≡ true → b ≡ c
+is_same b c e = exact_bytes b c (equal_of (by_bytes b c) e)
+
+-- no key is at two that differ
+apart : (q b c : List ℕ) (o : Ordering) → by_bytes c b ≡ o → is_eq o ≡ false → is_eq (by_bytes q b) ≡ true → is_eq (by_bytes q c) ≡ true → false ≡ true
+apart q b c o e differ at_b at_c =
+    let same_b = is_same q b at_b in
+    let same_c = is_same q c at_c in
+    sym differ ∙ ap is_eq (sym e) ∙ rw (sym same_b, sym same_c) (ap is_eq (by_bytes_self q))
 
 module _ {X : Type 0} where
   -- the rows rise
@@ -130,3 +160,73 @@ module _ {X : Type 0} where
         | true ↦ h.1
         | false ↦ (h.0, all_without P c rows h.1)
       ]
+
+  -- ---- what is found
+
+  abbrev found : List ℕ → Table X → Option X
+  found key rows = lookup (is_at (by_bytes key)) rows
+
+  -- two keys that differ, in either order
+  swapped : (q b c : List ℕ) (o : Ordering) (x y : X) (more : Option X) → by_bytes c b ≡ o → is_eq o ≡ false →
+      (if is_eq (by_bytes q b) then Some y else (if is_eq (by_bytes q c) then Some x else more))
+      ≡ (if is_eq (by_bytes q c) then Some x else (if is_eq (by_bytes q b) then Some y else more))
+  swapped q b c o x y more e differ = by (is_eq (by_bytes q b)) (is_eq (by_bytes q c)) refl refl
+    where
+      by : (at_b at_c : Bool) → is_eq (by_bytes q b) ≡ at_b → is_eq (by_bytes q c) ≡ at_c →
+          (if at_b then Some y else (if at_c then Some x else more)) ≡ (if at_c then Some x else (if at_b then Some y else more))
+      by true true f g = absurd (cc (apart q b c o e differ f g))
+      by true false f g = refl
+      by false true f g = refl
+      by false false f g = refl
+
+  -- the row that was put is found, and at any other key what was found before
+  pub found_put : (q c : List ℕ) (x : X) (rows : Table X) →
+      found q (put rows c x) ≡ (if is_eq (by_bytes q c) then Some x else found q rows)
+  found_put q c x [] = refl
+  found_put q c x (row ∷ rows) = by (by_bytes c row.0) refl (found_put q c x rows)
+    where
+      chosen : (at : Bool) → (if at then Some x else found q rows) ≡ (if at then Some x else (if at then Some row.1 else found q rows))
+      chosen true = refl
+      chosen false = refl
+
+      by : (o : Ordering) → by_bytes c row.0 ≡ o → found q (put rows c x) ≡ (if is_eq (by_bytes q c) then Some x else found q rows) →
+          found q (match_ordering o ((c, x) ∷ row ∷ rows) ((row.0, x) ∷ rows) (row ∷ put rows c x))
+          ≡ (if is_eq (by_bytes q c) then Some x else found q (row ∷ rows))
+      by Less e more = refl
+      by Equal e more = (let same = exact_bytes c row.0 e in rw (same) (chosen (is_eq (by_bytes q row.0))))
+      by Greater e more =
+          ap (λ rest. if is_eq (by_bytes q row.0) then Some row.1 else rest) more
+          ∙ swapped q row.0 c Greater x row.1 (found q rows) e refl
+
+  none_twice : (at : Bool) → found [] [] ≡ (if at then None else found [] [])
+  none_twice true = refl
+  none_twice false = refl
+
+  -- the key that was taken out is not found, and at any other key what was found before
+  pub found_without : (q c : List ℕ) (rows : Table X) → Rises rows →
+      found q (without c rows) ≡ (if is_eq (by_bytes q c) then None else found q rows)
+  unfolding IsStrictlySortedBy
+  found_without q c [] h = none_twice (is_eq (by_bytes q c))
+  found_without q c (row ∷ rows) h = by (by_bytes c row.0) refl (found_without q c rows h.1)
+    where
+      none : by_bytes c row.0 ≡ Equal → is_eq (by_bytes q c) ≡ true → found q rows ≡ None
+      none e at = not_among q rows (rw (is_same q c at, exact_bytes c row.0 e) h.0)
+
+      gone : by_bytes c row.0 ≡ Equal → (at : Bool) → is_eq (by_bytes q c) ≡ at → is_eq (by_bytes q row.0) ≡ at →
+          found q rows ≡ (if at then None else (if at then Some row.1 else found q rows))
+      gone e true f g = none e f
+      gone e false f g = refl
+
+      other : (at_b at_c : Bool) (less rest : Option X) → (at_b ≡ true → at_c ≡ true → false ≡ true) →
+          less ≡ (if at_c then None else rest) →
+          (if at_b then Some row.1 else less) ≡ (if at_c then None else (if at_b then Some row.1 else rest))
+      other true true less rest never more = absurd (cc (never refl refl))
+      other true false less rest never more = refl
+      other false true less rest never more = more
+      other false false less rest never more = more
+
+      by : (o : Ordering) → by_bytes c row.0 ≡ o → found q (without c rows) ≡ (if is_eq (by_bytes q c) then None else found q rows) →
+          found q (if is_eq o then rows else row ∷ without c rows) ≡ (if is_eq (by_bytes q c) then None else found q (row ∷ rows))
+      by Less e more = other (is_eq (by_bytes q row.0)) (is_eq (by_bytes q c)) (found q (without c rows)) (found q rows) (apart q row.0 c Less e refl) more
+      by Equal e more = rw (sym (exact_bytes c row.0 e)) (gone e (is_eq (by_bytes q c)) refl (rw (sym (exact_bytes c row.0 e)) refl))
+      by Greater e more = other (is_eq (by_bytes q row.0)) (is_eq (by_bytes q c)) (found q (without c rows)) (found q rows) (apart q row.0 c Greater e refl) more

@@ -1,0 +1,49 @@
+-- Laws of what is retained, in the words of MQTT 3.3.1.3.
+use Rattle.std.specs.Prelude.{◌≡◌, ◌≤◌, ℕ, Bool, false, List, [], ◌∷◌, ◌++◌, length, reverse, Option, Some, None}
+use Rattle.std.specs.List.{find}
+use Rattle.std.specs.BTreeMap.{is_at}
+use Rattle.std.specs.Cmp.Lexicographic.{slice_cmp}
+use Rattle.std.specs.Ordering.{nat_cmp}
+use Rattle.packet.specs.declared.qos.QoS.{QoS}
+use Rattle.retained.specs.declared.retained_publication.RetainedPublication.{RetainedPublication}
+use Rattle.retained.specs.Retained.{RetainedTopics, IsRising, publication_on, after_put, is_refused}
+
+-- a publication with RETAIN 1
+pub record Put : Type 0 where
+  pub topic : List ℕ
+  pub qos : QoS
+  pub payload : List ℕ
+
+-- A store that began empty, behind publications that it took, the last one at the end. A refused one changes nothing and
+-- needs no case.
+pub data Behind : List Put → RetainedTopics → Type 0 where
+  nothing : Behind [] []
+  put : {puts : List Put} {content : RetainedTopics} (p : Put) → Behind puts content
+      → is_refused content p.topic p.payload ≡ false
+      → Behind (puts ++ p ∷ []) (after_put content p.topic p.qos p.payload)
+
+abbrev pub is_on : List ℕ → Put → Bool
+is_on topic p = is_at (slice_cmp nat_cmp topic) p.topic
+
+-- the last publication on a topic
+abbrev pub last_on : List ℕ → List Put → Option Put
+last_on topic puts = find (is_on topic) (reverse puts)
+
+-- what a publication leaves retained on its topic: nothing where its payload is empty
+abbrev pub kept_of_payload : QoS → List ℕ → Option RetainedPublication
+kept_of_payload qos [] = None
+kept_of_payload qos (byte ∷ payload) = Some (record { qos = qos; payload = byte ∷ payload })
+
+abbrev pub kept_of : Option Put → Option RetainedPublication
+kept_of (Some p) = kept_of_payload p.qos p.payload
+kept_of None = None
+
+-- what is retained of a topic is its last publication, and nothing where that had no payload
+abbrev pub LastIsRetained : Type 0
+LastIsRetained = (puts : List Put) (content : RetainedTopics) → Behind puts content
+    → (topic : List ℕ) → publication_on topic content ≡ kept_of (last_on topic puts)
+
+-- the topics come in rising order, each once, and are 16,384 at most
+abbrev pub StaysInBounds : Type 0
+StaysInBounds = (puts : List Put) (content : RetainedTopics) → Behind puts content
+    → IsRising content × (length content ≤ 16384)
