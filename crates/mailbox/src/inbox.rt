@@ -46,9 +46,9 @@ impl<T: Drop> Model for Inbox<T> {
 }
 
 impl<T: Drop> Inbox<T> {
-    /// An empty inbox with room for [`INBOX_ITEMS`] items.
+    /// An empty inbox with room for 1,024 items.
     pub fn new(alloc: Global) -> Result<Self, AllocError>
-        ensures { IfOk result (λ n. n.slots ≡ INBOX_ITEMS) }
+        ensures { IfOk result (λ n. n.slots ≡ 1024) }
     {
         let (queue, pass) = Queue::ruled(alloc, INBOX_ITEMS)?;
         let queue = Arc::new(alloc, queue)?;
@@ -62,7 +62,7 @@ impl<T: Drop> Inbox<T> {
         lanes: u8,
     ) -> Result<(Receiver<T, J>, Vec<Lane<T, J>>), AllocError>
         requires named { self ≡ J.inbox_of number }
-        requires lanes { (1 ≤ lanes) × (lanes ≤ MOST_LANES) }
+        requires lanes { (1 ≤ lanes) × (lanes ≤ 16) }
         ensures receiver { IfOk result (λ r.
             r.0 ≡ record { inbox = number; lanes = lanes; taken = [] }) }
         ensures lanes { IfOk result (λ r. r.1.items ≡ fresh_lanes number lanes) }

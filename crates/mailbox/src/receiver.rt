@@ -5,7 +5,7 @@ ghost use Rattle.mailbox.specs.Delivery.{items_of};
 ghost use Rattle.mailbox.specs.Ends.{Taker, Sender, WasEmpty, AreAllLanes, ArrivesWhole, unmet};
 ghost use Rattle.mailbox.specs.Inside.{TakesMore, IsTaken};
 
-use crate::inbox::{INBOX_ITEMS, MOST_LANES};
+use crate::inbox::INBOX_ITEMS;
 use crate::lane::Lane;
 use crate::moves::{Deals, Knowledge, Lends, Meets, Queue, Takes};
 use crate::naming::Naming;
@@ -116,7 +116,7 @@ impl<T: Drop, J: Naming> Receiver<T, J> {
 
     // Makes the next lane, before anything was taken.
     pub(crate) fn deal(&mut self) -> Result<Lane<T, J>, AllocError>
-        requires few { self.old.lanes < MOST_LANES }
+        requires few { self.old.lanes < 16 }
         requires fresh { self.old.taken ≡ [] }
         ensures lane { IfOk result (λ l.
             l ≡ record { inbox = self.old.inbox; lane = self.old.lanes; met = 0; sent = [] }) }
@@ -148,7 +148,7 @@ impl<T: Drop, J: Naming> Receiver<T, J> {
         requires lanes { AreAllLanes self.old lanes.old }
         requires counts { length counts.old ≡ self.old.lanes }
         requires empty { left.old.items ≡ [] }
-        requires room { INBOX_ITEMS ≤ vec_capacity left.old }
+        requires room { 1024 ≤ vec_capacity left.old }
 
         // Those counted and those left over are, lane by lane and in order, all that was sent.
         ensures whole { All (ArrivesWhole counts.new left.new.items) lanes.new }

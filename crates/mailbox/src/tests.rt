@@ -2,7 +2,7 @@
 
 ghost use Rattle.std.specs.Prelude.{◌≡◌};
 
-use crate::{INBOX_ITEMS, Inbox, Lane, Naming, Receiver};
+use crate::{Inbox, Lane, Naming, Receiver};
 use std::alloc::{AllocError, Global};
 use std::marker::Brand;
 use std::process::Abort;
@@ -71,13 +71,13 @@ fn fill<J: Naming, R: Wait + Abort>(rt: &R, inbox: Inbox<u64>) -> Result<(), All
 {
     let (mut receiver, mut lanes) = inbox.named::<J>(1, 1)?;
     let mut lane = lanes.pop().expect(rt, "one lane");
-    for item in 0..INBOX_ITEMS as u64 {
+    for item in 0..1_024 {
         assert_eq!(rt; lane.send(rt, item), Ok(()));
     }
     assert_eq!(rt; lane.send(rt, 5), Err(5));
     assert_eq!(rt; receiver.take(rt), Some((0, 0)));
     assert_eq!(rt; lane.send(rt, 5), Ok(()));
-    assert_eq!(rt; lane.count(), INBOX_ITEMS as u64 + 1);
+    assert_eq!(rt; lane.count(), 1_025);
     Ok(())
 }
 
@@ -96,7 +96,7 @@ fn leave_some<J: Naming, R: Wait + Abort>(
     requires { inbox ≡ J.inbox_of 1 }
 {
     let (mut receiver, mut lanes) = inbox.named::<J>(1, 3)?;
-    let mut left = Vec::with_capacity(alloc, INBOX_ITEMS)?;
+    let mut left = Vec::with_capacity(alloc, 1_024)?;
     let mut counts = [0u64; 3];
     assert_eq!(rt; receiver.lanes(), 3);
     assert_eq!(rt; lanes.len(), 3);
