@@ -1,58 +1,21 @@
--- The bytes to which a session is frozen, form 1, and the session that bytes stand for. Numbers are big-endian, a
--- text has its length in two bytes before it.
-use Rattle.std.specs.Prelude.{ℕ, ◌+◌, ◌-◌, ◌<◌, ◌^◌, Bool, true, not, ◌&&◌, ◌||◌, ◌==◌, nat_lt, nat_le, if◌then◌else◌, List, [], ◌∷◌, ◌++◌, length, Option, Some, None, Result, Ok}
-use Rattle.std.specs.Int.{w32, to_be_bytes, from_be_bytes}
+-- The session that bytes stand for, form 1.
+use Rattle.std.specs.Prelude.{ℕ, ◌+◌, ◌-◌, Bool, not, ◌==◌, nat_lt, nat_le, if◌then◌else◌, List, ◌++◌, length, Result, Ok}
+use Rattle.std.specs.Int.{w32, from_be_bytes}
 use Rattle.packet_base.specs.declared.stop.Stop.{Stop}
-use Rattle.packet_base.specs.Spelling.{number, text, bit}
 use Rattle.packet_base.specs.Reading.{◌>>=◌, ◌>>◌, byte_at, front_at, number_at, id_at, topic_at, filter_at}
-use Rattle.packet.specs.QoS.{qos_number, qos_of}
+use Rattle.packet.specs.QoS.{qos_of}
 use Rattle.packet.specs.declared.qos.QoS.{QoS}
 use Rattle.packet.specs.Spelling.{longest_body}
-use Rattle.lists.specs.Lists.{has_id}
 use Rattle.session_base.specs.declared.publication.Publication.{Publication}
 use Rattle.session_base.specs.declared.awaits.Awaits.{Awaits}
 use Rattle.session_base.specs.declared.awaits.Awaits.TheVariants as waits_for
 use Rattle.session_base.specs.Publication.{is_answered, is_acknowledged}
-use Rattle.session_base.specs.Subscriptions.{HeldFilter, is_held}
-use Rattle.session_base.specs.Queue.{Flight, ids_of, is_released}
+use Rattle.session_base.specs.Subscriptions.{HeldFilter}
+use Rattle.session_base.specs.Queue.{Flight}
 use Rattle.session_base.specs.Session.{SessionState}
-use Rattle.session_form.specs.Counted.{keep, last_of, counted, counted_at}
-
--- ---- writing
-
--- a number of four bytes
-abbrev pub long_number : ℕ → List ℕ
-long_number n = to_be_bytes w32 n
-
--- one byte
-abbrev pub one_byte : ℕ → List ℕ
-one_byte n = n ∷ []
-
--- RETAIN, QoS, topic, payload with its length
-abbrev pub publication_bytes : Publication → List ℕ
-publication_bytes p = bit p.retain ∷ qos_number p.qos ∷ (text p.topic ++ (long_number (length p.payload) ++ p.payload))
-
--- a filter with its QoS
-abbrev pub held_bytes : HeldFilter → List ℕ
-held_bytes held = text held.0 ++ one_byte (qos_number held.1)
-
--- what an entry waits for: 0 PUBACK, 1 PUBREC, 2 PUBCOMP, with its publication where it still has one
-abbrev pub awaits_bytes : Awaits → List ℕ
-awaits_bytes (waits_for.Puback p) = 0 ∷ publication_bytes p
-awaits_bytes (waits_for.Pubrec p) = 1 ∷ publication_bytes p
-awaits_bytes waits_for.Pubcomp = 2 ∷ []
-
-abbrev pub flight_bytes : Flight → List ℕ
-flight_bytes flight = number flight.0 ++ awaits_bytes flight.1
-
--- subscriptions in the order of their first granting, received identifiers, what is in flight, what waits
-abbrev pub state_bytes : SessionState → List ℕ
-state_bytes s =
-    counted one_byte held_bytes s.subscriptions
-    ++ (counted number number s.received
-    ++ (counted number flight_bytes s.queue.in_flight ++ counted number publication_bytes s.queue.waiting))
-
--- ---- reading
+use Rattle.session_form.specs.Counted.{keep, counted_at}
+pub use Rattle.session_form.specs.Writing.{long_number, one_byte, publication_bytes, held_bytes, awaits_bytes, flight_bytes, state_bytes, HasLength, IsWritable}
+pub use Rattle.session_form.specs.Follows.{is_new_filter, is_over, is_above, was_released, may_follow, anything}
 
 -- a byte that is 0 or 1
 unfoldable pub flag_at : List ℕ → Result (Bool × List ℕ) Stop
@@ -124,34 +87,6 @@ flight_at bytes = do
   awaits ← awaits_at id.1
   Ok ((id.0, awaits.0), awaits.1)
 
--- ---- which may stand behind which
-
--- a filter that is not held yet
-abbrev pub is_new_filter : List HeldFilter → HeldFilter → Bool
-is_new_filter front held = not (is_held held.0 front)
-
--- an identifier above the last one, if there is one
-abbrev pub is_over : Option ℕ → ℕ → Bool
-is_over (Some last) id = nat_lt last id
-is_over None id = true
-
-abbrev pub is_above : List ℕ → ℕ → Bool
-is_above front id = is_over (last_of front) id
-
--- the last entry, if there is one, is released
-abbrev pub was_released : Option Flight → Bool
-was_released (Some last) = is_released last
-was_released None = true
-
--- an entry with an identifier of its own, a released one behind released ones alone
-abbrev pub may_follow : List Flight → Flight → Bool
-may_follow front flight =
-    not (has_id flight.0 (ids_of front)) && (not (is_released flight) || was_released (last_of front))
-
--- anything
-abbrev pub anything : List Publication → Publication → Bool
-anything front p = true
-
 -- ---- a session
 
 -- at most 64 subscriptions, and 4,096 entries in flight and waiting
@@ -169,15 +104,3 @@ state_at bytes = do
     },
     waiting.1,
   )
-
--- ---- what can be written
-
--- the payload's length fits four bytes
-abbrev pub HasLength : Publication → Type 0
-HasLength p = length p.payload < 2 ^ 32
-
--- so does that of an entry's publication, if it has one
-abbrev pub IsWritable : Awaits → Type 0
-IsWritable (waits_for.Puback p) = HasLength p
-IsWritable (waits_for.Pubrec p) = HasLength p
-IsWritable waits_for.Pubcomp = Unit {0}
