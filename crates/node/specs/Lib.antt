@@ -12,3 +12,4 @@ pub use Rattle.world_base.specs.Replica
 pub use Rattle.world_base.specs.declared.item.Item
 pub use Rattle.node_base.specs.Counted
 pub use Rattle.node_base.specs.Engines
+pub use Rattle.lists.specs.Lists

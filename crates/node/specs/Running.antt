@@ -1,8 +1,20 @@
 -- One connection of a node over a reader and a writer.
-use Rattle.std.specs.Prelude.{◌≡◌, ◌⊎◌, ℕ, Option, Some, None}
+use Rattle.std.specs.Prelude.{◌≡◌, ◌⊎◌, ℕ, List, Option, Some, None}
+use Rattle.std.specs.Io.KnownBytes.{Appends}
 use Rattle.node_base.specs.Counted.{counted_once}
+use Rattle.node_base.specs.Engines.{WritesBeginning, WritesShort}
 use Rattle.node.specs.declared.ending.Ending.{Ending}
 use Rattle.node.specs.declared.ending.Ending.TheVariants as endings
+
+-- what joined the writer's bytes: all that was handed over; less where the writer took no more; some beginning where it
+-- failed
+abbrev pub Writes : Option Ending → Option (List ℕ) → Option (List ℕ) → List ℕ → Type 0
+Writes None old new bytes = Appends old new bytes
+Writes (Some endings.Closed) old new bytes = Appends old new bytes
+Writes (Some endings.Ended) old new bytes = ⊥
+Writes (Some endings.Stopped) old new bytes = WritesShort old new bytes
+Writes (Some endings.ReadFault) old new bytes = ⊥
+Writes (Some endings.WriteFault) old new bytes = WritesBeginning old new bytes
 
 -- a fault of the writer is told exactly where one more of its calls failed
 abbrev pub TellsWriteFault : Option Ending → ℕ → ℕ → Type 0

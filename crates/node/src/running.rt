@@ -1,9 +1,8 @@
 // One connection over a reader and a writer.
 
-ghost use Rattle.std.specs.Prelude.{◌≡◌, ◌<◌, Some, length, if◌then◌else◌, IfOk, OnOk};
+ghost use Rattle.std.specs.Prelude.{◌≡◌, ◌<◌, Some, length, if◌then◌else◌, IfOk};
 ghost use Rattle.node_base.specs.Counted.{counted_once};
-ghost use Rattle.node_base.specs.Engines.{WritesBeginning};
-ghost use Rattle.node.specs.Running.{TellsFaults, TellsWriteFault};
+ghost use Rattle.node.specs.Running.{TellsFaults, TellsWriteFault, Writes};
 
 use crate::ending::Ending;
 use crate::service::Service;
@@ -105,15 +104,15 @@ fn end<R: Wait, S: Service, O: Write>(
     Ok(ended != Some(Ending::WriteFault))
 }
 
-// Writes what the service has put out, which `out` holds afterwards: how the connection ended, if the
-// service closed it or the writer did not take all.
+// Writes what the service has put out, which `out` holds afterwards, all of it unless the writer took
+// no more or failed: how the connection ended, if the service closed it or the writer did not take all.
 fn write_out<R: Wait, S: Service, O: Write>(
     rt: &R,
     service: &mut S,
     out: &mut Vec<u8>,
     output: &mut Counted<O>,
 ) -> Result<Option<Ending>, Memory>
-    ensures beginning { OnOk result (WritesBeginning
+    ensures written { IfOk result (λ ended. Writes ended
         (O.contents output.old.device) (O.contents output.new.device) out.new.items) }
     ensures faults { IfOk result (λ ended. TellsWriteFault ended
         output.old.faults output.new.faults) }

@@ -57,8 +57,12 @@ impl From<OpeningError> for Fault {
 }
 
 impl From<io::Error> for Fault {
-    // Only the words of the command line are read by calls that answer so.
-    fn from(_error: io::Error) -> Fault {
-        Fault::Memory
+    // Only the words of the command line are read by calls that answer so: one that is not UTF-8 is
+    // none that this program knows.
+    fn from(error: io::Error) -> Fault {
+        match error.kind() {
+            io::ErrorKind::OutOfMemory => Fault::Memory,
+            _ => Fault::Words,
+        }
     }
 }

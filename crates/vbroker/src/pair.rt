@@ -1,6 +1,8 @@
 // Two nodes in one process.
 
-ghost use Rattle.std.specs.Prelude.{◌∷◌, OnOk};
+ghost use Rattle.std.specs.Prelude.{◌≡◌, ◌∷◌, ◌++◌, IfOk, OnOk, OnErr};
+ghost use Rattle.node.specs.Lists.{IsPrefixOf};
+ghost use Rattle.node.specs.Handing.{answer_of, bytes_of, hands_over, listed_at};
 ghost use Rattle.vbroker.specs.TwoNodes.{Delivers, Takes, TwoNodes};
 
 use node::{
@@ -85,7 +87,19 @@ impl Service for Pair {
         _rt: &R,
         port: Port,
         out: &mut Vec<u8>,
-    ) -> Result<Handed, Memory> {
+    ) -> Result<Handed, Memory>
+        // What node 1 put out for the port.
+        ensures bytes { OnOk result
+            (out.new.items ≡ out.old.items ++ bytes_of (listed_at port self.old.one.core)) }
+        ensures answer { IfOk result (λ handed.
+            handed ≡ answer_of (listed_at port self.old.one.core)) }
+        ensures left { OnOk result (self.new ≡ record self.old {
+          one = record self.old.one { core = hands_over port self.old.one.core };
+        }) }
+        ensures same { OnErr result (self.new ≡ self.old) }
+        ensures begins { OnOk result (IsPrefixOf out.old.items out.new.items) }
+        ensures err { OnErr result (out.new.items ≡ out.old.items) }
+    {
         self.one.outgoing(port, out)
     }
 }
