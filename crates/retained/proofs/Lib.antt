@@ -1,1 +1,2 @@
 pub mod OneTopic
+pub mod InRange

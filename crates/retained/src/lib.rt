@@ -3,6 +3,7 @@
 #![tactic(auto)]
 
 mod error;
+mod finding;
 mod retained_publication;
 mod retained_store;
 #[cfg(test)]

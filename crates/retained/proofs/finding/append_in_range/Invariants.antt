@@ -1,7 +1,7 @@
 -- The matching topics so far stand behind the entries that were there.
 use Rattle.std.proofs.Common.{◌≡◌, ◌++◌, take, length}
 use Rattle.retained.specs.Retained.{matching_entries}
-use Rattle.retained.proofs.retained_store.append_all_matching.Given as goal
+use Rattle.retained.proofs.finding.append_in_range.Given as goal
 
 abbrev pub invariant-loop-topic : goal.invariant-loop-topic
 invariant-loop-topic l = record {

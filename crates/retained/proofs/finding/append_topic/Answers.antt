@@ -3,7 +3,7 @@ use Rattle.std.proofs.Common.{◌≡◌, [], ◌∷◌, ◌++◌, ◌∙◌, Som
 use Rattle.retained.specs.Retained.{RetainedTopics}
 use Rattle.retained.specs.Inside.{entry_of}
 use Rattle.retained.proofs.OneTopic.{one_topic, none_more}
-use Rattle.retained.proofs.retained_store.append_topic.Goals as goal
+use Rattle.retained.proofs.finding.append_topic.Goals as goal
 
 pub returns-in_ok-push-clause-ok : goal.returns-in_ok-push-clause-ok
 returns-in_ok-push-clause-ok c =
