@@ -1,13 +1,14 @@
 -- What a filter matches whose first levels have no wildcard is these levels, or stands below them.
-use Rattle.std.proofs.Common.{◌≡◌, ℕ, List, [], ◌∷◌, ◌++◌, Bool, true, false, ◌&&◌, ◌||◌, ◌==◌, codes, bytes_eq, refl, sym, ap, ◌∙◌, inl, inr, ◌⊎◌, append_assoc}
+use Rattle.std.proofs.Common.{◌≡◌, ℕ, List, [], ◌∷◌, ◌++◌, true, false, ◌&&◌, ◌==◌, bytes_eq, refl, sym, ap, ◌∙◌, inl, inr, ◌⊎◌, append_assoc}
 use Rattle.std.specs.Prelude.{not}
 use Rattle.std.specs.List.{onto_first, join_with_byte}
-use Rattle.std.proofs.lemmas.Bool.{and_parts, eqb-true}
+use Rattle.std.proofs.lemmas.Bool.{and_parts}
 use Rattle.std.proofs.lemmas.Slice.Eq.{bytes_eq-Decides}
 use Rattle.std.proofs.lemmas.List.Splits.{slice_split-cons_yes, slice_split-cons_no, join_with_byte-slice_split}
 use Rattle.topics.specs.Text.{Levels, levels, has_no_wildcard, is_last}
 use Rattle.topics.specs.Matching.{is_match, matches_rest, is_all, is_hidden}
 use Rattle.topics.proofs.LevelByLevel.{is_last_levels}
+use Rattle.topics.proofs.FrontGoesBy.{no_plus, no_hash}
 use Rattle.topics.proofs.OnePass.{bare, bare_levels}
 
 onto_front : (b : ℕ) (front rest : Levels) → is_last front ≡ false → onto_first b (front ++ rest) ≡ onto_first b front ++ rest
@@ -27,24 +28,9 @@ levels_parted (b ∷ front) rest =
           (ap (onto_first b) (levels_parted front rest) ∙ onto_front b (levels front) (levels rest) (is_last_levels front))
     ] refl
 
--- a level without wildcards matches itself alone
+-- a level without wildcards is not `#`
 not_all : (part : List ℕ) (rest : Levels) → has_no_wildcard part ≡ true → is_all part rest ≡ false
-not_all part rest h = go (bytes_eq part (codes "#")) refl
-  where
-    go : (v : Bool) → bytes_eq part (codes "#") ≡ v → (v && is_last rest) ≡ false
-    go false e = refl
-    go true e =
-        let no_hash : false ≡ true = sym (ap has_no_wildcard ((bytes_eq-Decides part (codes "#")).0 e)) ∙ h in
-        absurd cc
-
-not_plus : (part : List ℕ) → has_no_wildcard part ≡ true → bytes_eq part (codes "+") ≡ false
-not_plus part h = go (bytes_eq part (codes "+")) refl
-  where
-    go : (v : Bool) → bytes_eq part (codes "+") ≡ v → v ≡ false
-    go false e = refl
-    go true e =
-        let no_plus : false ≡ true = sym (ap has_no_wildcard ((bytes_eq-Decides part (codes "+")).0 e)) ∙ h in
-        absurd cc
+not_all part rest h = rw (no_hash part h) refl
 
 -- the topic begins with the levels that have no wildcard
 pub same_front : (front rest topic : Levels) → bare front ≡ true → matches_rest (front ++ rest) topic ≡ true → (others : Levels) × (topic ≡ front ++ others)
@@ -56,7 +42,7 @@ same_front (part ∷ front) rest [] h matched =
 same_front (part ∷ front) rest (level ∷ topic) h matched =
     let both = and_parts (has_no_wildcard part) (bare front) h in
     let one : (bytes_eq part level && matches_rest (front ++ rest) topic) ≡ true =
-    sym (rw (not_all part (front ++ rest) both.0, not_plus part both.0) refl) ∙ matched in
+    sym (rw (not_all part (front ++ rest) both.0, no_plus part both.0) refl) ∙ matched in
     let parts = and_parts (bytes_eq part level) (matches_rest (front ++ rest) topic) one in
     let others = same_front front rest topic both.1 parts.1 in
     let same = (bytes_eq-Decides part level).0 parts.0 in
