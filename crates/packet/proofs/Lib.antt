@@ -9,6 +9,4 @@ pub mod BodyReads
 pub mod PacketReads
 pub mod Behind
 pub mod OneSpelling
-pub mod ListsWritten
-pub mod ItemsShorter
 pub mod MoreBytes

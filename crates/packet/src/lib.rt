@@ -12,7 +12,6 @@ mod error;
 mod id_alone;
 mod laws;
 mod packet;
-mod packet_list;
 mod payload;
 mod publish;
 mod qos;
@@ -31,14 +30,10 @@ pub use laws::{
     faults_stay, fronts_are_unfinished, no_spelling_begins_another, one_spelling, spelling_spells,
 };
 pub use packet::Packet;
-pub use packet_base::{PacketId, RefusalCode};
-pub use packet_list::PacketList;
+pub use packet_base::{PacketId, PacketList, RefusalCode};
 pub use payload::Payload;
 pub use publish::Publish;
 pub use qos::QoS;
 pub use suback::{Suback, SubackCode};
 pub use subscribe::{Subscribe, Subscription};
 pub use unsubscribe::Unsubscribe;
-
-#[cfg(test)]
-mod tests;

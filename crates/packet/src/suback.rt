@@ -10,8 +10,7 @@ ghost use Rattle.std.specs.Prelude.{
   vec_len,
   vec_capacity,
 };
-ghost use Rattle.packet_base.specs.Outcome.{Gives, Reads};
-ghost use Rattle.packet_base.specs.Lists.{items_at};
+ghost use Rattle.packet_base.specs.Outcome.{Gives};
 ghost use Rattle.packet.specs.Suback.{
   granted_number,
   granted,
@@ -22,11 +21,9 @@ ghost use Rattle.packet.specs.Suback.{
   FitsSuback,
 };
 
-use crate::packet_list::PacketList;
 use crate::qos::QoS;
-use packet_base::{PacketId, Reader, Stop, put_byte, put_number};
+use packet_base::{Item, PacketId, PacketList, Reader, Stop, put_byte, put_number};
 use std::alloc::Global;
-use topics::MalformedKind;
 
 /// The answer to one filter of a SUBSCRIBE (MQTT 3.9.3).
 #[derive(Clone, Copy, Debug, PartialEq, Eq)]
@@ -57,25 +54,30 @@ impl SubackCode {
         }
         Ok(SubackCode::Granted(QoS::of(byte)?))
     }
+}
 
-    // Writes an answer.
-    fn put(self, out: &mut Vec<u8>)
-        requires { vec_len out.old + length (granted self) ≤ vec_capacity out.old }
-        ensures items { out.new.items ≡ out.old.items ++ granted self }
-        ensures len { vec_len out.new ≡ vec_len out.old + length (granted self) }
-        ensures capacity { vec_capacity out.old ≤ vec_capacity out.new }
-    {
-        put_byte(out, self.number());
-    }
+impl Item for SubackCode {
+    ghost spelled = { granted };
 
-    // Reads an answer.
+    ghost item_at = { granted_at };
+
+    ghost Fits = { λ _. Unit {0} };
+
     #[tactic(auto, unfolding(crate::specs::Suback::granted_at))]
-    fn read(body: &mut Reader) -> Result<SubackCode, Stop>
-        ensures { Reads (λ x. x) result body.new (granted_at body.old) }
-    {
+    fn read(_alloc: Global, body: &mut Reader) -> Result<SubackCode, Stop> {
         let byte = body.byte()?;
         SubackCode::of(byte)
     }
+
+    fn spelled_len(&self) -> usize {
+        1
+    }
+
+    fn put(&self, out: &mut Vec<u8>) {
+        put_byte(out, self.number());
+    }
+
+    fn known(&self) {}
 }
 
 /// The answer to a SUBSCRIBE (MQTT 3.9). The list is not empty in a packet that is read, and has
@@ -95,21 +97,15 @@ impl Suback {
         ensures { Gives (λ x. x) result (suback_of body.old) }
     {
         let id = body.id()?;
-        let codes = codes(alloc, body)?;
-        if codes.is_empty() {
-            return Err(Stop::Malformed(MalformedKind::Shape));
-        }
-        Ok(Suback {
-            id,
-            codes: PacketList::new(codes),
-        })
+        let codes = PacketList::read(alloc, body)?;
+        Ok(Suback { id, codes })
     }
 
     // How many bytes the body has.
     pub(crate) fn body_len(&self) -> usize
         ensures { result ≡ min (length (suback self.now)) usize.MAX }
     {
-        self.codes.as_slice().len().saturating_add(2)
+        self.codes.len_behind(2)
     }
 
     // Writes the body.
@@ -118,9 +114,7 @@ impl Suback {
         ensures { out.new.items ≡ out.old.items ++ suback self.now }
     {
         put_number(out, self.id.number());
-        for code in self.codes.as_slice() {
-            code.put(out);
-        }
+        self.codes.put(out);
     }
 
     // The fields are in their ranges.
@@ -129,15 +123,4 @@ impl Suback {
     {
         let _id = self.id.number();
     }
-}
-
-// Reads answers to the end of the body.
-fn codes(alloc: Global, body: &mut Reader) -> Result<Vec<SubackCode>, Stop>
-    ensures { Gives (λ x. x.items) result (items_at granted_at body.old) }
-{
-    let mut codes = Vec::new(alloc);
-    while !body.is_empty() {
-        codes.push(SubackCode::read(body)?)?;
-    }
-    Ok(codes)
 }

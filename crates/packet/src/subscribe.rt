@@ -10,8 +10,7 @@ ghost use Rattle.std.specs.Prelude.{
   vec_len,
   vec_capacity,
 };
-ghost use Rattle.packet_base.specs.Outcome.{Gives, Reads};
-ghost use Rattle.packet_base.specs.Lists.{items_at};
+ghost use Rattle.packet_base.specs.Outcome.{Gives};
 ghost use Rattle.packet.specs.Subscribe.{
   subscription,
   subscription_at,
@@ -20,11 +19,10 @@ ghost use Rattle.packet.specs.Subscribe.{
   FitsSubscribe,
 };
 
-use crate::packet_list::PacketList;
 use crate::qos::QoS;
-use packet_base::{PacketId, Reader, Stop, put_byte, put_number, put_text};
+use packet_base::{Item, PacketId, PacketList, Reader, Stop, put_byte, put_number, put_text};
 use std::alloc::{AllocError, Global};
-use topics::{Filter, MalformedKind};
+use topics::Filter;
 
 /// A filter that a client subscribes to, and the greatest QoS at which it wants to get publications
 /// (MQTT 3.8.3).
@@ -47,26 +45,33 @@ impl Clone for Subscription {
     }
 }
 
-impl Subscription {
-    // Reads a filter and its QoS.
+impl Item for Subscription {
+    ghost use Rattle.packet.specs.Subscribe.{FitsSubscription};
+
+    ghost spelled = { subscription };
+
+    ghost item_at = { subscription_at };
+
+    ghost Fits = { FitsSubscription };
+
     #[tactic(auto, unfolding(crate::specs::Subscribe::subscription_at))]
-    fn read(alloc: Global, body: &mut Reader) -> Result<Subscription, Stop>
-        ensures { Reads (λ x. x) result body.new (subscription_at body.old) }
-    {
+    fn read(alloc: Global, body: &mut Reader) -> Result<Subscription, Stop> {
         let filter = body.filter(alloc)?;
         let qos = QoS::of(body.byte()?)?;
         Ok(Subscription { filter, qos })
     }
 
-    // Writes them.
-    fn put(&self, out: &mut Vec<u8>)
-        requires { vec_len out.old + length (subscription self.now) ≤ vec_capacity out.old }
-        ensures items { out.new.items ≡ out.old.items ++ subscription self.now }
-        ensures len { vec_len out.new ≡ vec_len out.old + length (subscription self.now) }
-        ensures capacity { vec_capacity out.old ≤ vec_capacity out.new }
-    {
+    fn spelled_len(&self) -> usize {
+        3 + self.filter.as_str().len()
+    }
+
+    fn put(&self, out: &mut Vec<u8>) {
         put_text(out, self.filter.as_str());
         put_byte(out, self.qos.number());
+    }
+
+    fn known(&self) {
+        let _filter = self.filter.as_str();
     }
 }
 
@@ -87,25 +92,15 @@ impl Subscribe {
         ensures { Gives (λ x. x) result (subscribe_of body.old) }
     {
         let id = body.id()?;
-        let filters = subscriptions(alloc, body)?;
-        if filters.is_empty() {
-            return Err(Stop::Malformed(MalformedKind::Shape));
-        }
-        Ok(Subscribe {
-            id,
-            filters: PacketList::new(filters),
-        })
+        let filters = PacketList::read(alloc, body)?;
+        Ok(Subscribe { id, filters })
     }
 
     // How many bytes the body has.
     pub(crate) fn body_len(&self) -> usize
         ensures { result ≡ min (length (subscribe self.now)) usize.MAX }
     {
-        let mut len: usize = 2;
-        for subscription in self.filters.as_slice() {
-            len = len.saturating_add(3 + subscription.filter.as_str().len());
-        }
-        len
+        self.filters.len_behind(2)
     }
 
     // Writes the body.
@@ -114,9 +109,7 @@ impl Subscribe {
         ensures { out.new.items ≡ out.old.items ++ subscribe self.now }
     {
         put_number(out, self.id.number());
-        for subscription in self.filters.as_slice() {
-            subscription.put(out);
-        }
+        self.filters.put(out);
     }
 
     // The fields are in their ranges.
@@ -124,19 +117,6 @@ impl Subscribe {
         ensures { FitsSubscribe self.now }
     {
         let _id = self.id.number();
-        for subscription in self.filters.as_slice() {
-            let _filter = subscription.filter.as_str();
-        }
+        self.filters.known();
     }
-}
-
-// Reads filters to the end of the body.
-fn subscriptions(alloc: Global, body: &mut Reader) -> Result<Vec<Subscription>, Stop>
-    ensures { Gives (λ x. x.items) result (items_at subscription_at body.old) }
-{
-    let mut filters = Vec::new(alloc);
-    while !body.is_empty() {
-        filters.push(Subscription::read(alloc, body)?)?;
-    }
-    Ok(filters)
 }

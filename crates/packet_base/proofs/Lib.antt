@@ -5,7 +5,7 @@ pub mod FieldsFound
 pub mod FieldsAgain
 pub mod LengthForms
 pub mod HeaderReads
-pub mod FieldsShorter
 pub mod ListsRead
 pub mod ItemsInALoop
+pub mod ListsWritten
 pub mod Growing

@@ -3,7 +3,9 @@
 #![tactic(auto)]
 
 mod header;
+mod item;
 mod packet_id;
+mod packet_list;
 mod reader;
 mod refusal_code;
 mod remaining_length;
@@ -11,7 +13,9 @@ mod stop;
 mod writing;
 
 pub use header::{DeliveryFlags, Header};
+pub use item::Item;
 pub use packet_id::PacketId;
+pub use packet_list::PacketList;
 pub use reader::Reader;
 pub use refusal_code::RefusalCode;
 pub use remaining_length::{length_size, put_length, take_length};

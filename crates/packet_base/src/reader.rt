@@ -54,6 +54,13 @@ impl<'a> Reader<'a> {
         self.rest.is_empty()
     }
 
+    /// How many bytes are left.
+    pub fn len(&self) -> usize
+        ensures { result ≡ length self.now }
+    {
+        self.rest.len()
+    }
+
     /// Goes past these bytes where the bytes left begin with them, and tells whether they do.
     pub fn skip(&mut self, prefix: &[u8]) -> bool
         ensures found { result ≡ starts_with nat_eq self.old prefix.now }

@@ -1,2 +1,3 @@
 pub mod OneTopic
+pub mod InRange
 pub mod LastPut

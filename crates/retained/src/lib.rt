@@ -3,6 +3,7 @@
 #![tactic(auto)]
 
 mod error;
+mod finding;
 mod laws;
 mod retained_publication;
 mod retained_store;

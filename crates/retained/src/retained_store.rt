@@ -7,6 +7,7 @@ ghost use Rattle.topics.specs.Text.{has_no_wildcard};
 ghost use Rattle.retained.specs.Retained.{IsRising, publication_on, after_put, is_full_for, is_refused, matching_entries};
 
 use crate::error::RetainedError;
+use crate::finding::append_matching;
 use crate::retained_publication::RetainedPublication;
 use packet::{Payload, QoS};
 use std::alloc::{AllocError, Global};
@@ -107,7 +108,7 @@ impl RetainedStore {
         ensures err { OnErr result (entries.new.items ≡ entries.old.items) }
     {
         let before = entries.len();
-        let appended = self.append_matching(filter, entries);
+        let appended = append_matching(&self.topics, filter, entries);
         if appended.is_err() {
             entries.truncate(before);
         }
@@ -122,64 +123,10 @@ impl RetainedStore {
         self.topics.iter()
     }
 
-    /// Appends the matching topics: a filter without wildcards is looked up, and any other is held
-    /// against every topic. Where memory is wanting, some of them may stand there.
-    fn append_matching(
-        &self,
-        filter: &Filter,
-        entries: &mut Vec<(TopicName, RetainedPublication)>,
-    ) -> Result<(), AllocError>
-        ensures ok { OnOk result
-            (entries.new.items ≡ entries.old.items ++ matching_entries self.now filter.now) }
-        ensures err { OnErr result (entries.old.items ≡ take (length entries.old.items) entries.new.items) }
-    {
-        match filter.as_topic()? {
-            Some(topic) => append_topic(&self.topics, topic, entries),
-            None => append_all_matching(&self.topics, filter, entries),
-        }
-    }
-
     /// Whether the topic is new and there is no place for a new one.
     fn is_full_for(&self, topic: &TopicName) -> bool
         ensures { result ≡ is_full_for self.now topic.now }
     {
         !self.topics.contains_key(topic) && self.topics.len() >= MAX_TOPICS
     }
-}
-
-/// Appends the topic, if it is there.
-fn append_topic(
-    topics: &BTreeMap<TopicName, RetainedPublication>,
-    topic: TopicName,
-    entries: &mut Vec<(TopicName, RetainedPublication)>,
-) -> Result<(), AllocError>
-    requires { has_no_wildcard topic ≡ true }
-    ensures ok { OnOk result
-        (entries.new.items ≡ entries.old.items ++ matching_entries topics.now.entries topic) }
-    ensures err { OnErr result (entries.new.items ≡ entries.old.items) }
-{
-    // That the topics are in order.
-    let _len = topics.len();
-    if let Some(kept) = topics.get(&topic) {
-        entries.push((topic, kept.clone()?))?;
-    }
-    Ok(())
-}
-
-/// Appends the matching topics, each of which is looked at.
-fn append_all_matching(
-    topics: &BTreeMap<TopicName, RetainedPublication>,
-    filter: &Filter,
-    entries: &mut Vec<(TopicName, RetainedPublication)>,
-) -> Result<(), AllocError>
-    ensures ok { OnOk result
-        (entries.new.items ≡ entries.old.items ++ matching_entries topics.now.entries filter.now) }
-    ensures err { OnErr result (entries.old.items ≡ take (length entries.old.items) entries.new.items) }
-{
-    for (topic, kept) in topics {
-        if matches(filter, topic) {
-            entries.push((topic.clone()?, kept.clone()?))?;
-        }
-    }
-    Ok(())
 }

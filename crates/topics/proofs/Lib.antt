@@ -7,3 +7,4 @@ pub mod WhatIsLeft
 pub mod LeftInALoop
 pub mod OnePass
 pub mod ItselfAlone
+pub mod BelowFront

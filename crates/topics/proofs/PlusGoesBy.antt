@@ -1,13 +1,29 @@
 -- A `+` goes by with the level that it stands for.
-use Rattle.std.proofs.Common.{◌≡◌, ℕ, List, [], ◌∷◌, true, false, ◌==◌, cond, refl, ap, ◌∙◌}
+use Rattle.std.proofs.Common.{◌≡◌, ℕ, zero, suc, ◌-◌, ◌<◌, List, [], ◌∷◌, true, false, ◌==◌, cond, length, get_or, take, drop, refl, ap, ◌∙◌, arith}
 use Rattle.std.specs.List.{onto_first}
-use Rattle.std.proofs.lemmas.Bool.{and_parts}
+use Rattle.std.proofs.lemmas.Bool.{and_parts, eq-eqb, ne_eqb}
+use Rattle.std.proofs.lemmas.List.{take_rest}
 use Rattle.std.proofs.lemmas.List.Splits.{slice_split-cons_yes, slice_split-cons_no}
 use Rattle.topics.specs.Text.{Levels, levels, has_no_wildcard, may_stand, has_wildcards_in_place, is_last}
 use Rattle.topics.specs.Matching.{matches_rest}
 use Rattle.topics.specs.Inside.{IsPair, IsLeft, behind_level}
 use Rattle.topics.proofs.LevelByLevel.{is_last_levels}
 use Rattle.topics.proofs.FrontGoesBy.{no_wildcard_parts}
+
+cut : (text : List ℕ) (i : ℕ) → i < length text → ((k : ℕ) → k < i → get_or text k 0 ≡ 47 → ⊥) → get_or text i 0 ≡ 47 → drop i text ≡ behind_level text
+cut [] i lt before at = absurd (omega arith)
+cut (x ∷ xs) zero lt before at = rw (eq-eqb x 47 at) refl
+cut (x ∷ xs) (suc i) lt before at =
+    rw (ne_eqb x 47 (before 0 (omega arith))) (cut xs i (omega arith) (λ k h. before (suc k) (omega arith)) at)
+
+-- no `/` stands before the place
+pub behind_cut : (text : List ℕ) (i : ℕ) → i < length text → ((k : ℕ) → k < i → get_or text k 0 ≡ 47 → ⊥) → get_or text i 0 ≡ 47 → take (length text - i) (drop i text) ≡ behind_level text
+behind_cut text i lt before at = rw (take_rest text i) (cut text i lt before at)
+
+pub behind_none : (text : List ℕ) → ((k : ℕ) → k < length text → get_or text k 0 ≡ 47 → ⊥) → [] ≡ behind_level text
+behind_none [] none = refl
+behind_none (x ∷ xs) none =
+    rw (ne_eqb x 47 (none 0 (omega arith))) (behind_none xs (λ k h. none (suc k) (omega arith)))
 
 -- the levels behind the first
 abbrev others : Levels → Levels

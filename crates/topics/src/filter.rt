@@ -14,7 +14,7 @@ use std::marker::Model;
 
 /// A Topic Filter of 1 to 65,535 bytes and at most 32 levels, with its wildcards in their places:
 /// `+` alone in its level, `#` alone in the last one (MQTT 4.7.1). Compared and ordered by its bytes.
-#[derive(Debug, PartialEq, Eq, PartialOrd, Ord, Drop)]
+#[derive(Debug, PartialEq, Eq, PartialOrd, Ord, Hash, Drop)]
 pub struct Filter {
     text: Text,
 }

@@ -61,17 +61,16 @@ fn behind_front<'a>(filter: &'a [u8], topic: &'a [u8]) -> (&'a [u8], &'a [u8])
 }
 
 /// The text from its first `/` on.
+#[tactic(auto, using(crate::proofs::PlusGoesBy::behind_cut, crate::proofs::PlusGoesBy::behind_none))]
 fn behind_level(text: &[u8]) -> &[u8]
     ensures { result.now ≡ behind_level text.now }
 {
-    let mut rest = text;
-    while let [byte, behind @ ..] = rest {
+    for (i, byte) in text.iter().enumerate() {
         if *byte == b'/' {
-            break;
+            return &text[i..];
         }
-        rest = behind;
     }
-    rest
+    &[]
 }
 
 /// Whether what is left matches, where no byte goes by any more.

@@ -10,11 +10,14 @@ ghost use Rattle.std.specs.Cmp.Lexicographic.{
   texts_po,
 };
 ghost use Rattle.std.specs.Ordering.{nat_cmp};
-ghost use Rattle.std.proofs.Common.{refl};
+ghost use Rattle.std.specs.Cmp.Rules.{hashing};
+ghost use Rattle.std.specs.Hash as fed;
+ghost use Rattle.std.proofs.Common.{refl, rules};
 
 use std::alloc::{AllocError, Global};
 use std::cmp::Ordering;
 use std::fmt;
+use std::hash::{Hash, Hasher};
 use std::marker::Model;
 use std::sync::ArcStr;
 
@@ -97,6 +100,16 @@ impl Ord for Text {
 
     fn cmp(&self, other: &Text) -> Ordering {
         self.as_str().cmp(other.as_str())
+    }
+}
+
+impl Hash for Text {
+    ghost hash_input = { λ text. fed.str text };
+
+    ghost respects_eq = { Prim.search (hashing, rules) };
+
+    fn hash<H: Hasher>(&self, state: &mut H) {
+        self.as_str().hash(state);
     }
 }
 

@@ -13,7 +13,7 @@ use std::marker::Model;
 
 /// A Topic Name of 1 to 65,535 bytes and at most 32 levels, without wildcards (MQTT 4.7).
 /// Compared and ordered by its bytes.
-#[derive(Debug, PartialEq, Eq, PartialOrd, Ord, Drop)]
+#[derive(Debug, PartialEq, Eq, PartialOrd, Ord, Hash, Drop)]
 pub struct TopicName {
     text: Text,
 }

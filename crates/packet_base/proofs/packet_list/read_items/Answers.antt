@@ -1,0 +1,38 @@
+-- One more item is read.
+use Rattle.std.proofs.Common.{sym, ◌∙◌}
+use Rattle.std.proofs.lemmas.Result.{err_from_is_err_and}
+use Rattle.packet_base.specs.Lists.{items_at}
+use Rattle.packet_base.proofs.ItemsInALoop.{items_begin, items_all, items_most, items_next, items_stop}
+use Rattle.packet_base.proofs.packet_list.read_items.Goals as goal
+
+pub loop-init : goal.loop-init
+loop-init g c =
+    items_begin g.T.Item.item_at c.new-items.result.items c.len-end.result c.args.body.now
+    c.new-items.ensures.items c.len-end.ensures
+
+pub returns-then-is_empty : goal.returns-then-is_empty
+returns-then-is_empty g c =
+    items_all g.T.Item.item_at c.loop.items.items c.len-end.result c.loop.counter c.loop.body
+    (items_at g.T.Item.item_at c.args.body.now) (sym c.is_empty.ensures ∙ c.if-is_empty.true)
+    c.loop.invariant
+
+pub returns-in_err-read : goal.returns-in_err-read
+returns-in_err-read g c =
+    let p = err_from_is_err_and c.from_residual.result c.from_residual.ensures.1 in
+    rw (p.1, p.2) (
+    items_stop g.T.Item.item_at c.loop.items.items c.len-end.result c.loop.counter c.loop.body
+    (items_at g.T.Item.item_at c.args.body.now) c.in_err-read.field-0.0 c.loop-test.true
+    (sym c.is_empty.ensures ∙ c.if-is_empty.false) c.in_err-read.ensures c.loop.invariant
+    )
+
+pub loop-preserved : goal.loop-preserved
+loop-preserved g c =
+    items_next g.T.Item.item_at c.loop.items.items c.push.new.self.items c.len-end.result c.loop.counter
+    c.loop.body c.in_ok-read.field-0 c.read.new.body (items_at g.T.Item.item_at c.args.body.now)
+    c.loop-test.true (sym c.is_empty.ensures ∙ c.if-is_empty.false) c.in_ok-read.ensures
+    c.in_ok-push.ensures.items c.loop.invariant
+
+pub returns : goal.returns
+returns g c =
+    items_most g.T.Item.item_at c.loop.items.items c.len-end.result c.loop.counter c.loop.body
+    (items_at g.T.Item.item_at c.args.body.now) c.loop-test.false c.loop.invariant

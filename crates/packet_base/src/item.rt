@@ -1,0 +1,81 @@
+// What lists in packets are made of.
+
+ghost use Rattle.std.specs.Prelude.{
+  ◌≡◌,
+  ◌+◌,
+  ◌≤◌,
+  ◌++◌,
+  ℕ,
+  List,
+  length,
+  vec_len,
+  vec_capacity,
+};
+ghost use Rattle.packet_base.specs.Outcome.{Reads};
+ghost use Rattle.packet_base.specs.Lists.{ItemAt};
+
+use crate::reader::Reader;
+use crate::stop::Stop;
+use crate::writing::put_text;
+use std::alloc::Global;
+use topics::Filter;
+
+/// An item of a list that goes to the end of a body, as a filter of an UNSUBSCRIBE (MQTT 3.8.3,
+/// 3.9.3, 3.10.3). Each is read and written by itself, and takes a byte at least.
+pub trait Item: Drop {
+    // The bytes of an item, how one is read from the front of bytes, and what holds of each that a
+    // program has in hand.
+    ghost spelled: { Self → List ℕ };
+
+    ghost item_at: { ItemAt Self };
+
+    ghost Fits: { Self → Type 0 };
+
+    /// Reads an item.
+    fn read(alloc: Global, body: &mut Reader) -> Result<Self, Stop>
+        ensures { Reads (λ x. x) result body.new (item_at body.old) };
+
+    /// How many bytes it takes.
+    fn spelled_len(&self) -> usize
+        ensures { result ≡ length (spelled self.now) };
+
+    /// Writes it, into room that was reserved before.
+    fn put(&self, out: &mut Vec<u8>)
+        requires { vec_len out.old + length (spelled self.now) ≤ vec_capacity out.old }
+        ensures items { out.new.items ≡ out.old.items ++ spelled self.now }
+        ensures len { vec_len out.new ≡ vec_len out.old + length (spelled self.now) }
+        ensures capacity { vec_capacity out.old ≤ vec_capacity out.new };
+
+    /// Tells a proof that an item in hand is in its range; it does nothing else.
+    fn known(&self)
+        ensures { Fits self.now };
+}
+
+impl Item for Filter {
+    ghost use Rattle.std.specs.Prelude.{IsTrue};
+    ghost use Rattle.topics.specs.Text.{is_filter};
+    ghost use Rattle.packet_base.specs.Spelling.{text};
+    ghost use Rattle.packet_base.specs.Reading.{filter_at};
+
+    ghost spelled = { text };
+
+    ghost item_at = { filter_at };
+
+    ghost Fits = { λ filter. IsTrue (is_filter filter) };
+
+    fn read(alloc: Global, body: &mut Reader) -> Result<Filter, Stop> {
+        body.filter(alloc)
+    }
+
+    fn spelled_len(&self) -> usize {
+        2 + self.as_str().len()
+    }
+
+    fn put(&self, out: &mut Vec<u8>) {
+        put_text(out, self.as_str());
+    }
+
+    fn known(&self) {
+        let _text = self.as_str();
+    }
+}

@@ -1,0 +1,145 @@
+// The lists in packets.
+
+ghost use Rattle.std.specs.Prelude.{
+  ◌≡◌,
+  ◌+◌,
+  ◌≤◌,
+  ◌++◌,
+  ◌==◌,
+  length,
+  min,
+  vec_len,
+  vec_capacity,
+};
+ghost use Rattle.std.specs.List.{AllZip, All, flat_map};
+ghost use Rattle.std.specs.Cmp.Lexicographic.{pointwise, lists_per, lists_equiv};
+ghost use Rattle.packet_base.specs.Outcome.{Gives};
+ghost use Rattle.packet_base.specs.Lists.{items_at, list_of};
+
+use crate::item::Item;
+use crate::reader::Reader;
+use crate::stop::Stop;
+use std::alloc::{AllocError, Global};
+use std::marker::Model;
+use topics::MalformedKind;
+
+/// A list in a packet, as the filters of a SUBSCRIBE. A contract sees its items. It is made from a
+/// vector and gives it back, and neither takes memory.
+#[derive(Debug, Drop)]
+pub struct PacketList<T> {
+    items: Vec<T>,
+}
+
+impl<T> Model for PacketList<T> {
+    ghost use Rattle.std.specs.Prelude.{List};
+
+    ghost Value = { List T };
+
+    ghost view = { λ list. list.items.items };
+}
+
+impl<T> PacketList<T> {
+    /// The list of these items.
+    pub fn new(items: Vec<T>) -> PacketList<T>
+        ensures { result ≡ items.items }
+    {
+        PacketList { items }
+    }
+
+    /// The items.
+    pub fn as_slice(&self) -> &[T]
+        ensures { result.now ≡ self.now }
+    {
+        self.items.as_slice()
+    }
+
+    /// The vector of the items.
+    pub fn into_vec(self) -> Vec<T>
+        ensures { result.items ≡ self }
+    {
+        self.items
+    }
+}
+
+impl<T: Item> PacketList<T> {
+    /// Reads items to the end of the body. A list without any is `Shape` (MQTT 3.8.3, 3.9.3,
+    /// 3.10.3).
+    pub fn read(alloc: Global, body: &mut Reader) -> Result<PacketList<T>, Stop>
+        ensures { Gives (λ x. x) result (list_of T.item_at body.old) }
+    {
+        let items = read_items(alloc, body)?;
+        if items.is_empty() {
+            return Err(Stop::Malformed(MalformedKind::Shape));
+        }
+        Ok(PacketList { items })
+    }
+
+    /// How many bytes stand behind `before` others with the list, as far as a `usize` counts.
+    pub fn len_behind(&self, before: usize) -> usize
+        ensures { result ≡ min (before + length (flat_map T.spelled self.now)) usize.MAX }
+    {
+        let mut len = before;
+        for item in self.as_slice() {
+            len = len.saturating_add(item.spelled_len());
+        }
+        len
+    }
+
+    /// Writes the items one behind the other, into room that was reserved before.
+    pub fn put(&self, out: &mut Vec<u8>)
+        requires { vec_len out.old + length (flat_map T.spelled self.now) ≤ vec_capacity out.old }
+        ensures { out.new.items ≡ out.old.items ++ flat_map T.spelled self.now }
+    {
+        for item in self.as_slice() {
+            item.put(out);
+        }
+    }
+
+    /// Tells a proof that the items of a list in hand are in their ranges; it does nothing else.
+    pub fn known(&self)
+        ensures { All T.Fits self.now }
+    {
+        for item in self.as_slice() {
+            item.known();
+        }
+    }
+}
+
+// Reads items to the end of the body.
+fn read_items<T: Item>(alloc: Global, body: &mut Reader) -> Result<Vec<T>, Stop>
+    ensures { Gives (λ x. x.items) result (items_at T.item_at body.old) }
+{
+    let mut items = Vec::new(alloc);
+    // Each takes a byte at least, so there are no more than bytes.
+    for _ in 0..body.len() {
+        if body.is_empty() {
+            return Ok(items);
+        }
+        items.push(T::read(alloc, body)?)?;
+    }
+    Ok(items)
+}
+
+impl<T: Clone> Clone for PacketList<T> {
+    ghost is_clone = { λ list copy. AllZip T.is_clone list copy
+        × (((x y : T) → T.is_clone x y → y ≡ x) → copy ≡ list) };
+
+    fn clone(&self) -> Result<PacketList<T>, AllocError> {
+        let items = Vec::from_clones(*self.items.allocator(), self.items.as_slice())?;
+        Ok(PacketList { items })
+    }
+}
+
+impl<T: PartialEq> PartialEq for PacketList<T> {
+    ghost eq = { pointwise T.eq };
+
+    ghost laws = { lists_per T.laws };
+
+    fn eq(&self, other: &PacketList<T>) -> bool {
+        self.items == other.items
+    }
+}
+
+impl<T: Eq> Eq for PacketList<T> {
+    ghost laws = { lists_equiv T.Eq.laws };
+}

@@ -1,0 +1,135 @@
+// Finding the topics that a filter matches.
+
+ghost use Rattle.std.specs.Prelude.{
+  ◌≡◌,
+  ◌++◌,
+  length,
+  take,
+  true,
+  OnOk,
+  OnErr,
+  IfSome,
+};
+ghost use Rattle.std.specs.BTreeMap.Range.{IsLeBy, IsLtBy};
+ghost use Rattle.std.specs.Range.Bound.{IsForward};
+ghost use Rattle.std.specs.Cmp.Lexicographic.{slice_cmp};
+ghost use Rattle.std.specs.Ordering.{nat_cmp};
+ghost use Rattle.topics.specs.Text.{has_no_wildcard};
+ghost use Rattle.retained.specs.Retained.{matching_entries};
+ghost use Rattle.retained.specs.Inside.{IsFront, StandsBefore, IsAround, HoldsMatches};
+
+use crate::retained_publication::RetainedPublication;
+use std::alloc::{AllocError, Global};
+use std::collections::BTreeMap;
+use std::ops::Bound;
+use topics::{Filter, TopicName, matches};
+
+/// Appends the matching topics: a filter without wildcards is looked up, and any other is held
+/// against the topics that begin as it does. Where memory is wanting, some of them may stand there.
+pub(crate) fn append_matching(
+    topics: &BTreeMap<TopicName, RetainedPublication>,
+    filter: &Filter,
+    entries: &mut Vec<(TopicName, RetainedPublication)>,
+) -> Result<(), AllocError>
+    ensures ok { OnOk result
+        (entries.new.items ≡ entries.old.items ++ matching_entries topics.now.entries filter.now) }
+    ensures err { OnErr result (entries.old.items ≡ take (length entries.old.items) entries.new.items) }
+{
+    match filter.as_topic()? {
+        Some(topic) => append_topic(topics, topic, entries),
+        None => append_in_range(topics, filter, entries),
+    }
+}
+
+/// Appends the topic, if it is there.
+fn append_topic(
+    topics: &BTreeMap<TopicName, RetainedPublication>,
+    topic: TopicName,
+    entries: &mut Vec<(TopicName, RetainedPublication)>,
+) -> Result<(), AllocError>
+    requires { has_no_wildcard topic ≡ true }
+    ensures ok { OnOk result
+        (entries.new.items ≡ entries.old.items ++ matching_entries topics.now.entries topic) }
+    ensures err { OnErr result (entries.new.items ≡ entries.old.items) }
+{
+    // That the topics are in order.
+    let _len = topics.len();
+    if let Some(kept) = topics.get(&topic) {
+        entries.push((topic, kept.clone()?))?;
+    }
+    Ok(())
+}
+
+/// Appends the matching topics, looking at those alone that begin as the filter does.
+fn append_in_range(
+    topics: &BTreeMap<TopicName, RetainedPublication>,
+    filter: &Filter,
+    entries: &mut Vec<(TopicName, RetainedPublication)>,
+) -> Result<(), AllocError>
+    ensures ok { OnOk result
+        (entries.new.items ≡ entries.old.items ++ matching_entries topics.now.entries filter.now) }
+    ensures err { OnErr result (entries.old.items ≡ take (length entries.old.items) entries.new.items) }
+{
+    let bounds = bounds_of(*entries.allocator(), filter.as_str());
+    for (topic, kept) in topics.range(bounds) {
+        if matches(filter, topic) {
+            entries.push((topic.clone()?, kept.clone()?))?;
+        }
+    }
+    Ok(())
+}
+
+/// Bounds of the topics that the filter may match; without memory for them there are none.
+#[tactic(auto, using(crate::proofs::InRange::holds_within, crate::proofs::InRange::forward))]
+fn bounds_of(alloc: Global, filter: &str) -> (Bound<TopicName>, Bound<TopicName>)
+    ensures forward { IsForward (IsLeBy (slice_cmp nat_cmp)) (IsLtBy (slice_cmp nat_cmp))
+        result.0 result.1 }
+    ensures holds { HoldsMatches filter.now result.0 result.1 }
+{
+    match ends_of(alloc, filter) {
+        Some((first, end)) => (Bound::Included(first), Bound::Excluded(end)),
+        None => (Bound::Unbounded, Bound::Unbounded),
+    }
+}
+
+/// The topic of the levels in front of the first wildcard, and the one behind all that begin with
+/// them and a `/`.
+fn ends_of(alloc: Global, filter: &str) -> Option<(TopicName, TopicName)>
+    ensures { IfSome result (λ ends. IsAround filter.now ends.0 ends.1) }
+{
+    let front = literal_front(filter)?;
+    let first = TopicName::new(alloc, front).ok()?;
+    // The byte behind `/` is `0`.
+    let mut text = String::from_str(alloc, front).ok()?;
+    text.push_str("0").ok()?;
+    let end = TopicName::new(alloc, text.as_str()).ok()?;
+    Some((first, end))
+}
+
+/// The levels in front of the first wildcard, if there are any.
+fn literal_front(filter: &str) -> Option<&str>
+    ensures { IfSome result (λ front. StandsBefore front.now filter.now) }
+{
+    let front = front_part(filter)?;
+    if !has_no_wildcard(front) {
+        return None;
+    }
+    Some(front)
+}
+
+/// What stands in front of a level that begins with a wildcard, the first `+` or else the first `#`.
+fn front_part(filter: &str) -> Option<&str>
+    ensures { IfSome result (λ front. IsFront front.now filter.now) }
+{
+    if let Some((front, _)) = filter.split_once("/+") {
+        return Some(front);
+    }
+    let (front, _) = filter.split_once("/#")?;
+    Some(front)
+}
+
+fn has_no_wildcard(text: &str) -> bool
+    ensures { result ≡ has_no_wildcard text.now }
+{
+    !text.as_bytes().contains(&b'+') && !text.as_bytes().contains(&b'#')
+}
