@@ -5,3 +5,4 @@
 mod tests;
 
 pub use subs_base::{ListIndex, SubIndex, grants_one_list};
+pub use subs_tree::TreeIndex;

@@ -122,3 +122,10 @@ fn greatest_qos_is_granted(rt: HostRuntime) -> Result<(), Fail> {
     rows_of_a_dollar_topic::<ListIndex>(&rt, rt.alloc())?;
     an_identical_filter_is_replaced::<ListIndex>(&rt, rt.alloc())
 }
+
+#[test]
+fn the_tree_grants_the_same(rt: HostRuntime) -> Result<(), Fail> {
+    rows_of_one_topic::<TreeIndex>(&rt, rt.alloc())?;
+    rows_of_a_dollar_topic::<TreeIndex>(&rt, rt.alloc())?;
+    an_identical_filter_is_replaced::<TreeIndex>(&rt, rt.alloc())
+}

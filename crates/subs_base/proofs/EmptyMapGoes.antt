@@ -1,6 +1,6 @@
 -- A client without filters may go: its index holds the same subscriptions.
-use Rattle.std.proofs.Common.{◌≡◌, ℕ, List, [], ◌∷◌, length, true, false, cond, Option, Some, None, is_some, refl, sym, ◌∙◌, ap, bytes_eq, arith}
-use Rattle.std.specs.Prelude.{option_and_then, option_map}
+use Rattle.std.proofs.Common.{◌≡◌, ℕ, List, [], ◌∷◌, length, true, false, cond, Option, Some, None, is_some, refl, sym, ◌∙◌, ap, bytes_eq, arith, Bor}
+use Rattle.std.specs.Prelude.{option_and_then, option_map, option_copied}
 use Rattle.std.specs.BTreeMap.{BTreeMap, get, is_at}
 use Rattle.std.specs.Map.{lookup}
 use Rattle.std.specs.Cmp.Lexicographic.{slice_cmp, texts_ties, bytes_decides}
@@ -38,7 +38,7 @@ no_entries [] h = refl
 no_entries (x ∷ entries) h = absurd (omega arith)
 
 -- what stands at a client of the list is what its map holds
-at_listed : (m : BTreeMap (List ℕ) (BTreeMap (List ℕ) QoS)) (shown : Clients) (client : List ℕ) → listed m.entries ≡ shown
+pub at_listed : (m : BTreeMap (List ℕ) (BTreeMap (List ℕ) QoS)) (shown : Clients) (client : List ℕ) → listed m.entries ≡ shown
     → at client shown ≡ option_map (λ kept. kept.entries) (get (slice_cmp nat_cmp) m client)
 at_listed m shown client is = sym (ap (at client) is) ∙ lookup-map_values (λ kept. kept.entries) (is_at (slice_cmp nat_cmp client)) m.entries
 
@@ -57,3 +57,12 @@ gone_some m shown client filters is some full e =
     option_map_or : ℕ → (Filters → ℕ) → Option Filters → ℕ
     option_map_or d f None = d
     option_map_or d f (Some x) = f x
+
+-- the same of a map that was lent
+pub lent_at : (m : BTreeMap (List ℕ) (BTreeMap (List ℕ) QoS)) (shown : Clients) (client : List ℕ) (lent : Option (Bor (BTreeMap (List ℕ) QoS))) → listed m.entries ≡ shown
+    → option_copied lent ≡ get (slice_cmp nat_cmp) m client → option_map (λ filters. filters.now.entries) lent ≡ at client shown
+lent_at m shown client lent is there = opened lent ∙ ap (option_map (λ kept. kept.entries)) there ∙ sym (at_listed m shown client is)
+  where
+    opened : (lent : Option (Bor (BTreeMap (List ℕ) QoS))) → option_map (λ filters. filters.now.entries) lent ≡ option_map (λ kept. kept.entries) (option_copied lent)
+    opened None = refl
+    opened (Some x) = refl

@@ -46,7 +46,7 @@ greater_cases q (Some b) =
 
 -- ---- a look-up past the first entry
 
-later : {X : Type 0} (c : List ℕ) (e : List ℕ × X) (es : List (List ℕ × X)) (x : X) → IsStrictlySortedBy (slice_cmp nat_cmp) (keys_of (e ∷ es)) → at c es ≡ Some x → at c (e ∷ es) ≡ Some x
+pub later : {X : Type 0} (c : List ℕ) (e : List ℕ × X) (es : List (List ℕ × X)) (x : X) → IsStrictlySortedBy (slice_cmp nat_cmp) (keys_of (e ∷ es)) → at c es ≡ Some x → at c (e ∷ es) ≡ Some x
 later c e es x sorted found =
     elim (is_at (slice_cmp nat_cmp c) e.0) as (λ v. is_at (slice_cmp nat_cmp c) e.0 ≡ v → cond v (Some e.1) (at c es) ≡ Some x) [
       | true ↦ λ t.
@@ -60,7 +60,7 @@ later c e es x sorted found =
 same : (x y : List ℕ) → is_eq (slice_cmp nat_cmp x y) ≡ true → x ≡ y
 same x y e = (bytes_decides x y).0 (texts_ties x y ∙ e)
 
-first : {X : Type 0} (e : List ℕ × X) (es : List (List ℕ × X)) → at e.0 (e ∷ es) ≡ Some e.1
+pub first : {X : Type 0} (e : List ℕ × X) (es : List (List ℕ × X)) → at e.0 (e ∷ es) ≡ Some e.1
 first e es = ap (λ b. cond b (Some e.1) (at e.0 es)) (sym (texts_ties e.0 e.0) ∙ (bytes_decides e.0 e.0).1 refl)
 
 -- ---- the greatest QoS of one client's filters

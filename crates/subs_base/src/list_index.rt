@@ -11,6 +11,7 @@ ghost use Rattle.std.specs.Prelude.{
   OnOk,
   OnErr,
   is_some,
+  option_map,
   List,
   ℕ,
   Some,
@@ -97,6 +98,13 @@ impl SubIndex for ListIndex {
 }
 
 impl ListIndex {
+    /// The filters of a client that has one, in the order of their bytes.
+    pub fn filters_of(&self, client: &ClientId) -> Option<&BTreeMap<Filter, QoS>>
+        ensures { option_map (λ filters. filters.now.entries) result ≡ at client.now self.now }
+    {
+        self.clients.get(client)
+    }
+
     /// Removes the subscription, and leaves the client's map, which may then be empty.
     fn clear_row(&mut self, client: &ClientId, filter: &Filter) -> bool
         ensures found { IsTrue result ↔ IsSome (content_of self.old client.now filter.now) }

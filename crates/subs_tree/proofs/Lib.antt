@@ -1,0 +1,7 @@
+pub mod LevelsFound
+pub mod AskedAfter
+pub mod NodeAfter
+pub mod Raising
+pub mod WalkFinds
+pub mod ContentOfTree
+pub mod TreeGrants

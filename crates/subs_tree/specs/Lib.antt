@@ -1,0 +1,4 @@
+pub mod Tree
+pub mod Inside
+pub mod Walk
+pub mod TreeIndex

@@ -1,0 +1,127 @@
+// The index as a tree of the filters' levels.
+
+ghost use Rattle.std.specs.Prelude.{◌≡◌, ◌++◌, OnOk, OnErr, take, length};
+ghost use Rattle.std.specs.BTreeMap.{IsOrdered};
+ghost use Rattle.std.specs.Cmp.Lexicographic.{slice_cmp};
+ghost use Rattle.std.specs.Ordering.{nat_cmp};
+ghost use Rattle.subs_base.specs.ListIndex.{content_of};
+ghost use Rattle.subs_tree.specs.Inside.{cleared};
+ghost use Rattle.subs_tree.specs.TreeIndex.{tree_content};
+ghost use Rattle.subs_tree.specs.Walk.{Raises, found_for};
+
+use crate::level::split_level;
+use crate::node::Node;
+use packet::{ClientId, QoS};
+use std::alloc::{AllocError, Global};
+use std::collections::BTreeMap;
+use std::marker::Model;
+use subs_base::{ListIndex, SubIndex};
+use topics::{Filter, TopicName};
+
+/// An index that walks the levels of a topic: a publication costs its levels and the rows that are
+/// found, whatever else stands there.
+#[derive(Debug, Drop)]
+pub struct TreeIndex {
+    /// Each client with its filters, which go with it.
+    clients: ListIndex,
+    root: Node,
+    alloc: Global,
+}
+
+impl Model for TreeIndex {
+    ghost use Rattle.std.specs.Prelude.{◌≡◌};
+    ghost use Rattle.subs_base.specs.ListIndex.{Clients, content_of};
+    ghost use Rattle.subs_tree.specs.TreeIndex.{tree_content};
+
+    ghost Value = { Clients };
+
+    ghost view = { λ index. index.clients };
+
+    ghost invariant = { λ index. content_of index.clients ≡ tree_content index.root };
+}
+
+impl SubIndex for TreeIndex {
+    ghost content = { content_of };
+
+    fn new(alloc: Global) -> TreeIndex {
+        TreeIndex {
+            clients: ListIndex::new(alloc),
+            root: Node::new(alloc),
+            alloc,
+        }
+    }
+
+    fn set(&mut self, client: &ClientId, filter: &Filter, qos: QoS) -> Result<(), AllocError> {
+        self.clients.set(client, filter, qos)?;
+        let text = filter.as_str().as_bytes();
+        let set = self.root.set(self.alloc, Some(text), client, qos);
+        if set.is_err() {
+            self.clients.clear(client, filter);
+        }
+        set
+    }
+
+    fn clear(&mut self, client: &ClientId, filter: &Filter) -> bool {
+        self.clients.clear(client, filter);
+        self.root.clear(Some(filter.as_str().as_bytes()), client)
+    }
+
+    fn drop_client(&mut self, client: &ClientId) {
+        if let Some(filters) = self.clients.filters_of(client) {
+            clear_all(&mut self.root, filters, client);
+        }
+        self.clients.drop_client(client);
+    }
+
+    fn granted(
+        &self,
+        topic: &TopicName,
+        rows: &mut Vec<(ClientId, QoS)>,
+    ) -> Result<(), AllocError> {
+        let mut found = BTreeMap::new(self.alloc);
+        find(&self.root, topic.as_str().as_bytes(), &mut found)?;
+        let before = rows.len();
+        let appended = append_rows(&found, rows);
+        if appended.is_err() {
+            rows.truncate(before);
+        }
+        appended
+    }
+}
+
+/// Removes the client's subscriptions of these filters.
+fn clear_all(root: &mut Node, filters: &BTreeMap<Filter, QoS>, client: &ClientId)
+    ensures { tree_content root.new
+        ≡ cleared client.now filters.now.entries (tree_content root.old) }
+{
+    for (filter, _) in filters {
+        root.clear(Some(filter.as_str().as_bytes()), client);
+    }
+}
+
+/// Raises the clients whose filters match: no wildcard at the front matches a topic that begins
+/// with `$` (MQTT 4.7.2).
+fn find(root: &Node, topic: &[u8], found: &mut BTreeMap<ClientId, QoS>) -> Result<(), AllocError>
+    ensures { OnOk result (Raises found.old found.new (found_for root.now topic.now)) }
+{
+    if !topic.starts_with(b"$".as_slice()) {
+        return root.find(Some(topic), found);
+    }
+    let (level, behind) = split_level(topic);
+    root.find_below(level, behind, found)
+}
+
+/// Appends the rows. Where memory is wanting, some of them may stand there.
+fn append_rows(
+    found: &BTreeMap<ClientId, QoS>,
+    rows: &mut Vec<(ClientId, QoS)>,
+) -> Result<(), AllocError>
+    ensures ok { OnOk result (rows.new.items ≡ rows.old.items ++ found.now.entries) }
+    ensures ordered { IsOrdered (slice_cmp nat_cmp) found.now }
+    ensures err { OnErr result (rows.old.items ≡ take (length rows.old.items) rows.new.items) }
+{
+    for (client, qos) in found {
+        rows.push((client.clone()?, *qos))?;
+    }
+    Ok(())
+}
