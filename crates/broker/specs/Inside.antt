@@ -1,54 +1,26 @@
--- Words of private calls: the steps of handshakes, and copies of publications.
-use Rattle.std.specs.Prelude.{◌≡◌, Bool, true, false, List, [], ◌∷◌}
-use Rattle.packet.specs.declared.qos.QoS.{QoS}
-use Rattle.packet.specs.declared.packet.Packet.{Packet}
-use Rattle.packet.specs.declared.packet.Packet.TheVariants as packets
-use Rattle.session_base.specs.declared.publication.Publication.{Publication}
-use Rattle.session_base.specs.Publication.{lower_qos}
-use Rattle.session_base.specs.Session.{SessionState}
-use Rattle.subs_base.specs.ListIndex.{content_of}
-use Rattle.broker.specs.declared.tables.Tables.{Tables}
-use Rattle.session_base.specs.Queue.{on_puback, on_pubrec, on_pubcomp}
-use Rattle.session_base.specs.Sending.{fill_sends, pubrec_sends}
+-- Words of private calls.
+use Rattle.std.specs.Prelude.{◌≡◌, ◌<◌, length}
+use Rattle.std.specs.List.{AllByRecursion}
+use Rattle.retained.specs.Retained.{RetainedTopics}
+use Rattle.session_form.specs.FormLaws.{HasForm}
+use Rattle.broker_model.specs.Connection.{ConnectionName}
+use Rattle.broker_base.specs.State.{Sessions, State}
+use Rattle.broker_rows.specs.Owners.{owners_in}
+use Rattle.broker_tables.specs.Tables.{owners_at}
+use Rattle.broker.specs.declared.rows.Rows.{Rows}
 
--- whether a packet is a step of a handshake
-abbrev pub is_handshake : Packet → Bool
-is_handshake (packets.Puback id) = true
-is_handshake (packets.Pubrec id) = true
-is_handshake (packets.Pubrel id) = true
-is_handshake (packets.Pubcomp id) = true
-is_handshake _ = false
+-- each of these sessions has a form
+abbrev pub AreRows : Sessions → Type 0
+AreRows rows = AllByRecursion (λ row. HasForm row.1.state) rows
 
--- whether it ends its connection: DISCONNECT, and what a client may not send (MQTT 3.1.0, 3.14.4, 4.8)
-abbrev pub is_violation : Packet → Bool
-is_violation (packets.Connect connect) = true
-is_violation (packets.Connack connack) = true
-is_violation (packets.Suback suback) = true
-is_violation (packets.Unsuback id) = true
-is_violation packets.Pingresp = true
-is_violation packets.Disconnect = true
-is_violation _ = false
+-- the length of each payload fits four bytes
+abbrev pub ArePayloads : RetainedTopics → Type 0
+ArePayloads content = AllByRecursion (λ row. length row.1.payload < 4294967296) content
 
--- what its sender is sent for a step of a handshake
-abbrev pub handshake_sends : Packet → SessionState → List Packet
-handshake_sends (packets.Puback id) held = fill_sends 16 (on_puback id held.queue.in_flight) held.queue.waiting
-handshake_sends (packets.Pubrec id) held = pubrec_sends id (on_pubrec id held.queue.in_flight)
-handshake_sends (packets.Pubrel id) held = packets.Pubcomp id ∷ []
-handshake_sends (packets.Pubcomp id) held = fill_sends 16 (on_pubcomp id held.queue.in_flight) held.queue.waiting
-handshake_sends _ held = []
+-- the map of connections holds those of the sessions
+abbrev pub AreOwned : Rows → Type 0
+AreOwned rows = (x : ConnectionName) → owners_at rows.owners.entries x ≡ owners_in rows.sessions.entries x
 
--- the copy of a publication for who is granted it at this QoS (MQTT 3.3.1.3, 3.3.5)
-abbrev pub lowered : Publication → QoS → Publication
-lowered p qos = record { retain = false; qos = lower_qos p.qos qos; topic = p.topic; payload = p.payload }
-
--- all but the sessions is as it was
-pub record HasOthersOf (tables after : Tables) : Type 0 where
-  pub owners : after.owners.entries ≡ tables.owners.entries
-  pub index : content_of after.index ≡ content_of tables.index
-  pub retained : after.retained ≡ tables.retained
-
--- all but the map of connections is as it was
-pub record HasOthersThanOwners (tables after : Tables) : Type 0 where
-  pub sessions : after.sessions.entries ≡ tables.sessions.entries
-  pub index : content_of after.index ≡ content_of tables.index
-  pub retained : after.retained ≡ tables.retained
+-- the broker with these sessions and retained publications
+abbrev pub state_read : Rows × RetainedTopics → State
+state_read (rows, retained) = record { window = 16; sessions = rows.sessions.entries; retained = retained }

@@ -1,17 +1,15 @@
 // The machine that a replica drives.
 
-ghost use Rattle.std.specs.Prelude.{◌≡◌, ◌++◌, OnOk, OnErr};
-ghost use Rattle.broker_model.specs.Commands.{usual_limits};
-ghost use Rattle.broker_model.specs.Logged.{IsBrokerCommand};
-ghost use Rattle.broker_base.specs.State.{empty_state};
-ghost use Rattle.broker_base.specs.Step.{step};
-
-use crate::tables::Tables;
-use broker_form::states_stay_in_range;
+use crate::freezing::frozen_tables;
+use crate::thawing::thawed_tables;
+use broker_form::{states_stay_in_range, thawed_is_in_range};
 use broker_model::{Command, Output};
-use machine::Halted;
+use broker_tables::Tables;
+use machine::{Halted, Machine, Memory, ThawFault};
+use packet_base::Stop;
 use std::alloc::Global;
 use std::marker::Model;
+use topics::MalformedKind;
 
 /// A broker behind some list of commands. A contract sees its state: the window, the sessions by
 /// client, and what is retained.
@@ -24,7 +22,7 @@ impl Model for BrokerMachine {
     ghost use Rattle.broker_base.specs.State.{State};
     ghost use Rattle.broker_form.specs.InRange.{IsBrokerState};
     ghost use Rattle.broker_model.specs.Commands.{usual_limits};
-    ghost use Rattle.broker.specs.Tables.{IsTied, state_in};
+    ghost use Rattle.broker_tables.specs.Tables.{IsTied, state_in};
 
     ghost Value = { State };
 
@@ -33,24 +31,60 @@ impl Model for BrokerMachine {
     ghost invariant = { λ machine. IsBrokerState usual_limits (state_in machine.tables) × IsTied machine.tables };
 }
 
-impl BrokerMachine {
-    /// A broker that begins: nothing is kept.
-    pub fn fresh(alloc: Global) -> BrokerMachine
-        ensures { result ≡ empty_state 16 }
-    {
-        BrokerMachine {
-            tables: Tables::new(alloc),
-        }
+// It begins empty, and does a command as the step of a state with the limits of this broker says. It
+// is frozen to form 1.
+impl Machine for BrokerMachine {
+    ghost use Rattle.broker_model.specs.declared.command.Command.TheVariants.{Start};
+    ghost use Rattle.broker_model.specs.Logged.{IsBrokerCommand};
+    ghost use Rattle.broker_base.specs.State.{empty_state};
+    ghost use Rattle.broker_form.specs.Form.{frozen, thawed};
+    ghost use Rattle.broker_form.specs.FormLaws.{IsUsualState};
+    ghost use Rattle.broker_form.proofs.Thawing.{frozen_is_thawed};
+    ghost use Rattle.broker.specs.Standing.{after, answers};
+    ghost use Rattle.broker_form.proofs.UsualStates.{empty_is_usual, stays_usual};
+
+    type Command = Command;
+
+    type Output = Output;
+
+    ghost after = { after };
+
+    ghost gives = { answers };
+
+    ghost opening = { empty_state 16 };
+
+    ghost start_of = { Start };
+
+    ghost frozen = { frozen };
+
+    ghost thawed = { thawed };
+
+    ghost IsState = { IsUsualState };
+
+    ghost IsCommand = { IsBrokerCommand };
+
+    ghost opens = { empty_is_usual };
+
+    ghost keeps = { stays_usual };
+
+    ghost thaws = { frozen_is_thawed };
+
+    fn copy(_alloc: Global, command: &Command) -> Result<Command, Memory> {
+        command.known();
+        Ok(command.copy()?)
     }
 
-    /// Does one command, and appends its answers to `out`. [`Halted`] comes only where a growth was
-    /// refused: `out` is then as before, and the machine is not used again.
-    pub fn apply(&mut self, command: &Command, out: &mut Vec<Output>) -> Result<(), Halted>
-        ensures state { OnOk result (self.new ≡ (step usual_limits 16 self.old command.now).0) }
-        ensures outputs { OnOk result
-            (out.new.items ≡ out.old.items ++ (step usual_limits 16 self.old command.now).1) }
-        ensures err { OnErr result (out.new.items ≡ out.old.items) }
-    {
+    fn fresh(alloc: Global) -> Result<BrokerMachine, Memory> {
+        Ok(BrokerMachine {
+            tables: Tables::new(alloc),
+        })
+    }
+
+    fn start(ballot: u64) -> Command {
+        Command::Start(ballot)
+    }
+
+    fn apply(&mut self, command: &Command, out: &mut Vec<Output>) -> Result<(), Halted> {
         command.known();
         states_stay_in_range();
         let mut given = Vec::new(*out.allocator());
@@ -58,9 +92,22 @@ impl BrokerMachine {
             self.tables = Tables::new(*out.allocator());
             return Err(Halted);
         }
-        match out.append(&mut given) {
-            Ok(()) => Ok(()),
-            Err(_) => Err(Halted),
+        out.append(&mut given)?;
+        Ok(())
+    }
+
+    fn freeze(&self, bytes: &mut Vec<u8>) -> Result<(), Memory> {
+        let frozen = frozen_tables(&self.tables)?;
+        bytes.extend_from_slice(&frozen)?;
+        Ok(())
+    }
+
+    fn thaw(alloc: Global, bytes: &[u8]) -> Result<BrokerMachine, ThawFault> {
+        thawed_is_in_range();
+        match thawed_tables(alloc, bytes) {
+            Ok(tables) => Ok(BrokerMachine { tables }),
+            Err(Stop::Malformed(MalformedKind::Memory)) => Err(ThawFault::Memory),
+            Err(_) => Err(ThawFault::Shape),
         }
     }
 }

@@ -1,27 +1,13 @@
 //! The broker as a deterministic machine: it takes the commands of a log one by one and gives what
-//! goes to the clients (MQTT 3.1.1).
+//! goes to the clients (MQTT 3.1.1). It is frozen to bytes, and thawed from them.
 #![tactic(auto)]
 
-mod answers;
-mod applying;
 mod broker_machine;
-mod client_row;
-mod connecting;
-mod delivering;
+mod freezing;
 mod laws;
-mod leaving;
-mod limits;
-mod publishing;
-mod retained_copies;
-mod sending;
-mod serving;
-mod starting;
-mod subscribing;
-mod tables;
-mod unsubscribing;
+mod reading;
+mod rows;
+mod thawing;
 
 pub use broker_machine::BrokerMachine;
 pub use laws::broker_stands_for;
-
-#[cfg(test)]
-mod tests;

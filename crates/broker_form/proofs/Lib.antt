@@ -12,3 +12,4 @@ pub mod EveryAnswer
 pub mod RowsAgain
 pub mod RowsFollow
 pub mod Thawing
+pub mod UsualStates

@@ -1,10 +1,10 @@
 // The store of retained publications.
 
-ghost use Rattle.std.specs.Prelude.{◌≡◌, ◌++◌, ◌↔◌, [], length, take, Err, IsOk, IsNone, true, IsTrue, OnOk, OnErr, option_copied};
+ghost use Rattle.std.specs.Prelude.{◌≡◌, ◌++◌, ◌↔◌, [], length, take, Err, IsErr, IsOk, IsNone, true, false, IsTrue, OnOk, OnErr, option_copied};
 ghost use Rattle.std.specs.Cmp.Lexicographic.{slice_cmp};
 ghost use Rattle.std.specs.Ordering.{nat_cmp};
 ghost use Rattle.topics.specs.Text.{has_no_wildcard};
-ghost use Rattle.retained.specs.Retained.{IsRising, publication_on, after_put, is_full_for, is_refused, matching_entries};
+ghost use Rattle.retained.specs.Retained.{IsRising, publication_on, after_put, with_topic, without_topic, is_full_for, is_refused, matching_entries};
 
 use crate::error::RetainedError;
 use crate::finding::append_matching;
@@ -85,15 +85,33 @@ impl RetainedStore {
         ensures err { OnErr result (self.new ≡ self.old) }
     {
         if payload.as_slice().is_empty() {
-            self.topics.remove(&topic);
+            self.remove(&topic);
             return Ok(());
         }
         if self.refuses(&topic, &payload) {
             return Err(RetainedError::RetainedFull);
         }
-        let kept = RetainedPublication { qos, payload };
+        self.keep(topic, RetainedPublication { qos, payload })?;
+        Ok(())
+    }
+
+    /// Keeps a publication in place of the topic's last one, where there is a place for it. The only
+    /// error is want of memory, which a topic that is there never takes.
+    pub fn keep(&mut self, topic: TopicName, kept: RetainedPublication) -> Result<(), AllocError>
+        requires room { is_full_for self.old topic ≡ false }
+        ensures ok { OnOk result (self.new ≡ with_topic self.old topic kept) }
+        ensures memory { IsErr result → IsNone (publication_on topic self.old) }
+        ensures err { OnErr result (self.new ≡ self.old) }
+    {
         self.topics.insert(topic, kept)?;
         Ok(())
+    }
+
+    /// Nothing is retained of the topic any more.
+    pub fn remove(&mut self, topic: &TopicName)
+        ensures { self.new ≡ without_topic self.old topic.now }
+    {
+        self.topics.remove(topic);
     }
 
     /// Appends each topic that the filter matches, with what is retained of it, in the order of the

@@ -104,6 +104,16 @@ impl Session {
         if self.room() == 0 {
             return Err(EnqueueError::QueueFull);
         }
+        self.admit(publication)?;
+        Ok(())
+    }
+
+    /// Queues a publication behind the others, where `room` said that there is a place for it. The
+    /// only error is want of memory.
+    pub fn admit(&mut self, publication: Publication) -> Result<(), AllocError>
+        ensures ok { OnOk result (self.new ≡ with_queue (enqueue publication self.old.queue) self.old) }
+        ensures err { OnErr result (self.new ≡ self.old) }
+    {
         self.queue.enqueue(publication)?;
         Ok(())
     }
@@ -190,6 +200,13 @@ impl Session {
         ensures { result ≡ length self.now.subscriptions }
     {
         self.subscriptions.len()
+    }
+
+    /// The subscriptions, in the order of their first granting.
+    pub fn subscriptions(&self) -> &[(Filter, QoS)]
+        ensures { result.now ≡ self.now.subscriptions }
+    {
+        self.subscriptions.as_slice()
     }
 
     /// The greatest QoS of the subscriptions that match the topic, if one does (MQTT 3.3.5).

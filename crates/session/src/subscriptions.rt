@@ -42,6 +42,13 @@ impl Subscriptions {
         self.held.len()
     }
 
+    /// All of them.
+    pub(crate) fn as_slice(&self) -> &[(Filter, QoS)]
+        ensures { result.now ≡ self.now }
+    {
+        &self.held
+    }
+
     /// Whether the filter is among them.
     pub(crate) fn contains(&self, filter: &Filter) -> bool
         ensures { result ≡ is_held filter.now self.now }

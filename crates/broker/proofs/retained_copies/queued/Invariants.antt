@@ -1,7 +1,0 @@
-use Rattle.std.proofs.Common.{◌≡◌, ◌≤◌, length}
-use Rattle.std.specs.Prelude.{take}
-use Rattle.broker_model.specs.Entries.{queued}
-use Rattle.broker.proofs.retained_copies.queued.Given as goal
-
-abbrev pub invariant-loop-copy : goal.invariant-loop-copy
-invariant-loop-copy l = (l.many ≡ length (queued (take l.copy-index l.copies))) × (l.many ≤ l.copy-index)

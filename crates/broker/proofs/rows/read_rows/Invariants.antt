@@ -1,0 +1,11 @@
+use Rattle.std.proofs.Common.{◌≡◌, ◌-◌, []}
+use Rattle.session_form.specs.Counted.{items_behind}
+use Rattle.broker_form.specs.Form.{row_follows, row_at}
+use Rattle.broker.specs.Inside.{AreOwned}
+use Rattle.broker.proofs.rows.read_rows.Given as goal
+
+abbrev pub invariant-loop : goal.invariant-loop
+invariant-loop l =
+    (items_behind row_follows row_at (l.count - l.counter) l.rows.sessions.entries l.reader
+    ≡ items_behind row_follows row_at l.count [] l.initial.reader)
+    × AreOwned l.rows

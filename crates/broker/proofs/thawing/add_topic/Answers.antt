@@ -1,0 +1,8 @@
+use Rattle.std.proofs.Common.{◌∙◌, sym}
+use Rattle.broker.proofs.LastRows.{insert_last, kept_where}
+use Rattle.broker.proofs.thawing.add_topic.Goals as goal
+
+pub returns-in-Ok : goal.returns-in-Ok
+returns-in-Ok c =
+    let behind = sym c.is_behind.ensures.test ∙ kept_where c.is_behind.result c.in_ok-keep.ensures in
+    (behind, c.in-Ok.ensures.ok ∙ insert_last c.args.topic c.args.kept c.args.retained.now c.is_behind.ensures.rising behind)

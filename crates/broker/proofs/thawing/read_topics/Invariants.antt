@@ -1,0 +1,10 @@
+use Rattle.std.proofs.Common.{◌≡◌, ◌-◌, [], length}
+use Rattle.session_form.specs.Counted.{items_behind}
+use Rattle.broker_form.specs.Form.{topic_follows, retained_at}
+use Rattle.broker.proofs.thawing.read_topics.Given as goal
+
+abbrev pub invariant-loop : goal.invariant-loop
+invariant-loop l =
+    (items_behind topic_follows retained_at (l.count - l.counter) l.retained l.reader
+    ≡ items_behind topic_follows retained_at l.count [] l.initial.reader)
+    × (length l.retained ≡ l.counter)

@@ -1,0 +1,149 @@
+// The rows of a frozen broker, read from the front of the bytes that are left. All that is not of the
+// form stops the reading; after an error the reader is not to be used.
+
+ghost use Rattle.std.specs.Prelude.{◌≡◌, true, Ok, IfOk};
+ghost use Rattle.packet.specs.ClientId.{is_client};
+ghost use Rattle.packet_base.specs.Outcome.{Gives, Reads};
+ghost use Rattle.session_form.specs.Counted.{keep};
+ghost use Rattle.broker_form.specs.Form.{client_at, connection_at, name_at, retainable, retained_at, row_at, wide_number_at};
+
+use broker_model::ConnectionId;
+use broker_tables::ClientRow;
+use packet::{ClientId, Payload};
+use packet_base::{Reader, Stop};
+use retained::RetainedPublication;
+use session::Session;
+use session_base::Publication;
+use session_form::{body_length, keep, read_flag, read_long_number, read_qos};
+use std::alloc::Global;
+use topics::{MalformedKind, TopicName};
+
+/// The most bytes of a body, this broker's own limit.
+const LONGEST_BODY: usize = 1_048_572;
+
+/// Memory was wanting.
+pub(crate) const OUT_OF_MEMORY: Stop = Stop::Malformed(MalformedKind::Memory);
+
+// ---- a client's session
+
+// A client with its session. A clean session has a connection.
+#[tactic(auto, unfolding(broker_form::specs::Form::row_at))]
+pub(crate) fn read_row(alloc: Global, reader: &mut Reader) -> Result<(ClientId, ClientRow), Stop>
+    ensures { Reads (λ x. x) result reader.new (row_at reader.old) }
+{
+    let client = read_client(alloc, reader)?;
+    let clean = read_flag(reader)?;
+    let connection = read_connection(reader)?;
+    keep(!clean || connection.is_some())?;
+    let state = Session::read(alloc, reader)?;
+    let row = ClientRow {
+        clean,
+        connection,
+        state,
+    };
+    Ok((client, row))
+}
+
+#[tactic(auto, unfolding(broker_form::specs::Form::client_at))]
+fn read_client(alloc: Global, reader: &mut Reader) -> Result<ClientId, Stop>
+    ensures { Reads (λ x. x) result reader.new (client_at reader.old) }
+{
+    let text = reader.text()?;
+    client_of(alloc, text)
+}
+
+// The Client Identifier of a text.
+fn client_of(alloc: Global, text: &str) -> Result<ClientId, Stop>
+    ensures test { Gives (λ client. tt) result (keep (is_client text.now)) }
+    ensures value { IfOk result (λ client. client ≡ text.now) }
+{
+    match ClientId::new(alloc, text) {
+        Ok(client) => {
+            let _text = client.as_str();
+            Ok(client)
+        }
+        Err(MalformedKind::Memory) => Err(OUT_OF_MEMORY),
+        Err(_) => Err(Stop::Malformed(MalformedKind::Shape)),
+    }
+}
+
+// Whether there is a connection, and which.
+#[tactic(auto, unfolding(broker_form::specs::Form::connection_at))]
+fn read_connection(reader: &mut Reader) -> Result<Option<ConnectionId>, Stop>
+    ensures { Reads (λ x. x) result reader.new (connection_at reader.old) }
+{
+    if read_flag(reader)? {
+        read_name(reader)
+    } else {
+        Ok(None)
+    }
+}
+
+// The name of a connection.
+#[tactic(auto, unfolding(broker_form::specs::Form::name_at))]
+fn read_name(reader: &mut Reader) -> Result<Option<ConnectionId>, Stop>
+    ensures { Reads (λ x. x) result reader.new (name_at reader.old) }
+{
+    let ballot = read_wide_number(reader)?;
+    let count = read_wide_number(reader)?;
+    match ConnectionId::new(ballot, count) {
+        Some(name) => Ok(Some(name)),
+        None => Err(Stop::Malformed(MalformedKind::Shape)),
+    }
+}
+
+// A number of eight bytes, the high one first.
+#[tactic(auto, unfolding(broker_form::specs::Form::wide_number_at))]
+fn read_wide_number(reader: &mut Reader) -> Result<u64, Stop>
+    ensures { Reads (λ x. x) result reader.new (wide_number_at reader.old) }
+{
+    let front = reader.front(8)?;
+    Ok(u64::from_be_bytes([
+        front[0], front[1], front[2], front[3], front[4], front[5], front[6], front[7],
+    ]))
+}
+
+// ---- a retained publication
+
+// A topic with what is retained of it.
+#[tactic(auto, unfolding(broker_form::specs::Form::retained_at))]
+pub(crate) fn read_topic(
+    alloc: Global,
+    reader: &mut Reader,
+) -> Result<(TopicName, RetainedPublication), Stop>
+    ensures { Reads (λ x. x) result reader.new (retained_at reader.old) }
+{
+    let qos = read_qos(reader)?;
+    let topic = reader.topic(alloc)?;
+    let len = read_long_number(reader)?;
+    let payload = payload_of(alloc, reader.front(len as usize)?)?;
+    retainable(Publication {
+        retain: true,
+        qos,
+        topic,
+        payload,
+    })
+}
+
+// What is retained of a publication: it has a payload, and its PUBLISH is within the limit of a packet.
+fn retainable(publication: Publication) -> Result<(TopicName, RetainedPublication), Stop>
+    requires { publication.retain ≡ true }
+    ensures { Gives (λ x. x) result
+        (retainable (publication.topic, record { qos = publication.qos; payload = publication.payload })) }
+{
+    keep(!publication.payload.as_slice().is_empty() && body_length(&publication) <= LONGEST_BODY)?;
+    let kept = RetainedPublication {
+        qos: publication.qos,
+        payload: publication.payload,
+    };
+    Ok((publication.topic, kept))
+}
+
+fn payload_of(alloc: Global, bytes: &[u8]) -> Result<Payload, Stop>
+    ensures { Gives (λ x. x) result (Ok bytes.now) }
+{
+    match Payload::new(alloc, bytes) {
+        Ok(payload) => Ok(payload),
+        Err(_) => Err(OUT_OF_MEMORY),
+    }
+}

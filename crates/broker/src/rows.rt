@@ -1,0 +1,137 @@
+// The sessions of a frozen broker, with the map of their connections.
+
+ghost use Rattle.std.specs.Prelude.{◌≡◌, false, true, [], ◌∷◌, ◌++◌, IfOk, OnOk};
+ghost use Rattle.packet_base.specs.Outcome.{Reads};
+ghost use Rattle.packet_base.specs.Reading.{number_at};
+ghost use Rattle.session_form.specs.Counted.{counted_at, items_behind, last_of, Adds};
+ghost use Rattle.broker_model.specs.Connection.{ConnectionName};
+ghost use Rattle.broker_rows.specs.Owners.{owned_by};
+ghost use Rattle.broker_form.specs.Form.{is_behind, is_taken, row_at, row_follows};
+ghost use Rattle.broker_tables.specs.Tables.{owners_at};
+ghost use Rattle.broker.specs.Inside.{AreOwned};
+
+use crate::reading::{OUT_OF_MEMORY, read_row};
+use broker_model::ConnectionId;
+use broker_tables::{ClientRow, MAX_SESSIONS};
+use packet::ClientId;
+use packet_base::{Reader, Stop};
+use session_form::keep;
+use std::alloc::{AllocError, Global};
+use std::collections::BTreeMap;
+
+// Sessions by client, and the client of each of their connections, by which a connection that is
+// another's is found without a walk over the sessions.
+#[derive(Drop)]
+pub(crate) struct Rows {
+    pub(crate) sessions: BTreeMap<ClientId, ClientRow>,
+    pub(crate) owners: BTreeMap<ConnectionId, ClientId>,
+}
+
+impl Rows {
+    // As many sessions as their count says: clients rise, and no connection is another's.
+    #[tactic(auto, unfolding(session_form::specs::Counted::counted_at))]
+    pub(crate) fn read(alloc: Global, reader: &mut Reader) -> Result<Rows, Stop>
+        ensures exact { Reads (λ rows. rows.sessions.entries) result reader.new
+            (counted_at number_at row_follows row_at 4096 reader.old) }
+        ensures owned { IfOk result AreOwned }
+    {
+        let count = reader.number()?;
+        keep(usize::from(count) <= MAX_SESSIONS)?;
+        read_rows(alloc, count, reader)
+    }
+
+    fn new(alloc: Global) -> Rows
+        ensures empty { result.sessions.entries ≡ [] }
+        ensures owned { AreOwned result }
+    {
+        Rows {
+            sessions: BTreeMap::new(alloc),
+            owners: BTreeMap::new(alloc),
+        }
+    }
+
+    // One more, which may stand behind the others.
+    fn add(&mut self, client: ClientId, row: ClientRow) -> Result<(), Stop>
+        requires { AreOwned self.old }
+        ensures adds { Adds row_follows self.old.sessions.entries (client, row) result self.new.sessions.entries }
+        ensures owned { OnOk result (AreOwned self.new) }
+    {
+        keep(self.may_follow(&client, &row))?;
+        match self.put_last(client, row) {
+            Ok(()) => Ok(()),
+            Err(_) => Err(OUT_OF_MEMORY),
+        }
+    }
+
+    // Whether a client may stand behind the others.
+    fn may_follow(&self, client: &ClientId, row: &ClientRow) -> bool
+        requires { AreOwned self.now }
+        ensures { result ≡ row_follows self.now.sessions.entries (client.now, row.now) }
+    {
+        self.is_behind(client) && !self.is_taken(row.connection)
+    }
+
+    // Whether the client is behind the last.
+    fn is_behind(&self, client: &ClientId) -> bool
+        ensures { result ≡ is_behind (last_of self.now.sessions.entries) client.now }
+    {
+        match self.sessions.last_key_value() {
+            Some((last, _)) => last < client,
+            None => true,
+        }
+    }
+
+    // Whether the connection is that of one of them.
+    fn is_taken(&self, connection: Option<ConnectionId>) -> bool
+        requires { AreOwned self.now }
+        ensures { result ≡ is_taken self.now.sessions.entries connection }
+    {
+        match connection {
+            Some(connection) => self.owners.contains_key(&connection),
+            None => false,
+        }
+    }
+
+    // Puts a session last.
+    fn put_last(&mut self, client: ClientId, row: ClientRow) -> Result<(), AllocError>
+        requires owned { AreOwned self.old }
+        requires follows { row_follows self.old.sessions.entries (client, row) ≡ true }
+        ensures sessions { OnOk result
+            (self.new.sessions.entries ≡ self.old.sessions.entries ++ (client, row) ∷ []) }
+        ensures owned { OnOk result (AreOwned self.new) }
+    {
+        own(&mut self.owners, row.connection, &client)?;
+        self.sessions.insert(client, row)?;
+        Ok(())
+    }
+}
+
+// So many sessions.
+fn read_rows(alloc: Global, count: u16, reader: &mut Reader) -> Result<Rows, Stop>
+    ensures exact { Reads (λ rows. rows.sessions.entries) result reader.new
+        (items_behind row_follows row_at count [] reader.old) }
+    ensures owned { IfOk result AreOwned }
+{
+    let mut rows = Rows::new(alloc);
+    for _ in 0..count {
+        let (client, row) = read_row(alloc, reader)?;
+        rows.add(client, row)?;
+    }
+    Ok(rows)
+}
+
+// A connection that there may be becomes the client's.
+fn own(
+    owners: &mut BTreeMap<ConnectionId, ClientId>,
+    connection: Option<ConnectionId>,
+    client: &ClientId,
+) -> Result<(), AllocError>
+    ensures { OnOk result
+        ((q : ConnectionName) →
+        owners_at owners.new.entries q ≡ owned_by connection client.now (owners_at owners.old.entries) q) }
+{
+    if let Some(connection) = connection {
+        owners.insert(connection, client.clone()?)?;
+    }
+    Ok(())
+}

@@ -1,0 +1,145 @@
+// The tables that frozen bytes stand for.
+
+ghost use Rattle.std.specs.Prelude.{◌≡◌, ◌<◌, ◌≤◌, [], length, IfOk, OnOk};
+ghost use Rattle.packet_base.specs.Outcome.{Gives, Reads};
+ghost use Rattle.packet_base.specs.Reading.{number_at};
+ghost use Rattle.session_form.specs.Counted.{counted_at, items_behind, last_of, Adds};
+ghost use Rattle.subs_base.specs.Content.{no_subscriptions};
+ghost use Rattle.subs_base.specs.ListIndex.{content_of};
+ghost use Rattle.broker_rows.specs.Indexed.{all_set, all_told};
+ghost use Rattle.broker_form.specs.Form.{broker_at, is_behind, retained_at, topic_follows};
+ghost use Rattle.broker_tables.specs.Tables.{IsTied, state_in};
+ghost use Rattle.retained.specs.Retained.{IsRising};
+ghost use Rattle.broker.specs.Inside.{AreOwned, state_read};
+
+use crate::freezing::FORM;
+use crate::reading::{OUT_OF_MEMORY, read_topic};
+use crate::rows::Rows;
+use broker_form::thawed_is_in_range;
+use broker_tables::{ClientRow, Tables};
+use packet::{ClientId, QoS};
+use packet_base::{Reader, Stop};
+use retained::{RetainedPublication, RetainedStore};
+use session_form::keep;
+use std::alloc::{AllocError, Global};
+use std::collections::BTreeMap;
+use subs::{ListIndex, SubIndex};
+use topics::{Filter, TopicName};
+
+/// The most topics of which a publication is retained.
+const MAX_TOPICS: usize = 16_384;
+
+// The tables of the broker that bytes stand for. All that is not of the form stops the reading.
+pub(crate) fn thawed_tables(alloc: Global, bytes: &[u8]) -> Result<Tables, Stop>
+    ensures exact { Gives state_in result (broker_at bytes.now) }
+    ensures tied { IfOk result IsTied }
+{
+    thawed_is_in_range();
+    let (rows, retained) = read_broker(alloc, bytes)?;
+    let index = index_of(alloc, &rows.sessions)?;
+    Ok(Tables {
+        sessions: rows.sessions,
+        owners: rows.owners,
+        index,
+        retained,
+        alloc,
+    })
+}
+
+// What is in the bytes, in turn.
+#[tactic(auto, unfolding(broker_form::specs::Form::broker_at))]
+fn read_broker(alloc: Global, bytes: &[u8]) -> Result<(Rows, RetainedStore), Stop>
+    ensures exact { Gives state_read result (broker_at bytes.now) }
+    ensures owned { IfOk result (λ read. AreOwned read.0) }
+{
+    let mut reader = Reader::new(bytes);
+    keep(reader.byte()? == FORM)?;
+    let rows = Rows::read(alloc, &mut reader)?;
+    let retained = read_retained(alloc, &mut reader)?;
+    reader.end()?;
+    Ok((rows, retained))
+}
+
+// ---- what is retained
+
+// As many topics as their count says, in rising order.
+#[tactic(auto, unfolding(session_form::specs::Counted::counted_at))]
+fn read_retained(alloc: Global, reader: &mut Reader) -> Result<RetainedStore, Stop>
+    ensures { Reads (λ x. x) result reader.new
+        (counted_at number_at topic_follows retained_at 16384 reader.old) }
+{
+    let count = reader.number()?;
+    keep(usize::from(count) <= MAX_TOPICS)?;
+    read_topics(alloc, count, reader)
+}
+
+// So many topics.
+fn read_topics(alloc: Global, count: u16, reader: &mut Reader) -> Result<RetainedStore, Stop>
+    requires { count ≤ 16384 }
+    ensures { Reads (λ x. x) result reader.new
+        (items_behind topic_follows retained_at count [] reader.old) }
+{
+    let mut retained = RetainedStore::new(alloc);
+    for _ in 0..count {
+        let (topic, kept) = read_topic(alloc, reader)?;
+        add_topic(&mut retained, topic, kept)?;
+    }
+    Ok(retained)
+}
+
+// One more topic, which is behind the last.
+fn add_topic(
+    retained: &mut RetainedStore,
+    topic: TopicName,
+    kept: RetainedPublication,
+) -> Result<(), Stop>
+    requires { length retained.old < 16384 }
+    ensures { Adds topic_follows retained.old (topic, kept) result retained.new }
+{
+    keep(is_behind(retained, &topic))?;
+    match retained.keep(topic, kept) {
+        Ok(()) => Ok(()),
+        Err(_) => Err(OUT_OF_MEMORY),
+    }
+}
+
+// Whether the topic is behind the last.
+fn is_behind(retained: &RetainedStore, topic: &TopicName) -> bool
+    ensures test { result ≡ is_behind (last_of retained.now) topic.now }
+    ensures rising { IsRising retained.now }
+{
+    match retained.iter().next_back() {
+        Some((last, _)) => last < topic,
+        None => true,
+    }
+}
+
+// ---- the index of subscriptions
+
+// An index that is told of each session's subscriptions.
+fn index_of(
+    alloc: Global,
+    sessions: &BTreeMap<ClientId, ClientRow>,
+) -> Result<ListIndex, AllocError>
+    ensures { IfOk result (λ index. content_of index ≡ all_told sessions.now.entries no_subscriptions) }
+{
+    let mut index = ListIndex::new(alloc);
+    for (client, row) in sessions {
+        set_all(&mut index, client, row.state.subscriptions())?;
+    }
+    Ok(index)
+}
+
+// The index is told of one client's subscriptions.
+fn set_all(
+    index: &mut ListIndex,
+    client: &ClientId,
+    held: &[(Filter, QoS)],
+) -> Result<(), AllocError>
+    ensures { OnOk result (content_of index.new ≡ all_set client.now held.now (content_of index.old)) }
+{
+    for (filter, qos) in held {
+        index.set(client, filter, *qos)?;
+    }
+    Ok(())
+}

@@ -1,0 +1,36 @@
+-- UsualStates.antt: a broker that begins is a usual one, and stays it.
+use Rattle.std.proofs.Common.{◌≡◌, ◌<◌, ◌^◌, arith, rules, refl}
+use Rattle.std.specs.List.Sorted.{IsStrictlySortedBy}
+use Rattle.broker_model.specs.Commands.{usual_limits}
+use Rattle.broker_model.specs.Logged.{IsBrokerCommand}
+use Rattle.broker_model.specs.declared.command.Command.{Command}
+use Rattle.broker_model.specs.declared.command.Command.TheVariants as commands
+use Rattle.broker_base.specs.State.{State, empty_state}
+use Rattle.broker_base.specs.Step.{step, window_after}
+use Rattle.broker_form.specs.FormLaws.{IsUsualState}
+use Rattle.broker_form.proofs.States.{stays_in_range}
+
+pub empty_is_usual : IsUsualState (empty_state 16)
+unfolding IsStrictlySortedBy
+empty_is_usual = (
+  record {
+    sound = record { by_client = tt; apart = tt; sessions = tt };
+    few_sessions = omega arith;
+    sessions = tt;
+    rising = tt;
+    few_topics = omega arith;
+    retained = tt;
+  },
+  refl,
+)
+
+pub stays_usual : (state : State) (command : Command) → IsUsualState state → IsBrokerCommand command → IsUsualState (step usual_limits 16 state command).0
+stays_usual state command usual good =
+    let small : usual_limits.entries < 2 ^ 16 = search rules in
+    (stays_in_range usual_limits 16 state command small good usual.0, window command usual.1)
+  where
+    window : (command : Command) → state.window ≡ 16 → window_after 16 command state.window ≡ 16
+    window (commands.Start ballot) e = refl
+    window (commands.Connect x c clean) e = e
+    window (commands.Packet x packet) e = e
+    window (commands.Lost x) e = e

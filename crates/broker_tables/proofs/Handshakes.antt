@@ -1,0 +1,64 @@
+-- Handshakes.antt: the step at a packet of a handshake, by the tables.
+use Rattle.std.proofs.Common.{◌≡◌, true, Some, refl, ap, ◌∙◌}
+use Rattle.std.specs.Prelude.{map}
+use Rattle.packet.specs.declared.packet.Packet.{Packet}
+use Rattle.packet.specs.declared.packet.Packet.TheVariants as packets
+use Rattle.session_base.specs.Session.{SessionState}
+use Rattle.broker_model.specs.Connection.{ConnectionName}
+use Rattle.broker_model.specs.Place.{Client, Mark}
+use Rattle.broker_model.specs.Commands.{usual_limits}
+use Rattle.broker_model.specs.declared.command.Command.TheVariants as commands
+use Rattle.broker_model.specs.declared.command.Output.TheVariants as outputs
+use Rattle.broker_base.specs.ClientSession.{ClientSession}
+use Rattle.broker_base.specs.Decisions.{owned_mark}
+use Rattle.broker_base.specs.StepAnswers.{handled_in, while_connected}
+use Rattle.broker_rows.specs.Served.{IsServed, with_session, holding}
+use Rattle.broker_rows.specs.PacketLaws.{handled_state}
+use Rattle.broker_rows.proofs.PacketSteps.{handled_step}
+use Rattle.broker_rows.proofs.ServedStep.{served_on}
+use Rattle.broker_tables.specs.declared.tables.Tables.{Tables}
+use Rattle.broker_tables.specs.Tables.{state_in, stepped}
+use Rattle.broker_tables.specs.Inside.{is_handshake, handshake_sends}
+
+-- it is handled
+handled : (tables : Tables) (c : Client) (kept : ClientSession) (packet : Packet) → is_handshake packet ≡ true →
+    owned_mark usual_limits (state_in tables) (c, kept) packet ≡ Mark.Handled c
+handled tables c kept (packets.Puback id) e = refl
+handled tables c kept (packets.Pubrec id) e = refl
+handled tables c kept (packets.Pubrel id) e = refl
+handled tables c kept (packets.Pubcomp id) e = refl
+handled tables c kept _ e = absurd (cc)
+
+-- the answers to its sender, which is connected
+answered : (x : ConnectionName) (kept : ClientSession) (packet : Packet) → is_handshake packet ≡ true → kept.connection ≡ Some x →
+    handled_in 16 x (Some kept) packet ≡ map (outputs.Send x) (handshake_sends packet kept.state)
+answered x kept (packets.Puback id) e on =
+    ap (λ connection. map (outputs.Send x) (while_connected connection (handshake_sends (packets.Puback id) kept.state))) on
+answered x kept (packets.Pubrec id) e on = refl
+answered x kept (packets.Pubrel id) e on = refl
+answered x kept (packets.Pubcomp id) e on =
+    ap (λ connection. map (outputs.Send x) (while_connected connection (handshake_sends (packets.Pubcomp id) kept.state))) on
+answered x kept _ e on = absurd (cc)
+
+-- the whole step
+pub handshake_step : (tables : Tables) (x : ConnectionName) (c : Client) (kept : ClientSession) (packet : Packet) →
+    IsServed (state_in tables) x c kept → is_handshake packet ≡ true →
+    stepped tables (commands.Packet x packet)
+    ≡ (
+      with_session c (Some (holding (handled_state 16 packet kept.state) kept)) (state_in tables),
+      map (outputs.Send x) (handshake_sends packet kept.state),
+    )
+unfolding stepped
+handshake_step tables x c kept packet served kind =
+    handled_step usual_limits 16 (state_in tables) x c kept served packet (handled tables c kept packet kind)
+    ∙ ap (λ answers. (with_session c (Some (holding (handled_state 16 packet kept.state) kept)) (state_in tables), answers))
+    (answered x kept packet kind (served_on (state_in tables) x c kept served))
+
+-- it leaves the subscriptions
+pub handshake_keeps_filters : (packet : Packet) (held : SessionState) → is_handshake packet ≡ true →
+    (handled_state 16 packet held).subscriptions ≡ held.subscriptions
+handshake_keeps_filters (packets.Puback id) held e = refl
+handshake_keeps_filters (packets.Pubrec id) held e = refl
+handshake_keeps_filters (packets.Pubrel id) held e = refl
+handshake_keeps_filters (packets.Pubcomp id) held e = refl
+handshake_keeps_filters _ held e = absurd (cc)

@@ -1,0 +1,85 @@
+-- Publications.antt: the step at a PUBLISH, by the tables.
+use Rattle.std.proofs.Common.{◌≡◌, ◌∙◌, ap, sym, true, false, List, [], ◌∷◌, ◌++◌}
+use Rattle.std.specs.BTreeMap.{is_at}
+use Rattle.std.specs.Map.{lookup}
+use Rattle.packet.specs.declared.publish.Publish.{Publish}
+use Rattle.packet.specs.declared.packet.Packet.TheVariants as packets
+use Rattle.session_base.specs.Publication.{publication_of}
+use Rattle.subs_base.specs.ListIndex.{content_of}
+use Rattle.subs_base.specs.Granted.{Row}
+use Rattle.broker_model.specs.Connection.{ConnectionName}
+use Rattle.broker_model.specs.Place.{Client}
+use Rattle.broker_model.specs.Retained.{retains}
+use Rattle.broker_model.specs.Answers.{acknowledged}
+use Rattle.broker_model.specs.Commands.{usual_limits}
+use Rattle.broker_model.specs.declared.command.Command.TheVariants as commands
+use Rattle.broker_model.specs.declared.command.Output.TheVariants as outputs
+use Rattle.broker_base.specs.ClientSession.{ClientSession}
+use Rattle.broker_base.specs.Decisions.{is_again}
+use Rattle.broker_rows.specs.Served.{IsServed}
+use Rattle.broker_rows.specs.Published.{granted_rows, changed, received_on, all_delivered, answered_in_turn}
+use Rattle.broker_rows.specs.PublishLaws.{is_refused_in}
+use Rattle.broker_rows.proofs.PacketSteps.{repeat_step}
+use Rattle.broker_rows.proofs.PublishSteps.{refused_step, taken_step}
+use Rattle.broker_rows.proofs.maps.PublishKeepsMaps.{publishing_keeps_owners, publishing_keeps_content}
+use Rattle.broker_tables.specs.declared.tables.Tables.{Tables}
+use Rattle.broker_tables.specs.Tables.{by_connection, state_in, stepped, IsTied}
+use Rattle.broker_tables.proofs.Losses.{loss_step}
+use Rattle.broker_tables.proofs.TiesOfRows.{tied_to}
+
+module _ (tables : Tables) (x : ConnectionName) (c : Client) (kept : ClientSession) (served : IsServed (state_in tables) x c kept) (p : Publish) where
+  -- another try
+  pub repeat_of : is_again kept p.delivery ≡ true →
+      stepped tables (commands.Packet x (packets.Publish p)) ≡ (state_in tables, acknowledged x p.delivery)
+  unfolding stepped
+  repeat_of again = repeat_step usual_limits 16 (state_in tables) x c kept served p again
+
+  -- one for which there is no room
+  pub refused_of : is_again kept p.delivery ≡ false → is_refused_in usual_limits (state_in tables) (publication_of p) ≡ true →
+      stepped tables (commands.Packet x (packets.Publish p)) ≡ ((stepped tables (commands.Lost x)).0, outputs.Close x ∷ [])
+  unfolding stepped
+  refused_of new refused =
+      refused_step usual_limits 16 (state_in tables) x c kept served p new refused
+      ∙ ap (λ s. (s, outputs.Close x ∷ [])) (sym (ap (λ q. q.0) (loss_step tables x c kept served)))
+
+  -- the sessions behind one that is taken
+  abbrev pub sessions_behind : List Row → Tables → Type 0
+  sessions_behind granted after =
+      after.sessions.entries ≡ all_delivered 16 (publication_of p) granted (changed c (received_on p.delivery) tables.sessions.entries)
+
+  -- one that is taken
+  pub taken_of : is_again kept p.delivery ≡ false → is_refused_in usual_limits (state_in tables) (publication_of p) ≡ false →
+      (granted : List Row) → granted ≡ granted_rows p.topic tables.sessions.entries →
+      stepped tables (commands.Packet x (packets.Publish p))
+      ≡ (
+        record {
+          window = 16;
+          sessions = all_delivered 16 (publication_of p) granted (changed c (received_on p.delivery) tables.sessions.entries);
+          retained = retains (publication_of p) tables.retained;
+        },
+        acknowledged x p.delivery
+            ++ answered_in_turn 16 (publication_of p) granted (changed c (received_on p.delivery) tables.sessions.entries),
+      )
+  unfolding stepped
+  taken_of new taken granted is =
+      taken_step usual_limits 16 (state_in tables) x c kept served p new taken
+      ∙ ap (λ rows. (
+        record {
+          window = 16;
+          sessions = all_delivered 16 (publication_of p) rows (changed c (received_on p.delivery) tables.sessions.entries);
+          retained = retains (publication_of p) tables.retained;
+        },
+        acknowledged x p.delivery
+            ++ answered_in_turn 16 (publication_of p) rows (changed c (received_on p.delivery) tables.sessions.entries),
+      )) (sym is)
+
+-- the ties behind it
+pub ties_of_taken : (tables after : Tables) (c : Client) (p : Publish) (granted : List Row) → IsTied tables →
+    after.sessions.entries ≡ all_delivered 16 (publication_of p) granted (changed c (received_on p.delivery) tables.sessions.entries) →
+    after.owners.entries ≡ tables.owners.entries → content_of after.index ≡ content_of tables.index → IsTied after
+ties_of_taken tables after c p granted tied is owners index =
+    tied_to after (all_delivered 16 (publication_of p) granted (changed c (received_on p.delivery) tables.sessions.entries)) is
+    (λ q.
+    ap (lookup (is_at (by_connection q))) owners ∙ tied.owners q
+    ∙ sym (publishing_keeps_owners 16 (publication_of p) granted c p.delivery tables.sessions.entries q))
+    (index ∙ tied.index ∙ sym (publishing_keeps_content 16 (publication_of p) granted c p.delivery tables.sessions.entries))

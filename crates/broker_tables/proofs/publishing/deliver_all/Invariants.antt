@@ -1,0 +1,12 @@
+-- What was delivered so far, and what is still to come, make the whole.
+use Rattle.std.proofs.Common.{◌≡◌, ◌++◌}
+use Rattle.std.specs.Prelude.{drop}
+use Rattle.broker_rows.specs.Published.{all_delivered, answered_in_turn}
+use Rattle.broker_tables.proofs.publishing.deliver_all.Given as goal
+
+abbrev pub invariant-loop-row : goal.invariant-loop-row
+invariant-loop-row l =
+    (all_delivered 16 l.publication (drop l.row-index l.granted) l.sessions.entries
+    ≡ all_delivered 16 l.publication l.granted l.fn.sessions.entries)
+    × (l.out.items ++ answered_in_turn 16 l.publication (drop l.row-index l.granted) l.sessions.entries
+    ≡ l.fn.out.items ++ answered_in_turn 16 l.publication l.granted l.fn.sessions.entries)

@@ -1,0 +1,13 @@
+-- What came so far, and what is still to come, make the whole.
+use Rattle.std.proofs.Common.{◌≡◌, ◌++◌}
+use Rattle.session_base.specs.Queue.{copies_left}
+use Rattle.session_base.specs.Sending.{copies_sent}
+use Rattle.session_base.specs.Session.{with_queue}
+use Rattle.broker_tables.proofs.retained_copies.take_copies.Given as goal
+
+abbrev pub invariant-loop-copy : goal.invariant-loop-copy
+invariant-loop-copy l =
+    (with_queue (copies_left 16 l.copy-iterator.rest.items l.session.queue) l.session
+    ≡ with_queue (copies_left 16 l.fn.copies.items l.fn.session.queue) l.fn.session)
+    × (l.sent.items ++ copies_sent 16 l.copy-iterator.rest.items l.session.queue
+    ≡ l.fn.sent.items ++ copies_sent 16 l.fn.copies.items l.fn.session.queue)

@@ -1,0 +1,36 @@
+-- One row is inserted, and the maps follow.
+use Rattle.std.proofs.Common.{◌∙◌, ◌++◌, ap, sym}
+use Rattle.std.specs.BTreeMap.{insert_entry}
+use Rattle.subs_base.specs.Content.{without_client}
+use Rattle.broker_model.specs.Place.{by_bytes}
+use Rattle.broker_tables.proofs.Connects.{beginning_of, ties_of_beginning}
+use Rattle.broker_tables.proofs.tables.Tables.begin.Goals as goal
+
+pub returns-clause-state : goal.returns-clause-state
+returns-clause-state c =
+    let t = c.args.self.now in
+    (λ i. record {
+      window = 16;
+      sessions = (c.in_ok-insert.ensures.entries
+          ∙ (λ j. insert_entry by_bytes (c.in_ok-welcome.ensures.others.sessions j) (c.in_ok-clone.ensures.cases j) (c.new-row.ensures j))) i;
+      retained = c.in_ok-welcome.ensures.others.retained i;
+    })
+    ∙ sym (ap (λ p. p.0)
+    (beginning_of t c.args.connection c.args.client.now c.args.clean c.requires.in_step c.requires.nobodys c.requires.admitted c.requires.begins))
+
+pub returns-clause-outputs : goal.returns-clause-outputs
+returns-clause-outputs c =
+    let t = c.args.self.now in
+    c.in_ok-welcome.ensures.outputs
+    ∙ ap (λ given. c.args.out.now.items ++ given)
+    (sym (ap (λ p. p.1)
+    (beginning_of t c.args.connection c.args.client.now c.args.clean c.requires.in_step c.requires.nobodys c.requires.admitted c.requires.begins)))
+
+pub returns-clause-tied : goal.returns-clause-tied
+returns-clause-tied c =
+    let t = c.args.self.now in
+    ties_of_beginning t c.args.connection c.args.client.now c.args.clean c.requires.in_step c.requires.nobodys _
+    (c.in_ok-insert.ensures.entries
+    ∙ (λ j. insert_entry by_bytes (c.in_ok-welcome.ensures.others.sessions j) (c.in_ok-clone.ensures.cases j) (c.new-row.ensures j)))
+    c.in_ok-welcome.ensures.owners
+    (c.drop_client.ensures ∙ ap (λ content. without_client content c.args.client.now) c.in_ok-welcome.ensures.others.index)

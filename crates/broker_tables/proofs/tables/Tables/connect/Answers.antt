@@ -1,0 +1,33 @@
+-- On somebody's connection it is a violation, and on a full broker it is turned away.
+use Rattle.std.proofs.Common.{◌∙◌, ◌++◌, ap, sym}
+use Rattle.broker_tables.proofs.Connects.{further_by, full_of, not_there}
+use Rattle.broker_tables.proofs.tables.Tables.connect.Goals as goal
+
+pub returns-then-contains_key-clause-state : goal.returns-then-contains_key-clause-state
+returns-then-contains_key-clause-state c =
+    c.in_ok-expel.ensures.state
+    ∙ sym (ap (λ p. p.0)
+    (further_by c.args.self.now c.args.connection c.args.client.now c.args.clean c.requires (sym c.contains_key.ensures ∙ c.if-contains_key.true)))
+
+pub returns-then-contains_key-clause-outputs : goal.returns-then-contains_key-clause-outputs
+returns-then-contains_key-clause-outputs c =
+    c.in_ok-expel.ensures.outputs
+    ∙ ap (λ given. c.args.out.now.items ++ given)
+    (sym (ap (λ p. p.1)
+    (further_by c.args.self.now c.args.connection c.args.client.now c.args.clean c.requires (sym c.contains_key.ensures ∙ c.if-contains_key.true))))
+
+pub returns-in_ok-turn_away-in-TurnedAway-clause-state : goal.returns-in_ok-turn_away-in-TurnedAway-clause-state
+returns-in_ok-turn_away-in-TurnedAway-clause-state c =
+    sym (ap (λ p. p.0)
+    (full_of c.args.self.now c.args.connection c.args.client.now c.args.clean c.requires
+    (not_there c.args.self.now c.args.connection c.requires (sym c.contains_key.ensures ∙ c.if-contains_key.false))
+    (c.admission.ensures.full c.in-TurnedAway.is)))
+
+pub returns-in_ok-turn_away-in-TurnedAway-clause-outputs : goal.returns-in_ok-turn_away-in-TurnedAway-clause-outputs
+returns-in_ok-turn_away-in-TurnedAway-clause-outputs c =
+    c.in_ok-turn_away-in-TurnedAway.ensures
+    ∙ ap (λ given. c.args.out.now.items ++ given)
+    (sym (ap (λ p. p.1)
+    (full_of c.args.self.now c.args.connection c.args.client.now c.args.clean c.requires
+    (not_there c.args.self.now c.args.connection c.requires (sym c.contains_key.ensures ∙ c.if-contains_key.false))
+    (c.admission.ensures.full c.in-TurnedAway.is))))

@@ -1,0 +1,99 @@
+-- By what becomes of the publication: another try, a refused one, a taken one.
+use Rattle.std.proofs.Common.{◌≡◌, ◌∙◌, ◌++◌, ap, sym, true, false}
+use Rattle.std.proofs.lemmas.List.{append_assoc}
+use Rattle.session_base.specs.Publication.{publication_of}
+use Rattle.broker_model.specs.Answers.{acknowledged}
+use Rattle.broker_model.specs.Retained.{retains}
+use Rattle.broker_model.specs.Commands.{usual_limits}
+use Rattle.broker_rows.specs.Published.{all_delivered, answered_in_turn, changed, received_on}
+use Rattle.broker_rows.specs.PublishLaws.{is_refused_in}
+use Rattle.broker_tables.specs.Tables.{state_in}
+use Rattle.broker_tables.proofs.FoundByMaps.{has_session, is_served}
+use Rattle.broker_tables.proofs.Publications.{repeat_of, refused_of, taken_of, ties_of_taken}
+use Rattle.broker_tables.proofs.tables.Tables.publish.Goals as goal
+
+pub index-requires : goal.index-requires
+index-requires c = has_session c.args.self.now c.args.connection c.args.client.now c.requires.in_step c.requires.served
+
+pub returns-then-is_again-clause-state : goal.returns-then-is_again-clause-state
+returns-then-is_again-clause-state c =
+    let t = c.args.self.now in
+    let kept = c.index.result.now in
+    let served = is_served t c.args.connection c.args.client.now kept c.requires.in_step c.requires.served c.index.ensures in
+    sym (ap (λ p. p.0)
+    (repeat_of t c.args.connection c.args.client.now kept served c.args.publish.now (sym c.is_again.ensures ∙ c.if-is_again.true)))
+
+pub returns-then-is_again-clause-outputs : goal.returns-then-is_again-clause-outputs
+returns-then-is_again-clause-outputs c =
+    let t = c.args.self.now in
+    let kept = c.index.result.now in
+    let served = is_served t c.args.connection c.args.client.now kept c.requires.in_step c.requires.served c.index.ensures in
+    c.in_ok-acknowledge.ensures
+    ∙ ap (λ given. c.args.out.now.items ++ given)
+    (sym (ap (λ p. p.1)
+    (repeat_of t c.args.connection c.args.client.now kept served c.args.publish.now (sym c.is_again.ensures ∙ c.if-is_again.true))))
+
+pub returns-then-refuses-clause-state : goal.returns-then-refuses-clause-state
+returns-then-refuses-clause-state c =
+    let t = c.args.self.now in
+    let kept = c.index.result.now in
+    let served = is_served t c.args.connection c.args.client.now kept c.requires.in_step c.requires.served c.index.ensures in
+    let refused : is_refused_in usual_limits (state_in t) (publication_of c.args.publish.now) ≡ true
+    = ap (is_refused_in usual_limits (state_in t)) (sym c.in_ok-publication.ensures) ∙ sym c.refuses.ensures ∙ c.if-refuses.true in
+    c.in_ok-expel.ensures.state
+    ∙ sym (ap (λ p. p.0)
+    (refused_of t c.args.connection c.args.client.now kept served c.args.publish.now (sym c.is_again.ensures ∙ c.if-is_again.false) refused))
+
+pub returns-then-refuses-clause-outputs : goal.returns-then-refuses-clause-outputs
+returns-then-refuses-clause-outputs c =
+    let t = c.args.self.now in
+    let kept = c.index.result.now in
+    let served = is_served t c.args.connection c.args.client.now kept c.requires.in_step c.requires.served c.index.ensures in
+    let refused : is_refused_in usual_limits (state_in t) (publication_of c.args.publish.now) ≡ true
+    = ap (is_refused_in usual_limits (state_in t)) (sym c.in_ok-publication.ensures) ∙ sym c.refuses.ensures ∙ c.if-refuses.true in
+    c.in_ok-expel.ensures.outputs
+    ∙ ap (λ given. c.args.out.now.items ++ given)
+    (sym (ap (λ p. p.1)
+    (refused_of t c.args.connection c.args.client.now kept served c.args.publish.now (sym c.is_again.ensures ∙ c.if-is_again.false) refused)))
+
+pub returns-clause-state : goal.returns-clause-state
+returns-clause-state c =
+    let t = c.args.self.now in
+    let kept = c.index.result.now in
+    let served = is_served t c.args.connection c.args.client.now kept c.requires.in_step c.requires.served c.index.ensures in
+    let taken : is_refused_in usual_limits (state_in t) (publication_of c.args.publish.now) ≡ false
+    = ap (is_refused_in usual_limits (state_in t)) (sym c.in_ok-publication.ensures) ∙ sym c.refuses.ensures ∙ c.if-refuses.false in
+    (λ i. record {
+      window = 16;
+      sessions = (c.in_ok-deliver_all.ensures.state
+          ∙ (λ j. all_delivered 16 (c.in_ok-publication.ensures j) (c.deref-2.ensures.value j) (c.in_ok-note.ensures.sessions j))) i;
+      retained = (c.in_ok-retain.ensures ∙ (λ j. retains (c.in_ok-publication.ensures j) (c.in_ok-note.ensures.others.retained j))) i;
+    })
+    ∙ sym (ap (λ p. p.0)
+    (taken_of t c.args.connection c.args.client.now kept served c.args.publish.now (sym c.is_again.ensures ∙ c.if-is_again.false) taken
+    c.in_ok-granted.granted.items c.in_ok-granted.ensures))
+
+pub returns-clause-outputs : goal.returns-clause-outputs
+returns-clause-outputs c =
+    let t = c.args.self.now in
+    let kept = c.index.result.now in
+    let served = is_served t c.args.connection c.args.client.now kept c.requires.in_step c.requires.served c.index.ensures in
+    let taken : is_refused_in usual_limits (state_in t) (publication_of c.args.publish.now) ≡ false
+    = ap (is_refused_in usual_limits (state_in t)) (sym c.in_ok-publication.ensures) ∙ sym c.refuses.ensures ∙ c.if-refuses.false in
+    c.in_ok-deliver_all.ensures.outputs
+    ∙ (λ i. c.in_ok-acknowledge-2.ensures i
+    ++ answered_in_turn 16 (c.in_ok-publication.ensures i) (c.deref-2.ensures.value i) (c.in_ok-note.ensures.sessions i))
+    ∙ append_assoc c.args.out.now.items (acknowledged c.args.connection c.args.publish.now.delivery)
+    (answered_in_turn 16 (publication_of c.args.publish.now) c.in_ok-granted.granted.items
+    (changed c.args.client.now (received_on c.args.publish.now.delivery) t.sessions.entries))
+    ∙ ap (λ given. c.args.out.now.items ++ given)
+    (sym (ap (λ p. p.1)
+    (taken_of t c.args.connection c.args.client.now kept served c.args.publish.now (sym c.is_again.ensures ∙ c.if-is_again.false) taken
+    c.in_ok-granted.granted.items c.in_ok-granted.ensures)))
+
+pub returns-clause-tied : goal.returns-clause-tied
+returns-clause-tied c =
+    ties_of_taken c.args.self.now _ c.args.client.now c.args.publish.now c.in_ok-granted.granted.items c.requires.in_step.tied
+    (c.in_ok-deliver_all.ensures.state
+    ∙ (λ j. all_delivered 16 (c.in_ok-publication.ensures j) (c.deref-2.ensures.value j) (c.in_ok-note.ensures.sessions j)))
+    c.in_ok-note.ensures.others.owners c.in_ok-note.ensures.others.index

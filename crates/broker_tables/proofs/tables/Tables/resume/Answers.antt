@@ -1,0 +1,47 @@
+-- The client's session goes on, and the map of connections follows.
+use Rattle.std.proofs.Common.{◌∙◌, ◌++◌, ap, sym, true, false, [], ◌∷◌}
+use Rattle.std.proofs.lemmas.List.{append_assoc}
+use Rattle.std.specs.Prelude.{map}
+use Rattle.broker_model.specs.Answers.{closed, welcome}
+use Rattle.broker_model.specs.declared.command.Output.TheVariants as outputs
+use Rattle.broker_base.specs.State.{session_in}
+use Rattle.broker_base.specs.StepAnswers.{connection_of}
+use Rattle.broker_base.specs.SessionStep.{kept_resumed}
+use Rattle.broker_rows.specs.Published.{changed}
+use Rattle.broker_tables.specs.Connecting.{sent_to_resumed}
+use Rattle.broker_tables.specs.Tables.{owners_at}
+use Rattle.broker_tables.proofs.Connects.{resuming_of, ties_of_resuming}
+use Rattle.broker_tables.proofs.tables.Tables.resume.Goals as goal
+
+pub returns-clause-state : goal.returns-clause-state
+returns-clause-state c =
+    (λ i. record {
+      window = 16;
+      sessions = (c.in_ok-go_on.ensures.sessions
+          ∙ (λ j. changed c.args.client.now (kept_resumed 16 (c.args.connection, false)) (c.in_ok-welcome.ensures.others.sessions j))) i;
+      retained = (c.in_ok-go_on.ensures.others.retained ∙ c.in_ok-welcome.ensures.others.retained) i;
+    })
+    ∙ sym (ap (λ p. p.0)
+    (resuming_of c.args.self.now c.args.connection c.args.client.now c.args.clean c.requires.in_step c.requires.nobodys c.requires.goes_on))
+
+pub returns-clause-outputs : goal.returns-clause-outputs
+returns-clause-outputs c =
+    let t = c.args.self.now in
+    let greeting = closed (connection_of (session_in c.args.client.now t.sessions.entries)) in
+    let sent = map (outputs.Send c.args.connection) (sent_to_resumed (session_in c.args.client.now t.sessions.entries)) in
+    c.in_ok-go_on.ensures.sends
+    ∙ (λ i. c.in_ok-welcome.ensures.outputs i
+    ++ map (outputs.Send c.args.connection) (sent_to_resumed (session_in c.args.client.now (c.in_ok-welcome.ensures.others.sessions i))))
+    ∙ append_assoc c.args.out.now.items (greeting ++ welcome c.args.connection true ∷ []) sent
+    ∙ ap (λ given. c.args.out.now.items ++ given)
+    (append_assoc greeting (welcome c.args.connection true ∷ []) sent
+    ∙ sym (ap (λ p. p.1)
+    (resuming_of t c.args.connection c.args.client.now c.args.clean c.requires.in_step c.requires.nobodys c.requires.goes_on)))
+
+pub returns-clause-tied : goal.returns-clause-tied
+returns-clause-tied c =
+    ties_of_resuming c.args.self.now c.args.connection c.args.client.now c.args.clean c.requires.in_step c.requires.nobodys _ c.requires.goes_on
+    (c.in_ok-go_on.ensures.sessions
+    ∙ (λ j. changed c.args.client.now (kept_resumed 16 (c.args.connection, false)) (c.in_ok-welcome.ensures.others.sessions j)))
+    (λ q. ap (λ entries. owners_at entries q) c.in_ok-go_on.ensures.others.owners ∙ c.in_ok-welcome.ensures.owners q)
+    (c.in_ok-go_on.ensures.others.index ∙ c.in_ok-welcome.ensures.others.index)

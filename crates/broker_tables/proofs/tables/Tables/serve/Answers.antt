@@ -1,0 +1,35 @@
+-- A violation ends the connection, and what is left is a PINGREQ.
+use Rattle.std.proofs.Common.{◌≡◌, ◌∙◌, ◌++◌, ap, sym}
+use Rattle.packet.specs.declared.packet.Packet.TheVariants as packets
+use Rattle.broker_model.specs.declared.command.Command.TheVariants as commands
+use Rattle.broker_tables.specs.Tables.{stepped}
+use Rattle.broker_tables.proofs.Packets.{violation_of, pingreq_of, only_pingreq}
+use Rattle.broker_tables.proofs.tables.Tables.serve.Goals as goal
+
+pub returns-then-is_violation-clause-state : goal.returns-then-is_violation-clause-state
+returns-then-is_violation-clause-state c =
+    c.in_ok-expel.ensures.state
+    ∙ sym (ap (λ p. p.0)
+    (violation_of c.args.self.now c.args.connection c.args.client.now c.args.packet.now c.requires.in_step c.requires.served
+    (sym c.is_violation.ensures ∙ c.if-is_violation.true)))
+
+pub returns-then-is_violation-clause-outputs : goal.returns-then-is_violation-clause-outputs
+returns-then-is_violation-clause-outputs c =
+    c.in_ok-expel.ensures.outputs
+    ∙ ap (λ given. c.args.out.now.items ++ given)
+    (sym (ap (λ p. p.1)
+    (violation_of c.args.self.now c.args.connection c.args.client.now c.args.packet.now c.requires.in_step c.requires.served
+    (sym c.is_violation.ensures ∙ c.if-is_violation.true))))
+
+pub returns-in_ok-push-in_default : goal.returns-in_ok-push-in_default
+returns-in_ok-push-in_default c =
+    let ping : c.args.packet.now ≡ packets.Pingreq
+    = only_pingreq c.args.packet.now (sym c.is_handshake.ensures ∙ c.if-is_handshake.false) (sym c.is_violation.ensures ∙ c.if-is_violation.false)
+    c.in_default.not-Publish c.in_default.not-Subscribe c.in_default.not-Unsubscribe in
+    let is = ap (λ packet. stepped c.args.self.now (commands.Packet c.args.connection packet)) ping
+    ∙ pingreq_of c.args.self.now c.args.connection c.args.client.now c.requires.in_step c.requires.served in
+    record {
+      state = sym (ap (λ p. p.0) is);
+      outputs = c.in_ok-push-in_default.ensures.items ∙ ap (λ given. c.args.out.now.items ++ given) (sym (ap (λ p. p.1) is));
+      tied = c.requires.in_step.tied;
+    }

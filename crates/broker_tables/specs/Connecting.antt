@@ -1,0 +1,33 @@
+-- Which Connect goes on with a session, and what its client is sent (MQTT 3.1.2.4, 4.4).
+use Rattle.std.specs.Prelude.{Bool, false, not, ◌&&◌, List, [], ◌++◌, Option, Some, None, ◌≡◌}
+use Rattle.packet.specs.declared.packet.Packet.{Packet}
+use Rattle.session_base.specs.Sending.{fill_sends, resend}
+use Rattle.broker_model.specs.Connection.{ConnectionName}
+use Rattle.broker_model.specs.Place.{Client}
+use Rattle.broker_base.specs.StepAnswers.{connection_of}
+use Rattle.broker_rows.specs.Owners.{with_owner, without_owner}
+use Rattle.broker_tables.specs.declared.tables.Tables.{Tables}
+use Rattle.broker_tables.specs.Tables.{owners_at}
+use Rattle.broker_base.specs.ClientSession.{ClientSession}
+use Rattle.broker_base.specs.State.{State, session_in}
+
+-- neither the session that there is nor the Connect is clean
+abbrev pub goes_on : Bool → Option ClientSession → Bool
+goes_on clean (Some kept) = not clean && not kept.clean
+goes_on clean None = false
+
+abbrev pub goes_on_in : State → Client → Bool → Bool
+goes_on_in state c clean = goes_on clean (session_in c state.sessions)
+
+-- what a client whose session goes on is sent of it (MQTT 4.4)
+abbrev pub sent_to_resumed : Option ClientSession → List Packet
+sent_to_resumed (Some kept) =
+    resend kept.state.queue.in_flight ++ fill_sends 16 kept.state.queue.in_flight kept.state.queue.waiting
+sent_to_resumed None = []
+
+-- the connection becomes the client's, and the one that it had is nobody's
+abbrev pub TakesOver : Tables → ConnectionName → Client → Tables → Type 0
+TakesOver tables x c after =
+    (q : ConnectionName) →
+    owners_at after.owners.entries q
+    ≡ with_owner x c (without_owner (connection_of (session_in c tables.sessions.entries)) (owners_at tables.owners.entries)) q

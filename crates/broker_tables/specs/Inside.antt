@@ -1,0 +1,54 @@
+-- Words of private calls: the steps of handshakes, and copies of publications.
+use Rattle.std.specs.Prelude.{◌≡◌, Bool, true, false, List, [], ◌∷◌}
+use Rattle.packet.specs.declared.qos.QoS.{QoS}
+use Rattle.packet.specs.declared.packet.Packet.{Packet}
+use Rattle.packet.specs.declared.packet.Packet.TheVariants as packets
+use Rattle.session_base.specs.declared.publication.Publication.{Publication}
+use Rattle.session_base.specs.Publication.{lower_qos}
+use Rattle.session_base.specs.Session.{SessionState}
+use Rattle.subs_base.specs.ListIndex.{content_of}
+use Rattle.broker_tables.specs.declared.tables.Tables.{Tables}
+use Rattle.session_base.specs.Queue.{on_puback, on_pubrec, on_pubcomp}
+use Rattle.session_base.specs.Sending.{fill_sends, pubrec_sends}
+
+-- whether a packet is a step of a handshake
+abbrev pub is_handshake : Packet → Bool
+is_handshake (packets.Puback id) = true
+is_handshake (packets.Pubrec id) = true
+is_handshake (packets.Pubrel id) = true
+is_handshake (packets.Pubcomp id) = true
+is_handshake _ = false
+
+-- whether it ends its connection: DISCONNECT, and what a client may not send (MQTT 3.1.0, 3.14.4, 4.8)
+abbrev pub is_violation : Packet → Bool
+is_violation (packets.Connect connect) = true
+is_violation (packets.Connack connack) = true
+is_violation (packets.Suback suback) = true
+is_violation (packets.Unsuback id) = true
+is_violation packets.Pingresp = true
+is_violation packets.Disconnect = true
+is_violation _ = false
+
+-- what its sender is sent for a step of a handshake
+abbrev pub handshake_sends : Packet → SessionState → List Packet
+handshake_sends (packets.Puback id) held = fill_sends 16 (on_puback id held.queue.in_flight) held.queue.waiting
+handshake_sends (packets.Pubrec id) held = pubrec_sends id (on_pubrec id held.queue.in_flight)
+handshake_sends (packets.Pubrel id) held = packets.Pubcomp id ∷ []
+handshake_sends (packets.Pubcomp id) held = fill_sends 16 (on_pubcomp id held.queue.in_flight) held.queue.waiting
+handshake_sends _ held = []
+
+-- the copy of a publication for who is granted it at this QoS (MQTT 3.3.1.3, 3.3.5)
+abbrev pub lowered : Publication → QoS → Publication
+lowered p qos = record { retain = false; qos = lower_qos p.qos qos; topic = p.topic; payload = p.payload }
+
+-- all but the sessions is as it was
+pub record HasOthersOf (tables after : Tables) : Type 0 where
+  pub owners : after.owners.entries ≡ tables.owners.entries
+  pub index : content_of after.index ≡ content_of tables.index
+  pub retained : after.retained ≡ tables.retained
+
+-- all but the map of connections is as it was
+pub record HasOthersThanOwners (tables after : Tables) : Type 0 where
+  pub sessions : after.sessions.entries ≡ tables.sessions.entries
+  pub index : content_of after.index ≡ content_of tables.index
+  pub retained : after.retained ≡ tables.retained

@@ -1,0 +1,45 @@
+-- The tables of a broker: the state that they show, and what ties them to each other.
+use Rattle.std.specs.Prelude.{◌≡◌, List}
+use Rattle.std.specs.declared.cmp.Ordering.{Ordering}
+use Rattle.std.specs.Ordering.{nat_cmp, ordering_then}
+use Rattle.std.specs.BTreeMap.{is_at}
+use Rattle.std.specs.Map.{lookup}
+use Rattle.subs_base.specs.ListIndex.{content_of}
+use Rattle.broker_model.specs.Connection.{ConnectionName}
+use Rattle.broker_model.specs.Place.{Client}
+use Rattle.broker_model.specs.Commands.{usual_limits}
+use Rattle.broker_model.specs.declared.command.Command.{Command}
+use Rattle.broker_model.specs.declared.command.Output.{Output}
+use Rattle.broker_base.specs.State.{State}
+use Rattle.broker_base.specs.StateLaws.{IsSound}
+use Rattle.broker_base.specs.Step.{step}
+use Rattle.broker_rows.specs.Owners.{Owners, owners_in}
+use Rattle.broker_rows.specs.Indexed.{content_in}
+use Rattle.broker_tables.specs.declared.tables.Tables.{Tables}
+
+-- connections come by ballot, then by number
+abbrev pub by_connection : ConnectionName → ConnectionName → Ordering
+by_connection x y = ordering_then (nat_cmp x.ballot y.ballot) (nat_cmp x.count y.count)
+
+-- the client of each connection, as the map of connections has it
+abbrev pub owners_at : List (ConnectionName × Client) → Owners
+owners_at entries x = lookup (is_at (by_connection x)) entries
+
+-- what a broker with these tables keeps of all its clients
+abbrev pub state_in : Tables → State
+state_in tables = record { window = 16; sessions = tables.sessions.entries; retained = tables.retained }
+
+-- the map of connections holds those of the sessions, and the index the subscriptions of the sessions
+pub record IsTied (tables : Tables) : Type 0 where
+  pub owners :
+      (x : ConnectionName) → owners_at tables.owners.entries x ≡ owners_in tables.sessions.entries x
+  pub index : content_of tables.index ≡ content_in tables.sessions.entries
+
+-- and the sessions are sound
+pub record IsInStep (tables : Tables) : Type 0 where
+  pub sound : IsSound (state_in tables)
+  pub tied : IsTied tables
+
+-- the state behind a command, and its answers
+unfoldable pub stepped : Tables → Command → State × List Output
+stepped tables command = step usual_limits 16 (state_in tables) command

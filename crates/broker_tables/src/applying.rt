@@ -1,0 +1,34 @@
+// One command of the log.
+
+ghost use Rattle.std.specs.Prelude.{◌≡◌, ◌++◌, OnOk};
+ghost use Rattle.broker_tables.specs.Tables.{IsInStep, IsTied, state_in, stepped};
+
+use crate::tables::Tables;
+use broker_model::{Command, Output};
+use machine::Halted;
+
+impl Tables {
+    /// Does one command.
+    pub fn apply(&mut self, command: &Command, out: &mut Vec<Output>) -> Result<(), Halted>
+        requires { IsInStep self.old }
+        ensures state { OnOk result (state_in self.new ≡ (stepped self.old command.now).0) }
+        ensures outputs { OnOk result
+            (out.new.items ≡ out.old.items ++ (stepped self.old command.now).1) }
+        ensures tied { OnOk result (IsTied self.new) }
+    {
+        match command {
+            Command::Connect(connection, client, clean) => {
+                self.connect(*connection, client, *clean, out)
+            }
+            Command::Packet(connection, packet) => self.packet(*connection, packet.packet(), out),
+            Command::Lost(connection) => {
+                self.lose(*connection);
+                Ok(())
+            }
+            Command::Start(ballot) => {
+                self.start(*ballot);
+                Ok(())
+            }
+        }
+    }
+}

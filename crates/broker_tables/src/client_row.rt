@@ -1,0 +1,42 @@
+// What is kept of one client.
+
+ghost use Rattle.std.specs.Prelude.{◌≡◌};
+ghost use Rattle.broker_base.specs.SessionStep.{kept_anew};
+
+use broker_model::ConnectionId;
+use session::Session;
+use std::alloc::Global;
+use std::marker::Model;
+
+/// A client's session, with the CleanSession flag of its CONNECT and the connection on which the
+/// client is served, if any.
+#[derive(Drop)]
+pub struct ClientRow {
+    /// CleanSession of the CONNECT that opened its connection last (MQTT 3.1.2.4).
+    pub clean: bool,
+    /// The connection on which the client is served.
+    pub connection: Option<ConnectionId>,
+    /// What stands in the session.
+    pub state: Session,
+}
+
+impl Model for ClientRow {
+    ghost use Rattle.broker_base.specs.ClientSession.{ClientSession};
+
+    ghost Value = { ClientSession };
+
+    ghost view = { λ row. record { clean = row.clean; connection = row.connection; state = row.state } };
+}
+
+impl ClientRow {
+    /// A session that begins on a connection, with nothing in it.
+    pub fn new(alloc: Global, connection: ConnectionId, clean: bool) -> ClientRow
+        ensures { result ≡ kept_anew (connection, clean) }
+    {
+        ClientRow {
+            clean,
+            connection: Some(connection),
+            state: Session::new(alloc),
+        }
+    }
+}

@@ -1,0 +1,277 @@
+// Connect: a client opens a connection (MQTT 3.1).
+
+ghost use Rattle.std.specs.Prelude.{◌≡◌, ◌++◌, [], ◌∷◌, true, false, Some, None, OnOk, IsSome, map};
+ghost use Rattle.broker_model.specs.Answers.{turned_away, closed, welcome};
+ghost use Rattle.broker_model.specs.Connection.{ConnectionName};
+ghost use Rattle.broker_model.specs.Commands.{usual_limits};
+ghost use Rattle.broker_model.specs.declared.command.Command.TheVariants as commands;
+ghost use Rattle.broker_model.specs.declared.command.Output.TheVariants as outputs;
+ghost use Rattle.broker_base.specs.SessionStep.{kept_resumed};
+ghost use Rattle.broker_base.specs.State.{session_in};
+ghost use Rattle.broker_base.specs.StepAnswers.{connection_of};
+ghost use Rattle.broker_rows.specs.Owners.{owners_in, with_owner, without_owner};
+ghost use Rattle.broker_rows.specs.ConnectLaws.{is_admitted, begins_in};
+ghost use Rattle.broker_tables.specs.Tables.{IsInStep, IsTied, owners_at, state_in, stepped};
+ghost use Rattle.broker_tables.specs.declared.connecting.Admission.TheVariants.{Begins, GoesOn, TurnedAway};
+ghost use Rattle.broker_rows.specs.Published.{changed};
+ghost use Rattle.broker_tables.specs.Inside.{HasOthersOf, HasOthersThanOwners};
+ghost use Rattle.broker_tables.specs.Connecting.{goes_on_in, sent_to_resumed, TakesOver};
+
+use crate::client_row::ClientRow;
+use crate::limits::{MAX_SESSIONS, WINDOW};
+use crate::sending::send_all;
+use crate::tables::Tables;
+use broker_model::{ConnectionId, Output};
+use machine::Halted;
+use packet::{ClientId, Connack, Packet, RefusalCode};
+use std::collections::BTreeMap;
+use subs::SubIndex;
+
+// What becomes of a Connect on a connection of nobody.
+#[derive(Clone, Copy, Debug, PartialEq, Eq)]
+pub(crate) enum Admission {
+    // A session begins.
+    Begins,
+    // The client's session goes on.
+    GoesOn,
+    // There are too many sessions.
+    TurnedAway,
+}
+
+impl Tables {
+    /// Does a Connect. On a connection that is somebody's it is a violation (MQTT 3.1.0).
+    pub(crate) fn connect(
+        &mut self,
+        connection: ConnectionId,
+        client: &ClientId,
+        clean: bool,
+        out: &mut Vec<Output>,
+    ) -> Result<(), Halted>
+        requires { IsInStep self.old }
+        ensures state { OnOk result
+            (state_in self.new ≡ (stepped self.old (commands.Connect connection client.now clean)).0) }
+        ensures outputs { OnOk result
+            (out.new.items
+            ≡ out.old.items ++ (stepped self.old (commands.Connect connection client.now clean)).1) }
+        ensures tied { OnOk result (IsTied self.new) }
+    {
+        if self.owners.contains_key(&connection) {
+            self.expel(connection, out)?;
+            return Ok(());
+        }
+        match self.admission(client, clean) {
+            Admission::Begins => self.begin(connection, client, clean, out)?,
+            Admission::GoesOn => self.resume(connection, client, clean, out)?,
+            Admission::TurnedAway => turn_away(connection, out)?,
+        }
+        Ok(())
+    }
+
+    // A session goes on where it is there and neither it nor the Connect is clean. Any other begins,
+    // if the client has one or there is a place for one more (MQTT 3.1.2.4).
+    fn admission(&self, client: &ClientId, clean: bool) -> Admission
+        ensures goes_on { result ≡ GoesOn → goes_on_in (state_in self.now) client.now clean ≡ true }
+        ensures begins { result ≡ Begins → begins_in (state_in self.now) client.now clean ≡ true }
+        ensures admitted { result ≡ Begins → is_admitted usual_limits (state_in self.now) client.now ≡ true }
+        ensures full { result ≡ TurnedAway
+            → is_admitted usual_limits (state_in self.now) client.now ≡ false }
+    {
+        match self.sessions.get(client) {
+            Some(row) => {
+                if clean || row.clean {
+                    Admission::Begins
+                } else {
+                    Admission::GoesOn
+                }
+            }
+            None => {
+                if self.sessions.len() < MAX_SESSIONS {
+                    Admission::Begins
+                } else {
+                    Admission::TurnedAway
+                }
+            }
+        }
+    }
+
+    // A session begins, with nothing in it; another of the client is over (MQTT 3.1.2.4).
+    fn begin(
+        &mut self,
+        connection: ConnectionId,
+        client: &ClientId,
+        clean: bool,
+        out: &mut Vec<Output>,
+    ) -> Result<(), Halted>
+        requires in_step { IsInStep self.old }
+        requires nobodys { owners_in self.old.sessions.entries connection ≡ None }
+        requires admitted { is_admitted usual_limits (state_in self.old) client.now ≡ true }
+        requires begins { begins_in (state_in self.old) client.now clean ≡ true }
+        ensures state { OnOk result
+            (state_in self.new ≡ (stepped self.old (commands.Connect connection client.now clean)).0) }
+        ensures outputs { OnOk result
+            (out.new.items
+            ≡ out.old.items ++ (stepped self.old (commands.Connect connection client.now clean)).1) }
+        ensures tied { OnOk result (IsTied self.new) }
+    {
+        self.welcome(connection, client, false, out)?;
+        let row = ClientRow::new(self.alloc, connection, clean);
+        self.sessions.insert(client.clone()?, row)?;
+        self.index.drop_client(client);
+        Ok(())
+    }
+
+    // The client is served on this connection from now on, and hears whether a session goes on
+    // (MQTT 3.2.2.2). The connection that it had is closed (MQTT 3.1.4).
+    fn welcome(
+        &mut self,
+        connection: ConnectionId,
+        client: &ClientId,
+        present: bool,
+        out: &mut Vec<Output>,
+    ) -> Result<(), Halted>
+        ensures owners { OnOk result (TakesOver self.old connection client.now self.new) }
+        ensures outputs { OnOk result
+            (out.new.items
+            ≡ out.old.items
+            ++ (closed (connection_of (session_in client.now self.old.sessions.entries))
+            ++ welcome connection present ∷ [])) }
+        ensures others { HasOthersThanOwners self.old self.new }
+    {
+        greet(self.connection_of(client), connection, present, out)?;
+        let left = self.connection_of(client);
+        take_over(&mut self.owners, left, connection, client)
+    }
+
+    // The connection on which a client is served, if it is.
+    fn connection_of(&self, client: &ClientId) -> Option<ConnectionId>
+        ensures { result ≡ connection_of (session_in client.now self.now.sessions.entries) }
+    {
+        match self.sessions.get(client) {
+            Some(row) => row.connection,
+            None => None,
+        }
+    }
+
+    // A session goes on, on a new connection: what is in flight is sent again, then what may start
+    // starts (MQTT 4.4).
+    fn resume(
+        &mut self,
+        connection: ConnectionId,
+        client: &ClientId,
+        clean: bool,
+        out: &mut Vec<Output>,
+    ) -> Result<(), Halted>
+        requires in_step { IsInStep self.old }
+        requires nobodys { owners_in self.old.sessions.entries connection ≡ None }
+        requires goes_on { goes_on_in (state_in self.old) client.now clean ≡ true }
+        ensures state { OnOk result
+            (state_in self.new ≡ (stepped self.old (commands.Connect connection client.now clean)).0) }
+        ensures outputs { OnOk result
+            (out.new.items
+            ≡ out.old.items ++ (stepped self.old (commands.Connect connection client.now clean)).1) }
+        ensures tied { OnOk result (IsTied self.new) }
+    {
+        self.welcome(connection, client, true, out)?;
+        self.go_on(connection, client, out)?;
+        Ok(())
+    }
+}
+
+impl Tables {
+    // The client's session goes on, on this connection, and the client is sent what it is sent of it.
+    fn go_on(
+        &mut self,
+        connection: ConnectionId,
+        client: &ClientId,
+        out: &mut Vec<Output>,
+    ) -> Result<(), Halted>
+        requires { IsSome (session_in client.now self.old.sessions.entries) }
+        ensures sessions { OnOk result
+            (self.new.sessions.entries
+            ≡ changed client.now (kept_resumed 16 (connection, false)) self.old.sessions.entries) }
+        ensures sends { OnOk result
+            (out.new.items
+            ≡ out.old.items
+            ++ map (outputs.Send connection)
+            (sent_to_resumed (session_in client.now self.old.sessions.entries))) }
+        ensures others { HasOthersOf self.old self.new }
+    {
+        let mut sent = Vec::new(self.alloc);
+        let row = self.sessions.get_mut(client).unwrap();
+        row.come_back(connection, &mut sent)?;
+        send_all(connection, sent, out)?;
+        Ok(())
+    }
+}
+
+impl ClientRow {
+    // A session that is not clean goes on, on this connection.
+    fn come_back(&mut self, connection: ConnectionId, sent: &mut Vec<Packet>) -> Result<(), Halted>
+        ensures state { OnOk result (self.new ≡ kept_resumed 16 (connection, false) self.old) }
+        ensures sends { OnOk result
+            (sent.new.items
+            ≡ sent.old.items ++ sent_to_resumed (Some self.old)) }
+    {
+        self.clean = false;
+        self.connection = Some(connection);
+        self.state.resend(sent)?;
+        self.state.fill(WINDOW, sent)?;
+        Ok(())
+    }
+}
+
+// A connection becomes the client's, and the one that it had is nobody's.
+fn take_over(
+    owners: &mut BTreeMap<ConnectionId, ClientId>,
+    left: Option<ConnectionId>,
+    connection: ConnectionId,
+    client: &ClientId,
+) -> Result<(), Halted>
+    ensures { OnOk result
+        ((q : ConnectionName) →
+        owners_at owners.new.entries q
+        ≡ with_owner connection client.now (without_owner left (owners_at owners.old.entries)) q) }
+{
+    release(owners, left);
+    owners.insert(connection, client.clone()?)?;
+    Ok(())
+}
+
+// A connection that there may be is nobody's.
+fn release(owners: &mut BTreeMap<ConnectionId, ClientId>, left: Option<ConnectionId>)
+    ensures { (q : ConnectionName) →
+        owners_at owners.new.entries q ≡ without_owner left (owners_at owners.old.entries) q }
+{
+    if let Some(left) = left {
+        owners.remove(&left);
+    }
+}
+
+// The connection that the client had is closed (MQTT 3.1.4), and the Connect is answered: whether a
+// session goes on (MQTT 3.2.2.2).
+fn greet(
+    left: Option<ConnectionId>,
+    connection: ConnectionId,
+    present: bool,
+    out: &mut Vec<Output>,
+) -> Result<(), Halted>
+    ensures { OnOk result
+        (out.new.items ≡ out.old.items ++ (closed left ++ welcome connection present ∷ [])) }
+{
+    if let Some(left) = left {
+        out.push(Output::Close(left))?;
+    }
+    out.push(Output::Send(connection, Packet::Connack(Connack::Accepted(present))))?;
+    Ok(())
+}
+
+// The answers to a Connect that would begin a session too many (MQTT 3.2.2.3).
+fn turn_away(connection: ConnectionId, out: &mut Vec<Output>) -> Result<(), Halted>
+    ensures { OnOk result
+        (out.new.items ≡ out.old.items ++ turned_away connection ∷ outputs.Close connection ∷ []) }
+{
+    let refused = Packet::Connack(Connack::Refused(RefusalCode::ServerUnavailable));
+    out.push(Output::Send(connection, refused))?;
+    out.push(Output::Close(connection))?;
+    Ok(())
+}

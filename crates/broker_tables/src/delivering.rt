@@ -1,0 +1,122 @@
+// Copies of publications on their way into sessions (MQTT 3.3.5, 4.6).
+
+ghost use Rattle.std.specs.Prelude.{◌≡◌, ◌++◌, [], ◌∷◌, false, Some, OnOk, IfOk};
+ghost use Rattle.packet.specs.declared.packet.Packet.TheVariants as packets;
+ghost use Rattle.session_base.specs.Publication.{publish_of, lower_qos, publication_of};
+ghost use Rattle.packet.specs.declared.qos.QoS.TheVariants as levels;
+ghost use Rattle.session_base.specs.Queue.{copies_left};
+ghost use Rattle.session_base.specs.Sending.{copies_sent};
+ghost use Rattle.session_base.specs.Session.{with_queue};
+ghost use Rattle.broker_base.specs.SessionStep.{copied_queue};
+ghost use Rattle.broker_base.specs.StepAnswers.{sent_on};
+ghost use Rattle.broker_rows.specs.Published.{delivered_on};
+ghost use Rattle.broker_tables.specs.Inside.{lowered};
+
+use crate::client_row::ClientRow;
+use crate::limits::WINDOW;
+use crate::sending::send_all;
+use broker_model::Output;
+use machine::Halted;
+use packet::{Delivery, Packet, Publish, QoS};
+use session::Session;
+use session_base::Publication;
+use std::alloc::AllocError;
+
+/// What a PUBLISH carries.
+pub(crate) fn publication_of(publish: &Publish) -> Result<Publication, AllocError>
+    ensures { IfOk result (λ publication. publication ≡ publication_of publish.now) }
+{
+    Ok(Publication {
+        retain: publish.retain,
+        qos: publish.delivery.qos(),
+        topic: publish.topic.clone()?,
+        payload: publish.payload.clone()?,
+    })
+}
+
+/// The lower QoS of two.
+pub(crate) fn lower(one: QoS, other: QoS) -> QoS
+    ensures { result ≡ lower_qos one other }
+{
+    if other.number() < one.number() {
+        other
+    } else {
+        one
+    }
+}
+
+// A copy of a publication for a subscriber: with RETAIN 0 (MQTT 3.3.1.3), at the lower QoS of the two.
+fn copy_at(publication: &Publication, qos: QoS) -> Result<Publication, AllocError>
+    ensures { IfOk result (λ copy. copy ≡ lowered publication.now qos) }
+{
+    Ok(Publication {
+        retain: false,
+        qos: lower(publication.qos, qos),
+        topic: publication.topic.clone()?,
+        payload: publication.payload.clone()?,
+    })
+}
+
+/// A copy comes to the session of a connected client: one of QoS 0 is sent at once, and behind any
+/// other what may start starts.
+pub(crate) fn take_copy(
+    session: &mut Session,
+    copy: Publication,
+    sent: &mut Vec<Packet>,
+) -> Result<(), Halted>
+    ensures state { OnOk result
+        (session.new ≡ with_queue (copies_left 16 (copy ∷ []) session.old.queue) session.old) }
+    ensures sends { OnOk result
+        (sent.new.items ≡ sent.old.items ++ copies_sent 16 (copy ∷ []) session.old.queue) }
+{
+    if copy.qos == QoS::AtMostOnce {
+        sent.push(unanswered(copy))?;
+        return Ok(());
+    }
+    // There is room for it where the publication is taken.
+    session.admit(copy)?;
+    session.fill(WINDOW, sent)?;
+    Ok(())
+}
+
+// The PUBLISH at QoS 0.
+fn unanswered(copy: Publication) -> Packet
+    ensures { copy.qos ≡ levels.AtMostOnce → result ≡ packets.Publish (publish_of false 0 copy) }
+{
+    Packet::Publish(Publish {
+        topic: copy.topic,
+        delivery: Delivery::AtMostOnce,
+        retain: copy.retain,
+        payload: copy.payload,
+    })
+}
+
+/// A publication that the client is granted at this QoS comes to its session. A client without a
+/// connection finds it there later, at QoS 1 and 2.
+pub(crate) fn deliver(
+    row: &mut ClientRow,
+    publication: &Publication,
+    qos: QoS,
+    out: &mut Vec<Output>,
+) -> Result<(), Halted>
+    ensures state { OnOk result (row.new ≡ delivered_on 16 publication.now qos row.old) }
+    ensures outputs { OnOk result
+        (out.new.items
+        ≡ out.old.items
+        ++ sent_on row.old.connection
+        (copies_sent 16 (lowered publication.now qos ∷ []) row.old.state.queue)) }
+{
+    let copy = copy_at(publication, qos)?;
+    match row.connection {
+        Some(connection) => {
+            let mut sent = Vec::new(*out.allocator());
+            take_copy(&mut row.state, copy, &mut sent)?;
+            send_all(connection, sent, out)
+        }
+        None if copy.qos == QoS::AtMostOnce => Ok(()),
+        None => {
+            row.state.admit(copy)?;
+            Ok(())
+        }
+    }
+}

@@ -1,0 +1,48 @@
+// The end of a connection: its loss, a DISCONNECT, and what MQTT forbids (MQTT 3.1.2.4, 3.14.4, 4.8).
+
+ghost use Rattle.std.specs.Prelude.{◌≡◌, ◌++◌, [], ◌∷◌, OnOk};
+ghost use Rattle.broker_model.specs.declared.command.Command.TheVariants as commands;
+ghost use Rattle.broker_model.specs.declared.command.Output.TheVariants as outputs;
+ghost use Rattle.broker_tables.specs.Tables.{IsInStep, IsTied, state_in, stepped};
+
+use crate::tables::Tables;
+use broker_model::{ConnectionId, Output};
+use machine::Halted;
+use subs::SubIndex;
+
+impl Tables {
+    /// A connection is over: its client is served nowhere, and a clean session is over with it, its
+    /// subscriptions too. A connection of nobody changes nothing.
+    pub(crate) fn lose(&mut self, connection: ConnectionId)
+        requires { IsInStep self.old }
+        ensures state { state_in self.new ≡ (stepped self.old (commands.Lost connection)).0 }
+        ensures tied { IsTied self.new }
+    {
+        let Some(client) = self.owners.remove(&connection) else {
+            return;
+        };
+        if self.sessions[&client].clean {
+            self.sessions.remove(&client);
+            self.index.drop_client(&client);
+            return;
+        }
+        let row = self.sessions.get_mut(&client).unwrap();
+        row.connection = None;
+    }
+
+    /// Closes a connection, which is over then.
+    pub(crate) fn expel(
+        &mut self,
+        connection: ConnectionId,
+        out: &mut Vec<Output>,
+    ) -> Result<(), Halted>
+        requires { IsInStep self.old }
+        ensures state { OnOk result (state_in self.new ≡ (stepped self.old (commands.Lost connection)).0) }
+        ensures outputs { OnOk result (out.new.items ≡ out.old.items ++ outputs.Close connection ∷ []) }
+        ensures tied { OnOk result (IsTied self.new) }
+    {
+        out.push(Output::Close(connection))?;
+        self.lose(connection);
+        Ok(())
+    }
+}

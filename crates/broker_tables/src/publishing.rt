@@ -1,0 +1,242 @@
+// PUBLISH: a client's publication, to everybody who subscribed to it (MQTT 3.3).
+
+ghost use Rattle.std.specs.Prelude.{◌≡◌, ◌++◌, false, Some, OnOk, IfOk, IfSome};
+ghost use Rattle.std.specs.List.{list_any};
+ghost use Rattle.packet.specs.declared.packet.Packet.TheVariants as packets;
+ghost use Rattle.broker_model.specs.declared.command.Command.TheVariants as commands;
+ghost use Rattle.broker_rows.specs.Owners.{owners_in};
+ghost use Rattle.broker_rows.specs.PublishLaws.{is_refused_in};
+ghost use Rattle.broker_tables.specs.Tables.{IsInStep, IsTied, state_in, stepped};
+ghost use Rattle.broker_tables.specs.Inside.{HasOthersOf};
+ghost use Rattle.broker_model.specs.Answers.{acknowledged};
+ghost use Rattle.broker_model.specs.Commands.{usual_limits};
+ghost use Rattle.broker_model.specs.Retained.{retains};
+ghost use Rattle.broker_base.specs.Decisions.{is_again, is_one_topic_over};
+ghost use Rattle.broker_base.specs.State.{session_in};
+ghost use Rattle.broker_rows.specs.Published.{is_full_at, all_delivered, answered_in_turn, changed, copy_answered, delivered_on, granted_rows, received_on};
+
+use crate::client_row::ClientRow;
+use crate::delivering::{deliver, lower, publication_of};
+use crate::tables::Tables;
+use broker_model::{ConnectionId, Output};
+use machine::Halted;
+use packet::{ClientId, Delivery, Packet, Publish, QoS};
+use retained::{RetainedPublication, RetainedStore};
+use session_base::Publication;
+use std::alloc::AllocError;
+use std::collections::BTreeMap;
+use subs::SubIndex;
+use topics::TopicName;
+
+impl Tables {
+    /// Does a PUBLISH of the client that is served on this connection: another try is answered once
+    /// more, one for which there is no room closes the connection, and any other is taken.
+    pub(crate) fn publish(
+        &mut self,
+        connection: ConnectionId,
+        client: &ClientId,
+        publish: &Publish,
+        out: &mut Vec<Output>,
+    ) -> Result<(), Halted>
+        requires in_step { IsInStep self.old }
+        requires served { owners_in self.old.sessions.entries connection ≡ Some client.now }
+        ensures state { OnOk result
+            (state_in self.new
+            ≡ (stepped self.old (commands.Packet connection (packets.Publish publish.now))).0) }
+        ensures outputs { OnOk result
+            (out.new.items
+            ≡ out.old.items
+            ++ (stepped self.old (commands.Packet connection (packets.Publish publish.now))).1) }
+        ensures tied { OnOk result (IsTied self.new) }
+    {
+        if is_again(&self.sessions[client], publish.delivery) {
+            acknowledge(connection, publish.delivery, out)?;
+            return Ok(());
+        }
+        let publication = publication_of(publish)?;
+        let granted = self.granted(&publish.topic)?;
+        if self.refuses(&publication, &granted) {
+            self.expel(connection, out)?;
+            return Ok(());
+        }
+        acknowledge(connection, publish.delivery, out)?;
+        self.note(client, publish.delivery)?;
+        deliver_all(&mut self.sessions, &publication, &granted, out)?;
+        retain(&mut self.retained, publication)?;
+        Ok(())
+    }
+
+    // The clients with a subscription that matches, each with the greatest QoS.
+    fn granted(&self, topic: &TopicName) -> Result<Vec<(ClientId, QoS)>, AllocError>
+        requires { IsInStep self.now }
+        ensures { IfOk result (λ rows. rows.items ≡ granted_rows topic.now self.now.sessions.entries) }
+    {
+        let mut rows = Vec::new(self.alloc);
+        self.index.granted(topic, &mut rows)?;
+        Ok(rows)
+    }
+
+    // Whether a session that is granted the publication lacks room for it, or it is one topic over.
+    fn refuses(&self, publication: &Publication, granted: &[(ClientId, QoS)]) -> bool
+        requires { granted.now ≡ granted_rows publication.now.topic self.now.sessions.entries }
+        ensures { result ≡ is_refused_in usual_limits (state_in self.now) publication.now }
+    {
+        is_any_full(&self.sessions, publication, granted)
+            || is_one_topic_over(&self.retained, publication)
+    }
+
+    // The publisher's session takes note of the identifier of a PUBLISH at QoS 2 (MQTT 4.3.3).
+    fn note(&mut self, client: &ClientId, delivery: Delivery) -> Result<(), Halted>
+        requires { IfSome (session_in client.now self.old.sessions.entries)
+            (λ kept. is_again kept delivery ≡ false) }
+        ensures sessions { OnOk result
+            (self.new.sessions.entries
+            ≡ changed client.now (received_on delivery) self.old.sessions.entries) }
+        ensures others { HasOthersOf self.old self.new }
+    {
+        if let Some(row) = self.sessions.get_mut(client) {
+            note(row, delivery)?;
+        }
+        Ok(())
+    }
+}
+
+// Whether a delivery is another try of one that the session took (MQTT 4.3.3).
+fn is_again(row: &ClientRow, delivery: Delivery) -> bool
+    ensures { result ≡ is_again row.now delivery }
+{
+    match delivery {
+        Delivery::ExactlyOnce(_, id) => row.state.is_received(id),
+        Delivery::AtMostOnce | Delivery::AtLeastOnce(_, _) => false,
+    }
+}
+
+// The answer to a PUBLISH, by its QoS (MQTT 3.3.4).
+fn acknowledge(
+    connection: ConnectionId,
+    delivery: Delivery,
+    out: &mut Vec<Output>,
+) -> Result<(), Halted>
+    ensures { OnOk result (out.new.items ≡ out.old.items ++ acknowledged connection delivery) }
+{
+    match delivery {
+        Delivery::AtMostOnce => {}
+        Delivery::AtLeastOnce(_, id) => out.push(Output::Send(connection, Packet::Puback(id)))?,
+        Delivery::ExactlyOnce(_, id) => out.push(Output::Send(connection, Packet::Pubrec(id)))?,
+    }
+    Ok(())
+}
+
+// The publisher's session takes note of the identifier of a PUBLISH at QoS 2 (MQTT 4.3.3).
+fn note(row: &mut ClientRow, delivery: Delivery) -> Result<(), Halted>
+    requires { is_again row.old delivery ≡ false }
+    ensures { OnOk result (row.new ≡ received_on delivery row.old) }
+{
+    if let Delivery::ExactlyOnce(_, id) = delivery {
+        row.state.inbound(id)?;
+    }
+    Ok(())
+}
+
+// Whether a session would have to queue the publication and is full.
+fn is_full_at(
+    sessions: &BTreeMap<ClientId, ClientRow>,
+    publication: &Publication,
+    granted: &(ClientId, QoS),
+) -> bool
+    ensures { result
+        ≡ is_full_at usual_limits publication.now granted.now.1
+        (session_in granted.now.0 sessions.now.entries) }
+{
+    let (client, qos) = granted;
+    match sessions.get(client) {
+        Some(row) => { lower(publication.qos, *qos) != QoS::AtMostOnce && row.state.room() == 0 }
+        None => false,
+    }
+}
+
+// Whether a session that is granted it would have to queue the publication and is full.
+fn is_any_full(
+    sessions: &BTreeMap<ClientId, ClientRow>,
+    publication: &Publication,
+    granted: &[(ClientId, QoS)],
+) -> bool
+    ensures { result
+        ≡ list_any
+        (λ row. is_full_at usual_limits publication.now row.1 (session_in row.0 sessions.now.entries))
+        granted.now }
+{
+    granted
+        .iter()
+        .any(|row| is_full_at(sessions, publication, row))
+}
+
+// Whether the publication is to be retained on a topic too many.
+fn is_one_topic_over(retained: &RetainedStore, publication: &Publication) -> bool
+    ensures { result ≡ is_one_topic_over usual_limits retained.now publication.now }
+{
+    publication.retain && retained.refuses(&publication.topic, &publication.payload)
+}
+
+// Each session that is granted the publication gets its copy, and each client what is sent of it.
+fn deliver_all(
+    sessions: &mut BTreeMap<ClientId, ClientRow>,
+    publication: &Publication,
+    granted: &[(ClientId, QoS)],
+    out: &mut Vec<Output>,
+) -> Result<(), Halted>
+    ensures state { OnOk result
+        (sessions.new.entries
+        ≡ all_delivered 16 publication.now granted.now sessions.old.entries) }
+    ensures outputs { OnOk result
+        (out.new.items
+        ≡ out.old.items ++ answered_in_turn 16 publication.now granted.now sessions.old.entries) }
+{
+    for row in granted {
+        deliver_to(sessions, publication, row, out)?;
+    }
+    Ok(())
+}
+
+// A session that is granted the publication gets its copy, and its client what is sent of it.
+fn deliver_to(
+    sessions: &mut BTreeMap<ClientId, ClientRow>,
+    publication: &Publication,
+    granted: &(ClientId, QoS),
+    out: &mut Vec<Output>,
+) -> Result<(), Halted>
+    ensures state { OnOk result
+        (sessions.new.entries
+        ≡ changed granted.now.0 (delivered_on 16 publication.now granted.now.1) sessions.old.entries) }
+    ensures outputs { OnOk result
+        (out.new.items
+        ≡ out.old.items
+        ++ copy_answered 16 publication.now granted.now.1
+        (session_in granted.now.0 sessions.old.entries)) }
+{
+    let (client, qos) = granted;
+    if let Some(row) = sessions.get_mut(client) {
+        deliver(row, publication, *qos, out)?;
+    }
+    Ok(())
+}
+
+// A publication with RETAIN 1 is kept (MQTT 3.3.1.3). There is a place for it where it is taken.
+fn retain(retained: &mut RetainedStore, publication: Publication) -> Result<(), Halted>
+    requires { is_one_topic_over usual_limits retained.old publication ≡ false }
+    ensures { OnOk result (retained.new ≡ retains publication retained.old) }
+{
+    if !publication.retain {
+        return Ok(());
+    }
+    if publication.payload.as_slice().is_empty() {
+        retained.remove(&publication.topic);
+        return Ok(());
+    }
+    let kept = RetainedPublication {
+        qos: publication.qos,
+        payload: publication.payload,
+    };
+    retained.keep(publication.topic, kept)?;
+    Ok(())
+}

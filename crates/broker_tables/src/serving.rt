@@ -1,0 +1,108 @@
+// Packets, and the clients that are served on the connections on which they come.
+
+ghost use Rattle.std.specs.Prelude.{◌≡◌, ◌++◌, Some, IfOk, OnOk};
+ghost use Rattle.broker_model.specs.declared.command.Command.TheVariants as commands;
+ghost use Rattle.broker_rows.specs.Owners.{owners_in};
+ghost use Rattle.broker_tables.specs.Inside.{is_handshake, is_violation};
+ghost use Rattle.broker_tables.specs.Tables.{IsInStep, IsTied, state_in, stepped};
+
+use crate::tables::Tables;
+use broker_model::{ConnectionId, Output};
+use machine::Halted;
+use packet::{ClientId, Packet};
+use std::alloc::AllocError;
+
+impl Tables {
+    /// Does a packet that came on a connection. On a connection of nobody it does nothing.
+    pub(crate) fn packet(
+        &mut self,
+        connection: ConnectionId,
+        packet: &Packet,
+        out: &mut Vec<Output>,
+    ) -> Result<(), Halted>
+        requires { IsInStep self.old }
+        ensures state { OnOk result
+            (state_in self.new ≡ (stepped self.old (commands.Packet connection packet.now)).0) }
+        ensures outputs { OnOk result
+            (out.new.items
+            ≡ out.old.items ++ (stepped self.old (commands.Packet connection packet.now)).1) }
+        ensures tied { OnOk result (IsTied self.new) }
+    {
+        match self.served(connection)? {
+            Some(client) => self.serve(connection, &client, packet, out)?,
+            None => {}
+        }
+        Ok(())
+    }
+
+    // Does a packet of the client that is served on this connection.
+    fn serve(
+        &mut self,
+        connection: ConnectionId,
+        client: &ClientId,
+        packet: &Packet,
+        out: &mut Vec<Output>,
+    ) -> Result<(), Halted>
+        requires in_step { IsInStep self.old }
+        requires served { owners_in self.old.sessions.entries connection ≡ Some client.now }
+        ensures state { OnOk result
+            (state_in self.new ≡ (stepped self.old (commands.Packet connection packet.now)).0) }
+        ensures outputs { OnOk result
+            (out.new.items
+            ≡ out.old.items ++ (stepped self.old (commands.Packet connection packet.now)).1) }
+        ensures tied { OnOk result (IsTied self.new) }
+    {
+        if is_handshake(packet) {
+            return self.handshake(connection, client, packet, out);
+        }
+        if is_violation(packet) {
+            self.expel(connection, out)?;
+            return Ok(());
+        }
+        match packet {
+            Packet::Publish(publish) => self.publish(connection, client, publish, out),
+            Packet::Subscribe(subscribe) => self.subscribe(connection, client, subscribe, out),
+            Packet::Unsubscribe(given_up) => self.unsubscribe(connection, client, given_up, out),
+            _ => {
+                out.push(Output::Send(connection, Packet::Pingresp))?;
+                Ok(())
+            }
+        }
+    }
+
+    /// The client that is served on a connection, if one is.
+    fn served(&self, connection: ConnectionId) -> Result<Option<ClientId>, AllocError>
+        requires { IsTied self.now }
+        ensures { IfOk result (λ client. client ≡ owners_in self.now.sessions.entries connection) }
+    {
+        match self.owners.get(&connection) {
+            Some(client) => Ok(Some(client.clone()?)),
+            None => Ok(None),
+        }
+    }
+}
+
+// Whether it is a step of a handshake.
+fn is_handshake(packet: &Packet) -> bool
+    ensures { result ≡ is_handshake packet.now }
+{
+    matches!(
+        packet,
+        Packet::Puback(_) | Packet::Pubrec(_) | Packet::Pubrel(_) | Packet::Pubcomp(_)
+    )
+}
+
+// Whether it ends its connection: DISCONNECT, and what a client may not send (MQTT 3.1.0, 4.8).
+fn is_violation(packet: &Packet) -> bool
+    ensures { result ≡ is_violation packet.now }
+{
+    matches!(
+        packet,
+        Packet::Connect(_)
+            | Packet::Connack(_)
+            | Packet::Suback(_)
+            | Packet::Unsuback(_)
+            | Packet::Pingresp
+            | Packet::Disconnect
+    )
+}

@@ -1,0 +1,55 @@
+// Start: a new ballot begins, and the connections of earlier ones are gone.
+
+ghost use Rattle.std.specs.Prelude.{◌≡◌, Some, None, if◌then◌else◌};
+ghost use Rattle.subs_base.specs.ListIndex.{content_of};
+ghost use Rattle.broker_model.specs.declared.command.Command.TheVariants as commands;
+ghost use Rattle.broker_rows.specs.Indexed.{all_dropped, clean_clients};
+ghost use Rattle.broker_rows.specs.ConnectLaws.{all_left_off};
+ghost use Rattle.broker_rows.specs.Served.{left_off};
+ghost use Rattle.broker_tables.specs.Tables.{IsInStep, IsTied, state_in, stepped};
+
+use crate::client_row::ClientRow;
+use crate::tables::Tables;
+use packet::ClientId;
+use std::collections::BTreeMap;
+use subs::{ListIndex, SubIndex};
+
+impl Tables {
+    /// Does a Start: nobody is served any more, and the clean sessions are over.
+    pub(crate) fn start(&mut self, ballot: u64)
+        requires { IsInStep self.old }
+        ensures state { state_in self.new ≡ (stepped self.old (commands.Start ballot)).0 }
+        ensures tied { IsTied self.new }
+    {
+        drop_clean(&mut self.index, &self.sessions);
+        leave_off_all(&mut self.sessions);
+        self.owners.clear();
+    }
+}
+
+// The index loses the clients of the clean sessions.
+fn drop_clean(index: &mut ListIndex, sessions: &BTreeMap<ClientId, ClientRow>)
+    ensures { content_of index.new
+        ≡ all_dropped (clean_clients sessions.now.entries) (content_of index.old) }
+{
+    for (client, row) in sessions {
+        if row.clean {
+            index.drop_client(client);
+        }
+    }
+}
+
+// Each session is left without a connection, or is over.
+fn leave_off_all(sessions: &mut BTreeMap<ClientId, ClientRow>)
+    ensures { sessions.new.entries ≡ all_left_off sessions.old.entries }
+{
+    sessions.retain(|_, row| stays(row));
+}
+
+// Leaves a session without a connection, and tells whether it stays.
+fn stays(row: &mut ClientRow) -> bool
+    ensures { left_off row.old ≡ if result then Some row.new else None }
+{
+    row.connection = None;
+    !row.clean
+}

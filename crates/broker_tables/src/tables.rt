@@ -1,0 +1,45 @@
+// What a broker keeps of all its clients.
+
+ghost use Rattle.std.specs.Prelude.{◌≡◌};
+ghost use Rattle.broker_base.specs.State.{empty_state};
+ghost use Rattle.broker_tables.specs.Tables.{IsTied, state_in};
+
+use crate::client_row::ClientRow;
+use broker_model::ConnectionId;
+use packet::ClientId;
+use retained::RetainedStore;
+use std::alloc::Global;
+use std::collections::BTreeMap;
+use subs::{ListIndex, SubIndex};
+
+/// The sessions by client, and the retained publications. The map of connections and the index of
+/// subscriptions say of them nothing new: they find a row without a walk over all.
+#[derive(Drop)]
+pub struct Tables {
+    /// By client.
+    pub sessions: BTreeMap<ClientId, ClientRow>,
+    /// The client of each current connection.
+    pub owners: BTreeMap<ConnectionId, ClientId>,
+    /// All clients' subscriptions.
+    pub index: ListIndex,
+    /// By topic.
+    pub retained: RetainedStore,
+    /// Where what is made for a command comes from.
+    pub alloc: Global,
+}
+
+impl Tables {
+    /// Tables with nothing in them.
+    pub fn new(alloc: Global) -> Tables
+        ensures state { state_in result ≡ empty_state 16 }
+        ensures tied { IsTied result }
+    {
+        Tables {
+            sessions: BTreeMap::new(alloc),
+            owners: BTreeMap::new(alloc),
+            index: ListIndex::new(alloc),
+            retained: RetainedStore::new(alloc),
+            alloc,
+        }
+    }
+}

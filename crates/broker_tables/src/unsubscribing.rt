@@ -1,0 +1,66 @@
+// UNSUBSCRIBE: a client gives up subscriptions (MQTT 3.10).
+
+ghost use Rattle.std.specs.Prelude.{◌≡◌, ◌++◌, Some, OnOk};
+ghost use Rattle.packet.specs.declared.packet.Packet.TheVariants as packets;
+ghost use Rattle.session_base.specs.Subscriptions.{without_filters};
+ghost use Rattle.session_base.specs.Session.{with_filters};
+ghost use Rattle.subs_base.specs.ListIndex.{content_of};
+ghost use Rattle.broker_model.specs.declared.command.Command.TheVariants as commands;
+ghost use Rattle.broker_rows.specs.Indexed.{all_cleared};
+ghost use Rattle.broker_rows.specs.Owners.{owners_in};
+ghost use Rattle.broker_tables.specs.Tables.{IsInStep, IsTied, state_in, stepped};
+
+use crate::tables::Tables;
+use broker_model::{ConnectionId, Output};
+use machine::Halted;
+use packet::{ClientId, Packet, Unsubscribe};
+use session::Session;
+use subs::{ListIndex, SubIndex};
+use topics::Filter;
+
+impl Tables {
+    /// Does an UNSUBSCRIBE of the client that is served on this connection.
+    pub(crate) fn unsubscribe(
+        &mut self,
+        connection: ConnectionId,
+        client: &ClientId,
+        unsubscribe: &Unsubscribe,
+        out: &mut Vec<Output>,
+    ) -> Result<(), Halted>
+        requires in_step { IsInStep self.old }
+        requires served { owners_in self.old.sessions.entries connection ≡ Some client.now }
+        ensures state { OnOk result
+            (state_in self.new
+            ≡ (stepped self.old (commands.Packet connection (packets.Unsubscribe unsubscribe.now))).0) }
+        ensures outputs { OnOk result
+            (out.new.items
+            ≡ out.old.items
+            ++ (stepped self.old (commands.Packet connection (packets.Unsubscribe unsubscribe.now))).1) }
+        ensures tied { OnOk result (IsTied self.new) }
+    {
+        let row = self.sessions.get_mut(client).unwrap();
+        give_up(&mut row.state, unsubscribe.filters.as_slice());
+        clear_all(&mut self.index, client, unsubscribe.filters.as_slice());
+        out.push(Output::Send(connection, Packet::Unsuback(unsubscribe.id)))?;
+        Ok(())
+    }
+}
+
+// The session gives up these filters, one by one.
+fn give_up(session: &mut Session, filters: &[Filter])
+    ensures { session.new
+        ≡ with_filters (without_filters filters.now session.old.subscriptions) session.old }
+{
+    for filter in filters {
+        session.unsubscribe(filter);
+    }
+}
+
+// And so does the index of the client.
+fn clear_all(index: &mut ListIndex, client: &ClientId, filters: &[Filter])
+    ensures { content_of index.new ≡ all_cleared client.now filters.now (content_of index.old) }
+{
+    for filter in filters {
+        index.clear(client, filter);
+    }
+}
