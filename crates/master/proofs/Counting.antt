@@ -12,22 +12,31 @@ use Rattle.ballot.specs.Protocol.Input.{Receives, Proposes}
 use Rattle.ballot.specs.Replica.{ReplicaState, is_active, status_of}
 use Rattle.ballot.specs.Serving.{most_places}
 use Rattle.master.specs.declared.event.Event.{Event}
-use Rattle.master.specs.declared.event.Event.TheVariants.{Deliver}
+use Rattle.master.specs.declared.event.Event.TheVariants.{Assign, Deliver}
 use Rattle.agreement.specs.World.{World, moved}
+use Rattle.agreement.specs.Past.{Moment}
+use Rattle.ballot.specs.Config.{Config}
+use Rattle.lists.specs.Lists.{In}
+use Rattle.lists.proofs.Members.{in_at}
+use Rattle.agreement.specs.Steps.{tells_from_master}
+use Rattle.agreement.specs.MasterState.{MasterOutcome, MasterState, activated, assigned, refusal}
+use Rattle.ballot.specs.Body.{Body}
+use Rattle.ballot.specs.Body.TheVariants.{NewBallot, Join, State, Install, Installed, Activate, Activated, Superseded, Append, Held, Commit}
+use Rattle.master.specs.Exact.Turn.{by_node, by_master, unheeded}
 use Rattle.master.specs.Group.{GroupState}
-use Rattle.master.specs.Exact.{Turn, running, can_take, taking, stopping, takes, comes, turn, behind, group_step}
+use Rattle.master.specs.Exact.{NodeTurn, Turn, running, can_take, taking, stopping, takes, hears, comes, gives, turn, behind, group_step}
 use Rattle.master.specs.Steps.{Happens, StepsBy, LosesNothing}
-use Rattle.master.specs.Steps.Happens.{nothing_happens, goes}
-use Rattle.master.specs.Inside.{RunsAt, TookTurn}
+use Rattle.master.specs.Steps.Happens.{nothing_happens, node_goes, master_goes}
+use Rattle.master.specs.Inside.{MasterTook, RunsAt, TookTurn, asks_for}
 
 -- the turn of a node that runs
 pub takes_turn : {S C O : Type 0} (rules : Rules S C O) (w : World S C O) (node at : ℕ) (input : Input C) (x : RunsAt w.nodes node at) →
     can_take x.replica input ≡ true →
-    takes rules w node input ≡ Some (record { place = at; before = x.replica; outcome = replica_step rules x.replica input })
+    takes rules w node input ≡ Some (by_node (record { place = at; before = x.replica; outcome = replica_step rules x.replica input }))
 takes_turn {S = S} {C = C} {O = O} rules w node at input x can =
     ap (λ o. taking rules (node - 1) o input) x.runs
-    ∙ ap (λ b. cond b (Some (record { place = node - 1; before = x.replica; outcome = replica_step rules x.replica input })) None) can
-    ∙ ap (λ n. let t : Turn S C O = record { place = n; before = x.replica; outcome = replica_step rules x.replica input } in Some t) (sym x.place)
+    ∙ ap (λ b. cond b (Some (by_node (record { place = node - 1; before = x.replica; outcome = replica_step rules x.replica input }))) None) can
+    ∙ ap (λ n. let t : NodeTurn S C O = record { place = n; before = x.replica; outcome = replica_step rules x.replica input } in Some (by_node t)) (sym x.place)
 
 pub takes_nothing : {S C O : Type 0} (rules : Rules S C O) (w : World S C O) (node : ℕ) (input : Input C) →
     running w.nodes node ≡ None → takes rules w node input ≡ None
@@ -37,77 +46,130 @@ pub cannot_take : {S C O : Type 0} (rules : Rules S C O) (w : World S C O) (node
     can_take x.replica input ≡ false → takes rules w node input ≡ None
 cannot_take {S = S} {C = C} {O = O} rules w node at input x can =
     ap (λ o. taking rules (node - 1) o input) x.runs
-    ∙ ap (λ b. cond b (Some (record { place = node - 1; before = x.replica; outcome = replica_step rules x.replica input })) None) can
+    ∙ ap (λ b. cond b (Some (by_node (record { place = node - 1; before = x.replica; outcome = replica_step rules x.replica input }))) None) can
 
 pub stops_turn : {S C O : Type 0} (rules : Rules S C O) (nodes : List (ReplicaState S C)) (node at : ℕ) (x : RunsAt nodes node at) →
-    stopping rules (node - 1) (running nodes node) ≡ Some (record { place = at; before = x.replica; outcome = record { state = halted rules x.replica; effects = [] } })
+    stopping rules (node - 1) (running nodes node) ≡ Some (by_node (record { place = at; before = x.replica; outcome = record { state = halted rules x.replica; effects = [] } }))
 stops_turn {S = S} {C = C} {O = O} rules nodes node at x =
     ap (stopping rules (node - 1)) x.runs
-    ∙ ap (λ n. let t : Turn S C O = record { place = n; before = x.replica; outcome = record { state = halted rules x.replica; effects = [] } } in Some t) (sym x.place)
+    ∙ ap (λ n. let t : NodeTurn S C O = record { place = n; before = x.replica; outcome = record { state = halted rules x.replica; effects = [] } } in Some (by_node t)) (sym x.place)
 
 -- an event with a turn is not idle
 pub some_idle : {X : Type 0} {P : Type 0} {o : Option X} {x : X} → o ≡ Some x → o ≡ None → P
 some_idle a b = let e = sym a ∙ b in cc
 
--- a turn is the step of its event
-pub steps_turn : {S C O : Type 0} (rules : Rules S C O) (old new : GroupState S C O) (event : Event C) (t : Turn S C O) →
-    turn rules old.world event ≡ Some t → TookTurn rules old t new → StepsBy rules old event new
+-- a turn of a node is the step of its event
+pub steps_turn : {S C O : Type 0} (rules : Rules S C O) (old new : GroupState S C O) (event : Event C) (t : NodeTurn S C O) →
+    turn rules old.moment event ≡ Some (by_node t) → TookTurn rules old t new → StepsBy rules old event new
 steps_turn {S = S} {C = C} {O = O} rules old new event t e took =
-    record { same_config = took.same_config; way = by_way took.way }
+    record { way = by_way took.way }
   where
     by_way : ((took.state ≡ t.outcome.state) × (took.given ≡ t.outcome.effects) × (new.losses ≡ old.losses))
         ⊎ (Loses rules t.before t.outcome took.state took.given × (new.losses ≡ one_more old.losses)) →
-        ((new.world ≡ group_step rules event old.world) × (new.losses ≡ old.losses))
-        ⊎ (Happens rules old.world event new.world × (new.losses ≡ one_more old.losses))
+        ((new.moment ≡ group_step rules event old.moment) × (new.losses ≡ old.losses))
+        ⊎ (Happens rules old.moment event new.moment × (new.losses ≡ one_more old.losses))
     by_way (inl (a, b, c)) =
         inl (
-          took.world ∙ ap (λ (s : ReplicaState S C). moved old.world t.place s took.given) a
-              ∙ ap (λ (us : List (Effect C O)). moved old.world t.place t.outcome.state us) b ∙ ap (behind old.world) (sym e),
+          took.moment ∙ ap (λ (s : ReplicaState S C). let z : Moment S C O = record old.moment { world = moved old.moment.world t.place s took.given } in z) a
+              ∙ ap (λ (us : List (Effect C O)). let z : Moment S C O = record old.moment { world = moved old.moment.world t.place t.outcome.state us } in z) b
+              ∙ ap (behind old.moment) (sym e),
           c,
         )
-    by_way (inr (a, b)) = inr (subst (λ (v : World S C O). Happens rules old.world event v) (sym took.world) (goes t e a), b)
+    by_way (inr (a, b)) = inr (subst (λ (v : Moment S C O). Happens rules old.moment event v) (sym took.moment) (node_goes t e a), b)
+
+-- and so is one of the master
+pub steps_master : {S C O : Type 0} (rules : Rules S C O) (old new : GroupState S C O) (event : Event C) (o : MasterOutcome C) →
+    turn rules old.moment event ≡ Some (by_master o) → MasterTook old o new → StepsBy rules old event new
+steps_master {S = S} {C = C} {O = O} rules old new event o e took =
+    record { way = by_way took.way }
+  where
+    by_way : ((new.moment ≡ record { master = o.state; world = tells_from_master old.moment.world o }) × (new.losses ≡ old.losses))
+        ⊎ ((new.moment ≡ record old.moment { master = o.state }) × (new.losses ≡ one_more old.losses)) →
+        ((new.moment ≡ group_step rules event old.moment) × (new.losses ≡ old.losses))
+        ⊎ (Happens rules old.moment event new.moment × (new.losses ≡ one_more old.losses))
+    by_way (inl (a, b)) = inl (a ∙ ap (behind old.moment) (sym e), b)
+    by_way (inr (a, b)) = inr (subst (λ (v : Moment S C O). Happens rules old.moment event v) (sym a) (master_goes o e), b)
 
 -- nothing happened, for want of memory
 pub steps_lost : {S C O : Type 0} (rules : Rules S C O) (old new : GroupState S C O) (event : Event C) →
     new ≡ record old { losses = one_more old.losses } → StepsBy rules old event new
 steps_lost {S = S} {C = C} {O = O} rules old new event e =
     subst (λ (v : GroupState S C O). StepsBy rules old event v) (sym e)
-    (record { same_config = refl; way = inr (nothing_happens, refl) })
+    (record { way = inr (nothing_happens, refl) })
 
--- an idle event does nothing
+-- an event that does nothing
 pub steps_idle : {S C O : Type 0} (rules : Rules S C O) (old : GroupState S C O) (event : Event C) →
-    turn rules old.world event ≡ None → StepsBy rules old event old
-steps_idle rules old event e = record { same_config = refl; way = inl (sym (ap (behind old.world) e), refl) }
+    turn rules old.moment event ≡ None → StepsBy rules old event old
+steps_idle rules old event e = record { way = inl (sym (ap (behind old.moment) e), refl) }
+
+pub steps_unheeded : {S C O : Type 0} (rules : Rules S C O) (old : GroupState S C O) (event : Event C) →
+    turn rules old.moment event ≡ Some unheeded → StepsBy rules old event old
+steps_unheeded rules old event e = record { way = inl (sym (ap (behind old.moment) e), refl) }
 
 -- a count that did not rise lost nothing
 pub steps_exactly : {S C O : Type 0} (rules : Rules S C O) (old new : GroupState S C O) (event : Event C) →
-    StepsBy rules old event new → LosesNothing old new → new.world ≡ group_step rules event old.world
+    StepsBy rules old event new → LosesNothing old new → new.moment ≡ group_step rules event old.moment
 steps_exactly rules old new event s exact = by_way s.way
   where
-    by_way : ((new.world ≡ group_step rules event old.world) × (new.losses ≡ old.losses))
-        ⊎ (Happens rules old.world event new.world × (new.losses ≡ one_more old.losses)) → new.world ≡ group_step rules event old.world
+    by_way : ((new.moment ≡ group_step rules event old.moment) × (new.losses ≡ old.losses))
+        ⊎ (Happens rules old.moment event new.moment × (new.losses ≡ one_more old.losses)) → new.moment ≡ group_step rules event old.moment
     by_way (inl (a, b)) = a
     by_way (inr (a, b)) =
         let f : old.losses ≡ min (old.losses + 1) (2 ^ 64 - 1) = sym exact.0 ∙ b in let below = exact.1 in absurd (omega (arith, f, below))
 
--- a message that was sent, and one that was not
-came : {S C O : Type 0} (rules : Rules S C O) (w : World S C O) (k : ℕ) (x : ℕ × Message C) → slice_get w.sent k ≡ Some x →
-    turn rules w (Deliver k) ≡ takes rules w x.0 (Receives x.1)
-came rules w k (receiver, m) e = ap (comes rules w) e
+-- a message that was sent to a node, and one that was not sent
+came : {S C O : Type 0} (rules : Rules S C O) (a : Moment S C O) (k : ℕ) (x : ℕ × Message C) → 0 < x.0 → slice_get a.world.sent k ≡ Some x →
+    turn rules a (Deliver k) ≡ takes rules a.world x.0 (Receives x.1)
+came rules a k (zero, m) positive e = absurd (omega (arith, positive))
+came rules a k (suc n, m) positive e = ap (comes rules a) e
 
-pub delivers_turn : {S C O : Type 0} (rules : Rules S C O) (w : World S C O) (k at : ℕ) (x : ℕ × Message C) (m : Message C) →
-    slice_get w.sent k ≡ Some x → m ≡ x.1 → (a : RunsAt w.nodes x.0 at) →
-    turn rules w (Deliver k) ≡ Some (record { place = at; before = a.replica; outcome = replica_step rules a.replica (Receives m) })
-delivers_turn {S = S} {C = C} {O = O} rules w k at x m e same a =
-    came rules w k x e ∙ takes_turn rules w x.0 at (Receives x.1) a refl
-    ∙ ap (λ y. let t : Turn S C O = record { place = at; before = a.replica; outcome = replica_step rules a.replica (Receives y) } in Some t) (sym same)
+pub delivers_turn : {S C O : Type 0} (rules : Rules S C O) (a : Moment S C O) (k at : ℕ) (x : ℕ × Message C) (m : Message C) →
+    slice_get a.world.sent k ≡ Some x → m ≡ x.1 → (y : RunsAt a.world.nodes x.0 at) →
+    turn rules a (Deliver k) ≡ Some (by_node (record { place = at; before = y.replica; outcome = replica_step rules y.replica (Receives m) }))
+delivers_turn {S = S} {C = C} {O = O} rules a k at x m e same y =
+    came rules a k x y.positive e ∙ takes_turn rules a.world x.0 at (Receives x.1) y refl
+    ∙ ap (λ z. let t : NodeTurn S C O = record { place = at; before = y.replica; outcome = replica_step rules y.replica (Receives z) } in Some (by_node t)) (sym same)
 
-pub delivers_nothing : {S C O : Type 0} (rules : Rules S C O) (w : World S C O) (k : ℕ) (x : ℕ × Message C) →
-    slice_get w.sent k ≡ Some x → running w.nodes x.0 ≡ None → turn rules w (Deliver k) ≡ None
-delivers_nothing rules w k x e idle = came rules w k x e ∙ takes_nothing rules w x.0 (Receives x.1) idle
+pub delivers_nothing : {S C O : Type 0} (rules : Rules S C O) (a : Moment S C O) (k : ℕ) (x : ℕ × Message C) → 0 < x.0 →
+    slice_get a.world.sent k ≡ Some x → running a.world.nodes x.0 ≡ None → turn rules a (Deliver k) ≡ None
+delivers_nothing rules a k x positive e idle = came rules a k x positive e ∙ takes_nothing rules a.world x.0 (Receives x.1) idle
 
-pub not_sent : {S C O : Type 0} (rules : Rules S C O) (w : World S C O) (k : ℕ) → slice_get w.sent k ≡ None → turn rules w (Deliver k) ≡ None
-not_sent rules w k e = ap (comes rules w) e
+-- a message that was sent to the master
+pub delivers_to_master : {S C O : Type 0} (rules : Rules S C O) (a : Moment S C O) (k : ℕ) (x : ℕ × Message C) → x.0 ≡ 0 → slice_get a.world.sent k ≡ Some x →
+    turn rules a (Deliver k) ≡ Some (hears rules a.master x.1.from x.1.body)
+delivers_to_master rules a k (zero, m) zero_is e = ap (comes rules a) e
+delivers_to_master rules a k (suc n, m) zero_is e = absurd (omega (arith, zero_is))
+
+pub hears_ballot : {S C O : Type 0} (rules : Rules S C O) (m : MasterState) (from ballot : ℕ) (body : Body C) → asks_for body ≡ Some ballot →
+    (body ≡ Activate ballot) × (hears rules m from body ≡ by_master (activated C m ballot from m.waiting))
+hears_ballot rules m from ballot (NewBallot b members a old) e = cc
+hears_ballot rules m from ballot (Join b a) e = cc
+hears_ballot rules m from ballot (State b log) e = cc
+hears_ballot rules m from ballot (Install b log) e = cc
+hears_ballot rules m from ballot (Installed b held) e = cc
+hears_ballot {S = S} {C = C} {O = O} rules m from ballot (Activate b) e = let same : b ≡ ballot = cc in (ap Activate same, ap (λ x. let t : Turn S C O = by_master (activated C m x from m.waiting) in t) same)
+hears_ballot rules m from ballot (Activated b) e = cc
+hears_ballot rules m from ballot (Superseded b) e = cc
+hears_ballot rules m from ballot (Append b place command) e = cc
+hears_ballot rules m from ballot (Held b held) e = cc
+hears_ballot rules m from ballot (Commit b held) e = cc
+
+pub hears_nothing : {S C O : Type 0} (rules : Rules S C O) (m : MasterState) (from : ℕ) (body : Body C) → asks_for body ≡ None →
+    hears rules m from body ≡ unheeded
+hears_nothing rules m from (NewBallot b members a old) e = refl
+hears_nothing rules m from (Join b a) e = refl
+hears_nothing rules m from (State b log) e = refl
+hears_nothing rules m from (Install b log) e = refl
+hears_nothing rules m from (Installed b held) e = refl
+hears_nothing rules m from (Activate b) e = cc
+hears_nothing rules m from (Activated b) e = refl
+hears_nothing rules m from (Superseded b) e = refl
+hears_nothing rules m from (Append b place command) e = refl
+hears_nothing rules m from (Held b held) e = refl
+hears_nothing rules m from (Commit b held) e = refl
+
+pub not_sent : {S C O : Type 0} (rules : Rules S C O) (a : Moment S C O) (k : ℕ) → slice_get a.world.sent k ≡ None → turn rules a (Deliver k) ≡ None
+not_sent rules a k e = ap (comes rules a) e
 
 pub get_there : {X : Type 0} (xs : List X) (k : ℕ) (x : X) → k < length xs → x ≡ get_or xs k x → slice_get xs k ≡ Some x
 get_there [] k x below read = absurd (omega arith)
@@ -135,3 +197,22 @@ proposal_taken r status active command e a on room =
     let long : status.held ≡ length r.log = ap (λ (s : Status). s.held) e in
     ap (λ b. b && nat_lt (length r.log) most_places) (ap (λ (s : Status). is_active s.role) (sym e) ∙ sym a ∙ on)
     ∙ lt-ltb (length r.log) most_places (omega (arith, long, room))
+
+-- a ballot that is given
+pub gives_turn : {S C O : Type 0} (rules : Rules S C O) (a : Moment S C O) (config : Config) → refusal a.master config ≡ None →
+    turn rules a (Assign config) ≡ Some (by_master (assigned C a.master config))
+gives_turn rules a config granted = ap (gives rules a.master config) granted
+
+-- whom the master is asked by
+pub asked_in : {C : Type 0} (sent : List (ℕ × Message C)) (k b : ℕ) (x : ℕ × Message C) → slice_get sent k ≡ Some x → x.0 ≡ 0 → x.1.body ≡ Activate b →
+    In (0, record { from = x.1.from; body = Activate b }) sent
+asked_in {C = C} sent k b x found zero_is asks =
+    in_at sent k (0, record { from = x.1.from; body = Activate b })
+    (found ∙ ap (λ y. Some (y, x.1)) zero_is ∙ ap (λ y. let m : Message C = record { from = x.1.from; body = y } in Some (0, m)) asks)
+
+pub came_in : {S C : Type 0} (nodes : List (ReplicaState S C)) (sent : List (ℕ × Message C)) (k at : ℕ) (x : ℕ × Message C) (m : Message C) →
+    slice_get sent k ≡ Some x → m ≡ x.1 → RunsAt nodes x.0 at → In (at + 1, m) sent
+came_in {S = S} {C = C} nodes sent k at x m found same y =
+    let place = y.place in let positive = y.positive in
+    let number : x.0 ≡ at + 1 = omega (arith, place, positive) in
+    in_at sent k (at + 1, m) (found ∙ ap (λ n. Some (n, x.1)) number ∙ ap (λ z. let v : ℕ × Message C = (at + 1, z) in Some v) (sym same))

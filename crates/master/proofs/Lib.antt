@@ -1,10 +1,8 @@
-pub mod Agreed
-pub mod Chosen
+pub mod Counted
 pub mod Counting
-pub mod Events
-pub mod Opening
+pub mod Groups
+pub mod Happening
+pub mod Lawful
 pub mod Parting
-pub mod Rows
 pub mod Runs
-pub mod Sound
 pub mod Turns

@@ -1,22 +1,24 @@
 -- Turns.antt: a call of one replica is a turn of its group, and the messages are parted from it.
 use Rattle.std.proofs.Common.{◌≡◌, ℕ, zero, suc, ◌+◌, ◌-◌, ◌^◌, ◌<◌, ◌≤◌, ◌⊎◌, inl, inr, Bool, true, false, cond, min, List, [], ◌∷◌, ◌++◌, length, map, set, take, drop, get_or, Some, None, refl, ap, sym, ◌∙◌, subst, arith}
-use Rattle.std.specs.Prelude.{slice_get}
-use Rattle.std.proofs.lemmas.List.{map-set, append-nil, take-append-le, length-map}
+use Rattle.std.specs.Prelude.{slice_get, ◌&&◌}
+use Rattle.std.proofs.lemmas.List.{map-append, map-set, append-nil, take-append-le, length-map}
 use Rattle.std.proofs.Math.Seq.{take-length, drop-append_seam}
 use Rattle.machine.specs.Machine.{Rules}
 use Rattle.ballot.specs.Message.{Message}
 use Rattle.ballot.specs.Effect.{Effect}
-use Rattle.ballot.specs.Replica.{ReplicaState, CountedReplica, status_of}
+use Rattle.ballot.specs.Replica.{ReplicaState, CountedReplica, opening, status_of}
 use Rattle.ballot.specs.Losses.{Stepped, Steps, Loses, Thinned, halted, one_more}
 use Rattle.ballot.specs.Losses.Thinned.{none, keeps, loses}
 use Rattle.ballot.specs.Sending.{Outcome}
 use Rattle.ballot.specs.Protocol.{Input, replica_step}
 use Rattle.ballot.proofs.ThinnedEffects.{Thinned-same}
 use Rattle.ballot.specs.Config.{Config}
+use Rattle.agreement.specs.MasterState.{MasterState, opening_master}
+use Rattle.agreement.specs.Past.{Moment, opening_moment}
 use Rattle.ballot.specs.Status.{Status}
 use Rattle.agreement.specs.World.{World, messages, outputs, moved, opening_nodes, opening_world}
 use Rattle.master.specs.Exact.{running, unless_stopped}
-use Rattle.master.specs.Inside.{RunsAt, TookIn, Parted, TookTurn}
+use Rattle.master.specs.Inside.{RunsAt, TookIn, Parted, TookTurn, moment_of, world_of}
 
 -- an exact step is one in which nothing was lost
 loses_of : {S C O : Type 0} (rules : Rules S C O) {old : CountedReplica S C} {o : Outcome S C O} {new : CountedReplica S C} {given : List (Effect C O)} →
@@ -69,11 +71,6 @@ lost_more rules (inl (e, t)) s = inl (e, thinned_then s t)
 lost_more rules (inr (inl (e, t))) s = inr (inl (e, thinned_nothing t s))
 lost_more rules (inr (inr (e, t))) s = inr (inr (e, thinned_nothing t s))
 
--- what a group with these replicas, messages and effects that left is seen as
-abbrev pub world_of : {S C O : Type 0} → List (CountedReplica S C) → List (ℕ × Message C) → List (Effect C O) → World S C O
-world_of {S = S} {C = C} nodes sent left =
-    record { nodes = map (λ (r : CountedReplica S C). r.state) nodes; sent = sent; left = outputs left }
-
 state_at : {S C : Type 0} (nodes : List (CountedReplica S C)) (n : ℕ) (d : CountedReplica S C) → n < length nodes →
     slice_get (map (λ (r : CountedReplica S C). r.state) nodes) n ≡ Some (get_or nodes n d).state
 state_at [] n d below = absurd (omega arith)
@@ -93,20 +90,20 @@ moved_is {S = S} {C = C} {O = O} nodes sent more left parted kept n new e f =
     ∙ ap (λ xs. let z : World S C O = record { nodes = set (map (λ (r : CountedReplica S C). r.state) nodes) n new.state; sent = sent ++ messages kept; left = xs } in z) f
 
 -- a turn of a group
-pub took_turn : {S C O : Type 0} {rules : Rules S C O} (config : Config) (nodes : List (CountedReplica S C)) (sent more : List (ℕ × Message C)) (left behind parted : List (Effect C O))
+pub took_turn : {S C O : Type 0} {rules : Rules S C O} (m : MasterState) (nodes : List (CountedReplica S C)) (sent more : List (ℕ × Message C)) (left behind parted : List (Effect C O))
     (losses counted n from : ℕ) (old new : CountedReplica S C) (o : ReplicaState S C → Outcome S C O) (r : ReplicaState S C) (whole kept : Bool) →
     n < length nodes → old ≡ get_or nodes n old → slice_get (map (λ (z : CountedReplica S C). z.state) nodes) n ≡ Some r → from ≡ length left →
     TookIn rules old.state (o old.state) new.state left behind whole → Parted (drop from behind) (take from behind) parted sent more kept →
     ((whole ≡ true) × (kept ≡ true) × (counted ≡ losses)) ⊎ (counted ≡ one_more losses) →
-    TookTurn rules (record { config = config; world = world_of nodes sent left; losses = losses })
+    TookTurn rules (record { moment = moment_of m nodes sent left; losses = losses })
     (record { place = n; before = r; outcome = o r })
-    (record { config = config; world = world_of (set nodes n new) more parted; losses = counted })
-took_turn {S = S} {C = C} {O = O} {rules = rules} config nodes sent more left behind parted losses counted n from old new o r whole kept below read stands at t p way =
+    (record { moment = moment_of m (set nodes n new) more parted; losses = counted })
+took_turn {S = S} {C = C} {O = O} {rules = rules} m nodes sent more left behind parted losses counted n from old new o r whole kept below read stands at t p way =
     record {
       state = new.state;
       given = p.kept;
-      same_config = refl;
-      world = moved_is nodes sent more left parted p.kept n new p.sent_is (p.outputs_are ∙ ap (λ us. outputs us ++ outputs p.kept) front);
+      moment = ap (λ (w : World S C O). let z : Moment S C O = record { master = m; world = w } in z)
+          (moved_is nodes sent more left parted p.kept n new p.sent_is (p.outputs_are ∙ ap (λ us. outputs us ++ outputs p.kept) front));
       way = by_way way;
     }
   where
@@ -141,6 +138,7 @@ runs_at {S = S} {C = C} nodes (suc n) r positive below read going =
     (record {
       replica = r.state;
       place = sym e;
+      positive = omega arith;
       below = (let long = length-map nodes (λ (z : CountedReplica S C). z.state) in omega (arith, long, below));
       stands = stands;
       runs = ap unless_stopped stands ∙ ap (λ b. cond b None (Some r.state)) going;
@@ -170,19 +168,19 @@ going_of {S = S} {C = C} nodes n old r read stands going =
     ap (λ (s : ReplicaState S C). s.stopped) same ∙ going
 
 -- a node that stops
-pub crash_turn : {S C O : Type 0} (rules : Rules S C O) (config : Config) (nodes : List (CountedReplica S C)) (sent : List (ℕ × Message C)) (left : List (Effect C O))
+pub crash_turn : {S C O : Type 0} (rules : Rules S C O) (m : MasterState) (nodes : List (CountedReplica S C)) (sent : List (ℕ × Message C)) (left : List (Effect C O))
     (losses n : ℕ) (old new : CountedReplica S C) (r : ReplicaState S C) →
     old ≡ get_or nodes n old → slice_get (map (λ (z : CountedReplica S C). z.state) nodes) n ≡ Some r → new.state ≡ halted rules old.state →
-    TookTurn rules (record { config = config; world = world_of nodes sent left; losses = losses })
+    TookTurn rules (record { moment = moment_of m nodes sent left; losses = losses })
     (record { place = n; before = r; outcome = record { state = halted rules r; effects = [] } })
-    (record { config = config; world = world_of (set nodes n new) sent left; losses = losses })
-crash_turn {S = S} {C = C} {O = O} rules config nodes sent left losses n old new r read stands stopped =
+    (record { moment = moment_of m (set nodes n new) sent left; losses = losses })
+crash_turn {S = S} {C = C} {O = O} rules m nodes sent left losses n old new r read stands stopped =
     record {
       state = halted rules r;
       given = [];
-      same_config = refl;
-      world = moved_is nodes sent sent left left [] n new (sym (append-nil sent)) (sym (append-nil (outputs left)))
-          ∙ ap (λ (s : ReplicaState S C). moved (world_of nodes sent left) n s []) (stopped ∙ ap (halted rules) same);
+      moment = ap (λ (w : World S C O). let z : Moment S C O = record { master = m; world = w } in z)
+          (moved_is nodes sent sent left left [] n new (sym (append-nil sent)) (sym (append-nil (outputs left)))
+          ∙ ap (λ (s : ReplicaState S C). moved (world_of nodes sent left) n s []) (stopped ∙ ap (halted rules) same));
       way = inl (refl, refl, refl);
     }
   where
@@ -202,3 +200,27 @@ opened_group {S = S} {C = C} {O = O} rules config nodes at items sent left befor
     ap (λ xs. let z : World S C O = record { nodes = xs; sent = sent; left = outputs left } in z) (before ∙ ap (λ k. opening_nodes rules k config) same)
     ∙ ap (λ xs. let z : World S C O = record { nodes = opening_nodes rules nodes config; sent = xs; left = outputs left } in z) a
     ∙ ap (λ (xs : List (Effect C O)). let z : World S C O = record { nodes = opening_nodes rules nodes config; sent = []; left = outputs xs } in z) b
+
+-- one node more is opened
+pub opened_more : {S C O : Type 0} (rules : Rules S C O) (config : Config) (items more : List (CountedReplica S C)) (new : CountedReplica S C) (at : ℕ) →
+    map (λ (z : CountedReplica S C). z.state) items ≡ opening_nodes rules at config → new.state ≡ opening rules (at + 1) config → more ≡ items ++ new ∷ [] →
+    map (λ (z : CountedReplica S C). z.state) more ≡ opening_nodes rules (at + 1) config
+opened_more {S = S} {C = C} rules config items more new at before opens pushed =
+    let next : at + 1 ≡ suc at = omega arith in
+    ap (map (λ (z : CountedReplica S C). z.state)) pushed ∙ map-append (λ (z : CountedReplica S C). z.state) items (new ∷ [])
+    ∙ ap (λ us. us ++ new.state ∷ []) before ∙ ap (λ s. opening_nodes rules at config ++ s ∷ []) opens
+    ∙ sym (ap (λ k. opening_nodes rules k config) next)
+
+-- how losses were counted
+pub count_is : (first second : Bool) (losses counted : ℕ) → counted ≡ cond (first && second) losses (one_more losses) →
+    ((first ≡ true) × (second ≡ true) × (counted ≡ losses)) ⊎ (counted ≡ one_more losses)
+count_is true true losses counted e = inl (refl, refl, e)
+count_is true false losses counted e = inr e
+count_is false second losses counted e = inr e
+
+pub opened_moment : {S C O : Type 0} (rules : Rules S C O) (config : Config) (nodes at : ℕ) (m : MasterState) (items : List (CountedReplica S C)) (sent : List (ℕ × Message C)) (left : List (Effect C O)) →
+    m ≡ opening_master config → map (λ (z : CountedReplica S C). z.state) items ≡ opening_nodes rules at config → at ≡ nodes → sent ≡ [] → left ≡ [] →
+    moment_of m items sent left ≡ opening_moment rules nodes config
+opened_moment {S = S} {C = C} {O = O} rules config nodes at m items sent left opens before same a b =
+    ap (λ x. let z : Moment S C O = record { master = x; world = world_of items sent left } in z) opens
+    ∙ ap (λ w. let z : Moment S C O = record { master = opening_master config; world = w } in z) (opened_group rules config nodes at items sent left before same a b)

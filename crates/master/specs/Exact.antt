@@ -1,6 +1,9 @@
 -- Exact.antt: what an event comes to, and what it does to a group where memory suffices.
 use Rattle.std.specs.Prelude.{ℕ, zero, suc, Bool, true, ◌-◌, List, [], ◌∷◌, length, slice_get, Option, Some, None, ◌&&◌, nat_lt, if◌then◌else◌}
 use Rattle.machine.specs.Machine.{Rules}
+use Rattle.ballot.specs.Body.{Body}
+use Rattle.ballot.specs.Body.TheVariants.{Activate}
+use Rattle.ballot.specs.Config.{Config}
 use Rattle.ballot.specs.Message.{Message}
 use Rattle.ballot.specs.Losses.{halted}
 use Rattle.ballot.specs.Protocol.{Input, replica_step}
@@ -8,9 +11,12 @@ use Rattle.ballot.specs.Protocol.Input.{Receives, Proposes, Ticks}
 use Rattle.ballot.specs.Replica.{ReplicaState, is_active}
 use Rattle.ballot.specs.Sending.{Outcome}
 use Rattle.ballot.specs.Serving.{most_places}
-use Rattle.master.specs.declared.event.Event.{Event}
-use Rattle.master.specs.declared.event.Event.TheVariants.{Propose, Deliver, Tick, Crash}
+use Rattle.agreement.specs.MasterState.{AssignRefusal, MasterOutcome, MasterState, activated, assigned, refusal}
+use Rattle.agreement.specs.Past.{Moment}
+use Rattle.agreement.specs.Steps.{tells_from_master}
 use Rattle.agreement.specs.World.{World, moved}
+use Rattle.master.specs.declared.event.Event.{Event}
+use Rattle.master.specs.declared.event.Event.TheVariants.{Propose, Assign, Deliver, Tick, Crash}
 
 -- the node of a number, if it is there and has not stopped
 abbrev pub unless_stopped : {S C : Type 0} → Option (ReplicaState S C) → Option (ReplicaState S C)
@@ -21,11 +27,18 @@ abbrev pub running : {S C : Type 0} → List (ReplicaState S C) → ℕ → Opti
 running nodes zero = None
 running nodes (suc n) = unless_stopped (slice_get nodes n)
 
--- what an event comes to: the place of a node, what the node was, and the outcome of its step
-pub record Turn (S C O : Type 0) : Type 0 where
+-- the turn of a node: its place, what it was, and the outcome of its step
+pub record NodeTurn (S C O : Type 0) : Type 0 where
   pub place : ℕ
   pub before : ReplicaState S C
   pub outcome : Outcome S C O
+
+-- what an event comes to: the turn of a node or of the master, or a message that the master does
+-- not heed
+pub data Turn (S C O : Type 0) : Type 0 where
+  by_node : NodeTurn S C O → Turn S C O
+  by_master : MasterOutcome C → Turn S C O
+  unheeded : Turn S C O
 
 -- a proposal needs an active primary whose log has room
 abbrev pub can_take : {S C : Type 0} → ReplicaState S C → Input C → Bool
@@ -38,42 +51,67 @@ abbrev pub taking : {S C O : Type 0} →
 taking rules n None input = None
 taking rules n (Some r) input =
     if can_take r input
-    then Some (record { place = n; before = r; outcome = replica_step rules r input })
+    then Some (by_node (record { place = n; before = r; outcome = replica_step rules r input }))
     else None
 
 abbrev pub stopping : {S C O : Type 0} →
     Rules S C O → ℕ → Option (ReplicaState S C) → Option (Turn S C O)
 stopping rules n None = None
 stopping rules n (Some r) =
-    Some (record { place = n; before = r; outcome = record { state = halted rules r; effects = [] } })
+    Some (by_node (record {
+      place = n;
+      before = r;
+      outcome = record { state = halted rules r; effects = [] };
+    }))
 
 -- a node takes something in
 abbrev pub takes : {S C O : Type 0} →
     Rules S C O → World S C O → ℕ → Input C → Option (Turn S C O)
 takes rules w node input = taking rules (node - 1) (running w.nodes node) input
 
+-- the master heeds an Activate, and no other message
+abbrev pub hears : {S C O : Type 0} → Rules S C O → MasterState → ℕ → Body C → Turn S C O
+hears {C = C} rules m from (Activate ballot) = by_master (activated C m ballot from m.waiting)
+hears rules m from _ = unheeded
+
+-- a message comes to the master or to a node
+abbrev pub comes_to : {S C O : Type 0} →
+    Rules S C O → Moment S C O → ℕ → Message C → Option (Turn S C O)
+comes_to rules a zero message = Some (hears rules a.master message.from message.body)
+comes_to rules a (suc n) message = takes rules a.world (suc n) (Receives message)
+
 -- a message comes to its receiver, if it was sent
 abbrev pub comes : {S C O : Type 0} →
-    Rules S C O → World S C O → Option (ℕ × Message C) → Option (Turn S C O)
-comes rules w None = None
-comes rules w (Some (receiver, message)) = takes rules w receiver (Receives message)
+    Rules S C O → Moment S C O → Option (ℕ × Message C) → Option (Turn S C O)
+comes rules a None = None
+comes rules a (Some (receiver, message)) = comes_to rules a receiver message
+
+-- the master gives a ballot, unless it refuses
+abbrev pub gives : {S C O : Type 0} →
+    Rules S C O → MasterState → Config → Option AssignRefusal → Option (Turn S C O)
+gives rules m config (Some why) = None
+gives {C = C} rules m config None = Some (by_master (assigned C m config))
 
 -- what an event comes to; none where it is idle
-abbrev pub turn : {S C O : Type 0} → Rules S C O → World S C O → Event C → Option (Turn S C O)
-turn rules w (Propose node command) = takes rules w node (Proposes command)
-turn rules w (Deliver number) = comes rules w (slice_get w.sent number)
-turn rules w (Tick node) = takes rules w node Ticks
-turn rules w (Crash node) = stopping rules (node - 1) (running w.nodes node)
+abbrev pub turn : {S C O : Type 0} → Rules S C O → Moment S C O → Event C → Option (Turn S C O)
+turn rules a (Propose node command) = takes rules a.world node (Proposes command)
+turn rules a (Assign config) = gives rules a.master config (refusal a.master config)
+turn rules a (Deliver number) = comes rules a (slice_get a.world.sent number)
+turn rules a (Tick node) = takes rules a.world node Ticks
+turn rules a (Crash node) = stopping rules (node - 1) (running a.world.nodes node)
 
 -- the step of a group where memory suffices, and its steps one after the other
-abbrev pub behind : {S C O : Type 0} → World S C O → Option (Turn S C O) → World S C O
-behind w None = w
-behind w (Some t) = moved w t.place t.outcome.state t.outcome.effects
+abbrev pub behind : {S C O : Type 0} → Moment S C O → Option (Turn S C O) → Moment S C O
+behind a None = a
+behind a (Some (by_node t)) =
+    record a { world = moved a.world t.place t.outcome.state t.outcome.effects }
+behind a (Some (by_master o)) = record { master = o.state; world = tells_from_master a.world o }
+behind a (Some unheeded) = a
 
-abbrev pub group_step : {S C O : Type 0} → Rules S C O → Event C → World S C O → World S C O
-group_step rules event w = behind w (turn rules w event)
+abbrev pub group_step : {S C O : Type 0} → Rules S C O → Event C → Moment S C O → Moment S C O
+group_step rules event a = behind a (turn rules a event)
 
 abbrev pub group_run : {S C O : Type 0} →
-    Rules S C O → List (Event C) → World S C O → World S C O
-group_run rules [] w = w
-group_run rules (event ∷ events) w = group_run rules events (group_step rules event w)
+    Rules S C O → List (Event C) → Moment S C O → Moment S C O
+group_run rules [] a = a
+group_run rules (event ∷ events) a = group_run rules events (group_step rules event a)

@@ -1,10 +1,9 @@
--- Group.antt: a group of nodes in one ballot.
+-- Group.antt: a group as it is seen.
 use Rattle.std.specs.Prelude.{ℕ}
-use Rattle.ballot.specs.Config.{Config}
-use Rattle.agreement.specs.World.{World}
+use Rattle.agreement.specs.Past.{Moment}
 
--- a group: its configuration, its world, and the number of its steps in which memory was wanting
+-- a group: its moment, which is its master with the nodes, the messages and the outputs that left,
+-- and the number of its steps in which memory was wanting
 pub record GroupState (S C O : Type 0) : Type 0 where
-  pub config : Config
-  pub world : World S C O
+  pub moment : Moment S C O
   pub losses : ℕ

@@ -1,27 +1,32 @@
--- Inside.antt: what the helpers of a group say of nodes, effects and turns.
-use Rattle.std.specs.Prelude.{ℕ, Bool, true, false, ◌-◌, ◌<◌, ◌≡◌, ◌⊎◌, ◌==◌, List, [], ◌∷◌, ◌++◌, length, min, max, slice_get, Option, Some, None, if◌then◌else◌}
+-- Inside.antt: what the helpers of a group say of nodes, effects, turns and counters.
+use Rattle.std.specs.Prelude.{ℕ, Bool, true, false, ◌^◌, ◌-◌, ◌<◌, ◌≤◌, ◌≡◌, ◌⊎◌, List, [], ◌∷◌, ◌++◌, length, map, min, get_or, slice_get, Option, Some, None, nat_lt, if◌then◌else◌}
 use Rattle.machine.specs.Machine.{Rules}
-use Rattle.ballot.specs.Config.{Config}
 use Rattle.ballot.specs.Body.{Body}
-use Rattle.ballot.specs.Body.TheVariants.{Held}
+use Rattle.ballot.specs.Body.TheVariants.{Activate}
+use Rattle.ballot.specs.Config.{Config}
 use Rattle.ballot.specs.Message.{Message}
 use Rattle.ballot.specs.Effect.{Effect}
 use Rattle.ballot.specs.Effect.TheVariants.{To, Out}
 use Rattle.ballot.specs.Losses.{Thinned, Loses, one_more}
 use Rattle.ballot.specs.Protocol.{Input}
 use Rattle.ballot.specs.Protocol.Input.{Receives, Proposes, Ticks}
-use Rattle.ballot.specs.Replica.{ReplicaState}
+use Rattle.ballot.specs.Replica.{ReplicaState, CountedReplica}
 use Rattle.ballot.specs.Sending.{Outcome}
+use Rattle.agreement.specs.Inside.ToldLengths.{most_told}
+use Rattle.agreement.specs.MasterState.{MasterState, MasterOutcome}
+use Rattle.agreement.specs.Past.{Moment, Past}
+use Rattle.agreement.specs.Steps.{tells_from_master}
+use Rattle.agreement.specs.World.{World, log_of, messages, outputs, moved}
 use Rattle.master.specs.declared.turning.Taken.{Taken}
 use Rattle.master.specs.declared.turning.Taken.TheVariants.{Received, Proposed, Ticked}
-use Rattle.agreement.specs.World.{log_of, World, messages, outputs, moved}
 use Rattle.master.specs.Group.{GroupState}
-use Rattle.master.specs.Exact.{Turn, running}
+use Rattle.master.specs.Exact.{NodeTurn, running}
 
 -- the node of a number runs, at a place
 pub record RunsAt {S C : Type 0} (nodes : List (ReplicaState S C)) (node at : ℕ) : Type 0 where
   pub replica : ReplicaState S C
   pub place : at ≡ node - 1
+  pub positive : 0 < node
   pub below : at < length nodes
   pub stands : slice_get nodes at ≡ Some replica
   pub runs : running nodes node ≡ Some replica
@@ -58,48 +63,82 @@ pub record Parted {C O : Type 0} (given left parted : List (Effect C O))
 
 -- a group after a turn of one node, or one with losses that was counted
 pub record TookTurn {S C O : Type 0} (rules : Rules S C O) (old : GroupState S C O)
-    (t : Turn S C O) (new : GroupState S C O) : Type 0 where
+    (t : NodeTurn S C O) (new : GroupState S C O) : Type 0 where
   pub state : ReplicaState S C
   pub given : List (Effect C O)
-  pub same_config : new.config ≡ old.config
-  pub world : new.world ≡ moved old.world t.place state given
+  pub moment : new.moment
+      ≡ record old.moment { world = moved old.moment.world t.place state given }
   pub way : ((state ≡ t.outcome.state) × (given ≡ t.outcome.effects) × (new.losses ≡ old.losses))
       ⊎ (Loses rules t.before t.outcome state given × (new.losses ≡ one_more old.losses))
 
--- how many places a message says that a member holds in ballot 1, if it does
-abbrev pub held_in_one : {C : Type 0} → Body C → Option ℕ
-held_in_one (Held ballot held) = if ballot == 1 then Some held else None
-held_in_one _ = None
+-- a group after a turn of the master, or one whose message was lost, which was counted
+pub record MasterTook {S C O : Type 0} (old : GroupState S C O) (o : MasterOutcome C)
+    (new : GroupState S C O) : Type 0 where
+  pub way : ((new.moment ≡ record { master = o.state; world = tells_from_master old.moment.world o })
+      × (new.losses ≡ old.losses))
+      ⊎ ((new.moment ≡ record old.moment { master = o.state })
+      × (new.losses ≡ one_more old.losses))
 
-abbrev pub told_in : {C : Type 0} → ℕ → Message C → Option ℕ
-told_in member message = if message.from == member then held_in_one message.body else None
+-- what a group with this master, these replicas, messages and effects that left is seen as
+abbrev pub world_of : {S C O : Type 0} → List (CountedReplica S C) → List (ℕ × Message C) →
+    List (Effect C O) → World S C O
+world_of {S = S} {C = C} nodes sent left =
+    record {
+      nodes = map (λ (r : CountedReplica S C). r.state) nodes;
+      sent = sent;
+      left = outputs left;
+    }
 
-abbrev pub more_told : Option ℕ → Option ℕ → Option ℕ
-more_told None now = now
-more_told (Some before) None = Some before
-more_told (Some before) (Some now) = Some (max before now)
+abbrev pub moment_of : {S C O : Type 0} → MasterState → List (CountedReplica S C) →
+    List (ℕ × Message C) → List (Effect C O) → Moment S C O
+moment_of m nodes sent left = record { master = m; world = world_of nodes sent left }
 
--- how many places a member has told by messages; none before the first
-abbrev pub told_from : {C : Type 0} → Option ℕ → ℕ → List (ℕ × Message C) → Option ℕ
-told_from told member [] = told
-told_from told member (message ∷ sent) =
-    told_from (more_told told (told_in member message.1)) member sent
+-- how many places the node of each number told in a ballot
+pub record ToldIn : Type 0 where
+  pub ballot : ℕ
+  pub held : List ℕ
 
--- how many places all members have told, where the primary tells its log
-abbrev pub bounded : ℕ → Option ℕ → ℕ
-bounded least None = 0
-bounded least (Some told) = min least told
+-- that is what the messages say
+abbrev pub HasCounted : {C : Type 0} → List (ℕ × Message C) → ToldIn → Type 0
+HasCounted sent t = (m : ℕ) → m < 16 → get_or t.held m 0 ≡ most_told m t.ballot sent
 
-abbrev pub least_told : {C : Type 0} → ℕ → List (ℕ × Message C) → ℕ → List ℕ → ℕ
-least_told primary sent least [] = least
-least_told primary sent least (member ∷ members) =
-    if member == primary
-    then least_told primary sent least members
-    else least_told primary sent (bounded least (told_from None member sent)) members
+-- how a group came to be, and what it counts: what was told in the active ballot, and in the ballot
+-- that waits
+pub record IsGroup {S C O : Type 0} (rules : Rules S C O) (a : Moment S C O) (told next : ToldIn) :
+    Type 0 where
+  pub config : Config
+  pub past : List (Moment S C O)
+  pub came : Past rules config (a ∷ past)
+  pub active : told.ballot ≡ a.master.active
+  pub counted : HasCounted a.world.sent told
+  pub waits : (b : ℕ) (c : Config) → a.master.waiting ≡ Some (b, c) → next.ballot ≡ b
+  pub counted_next : HasCounted a.world.sent next
 
-abbrev pub primary_log : {S C O : Type 0} → Config → World S C O → List C
-primary_log config w = log_of (slice_get w.nodes (config.primary - 1))
+-- each replica counted no more losses than its group
+abbrev pub AreCounted : {S C : Type 0} → List (CountedReplica S C) → ℕ → Type 0
+AreCounted {S} {C} nodes losses =
+    (n : ℕ) (r : CountedReplica S C) → slice_get nodes n ≡ Some r → r.losses ≤ losses
 
-abbrev pub agreed_length : {S C O : Type 0} → Config → World S C O → ℕ
-agreed_length config w =
-    least_told config.primary w.sent (length (primary_log config w)) config.members
+-- the least and the next of two numbers and one more
+abbrev pub next_least : ℕ → ℕ → ℕ → ℕ × ℕ
+next_least least next held = if nat_lt held least then (held, least) else (least, min next held)
+
+-- the second of the least numbers that members told: a primary tells nothing by messages, so that
+-- it is the least of the others
+abbrev pub least_but_one : List ℕ → ℕ → ℕ → List ℕ → ℕ
+least_but_one told least next [] = next
+least_but_one told least next (member ∷ members) =
+    let pair = next_least least next (get_or told member 0) in
+    least_but_one told pair.0 pair.1 members
+
+-- how many places are agreed: a sole member's log, and else what all others told
+abbrev pub agreed_length : {S C O : Type 0} → Moment S C O → List ℕ → List ℕ → ℕ
+agreed_length a told [] = 0
+agreed_length a told (member ∷ []) = length (log_of (slice_get a.world.nodes (member - 1)))
+agreed_length a told (member ∷ (other ∷ members)) =
+    least_but_one told (2 ^ 64 - 1) (2 ^ 64 - 1) (member ∷ (other ∷ members))
+
+-- the ballot that a message asks the master to activate, if it does
+abbrev pub asks_for : {C : Type 0} → Body C → Option ℕ
+asks_for (Activate ballot) = Some ballot
+asks_for _ = None

@@ -4,25 +4,31 @@ use Rattle.machine.specs.Machine.{Rules}
 use Rattle.ballot.specs.Effect.{Effect}
 use Rattle.ballot.specs.Losses.{Loses, one_more}
 use Rattle.ballot.specs.Replica.{ReplicaState}
+use Rattle.agreement.specs.MasterState.{MasterOutcome}
+use Rattle.agreement.specs.Past.{Moment}
+use Rattle.agreement.specs.World.{moved}
 use Rattle.master.specs.declared.event.Event.{Event}
-use Rattle.agreement.specs.World.{World, moved}
 use Rattle.master.specs.Group.{GroupState}
-use Rattle.master.specs.Exact.{Turn, turn, group_step}
+use Rattle.master.specs.Exact.{NodeTurn, turn, group_step}
+use Rattle.master.specs.Exact.Turn.{by_node, by_master}
 
--- what an event may do: nothing, or the step that it comes to, perhaps with losses
-pub data Happens {S C O : Type 0} (rules : Rules S C O) : World S C O → Event C → World S C O →
-    Type 0 where
-  nothing_happens : {w : World S C O} {e : Event C} → Happens rules w e w
-  goes : {w : World S C O} {e : Event C} (t : Turn S C O)
-      {new : ReplicaState S C} {given : List (Effect C O)} → turn rules w e ≡ Some t →
-      Loses rules t.before t.outcome new given → Happens rules w e (moved w t.place new given)
+-- what an event may do where memory is wanting: nothing, the step of a node that it comes to with
+-- losses, or that of the master, whose message is lost
+pub data Happens {S C O : Type 0} (rules : Rules S C O) :
+    Moment S C O → Event C → Moment S C O → Type 0 where
+  nothing_happens : {a : Moment S C O} {e : Event C} → Happens rules a e a
+  node_goes : {a : Moment S C O} {e : Event C} (t : NodeTurn S C O)
+      {new : ReplicaState S C} {given : List (Effect C O)} → turn rules a e ≡ Some (by_node t) →
+      Loses rules t.before t.outcome new given →
+      Happens rules a e (record a { world = moved a.world t.place new given })
+  master_goes : {a : Moment S C O} {e : Event C} (o : MasterOutcome C) →
+      turn rules a e ≡ Some (by_master o) → Happens rules a e (record a { master = o.state })
 
 -- the step of an event, or one with losses that was counted
 pub record StepsBy {S C O : Type 0} (rules : Rules S C O) (old : GroupState S C O)
     (event : Event C) (new : GroupState S C O) : Type 0 where
-  pub same_config : new.config ≡ old.config
-  pub way : ((new.world ≡ group_step rules event old.world) × (new.losses ≡ old.losses))
-      ⊎ (Happens rules old.world event new.world × (new.losses ≡ one_more old.losses))
+  pub way : ((new.moment ≡ group_step rules event old.moment) × (new.losses ≡ old.losses))
+      ⊎ (Happens rules old.moment event new.moment × (new.losses ≡ one_more old.losses))
 
 -- events one after the other, each done exactly or with losses that were counted: no loss excuses
 -- an event beside it

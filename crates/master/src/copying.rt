@@ -2,7 +2,7 @@
 
 ghost use Rattle.std.specs.Prelude.{◌≡◌, IfOk};
 
-use ballot::{Body, Members, Message, copy_log};
+use ballot::{Body, Config, Members, Message, copy_log};
 use machine::{Machine, Memory};
 use std::alloc::Global;
 
@@ -34,4 +34,13 @@ pub fn copy_of<M: Machine>(
         Body::Commit(ballot, committed) => Body::Commit(*ballot, *committed),
     };
     Ok(Message { from, body })
+}
+
+/// A copy of a configuration. The only error is want of memory.
+pub fn config_of(alloc: Global, config: &Config) -> Result<Config, Memory>
+    ensures { IfOk result (λ copied. copied ≡ config.now) }
+{
+    let members = Members::from_slice(alloc, config.members.as_slice())?;
+    let primary = config.primary;
+    Ok(Config { members, primary })
 }

@@ -2,6 +2,7 @@
 
 ghost use Rattle.std.specs.Prelude.{◌≡◌};
 
+use ballot::Config;
 use std::error::Error;
 use std::fmt;
 
@@ -11,6 +12,9 @@ pub enum Event<C> {
     /// A command is proposed to a node. Idle where that node is no running active primary, or its
     /// log is full.
     Propose(u8, C),
+    /// The master gives the next ballot to a configuration. Idle where it refuses: for members or a
+    /// primary that no ballot may have, and after ballot 2^32.
+    Assign(Config),
     /// The message of this number, counted from 0 in the order of sending, comes to its receiver.
     /// Idle where no such message was sent, or its receiver is unknown or has stopped.
     Deliver(u64),

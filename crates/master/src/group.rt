@@ -1,56 +1,68 @@
-// A group of replicas in one ballot.
+// A group of replicas and their master.
 
-ghost use Rattle.std.specs.Prelude.{◌≡◌, ◌<◌, ◌↔◌, false, None, Some, [], length, slice_get, map, List, ◌∷◌, IfOk, IfSome, OnErr, IsErr, IsErrOf};
+ghost use Rattle.std.specs.Prelude.{ℕ, ◌-◌, ◌≡◌, ◌<◌, ◌≤◌, ◌↔◌, true, false, None, Some, [], length, slice_get, map, List, ◌∷◌, IfOk, IfSome, OnOk, OnErr, IsErr, IsErrOf};
 ghost use Rattle.machine.specs.Machine.{rules_by};
+ghost use Rattle.ballot.specs.Body.TheVariants.{Activate};
 ghost use Rattle.ballot.specs.Protocol.{replica_step};
 ghost use Rattle.ballot.specs.Losses.{one_more};
 ghost use Rattle.ballot.specs.Replica.{ReplicaState};
-ghost use Rattle.master.specs.Agreement.{IsOpening, Past, IsAgreed, AgreesAfter};
-ghost use Rattle.agreement.specs.World.{World, can_open, opening_world};
+ghost use Rattle.lists.specs.Lists.{In};
+ghost use Rattle.agreement.specs.MasterState.{activated, assigned, refusal};
+ghost use Rattle.agreement.specs.Past.{IsAgreed, Moment, Past, opening_moment};
+ghost use Rattle.agreement.specs.Steps.{MayTake};
+ghost use Rattle.agreement.specs.World.{can_open, log_of};
+ghost use Rattle.master.specs.Agreement.{AgreesAfter};
 ghost use Rattle.master.specs.Exact.{turn, group_step, group_run, running};
-ghost use Rattle.master.specs.Inside.{RunsAt, TookTurn, agreed_length, input_of, primary_log};
+ghost use Rattle.master.specs.Inside.{MasterTook, RunsAt, TookTurn, input_of};
 ghost use Rattle.master.specs.Steps.{Run, StepsBy, LosesNothing};
 
-use crate::copying::copy_of;
+use crate::copying::{config_of, copy_of};
 use crate::event::{Event, Idle};
-use crate::telling::{can_open, least_told};
-use crate::turning::{Taken, part, take_in};
-use ballot::{Config, Effect, MOST_PLACES, Message, OpeningError, Replica};
-use machine::Machine;
+use crate::master::Master;
+use crate::opening::can_open;
+use crate::telling::{answer_of, asks_for, tell};
+use crate::told::{Told, turn_over};
+use crate::turning::{Taken, counted, part, take_in};
+use ballot::{Body, Config, Effect, MOST_PLACES, Members, Message, OpeningError, Replica};
+use machine::{Machine, Memory};
 use std::alloc::Global;
 use std::marker::Model;
 
-/// Replicas of a machine that only hear of each other by their messages. All messages ever sent may
-/// come at any time, again and in any order, or never.
+/// A master and replicas of a machine that only hear of each other by their messages. All messages
+/// ever sent may come at any time, again and in any order, or never.
 #[derive(Drop)]
 pub struct Group<M: Machine> {
     alloc: Global,
-    config: Config,
+    master: Master,
     nodes: Vec<Replica<M>>,
     sent: Vec<(u8, Message<M::Command>)>,
     left: Vec<Effect<M::Command, M::Output>>,
+    // What was told in the active ballot, and in the one that waits.
+    told: Told,
+    next: Told,
     losses: u64,
 }
 
 impl<M: Machine> Model for Group<M> {
-    ghost use Rattle.std.specs.Prelude.{◌≡◌, [], map};
+    ghost use Rattle.std.specs.Prelude.{◌≡◌, []};
+    ghost use Rattle.machine.specs.Machine.{rules_by};
     ghost use Rattle.master.specs.Group.{GroupState};
-    ghost use Rattle.agreement.specs.World.{messages, outputs};
+    ghost use Rattle.master.specs.Inside.{IsGroup, moment_of};
+    ghost use Rattle.agreement.specs.World.{messages};
 
     ghost Value = { GroupState M M.Command M.Output };
 
     ghost view = { λ g.
         record {
-          config = g.config;
-          world = record {
-            nodes = map (λ node. node.state) g.nodes.items;
-            sent = g.sent.items;
-            left = outputs g.left.items;
-          };
+          moment = moment_of g.master g.nodes.items g.sent.items g.left.items;
           losses = g.losses;
         } };
 
-    ghost invariant = { λ g. messages g.left.items ≡ [] };
+    // Some past led up to here.
+    ghost invariant = { λ g.
+        (messages g.left.items ≡ []) ×
+        IsGroup (rules_by M.opening M.start_of M.after M.gives)
+        (moment_of g.master g.nodes.items g.sent.items g.left.items) g.told g.next };
 }
 
 impl<M: Machine> Group<M> {
@@ -59,12 +71,11 @@ impl<M: Machine> Group<M> {
     pub fn opening(alloc: Global, nodes: u8, config: Config) -> Result<Group<M>, OpeningError>
         ensures ok { IfOk result (λ group.
             group ≡ record {
-              config = config;
-              world = opening_world (rules_by M.opening M.start_of M.after M.gives) nodes config;
+              moment = opening_moment (rules_by M.opening M.start_of M.after M.gives) nodes config;
               losses = 0;
             }) }
-        ensures opens { IfOk result (λ group. IsOpening
-            (rules_by M.opening M.start_of M.after M.gives) group.config group.world) }
+        ensures opens { IfOk result (λ group.
+            Past (rules_by M.opening M.start_of M.after M.gives) config (group.moment ∷ [])) }
         ensures bad { IsErrOf result OpeningError.BadMembers ↔ (can_open nodes config ≡ false) }
     {
         if !can_open(nodes, &config) {
@@ -74,12 +85,19 @@ impl<M: Machine> Group<M> {
         for at in 0..nodes {
             opened.push(Replica::new(alloc, at + 1, &config)?)?;
         }
+        let told = Told::new(alloc, 1)?;
+        let next = Told::new(alloc, 1)?;
+        let Ok(master) = Master::new(config) else {
+            return Err(OpeningError::BadMembers);
+        };
         Ok(Group {
             alloc,
-            config,
+            master,
             nodes: opened,
             sent: Vec::new(alloc),
             left: Vec::new(alloc),
+            told,
+            next,
             losses: 0,
         })
     }
@@ -90,14 +108,22 @@ impl<M: Machine> Group<M> {
         ensures step { StepsBy
             (rules_by M.opening M.start_of M.after M.gives) self.old event.now self.new }
         ensures exact { LosesNothing self.old self.new →
-            self.new.world ≡ group_step
-            (rules_by M.opening M.start_of M.after M.gives) event.now self.old.world }
+            self.new.moment ≡ group_step
+            (rules_by M.opening M.start_of M.after M.gives) event.now self.old.moment }
         ensures idle { IsErr result ↔ (turn
-            (rules_by M.opening M.start_of M.after M.gives) self.old.world event.now ≡ None) }
+            (rules_by M.opening M.start_of M.after M.gives) self.old.moment event.now ≡ None) }
         ensures same { OnErr result (self.new ≡ self.old) }
+        // Whatever led up to here, the nodes agree behind the event, and what is agreed has only
+        // grown.
+        ensures agreement { (config : Config) (past : List (Moment M M.Command M.Output)) →
+            Past (rules_by M.opening M.start_of M.after M.gives)
+            config (self.old.moment ∷ past) →
+            AgreesAfter (rules_by M.opening M.start_of M.after M.gives)
+            config (self.old.moment ∷ past) self.new.moment }
     {
         match event {
             Event::Propose(node, command) => self.propose(*node, command),
+            Event::Assign(config) => self.assign(config),
             Event::Deliver(number) => self.deliver(*number),
             Event::Tick(node) => self.tick(*node),
             Event::Crash(node) => self.crash(*node),
@@ -106,60 +132,75 @@ impl<M: Machine> Group<M> {
 
     /// Lets events happen one after the other. Idle ones are passed over.
     pub fn run(&mut self, events: &[Event<M::Command>])
-        ensures config { self.new.config ≡ self.old.config }
         // Each event is done exactly, or with losses that are counted there.
         ensures run { Run (rules_by M.opening M.start_of M.after M.gives)
             self.old events.now self.new }
         ensures exact { LosesNothing self.old self.new →
-            self.new.world ≡ group_run
-            (rules_by M.opening M.start_of M.after M.gives) events.now self.old.world }
+            self.new.moment ≡ group_run
+            (rules_by M.opening M.start_of M.after M.gives) events.now self.old.moment }
         // Whatever led up to here, the nodes agree behind the events, and what is agreed has only
         // grown.
-        ensures agreement { (past : List (World M M.Command M.Output)) →
+        ensures agreement { (config : Config) (past : List (Moment M M.Command M.Output)) →
             Past (rules_by M.opening M.start_of M.after M.gives)
-            self.old.config (self.old.world ∷ past) →
+            config (self.old.moment ∷ past) →
             AgreesAfter (rules_by M.opening M.start_of M.after M.gives)
-            self.old.config (self.old.world ∷ past) self.new.world }
+            config (self.old.moment ∷ past) self.new.moment }
     {
         for event in events {
             let _ = self.step(event);
         }
     }
 
-    /// The agreed list: the longest beginning of the primary's log that every member has told. All
-    /// messages that were sent are gone through, once for each member.
+    /// The agreed list: the longest that is chosen in a ballot that was active.
     pub fn agreed(&self) -> &[M::Command]
-        ensures { (past : List (World M M.Command M.Output)) →
+        ensures { (config : Config) (past : List (Moment M M.Command M.Output)) →
             Past (rules_by M.opening M.start_of M.after M.gives)
-            self.now.config (self.now.world ∷ past) →
-            IsAgreed self.now.config (self.now.world ∷ past) result.now }
+            config (self.now.moment ∷ past) →
+            IsAgreed config (self.now.moment ∷ past) result.now }
     {
-        let length = self.told_by_all();
-        &self.primary_log()[..length as usize]
+        let length = self.agreed_len() as usize;
+        match self.holder(length) {
+            Some(log) => &log[..length],
+            None => &[],
+        }
     }
 
-    /// The length of the agreed list, found in the same way.
+    /// The length of the agreed list. It takes no longer, however much was sent.
     pub fn agreed_len(&self) -> u64
-        ensures { (past : List (World M M.Command M.Output)) (agreed : List M.Command) →
+        ensures { (config : Config) (past : List (Moment M M.Command M.Output))
+            (agreed : List M.Command) →
             Past (rules_by M.opening M.start_of M.after M.gives)
-            self.now.config (self.now.world ∷ past) →
-            IsAgreed self.now.config (self.now.world ∷ past) agreed → result ≡ length agreed }
+            config (self.now.moment ∷ past) →
+            IsAgreed config (self.now.moment ∷ past) agreed → result ≡ length agreed }
     {
-        self.told_by_all()
+        let (_, members) = self.master.active();
+        if members.len() == 1 {
+            return self.log_of(members[0]).len() as u64;
+        }
+        self.told.least_but_one(members)
     }
 
-    /// The messages that were sent, each with its receiver: the one of number n at place n.
+    /// The messages that were sent, each with its receiver: the one of number n at place n. Node 0
+    /// is the master.
     pub fn sent(&self) -> &[(u8, Message<M::Command>)]
-        ensures { result.now ≡ self.now.world.sent }
+        ensures { result.now ≡ self.now.moment.world.sent }
     {
         self.sent.as_slice()
     }
 
     /// The outputs that left, in order: each is an [`Effect::Out`] with its place.
     pub fn left(&self) -> &[Effect<M::Command, M::Output>]
-        ensures { result.now ≡ map (λ left. Effect.Out left.0 left.1) self.now.world.left }
+        ensures { result.now ≡ map (λ left. Effect.Out left.0 left.1) self.now.moment.world.left }
     {
         self.left.as_slice()
+    }
+
+    /// The active ballot and its members.
+    pub fn active(&self) -> (u64, &[u8])
+        ensures ballot { result.0 ≡ self.now.moment.master.active }
+        ensures members { result.1.now ≡ self.now.moment.master.members }
+    {
+        self.master.active()
     }
 
     /// In how many steps memory was wanting. The count stays at 2^64 - 1.
@@ -173,7 +214,7 @@ impl<M: Machine> Group<M> {
         ensures step { StepsBy (rules_by M.opening M.start_of M.after M.gives)
             self.old (Event.Propose node command.now) self.new }
         ensures idle { IsErr result ↔ (turn (rules_by M.opening M.start_of M.after M.gives)
-            self.old.world (Event.Propose node command.now) ≡ None) }
+            self.old.moment (Event.Propose node command.now) ≡ None) }
         ensures same { OnErr result (self.new ≡ self.old) }
     {
         let Some(at) = self.running(node) else {
@@ -190,16 +231,60 @@ impl<M: Machine> Group<M> {
         Ok(())
     }
 
+    fn assign(&mut self, config: &Config) -> Result<(), Idle>
+        ensures step { StepsBy (rules_by M.opening M.start_of M.after M.gives)
+            self.old (Event.Assign config.now) self.new }
+        ensures idle { IsErr result ↔ (turn (rules_by M.opening M.start_of M.after M.gives)
+            self.old.moment (Event.Assign config.now) ≡ None) }
+        ensures same { OnErr result (self.new ≡ self.old) }
+    {
+        if !self.master.can_assign(config) {
+            return Err(Idle);
+        }
+        match self.give(config) {
+            Ok(()) => {}
+            Err(_) => self.lose(),
+        }
+        Ok(())
+    }
+
+    // The master gives a ballot and tells its primary.
+    fn give(&mut self, config: &Config) -> Result<(), Memory>
+        requires { refusal self.old.moment.master config.now ≡ None }
+        ensures ok { OnOk result (MasterTook self.old
+            (assigned M.Command self.old.moment.master config.now) self.new) }
+        ensures err { OnErr result (self.new ≡ self.old) }
+    {
+        let given = config_of(self.alloc, config)?;
+        let members = Members::from_slice(self.alloc, config.members.as_slice())?;
+        let (previous, previous_members) = self.master.active();
+        let previous_members = Members::from_slice(self.alloc, previous_members)?;
+        let ballot = self.master.give(given);
+        self.next.begin(ballot);
+        let body = Body::NewBallot(ballot, members, previous, previous_members);
+        let told = tell(&mut self.sent, config.primary, body);
+        self.losses = counted(self.losses, told, true);
+        Ok(())
+    }
+
     fn deliver(&mut self, number: u64) -> Result<(), Idle>
         ensures step { StepsBy (rules_by M.opening M.start_of M.after M.gives)
             self.old (Event.Deliver number) self.new }
         ensures idle { IsErr result ↔ (turn (rules_by M.opening M.start_of M.after M.gives)
-            self.old.world (Event.Deliver number) ≡ None) }
+            self.old.moment (Event.Deliver number) ≡ None) }
         ensures same { OnErr result (self.new ≡ self.old) }
     {
         let Some((receiver, message)) = self.sent.get(number as usize) else {
             return Err(Idle);
         };
+        if *receiver == 0 {
+            let from = message.from;
+            match asks_for(message) {
+                Some(ballot) => self.answer(from, ballot),
+                None => {}
+            }
+            return Ok(());
+        }
         let Some(at) = self.running(*receiver) else {
             return Err(Idle);
         };
@@ -210,11 +295,26 @@ impl<M: Machine> Group<M> {
         Ok(())
     }
 
+    // The master answers a node that asks it to activate a ballot.
+    fn answer(&mut self, from: u8, ballot: u64)
+        requires { In (0, record { from = from; body = Activate ballot })
+            self.old.moment.world.sent }
+        ensures { MasterTook self.old (activated M.Command self.old.moment.master ballot from
+            self.old.moment.master.waiting) self.new }
+    {
+        let (before, _) = self.master.active();
+        let activation = self.master.activate(ballot);
+        let (behind, _) = self.master.active();
+        turn_over(&mut self.told, &mut self.next, before, behind);
+        let told = tell(&mut self.sent, from, answer_of(activation, ballot));
+        self.losses = counted(self.losses, told, true);
+    }
+
     fn tick(&mut self, node: u8) -> Result<(), Idle>
         ensures step { StepsBy (rules_by M.opening M.start_of M.after M.gives)
             self.old (Event.Tick node) self.new }
         ensures idle { IsErr result ↔ (turn (rules_by M.opening M.start_of M.after M.gives)
-            self.old.world (Event.Tick node) ≡ None) }
+            self.old.moment (Event.Tick node) ≡ None) }
         ensures same { OnErr result (self.new ≡ self.old) }
     {
         let Some(at) = self.running(node) else {
@@ -228,7 +328,7 @@ impl<M: Machine> Group<M> {
         ensures step { StepsBy (rules_by M.opening M.start_of M.after M.gives)
             self.old (Event.Crash node) self.new }
         ensures idle { IsErr result ↔ (turn (rules_by M.opening M.start_of M.after M.gives)
-            self.old.world (Event.Crash node) ≡ None) }
+            self.old.moment (Event.Crash node) ≡ None) }
         ensures same { OnErr result (self.new ≡ self.old) }
     {
         let Some(at) = self.running(node) else {
@@ -241,8 +341,8 @@ impl<M: Machine> Group<M> {
 
     // The place of a node that is there and has not stopped.
     fn running(&self, node: u8) -> Option<usize>
-        ensures some { IfSome result (λ at. RunsAt self.now.world.nodes node at) }
-        ensures none { result ≡ None → running self.now.world.nodes node ≡ None }
+        ensures some { IfSome result (λ at. RunsAt self.now.moment.world.nodes node at) }
+        ensures none { result ≡ None → running self.now.moment.world.nodes node ≡ None }
     {
         if node == 0 || node as usize > self.nodes.len() {
             return None;
@@ -256,10 +356,12 @@ impl<M: Machine> Group<M> {
 
     // A node that runs takes something in.
     fn take_turn(&mut self, at: usize, taken: Taken<M::Command>)
-        requires { (replica : ReplicaState M M.Command) ×
-            (slice_get self.old.world.nodes at ≡ Some replica) × (replica.stopped ≡ false) }
+        requires runs { (replica : ReplicaState M M.Command) ×
+            (slice_get self.old.moment.world.nodes at ≡ Some replica) ×
+            (replica.stopped ≡ false) }
+        requires may { MayTake self.old.moment.world at (input_of taken) }
         ensures { (replica : ReplicaState M M.Command) →
-            slice_get self.old.world.nodes at ≡ Some replica →
+            slice_get self.old.moment.world.nodes at ≡ Some replica →
             TookTurn (rules_by M.opening M.start_of M.after M.gives) self.old
             (record {
               place = at;
@@ -269,41 +371,48 @@ impl<M: Machine> Group<M> {
             }) self.new }
     {
         let from = self.left.len();
+        let told = self.sent.len();
         let replica = &mut self.nodes[at];
         let taken = take_in(replica, taken, &mut self.left);
         let kept = part(&mut self.left, &mut self.sent, from);
-        if !(taken && kept) {
-            self.losses = self.losses.saturating_add(1);
-        }
+        self.told.hear_from(&self.sent, told);
+        self.next.hear_from(&self.sent, told);
+        self.losses = counted(self.losses, taken, kept);
     }
 
-    // The log of the primary.
-    fn primary_log(&self) -> &[M::Command]
-        ensures { result.now ≡ primary_log self.now.config self.now.world }
+    // The log of a node; empty where it is unknown.
+    fn log_of(&self, node: u8) -> &[M::Command]
+        ensures { result.now ≡ log_of (slice_get self.now.moment.world.nodes (node - 1)) }
     {
-        let at = self.config.primary.saturating_sub(1) as usize;
-        match self.nodes.get(at) {
+        match self.nodes.get(node.saturating_sub(1) as usize) {
             Some(replica) => replica.log(),
             None => &[],
         }
     }
 
-    // How many places every member has told.
-    fn told_by_all(&self) -> u64
-        ensures { result ≡ agreed_length self.now.config self.now.world }
+    // The log of a member of the active ballot that has so many places.
+    fn holder(&self, held: usize) -> Option<&[M::Command]>
+        ensures some { IfSome result (λ log.
+            (m : ℕ) × In m self.now.moment.master.members ×
+            (log.now ≡ log_of (slice_get self.now.moment.world.nodes (m - 1))) ×
+            (held ≤ length log.now)) }
+        ensures none { result ≡ None → (m : ℕ) → In m self.now.moment.master.members →
+            length (log_of (slice_get self.now.moment.world.nodes (m - 1))) < held }
     {
-        least_told(
-            &self.sent,
-            self.config.primary,
-            self.config.members.as_slice(),
-            self.primary_log().len() as u64,
-        )
+        let (_, members) = self.master.active();
+        for member in members {
+            let log = self.log_of(*member);
+            if held <= log.len() {
+                return Some(log);
+            }
+        }
+        None
     }
 
     // Nothing happens, for want of memory.
     fn lose(&mut self)
         ensures { self.new ≡ record self.old { losses = one_more self.old.losses } }
     {
-        self.losses = self.losses.saturating_add(1);
+        self.losses = counted(self.losses, false, true);
     }
 }

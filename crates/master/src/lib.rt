@@ -7,9 +7,11 @@ mod error;
 mod event;
 mod group;
 mod master;
+mod opening;
 mod telling;
 #[cfg(test)]
 mod tests;
+mod told;
 mod turning;
 
 pub use activation::Activation;

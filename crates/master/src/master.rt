@@ -1,7 +1,7 @@
 // Who gives ballots their configurations, and makes them active.
 
-ghost use Rattle.std.specs.Prelude.{◌≡◌, ◌+◌, ◌↔◌, false, Some, IfOk, IsErrOf, if◌then◌else◌};
-ghost use Rattle.agreement.specs.MasterState.{activating, is_granted, master_behind, opening_master, refusal};
+ghost use Rattle.std.specs.Prelude.{◌≡◌, ◌+◌, ◌↔◌, true, false, None, Some, IfOk, IsErrOf, if◌then◌else◌};
+ghost use Rattle.agreement.specs.MasterState.{activating, assigning, is_granted, master_behind, opening_master, refusal};
 ghost use Rattle.agreement.specs.MasterState.AssignRefusal.{bad_members, ballots_spent};
 ghost use Rattle.ballot.specs.LawfulConfig.{is_lawful};
 
@@ -60,6 +60,13 @@ impl Master {
         })
     }
 
+    /// Whether [`Master::assign`] takes a configuration.
+    pub fn can_assign(&self, config: &Config) -> bool
+        ensures { (result ≡ true) ↔ (refusal self.now config.now ≡ None) }
+    {
+        config.is_lawful() && self.given < LAST_BALLOT
+    }
+
     /// Gives the next ballot to a configuration and lets it wait. A ballot that waited is put out
     /// for good. The new ballot is the result.
     pub fn assign(&mut self, config: Config) -> Result<u64, AssignError>
@@ -81,6 +88,17 @@ impl Master {
         self.given += 1;
         self.waiting = Some((self.given, config));
         Ok(self.given)
+    }
+
+    /// The same for a configuration that is not refused.
+    pub(crate) fn give(&mut self, config: Config) -> u64
+        requires { refusal self.old config ≡ None }
+        ensures ballot { result ≡ self.old.given + 1 }
+        ensures state { self.new ≡ assigning self.old config }
+    {
+        self.given += 1;
+        self.waiting = Some((self.given, config));
+        self.given
     }
 
     /// Makes the ballot that waits the active one. For the active ballot the answer is

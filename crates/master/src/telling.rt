@@ -1,73 +1,39 @@
-// Which members a group may have, and how much of the log they have told.
+// What the master says.
 
-ghost use Rattle.std.specs.Prelude.{◌≡◌, None, nat_le};
-ghost use Rattle.std.specs.List.{list_all};
-ghost use Rattle.agreement.specs.World.{can_open};
-ghost use Rattle.master.specs.Inside.{told_in, more_told, told_from, least_told};
+ghost use Rattle.std.specs.Prelude.{◌≡◌, ◌++◌, ◌∷◌, [], Option, Some, None, if◌then◌else◌};
+ghost use Rattle.std.specs.Bool.{OnTrue, OnFalse};
+ghost use Rattle.master.specs.Inside.{asks_for};
 
-use ballot::{Body, Config, Message};
+use crate::activation::Activation;
+use ballot::{Body, Message};
 
-/// Whether so many nodes may open in a configuration.
-pub fn can_open(nodes: u8, config: &Config) -> bool
-    ensures { result ≡ can_open nodes config.now }
+/// Puts a message of the master behind those that were sent. Whether there was memory for it is the
+/// result.
+pub fn tell<C: Drop>(sent: &mut Vec<(u8, Message<C>)>, receiver: u8, body: Body<C>) -> bool
+    ensures told { OnTrue result
+        (sent.new.items ≡ sent.old.items ++ (receiver, record { from = 0; body = body }) ∷ []) }
+    ensures lost { OnFalse result (sent.new.items ≡ sent.old.items) }
 {
-    nodes <= 15 && (config.is_lawful() && are_nodes(config.members.as_slice(), nodes))
+    sent.push((receiver, Message { from: 0, body })).is_ok()
 }
 
-// Whether members are among the nodes.
-fn are_nodes(members: &[u8], nodes: u8) -> bool
-    ensures { result ≡ list_all (λ member. nat_le member nodes) members.now }
+/// What the master answers of a ballot.
+pub fn answer_of<C>(activation: Activation, ballot: u64) -> Body<C>
+    ensures granted { activation ≡ Activation.Activated → result ≡ Body.Activated ballot }
+    ensures refused { activation ≡ Activation.Superseded → result ≡ Body.Superseded ballot }
 {
-    members.iter().all(|member| *member <= nodes)
-}
-
-/// How many places of the log, up to a length, every member has told. The primary has told it all.
-pub fn least_told<C>(sent: &[(u8, Message<C>)], primary: u8, members: &[u8], length: u64) -> u64
-    ensures { result ≡ least_told primary sent.now length members.now }
-{
-    let mut least = length;
-    for member in members {
-        if *member != primary {
-            least = match told_by(sent, *member) {
-                Some(told) => least.min(told),
-                None => 0,
-            };
-        }
+    match activation {
+        Activation::Activated => Body::Activated(ballot),
+        Activation::Superseded => Body::Superseded(ballot),
     }
-    least
 }
 
-// How many places a member has told by messages; none before the first.
-fn told_by<C>(sent: &[(u8, Message<C>)], member: u8) -> Option<u64>
-    ensures { result ≡ told_from None member sent.now }
+/// The ballot that a message asks the master to activate, if it does.
+pub fn asks_for<C>(message: &Message<C>) -> Option<u64>
+    ensures { result ≡ asks_for message.now.body }
 {
-    let mut told = None;
-    for (_, message) in sent {
-        told = more_told(told, told_in(message, member));
-    }
-    told
-}
-
-// How many places a message says that a member holds in ballot 1.
-fn told_in<C>(message: &Message<C>, member: u8) -> Option<u64>
-    ensures { result ≡ told_in member message.now }
-{
-    if message.from != member {
-        return None;
-    }
     match message.body {
-        Body::Held(1, held) => Some(held),
+        Body::Activate(ballot) => Some(ballot),
         _ => None,
-    }
-}
-
-// The greater of what was told before and now.
-fn more_told(before: Option<u64>, now: Option<u64>) -> Option<u64>
-    ensures { result ≡ more_told before now }
-{
-    match (before, now) {
-        (Some(before), Some(now)) => Some(before.max(now)),
-        (Some(before), None) => Some(before),
-        (None, now) => now,
     }
 }

@@ -135,6 +135,58 @@ fn what_cannot_happen_is_idle(rt: HostRuntime) -> Result<(), Fail> {
     Ok(())
 }
 
+// The counts that are told of a change of configuration: [1] to [1, 2] with primary 2. The messages
+// are NewBallot, Join, State, Install, Installed, Activate, Activated, Append, Held, Commit.
+#[test]
+fn configuration_changes(rt: HostRuntime) -> Result<(), Fail> {
+    let mut group = group(rt.alloc(), 2, &[1])?;
+    let change = Event::Assign(config(rt.alloc(), &[1, 2], 2)?);
+    assert!(rt; group.step(&change).is_ok());
+    assert_eq!(rt; group.sent().len(), 1);
+    for number in 0..9 {
+        assert!(rt; group.step(&Event::Deliver(number)).is_ok());
+        assert_eq!(rt; group.sent().len() as u64, number + 2);
+        assert_eq!(rt; group.agreed_len(), if number < 7 { 0 } else { 1 });
+    }
+    assert_eq!(rt; group.active().0, 2);
+    assert_eq!(rt; group.agreed(), [TallyCommand::Start(2)].as_slice());
+    assert_eq!(rt; group.losses(), 0);
+    Ok(())
+}
+
+// The counts that are told of a ballot that is put out while it waits: message 5 is Activate(2), and
+// message 7 Superseded(2).
+#[test]
+fn a_ballot_is_put_out(rt: HostRuntime) -> Result<(), Fail> {
+    let mut group = group(rt.alloc(), 3, &[1])?;
+    let first = Event::Assign(config(rt.alloc(), &[1, 2], 2)?);
+    let second = Event::Assign(config(rt.alloc(), &[3], 3)?);
+    let rows: [(Event<TallyCommand>, usize, u64); 14] = [
+        (first, 1, 0),
+        (Event::Deliver(0), 2, 0),
+        (Event::Deliver(1), 3, 0),
+        (Event::Deliver(2), 4, 0),
+        (Event::Deliver(3), 5, 0),
+        (Event::Deliver(4), 6, 0),
+        (second, 7, 0),
+        (Event::Deliver(5), 8, 0),
+        (Event::Deliver(7), 8, 0),
+        (Event::Deliver(6), 9, 0),
+        (Event::Deliver(8), 10, 0),
+        (Event::Deliver(9), 11, 0),
+        (Event::Deliver(10), 12, 0),
+        (Event::Deliver(11), 12, 1),
+    ];
+    for (event, sent, agreed) in rows {
+        assert!(rt; group.step(&event).is_ok());
+        assert_eq!(rt; group.sent().len(), sent);
+        assert_eq!(rt; group.agreed_len(), agreed);
+    }
+    assert_eq!(rt; group.active().0, 3);
+    assert_eq!(rt; group.losses(), 0);
+    Ok(())
+}
+
 #[test]
 fn bad_members_are_refused(rt: HostRuntime) -> Result<(), Fail> {
     let rows: [(u8, &[u8], u8); 6] = [
@@ -169,17 +221,18 @@ fn event_at(number: u64) -> Event<TallyCommand> {
     }
 }
 
-// Many events find memory each time, and nothing is lost.
+// Many events find memory each time, and nothing is lost. What is agreed is asked behind each.
 #[test]
 fn many_events_lose_nothing(rt: HostRuntime) -> Result<(), Fail> {
-    let mut events = Vec::new(rt.alloc());
-    for number in 0..20_000 {
-        events.push(event_at(number))?;
-    }
     let mut group = group(rt.alloc(), 3, &[1, 2, 3])?;
-    group.run(&events);
+    let mut agreed = 0;
+    for number in 0..20_000 {
+        let _ = group.step(&event_at(number));
+        assert!(rt; group.agreed_len() >= agreed);
+        agreed = group.agreed_len();
+    }
     assert_eq!(rt; group.losses(), 0);
-    assert!(rt; group.agreed_len() > 0);
+    assert!(rt; agreed > 0);
     assert!(rt; group.left().len() > 0);
     Ok(())
 }

@@ -1,6 +1,7 @@
 // The turn of one replica, and what becomes of its effects.
 
-ghost use Rattle.std.specs.Prelude.{◌≡◌, ◌≤◌, false, [], ◌∷◌, ◌++◌, length, take, drop};
+ghost use Rattle.std.specs.Prelude.{◌≡◌, ◌≤◌, false, [], ◌∷◌, ◌++◌, length, take, drop, ◌&&◌, if◌then◌else◌};
+ghost use Rattle.ballot.specs.Losses.{one_more};
 ghost use Rattle.std.specs.Bool.{OnTrue, OnFalse};
 ghost use Rattle.machine.specs.Machine.{rules_by};
 ghost use Rattle.ballot.specs.Protocol.{replica_step};
@@ -86,4 +87,16 @@ pub fn part<C: Drop, O: Drop>(
         }
     }
     whole
+}
+
+/// The count of losses behind a step of two parts, each of which was whole or not. It stays at
+/// 2^64 - 1.
+pub fn counted(losses: u64, first: bool, second: bool) -> u64
+    ensures { result ≡ (if first && second then losses else one_more losses) }
+{
+    if first && second {
+        losses
+    } else {
+        losses.saturating_add(1)
+    }
 }

@@ -22,18 +22,18 @@ use Rattle.agreement.proofs.Frame.Bases.{chosen_told, base_is, one_line}
 use Rattle.agreement.proofs.Frame.Taking.{activated_base}
 
 -- the least is at most the bound
-least_top : (top : ℕ) (f : ℕ → ℕ) (ms : List ℕ) → least_of top f ms ≤ top
+pub least_top : (top : ℕ) (f : ℕ → ℕ) (ms : List ℕ) → least_of top f ms ≤ top
 least_top top f [] = omega arith
 least_top top f (m ∷ ms) = let z = least_top top f ms in omega (arith, z)
 
 -- and at most each member's length
-least_each : (top : ℕ) (f : ℕ → ℕ) (ms : List ℕ) (m : ℕ) → In m ms → least_of top f ms ≤ f m
+pub least_each : (top : ℕ) (f : ℕ → ℕ) (ms : List ℕ) (m : ℕ) → In m ms → least_of top f ms ≤ f m
 least_each top f [] m i = elim i [ ]
 least_each top f (x ∷ ms) m here = omega arith
 least_each top f (x ∷ ms) m (there i) = let z = least_each top f ms m i in omega (arith, z)
 
 -- and at least what is at most all of these
-least_most : (top : ℕ) (f : ℕ → ℕ) (ms : List ℕ) (j : ℕ) → j ≤ top → ((m : ℕ) → In m ms → j ≤ f m) → j ≤ least_of top f ms
+pub least_most : (top : ℕ) (f : ℕ → ℕ) (ms : List ℕ) (j : ℕ) → j ≤ top → ((m : ℕ) → In m ms → j ≤ f m) → j ≤ least_of top f ms
 least_most top f [] j low all = low
 least_most top f (m ∷ ms) j low all =
     let z = least_most top f ms j low (λ x i. all x (there i)) in let y = all m here in omega (arith, z, y)

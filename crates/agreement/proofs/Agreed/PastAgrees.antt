@@ -14,7 +14,7 @@ use Rattle.agreement.proofs.Runs.Serves.{serves_held}
 use Rattle.agreement.proofs.Agreed.PastChosen.{chosen_known, chosen_back}
 
 -- what is agreed by the past is agreed by the history
-agreed_known : {S C O : Type 0} (rules : Rules S C O) (config : Config) (a : Moment S C O) (past : List (Moment S C O)) →
+pub agreed_known : {S C O : Type 0} (rules : Rules S C O) (config : Config) (a : Moment S C O) (past : List (Moment S C O)) →
     (q : IsKnown rules config a past) → (xs : List C) → IsAgreed config (a ∷ past) xs → IsAgreedIn a.world q.history xs
 agreed_known {S = S} {C = C} {O = O} rules config a past q xs agreed =
     record { chosen = by_chosen agreed.chosen; longest = λ ys c. by_back ys (chosen_back rules config a past q ys c) }

@@ -1,22 +1,21 @@
-use Rattle.std.proofs.Common.{◌≡◌, ◌≤◌, length, ap, sym, arith}
-use Rattle.std.proofs.lemmas.List.{length-take-le}
+use Rattle.std.proofs.Common.{◌≤◌, ◌-◌, ◌∷◌, ap, sym, take, length, refl, subst, List, arith}
+use Rattle.std.specs.Prelude.{slice_get}
+use Rattle.agreement.specs.World.{log_of}
 use Rattle.machine.specs.Machine.{rules_by}
-use Rattle.master.specs.Inside.{primary_log}
-use Rattle.master.proofs.Chosen.{agreed_is, least_told-le}
+use Rattle.agreement.specs.Past.{IsAgreed}
+use Rattle.master.proofs.Counted.{member_front, some_long}
 use Rattle.master.proofs.group.Group.agreed.Goals as goal
 
-pub slice_bounds-result-end : goal.slice_bounds-result-end
-slice_bounds-result-end g c =
-    let w = c.args.self.now.world in
-    let config = c.args.self.now.config in
-    let below = least_told-le config.primary w.sent (length (primary_log config w)) config.members in
-    let long : length c.primary_log.result.now ≡ length (primary_log config w) = ap length c.primary_log.ensures in
-    let within : c.told_by_all-length.result ≤ length c.primary_log.result.now = (let e = c.told_by_all-length.ensures in omega (arith, e, long, below)) in
-    sym (length-take-le c.told_by_all-length.result c.primary_log.result.now within)
-
-pub returns : goal.returns
-returns g c =
+pub returns-in-Some : goal.returns-in-Some
+returns-in-Some g c =
     let rules = rules_by g.M.Machine.opening g.M.Machine.start_of g.M.Machine.after g.M.Machine.gives in
-    let w = c.args.self.now.world in
-    let config = c.args.self.now.config in
-    λ past came. rw c.told_by_all-length.ensures (rw c.primary_log.ensures (agreed_is rules config w past came))
+    let some = c.in-Some.ensures.some in
+    let within = (let e = ap length some.2 in let z : c.agreed_len-length.result ≤ length (log_of (slice_get c.args.self.now.moment.world.nodes (some.0 - 1))) = omega (arith, e, some.3) in z) in
+    λ config past came. subst (λ (us : List _). IsAgreed config (c.args.self.now.moment ∷ past) (take c.agreed_len-length.result us)) (sym some.2)
+    (member_front rules config c.args.self.now.moment past c.agreed_len-length.result some.0 came (λ xs is. c.agreed_len-length.ensures config past xs came is) some.1 within)
+
+pub returns-in-None : goal.returns-in-None
+returns-in-None g c =
+    let rules = rules_by g.M.Machine.opening g.M.Machine.start_of g.M.Machine.after g.M.Machine.gives in
+    λ config past came. absurd (some_long rules config c.args.self.now.moment past c.agreed_len-length.result came
+    (λ xs is. c.agreed_len-length.ensures config past xs came is) (c.in-None.ensures.none refl))

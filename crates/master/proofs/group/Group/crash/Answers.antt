@@ -1,16 +1,26 @@
-use Rattle.std.proofs.Common.{ap}
+use Rattle.std.proofs.Common.{ap, refl}
 use Rattle.machine.specs.Machine.{rules_by}
 use Rattle.ballot.specs.Replica.{CountedReplica}
 use Rattle.master.specs.declared.event.Event.TheVariants.{Crash}
 use Rattle.master.proofs.Counting.{stops_turn, steps_turn}
+use Rattle.master.proofs.Groups.{group_stops}
 use Rattle.master.proofs.Turns.{crash_turn}
 use Rattle.master.proofs.group.Group.crash.Goals as goal
+
+pub invariant_of-self : goal.invariant_of-self
+invariant_of-self g c =
+    let rules = rules_by g.M.Machine.opening g.M.Machine.start_of g.M.Machine.after g.M.Machine.gives in
+    let x = rw (← c.self.view_is) at c.in-Some.ensures.some in
+    let took = crash_turn rules c.self.inside.master c.self.inside.nodes.items c.self.inside.sent.items c.self.inside.left.items c.self.inside.losses c.in-Some.at
+    c.index_mut-replica.result.now c.stop.new.self x.replica c.index_mut-replica.ensures.value x.stands
+    (ap (λ (z : CountedReplica g.row.M.Denot g.row.M-Command.Denot). z.state) c.stop.ensures) in
+    (c.self.invariant.0, group_stops rules _ _ c.self.inside.told c.self.inside.next _ _ c.in-Some.at x.replica c.self.invariant.1 refl refl x.stands x.going took refl)
 
 pub returns-clause-step : goal.returns-clause-step
 returns-clause-step g c =
     let rules = rules_by g.M.Machine.opening g.M.Machine.start_of g.M.Machine.after g.M.Machine.gives in
     let x = rw (← c.self.view_is) at c.in-Some.ensures.some in
     rw (← c.self.view_is) (steps_turn rules _ _ (Crash c.args.node) _ (stops_turn rules _ c.args.node c.in-Some.at x)
-    (crash_turn rules c.self.inside.config c.self.inside.nodes.items c.self.inside.sent.items c.self.inside.left.items c.self.inside.losses c.in-Some.at
+    (crash_turn rules c.self.inside.master c.self.inside.nodes.items c.self.inside.sent.items c.self.inside.left.items c.self.inside.losses c.in-Some.at
     c.index_mut-replica.result.now c.stop.new.self x.replica c.index_mut-replica.ensures.value x.stands
     (ap (λ (z : CountedReplica g.row.M.Denot g.row.M-Command.Denot). z.state) c.stop.ensures)))

@@ -1,65 +1,65 @@
-use Rattle.std.proofs.Common.{◌≡◌, length, None, refl, ap, sym, ◌∙◌}
+use Rattle.std.proofs.Common.{arith, ◌≡◌, length, Some, None, refl, ap, sym, ◌∙◌}
 use Rattle.std.specs.Prelude.{slice_get}
 use Rattle.std.proofs.lemmas.Bool.{ltb-true, ltb-false}
 use Rattle.machine.specs.Machine.{rules_by}
 use Rattle.master.specs.declared.event.Event.TheVariants.{Deliver}
 use Rattle.master.specs.Group.{GroupState}
-use Rattle.master.proofs.Counting.{delivers_turn, delivers_nothing, not_sent, get_there, get_past, some_idle, steps_turn, steps_lost, steps_idle}
+use Rattle.master.proofs.Counting.{asked_in, came_in, delivers_to_master, delivers_turn, delivers_nothing, hears_ballot, hears_nothing, not_sent, steps_master, steps_unheeded, get_there, get_past, some_idle, steps_turn, steps_lost, steps_idle}
 use Rattle.master.proofs.group.Group.deliver.Goals as goal
 
 pub returns-in_default-clause-step : goal.returns-in_default-clause-step
 returns-in_default-clause-step g c =
     let rules = rules_by g.M.Machine.opening g.M.Machine.start_of g.M.Machine.after g.M.Machine.gives in
-    let sent : c.deref.result.now ≡ c.args.self.now.world.sent = c.deref.ensures.value ∙ ap (λ (z : GroupState _ _ _). z.world.sent) c.self.view_is in
-    let none : slice_get c.args.self.now.world.sent c.args.number ≡ None =
+    let sent : c.deref.result.now ≡ c.args.self.now.moment.world.sent = c.deref.ensures.value ∙ ap (λ (z : GroupState _ _ _). z.moment.world.sent) c.self.view_is in
+    let none : slice_get c.args.self.now.moment.world.sent c.args.number ≡ None =
     ap (λ us. slice_get us c.args.number) (sym sent) ∙ get_past c.deref.result.now c.args.number (ltb-false c.args.number (length c.deref.result.now) (sym c.in_default.ensures.lookup.0)) in
-    steps_idle rules c.args.self.now (Deliver c.args.number) (not_sent rules c.args.self.now.world c.args.number none)
+    steps_idle rules c.args.self.now (Deliver c.args.number) (not_sent rules c.args.self.now.moment c.args.number none)
 
 pub returns-in_default-clause-idle : goal.returns-in_default-clause-idle
 returns-in_default-clause-idle g c =
     let rules = rules_by g.M.Machine.opening g.M.Machine.start_of g.M.Machine.after g.M.Machine.gives in
-    let sent : c.deref.result.now ≡ c.args.self.now.world.sent = c.deref.ensures.value ∙ ap (λ (z : GroupState _ _ _). z.world.sent) c.self.view_is in
-    let none : slice_get c.args.self.now.world.sent c.args.number ≡ None =
+    let sent : c.deref.result.now ≡ c.args.self.now.moment.world.sent = c.deref.ensures.value ∙ ap (λ (z : GroupState _ _ _). z.moment.world.sent) c.self.view_is in
+    let none : slice_get c.args.self.now.moment.world.sent c.args.number ≡ None =
     ap (λ us. slice_get us c.args.number) (sym sent) ∙ get_past c.deref.result.now c.args.number (ltb-false c.args.number (length c.deref.result.now) (sym c.in_default.ensures.lookup.0)) in
-    (λ h. not_sent rules c.args.self.now.world c.args.number none, λ e. refl)
+    (λ h. not_sent rules c.args.self.now.moment c.args.number none, λ e. refl)
 
 pub returns-in_default-running-clause-step : goal.returns-in_default-running-clause-step
 returns-in_default-running-clause-step g c =
     let rules = rules_by g.M.Machine.opening g.M.Machine.start_of g.M.Machine.after g.M.Machine.gives in
-    let sent : c.deref.result.now ≡ c.args.self.now.world.sent = c.deref.ensures.value ∙ ap (λ (z : GroupState _ _ _). z.world.sent) c.self.view_is in
+    let sent : c.deref.result.now ≡ c.args.self.now.moment.world.sent = c.deref.ensures.value ∙ ap (λ (z : GroupState _ _ _). z.moment.world.sent) c.self.view_is in
     let found = ap (λ us. slice_get us c.args.number) (sym sent) ∙ get_there c.deref.result.now c.args.number c.in-Some.field-0.now
     (ltb-true c.args.number (length c.deref.result.now) (sym c.in-Some.ensures.lookup.0)) c.in-Some.ensures.lookup.1 in
-    let idle = delivers_nothing rules c.args.self.now.world c.args.number c.in-Some.field-0.now found (c.in_default-running.ensures.none refl) in
+    let idle = delivers_nothing rules c.args.self.now.moment c.args.number c.in-Some.field-0.now (omega (arith, c.if-receiver-eq0.false)) found (c.in_default-running.ensures.none refl) in
     steps_idle rules c.args.self.now (Deliver c.args.number) idle
 
 pub returns-in_default-running-clause-idle : goal.returns-in_default-running-clause-idle
 returns-in_default-running-clause-idle g c =
     let rules = rules_by g.M.Machine.opening g.M.Machine.start_of g.M.Machine.after g.M.Machine.gives in
-    let sent : c.deref.result.now ≡ c.args.self.now.world.sent = c.deref.ensures.value ∙ ap (λ (z : GroupState _ _ _). z.world.sent) c.self.view_is in
+    let sent : c.deref.result.now ≡ c.args.self.now.moment.world.sent = c.deref.ensures.value ∙ ap (λ (z : GroupState _ _ _). z.moment.world.sent) c.self.view_is in
     let found = ap (λ us. slice_get us c.args.number) (sym sent) ∙ get_there c.deref.result.now c.args.number c.in-Some.field-0.now
     (ltb-true c.args.number (length c.deref.result.now) (sym c.in-Some.ensures.lookup.0)) c.in-Some.ensures.lookup.1 in
-    let idle = delivers_nothing rules c.args.self.now.world c.args.number c.in-Some.field-0.now found (c.in_default-running.ensures.none refl) in
+    let idle = delivers_nothing rules c.args.self.now.moment c.args.number c.in-Some.field-0.now (omega (arith, c.if-receiver-eq0.false)) found (c.in_default-running.ensures.none refl) in
     (λ h. idle, λ e. refl)
 
 pub returns-in-Ok-clause-step : goal.returns-in-Ok-clause-step
 returns-in-Ok-clause-step g c =
     let rules = rules_by g.M.Machine.opening g.M.Machine.start_of g.M.Machine.after g.M.Machine.gives in
-    let sent : c.deref.result.now ≡ c.args.self.now.world.sent = c.deref.ensures.value ∙ ap (λ (z : GroupState _ _ _). z.world.sent) c.self.view_is in
+    let sent : c.deref.result.now ≡ c.args.self.now.moment.world.sent = c.deref.ensures.value ∙ ap (λ (z : GroupState _ _ _). z.moment.world.sent) c.self.view_is in
     let found = ap (λ us. slice_get us c.args.number) (sym sent) ∙ get_there c.deref.result.now c.args.number c.in-Some.field-0.now
     (ltb-true c.args.number (length c.deref.result.now) (sym c.in-Some.ensures.lookup.0)) c.in-Some.ensures.lookup.1 in
     let x = c.in-Some-running.ensures.some in
     steps_turn rules c.args.self.now c.take_turn.new.self (Deliver c.args.number) _
-    (delivers_turn rules c.args.self.now.world c.args.number c.in-Some-running.at c.in-Some.field-0.now c.in-Ok.message found c.in-Ok.ensures x)
+    (delivers_turn rules c.args.self.now.moment c.args.number c.in-Some-running.at c.in-Some.field-0.now c.in-Ok.message found c.in-Ok.ensures x)
     (c.take_turn.ensures x.replica x.stands)
 
 pub returns-in-Ok-clause-idle : goal.returns-in-Ok-clause-idle
 returns-in-Ok-clause-idle g c =
     let rules = rules_by g.M.Machine.opening g.M.Machine.start_of g.M.Machine.after g.M.Machine.gives in
-    let sent : c.deref.result.now ≡ c.args.self.now.world.sent = c.deref.ensures.value ∙ ap (λ (z : GroupState _ _ _). z.world.sent) c.self.view_is in
+    let sent : c.deref.result.now ≡ c.args.self.now.moment.world.sent = c.deref.ensures.value ∙ ap (λ (z : GroupState _ _ _). z.moment.world.sent) c.self.view_is in
     let found = ap (λ us. slice_get us c.args.number) (sym sent) ∙ get_there c.deref.result.now c.args.number c.in-Some.field-0.now
     (ltb-true c.args.number (length c.deref.result.now) (sym c.in-Some.ensures.lookup.0)) c.in-Some.ensures.lookup.1 in
     let x = c.in-Some-running.ensures.some in
-    (λ h. cc, λ e. some_idle (delivers_turn rules c.args.self.now.world c.args.number c.in-Some-running.at c.in-Some.field-0.now c.in-Some.field-0.now.1 found refl x) e)
+    (λ h. cc, λ e. some_idle (delivers_turn rules c.args.self.now.moment c.args.number c.in-Some-running.at c.in-Some.field-0.now c.in-Some.field-0.now.1 found refl x) e)
 
 pub returns-in-Err-clause-step : goal.returns-in-Err-clause-step
 returns-in-Err-clause-step g c =
@@ -69,8 +69,64 @@ returns-in-Err-clause-step g c =
 pub returns-in-Err-clause-idle : goal.returns-in-Err-clause-idle
 returns-in-Err-clause-idle g c =
     let rules = rules_by g.M.Machine.opening g.M.Machine.start_of g.M.Machine.after g.M.Machine.gives in
-    let sent : c.deref.result.now ≡ c.args.self.now.world.sent = c.deref.ensures.value ∙ ap (λ (z : GroupState _ _ _). z.world.sent) c.self.view_is in
+    let sent : c.deref.result.now ≡ c.args.self.now.moment.world.sent = c.deref.ensures.value ∙ ap (λ (z : GroupState _ _ _). z.moment.world.sent) c.self.view_is in
     let found = ap (λ us. slice_get us c.args.number) (sym sent) ∙ get_there c.deref.result.now c.args.number c.in-Some.field-0.now
     (ltb-true c.args.number (length c.deref.result.now) (sym c.in-Some.ensures.lookup.0)) c.in-Some.ensures.lookup.1 in
     let x = c.in-Some-running.ensures.some in
-    (λ h. cc, λ e. some_idle (delivers_turn rules c.args.self.now.world c.args.number c.in-Some-running.at c.in-Some.field-0.now c.in-Some.field-0.now.1 found refl x) e)
+    (λ h. cc, λ e. some_idle (delivers_turn rules c.args.self.now.moment c.args.number c.in-Some-running.at c.in-Some.field-0.now c.in-Some.field-0.now.1 found refl x) e)
+
+pub answer-requires : goal.answer-requires
+answer-requires g c =
+    let rules = rules_by g.M.Machine.opening g.M.Machine.start_of g.M.Machine.after g.M.Machine.gives in
+    let sent : c.deref.result.now ≡ c.args.self.now.moment.world.sent = c.deref.ensures.value ∙ ap (λ (z : GroupState _ _ _). z.moment.world.sent) c.self.view_is in
+    let found = ap (λ us. slice_get us c.args.number) (sym sent) ∙ get_there c.deref.result.now c.args.number c.in-Some.field-0.now
+    (ltb-true c.args.number (length c.deref.result.now) (sym c.in-Some.ensures.lookup.0)) c.in-Some.ensures.lookup.1 in
+    let hears = hears_ballot rules c.args.self.now.moment.master c.in-Some.field-0.now.1.from c.in-Some-asks_for.ballot c.in-Some.field-0.now.1.body
+    (sym c.asks_for.ensures ∙ c.in-Some-asks_for.is) in
+    asked_in c.args.self.now.moment.world.sent c.args.number c.in-Some-asks_for.ballot c.in-Some.field-0.now found c.if-receiver-eq0.true hears.0
+
+pub take_turn-requires-clause-may : goal.take_turn-requires-clause-may
+take_turn-requires-clause-may g c =
+    let rules = rules_by g.M.Machine.opening g.M.Machine.start_of g.M.Machine.after g.M.Machine.gives in
+    let sent : c.deref.result.now ≡ c.args.self.now.moment.world.sent = c.deref.ensures.value ∙ ap (λ (z : GroupState _ _ _). z.moment.world.sent) c.self.view_is in
+    let found = ap (λ us. slice_get us c.args.number) (sym sent) ∙ get_there c.deref.result.now c.args.number c.in-Some.field-0.now
+    (ltb-true c.args.number (length c.deref.result.now) (sym c.in-Some.ensures.lookup.0)) c.in-Some.ensures.lookup.1 in
+    came_in c.args.self.now.moment.world.nodes c.args.self.now.moment.world.sent c.args.number c.in-Some-running.at c.in-Some.field-0.now c.in-Ok.message found c.in-Ok.ensures
+    c.in-Some-running.ensures.some
+
+pub returns-in-Some-asks_for-clause-step : goal.returns-in-Some-asks_for-clause-step
+returns-in-Some-asks_for-clause-step g c =
+    let rules = rules_by g.M.Machine.opening g.M.Machine.start_of g.M.Machine.after g.M.Machine.gives in
+    let sent : c.deref.result.now ≡ c.args.self.now.moment.world.sent = c.deref.ensures.value ∙ ap (λ (z : GroupState _ _ _). z.moment.world.sent) c.self.view_is in
+    let found = ap (λ us. slice_get us c.args.number) (sym sent) ∙ get_there c.deref.result.now c.args.number c.in-Some.field-0.now
+    (ltb-true c.args.number (length c.deref.result.now) (sym c.in-Some.ensures.lookup.0)) c.in-Some.ensures.lookup.1 in
+    let hears = hears_ballot rules c.args.self.now.moment.master c.in-Some.field-0.now.1.from c.in-Some-asks_for.ballot c.in-Some.field-0.now.1.body
+    (sym c.asks_for.ensures ∙ c.in-Some-asks_for.is) in
+    steps_master rules c.args.self.now c.answer.new.self (Deliver c.args.number) _
+    (delivers_to_master rules c.args.self.now.moment c.args.number c.in-Some.field-0.now c.if-receiver-eq0.true found ∙ ap Some hears.1) c.answer.ensures
+
+pub returns-in-Some-asks_for-clause-idle : goal.returns-in-Some-asks_for-clause-idle
+returns-in-Some-asks_for-clause-idle g c =
+    let rules = rules_by g.M.Machine.opening g.M.Machine.start_of g.M.Machine.after g.M.Machine.gives in
+    let sent : c.deref.result.now ≡ c.args.self.now.moment.world.sent = c.deref.ensures.value ∙ ap (λ (z : GroupState _ _ _). z.moment.world.sent) c.self.view_is in
+    let found = ap (λ us. slice_get us c.args.number) (sym sent) ∙ get_there c.deref.result.now c.args.number c.in-Some.field-0.now
+    (ltb-true c.args.number (length c.deref.result.now) (sym c.in-Some.ensures.lookup.0)) c.in-Some.ensures.lookup.1 in
+    (λ h. cc, λ e. some_idle (delivers_to_master rules c.args.self.now.moment c.args.number c.in-Some.field-0.now c.if-receiver-eq0.true found) e)
+
+pub returns-in-None-clause-step : goal.returns-in-None-clause-step
+returns-in-None-clause-step g c =
+    let rules = rules_by g.M.Machine.opening g.M.Machine.start_of g.M.Machine.after g.M.Machine.gives in
+    let sent : c.deref.result.now ≡ c.args.self.now.moment.world.sent = c.deref.ensures.value ∙ ap (λ (z : GroupState _ _ _). z.moment.world.sent) c.self.view_is in
+    let found = ap (λ us. slice_get us c.args.number) (sym sent) ∙ get_there c.deref.result.now c.args.number c.in-Some.field-0.now
+    (ltb-true c.args.number (length c.deref.result.now) (sym c.in-Some.ensures.lookup.0)) c.in-Some.ensures.lookup.1 in
+    let hears = hears_nothing rules c.args.self.now.moment.master c.in-Some.field-0.now.1.from c.in-Some.field-0.now.1.body (sym c.asks_for.ensures ∙ c.in-None.is) in
+    steps_unheeded rules c.args.self.now (Deliver c.args.number)
+    (delivers_to_master rules c.args.self.now.moment c.args.number c.in-Some.field-0.now c.if-receiver-eq0.true found ∙ ap Some hears)
+
+pub returns-in-None-clause-idle : goal.returns-in-None-clause-idle
+returns-in-None-clause-idle g c =
+    let rules = rules_by g.M.Machine.opening g.M.Machine.start_of g.M.Machine.after g.M.Machine.gives in
+    let sent : c.deref.result.now ≡ c.args.self.now.moment.world.sent = c.deref.ensures.value ∙ ap (λ (z : GroupState _ _ _). z.moment.world.sent) c.self.view_is in
+    let found = ap (λ us. slice_get us c.args.number) (sym sent) ∙ get_there c.deref.result.now c.args.number c.in-Some.field-0.now
+    (ltb-true c.args.number (length c.deref.result.now) (sym c.in-Some.ensures.lookup.0)) c.in-Some.ensures.lookup.1 in
+    (λ h. cc, λ e. some_idle (delivers_to_master rules c.args.self.now.moment c.args.number c.in-Some.field-0.now c.if-receiver-eq0.true found) e)

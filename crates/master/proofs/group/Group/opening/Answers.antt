@@ -1,10 +1,12 @@
-use Rattle.std.proofs.Common.{◌≡◌, ap, sym, ◌∙◌, arith}
+use Rattle.std.proofs.Common.{◌≡◌, [], ◌∷◌, ap, sym, ◌∙◌, subst, refl, arith}
 use Rattle.machine.specs.Machine.{rules_by}
 use Rattle.ballot.specs.Replica.{CountedReplica}
+use Rattle.agreement.specs.World.{messages}
+use Rattle.agreement.specs.Past.{Moment, Past}
+use Rattle.agreement.specs.Past.Past.{began}
 use Rattle.master.specs.Group.{GroupState}
-use Rattle.agreement.specs.World.{World}
-use Rattle.master.proofs.Opening.{opened_more}
-use Rattle.master.proofs.Turns.{opened_group}
+use Rattle.master.proofs.Groups.{group_opens}
+use Rattle.master.proofs.Turns.{opened_moment, opened_more}
 use Rattle.master.proofs.group.Group.opening.Goals as goal
 
 pub loop-at-preserved : goal.loop-at-preserved
@@ -13,22 +15,31 @@ loop-at-preserved g c =
     opened_more rules c.args.config c.loop-at.opened.items c.push.new.self.items c.in_ok-new.field-0 c.loop-at.at
     c.loop-at.invariant (ap (λ (z : CountedReplica _ _). z.state) c.in_ok-new.ensures.ok) c.in_ok-push.ensures.items
 
+pub invariant_of-result : goal.invariant_of-result
+invariant_of-result g c =
+    let rules = rules_by g.M.Machine.opening g.M.Machine.start_of g.M.Machine.after g.M.Machine.gives in
+    let count : c.loop-at.at ≡ c.args.nodes = (let a = c.loop-at.auto.at-end in omega (arith, a, c.loop-at-test.false)) in
+    let opened = opened_moment rules c.args.config c.args.nodes c.loop-at.at c.in-Ok.master c.loop-at.opened.items c.new-5.result.items c.new-6.result.items
+    c.in-Ok.ensures.ok c.loop-at.invariant count c.new-5.ensures.items c.new-6.ensures.items in (
+      ap messages c.new-6.ensures.items,
+      group_opens rules c.args.nodes c.args.config _ c.in_ok-told.told c.in_ok-next.next (sym c.can_open.ensures ∙ c.if-not-can_open.false) opened
+          c.in_ok-told.ensures.ballot c.in_ok-told.ensures.counted c.in_ok-next.ensures.counted,
+    )
+
 pub returns-clause-ok : goal.returns-clause-ok
 returns-clause-ok g c =
     let rules = rules_by g.M.Machine.opening g.M.Machine.start_of g.M.Machine.after g.M.Machine.gives in
     let count : c.loop-at.at ≡ c.args.nodes = (let a = c.loop-at.auto.at-end in omega (arith, a, c.loop-at-test.false)) in
-    let world = opened_group rules c.args.config c.args.nodes c.loop-at.at c.loop-at.opened.items c.new-2.result.items c.new-3.result.items
-    c.loop-at.invariant count c.new-2.ensures.items c.new-3.ensures.items in
-    ap (λ (w : World g.row.M.Denot g.row.M-Command.Denot g.row.M-Output.Denot).
-    let z : GroupState g.row.M.Denot g.row.M-Command.Denot g.row.M-Output.Denot = record { config = c.args.config; world = w; losses = 0 } in z) world
+    let opened = opened_moment rules c.args.config c.args.nodes c.loop-at.at c.in-Ok.master c.loop-at.opened.items c.new-5.result.items c.new-6.result.items
+    c.in-Ok.ensures.ok c.loop-at.invariant count c.new-5.ensures.items c.new-6.ensures.items in
+    ap (λ (a : Moment g.row.M.Denot g.row.M-Command.Denot g.row.M-Output.Denot).
+    let z : GroupState g.row.M.Denot g.row.M-Command.Denot g.row.M-Output.Denot = record { moment = a; losses = 0 } in z) opened
 
 pub returns-clause-opens : goal.returns-clause-opens
 returns-clause-opens g c =
     let rules = rules_by g.M.Machine.opening g.M.Machine.start_of g.M.Machine.after g.M.Machine.gives in
     let count : c.loop-at.at ≡ c.args.nodes = (let a = c.loop-at.auto.at-end in omega (arith, a, c.loop-at-test.false)) in
-    record {
-      nodes = c.args.nodes;
-      lawful = sym c.can_open.ensures ∙ c.if-not-can_open.false;
-      is = opened_group rules c.args.config c.args.nodes c.loop-at.at c.loop-at.opened.items c.new-2.result.items c.new-3.result.items
-          c.loop-at.invariant count c.new-2.ensures.items c.new-3.ensures.items;
-    }
+    let opened = opened_moment rules c.args.config c.args.nodes c.loop-at.at c.in-Ok.master c.loop-at.opened.items c.new-5.result.items c.new-6.result.items
+    c.in-Ok.ensures.ok c.loop-at.invariant count c.new-5.ensures.items c.new-6.ensures.items in
+    subst (λ (a : Moment g.row.M.Denot g.row.M-Command.Denot g.row.M-Output.Denot). Past rules c.args.config (a ∷ [])) (sym opened)
+    (began c.args.nodes (sym c.can_open.ensures ∙ c.if-not-can_open.false) refl)

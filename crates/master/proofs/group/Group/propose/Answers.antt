@@ -14,7 +14,7 @@ returns-then-not-is_active-clause-step g c =
     let inside = rw (← c.self.view_is) at x.stands in
     let same = same_replica c.self.inside.nodes.items c.in-Some.at c.index.result.now x.replica c.index.ensures inside in
     let status : c.status-status.result ≡ status_of x.replica = c.status-status.ensures ∙ ap status_of same in
-    let idle = cannot_take rules c.args.self.now.world c.args.node c.in-Some.at (Proposes c.args.command.now) x
+    let idle = cannot_take rules c.args.self.now.moment.world c.args.node c.in-Some.at (Proposes c.args.command.now) x
     (proposal_refused x.replica c.status-status.result c.is_active.result c.args.command.now status c.is_active.ensures c.then-not-is_active.either) in
     steps_idle rules c.args.self.now (Propose c.args.node c.args.command.now) idle
 
@@ -25,7 +25,7 @@ returns-then-not-is_active-clause-idle g c =
     let inside = rw (← c.self.view_is) at x.stands in
     let same = same_replica c.self.inside.nodes.items c.in-Some.at c.index.result.now x.replica c.index.ensures inside in
     let status : c.status-status.result ≡ status_of x.replica = c.status-status.ensures ∙ ap status_of same in
-    let idle = cannot_take rules c.args.self.now.world c.args.node c.in-Some.at (Proposes c.args.command.now) x
+    let idle = cannot_take rules c.args.self.now.moment.world c.args.node c.in-Some.at (Proposes c.args.command.now) x
     (proposal_refused x.replica c.status-status.result c.is_active.result c.args.command.now status c.is_active.ensures c.then-not-is_active.either) in
     (λ h. idle, λ e. refl)
 
@@ -37,7 +37,7 @@ returns-in-Ok-clause-step g c =
     let same = same_replica c.self.inside.nodes.items c.in-Some.at c.index.result.now x.replica c.index.ensures inside in
     let status : c.status-status.result ≡ status_of x.replica = c.status-status.ensures ∙ ap status_of same in
     let can = proposal_taken x.replica c.status-status.result c.is_active.result c.args.command.now status c.is_active.ensures c.if-not-is_active.false c.if-status-ge-MOST_PLACES.false in
-    let goes = takes_turn rules c.args.self.now.world c.args.node c.in-Some.at (Proposes c.args.command.now) x can in
+    let goes = takes_turn rules c.args.self.now.moment.world c.args.node c.in-Some.at (Proposes c.args.command.now) x can in
     let turned = c.take_turn.ensures x.replica x.stands in
     steps_turn rules c.args.self.now c.take_turn.new.self (Propose c.args.node c.args.command.now) _ goes
     (rw c.in-Ok.ensures.same at turned)
@@ -50,7 +50,7 @@ returns-in-Ok-clause-idle g c =
     let same = same_replica c.self.inside.nodes.items c.in-Some.at c.index.result.now x.replica c.index.ensures inside in
     let status : c.status-status.result ≡ status_of x.replica = c.status-status.ensures ∙ ap status_of same in
     let can = proposal_taken x.replica c.status-status.result c.is_active.result c.args.command.now status c.is_active.ensures c.if-not-is_active.false c.if-status-ge-MOST_PLACES.false in
-    let goes = takes_turn rules c.args.self.now.world c.args.node c.in-Some.at (Proposes c.args.command.now) x can in
+    let goes = takes_turn rules c.args.self.now.moment.world c.args.node c.in-Some.at (Proposes c.args.command.now) x can in
     (λ h. cc, λ e. some_idle goes e)
 
 pub returns-in-Err-clause-step : goal.returns-in-Err-clause-step
@@ -66,5 +66,5 @@ returns-in-Err-clause-idle g c =
     let same = same_replica c.self.inside.nodes.items c.in-Some.at c.index.result.now x.replica c.index.ensures inside in
     let status : c.status-status.result ≡ status_of x.replica = c.status-status.ensures ∙ ap status_of same in
     let can = proposal_taken x.replica c.status-status.result c.is_active.result c.args.command.now status c.is_active.ensures c.if-not-is_active.false c.if-status-ge-MOST_PLACES.false in
-    let goes = takes_turn rules c.args.self.now.world c.args.node c.in-Some.at (Proposes c.args.command.now) x can in
+    let goes = takes_turn rules c.args.self.now.moment.world c.args.node c.in-Some.at (Proposes c.args.command.now) x can in
     (λ h. cc, λ e. some_idle goes e)

@@ -17,4 +17,4 @@ loop-event-preserved g c =
 pub returns-clause-agreement : goal.returns-clause-agreement
 returns-clause-agreement g c =
     let rules = rules_by g.M.Machine.opening g.M.Machine.start_of g.M.Machine.after g.M.Machine.gives in
-    λ past came. agrees_after rules c.args.self.now.config c.args.self.now c.loop-event.self past _ came c.loop-event.invariant.ran
+    λ config past came. agrees_after rules config c.args.self.now c.loop-event.self past _ came c.loop-event.invariant.ran

@@ -1,33 +1,56 @@
-use Rattle.std.proofs.Common.{◌≡◌, inl, inr, length, ◌∙◌, refl}
+use Rattle.std.proofs.Common.{◌≡◌, length, ap, ◌∙◌, refl}
 use Rattle.machine.specs.Machine.{rules_by}
 use Rattle.ballot.specs.Protocol.{replica_step}
 use Rattle.master.specs.Inside.{input_of}
-use Rattle.master.proofs.Turns.{took_turn, below_of, going_of}
+use Rattle.agreement.specs.World.{messages}
+use Rattle.master.proofs.Groups.{front_of, group_turns, more_than}
+use Rattle.master.proofs.Turns.{took_turn, below_of, count_is, going_of}
 use Rattle.master.proofs.group.Group.take_turn.Goals as goal
 
 pub take_in-taken-requires : goal.take_in-taken-requires
 take_in-taken-requires g c =
-    let there = rw (← c.self.view_is) at c.requires in
+    let there = rw (← c.self.view_is) at c.requires.runs in
     going_of c.self.inside.nodes.items c.args.at c.index_mut-replica.result.now there.0 c.index_mut-replica.ensures.value there.1 there.2
 
-pub returns-then-not-kept : goal.returns-then-not-kept
-returns-then-not-kept g c =
-    let rules = rules_by g.M.Machine.opening g.M.Machine.start_of g.M.Machine.after g.M.Machine.gives in
-    let there = rw (← c.self.view_is) at c.requires in
-    let below = below_of c.self.inside.nodes.items c.args.at there.0 there.1 in
-    let from : c.len-from.result ≡ length c.self.inside.left.items = c.len-from.ensures ∙ c.self.inside.left.ok.0 in
-    rw (← c.self.view_is) (λ r stands. took_turn c.self.inside.config c.self.inside.nodes.items c.self.inside.sent.items c.part-kept.new.sent.items
-    c.self.inside.left.items c.take_in-taken.new.out.items c.part-kept.new.effects.items c.self.inside.losses c.saturating_add-self-inside.result c.args.at c.len-from.result
-    c.index_mut-replica.result.now c.take_in-taken.new.replica (λ s. replica_step rules s (input_of c.args.taken)) r c.take_in-taken.result c.part-kept.result
-    below c.index_mut-replica.ensures.value stands from c.take_in-taken.ensures c.part-kept.ensures (inr c.saturating_add-self-inside.ensures))
+pub hear_from-requires : goal.hear_from-requires
+hear_from-requires g c =
+    more_than c.len-told.result c.self.inside.sent.items _ c.part-kept.new.sent.items c.deref.result.now c.deref.ensures.value c.part-kept.ensures.sent_is
+    (c.len-told.ensures ∙ c.self.inside.sent.ok.0)
 
-pub returns-else-not-kept : goal.returns-else-not-kept
-returns-else-not-kept g c =
+pub hear_from-requires-2 : goal.hear_from-requires-2
+hear_from-requires-2 g c =
+    more_than c.len-told.result c.self.inside.sent.items _ c.part-kept.new.sent.items c.deref-2.result.now c.deref-2.ensures.value c.part-kept.ensures.sent_is
+    (c.len-told.ensures ∙ c.self.inside.sent.ok.0)
+
+pub invariant_of-self : goal.invariant_of-self
+invariant_of-self g c =
     let rules = rules_by g.M.Machine.opening g.M.Machine.start_of g.M.Machine.after g.M.Machine.gives in
-    let there = rw (← c.self.view_is) at c.requires in
+    let there = rw (← c.self.view_is) at c.requires.runs in
+    let may = rw (← c.self.view_is) at c.requires.may in
     let below = below_of c.self.inside.nodes.items c.args.at there.0 there.1 in
     let from : c.len-from.result ≡ length c.self.inside.left.items = c.len-from.ensures ∙ c.self.inside.left.ok.0 in
-    rw (← c.self.view_is) (λ r stands. took_turn c.self.inside.config c.self.inside.nodes.items c.self.inside.sent.items c.part-kept.new.sent.items
-    c.self.inside.left.items c.take_in-taken.new.out.items c.part-kept.new.effects.items c.self.inside.losses c.self.inside.losses c.args.at c.len-from.result
+    let took = took_turn c.self.inside.master c.self.inside.nodes.items c.self.inside.sent.items c.part-kept.new.sent.items
+    c.self.inside.left.items c.take_in-taken.new.out.items c.part-kept.new.effects.items c.self.inside.losses c.counted-self-inside.result c.args.at c.len-from.result
+    c.index_mut-replica.result.now c.take_in-taken.new.replica (λ s. replica_step rules s (input_of c.args.taken)) there.0 c.take_in-taken.result c.part-kept.result
+    below c.index_mut-replica.ensures.value there.1 from c.take_in-taken.ensures c.part-kept.ensures
+    (count_is c.take_in-taken.result c.part-kept.result c.self.inside.losses c.counted-self-inside.result c.counted-self-inside.ensures) in (
+      c.part-kept.ensures.messages_are
+          ∙ ap messages (front_of c.len-from.result c.self.inside.left.items c.take_in-taken.ensures.given c.take_in-taken.new.out.items c.take_in-taken.ensures.appended from)
+          ∙ c.self.invariant.0,
+      group_turns rules _ _ c.self.inside.told c.self.inside.next c.hear_from.new.self c.hear_from-2.new.self _ _ (input_of c.args.taken) c.args.at c.len-told.result there.0
+          c.part-kept.ensures.kept c.part-kept.new.sent.items c.self.invariant.1 refl refl there.1 there.2 may took refl (c.len-told.ensures ∙ c.self.inside.sent.ok.0)
+          c.part-kept.ensures.sent_is c.hear_from.ensures.ballot (rw c.deref.ensures.value at c.hear_from.ensures.counted) c.hear_from-2.ensures.ballot
+          (rw c.deref-2.ensures.value at c.hear_from-2.ensures.counted),
+    )
+
+pub returns : goal.returns
+returns g c =
+    let rules = rules_by g.M.Machine.opening g.M.Machine.start_of g.M.Machine.after g.M.Machine.gives in
+    let there = rw (← c.self.view_is) at c.requires.runs in
+    let below = below_of c.self.inside.nodes.items c.args.at there.0 there.1 in
+    let from : c.len-from.result ≡ length c.self.inside.left.items = c.len-from.ensures ∙ c.self.inside.left.ok.0 in
+    rw (← c.self.view_is) (λ r stands. took_turn c.self.inside.master c.self.inside.nodes.items c.self.inside.sent.items c.part-kept.new.sent.items
+    c.self.inside.left.items c.take_in-taken.new.out.items c.part-kept.new.effects.items c.self.inside.losses c.counted-self-inside.result c.args.at c.len-from.result
     c.index_mut-replica.result.now c.take_in-taken.new.replica (λ s. replica_step rules s (input_of c.args.taken)) r c.take_in-taken.result c.part-kept.result
-    below c.index_mut-replica.ensures.value stands from c.take_in-taken.ensures c.part-kept.ensures (inl (c.if-not-kept.false.0, c.if-not-kept.false.1, refl)))
+    below c.index_mut-replica.ensures.value stands from c.take_in-taken.ensures c.part-kept.ensures
+    (count_is c.take_in-taken.result c.part-kept.result c.self.inside.losses c.counted-self-inside.result c.counted-self-inside.ensures))

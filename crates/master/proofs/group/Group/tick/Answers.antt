@@ -10,4 +10,4 @@ returns-clause-step g c =
     let rules = rules_by g.M.Machine.opening g.M.Machine.start_of g.M.Machine.after g.M.Machine.gives in
     let x = c.in-Some.ensures.some in
     steps_turn rules c.args.self.now c.take_turn.new.self (Tick c.args.node) _
-    (takes_turn rules c.args.self.now.world c.args.node c.in-Some.at Ticks x refl) (c.take_turn.ensures x.replica x.stands)
+    (takes_turn rules c.args.self.now.moment.world c.args.node c.in-Some.at Ticks x refl) (c.take_turn.ensures x.replica x.stands)

@@ -1,0 +1,482 @@
+-- Groups.antt: what a group counts and how it came to be, behind each thing that it does.
+use Rattle.std.proofs.Common.{◌≡◌, ℕ, zero, suc, ◌+◌, ◌<◌, ◌≤◌, ◌⊎◌, inl, inr, Bool, true, false, cond, max, List, [], ◌∷◌, ◌++◌, length, drop, take, take_all, get_or, Some, None, Option, refl, ap, sym, ◌∙◌, subst, arith}
+use Rattle.std.specs.Prelude.{slice_get, ◌==◌, ◌&&◌}
+use Rattle.std.proofs.lemmas.Bool.{cases_eq, ne_eqb, cases_Bool, eqb-true}
+use Rattle.std.proofs.lemmas.List.{drop_more, length-append, take-append-le, take_more}
+use Rattle.std.proofs.Math.Seq.{take-length}
+use Rattle.machine.specs.Machine.{Rules}
+use Rattle.lists.specs.Lists.{In}
+use Rattle.lists.specs.Lists.In.{here, there}
+use Rattle.lists.proofs.Members.{in_append}
+use Rattle.ballot.specs.Config.{Config}
+use Rattle.ballot.specs.Message.{Message}
+use Rattle.ballot.specs.Body.{Body}
+use Rattle.ballot.specs.Body.TheVariants.{NewBallot, Join, State, Install, Installed, Activate, Activated, Superseded, Append, Held, Commit}
+use Rattle.ballot.specs.Effect.{Effect}
+use Rattle.ballot.specs.Replica.{ReplicaState, CountedReplica}
+use Rattle.agreement.specs.World.{World, can_open, messages, moved}
+use Rattle.agreement.specs.MasterState.{MasterState, assigned, assigning, activated, activating, refusal}
+use Rattle.agreement.specs.Past.{Moment, Past, opening_moment}
+use Rattle.agreement.specs.Past.Past.{began, went_on}
+use Rattle.agreement.specs.Steps.{tells_from_master}
+use Rattle.agreement.specs.Inside.Ballots.{Given, History}
+use Rattle.agreement.specs.Inside.Sound.{Says}
+use Rattle.agreement.specs.Inside.ToldLengths.{most_told, told_by, told_in}
+use Rattle.agreement.proofs.Agreed.PastKnown.{past_known}
+use Rattle.std.specs.Bool.{OnTrue, OnFalse}
+use Rattle.ballot.specs.Losses.{Loses, Thinned, halted, one_more}
+use Rattle.ballot.specs.Sending.{Outcome}
+use Rattle.ballot.specs.Protocol.{Input, replica_step}
+use Rattle.ballot.proofs.ThinnedEffects.{Thinned-same}
+use Rattle.agreement.specs.Steps.{MayTake}
+use Rattle.master.specs.Group.{GroupState}
+use Rattle.agreement.specs.MasterState.{MasterOutcome}
+use Rattle.master.specs.declared.activation.Activation.{Activation}
+use Rattle.master.specs.declared.activation.Activation.TheVariants.{Activated as Granted, Superseded as Refused}
+use Rattle.master.specs.Inside.{HasCounted, IsGroup, MasterTook, ToldIn, TookTurn, least_but_one, next_least, moment_of, world_of}
+use Rattle.master.proofs.Happening.{MayGo, IsDeed, master_may, deed_lost, node_may}
+use Rattle.master.proofs.Happening.IsTurn.{it_takes, it_stops}
+use Rattle.master.proofs.Happening.IsDeed.{it_gives, it_answers}
+
+-- a message more
+pub most_told_more : {C : Type 0} (m b : ℕ) (sent more : List (ℕ × Message C)) →
+    most_told m b (sent ++ more) ≡ max (most_told m b sent) (most_told m b more)
+most_told_more m b [] more = let e : most_told m b more ≡ max 0 (most_told m b more) = omega arith in e
+most_told_more m b (x ∷ sent) more =
+    let e = most_told_more m b sent more in
+    ap (max (told_in m b x.1)) e
+    ∙ (let f : max (told_in m b x.1) (max (most_told m b sent) (most_told m b more)) ≡ max (max (told_in m b x.1) (most_told m b sent)) (most_told m b more) = omega arith in f)
+
+-- messages that tell nothing
+pub most_told_none : {C : Type 0} (m b : ℕ) (sent : List (ℕ × Message C)) → ((x : ℕ × Message C) → In x sent → told_in m b x.1 ≡ 0) →
+    most_told m b sent ≡ 0
+most_told_none m b [] all = refl
+most_told_none m b (x ∷ sent) all =
+    let e = all x here in let f = most_told_none m b sent (λ y i. all y (there i)) in omega (arith, e, f)
+
+-- what is counted stays so behind a message that tells nothing
+pub counted_still : {C : Type 0} (sent : List (ℕ × Message C)) (x : ℕ × Message C) (t : ToldIn) → ((m b : ℕ) → told_in m b x.1 ≡ 0) →
+    HasCounted sent t → HasCounted (sent ++ x ∷ []) t
+counted_still {C = C} sent x t none h m low =
+    let e = most_told_more m t.ballot sent (x ∷ []) in
+    let f : most_told m t.ballot (x ∷ []) ≡ 0 = (let z = none m t.ballot in omega (arith, z)) in
+    let y = h m low in omega (arith, e, f, y)
+
+-- what one body tells
+silent : {C : Type 0} (m b from : ℕ) (body : Body C) → told_by b body ≡ 0 → told_in m b (record { from = from; body = body }) ≡ 0
+silent m b from body e = by_sender (cases_Bool (from == m))
+  where
+    by_sender : ((from == m) ≡ true) ⊎ ((from == m) ≡ false) → cond (from == m) (told_by b body) 0 ≡ 0
+    by_sender (inl f) = ap (λ k. cond k (told_by b body) 0) f ∙ e
+    by_sender (inr f) = ap (λ k. cond k (told_by b body) 0) f
+
+-- the master tells no length
+pub new_ballot_silent : (C : Type 0) (receiver from ballot previous : ℕ) (members old : List ℕ) (m b : ℕ) →
+    told_in {C = C} m b (record { from = from; body = NewBallot ballot members previous old }) ≡ 0
+new_ballot_silent C receiver from ballot previous members old m b = silent {C = C} m b from (NewBallot ballot members previous old) refl
+
+pub answer_silent : (C : Type 0) (from ballot : ℕ) (granted : Bool) (m b : ℕ) →
+    told_in {C = C} m b (record { from = from; body = cond granted (Activated ballot) (Superseded ballot) }) ≡ 0
+answer_silent C from ballot true m b = silent {C = C} m b from (Activated ballot) refl
+answer_silent C from ballot false m b = silent {C = C} m b from (Superseded ballot) refl
+
+-- nothing was told in the ballot that comes next
+untold_body : {S C O : Type 0} (w : World S C O) (h : History C) (given to from : ℕ) (body : Body C) → Says w h to from body →
+    ((b : ℕ) (g : Given) → h.given b ≡ Some g → (0 < b) × (b ≤ given)) → told_by (given + 1) body ≡ 0
+untold_body w h given to from (NewBallot b members a old) says low = refl
+untold_body w h given to from (Join b a) says low = refl
+untold_body w h given to from (State b log) says low = refl
+untold_body w h given to from (Install b log) says low = refl
+untold_body w h given to from (Installed b held) says low =
+    let z = (low b says.0 says.1.given).1 in
+    ap (λ k. cond k held 0) (ne_eqb b (given + 1) (λ e. omega (arith, e, z)))
+untold_body w h given to from (Activate b) says low = refl
+untold_body w h given to from (Activated b) says low = refl
+untold_body w h given to from (Superseded b) says low = refl
+untold_body w h given to from (Append b place command) says low = refl
+untold_body w h given to from (Held b held) says low =
+    let z = (low b says.0 says.1).1 in
+    ap (λ k. cond k held 0) (ne_eqb b (given + 1) (λ e. omega (arith, e, z)))
+untold_body w h given to from (Commit b held) says low = refl
+
+pub untold_next : {S C O : Type 0} (rules : Rules S C O) (config : Config) (a : Moment S C O) (past : List (Moment S C O)) → Past rules config (a ∷ past) →
+    (m : ℕ) → most_told m (a.master.given + 1) a.world.sent ≡ 0
+untold_next {S = S} {C = C} {O = O} rules config a past came m =
+    let q = past_known rules config a past came in
+    most_told_none m (a.master.given + 1) a.world.sent
+    (λ x i. silent m (a.master.given + 1) x.1.from x.1.body
+    (untold_body a.world q.history a.master.given x.0 x.1.from x.1.body (q.serves.sound.said x.0 x.1 i) q.serves.master.numbered))
+
+-- a group opens
+pub group_opens : {S C O : Type 0} (rules : Rules S C O) (nodes : ℕ) (config : Config) (a : Moment S C O) (told next : ToldIn) → can_open nodes config ≡ true →
+    a ≡ opening_moment rules nodes config → told.ballot ≡ 1 → ((m : ℕ) → get_or told.held m 0 ≡ 0) → ((m : ℕ) → get_or next.held m 0 ≡ 0) →
+    IsGroup rules a told next
+group_opens {S = S} {C = C} {O = O} rules nodes config a told next lawful is one none none_next =
+    subst (λ (v : Moment S C O). IsGroup rules v told next) (sym is)
+    (record {
+      config = config;
+      past = [];
+      came = began nodes lawful refl;
+      active = one;
+      counted = λ m low. none m;
+      waits = λ b c e. cc;
+      counted_next = λ m low. none_next m;
+    })
+
+-- a node did something
+pub group_goes : {S C O : Type 0} (rules : Rules S C O) (a v : Moment S C O) (told next told' next' : ToldIn) → IsGroup rules a told next → MayGo rules a v →
+    v.master ≡ a.master → told'.ballot ≡ told.ballot → HasCounted v.world.sent told' → next'.ballot ≡ next.ballot → HasCounted v.world.sent next' →
+    IsGroup rules v told' next'
+group_goes {S = S} {C = C} {O = O} rules a v told next told' next' g may same one counted two counted_next =
+    record {
+      config = g.config;
+      past = a ∷ g.past;
+      came = went_on g.came may;
+      active = one ∙ g.active ∙ sym (ap (λ (m : MasterState). m.active) same);
+      counted = counted;
+      waits = λ b c e. two ∙ g.waits b c (sym (ap (λ (m : MasterState). m.waiting) same) ∙ e);
+      counted_next = counted_next;
+    }
+
+-- messages behind those before
+pub front_of : {X : Type 0} (n : ℕ) (xs ys more : List X) → more ≡ xs ++ ys → n ≡ length xs → take n more ≡ xs
+front_of {X = X} n xs ys more is at =
+    ap (take n) is ∙ ap (λ k. take k (xs ++ ys)) at ∙ take-append-le (length xs) xs ys (omega arith) ∙ take-length xs
+
+-- the master gave a ballot: its primary was told, or not
+pub group_gives : {S C O : Type 0} (rules : Rules S C O) (a v : Moment S C O) (config : Config) (told next next' : ToldIn) → IsGroup rules a told next →
+    refusal a.master config ≡ None → v.master ≡ assigning a.master config →
+    (v.world ≡ tells_from_master a.world (assigned C a.master config)) ⊎ (v.world ≡ a.world) →
+    next'.ballot ≡ a.master.given + 1 → ((m : ℕ) → get_or next'.held m 0 ≡ 0) → IsGroup rules v told next'
+group_gives {S = S} {C = C} {O = O} rules a v config told next next' g granted master world ballot none = by_world world
+  where
+    deed : IsDeed a (assigned C a.master config)
+    deed = it_gives config granted refl
+
+    waits : (b : ℕ) (c : Config) → v.master.waiting ≡ Some (b, c) → next'.ballot ≡ b
+    waits b c e =
+        let f : ◌≡◌ {A = Option (ℕ × Config)} (Some (a.master.given + 1, config)) (Some (b, c)) = sym (ap (λ (m : MasterState). m.waiting) master) ∙ e in
+        let both : ◌≡◌ {A = ℕ × Config} (a.master.given + 1, config) (b, c) = cc in
+        ballot ∙ ap (λ (y : ℕ × Config). y.0) both
+
+    empty : HasCounted a.world.sent next'
+    empty m low = none m ∙ sym (untold_next rules g.config a g.past g.came m) ∙ ap (λ b. most_told m b a.world.sent) (sym ballot)
+
+    made : (w : World S C O) → MayGo rules a (record { master = assigning a.master config; world = w }) → v.world ≡ w →
+        HasCounted w.sent told → HasCounted w.sent next' → IsGroup rules v told next'
+    made w may is counted counted_next =
+        record {
+          config = g.config;
+          past = a ∷ g.past;
+          came = went_on g.came (subst (λ (u : Moment S C O). MayGo rules a u) (sym (whole is)) may);
+          active = g.active ∙ sym (ap (λ (m : MasterState). m.active) master);
+          counted = subst (λ (u : World S C O). HasCounted u.sent told) (sym is) counted;
+          waits = waits;
+          counted_next = subst (λ (u : World S C O). HasCounted u.sent next') (sym is) counted_next;
+        }
+      where
+        whole : v.world ≡ w → v ≡ record { master = assigning a.master config; world = w }
+        whole e =
+            ap (λ m. let u : Moment S C O = record { master = m; world = v.world } in u) master
+            ∙ ap (λ x. let u : Moment S C O = record { master = assigning a.master config; world = x } in u) e
+
+    by_world : (v.world ≡ tells_from_master a.world (assigned C a.master config)) ⊎ (v.world ≡ a.world) → IsGroup rules v told next'
+    by_world (inl e) =
+        made (tells_from_master a.world (assigned C a.master config)) (master_may rules a (assigned C a.master config) deed) e
+        (counted_still a.world.sent _ told (λ m b. new_ballot_silent C config.primary 0 (a.master.given + 1) a.master.active config.members a.master.members m b) g.counted)
+        (counted_still a.world.sent _ next' (λ m b. new_ballot_silent C config.primary 0 (a.master.given + 1) a.master.active config.members a.master.members m b) empty)
+    by_world (inr e) = made a.world (deed_lost rules a (assigned C a.master config) deed) e g.counted empty
+
+-- which ballot is active and which one waits behind an Activate
+pub record Stays (m k : MasterState) : Type 0 where
+  pub same_active : k.active ≡ m.active
+  pub waits : (b : ℕ) (c : Config) → k.waiting ≡ Some (b, c) → m.waiting ≡ Some (b, c)
+
+pub record Turns (m k : MasterState) : Type 0 where
+  pub config : Config
+  pub waited : m.waiting ≡ Some (k.active, config)
+  pub none : (b : ℕ) (c : Config) → k.waiting ≡ Some (b, c) → ⊥
+
+pub stays_or_turns : (m : MasterState) (b : ℕ) (waiting : Option (ℕ × Config)) → m.waiting ≡ waiting →
+    Stays m (activating m b waiting) ⊎ Turns m (activating m b waiting)
+stays_or_turns m b None e = inl (record { same_active = refl; waits = λ x c f. f })
+stays_or_turns m b (Some (x, config)) e = by_ballot (cases_Bool (b == x))
+  where
+    by_ballot : ((b == x) ≡ true) ⊎ ((b == x) ≡ false) →
+        Stays m (activating m b (Some (x, config))) ⊎ Turns m (activating m b (Some (x, config)))
+    by_ballot (inl f) =
+        rw f (inr (record { config = config; waited = e ∙ ap (λ y. Some (y, config)) (sym (eqb-true b x f)); none = λ y c g. cc }))
+    by_ballot (inr f) = rw f (inl (record { same_active = refl; waits = λ y c g. g }))
+
+-- the master answered: the counters of the ballot that waited are those of the active one now, if it
+-- is active now
+pub group_answers : {S C O : Type 0} (rules : Rules S C O) (a v : Moment S C O) (from b : ℕ) (told next told' next' : ToldIn) → IsGroup rules a told next →
+    In (0, record { from = from; body = Activate b }) a.world.sent → v.master ≡ activating a.master b a.master.waiting →
+    (v.world ≡ tells_from_master a.world (activated C a.master b from a.master.waiting)) ⊎ (v.world ≡ a.world) →
+    ((v.master.active ≡ a.master.active) × (told' ≡ told) × (next' ≡ next))
+    ⊎ ((v.master.active ≡ a.master.active → ⊥) × (told' ≡ next) × (next' ≡ told)) →
+    IsGroup rules v told' next'
+group_answers {S = S} {C = C} {O = O} rules a v from b told next told' next' g sent master world way = by_world world
+  where
+    deed : IsDeed a (activated C a.master b from a.master.waiting)
+    deed = it_answers from b sent refl
+
+    turns : Stays a.master v.master ⊎ Turns a.master v.master
+    turns = subst (λ (k : MasterState). Stays a.master k ⊎ Turns a.master k) (sym master) (stays_or_turns a.master b a.master.waiting refl)
+
+    both : (P : ToldIn → Type 0) → P told → P next → P told' × P next'
+    both P x y = by_way way
+      where
+        by_way : ((v.master.active ≡ a.master.active) × (told' ≡ told) × (next' ≡ next))
+            ⊎ ((v.master.active ≡ a.master.active → ⊥) × (told' ≡ next) × (next' ≡ told)) → P told' × P next'
+        by_way (inl (s, e, f)) = (subst P (sym e) x, subst P (sym f) y)
+        by_way (inr (s, e, f)) = (subst P (sym e) y, subst P (sym f) x)
+
+    active : told'.ballot ≡ v.master.active
+    active = by_way way turns
+      where
+        by_way : ((v.master.active ≡ a.master.active) × (told' ≡ told) × (next' ≡ next))
+            ⊎ ((v.master.active ≡ a.master.active → ⊥) × (told' ≡ next) × (next' ≡ told)) → Stays a.master v.master ⊎ Turns a.master v.master →
+            told'.ballot ≡ v.master.active
+        by_way (inl (s, e, f)) t = ap (λ (x : ToldIn). x.ballot) e ∙ g.active ∙ sym s
+        by_way (inr (s, e, f)) (inl t) = absurd (s t.same_active)
+        by_way (inr (s, e, f)) (inr t) = ap (λ (x : ToldIn). x.ballot) e ∙ g.waits v.master.active t.config t.waited
+
+    waits : (x : ℕ) (c : Config) → v.master.waiting ≡ Some (x, c) → next'.ballot ≡ x
+    waits x c is = by_way way turns
+      where
+        by_way : ((v.master.active ≡ a.master.active) × (told' ≡ told) × (next' ≡ next))
+            ⊎ ((v.master.active ≡ a.master.active → ⊥) × (told' ≡ next) × (next' ≡ told)) → Stays a.master v.master ⊎ Turns a.master v.master →
+            next'.ballot ≡ x
+        by_way (inl (s, e, f)) (inl t) = ap (λ (y : ToldIn). y.ballot) f ∙ g.waits x c (t.waits x c is)
+        by_way (inl (s, e, f)) (inr t) = absurd (t.none x c is)
+        by_way (inr (s, e, f)) (inl t) = absurd (s t.same_active)
+        by_way (inr (s, e, f)) (inr t) = absurd (t.none x c is)
+
+    made : (w : World S C O) → MayGo rules a (record { master = activating a.master b a.master.waiting; world = w }) → v.world ≡ w →
+        ((t : ToldIn) → HasCounted a.world.sent t → HasCounted w.sent t) → IsGroup rules v told' next'
+    made w may is keeps =
+        let z = both (λ t. HasCounted w.sent t) (keeps told g.counted) (keeps next g.counted_next) in
+        record {
+          config = g.config;
+          past = a ∷ g.past;
+          came = went_on g.came (subst (λ (u : Moment S C O). MayGo rules a u) (sym (whole is)) may);
+          active = active;
+          counted = subst (λ (u : World S C O). HasCounted u.sent told') (sym is) z.0;
+          waits = waits;
+          counted_next = subst (λ (u : World S C O). HasCounted u.sent next') (sym is) z.1;
+        }
+      where
+        whole : v.world ≡ w → v ≡ record { master = activating a.master b a.master.waiting; world = w }
+        whole e =
+            ap (λ m. let u : Moment S C O = record { master = m; world = v.world } in u) master
+            ∙ ap (λ x. let u : Moment S C O = record { master = activating a.master b a.master.waiting; world = x } in u) e
+
+    by_world : (v.world ≡ tells_from_master a.world (activated C a.master b from a.master.waiting)) ⊎ (v.world ≡ a.world) → IsGroup rules v told' next'
+    by_world (inl e) =
+        made (tells_from_master a.world (activated C a.master b from a.master.waiting)) (master_may rules a (activated C a.master b from a.master.waiting) deed) e
+        (λ t h. counted_still a.world.sent _ t (λ m x. answer_silent C 0 b _ m x) h)
+    by_world (inr e) = made a.world (deed_lost rules a (activated C a.master b from a.master.waiting) deed) e (λ t h. h)
+
+-- one message more is heard
+pub counted_next : {C : Type 0} (sent : List (ℕ × Message C)) (i : ℕ) (x : ℕ × Message C) (t u : ToldIn) → i < length sent → x ≡ get_or sent i x →
+    u.ballot ≡ t.ballot → ((m : ℕ) → m < 16 → get_or u.held m 0 ≡ max (get_or t.held m 0) (told_in m t.ballot x.1)) →
+    HasCounted (take i sent) t → HasCounted (take (i + 1) sent) u
+counted_next {C = C} sent i x t u below read ballot heard h m low =
+    let now : take (i + 1) sent ≡ take i sent ++ x ∷ [] = take_more sent i x below ∙ ap (λ (y : ℕ × Message C). take i sent ++ y ∷ []) (sym read) in
+    let e = most_told_more m t.ballot (take i sent) (x ∷ []) in
+    let a = heard m low in let b = h m low in
+    a ∙ (let z : max (get_or t.held m 0) (told_in m t.ballot x.1) ≡ most_told m t.ballot (take i sent ++ x ∷ []) = omega (arith, b, e) in z)
+    ∙ ap (λ us. most_told m t.ballot us) (sym now) ∙ ap (λ k. most_told m k (take (i + 1) sent)) (sym ballot)
+
+-- all of them were heard
+pub counted_all : {C : Type 0} (sent : List (ℕ × Message C)) (i : ℕ) (t : ToldIn) → length sent ≤ i → HasCounted (take i sent) t → HasCounted sent t
+counted_all {C = C} sent i t past h = subst (λ us. HasCounted us t) (take_all i sent past) h
+
+-- an item of a list
+pub in_item : {X : Type 0} (xs : List X) (i : ℕ) (d : X) → i < length xs → In (get_or xs i d) xs
+in_item [] i d below = absurd (omega (arith, below))
+in_item (x ∷ xs) zero d below = here
+in_item (x ∷ xs) (suc i) d below = there (in_item xs i d (omega (arith, below)))
+
+-- the master says something, or its message is lost
+pub master_tells : {S C O : Type 0} (nodes : List (CountedReplica S C)) (sent more : List (ℕ × Message C)) (left : List (Effect C O)) (losses counted : ℕ) (o : MasterOutcome C)
+    (body : Body C) (whole : Bool) → body ≡ o.body → OnTrue whole (more ≡ sent ++ (o.receiver, record { from = 0; body = body }) ∷ []) → OnFalse whole (more ≡ sent) →
+    counted ≡ cond (whole && true) losses (one_more losses) →
+    ((world_of nodes more left ≡ tells_from_master (world_of nodes sent left) o) × (counted ≡ losses))
+    ⊎ ((world_of nodes more left ≡ world_of nodes sent left) × (counted ≡ one_more losses))
+master_tells {S = S} {C = C} {O = O} nodes sent more left losses counted o body true same told lost count =
+    inl (ap (λ us. world_of nodes us left) (told ∙ ap (λ x. sent ++ (o.receiver, let z : Message C = record { from = 0; body = x } in z) ∷ []) same), count)
+master_tells {S = S} {C = C} {O = O} nodes sent more left losses counted o body false same told lost count = inr (ap (λ us. world_of nodes us left) lost, count)
+
+-- so it took its turn
+pub master_took : {S C O : Type 0} (m k : MasterState) (nodes : List (CountedReplica S C)) (sent more : List (ℕ × Message C)) (left : List (Effect C O)) (losses counted : ℕ)
+    (o : MasterOutcome C) → k ≡ o.state →
+    ((world_of nodes more left ≡ tells_from_master (world_of nodes sent left) o) × (counted ≡ losses))
+    ⊎ ((world_of nodes more left ≡ world_of nodes sent left) × (counted ≡ one_more losses)) →
+    MasterTook (record { moment = moment_of m nodes sent left; losses = losses }) o (record { moment = moment_of k nodes more left; losses = counted })
+master_took {S = S} {C = C} {O = O} m k nodes sent more left losses counted o is (inl (e, f)) =
+    record {
+      way = inl (
+        ap (λ x. let z : Moment S C O = record { master = x; world = world_of nodes more left } in z) is
+            ∙ ap (λ w. let z : Moment S C O = record { master = o.state; world = w } in z) e,
+        f,
+      );
+    }
+master_took {S = S} {C = C} {O = O} m k nodes sent more left losses counted o is (inr (e, f)) =
+    record {
+      way = inr (
+        ap (λ x. let z : Moment S C O = record { master = x; world = world_of nodes more left } in z) is
+            ∙ ap (λ w. let z : Moment S C O = record { master = o.state; world = w } in z) e,
+        f,
+      );
+    }
+
+pub world_is : {X Y : Type 0} {P Q : Type 0} → (P × X) ⊎ (Q × Y) → P ⊎ Q
+world_is (inl (e, f)) = inl e
+world_is (inr (e, f)) = inr e
+
+-- what the master answers
+pub answer_is : {C : Type 0} (b : ℕ) (granted : Bool) (activation : Activation) (body : Body C) → activation ≡ cond granted Granted Refused →
+    (activation ≡ Granted → body ≡ Activated b) → (activation ≡ Refused → body ≡ Superseded b) → body ≡ cond granted (Activated b) (Superseded b)
+answer_is b true activation body e grants refuses = grants e
+answer_is b false activation body e grants refuses = refuses e
+
+-- which counters stand for the active ballot behind an Activate
+pub turned : (told next told' next' : ToldIn) (before behind : ℕ) →
+    (before ≡ behind → (told' ≡ told) × (next' ≡ next)) → ((before ≡ behind → ⊥) → (told' ≡ next) × (next' ≡ told)) →
+    ((behind ≡ before) × (told' ≡ told) × (next' ≡ next)) ⊎ ((behind ≡ before → ⊥) × (told' ≡ next) × (next' ≡ told))
+turned told next told' next' before behind stays turns = by_ballot (cases_eq before behind)
+  where
+    by_ballot : (before ≡ behind) ⊎ (before ≡ behind → ⊥) →
+        ((behind ≡ before) × (told' ≡ told) × (next' ≡ next)) ⊎ ((behind ≡ before → ⊥) × (told' ≡ next) × (next' ≡ told))
+    by_ballot (inl e) = inl (sym e, (stays e).0, (stays e).1)
+    by_ballot (inr ne) = inr (λ e. ne (sym e), (turns ne).0, (turns ne).1)
+
+-- a node took its turn
+pub group_turns : {S C O : Type 0} (rules : Rules S C O) (a v : Moment S C O) (told next told' next' : ToldIn) (old new : GroupState S C O) (input : Input C)
+    (n from : ℕ) (r : ReplicaState S C) (more : List (Effect C O)) (sent : List (ℕ × Message C)) → IsGroup rules a told next → old.moment ≡ a → new.moment ≡ v →
+    slice_get a.world.nodes n ≡ Some r → r.stopped ≡ false → MayTake a.world n input →
+    TookTurn rules old (record { place = n; before = r; outcome = replica_step rules r input }) new →
+    v.world.sent ≡ sent → from ≡ length a.world.sent → sent ≡ a.world.sent ++ messages more →
+    told'.ballot ≡ told.ballot → (HasCounted (take from sent) told → HasCounted sent told') →
+    next'.ballot ≡ next.ballot → (HasCounted (take from sent) next → HasCounted sent next') → IsGroup rules v told' next'
+group_turns {S = S} {C = C} {O = O} rules a v told next told' next' old new input n from r more sent g is_old is_new stands going may took sent_is at grown one counts two counts_next =
+    group_goes rules a v told next told' next' g
+    (subst (λ (u : Moment S C O). MayGo rules a u) (sym moved_so) (node_may rules a.master a.world _ took.state took.given (it_takes input stands going may refl) loses))
+    (ap (λ (u : Moment S C O). u.master) moved_so) one
+    (subst (λ us. HasCounted us told') (sym sent_is) (counts (subst (λ us. HasCounted us told) (sym before) g.counted))) two
+    (subst (λ us. HasCounted us next') (sym sent_is) (counts_next (subst (λ us. HasCounted us next) (sym before) g.counted_next)))
+  where
+    moved_so : v ≡ record a { world = moved a.world n took.state took.given }
+    moved_so = sym is_new ∙ took.moment ∙ ap (λ (u : Moment S C O). let z : Moment S C O = record u { world = moved u.world n took.state took.given } in z) is_old
+
+    before : take from sent ≡ a.world.sent
+    before = front_of from a.world.sent (messages more) sent grown at
+
+    loses : Loses rules r (replica_step rules r input) took.state took.given
+    loses = by_way took.way
+      where
+        by_way : ((took.state ≡ (replica_step rules r input).state) × (took.given ≡ (replica_step rules r input).effects) × (new.losses ≡ old.losses))
+            ⊎ (Loses rules r (replica_step rules r input) took.state took.given × (new.losses ≡ one_more old.losses)) →
+            Loses rules r (replica_step rules r input) took.state took.given
+        by_way (inl (e, f, l)) = inl (e, subst (λ (us : List (Effect C O)). Thinned us (replica_step rules r input).effects) (sym f) (Thinned-same (replica_step rules r input).effects))
+        by_way (inr (l, c)) = l
+
+-- one more of the two least
+pub least_more : (told ms : List ℕ) (i : ℕ) (pair more : ℕ × ℕ) (held x : ℕ) → i < length ms → more ≡ next_least pair.0 pair.1 held →
+    held ≡ get_or told (get_or ms i 0) 0 → least_but_one told pair.0 pair.1 (drop i ms) ≡ x → least_but_one told more.0 more.1 (drop (i + 1) ms) ≡ x
+least_more told ms i pair more held x below next read so =
+    ap (λ (p : ℕ × ℕ). least_but_one told p.0 p.1 (drop (i + 1) ms)) (next ∙ ap (next_least pair.0 pair.1) read)
+    ∙ ap (least_but_one told pair.0 pair.1) (sym (drop_more ms i 0 below)) ∙ so
+
+-- there are at least as many as before
+pub more_than : {X : Type 0} (n : ℕ) (xs ys more now : List X) → now ≡ more → more ≡ xs ++ ys → n ≡ length xs → n ≤ length now
+more_than n xs ys more now is grown at =
+    let e = ap length is ∙ ap length grown ∙ length-append xs ys in omega (arith, e, at)
+
+-- a node stopped
+pub group_stops : {S C O : Type 0} (rules : Rules S C O) (a v : Moment S C O) (told next : ToldIn) (old new : GroupState S C O)
+    (n : ℕ) (r : ReplicaState S C) → IsGroup rules a told next → old.moment ≡ a → new.moment ≡ v →
+    slice_get a.world.nodes n ≡ Some r → r.stopped ≡ false →
+    TookTurn rules old (record { place = n; before = r; outcome = record { state = halted rules r; effects = [] } }) new →
+    v.world.sent ≡ a.world.sent → IsGroup rules v told next
+group_stops {S = S} {C = C} {O = O} rules a v told next old new n r g is_old is_new stands going took sent_is =
+    group_goes rules a v told next told next g
+    (subst (λ (u : Moment S C O). MayGo rules a u) (sym moved_so) (node_may rules a.master a.world _ took.state took.given (it_stops stands going refl) loses))
+    (ap (λ (u : Moment S C O). u.master) moved_so) refl
+    (subst (λ us. HasCounted us told) (sym sent_is) g.counted) refl
+    (subst (λ us. HasCounted us next) (sym sent_is) g.counted_next)
+  where
+    stopped : Outcome S C O
+    stopped = record { state = halted rules r; effects = [] }
+
+    moved_so : v ≡ record a { world = moved a.world n took.state took.given }
+    moved_so = sym is_new ∙ took.moment ∙ ap (λ (u : Moment S C O). let z : Moment S C O = record u { world = moved u.world n took.state took.given } in z) is_old
+
+    loses : Loses rules r stopped took.state took.given
+    loses = by_way took.way
+      where
+        by_way : ((took.state ≡ stopped.state) × (took.given ≡ stopped.effects) × (new.losses ≡ old.losses))
+            ⊎ (Loses rules r stopped took.state took.given × (new.losses ≡ one_more old.losses)) → Loses rules r stopped took.state took.given
+        by_way (inl (e, f, l)) = inl (e, subst (λ (us : List (Effect C O)). Thinned us stopped.effects) (sym f) (Thinned-same stopped.effects))
+        by_way (inr (l, c)) = l
+
+-- the same of the group as it is seen
+pub took_as_seen : {S C O : Type 0} (m k : MasterState) (nodes : List (CountedReplica S C)) (sent more : List (ℕ × Message C)) (left : List (Effect C O)) (losses counted : ℕ)
+    (o : MasterState → MasterOutcome C) (seen : GroupState S C O) → (let z : GroupState S C O = record { moment = moment_of m nodes sent left; losses = losses } in z) ≡ seen →
+    k ≡ (o m).state →
+    ((world_of nodes more left ≡ tells_from_master (world_of nodes sent left) (o m)) × (counted ≡ losses))
+    ⊎ ((world_of nodes more left ≡ world_of nodes sent left) × (counted ≡ one_more losses)) →
+    MasterTook seen (o seen.moment.master) (record { moment = moment_of k nodes more left; losses = counted })
+took_as_seen {S = S} {C = C} {O = O} m k nodes sent more left losses counted o seen is state way =
+    subst (λ (z : GroupState S C O). MasterTook z (o z.moment.master) (record { moment = moment_of k nodes more left; losses = counted })) is
+    (master_took m k nodes sent more left losses counted (o m) state way)
+
+-- the same where a ballot was given
+pub took_given : {S C O : Type 0} (m k : MasterState) (nodes : List (CountedReplica S C)) (sent more : List (ℕ × Message C)) (left : List (Effect C O)) (losses counted : ℕ)
+    (config : Config) (seen : GroupState S C O) → (let z : GroupState S C O = record { moment = moment_of m nodes sent left; losses = losses } in z) ≡ seen →
+    k ≡ assigning m config →
+    ((world_of nodes more left ≡ tells_from_master (world_of nodes sent left) (assigned C m config)) × (counted ≡ losses))
+    ⊎ ((world_of nodes more left ≡ world_of nodes sent left) × (counted ≡ one_more losses)) →
+    MasterTook seen (assigned C seen.moment.master config) (record { moment = moment_of k nodes more left; losses = counted })
+took_given {S = S} {C = C} {O = O} m k nodes sent more left losses counted config seen is state way =
+    took_as_seen m k nodes sent more left losses counted (λ x. assigned C x config) seen is state way
+
+-- the message of a new ballot
+pub new_ballot_is : {C : Type 0} (b : ℕ) (m : MasterState) (config given : Config) (members old : List ℕ) (previous : ℕ) → given ≡ config → members ≡ config.members →
+    b ≡ m.given + 1 → previous ≡ m.active → old ≡ m.members →
+    ◌≡◌ {A = Body C} (NewBallot b members previous old) (NewBallot (m.given + 1) config.members m.active m.members)
+new_ballot_is {C = C} b m config given members old previous e f h i j =
+    ap (λ x. let z : Body C = NewBallot x members previous old in z) h ∙ ap (λ x. let z : Body C = NewBallot (m.given + 1) x previous old in z) f
+    ∙ ap (λ x. let z : Body C = NewBallot (m.given + 1) config.members x old in z) i
+    ∙ ap (λ x. let z : Body C = NewBallot (m.given + 1) config.members m.active x in z) j
+
+-- a list of one
+pub sole_is : (xs : List ℕ) → length xs ≡ 1 → xs ≡ get_or xs 0 0 ∷ []
+sole_is [] e = absurd (omega (arith, e))
+sole_is (x ∷ []) e = refl
+sole_is (x ∷ (y ∷ xs)) e = absurd (omega (arith, e))
+
+-- the item of a list of one
+only_item : (m x : ℕ) → In m (x ∷ []) → m ≡ x
+only_item m x here = refl
+only_item m x (there i) = elim i [ ]
+
+-- what holds of each item so far holds of one more, and in the end of all
+pub in_nothing : {P : Type 0} (m : ℕ) → In m [] → P
+in_nothing m i = elim i [ ]
+
+pub in_taken : (xs : List ℕ) (i : ℕ) (P : ℕ → Type 0) → i < length xs → ((m : ℕ) → In m (take i xs) → P m) → P (get_or xs i 0) →
+    (m : ℕ) → In m (take (i + 1) xs) → P m
+in_taken xs i P below before now m j = by_place (in_append (take i xs) (get_or xs i 0 ∷ []) (subst (λ us. In m us) (take_more xs i 0 below) j))
+  where
+    last : In m (get_or xs i 0 ∷ []) → P m
+    last k = subst P (sym (only_item m (get_or xs i 0) k)) now
+
+    by_place : In m (take i xs) ⊎ In m (get_or xs i 0 ∷ []) → P m
+    by_place (inl k) = before m k
+    by_place (inr k) = last k
+
+pub in_whole : (xs : List ℕ) (i m : ℕ) → length xs ≤ i → In m xs → In m (take i xs)
+in_whole xs i m past j = subst (λ us. In m us) (sym (take_all i xs past)) j

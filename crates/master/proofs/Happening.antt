@@ -1,0 +1,255 @@
+-- Happening.antt: each step of a group is one that may happen to a master and nodes.
+use Rattle.std.proofs.Common.{◌≡◌, ℕ, zero, suc, ◌+◌, ◌-◌, ◌⊎◌, inl, inr, Bool, true, false, cond, List, [], Some, None, Option, refl, ap, sym, ◌∙◌, subst, arith}
+use Rattle.std.specs.Prelude.{slice_get}
+use Rattle.machine.specs.Machine.{Rules}
+use Rattle.lists.specs.Lists.{In}
+use Rattle.lists.proofs.Members.{in_at}
+use Rattle.ballot.specs.Config.{Config}
+use Rattle.ballot.specs.Message.{Message}
+use Rattle.ballot.specs.Body.{Body}
+use Rattle.ballot.specs.Body.TheVariants.{NewBallot, Join, State, Install, Installed, Activate, Activated, Superseded, Append, Held, Commit}
+use Rattle.ballot.specs.Effect.{Effect}
+use Rattle.ballot.specs.Losses.{Loses, Thinned, halted}
+use Rattle.ballot.specs.Protocol.{Input, replica_step}
+use Rattle.ballot.specs.Protocol.Input.{Receives, Proposes, Ticks}
+use Rattle.ballot.specs.Replica.{ReplicaState}
+use Rattle.ballot.specs.Sending.{Outcome}
+use Rattle.ballot.proofs.ThinnedEffects.{Thinned-same}
+use Rattle.agreement.specs.MasterState.{AssignRefusal, MasterOutcome, MasterState, activated, assigned, refusal, master_behind}
+use Rattle.agreement.specs.Past.{Moment}
+use Rattle.agreement.specs.Steps.{MayHappen, MayTake, tells_from_master, world_behind}
+use Rattle.agreement.specs.Steps.MayHappen.{node_takes, node_stops, master_assigns, master_hears, assignment_lost, answer_lost}
+use Rattle.agreement.specs.World.{World, moved}
+use Rattle.master.specs.declared.event.Event.{Event}
+use Rattle.master.specs.declared.event.Event.TheVariants.{Propose, Assign, Deliver, Tick, Crash}
+use Rattle.master.specs.Group.{GroupState}
+use Rattle.master.specs.Exact.{NodeTurn, Turn, running, unless_stopped, can_take, taking, stopping, takes, hears, comes, comes_to, gives, turn, behind, group_step}
+use Rattle.master.specs.Exact.Turn.{by_node, by_master, unheeded}
+use Rattle.master.specs.Steps.{Happens, StepsBy}
+use Rattle.master.specs.Steps.Happens.{nothing_happens, node_goes, master_goes}
+use Rattle.ballot.specs.Losses.{one_more}
+
+-- what may happen between two moments
+abbrev pub MayGo : {S C O : Type 0} → Rules S C O → Moment S C O → Moment S C O → Type 0
+MayGo rules a b = MayHappen rules a.master a.world b.master b.world
+
+-- nothing may happen: an Assign with no member is refused
+pub nothing_may : {S C O : Type 0} (rules : Rules S C O) (a : Moment S C O) → MayGo rules a a
+nothing_may rules a = assignment_lost (record { members = []; primary = 0 })
+
+-- what the turn of a node is: it takes something in, or stops
+pub data IsTurn {S C O : Type 0} (rules : Rules S C O) (w : World S C O) (t : NodeTurn S C O) : Type 0 where
+  it_takes : (input : Input C) → slice_get w.nodes t.place ≡ Some t.before → t.before.stopped ≡ false → MayTake w t.place input →
+      t.outcome ≡ replica_step rules t.before input → IsTurn rules w t
+  it_stops : slice_get w.nodes t.place ≡ Some t.before → t.before.stopped ≡ false →
+      t.outcome ≡ record { state = halted rules t.before; effects = [] } → IsTurn rules w t
+
+-- a node that runs
+running_is : {S C : Type 0} (o : Option (ReplicaState S C)) (r : ReplicaState S C) → unless_stopped o ≡ Some r → (o ≡ Some r) × (r.stopped ≡ false)
+running_is None r e = cc
+running_is {S = S} {C = C} (Some x) r e = by_stop x.stopped refl e
+  where
+    by_stop : (b : Bool) → x.stopped ≡ b → cond b None (Some x) ≡ Some r → (Some x ≡ Some r) × (r.stopped ≡ false)
+    by_stop true f g = cc
+    by_stop false f g = let same : x ≡ r = cc in (g, ap (λ (y : ReplicaState S C). y.stopped) (sym same) ∙ f)
+
+taking_is : {S C O : Type 0} (rules : Rules S C O) (w : World S C O) (n : ℕ) (o : Option (ReplicaState S C)) (input : Input C) (t : NodeTurn S C O) →
+    unless_stopped (slice_get w.nodes n) ≡ o → MayTake w n input → taking rules n o input ≡ Some (by_node t) → IsTurn rules w t
+taking_is rules w n None input t is may e = cc
+taking_is {S = S} {C = C} {O = O} rules w n (Some r) input t is may e = by_room (can_take r input) e
+  where
+    now : NodeTurn S C O
+    now = record { place = n; before = r; outcome = replica_step rules r input }
+
+    by_room : (b : Bool) → cond b (Some (by_node now)) None ≡ Some (by_node t) → IsTurn rules w t
+    by_room true f =
+        let same : now ≡ t = cc in
+        let z = running_is (slice_get w.nodes n) r is in
+        subst (λ (x : NodeTurn S C O). IsTurn rules w x) same (it_takes input z.0 z.1 may refl)
+    by_room false f = cc
+
+takes_is : {S C O : Type 0} (rules : Rules S C O) (w : World S C O) (node : ℕ) (input : Input C) (t : NodeTurn S C O) →
+    ((n : ℕ) → node ≡ suc n → MayTake w n input) → takes rules w node input ≡ Some (by_node t) → IsTurn rules w t
+takes_is rules w zero input t may e = cc
+takes_is {S = S} {C = C} {O = O} rules w (suc n) input t may e =
+    let same : suc n - 1 ≡ n = omega arith in
+    taking_is rules w n (running w.nodes (suc n)) input t refl (may n refl)
+    (subst (λ k. taking rules k (running w.nodes (suc n)) input ≡ Some (by_node t)) same e)
+
+stopping_is : {S C O : Type 0} (rules : Rules S C O) (w : World S C O) (node : ℕ) (t : NodeTurn S C O) →
+    stopping rules (node - 1) (running w.nodes node) ≡ Some (by_node t) → IsTurn rules w t
+stopping_is rules w zero t e = cc
+stopping_is {S = S} {C = C} {O = O} rules w (suc n) t e =
+    let same : suc n - 1 ≡ n = omega arith in
+    by_node_there (unless_stopped (slice_get w.nodes n)) refl
+    (subst (λ k. stopping rules k (running w.nodes (suc n)) ≡ Some (by_node t)) same e)
+  where
+    by_node_there : (o : Option (ReplicaState S C)) → unless_stopped (slice_get w.nodes n) ≡ o → stopping rules n o ≡ Some (by_node t) → IsTurn rules w t
+    by_node_there None f g = cc
+    by_node_there (Some r) f g =
+        let now : NodeTurn S C O = record { place = n; before = r; outcome = record { state = halted rules r; effects = [] } } in
+        let is : now ≡ t = cc in
+        let z = running_is (slice_get w.nodes n) r f in
+        subst (λ (x : NodeTurn S C O). IsTurn rules w x) is (it_stops z.0 z.1 refl)
+
+hears_no_node : {S C O : Type 0} (rules : Rules S C O) (m : MasterState) (from : ℕ) (body : Body C) (t : NodeTurn S C O) →
+    hears rules m from body ≡ by_node t → ⊥
+hears_no_node rules m from (NewBallot b members a old) t e = cc
+hears_no_node rules m from (Join b a) t e = cc
+hears_no_node rules m from (State b log) t e = cc
+hears_no_node rules m from (Install b log) t e = cc
+hears_no_node rules m from (Installed b held) t e = cc
+hears_no_node rules m from (Activate b) t e = cc
+hears_no_node rules m from (Activated b) t e = cc
+hears_no_node rules m from (Superseded b) t e = cc
+hears_no_node rules m from (Append b place command) t e = cc
+hears_no_node rules m from (Held b held) t e = cc
+hears_no_node rules m from (Commit b held) t e = cc
+
+-- a turn of a node, whatever the event
+pub turn_is : {S C O : Type 0} (rules : Rules S C O) (a : Moment S C O) (e : Event C) (t : NodeTurn S C O) →
+    turn rules a e ≡ Some (by_node t) → IsTurn rules a.world t
+turn_is rules a (Propose node command) t is = takes_is rules a.world node (Proposes command) t (λ n f. tt) is
+turn_is {S = S} {C = C} {O = O} rules a (Assign config) t is = by_refusal (refusal a.master config) is
+  where
+    by_refusal : (o : Option AssignRefusal) → gives rules a.master config o ≡ Some (by_node t) → IsTurn rules a.world t
+    by_refusal (Some why) f = cc
+    by_refusal None f = cc
+turn_is {S = S} {C = C} {O = O} rules a (Deliver k) t is = by_message (slice_get a.world.sent k) refl is
+  where
+    by_receiver : (receiver : ℕ) (m : Message C) → slice_get a.world.sent k ≡ Some (receiver, m) → comes_to rules a receiver m ≡ Some (by_node t) →
+        IsTurn rules a.world t
+    by_receiver zero m e f = let g : hears rules a.master m.from m.body ≡ by_node t = cc in absurd (hears_no_node rules a.master m.from m.body t g)
+    by_receiver (suc n) m e f =
+        takes_is rules a.world (suc n) (Receives m) t
+        (λ j same. in_at a.world.sent k (j + 1, m) (e ∙ ap (λ x. Some (x, m)) (let z : suc n ≡ j + 1 = omega (arith, same) in z))) f
+
+    by_message : (o : Option (ℕ × Message C)) → slice_get a.world.sent k ≡ o → comes rules a o ≡ Some (by_node t) → IsTurn rules a.world t
+    by_message None e f = cc
+    by_message (Some (receiver, m)) e f = by_receiver receiver m e f
+turn_is rules a (Tick node) t is = takes_is rules a.world node Ticks t (λ n f. tt) is
+turn_is rules a (Crash node) t is = stopping_is rules a.world node t is
+
+-- whatever a turn of a node loses, it may happen
+thinned_none : {C O : Type 0} {xs ys : List (Effect C O)} → ys ≡ [] → Thinned xs ys → xs ≡ []
+thinned_none e Thinned.none = refl
+thinned_none e (Thinned.keeps t) = cc
+thinned_none e (Thinned.loses t) = cc
+
+pub node_may : {S C O : Type 0} (rules : Rules S C O) (m : MasterState) (w : World S C O) (t : NodeTurn S C O) (new : ReplicaState S C) (given : List (Effect C O)) →
+    IsTurn rules w t → Loses rules t.before t.outcome new given → MayHappen rules m w m (moved w t.place new given)
+node_may {S = S} {C = C} {O = O} rules m w t new given (it_takes input stands runs may is) loses =
+    node_takes t.place t.before input stands runs may (subst (λ (o : Outcome S C O). Loses rules t.before o new given) is loses)
+node_may {S = S} {C = C} {O = O} rules m w t new given (it_stops stands runs is) loses = by_loss loses
+  where
+    stops : new ≡ halted rules t.before → given ≡ [] → MayHappen rules m w m (moved w t.place new given)
+    stops e f =
+        subst (λ (s : ReplicaState S C). MayHappen rules m w m (moved w t.place s given)) (sym e)
+        (subst (λ (us : List (Effect C O)). MayHappen rules m w m (moved w t.place (halted rules t.before) us)) (sym f) (node_stops t.place t.before stands))
+
+    by_loss : Loses rules t.before t.outcome new given → MayHappen rules m w m (moved w t.place new given)
+    by_loss (inl (e, thin)) =
+        stops (e ∙ ap (λ (o : Outcome S C O). o.state) is) (thinned_none (ap (λ (o : Outcome S C O). o.effects) is) thin)
+    by_loss (inr (inl (e, f))) = node_takes t.place t.before Ticks stands runs tt (inr (inl (e, f)))
+    by_loss (inr (inr (e, f))) = stops e f
+
+-- what the turn of the master is: a ballot that is given, or an answer
+pub data IsDeed {S C O : Type 0} (a : Moment S C O) (o : MasterOutcome C) : Type 0 where
+  it_gives : (config : Config) → refusal a.master config ≡ None → o ≡ assigned C a.master config → IsDeed a o
+  it_answers : (from b : ℕ) → In (0, record { from = from; body = Activate b }) a.world.sent → o ≡ activated C a.master b from a.master.waiting → IsDeed a o
+
+hears_is : {S C O : Type 0} (rules : Rules S C O) (a : Moment S C O) (from : ℕ) (body : Body C) (o : MasterOutcome C) →
+    In (0, record { from = from; body = body }) a.world.sent → hears rules a.master from body ≡ by_master o → IsDeed a o
+hears_is rules a from (NewBallot b members x old) o i e = cc
+hears_is rules a from (Join b x) o i e = cc
+hears_is rules a from (State b log) o i e = cc
+hears_is rules a from (Install b log) o i e = cc
+hears_is rules a from (Installed b held) o i e = cc
+hears_is {C = C} rules a from (Activate b) o i e = let same : activated C a.master b from a.master.waiting ≡ o = cc in it_answers from b i (sym same)
+hears_is rules a from (Activated b) o i e = cc
+hears_is rules a from (Superseded b) o i e = cc
+hears_is rules a from (Append b place command) o i e = cc
+hears_is rules a from (Held b held) o i e = cc
+hears_is rules a from (Commit b held) o i e = cc
+
+no_deed : {S C O : Type 0} (rules : Rules S C O) (n : ℕ) (r : Option (ReplicaState S C)) (input : Input C) (o : MasterOutcome C) →
+    taking rules n r input ≡ Some (by_master o) → ⊥
+no_deed rules n None input o e = cc
+no_deed {S = S} {C = C} {O = O} rules n (Some r) input o e = by_room (can_take r input) e
+  where
+    by_room : (b : Bool) → cond b (Some (by_node (record { place = n; before = r; outcome = replica_step rules r input }))) None ≡ Some (by_master o) → ⊥
+    by_room true f = cc
+    by_room false f = cc
+
+no_stop : {S C O : Type 0} (rules : Rules S C O) (n : ℕ) (r : Option (ReplicaState S C)) (o : MasterOutcome C) →
+    stopping rules n r ≡ Some (by_master o) → ⊥
+no_stop rules n None o e = cc
+no_stop rules n (Some r) o e = cc
+
+-- a turn of the master, whatever the event
+pub deed_is : {S C O : Type 0} (rules : Rules S C O) (a : Moment S C O) (e : Event C) (o : MasterOutcome C) →
+    turn rules a e ≡ Some (by_master o) → IsDeed a o
+deed_is rules a (Propose node command) o is = absurd (no_deed rules (node - 1) (running a.world.nodes node) (Proposes command) o is)
+deed_is {S = S} {C = C} {O = O} rules a (Assign config) o is = by_refusal (refusal a.master config) refl is
+  where
+    by_refusal : (why : Option AssignRefusal) → refusal a.master config ≡ why → gives rules a.master config why ≡ Some (by_master o) → IsDeed a o
+    by_refusal (Some why) e f = cc
+    by_refusal None e f = let same : assigned C a.master config ≡ o = cc in it_gives config e (sym same)
+deed_is {S = S} {C = C} {O = O} rules a (Deliver k) o is = by_message (slice_get a.world.sent k) refl is
+  where
+    by_receiver : (receiver : ℕ) (m : Message C) → slice_get a.world.sent k ≡ Some (receiver, m) → comes_to rules a receiver m ≡ Some (by_master o) →
+        IsDeed a o
+    by_receiver zero m e f =
+        let g : hears rules a.master m.from m.body ≡ by_master o = cc in hears_is rules a m.from m.body o (in_at a.world.sent k (0, m) e) g
+    by_receiver (suc n) m e f = absurd (no_deed rules (suc n - 1) (running a.world.nodes (suc n)) (Receives m) o f)
+
+    by_message : (x : Option (ℕ × Message C)) → slice_get a.world.sent k ≡ x → comes rules a x ≡ Some (by_master o) → IsDeed a o
+    by_message None e f = cc
+    by_message (Some (receiver, m)) e f = by_receiver receiver m e f
+deed_is rules a (Tick node) o is = absurd (no_deed rules (node - 1) (running a.world.nodes node) Ticks o is)
+deed_is rules a (Crash node) o is = absurd (no_stop rules (node - 1) (running a.world.nodes node) o is)
+
+-- such a turn may happen
+pub master_may : {S C O : Type 0} (rules : Rules S C O) (a : Moment S C O) (o : MasterOutcome C) → IsDeed a o →
+    MayHappen rules a.master a.world o.state (tells_from_master a.world o)
+master_may {S = S} {C = C} {O = O} rules a o (it_gives config granted is) =
+    subst (λ (x : MasterOutcome C). MayHappen rules a.master a.world x.state (tells_from_master a.world x)) (sym is)
+    (subst (λ (why : Option AssignRefusal). MayHappen rules a.master a.world (master_behind a.master config why) (world_behind a.master a.world config why)) granted
+    (master_assigns config))
+master_may {S = S} {C = C} {O = O} rules a o (it_answers from b sent is) =
+    subst (λ (x : MasterOutcome C). MayHappen rules a.master a.world x.state (tells_from_master a.world x)) (sym is) (master_hears from b sent)
+
+-- and so it may where its message is lost
+pub deed_lost : {S C O : Type 0} (rules : Rules S C O) (a : Moment S C O) (o : MasterOutcome C) → IsDeed a o →
+    MayHappen rules a.master a.world o.state a.world
+deed_lost {S = S} {C = C} {O = O} rules a o (it_gives config granted is) =
+    subst (λ (x : MasterOutcome C). MayHappen rules a.master a.world x.state a.world) (sym is)
+    (subst (λ (why : Option AssignRefusal). MayHappen rules a.master a.world (master_behind a.master config why) a.world) granted (assignment_lost config))
+deed_lost {S = S} {C = C} {O = O} rules a o (it_answers from b sent is) =
+    subst (λ (x : MasterOutcome C). MayHappen rules a.master a.world x.state a.world) (sym is) (answer_lost from b sent)
+
+-- what an event does with losses may happen
+happens_may : {S C O : Type 0} (rules : Rules S C O) {a b : Moment S C O} {e : Event C} → Happens rules a e b → MayGo rules a b
+happens_may rules {a = a} nothing_happens = nothing_may rules a
+happens_may rules {a = a} {e = e} (node_goes t {new = new} {given = given} is loses) =
+    node_may rules a.master a.world t new given (turn_is rules a e t is) loses
+happens_may rules {a = a} {e = e} (master_goes o is) = deed_lost rules a o (deed_is rules a e o is)
+
+-- and what it comes to
+exactly_may : {S C O : Type 0} (rules : Rules S C O) (a : Moment S C O) (e : Event C) (t : Option (Turn S C O)) → turn rules a e ≡ t →
+    MayGo rules a (behind a t)
+exactly_may rules a e None is = nothing_may rules a
+exactly_may rules a e (Some (by_node t)) is =
+    node_may rules a.master a.world t t.outcome.state t.outcome.effects (turn_is rules a e t is) (inl (refl, Thinned-same t.outcome.effects))
+exactly_may rules a e (Some (by_master o)) is = master_may rules a o (deed_is rules a e o is)
+exactly_may rules a e (Some unheeded) is = nothing_may rules a
+
+-- so each step of a group may happen
+pub step_may : {S C O : Type 0} (rules : Rules S C O) (old new : GroupState S C O) (e : Event C) → StepsBy rules old e new →
+    MayGo rules old.moment new.moment
+step_may {S = S} {C = C} {O = O} rules old new e s = by_way s.way
+  where
+    by_way : ((new.moment ≡ group_step rules e old.moment) × (new.losses ≡ old.losses))
+        ⊎ (Happens rules old.moment e new.moment × (new.losses ≡ one_more old.losses)) → MayGo rules old.moment new.moment
+    by_way (inl (a, b)) = subst (λ (v : Moment S C O). MayGo rules old.moment v) (sym a) (exactly_may rules old.moment e (turn rules old.moment e) refl)
+    by_way (inr (a, b)) = happens_may rules a

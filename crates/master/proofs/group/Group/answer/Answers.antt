@@ -1,0 +1,34 @@
+use Rattle.std.proofs.Common.{sym, ◌∙◌}
+use Rattle.machine.specs.Machine.{rules_by}
+use Rattle.agreement.specs.MasterState.{activated, is_granted}
+use Rattle.master.proofs.Groups.{answer_is, group_answers, master_tells, took_as_seen, turned, world_is}
+use Rattle.master.proofs.group.Group.answer.Goals as goal
+
+pub invariant_of-self : goal.invariant_of-self
+invariant_of-self g c =
+    let rules = rules_by g.M.Machine.opening g.M.Machine.start_of g.M.Machine.after g.M.Machine.gives in
+    let m = c.self.inside.master in
+    let sent = rw (← c.self.view_is) at c.requires in
+    let body = answer_is c.args.ballot (is_granted m c.args.ballot m.waiting) c.activate-activation.result c.answer_of.result
+    c.activate-activation.ensures.answer c.answer_of.ensures.granted c.answer_of.ensures.refused in
+    let world = master_tells c.self.inside.nodes.items c.self.inside.sent.items c.tell-told.new.sent.items c.self.inside.left.items c.self.inside.losses c.counted-self-inside.result
+    (activated _ m c.args.ballot c.args.from m.waiting) c.answer_of.result c.tell-told.result body c.tell-told.ensures.told c.tell-told.ensures.lost c.counted-self-inside.ensures in (
+      c.self.invariant.0,
+      group_answers rules _ _ c.args.from c.args.ballot c.self.inside.told c.self.inside.next c.turn_over.new.told c.turn_over.new.next c.self.invariant.1 sent
+          c.activate-activation.ensures.state (world_is world)
+          (turned c.self.inside.told c.self.inside.next c.turn_over.new.told c.turn_over.new.next m.active c.activate-activation.new.self.active
+          (λ e. c.turn_over.ensures.stays (c.active-before.ensures.ballot ∙ e ∙ sym c.active-behind.ensures.ballot))
+          (λ ne. c.turn_over.ensures.turns (λ e. ne (sym c.active-before.ensures.ballot ∙ e ∙ c.active-behind.ensures.ballot)))),
+    )
+
+pub returns : goal.returns
+returns g c =
+    let rules = rules_by g.M.Machine.opening g.M.Machine.start_of g.M.Machine.after g.M.Machine.gives in
+    let m = c.self.inside.master in
+    let body = answer_is c.args.ballot (is_granted m c.args.ballot m.waiting) c.activate-activation.result c.answer_of.result
+    c.activate-activation.ensures.answer c.answer_of.ensures.granted c.answer_of.ensures.refused in
+    let world = master_tells c.self.inside.nodes.items c.self.inside.sent.items c.tell-told.new.sent.items c.self.inside.left.items c.self.inside.losses c.counted-self-inside.result
+    (activated _ m c.args.ballot c.args.from m.waiting) c.answer_of.result c.tell-told.result body c.tell-told.ensures.told c.tell-told.ensures.lost c.counted-self-inside.ensures in
+    took_as_seen m c.activate-activation.new.self c.self.inside.nodes.items c.self.inside.sent.items c.tell-told.new.sent.items c.self.inside.left.items
+    c.self.inside.losses c.counted-self-inside.result (λ k. activated _ k c.args.ballot c.args.from k.waiting) c.args.self.now c.self.view_is
+    c.activate-activation.ensures.state world

@@ -1,0 +1,19 @@
+use Rattle.std.proofs.Common.{◌≡◌, None, subst}
+use Rattle.machine.specs.Machine.{rules_by}
+use Rattle.agreement.specs.MasterState.{refusal}
+use Rattle.master.specs.declared.event.Event.TheVariants.{Assign}
+use Rattle.master.specs.Group.{GroupState}
+use Rattle.master.proofs.Counting.{gives_turn, steps_lost, steps_master}
+use Rattle.master.proofs.group.Group.assign.Goals as goal
+
+pub returns-in-Ok-clause-step : goal.returns-in-Ok-clause-step
+returns-in-Ok-clause-step g c =
+    let rules = rules_by g.M.Machine.opening g.M.Machine.start_of g.M.Machine.after g.M.Machine.gives in
+    steps_master rules c.args.self.now c.give.new.self (Assign c.args.config.now) _
+    (gives_turn rules c.args.self.now.moment c.args.config.now
+    (subst (λ (z : GroupState _ _ _). refusal z.moment.master c.args.config.now ≡ None) c.self.view_is (c.can_assign.ensures.0 c.if-not-can_assign.false))) c.in-Ok.ensures.ok
+
+pub returns-in-Err-clause-step : goal.returns-in-Err-clause-step
+returns-in-Err-clause-step g c =
+    let rules = rules_by g.M.Machine.opening g.M.Machine.start_of g.M.Machine.after g.M.Machine.gives in
+    steps_lost rules c.args.self.now _ (Assign c.args.config.now) (rw c.in-Err.ensures.err at c.lose.ensures)

@@ -1,0 +1,128 @@
+// How many places the nodes told in a ballot, counted at each message.
+
+ghost use Rattle.std.specs.Prelude.{ℕ, ◌^◌, ◌-◌, ◌≡◌, ◌<◌, ◌≤◌, IfOk, take, length, max, get_or};
+ghost use Rattle.agreement.specs.Inside.ToldLengths.{told_in};
+ghost use Rattle.lists.specs.Lists.{In};
+ghost use Rattle.master.specs.Inside.{HasCounted, least_but_one, next_least};
+
+use ballot::{Body, Message};
+use machine::Memory;
+use std::alloc::Global;
+use std::marker::Model;
+use std::mem::swap;
+
+/// How many places the node of each number told in one ballot: the greatest number that stands in a
+/// Held or an Installed of the node. Its calls but `new` take no memory.
+#[derive(Drop)]
+pub struct Told {
+    ballot: u64,
+    held: Vec<u64>,
+}
+
+impl Model for Told {
+    ghost use Rattle.std.specs.Prelude.{◌≡◌, length};
+    ghost use Rattle.master.specs.Inside.{ToldIn};
+
+    ghost Value = { ToldIn };
+
+    ghost view = { λ t.
+        record {
+          ballot = t.ballot;
+          held = t.held.items;
+        } };
+
+    ghost invariant = { λ t. length t.held.items ≡ 16 };
+}
+
+impl Told {
+    /// Nothing was told in the ballot. The only error is want of memory.
+    pub fn new(alloc: Global, ballot: u64) -> Result<Told, Memory>
+        ensures ballot { IfOk result (λ told. told.ballot ≡ ballot) }
+        ensures counted { IfOk result (λ told. (m : ℕ) → get_or told.held m 0 ≡ 0) }
+    {
+        let held = Vec::from_slice(alloc, &[0; 16])?;
+        Ok(Told { ballot, held })
+    }
+
+    /// Goes over to a ballot in which nothing was told.
+    pub fn begin(&mut self, ballot: u64)
+        ensures ballot { self.new.ballot ≡ ballot }
+        ensures counted { (m : ℕ) → get_or self.new.held m 0 ≡ 0 }
+    {
+        self.ballot = ballot;
+        self.held.as_mut_slice().fill(0);
+    }
+
+    /// Counts what a message tells.
+    pub fn hear<C>(&mut self, message: &Message<C>)
+        ensures ballot { self.new.ballot ≡ self.old.ballot }
+        ensures counted { (m : ℕ) → m < 16 →
+            get_or self.new.held m 0 ≡
+            max (get_or self.old.held m 0) (told_in m self.old.ballot message.now) }
+    {
+        let (ballot, held) = match message.body {
+            Body::Installed(ballot, held) | Body::Held(ballot, held) => (ballot, held),
+            _ => return,
+        };
+        if ballot == self.ballot && message.from < 16 {
+            let told = &mut self.held[message.from as usize];
+            *told = held.max(*told);
+        }
+    }
+
+    /// Counts what the messages from a place on tell.
+    pub fn hear_from<C>(&mut self, sent: &[(u8, Message<C>)], from: usize)
+        requires { from ≤ length sent.now }
+        ensures ballot { self.new.ballot ≡ self.old.ballot }
+        ensures counted { HasCounted (take from sent.now) self.old → HasCounted sent.now self.new }
+    {
+        for at in from..sent.len() {
+            self.hear(&sent[at].1);
+        }
+    }
+
+    /// The second of the least numbers that these nodes told.
+    pub fn least_but_one(&self, members: &[u8]) -> u64
+        requires { (m : ℕ) → In m members.now → m < 16 }
+        ensures least { result
+            ≡ least_but_one self.now.held (2 ^ 64 - 1) (2 ^ 64 - 1) members.now }
+        ensures range { (m : ℕ) → get_or self.now.held m 0 < 2 ^ 64 }
+    {
+        second_least(self.held.as_slice(), members)
+    }
+}
+
+// The second of the least numbers that stand at some places.
+fn second_least(told: &[u64], places: &[u8]) -> u64
+    requires { (m : ℕ) → In m places.now → m < length told.now }
+    ensures least { result ≡ least_but_one told.now (2 ^ 64 - 1) (2 ^ 64 - 1) places.now }
+    ensures range { (m : ℕ) → get_or told.now m 0 < 2 ^ 64 }
+{
+    let mut pair = (u64::MAX, u64::MAX);
+    for place in places {
+        pair = next_least(pair.0, pair.1, told[*place as usize]);
+    }
+    pair.1
+}
+
+/// Where another ballot has become active, its counters take the place of those of the ballot
+/// before.
+pub fn turn_over(told: &mut Told, next: &mut Told, before: u64, behind: u64)
+    ensures stays { before ≡ behind → (told.new ≡ told.old) × (next.new ≡ next.old) }
+    ensures turns { (before ≡ behind → ⊥) → (told.new ≡ next.old) × (next.new ≡ told.old) }
+{
+    if before != behind {
+        swap(told, next);
+    }
+}
+
+// The two least of a pair and one number more.
+fn next_least(least: u64, next: u64, held: u64) -> (u64, u64)
+    ensures { result ≡ next_least least next held }
+{
+    if held < least {
+        (held, least)
+    } else {
+        (least, next.min(held))
+    }
+}
