@@ -9,6 +9,3 @@ pub use laws::{
     answers_can_be_spelled, frozen_is_thawed, lists_are_in_range, rows_are_frozen,
     states_stay_in_range, thawed_is_in_range,
 };
-
-#[cfg(test)]
-mod tests;

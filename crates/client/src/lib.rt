@@ -14,6 +14,3 @@ mod writing;
 
 pub use client_base::{Accepted, ClientError, KeptPublication, Request, Stage};
 pub use client_core::ClientCore;
-
-#[cfg(test)]
-mod tests;

@@ -15,6 +15,3 @@ mod thawing;
 pub use arrival::Arrival;
 pub use error::EnqueueError;
 pub use session::{MAX_ENTRIES, Session};
-
-#[cfg(test)]
-mod tests;

@@ -13,6 +13,3 @@ pub use reading::{
 pub use writing::{
     write_flight, write_held, write_number, write_payload, write_publication, write_text,
 };
-
-#[cfg(test)]
-mod tests;

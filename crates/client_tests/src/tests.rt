@@ -1,4 +1,4 @@
-use crate::{ClientCore, ClientError};
+use client::{ClientCore, ClientError};
 use packet::{ClientId, Payload, QoS};
 use std::alloc::Global;
 use std::process::Abort;

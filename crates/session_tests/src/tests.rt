@@ -1,4 +1,4 @@
-use crate::*;
+use session::*;
 use packet::{Delivery, Packet, PacketId, Payload, QoS};
 use packet_base::Reader;
 use session_base::Publication;

@@ -1,0 +1,53 @@
+// The laws are calls that do nothing; each can be made.
+
+#[test]
+fn laws_of_rows() {
+    broker_rows::one_row_is_written();
+    broker_rows::nobody_changes_nothing();
+    broker_rows::owner_is_found_by_map();
+    broker_rows::granted_rows_match();
+    broker_rows::room_is_of_granted_rows();
+    broker_rows::answers_are_of_granted_rows();
+    broker_rows::served_session_is_found();
+    broker_rows::handled_packet_steps();
+    broker_rows::subscribe_steps();
+    broker_rows::repeat_steps();
+    broker_rows::leaving_steps();
+    broker_rows::nobodys_steps();
+    broker_rows::connect_steps();
+    broker_rows::full_connect_steps();
+    broker_rows::insertion_writes();
+    broker_rows::start_steps();
+    broker_rows::refused_publication_steps();
+    broker_rows::taken_publication_steps();
+    broker_rows::room_lasts_to_its_turn();
+    broker_rows::change_is_of_one_row();
+    broker_rows::copies_in_parts();
+    broker_rows::subscribes_in_turn();
+    broker_rows::maps_stay();
+    broker_rows::maps_made_anew();
+    broker_rows::owners_of_connect();
+    broker_rows::owners_of_end();
+    broker_rows::content_of_subscriptions();
+    broker_rows::content_of_ended_sessions();
+    broker_rows::one_publication_for_three_clients();
+    broker_rows::maps_of_three_clients();
+}
+
+#[test]
+fn laws_of_forms() {
+    broker_form::states_stay_in_range();
+    broker_form::answers_can_be_spelled();
+    broker_form::lists_are_in_range();
+    broker_form::frozen_is_thawed();
+    broker_form::thawed_is_in_range();
+    broker_form::rows_are_frozen();
+    session_form::frozen_is_read();
+    session_form::read_has_form();
+}
+
+#[test]
+fn laws_of_retained_publications() {
+    retained::last_is_retained();
+    retained::stays_in_bounds();
+}

@@ -1,0 +1,5 @@
+//! A session on worked rows: what is sent, answered and sent again. Tests alone stand here.
+#![tactic(auto)]
+
+#[cfg(test)]
+mod tests;
