@@ -114,6 +114,36 @@ fn an_identical_filter_is_replaced<I: SubIndex>(
     Ok(())
 }
 
+/// `+` at each of 32 levels, `#` alone, and `#` beside its parent level (MQTT 4.7.1).
+fn rows_of_the_deepest_topic<I: SubIndex>(rt: &impl Abort, alloc: Global) -> Result<(), Fail> {
+    let index = index_of::<I>(
+        alloc,
+        &[
+            (
+                "a",
+                "+/+/+/+/+/+/+/+/+/+/+/+/+/+/+/+/+/+/+/+/+/+/+/+/+/+/+/+/+/+/+/+",
+                QoS::AtLeastOnce,
+            ),
+            ("b", "#", QoS::AtMostOnce),
+            ("c", "1/#", QoS::ExactlyOnce),
+        ],
+    )?;
+    assert_eq!(rt;
+        granted_text(
+            alloc,
+            &index,
+            "1/2/3/4/5/6/7/8/9/0/1/2/3/4/5/6/7/8/9/0/1/2/3/4/5/6/7/8/9/0/1/2"
+        )?
+        .as_str(),
+        "before 0;a 1;b 0;c 2;"
+    );
+    assert_eq!(rt;
+        granted_text(alloc, &index, "1")?.as_str(),
+        "before 0;b 0;c 2;"
+    );
+    Ok(())
+}
+
 // MQTT 3.3.5, 3.8.4, 3.10.4, 4.7.2: whoever calls knows the bound alone.
 #[test]
 fn greatest_qos_is_granted(rt: HostRuntime) -> Result<(), Fail> {
@@ -127,5 +157,6 @@ fn greatest_qos_is_granted(rt: HostRuntime) -> Result<(), Fail> {
 fn the_tree_grants_the_same(rt: HostRuntime) -> Result<(), Fail> {
     rows_of_one_topic::<TreeIndex>(&rt, rt.alloc())?;
     rows_of_a_dollar_topic::<TreeIndex>(&rt, rt.alloc())?;
-    an_identical_filter_is_replaced::<TreeIndex>(&rt, rt.alloc())
+    an_identical_filter_is_replaced::<TreeIndex>(&rt, rt.alloc())?;
+    rows_of_the_deepest_topic::<TreeIndex>(&rt, rt.alloc())
 }
