@@ -1,5 +1,6 @@
 use super::groups::*;
 use machine::TallyCommand;
+use master::Event;
 use std::test::Fail;
 
 // The counts that are told of a change of configuration: [1] to [1, 2] with primary 2. The messages
@@ -55,5 +56,30 @@ fn a_ballot_is_put_out(rt: HostRuntime) -> Result<(), Fail> {
     ];
     assert!(rt; come(&mut group, &behind));
     assert!(rt; is_active(&group, 3));
+    Ok(())
+}
+
+// Node 1 answers a command and stops. Node 2 is given the next ballot, has what was agreed, and answers
+// the next command from there on.
+#[test]
+fn a_new_primary_takes_over(rt: HostRuntime) -> Result<(), Fail> {
+    let mut group = group(rt.alloc(), 3, &[1, 2])?;
+    let change = config(rt.alloc(), &[2, 3], 2)?;
+    assert!(rt; adds(&mut group, 1, 2));
+    settle(&mut group);
+    assert!(rt; happens(&mut group, &Event::Crash(1)));
+    assert!(rt; gives(&mut group, change));
+    settle(&mut group);
+    assert!(rt; is_active(&group, 2));
+    assert!(rt; adds(&mut group, 2, 3));
+    settle(&mut group);
+    assert!(rt; gave(&group, 0, 0, 2) && gave(&group, 1, 2, 5));
+    assert_eq!(rt; group.left().len(), 2);
+    let places = [
+        TallyCommand::Add(2),
+        TallyCommand::Start(2),
+        TallyCommand::Add(3),
+    ];
+    assert!(rt; agrees(&group, &places));
     Ok(())
 }

@@ -53,6 +53,14 @@ pub fn come(group: &mut Group<Tally>, rows: &[(u64, usize, usize, u64)]) -> bool
     true
 }
 
+// Lets the messages come in the order of sending, also those that came before and those that these
+// bring about, up to the 40th. Those to a node that has stopped are idle.
+pub fn settle(group: &mut Group<Tally>) {
+    for number in 0..40 {
+        let _ = group.step(&Event::Deliver(number));
+    }
+}
+
 // Whether these commands are the agreed list.
 pub fn agrees(group: &Group<Tally>, commands: &[TallyCommand]) -> bool {
     group.agreed() == commands
