@@ -9,8 +9,6 @@ mod group;
 mod master;
 mod opening;
 mod telling;
-#[cfg(test)]
-mod tests;
 mod told;
 mod turning;
 

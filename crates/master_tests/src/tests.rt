@@ -1,0 +1,6 @@
+mod answers;
+mod ballots;
+mod changes;
+mod groups;
+mod idle;
+mod losses;

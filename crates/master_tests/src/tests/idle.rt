@@ -1,0 +1,72 @@
+use super::groups::*;
+use ballot::OpeningError;
+use machine::{Tally, TallyCommand};
+use master::{Event, Group, Idle};
+use std::alloc::Global;
+use std::test::Fail;
+
+// Whether an event is idle.
+fn is_idle(group: &mut Group<Tally>, event: &Event<TallyCommand>) -> bool {
+    group.step(event) == Err(Idle)
+}
+
+// Whether there is no node 0 or 3, no message, and no backup that takes a proposal.
+fn idles_at_first(group: &mut Group<Tally>) -> bool {
+    is_idle(group, &Event::Propose(0, TallyCommand::Add(1)))
+        && is_idle(group, &Event::Propose(2, TallyCommand::Add(1)))
+        && is_idle(group, &Event::Propose(3, TallyCommand::Add(1)))
+        && is_idle(group, &Event::Deliver(0))
+        && is_idle(group, &Event::Tick(0))
+        && is_idle(group, &Event::Tick(3))
+        && is_idle(group, &Event::Crash(3))
+}
+
+// Whether node 2, which has stopped, does nothing.
+fn idles_stopped(group: &mut Group<Tally>) -> bool {
+    is_idle(group, &Event::Crash(2))
+        && is_idle(group, &Event::Tick(2))
+        && is_idle(group, &Event::Deliver(0))
+}
+
+// No node 0 or 3, no message, a backup that is proposed to, a node that has stopped. A run goes on
+// behind them.
+#[test]
+fn what_cannot_happen_is_idle(rt: HostRuntime) -> Result<(), Fail> {
+    let mut group = group(rt.alloc(), 2, &[1, 2])?;
+    assert!(rt; idles_at_first(&mut group));
+    assert_eq!(rt; Idle.number(), 24);
+    assert!(rt; adds(&mut group, 1, 2));
+    assert!(rt; happens(&mut group, &Event::Crash(2)));
+    assert!(rt; idles_stopped(&mut group));
+    group.run(&[Event::Tick(2), Event::Tick(1)]);
+    assert_eq!(rt; counts(&group), (3, 0, 0));
+    assert!(rt; is_active(&group, 1));
+    Ok(())
+}
+
+// Whether a group is refused for its members.
+fn is_refused(alloc: Global, nodes: u8, members: &[u8], primary: u8) -> Result<bool, Fail> {
+    let config = config(alloc, members, primary)?;
+    let opened = Group::<Tally>::opening(alloc, nodes, config);
+    Ok(matches!(&opened, Err(OpeningError::BadMembers)))
+}
+
+#[test]
+fn bad_members_are_refused(rt: HostRuntime) -> Result<(), Fail> {
+    let rows: [(u8, &[u8], u8); 6] = [
+        (2, &[2, 1], 2),
+        (2, &[], 1),
+        (2, &[1], 2),
+        (2, &[1, 3], 1),
+        (16, &[1, 2], 1),
+        (0, &[1], 1),
+    ];
+    for (nodes, members, primary) in rows {
+        assert!(rt;
+            is_refused(rt.alloc(), nodes, members, primary)?,
+            "at {nodes}, {members:?}"
+        );
+    }
+    assert!(rt; !is_refused(rt.alloc(), 15, &[1, 2, 15], 1)?);
+    Ok(())
+}
