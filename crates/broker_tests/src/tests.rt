@@ -1,0 +1,8 @@
+// What a client sees is told by MQTT 3.1.1; each expected byte stands there.
+
+mod connections;
+mod handshakes;
+mod memory;
+mod publications;
+mod queues;
+mod random;
