@@ -7,15 +7,15 @@ use std::alloc::Global;
 use std::test::*;
 
 /// CONNACK of a session that goes on.
-const GOES_ON: &[u8] = &[0x20, 2, 1, 0];
+pub(crate) const GOES_ON: &[u8] = &[0x20, 2, 1, 0];
 
 /// PUBLISH of one byte on `t/1` with this first byte and identifier.
-fn publish(first: u8, id: u8, payload: u8) -> [u8; 10] {
+pub(crate) fn publish(first: u8, id: u8, payload: u8) -> [u8; 10] {
     [first, 8, 0, 3, 0x74, 0x2F, 0x31, 0, id, payload]
 }
 
 /// Client `a` publishes `x` at QoS 1 with this identifier; `b` is sent it, or not yet.
-fn is_routed(alloc: Global, broker: &mut BrokerMachine, id: u8, sent: bool) -> bool {
+pub(crate) fn is_routed(alloc: Global, broker: &mut BrokerMachine, id: u8, sent: bool) -> bool {
     let packet = publish(0x32, id, 0x78);
     let puback = [0x40, 2, 0, id];
     let event = Event::Bytes(1, &packet);
@@ -26,7 +26,7 @@ fn is_routed(alloc: Global, broker: &mut BrokerMachine, id: u8, sent: bool) -> b
     }
 }
 
-fn is_connected(alloc: Global, broker: &mut BrokerMachine, qos: u8) -> bool {
+pub(crate) fn is_connected(alloc: Global, broker: &mut BrokerMachine, qos: u8) -> bool {
     let subscribe = [0x82, 8, 0, 1, 0, 3, 0x74, 0x2F, 0x23, qos];
     is_answered(alloc, broker, Event::Connect(1, "a", false), &[(1, BEGINS)])
         && is_answered(alloc, broker, Event::Connect(2, "b", false), &[(2, BEGINS)])
@@ -36,34 +36,6 @@ fn is_connected(alloc: Global, broker: &mut BrokerMachine, qos: u8) -> bool {
             Event::Bytes(2, &subscribe),
             &[(2, &[0x90, 3, 0, 1, qos])],
         )
-}
-
-// Sixteen entries are under way at once. A PUBACK frees its identifier for the entry that waits, and
-// the client that comes back is sent them in the order in which they were sent first, with DUP 1.
-#[test]
-fn puback_frees_its_identifier(rt: HostRuntime) {
-    let alloc = rt.alloc();
-    let mut broker = fresh(alloc).expect(&rt, "memory is left");
-    assert!(rt; is_connected(alloc, &mut broker, 1));
-    for id in 1..=17 {
-        assert!(rt; is_routed(alloc, &mut broker, id, id <= 16), "at {id}");
-    }
-    let next = publish(0x32, 5, 0x78);
-    let puback = Event::Bytes(2, &[0x40, 2, 0, 5]);
-    assert!(rt; is_answered(alloc, &mut broker, puback, &[(2, &next)]));
-    assert!(rt; is_sent_again(alloc, &mut broker));
-}
-
-fn is_sent_again(alloc: Global, broker: &mut BrokerMachine) -> bool {
-    let order = [1, 2, 3, 4, 6, 7, 8, 9, 10, 11, 12, 13, 14, 15, 16, 5];
-    let again = order.map(|id| publish(0x3A, id, 0x78));
-    let mut wanted = [(3, CLOSED); 18];
-    wanted[0] = (2, CLOSED);
-    wanted[1] = (3, GOES_ON);
-    for place in 0..16 {
-        wanted[place + 2] = (3, again[place].as_slice());
-    }
-    is_answered(alloc, broker, Event::Connect(3, "b", false), &wanted)
 }
 
 // A queue of 4,096 entries is full. The publication for which there is no room closes its

@@ -11,23 +11,19 @@ const COMMANDS: u64 = 20_000;
 
 const FROZEN: u64 = 1_000;
 
-/// Numbers by a fixed rule: the upper half of a product's remainder.
+/// Numbers by a fixed rule: the upper bits of a product's remainder.
 #[derive(Drop)]
 struct Numbers {
     state: u64,
 }
 
 impl Numbers {
-    fn next(&mut self, below: u64) -> u64 {
+    fn next(&mut self) -> u64 {
         self.state = self
             .state
             .wrapping_mul(6_364_136_223_846_793_005)
             .wrapping_add(1_442_695_040_888_963_407);
-        if below == 0 {
-            0
-        } else {
-            (self.state >> 33) % below
-        }
+        self.state >> 33
     }
 }
 
@@ -35,10 +31,10 @@ const CLIENTS: [&str; 4] = ["a", "b", "c", "d"];
 
 /// The bytes of a packet; what stands behind them is not read.
 fn packet_of(numbers: &mut Numbers) -> [u8; 10] {
-    let id = numbers.next(4) as u8 + 1;
-    let qos = numbers.next(3) as u8;
-    let level = 0x31 + numbers.next(3) as u8;
-    match numbers.next(12) {
+    let id = (numbers.next() % 4) as u8 + 1;
+    let qos = (numbers.next() % 3) as u8;
+    let level = 0x31 + (numbers.next() % 3) as u8;
+    match numbers.next() % 12 {
         0 | 1 => [0x82, 8, 0, id, 0, 3, 0x74, 0x2F, level, qos],
         2 => [0x82, 8, 0, id, 0, 3, 0x74, 0x2F, 0x23, qos],
         3 => [0xA2, 7, 0, id, 0, 3, 0x74, 0x2F, level, 0],
@@ -87,14 +83,14 @@ fn event_of<'a>(
     last: &mut [u64; 4],
     packet: &'a [u8],
 ) -> Event<'a> {
-    let client = numbers.next(4) as usize % 4;
-    match numbers.next(24) {
+    let client = (numbers.next() % 4) as usize;
+    match numbers.next() % 24 {
         0 | 1 => {
             last[client] = count;
-            Event::Connect(count, CLIENTS[client], numbers.next(3) == 0)
+            Event::Connect(count, CLIENTS[client], numbers.next() % 3 == 0)
         }
         2 => Event::Lost(last[client]),
-        3 if numbers.next(8) == 0 => Event::Start(2),
+        3 if numbers.next() % 8 == 0 => Event::Start(2),
         _ => Event::Bytes(last[client], packet),
     }
 }
