@@ -1,0 +1,143 @@
+// Rows: what comes to a broker, and what is to go out for it.
+
+use broker::BrokerMachine;
+use broker_model::{Command, ConnectionId, Output, SizedPacket};
+use machine::Machine;
+use packet::{ClientId, Packet, Step, decode, encode};
+use std::alloc::Global;
+
+/// What comes to a broker. Connections are those of ballot 1, by their number.
+#[derive(Clone, Copy)]
+pub(crate) enum Event<'a> {
+    /// A client opens a connection; the flag is CleanSession.
+    Connect(u64, &'a str, bool),
+    /// The bytes of a packet come on a connection.
+    Bytes(u64, &'a [u8]),
+    /// A connection is lost.
+    Lost(u64),
+    /// A ballot begins.
+    Start(u64),
+}
+
+/// The bytes that go out on a connection; none where it is closed.
+pub(crate) type Answer<'a> = (u64, &'a [u8]);
+
+/// What goes out where a connection is closed.
+pub(crate) const CLOSED: &[u8] = &[];
+
+/// Nothing goes out.
+pub(crate) const NOTHING: &[Answer<'static>] = &[];
+
+/// A broker that begins.
+pub(crate) fn fresh(alloc: Global) -> Option<BrokerMachine> {
+    BrokerMachine::fresh(alloc).ok()
+}
+
+/// Which event of a row a broker that begins does not answer as wanted, if there is one.
+pub(crate) fn first_fault(alloc: Global, row: &[(Event<'_>, &[Answer<'_>])]) -> Option<usize> {
+    let Some(mut broker) = fresh(alloc) else {
+        return Some(0);
+    };
+    for (place, (event, wanted)) in row.iter().enumerate() {
+        if !is_answered(alloc, &mut broker, *event, wanted) {
+            return Some(place);
+        }
+    }
+    None
+}
+
+/// Whether a broker answers an event as wanted.
+pub(crate) fn is_answered(
+    alloc: Global,
+    broker: &mut BrokerMachine,
+    event: Event<'_>,
+    wanted: &[Answer<'_>],
+) -> bool {
+    match answers(alloc, broker, event) {
+        Some(given) => are_wanted(alloc, &given, wanted),
+        None => false,
+    }
+}
+
+/// The answers to an event.
+pub(crate) fn answers(
+    alloc: Global,
+    broker: &mut BrokerMachine,
+    event: Event<'_>,
+) -> Option<Vec<Output>> {
+    let command = command_of(alloc, event)?;
+    let mut given = Vec::new(alloc);
+    if is_done(broker, &command, &mut given) {
+        Some(given)
+    } else {
+        None
+    }
+}
+
+/// Does a command, and tells whether memory was found.
+pub(crate) fn is_done(
+    broker: &mut BrokerMachine,
+    command: &Command,
+    given: &mut Vec<Output>,
+) -> bool {
+    broker.apply(command, given).is_ok()
+}
+
+/// The command of an event.
+pub(crate) fn command_of(alloc: Global, event: Event<'_>) -> Option<Command> {
+    match event {
+        Event::Connect(count, client, clean) => {
+            let client = ClientId::new(alloc, client).ok()?;
+            Some(Command::Connect(ConnectionId::new(1, count)?, client, clean))
+        }
+        Event::Bytes(count, bytes) => {
+            let packet = packet_of(alloc, bytes)?;
+            Some(Command::Packet(ConnectionId::new(1, count)?, packet))
+        }
+        Event::Lost(count) => Some(Command::Lost(ConnectionId::new(1, count)?)),
+        Event::Start(ballot) => Some(Command::Start(ballot)),
+    }
+}
+
+fn packet_of(alloc: Global, bytes: &[u8]) -> Option<SizedPacket> {
+    match decode(alloc, bytes) {
+        Ok(Step::Whole(packet, _)) => sized(packet),
+        Ok(Step::More) => None,
+        Err(_) => None,
+    }
+}
+
+fn sized(packet: Packet) -> Option<SizedPacket> {
+    if !packet.has_no_empty_list() {
+        return None;
+    }
+    SizedPacket::new(packet).ok()
+}
+
+fn are_wanted(alloc: Global, given: &[Output], wanted: &[Answer<'_>]) -> bool {
+    if given.len() != wanted.len() {
+        return false;
+    }
+    for (output, answer) in given.iter().zip(wanted) {
+        if !is_wanted(alloc, output, *answer) {
+            return false;
+        }
+    }
+    true
+}
+
+fn is_wanted(alloc: Global, output: &Output, answer: Answer<'_>) -> bool {
+    let (count, bytes) = answer;
+    match output {
+        Output::Close(name) => name.count() == count && bytes.is_empty(),
+        Output::Send(name, packet) => name.count() == count && is_spelled(alloc, packet, bytes),
+    }
+}
+
+fn is_spelled(alloc: Global, packet: &Packet, bytes: &[u8]) -> bool {
+    let mut spelled = Vec::new(alloc);
+    if !packet.has_no_empty_list() || encode(packet, &mut spelled).is_err() {
+        return false;
+    }
+    spelled.as_slice() == bytes
+}
