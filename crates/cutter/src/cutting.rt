@@ -1,6 +1,6 @@
 // Taking packets from the front of a stream.
 
-ghost use Rattle.std.specs.Prelude.{◌≡◌, ◌++◌, ◌↔◌, [], true, false, OnOk, OnErr, IsErrOf};
+ghost use Rattle.std.specs.Prelude.{◌≡◌, ◌++◌, ◌↔◌, [], true, false, length, OnOk, OnErr, IsErrOf};
 ghost use Rattle.cutter.specs.Stream.{Takes};
 
 use crate::error::CutError;
@@ -37,6 +37,13 @@ impl Cutter {
             failed: false,
             alloc,
         }
+    }
+
+    /// How many bytes came and are not taken yet.
+    pub fn len(&self) -> usize
+        ensures { result ≡ length self.now.held }
+    {
+        self.held.len()
     }
 
     /// Takes in the next piece of the stream. After `Memory` nothing has changed; `Failed` comes

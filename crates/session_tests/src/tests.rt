@@ -1,6 +1,6 @@
-use session::*;
 use packet::{Delivery, Packet, PacketId, Payload, QoS};
 use packet_base::Reader;
+use session::*;
 use session_base::Publication;
 use std::alloc::Global;
 use std::test::*;

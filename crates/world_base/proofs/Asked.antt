@@ -2,9 +2,9 @@
 use Rattle.std.proofs.Common.{◌≡◌, ℕ, ◌<◌, ◌≤◌, ◌^◌, ◌-◌, Bool, true, false, not, ◌&&◌, ◌⊎◌, inl, inr, List, length, nat_lt, Result, Ok, Err, refl, sym, ap, ◌∙◌, arith}
 use Rattle.std.specs.Result.{is_ok, IsErrOf}
 use Rattle.std.proofs.lemmas.Bool.{lt-ltb, le-ltb, cases_lt}
-use Rattle.connecting_base.specs.Table.{Table}
-use Rattle.connecting_base.specs.declared.command.Command.{Command}
-use Rattle.connecting_base.specs.declared.command.Output.{Output}
+use Rattle.broker_base.specs.State.{State}
+use Rattle.broker_model.specs.declared.command.Command.{Command}
+use Rattle.broker_model.specs.declared.command.Output.{Output}
 use Rattle.ballot.specs.declared.error.ProposeError.{ProposeError}
 use Rattle.ballot.specs.declared.error.ProposeError.TheVariants.{NotActive, LogFull, Memory, Halted}
 use Rattle.ballot.specs.Effect.{Effect}
@@ -27,23 +27,23 @@ right_false true true t = absurd cc
 right_false false b t = absurd cc
 
 -- a proposal stops no replica
-proposed-stopped : (r : ReplicaState Table Command) (command : Command) → is_active r.role ≡ true →
+proposed-stopped : (r : ReplicaState State Command) (command : Command) → is_active r.role ≡ true →
     (proposed rules r command).state.stopped ≡ r.stopped
 proposed-stopped r command active = by_order (cases_lt (length r.log) most_places)
   where
     by_order : (length r.log < most_places) ⊎ (most_places ≤ length r.log) →
         (proposed rules r command).state.stopped ≡ r.stopped
     by_order (inl room) =
-        ap (λ (o : Outcome Table Command Output). o.state.stopped) (proposed-adds rules r command active room)
+        ap (λ (o : Outcome State Command Output). o.state.stopped) (proposed-adds rules r command active room)
         ∙ added-stopped rules r command
     by_order (inr full) =
-        ap (λ (o : Outcome Table Command Output). o.state.stopped) (proposed-full rules r command active full)
+        ap (λ (o : Outcome State Command Output). o.state.stopped) (proposed-full rules r command active full)
 
 -- the count of losses tells them while it is below its greatest number
 pub no_loss : (old new : ℕ) → new ≡ one_more old → new ≡ old → old < 2 ^ 64 - 1 → ⊥
 no_loss old new more same below = omega arith
 
-pub room_answered : (result : Result (Unit {0}) ProposeError) (old new : CountedReplica Table Command) (command : Command)
+pub room_answered : (result : Result (Unit {0}) ProposeError) (old new : CountedReplica State Command) (command : Command)
     (before behind : List (Effect Command Output)) →
     is_active old.state.role ≡ true → old.state.stopped ≡ false →
     Stepped rules old (proposed rules old.state command) new before behind →
@@ -66,14 +66,14 @@ room_answered (Err NotActive) old new command before behind active running stepp
 room_answered (Err LogFull) old new command before behind active running stepped halted inactive full is_full memory same below =
     sym (le-ltb (length old.state.log) most_places (full refl))
 room_answered (Err Memory) old new command before behind active running stepped halted inactive full is_full memory same below =
-    absurd (no_loss old.losses new.losses (ap (λ (z : CountedReplica Table Command). z.losses) (memory refl)) same below)
+    absurd (no_loss old.losses new.losses (ap (λ (z : CountedReplica State Command). z.losses) (memory refl)) same below)
 room_answered (Err Halted) old new command before behind active running stepped halted inactive full is_full memory same below =
     absurd (by_steps stepped.steps)
   where
     by_steps : Steps rules old (proposed rules old.state command) new stepped.given → ⊥
     by_steps (inl exact) =
         let kept = proposed-stopped old.state command active in
-        let now = ap (λ (z : ReplicaState Table Command). z.stopped) exact.0 in
+        let now = ap (λ (z : ReplicaState State Command). z.stopped) exact.0 in
         let stopped = halted refl in
         absurd cc
     by_steps (inr lost) = no_loss old.losses new.losses lost.1 same below

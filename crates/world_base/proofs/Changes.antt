@@ -2,7 +2,7 @@
 use Rattle.std.proofs.Common.{◌≡◌, ℕ, Bool, true, Option, Some, None, Result, Ok, Err, List, get_or, set, sym, ap, ◌∙◌}
 use Rattle.std.specs.List.{position}
 use Rattle.std.specs.Result.{is_ok, OnOk}
-use Rattle.connecting_base.specs.Connection.{ConnectionName}
+use Rattle.broker_model.specs.Connection.{ConnectionName}
 use Rattle.world_base.specs.declared.item.Port.{Port}
 use Rattle.world_base.specs.declared.connection.Connection.{Connection}
 use Rattle.world_base.specs.Connections.{changed, is_open_at, is_open_named}

@@ -1,11 +1,9 @@
 -- Closes.antt: how a connection is closed as lost, and by a refused proposal.
-use Rattle.std.proofs.Common.{◌≡◌, ◌<◌, ◌≤◌, ◌⊎◌, inl, inr, Bool, true, false, ◌&&◌, nat_lt, List, length, Some, None, refl, sym, subst}
+use Rattle.std.proofs.Common.{◌≡◌, ◌<◌, ◌≤◌, ◌⊎◌, inl, inr, Bool, true, false, if◌then◌else◌, ◌&&◌, nat_lt, List, length, Some, None, refl, sym, subst}
 use Rattle.std.proofs.lemmas.Bool.{lt-ltb, cases_lt}
-use Rattle.connecting_base.specs.Connection.{ConnectionName}
-use Rattle.connecting_base.specs.declared.command.Command.{Command}
-use Rattle.connecting_base.specs.declared.command.Command.TheVariants as commands
-use Rattle.connecting_base.specs.declared.command.Output.{Output}
-use Rattle.packet.specs.declared.connect.Connect.{Connect}
+use Rattle.broker_model.specs.declared.command.Command.{Command}
+use Rattle.broker_model.specs.declared.command.Command.TheVariants as commands
+use Rattle.broker_model.specs.declared.command.Output.{Output}
 use Rattle.ballot.specs.Effect.{Effect}
 use Rattle.ballot.specs.Serving.{most_places}
 use Rattle.ballot.proofs.StepRows.{proposed-full}
@@ -13,8 +11,8 @@ use Rattle.world_base.specs.declared.item.Port.{Port}
 use Rattle.world_base.specs.declared.connection.Connection.{Connection}
 use Rattle.world_base.specs.Connections.{closed, is_proposed}
 use Rattle.world_base.specs.Core.{CoreState, Turn, rules, serves}
-use Rattle.world_base.specs.Inside.{Running, Turns}
-use Rattle.world_base.specs.Reading.{changes, ends, asks, open_at}
+use Rattle.world_base.specs.Inside.{Running, Does, Turns}
+use Rattle.world_base.specs.Reading.{changes, ends, open_at}
 use Rattle.world_base.specs.Turns.{quiet, then_also, proposes, has_room}
 use Rattle.world_base.proofs.Asked.{left_true}
 use Rattle.world_base.proofs.TurnsJoin.{turns_idle, turns_join, turns_as, turns_behind, turns_quiet}
@@ -71,20 +69,19 @@ proposes_nothing command core e =
         rw (full.0, nothing) refl
 
 -- a refused proposal closes the connection
-pub asks_refused : (port : Port) (name : ConnectionName) (connect : Connect) (a b c : Running)
+pub closes_refused : (port : Port) (command : Command) (a b c : Running)
     (x y : List (Effect Command Output)) → (c.wanting ≡ false → false ≡ has_room a.core) →
-    Turns a b x y (proposes (commands.Connect name connect.client connect.clean) a.core) →
-    c ≡ record b { core = changes port closed b.core } → Turns a c x y (asks port name connect a.core)
-asks_refused port name connect a b c x y full turns shut =
+    Turns a b x y (proposes command a.core) → Does b c (changes port closed b.core) →
+    Turns a c x y (if has_room a.core then proposes command a.core else quiet (changes port closed a.core))
+closes_refused port command a b c x y full turns shut =
     turns_as a c x y _ _ same
-    (turns_join a b c x y y (proposes (commands.Connect name connect.client connect.clean) a.core)
-    (λ core. quiet (changes port closed core)) turns (turns_quiet b c y (changes port closed b.core) (λ _. shut)))
+    (turns_join a b c x y y (proposes command a.core)
+    (λ core. quiet (changes port closed core)) turns (turns_quiet b c y (changes port closed b.core) shut))
   where
     same : c.wanting ≡ false →
-        then_also (proposes (commands.Connect name connect.client connect.clean) a.core)
-        (λ core. quiet (changes port closed core))
-        ≡ asks port name connect a.core
+        then_also (proposes command a.core) (λ core. quiet (changes port closed core))
+        ≡ (if has_room a.core then proposes command a.core else quiet (changes port closed a.core))
     same whole =
         let none = sym (full whole) in
-        let nothing = proposes_nothing (commands.Connect name connect.client connect.clean) a.core none in
+        let nothing = proposes_nothing command a.core none in
         rw (none, nothing) refl

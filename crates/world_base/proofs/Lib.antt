@@ -9,3 +9,4 @@ mod Proposes
 mod Settles
 mod Spelled
 mod TurnsJoin
+mod Repeats

@@ -1,7 +1,7 @@
 -- Opens.antt: what the tests before a connection is accepted decide.
 use Rattle.std.proofs.Common.{◌≡◌, ◌+◌, true, false, List, [], ◌∷◌, ◌++◌, refl, sym, ap, ◌∙◌}
 use Rattle.std.specs.List.{list_any}
-use Rattle.connecting_base.specs.Connection.{ConnectionName, is_connection_name}
+use Rattle.broker_model.specs.Connection.{ConnectionName, is_connection_name}
 use Rattle.world_base.specs.declared.item.Port.{Port}
 use Rattle.world_base.specs.declared.connection.Connection.{Connection}
 use Rattle.world_base.specs.Connections.{is_at, fresh}

@@ -1,8 +1,8 @@
 -- Proposes.antt: what comes to the replica is what it makes of it, and what is given is done at once.
 use Rattle.std.proofs.Common.{◌≡◌, true, false, List, refl, ap, subst, ◌∙◌}
-use Rattle.connecting_base.specs.Table.{Table}
-use Rattle.connecting_base.specs.declared.command.Command.{Command}
-use Rattle.connecting_base.specs.declared.command.Output.{Output}
+use Rattle.broker_base.specs.State.{State}
+use Rattle.broker_model.specs.declared.command.Command.{Command}
+use Rattle.broker_model.specs.declared.command.Output.{Output}
 use Rattle.ballot.specs.Effect.{Effect}
 use Rattle.ballot.specs.Protocol.{Input}
 use Rattle.ballot.specs.Sending.{Outcome}
@@ -13,7 +13,7 @@ use Rattle.world_base.specs.Turns.{delivered, drives, heard, moved, proposes}
 use Rattle.world_base.proofs.TurnsJoin.{turns_idle, wanting_kept}
 
 -- a step of the replica, and what it gave
-turns_moved : (a b c : Running) (outcome : Outcome Table Command Output) (given before behind : List (Effect Command Output)) →
+turns_moved : (a b c : Running) (outcome : Outcome State Command Output) (given before behind : List (Effect Command Output)) →
     Hears a b outcome given → Turns b c before behind (delivered given b.core) →
     Turns a c before behind (moved outcome a.core)
 turns_moved a b c outcome given before behind hears turns =

@@ -1,5 +1,5 @@
 -- Spelled.antt: what `encode` appends are the bytes of the packet.
-use Rattle.std.proofs.Common.{◌≡◌, ℕ, Bool, true, List, ◌++◌, Result, Ok, Err, ap, ◌∙◌}
+use Rattle.std.proofs.Common.{◌≡◌, ℕ, true, List, ◌++◌, Result, Ok, Err, ap, ◌∙◌}
 use Rattle.std.specs.Prelude.{OnOk}
 use Rattle.std.specs.Result.{is_ok}
 use Rattle.packet.specs.declared.packet.Packet.{Packet}

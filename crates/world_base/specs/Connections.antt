@@ -1,6 +1,6 @@
 -- The connections of a node, in the order in which they were opened, and what becomes of one.
 use Rattle.std.specs.Prelude.{ℕ, Bool, true, false, not, ◌&&◌, ◌||◌, ◌==◌, if◌then◌else◌, List, [], ◌∷◌, ◌++◌, length}
-use Rattle.connecting_base.specs.Connection.{ConnectionName, same_connection}
+use Rattle.broker_model.specs.Connection.{ConnectionName, same_connection}
 use Rattle.world_base.specs.declared.item.Port.{Port}
 use Rattle.world_base.specs.declared.connection.Stage.{Stage}
 use Rattle.world_base.specs.declared.connection.Stage.TheVariants.{Awaits, Proposed, Over, Failed}
@@ -55,9 +55,13 @@ fresh port name = record { port = port; name = name; stage = Awaits; unread = []
 abbrev pub holding : List ℕ → Connection → Connection
 holding piece c = record c { unread = c.unread ++ piece }
 
--- its Connect is proposed; these bytes came behind it
-abbrev pub asked : List ℕ → Connection → Connection
-asked rest c = record c { stage = Proposed; unread = rest }
+-- a packet was read; these bytes came behind it
+abbrev pub left_with : List ℕ → Connection → Connection
+left_with rest c = record c { unread = rest }
+
+-- its Connect is proposed
+abbrev pub asked : Connection → Connection
+asked c = record c { stage = Proposed }
 
 -- closed: nothing more is read, and what was put out before is still handed over
 abbrev pub closed : Connection → Connection

@@ -1,11 +1,11 @@
 -- A node: one replica of the broker with its connections, and how it opens.
 use Rattle.std.specs.Prelude.{ℕ, Bool, not, ◌&&◌, List, []}
 use Rattle.ballot.specs.Machine.{Rules}
-use Rattle.connecting_base.specs.Table.{Table}
-use Rattle.connecting_base.specs.State.{usual_limits}
-use Rattle.connecting_base.specs.Laws.{broker_rules}
-use Rattle.connecting_base.specs.declared.command.Command.{Command}
-use Rattle.connecting_base.specs.declared.command.Output.{Output}
+use Rattle.broker_base.specs.State.{State, empty_state}
+use Rattle.broker_model.specs.declared.command.Command.{Command}
+use Rattle.broker_model.specs.declared.command.Command.TheVariants.{Start}
+use Rattle.broker_model.specs.declared.command.Output.{Output}
+use Rattle.broker.specs.Standing.{after, answers}
 use Rattle.ballot.specs.Config.{Config}
 use Rattle.ballot.specs.Effect.{Effect}
 use Rattle.ballot.specs.Replica.{CountedReplica, is_active, opening}
@@ -13,7 +13,7 @@ use Rattle.world_base.specs.declared.connection.Connection.{Connection}
 
 -- what a node keeps; its connections stand in the order in which they were opened
 pub record CoreState : Type 0 where
-  pub replica : CountedReplica Table Command
+  pub replica : CountedReplica State Command
   -- how many connections of this ballot it accepted
   pub accepted : ℕ
   pub connections : List Connection
@@ -28,9 +28,9 @@ pub record Turn : Type 0 where
   pub core : CoreState
   pub messages : List (Effect Command Output)
 
--- the broker's rules
-abbrev pub rules : Rules Table Command Output
-rules = broker_rules usual_limits
+-- the broker's rules: a window of 16 at first, then step by step
+abbrev pub rules : Rules State Command Output
+rules = record { opening = empty_state 16; start_of = Start; after = after; gives = answers }
 
 -- a new node: the replica opens in ballot 1, and no connection was opened yet
 abbrev pub opening_core : ℕ → Config → CoreState

@@ -1,5 +1,5 @@
 -- What a node hands over of the bytes that it put out for a port.
-use Rattle.std.specs.Prelude.{◌≡◌, ℕ, if◌then◌else◌, List, [], ◌++◌, Option, Some, None}
+use Rattle.std.specs.Prelude.{ℕ, if◌then◌else◌, List, [], Option, Some, None}
 use Rattle.std.specs.List.{find, filter}
 use Rattle.world_base.specs.declared.item.Port.{Port}
 use Rattle.world_base.specs.declared.handed.Handed.{Handed}

@@ -1,22 +1,22 @@
 -- What the helpers of a step say of it.
-use Rattle.std.specs.Prelude.{◌≡◌, ℕ, Bool, false, List, ◌++◌, Result, Ok, Err}
-use Rattle.connecting_base.specs.Table.{Table}
-use Rattle.connecting_base.specs.declared.command.Command.{Command}
-use Rattle.connecting_base.specs.declared.command.Output.{Output}
+use Rattle.std.specs.Prelude.{◌≡◌, ℕ, Bool, false, if◌then◌else◌, List, ◌++◌, Result, Ok, Err}
+use Rattle.broker_base.specs.State.{State}
+use Rattle.broker_model.specs.declared.command.Command.{Command}
+use Rattle.broker_model.specs.declared.command.Output.{Output}
 use Rattle.ballot.specs.Effect.{Effect}
 use Rattle.ballot.specs.Sending.{Outcome}
 use Rattle.packet.specs.Stop.{Stop}
 use Rattle.packet.specs.Stop.TheVariants as stops
 use Rattle.packet.specs.declared.packet.Packet.{Packet}
-use Rattle.packet.specs.declared.packet.Packet.TheVariants as packets
 use Rattle.packet.specs.Verdict.{verdict}
+use Rattle.broker_model.specs.Sized.{IsSized}
 use Rattle.world_base.specs.declared.connection.Connection.{Connection}
 use Rattle.world_base.specs.declared.connection.Stage.TheVariants.{Failed}
 use Rattle.world_base.specs.declared.front.Front.{Front}
 use Rattle.world_base.specs.declared.front.Front.TheVariants as fronts
-use Rattle.world_base.specs.Connections.{asked, closed}
-use Rattle.world_base.specs.Core.{CoreState, Turn}
+use Rattle.world_base.specs.Connections.{is_first, left_with, closed}
 use Rattle.world_base.specs.Reading.{refused}
+use Rattle.world_base.specs.Core.{CoreState, Turn}
 
 -- a node during a step, and whether memory was wanting in it
 pub record Running : Type 0 where
@@ -36,7 +36,7 @@ pub record Turns (old new : Running) (before behind : List (Effect Command Outpu
 
 -- a step of the replica alone
 abbrev pub Hears : Running → Running →
-    Outcome Table Command Output → List (Effect Command Output) → Type 0
+    Outcome State Command Output → List (Effect Command Output) → Type 0
 Hears old new outcome given = new.wanting ≡ false →
     (new ≡ record old {
       core = record old.core {
@@ -45,45 +45,30 @@ Hears old new outcome given = new.wanting ≡ false →
     })
     × (given ≡ outcome.effects)
 
--- a verdict that closes a connection of which it is the first
-abbrev pub IsFault : Result (Packet × List ℕ) Stop → Type 0
-IsFault (Err stops.More) = ⊥
-IsFault (Err (stops.Malformed kind)) = Unit {0}
-IsFault (Err (stops.Refused code)) = ⊥
-IsFault (Ok (packets.Connect connect, rest)) = ⊥
-IsFault (Ok _) = Unit {0}
-
 -- closed for want of memory, and the broker is still to hear that it is lost
 abbrev pub failing : Connection → Connection
 failing c = record (closed c) { stage = Failed }
 
+-- a fault of the bytes
+abbrev pub IsFault : Result (Packet × List ℕ) Stop → Type 0
+IsFault (Err (stops.Malformed kind)) = Unit {0}
+IsFault _ = ⊥
+
 -- what stands at the front of the bytes of a connection, and what is left of them
 abbrev pub Reads : List ℕ → Front → List ℕ → Type 0
 Reads bytes fronts.More left = (verdict bytes ≡ Err stops.More) × (left ≡ bytes)
-Reads bytes (fronts.Connect connect) left = verdict bytes ≡ Ok (packets.Connect connect, left)
+Reads bytes (fronts.Packet packet) left = (verdict bytes ≡ Ok (packet, left)) × IsSized packet
 Reads bytes (fronts.Refused code) left = verdict bytes ≡ Err (stops.Refused code)
 Reads bytes fronts.Fault left = IsFault (verdict bytes)
 Reads bytes fronts.Wanting left = Unit {0}
 
--- what reading its first packet makes of a connection
-abbrev pub Begins : Connection → Front → Connection → Type 0
-Begins old fronts.More new = (verdict old.unread ≡ Err stops.More) × (new ≡ old)
-Begins old (fronts.Connect connect) new =
-    (rest : List ℕ) × (verdict old.unread ≡ Ok (packets.Connect connect, rest)) × (new ≡ asked rest old)
-Begins old (fronts.Refused code) new =
-    (verdict old.unread ≡ Err (stops.Refused code)) × (new ≡ refused code old)
-Begins old fronts.Fault new = IsFault (verdict old.unread) × (new ≡ closed old)
-Begins old fronts.Wanting new = Unit {0}
-
--- a verdict on what comes behind a first packet that closes the connection
-abbrev pub IsNotMore : Result (Packet × List ℕ) Stop → Type 0
-IsNotMore (Err stops.More) = ⊥
-IsNotMore _ = Unit {0}
-
 -- what reading on makes of a connection
-abbrev pub Follows : Connection → Front → Connection → Type 0
-Follows old fronts.More new = (verdict old.unread ≡ Err stops.More) × (new ≡ old)
-Follows old (fronts.Connect connect) new = IsNotMore (verdict old.unread) × (new ≡ closed old)
-Follows old (fronts.Refused code) new = IsNotMore (verdict old.unread) × (new ≡ closed old)
-Follows old fronts.Fault new = IsNotMore (verdict old.unread) × (new ≡ closed old)
-Follows old fronts.Wanting new = new ≡ closed old
+abbrev pub TakesFront : Connection → Front → Connection → Type 0
+TakesFront old fronts.More new = (verdict old.unread ≡ Err stops.More) × (new ≡ old)
+TakesFront old (fronts.Packet packet) new =
+    (rest : List ℕ) × (verdict old.unread ≡ Ok (packet, rest)) × IsSized packet × (new ≡ left_with rest old)
+TakesFront old (fronts.Refused code) new =
+    (verdict old.unread ≡ Err (stops.Refused code))
+    × (new ≡ (if is_first old.stage then refused code old else closed old))
+TakesFront old fronts.Fault new = IsFault (verdict old.unread) × (new ≡ closed old)
+TakesFront old fronts.Wanting new = new ≡ closed old

@@ -11,5 +11,5 @@ pub use Rattle.ballot.specs.Replica
 pub use Rattle.ballot.specs.Effect
 pub use Rattle.ballot.specs.Message
 pub use Rattle.ballot.specs.Config
-pub use Rattle.connecting_base.specs.declared.command.Command
-pub use Rattle.connecting_base.specs.declared.command.Output
+pub use Rattle.broker_model.specs.declared.command.Command
+pub use Rattle.broker_model.specs.declared.command.Output

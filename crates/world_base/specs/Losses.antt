@@ -1,7 +1,7 @@
 -- A step of a node in which memory was wanting, and how such steps are counted.
 use Rattle.std.specs.Prelude.{◌≡◌, ◌⊎◌, List, ◌++◌}
-use Rattle.connecting_base.specs.declared.command.Command.{Command}
-use Rattle.connecting_base.specs.declared.command.Output.{Output}
+use Rattle.broker_model.specs.declared.command.Command.{Command}
+use Rattle.broker_model.specs.declared.command.Output.{Output}
 use Rattle.ballot.specs.Effect.{Effect}
 use Rattle.ballot.specs.Losses.{one_more}
 use Rattle.world_base.specs.declared.item.Item.{Item}

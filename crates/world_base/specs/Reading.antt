@@ -1,5 +1,5 @@
 -- What a node reads of a connection, and how a connection ends (MQTT 3.1.4, 3.2, 4.8).
-use Rattle.std.specs.Prelude.{ℕ, if◌then◌else◌, List, Option, Some, None, Result, Ok, Err}
+use Rattle.std.specs.Prelude.{ℕ, if◌then◌else◌, List, length, Option, Some, None, Result, Ok, Err}
 use Rattle.std.specs.List.{find}
 use Rattle.packet.specs.Stop.{Stop}
 use Rattle.packet.specs.Stop.TheVariants as stops
@@ -9,14 +9,14 @@ use Rattle.packet.specs.declared.packet.Packet.TheVariants as packets
 use Rattle.packet.specs.declared.connect.Connect.{Connect}
 use Rattle.packet.specs.declared.connack.Connack.TheVariants as connacks
 use Rattle.packet.specs.Verdict.{verdict}
-use Rattle.connecting_base.specs.Connection.{ConnectionName}
-use Rattle.connecting_base.specs.declared.command.Command.TheVariants as commands
+use Rattle.broker_model.specs.Connection.{ConnectionName}
+use Rattle.broker_model.specs.declared.command.Command.TheVariants as commands
 use Rattle.world_base.specs.declared.item.Port.{Port}
 use Rattle.world_base.specs.declared.connection.Connection.{Connection}
-use Rattle.world_base.specs.Connections.{is_open_at, is_first, is_proposed, asked, closed, putting, changed}
+use Rattle.world_base.specs.Connections.{is_open_at, is_first, is_proposed, asked, left_with, closed, putting, changed}
 use Rattle.world_base.specs.Core.{CoreState, Turn}
 use Rattle.packet.specs.Spelling.{spelling}
-use Rattle.world_base.specs.Turns.{quiet, proposes, has_room}
+use Rattle.world_base.specs.Turns.{quiet, repeated, proposes, has_room}
 
 abbrev pub open_at : Port → CoreState → Option Connection
 open_at port core = find (is_open_at port) core.connections
@@ -47,36 +47,46 @@ asks port name connect core =
     then proposes (commands.Connect name connect.client connect.clean) core
     else quiet (changes port closed core)
 
+-- so does any later packet, a CONNECT among them
+abbrev pub says : Port → ConnectionName → Packet → CoreState → Turn
+says port name packet core =
+    if has_room core
+    then proposes (commands.Packet name packet) core
+    else quiet (changes port closed core)
+
+-- the first packet of a connection must be a CONNECT (MQTT 3.1.0-1)
+abbrev pub begins : Port → ConnectionName → Packet → CoreState → Turn
+begins port name (packets.Connect connect) core = asks port name connect (changes port asked core)
+begins port name _ core = quiet (changes port closed core)
+
 -- a CONNECT that is refused with a code is answered, and then closed (MQTT 3.2.2.3)
 abbrev pub refused : RefusalCode → Connection → Connection
 refused code c = closed (putting (spelling (packets.Connack (connacks.Refused code))) c)
 
--- the first packet of a connection must be a CONNECT (MQTT 3.1.0-1)
-abbrev pub reads_first : Port → Connection → CoreState → Result (Packet × List ℕ) Stop → Turn
-reads_first port c core (Err stops.More) = quiet core
-reads_first port c core (Err (stops.Malformed kind)) = quiet (changes port closed core)
-reads_first port c core (Err (stops.Refused code)) = quiet (changes port (refused code) core)
-reads_first port c core (Ok (packets.Connect connect, rest)) =
-    asks port c.name connect (changes port (asked rest) core)
-reads_first port c core (Ok _) = quiet (changes port closed core)
+-- what the front of a connection's bytes makes of the node: a later CONNECT that is refused with a code is a malformed
+-- packet
+abbrev pub reads : Port → Connection → CoreState → Result (Packet × List ℕ) Stop → Turn
+reads port c core (Err stops.More) = quiet core
+reads port c core (Err (stops.Malformed kind)) = loses port c core
+reads port c core (Err (stops.Refused code)) =
+    if is_first c.stage then quiet (changes port (refused code) core) else loses port c core
+reads port c core (Ok (packet, rest)) =
+    if is_first c.stage
+    then begins port c.name packet (changes port (left_with rest) core)
+    else says port c.name packet (changes port (left_with rest) core)
 
-abbrev pub begins_with : Port → CoreState → Option Connection → Turn
-begins_with port core None = quiet core
-begins_with port core (Some c) =
-    if is_first c.stage then reads_first port c core (verdict c.unread) else quiet core
+abbrev pub reads_of : Port → CoreState → Option Connection → Turn
+reads_of port core None = quiet core
+reads_of port core (Some c) = reads port c core (verdict c.unread)
 
-unfoldable pub begins : Port → CoreState → Turn
-begins port core = begins_with port core (open_at port core)
+-- the next packet of a port
+unfoldable pub reads_next : Port → CoreState → Turn
+reads_next port core = reads_of port core (open_at port core)
 
--- nothing may come behind it, since the machine knows no packet
-abbrev pub reads_on : Port → CoreState → Result (Packet × List ℕ) Stop → Turn
-reads_on port core (Err stops.More) = quiet core
-reads_on port core _ = ends port core
+abbrev pub unread_of : Option Connection → ℕ
+unread_of None = 0
+unread_of (Some c) = length c.unread
 
-abbrev pub goes_on_with : Port → CoreState → Option Connection → Turn
-goes_on_with port core None = quiet core
-goes_on_with port core (Some c) =
-    if is_proposed c.stage then reads_on port core (verdict c.unread) else quiet core
-
-unfoldable pub goes_on : Port → CoreState → Turn
-goes_on port core = goes_on_with port core (open_at port core)
+-- all whole packets of a port, each with what it gives before the next: they are no more than the bytes
+abbrev pub reads_all : Port → CoreState → Turn
+reads_all port core = repeated (unread_of (open_at port core)) (reads_next port) core

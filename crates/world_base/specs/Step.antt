@@ -1,7 +1,7 @@
 -- What one item makes of a node.
 use Rattle.std.specs.Prelude.{◌+◌, not, ◌&&◌, if◌then◌else◌, [], ◌∷◌, ◌++◌, map, filter}
 use Rattle.std.specs.List.{list_any}
-use Rattle.connecting_base.specs.Connection.{ConnectionName, is_connection_name}
+use Rattle.broker_model.specs.Connection.{ConnectionName, is_connection_name}
 use Rattle.ballot.specs.Losses.{halted}
 use Rattle.ballot.specs.Protocol.Input.{Receives, Ticks}
 use Rattle.world_base.specs.declared.item.Port.{Port}
@@ -9,7 +9,7 @@ use Rattle.world_base.specs.declared.item.Item.{Item}
 use Rattle.world_base.specs.declared.item.Item.TheVariants.{Peer, Tick, Opened, Bytes, Ended, Crash}
 use Rattle.world_base.specs.Connections.{is_at, is_listed, fresh, holding, closed}
 use Rattle.world_base.specs.Core.{CoreState, Turn, rules, serves}
-use Rattle.world_base.specs.Reading.{begins, changes, ends, goes_on}
+use Rattle.world_base.specs.Reading.{changes, ends, reads_all}
 use Rattle.world_base.specs.Turns.{quiet, then_also, drives}
 
 -- the name of the next connection of this ballot
@@ -48,7 +48,7 @@ takes_in (Peer message) core = drives (Receives message) core
 takes_in (Tick now) core = drives Ticks core
 takes_in (Opened port now) core = quiet (opens port core)
 takes_in (Bytes port piece now) core =
-    then_also (then_also (quiet (changes port (holding piece) core)) (begins port)) (goes_on port)
+    then_also (quiet (changes port (holding piece) core)) (reads_all port)
 takes_in (Ended port) core = ends port core
 takes_in Crash core = quiet (crashed core)
 

@@ -1,11 +1,11 @@
 -- What a step of the replica makes of a node: outputs are done on connections, messages are handed out.
-use Rattle.std.specs.Prelude.{Bool, true, false, ◌&&◌, nat_lt, if◌then◌else◌, List, [], ◌++◌, length, filter}
+use Rattle.std.specs.Prelude.{ℕ, zero, suc, Bool, true, false, ◌&&◌, nat_lt, if◌then◌else◌, List, [], ◌++◌, length, filter}
 use Rattle.std.specs.List.{fold}
-use Rattle.connecting_base.specs.Table.{Table}
-use Rattle.connecting_base.specs.Connection.{ConnectionName}
-use Rattle.connecting_base.specs.declared.command.Command.{Command}
-use Rattle.connecting_base.specs.declared.command.Output.{Output}
-use Rattle.connecting_base.specs.declared.command.Output.TheVariants as outputs
+use Rattle.broker_base.specs.State.{State}
+use Rattle.broker_model.specs.Connection.{ConnectionName}
+use Rattle.broker_model.specs.declared.command.Command.{Command}
+use Rattle.broker_model.specs.declared.command.Output.{Output}
+use Rattle.broker_model.specs.declared.command.Output.TheVariants as outputs
 use Rattle.ballot.specs.Effect.{Effect}
 use Rattle.ballot.specs.Effect.TheVariants.{To, Out}
 use Rattle.ballot.specs.Protocol.{Input, replica_step}
@@ -28,6 +28,11 @@ then_also first next =
       core = (next first.core).core;
       messages = first.messages ++ (next first.core).messages;
     }
+
+-- the same so many times, each behind what the last one left
+unfoldable pub repeated : ℕ → (CoreState → Turn) → CoreState → Turn
+repeated zero next core = quiet core
+repeated (suc more) next core = then_also (next core) (repeated more next)
 
 -- ---- outputs
 
@@ -55,7 +60,7 @@ abbrev pub delivered : List (Effect Command Output) → CoreState → Turn
 delivered effects core =
     record { core = fold served core effects; messages = filter is_message effects }
 
-abbrev pub moved : Outcome Table Command Output → CoreState → Turn
+abbrev pub moved : Outcome State Command Output → CoreState → Turn
 moved outcome core =
     delivered outcome.effects
     (record core { replica = record core.replica { state = outcome.state } })
@@ -68,7 +73,7 @@ proposes command core =
     if serves core then moved (proposed rules core.replica.state command) core else quiet core
 
 -- a message of another node or a tick; a replica that has stopped does nothing
-abbrev pub heard : Input Command → ReplicaState Table Command → Outcome Table Command Output
+abbrev pub heard : Input Command → ReplicaState State Command → Outcome State Command Output
 heard input r = if r.stopped then nothing_done Output r else replica_step rules r input
 
 unfoldable pub drives : Input Command → CoreState → Turn

@@ -1,9 +1,9 @@
 // One connection of a node.
 
 ghost use Rattle.std.specs.Prelude.{◌≡◌, ◌++◌, false, true, OnOk, OnErr};
-ghost use Rattle.world_base.specs.Connections.{closed, fresh, handed, holding, is_at, is_first, is_listed, is_open_at, is_open_named, is_over, is_proposed, putting};
+ghost use Rattle.world_base.specs.Connections.{asked, closed, fresh, handed, holding, is_at, is_first, is_listed, is_open_at, is_open_named, is_over, is_proposed, putting};
 ghost use Rattle.world_base.specs.Handing.{answer_of};
-ghost use Rattle.world_base.specs.Inside.{Begins, Follows, failing};
+ghost use Rattle.world_base.specs.Inside.{TakesFront, failing};
 ghost use Rattle.packet.specs.Spelling.{spelling};
 ghost use Rattle.world_base.specs.Reading.{refused};
 
@@ -13,7 +13,7 @@ use crate::item::Port;
 use crate::piece::Piece;
 use crate::unread::Unread;
 use ballot::Memory;
-use connecting_base::ConnectionId;
+use broker_model::ConnectionId;
 use packet::{Connack, Packet, RefusalCode};
 use std::alloc::Global;
 
@@ -122,17 +122,18 @@ impl Connection {
         self.unread.add(piece)
     }
 
-    /// Reads its first packet. Where that is none that may come first the connection is closed, a
-    /// CONNECT that is refused with a code being answered before.
-    pub fn begin(&mut self) -> Front
-        ensures { Begins self.old result self.new }
+    /// Reads the next packet. All but a packet or less than one closes it; a first CONNECT that is
+    /// refused with a code is answered before.
+    pub fn next(&mut self) -> Front
+        ensures { TakesFront self.old result self.new }
     {
         let front = self.unread.next();
         match front {
-            Front::More => {}
-            Front::Connect(_) => self.stage = Stage::Proposed,
+            Front::More | Front::Packet(_) => {}
             Front::Refused(code) => {
-                if !self.refuse(code) {
+                if !self.is_first() {
+                    self.close();
+                } else if !self.refuse(code) {
                     return Front::Wanting;
                 }
             }
@@ -141,15 +142,11 @@ impl Connection {
         front
     }
 
-    /// Reads what came behind its first packet: all but less than a packet closes the connection.
-    pub fn follow(&mut self) -> Front
-        ensures { Follows self.old result self.new }
+    /// Its CONNECT becomes a command.
+    pub fn ask(&mut self)
+        ensures { self.new ≡ asked self.old }
     {
-        let front = self.unread.next();
-        if !matches!(front, Front::More) {
-            self.close();
-        }
-        front
+        self.stage = Stage::Proposed;
     }
 
     /// Puts a packet out: whether it was. Where it has no bytes or memory is wanting nothing changes.
@@ -177,11 +174,18 @@ impl Connection {
         ensures lost { result ≡ false → self.new ≡ failing self.old }
     {
         if !self.put(packet) {
-            self.close();
-            self.stage = Stage::Failed;
+            self.fail();
             return false;
         }
         true
+    }
+
+    /// Closes it for want of memory: the broker is still to hear that it is lost.
+    pub fn fail(&mut self)
+        ensures { self.new ≡ failing self.old }
+    {
+        self.close();
+        self.stage = Stage::Failed;
     }
 
     /// Hands over what was put out, behind what `out` holds. Where memory is wanting nothing changes.

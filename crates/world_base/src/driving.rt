@@ -9,7 +9,7 @@ ghost use Rattle.world_base.specs.Turns.{delivered, drives, has_room, heard, pro
 
 use crate::serving::Serving;
 use ballot::{Effect, Message};
-use connecting_base::{Command, Output};
+use broker_model::{Command, Output};
 
 impl Serving {
     /// Proposes a command and does what it gives at once: whether it was taken.

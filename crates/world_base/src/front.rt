@@ -1,17 +1,17 @@
 // What stands at the front of a connection's bytes.
 
-use packet::{Connect, RefusalCode};
+use packet::{Packet, RefusalCode};
 
-/// What stands at the front of a connection's bytes, as far as a first packet goes.
+/// What stands at the front of a connection's bytes.
 #[derive(Drop)]
 pub enum Front {
     /// Less than a packet.
     More,
-    /// A CONNECT.
-    Connect(Connect),
+    /// A whole packet.
+    Packet(Packet),
     /// A CONNECT that is refused with a code.
     Refused(RefusalCode),
-    /// No packet that may come first.
+    /// No packet.
     Fault,
     /// There was no memory to read it.
     Wanting,

@@ -2,7 +2,7 @@
 
 use crate::piece::Piece;
 use ballot::Message;
-use connecting_base::Command;
+use broker_model::Command;
 
 /// The number by which a node knows a stream of bytes from and to a client. A number may be used
 /// again once its connection is over and all that was put out for it was handed over.

@@ -13,12 +13,10 @@ mod node_core;
 mod piece;
 mod serving;
 mod taking;
-#[cfg(test)]
-mod tests;
 mod unread;
 
-pub use ballot::{Config, Effect, Members, Memory, Message, OpeningError, Status};
-pub use connecting_base::{Command, ConnectionId, Output};
+pub use ballot::{Body, Config, Effect, Members, Memory, Message, OpeningError, Status};
+pub use broker_model::{Command, ConnectionId, Output};
 pub use handed::Handed;
 pub use item::{Item, Port};
 pub use node_core::NodeCore;

@@ -11,7 +11,7 @@ use crate::handed::Handed;
 use crate::item::{Item, Port};
 use crate::serving::Serving;
 use ballot::{Config, Effect, Memory, OpeningError, Status};
-use connecting_base::{Command, Output};
+use broker_model::{Command, Output};
 use std::alloc::Global;
 use std::marker::Model;
 

@@ -2,14 +2,14 @@
 
 ghost use Rattle.std.specs.Prelude.{◌≡◌, ◌≤◌, ◌↔◌, false, true, IfOk, IfSome, OnSome, IfNone, IsErrOf};
 ghost use Rattle.std.specs.List.{position};
-ghost use Rattle.connecting_base.specs.Connection.{is_connection_name};
+ghost use Rattle.broker_model.specs.Connection.{is_connection_name};
 ghost use Rattle.ballot.specs.LawfulConfig.{is_lawful};
 ghost use Rattle.ballot.specs.Replica.{status_of};
-ghost use Rattle.world_base.specs.Connections.{closed, holding, is_open_at, is_open_named, putting};
+ghost use Rattle.world_base.specs.Connections.{asked, closed, holding, is_open_at, is_open_named, putting};
 ghost use Rattle.world_base.specs.Core.{opening_core, serves};
 ghost use Rattle.world_base.specs.Inside.{Does};
 ghost use Rattle.packet.specs.Spelling.{spelling};
-ghost use Rattle.world_base.specs.Reading.{changes, refused};
+ghost use Rattle.world_base.specs.Reading.{changes, open_at, refused, unread_of};
 ghost use Rattle.world_base.specs.Step.{next_name, opens, settled};
 ghost use Rattle.world_base.specs.Turns.{changes_named};
 
@@ -18,8 +18,8 @@ use crate::item::Port;
 use crate::listing::{close_each, has_port, keep_listed, push};
 use crate::piece::Piece;
 use ballot::{Config, OpeningError, Replica, Status};
-use connecting::BrokerMachine;
-use connecting_base::ConnectionId;
+use broker::BrokerMachine;
+use broker_model::ConnectionId;
 use packet::{Packet, RefusalCode};
 use std::alloc::Global;
 use std::marker::Model;
@@ -123,6 +123,38 @@ impl Serving {
     {
         if let Some(index) = self.place_at(port) {
             self.connections[index].close();
+        }
+    }
+
+    /// The CONNECT of the open connection of a port becomes a command.
+    pub fn ask_at(&mut self, port: Port)
+        ensures { self.new ≡ record self.old { core = changes port asked self.old.core } }
+    {
+        if let Some(index) = self.place_at(port) {
+            self.connections[index].ask();
+        }
+    }
+
+    /// Closes the open connection of a port, whose proposal was refused: where memory was wanting the
+    /// broker is still to hear that it is lost.
+    pub fn give_up(&mut self, port: Port)
+        ensures { Does self.old self.new (changes port closed self.old.core) }
+    {
+        if !self.wanting {
+            return self.close(port);
+        }
+        if let Some(index) = self.place_at(port) {
+            self.connections[index].fail();
+        }
+    }
+
+    /// How many bytes of the open connection of a port are not read yet.
+    pub fn held(&self, port: Port) -> usize
+        ensures { result ≡ unread_of (open_at port self.now.core) }
+    {
+        match self.place_at(port) {
+            Some(index) => self.connections[index].unread.len(),
+            None => 0,
         }
     }
 

@@ -1,12 +1,14 @@
 // What an item does to a node.
 
-ghost use Rattle.std.specs.Prelude.{◌≡◌, true};
-ghost use Rattle.world_base.specs.Connections.{holding};
+ghost use Rattle.std.specs.Prelude.{◌≡◌, false, true, if◌then◌else◌};
+ghost use Rattle.broker_model.specs.declared.command.Command.TheVariants as commands;
+ghost use Rattle.broker_model.specs.Sized.{IsSized};
+ghost use Rattle.world_base.specs.Connections.{holding, is_first, is_proposed};
 ghost use Rattle.world_base.specs.Inside.{Turns};
 ghost use Rattle.lists.specs.Lists.{IsPrefixOf};
-ghost use Rattle.world_base.specs.Reading.{asks, begins, changes, ends, goes_on};
+ghost use Rattle.world_base.specs.Reading.{asks, begins, changes, ends, reads_all, reads_next, says};
 ghost use Rattle.world_base.specs.Step.{takes_in};
-ghost use Rattle.world_base.specs.Turns.{quiet};
+ghost use Rattle.world_base.specs.Turns.{proposes, quiet};
 
 use crate::connection::Stage;
 use crate::front::Front;
@@ -14,8 +16,8 @@ use crate::item::{Item, Port};
 use crate::piece::Piece;
 use crate::serving::Serving;
 use ballot::Effect;
-use connecting_base::{Command, ConnectionId, Output};
-use packet::Connect;
+use broker_model::{Command, ConnectionId, Output, SizedPacket};
+use packet::{Connect, Packet};
 
 impl Serving {
     /// Takes an item in. Whether memory was wanting is told by `is_wanting`.
@@ -29,8 +31,7 @@ impl Serving {
             Item::Opened(port, _) => self.open(port),
             Item::Bytes(port, piece, _) => {
                 self.hold(port, piece, effects);
-                self.begin(port, effects);
-                self.go_on(port, effects);
+                self.read(port, effects);
             }
             Item::Ended(port) => self.end(port, effects),
             Item::Crash => self.replica.stop(),
@@ -48,23 +49,67 @@ impl Serving {
         }
     }
 
-    // Reads the first packet of the connection of a port.
-    fn begin(&mut self, port: Port, effects: &mut Vec<Effect<Command, Output>>)
+    // Takes all whole packets of a port in turn.
+    fn read(&mut self, port: Port, effects: &mut Vec<Effect<Command, Output>>)
         ensures { Turns self.old self.new effects.old.items effects.new.items
-            (begins port self.old.core) }
+            (reads_all port self.old.core) }
+    {
+        for _packet in 0..self.held(port) {
+            if !self.read_next(port, effects) {
+                return;
+            }
+        }
+    }
+
+    // Takes the next packet of a port: whether another may follow.
+    fn read_next(&mut self, port: Port, effects: &mut Vec<Effect<Command, Output>>) -> bool
+        ensures turns { Turns self.old self.new effects.old.items effects.new.items
+            (reads_next port self.old.core) }
+        ensures done { result ≡ false → self.new.wanting ≡ false →
+            reads_next port self.new.core ≡ quiet self.new.core }
     {
         let Some(index) = self.place_at(port) else {
-            return;
+            return false;
         };
-        let connection = &self.connections[index];
-        if !connection.is_first() {
-            return;
-        }
+        let connection = &mut self.connections[index];
         let name = connection.name;
-        match self.connections[index].begin() {
-            Front::Connect(connect) => self.connect(port, name, connect, effects),
-            Front::Wanting => self.wanting = true,
-            Front::More | Front::Refused(_) | Front::Fault => {}
+        let stage = connection.stage;
+        match connection.next() {
+            Front::More => return false,
+            Front::Packet(packet) => self.take(port, name, stage, packet, effects),
+            Front::Refused(_) | Front::Fault => self.lose(name, stage, effects),
+            Front::Wanting => {
+                self.wanting = true;
+                self.lose(name, stage, effects);
+            }
+        }
+        true
+    }
+
+    // Takes a packet that was read: the first must be a CONNECT (MQTT 3.1.0-1).
+    fn take(
+        &mut self,
+        port: Port,
+        name: ConnectionId,
+        stage: Stage,
+        packet: Packet,
+        effects: &mut Vec<Effect<Command, Output>>,
+    )
+        requires sized { IsSized packet }
+        ensures { Turns self.old self.new effects.old.items effects.new.items
+            (if is_first stage
+            then begins port name packet self.old.core
+            else says port name packet self.old.core) }
+    {
+        if stage != Stage::Awaits {
+            return self.say(port, name, packet, effects);
+        }
+        match packet {
+            Packet::Connect(connect) => {
+                self.ask_at(port);
+                self.connect(port, name, connect, effects);
+            }
+            _ => self.close(port),
         }
     }
 
@@ -85,25 +130,36 @@ impl Serving {
         }
     }
 
-    // Reads what came behind a CONNECT that was proposed.
-    fn go_on(&mut self, port: Port, effects: &mut Vec<Effect<Command, Output>>)
+    // Proposes a later packet. A refused proposal closes the connection.
+    fn say(
+        &mut self,
+        port: Port,
+        name: ConnectionId,
+        packet: Packet,
+        effects: &mut Vec<Effect<Command, Output>>,
+    )
+        requires sized { IsSized packet }
         ensures { Turns self.old self.new effects.old.items effects.new.items
-            (goes_on port self.old.core) }
+            (says port name packet self.old.core) }
     {
-        let Some(index) = self.place_at(port) else {
-            return;
+        let Ok(packet) = SizedPacket::new(packet) else {
+            unreachable!()
         };
-        let connection = &self.connections[index];
-        if !connection.is_proposed() {
-            return;
+        if !self.propose(Command::Packet(name, packet), effects) {
+            self.give_up(port);
         }
-        let name = connection.name;
-        match self.connections[index].follow() {
-            Front::More => return,
-            Front::Wanting => self.wanting = true,
-            Front::Connect(_) | Front::Refused(_) | Front::Fault => {}
+    }
+
+    // The broker hears that a connection is lost, where it heard of its CONNECT.
+    fn lose(&mut self, name: ConnectionId, stage: Stage, effects: &mut Vec<Effect<Command, Output>>)
+        ensures { Turns self.old self.new effects.old.items effects.new.items
+            (if is_proposed stage
+            then proposes (commands.Lost name) self.old.core
+            else quiet self.old.core) }
+    {
+        if stage == Stage::Proposed {
+            self.propose(Command::Lost(name), effects);
         }
-        self.propose(Command::Lost(name), effects);
     }
 
     // Closes the connection of a port as lost.

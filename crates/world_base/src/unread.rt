@@ -1,13 +1,13 @@
 // The bytes of a connection that came and are not read yet.
 
-ghost use Rattle.std.specs.Prelude.{◌≡◌, ◌++◌, [], OnErr, OnOk};
+ghost use Rattle.std.specs.Prelude.{◌≡◌, ◌++◌, [], length, OnErr, OnOk};
 ghost use Rattle.world_base.specs.Inside.{Reads};
 
 use crate::front::Front;
 use crate::piece::Piece;
 use ballot::Memory;
 use cutter::{CutError, Cutter};
-use packet::{DecodeFault, Packet};
+use packet::DecodeFault;
 use std::alloc::Global;
 use std::marker::Model;
 
@@ -57,8 +57,7 @@ impl Unread {
     {
         match self.cutter.next() {
             Ok(None) => Front::More,
-            Ok(Some(Packet::Connect(connect))) => Front::Connect(connect),
-            Ok(Some(_)) => Front::Fault,
+            Ok(Some(packet)) => Front::Packet(packet),
             Err(CutError::Memory) => Front::Wanting,
             Err(error) => {
                 // The stream has failed: nothing more is read of it.
@@ -69,6 +68,13 @@ impl Unread {
                 }
             }
         }
+    }
+
+    /// How many bytes there are.
+    pub fn len(&self) -> usize
+        ensures { result ≡ length self.now }
+    {
+        self.cutter.len()
     }
 
     /// Drops all bytes.

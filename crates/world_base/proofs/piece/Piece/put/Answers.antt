@@ -1,4 +1,4 @@
-use Rattle.std.proofs.Common.{◌≡◌, true, sym, ◌∙◌}
+use Rattle.std.proofs.Common.{sym, ◌∙◌}
 use Rattle.world_base.proofs.Spelled.{appends_spelling, when_ok}
 use Rattle.world_base.proofs.piece.Piece.put.Goals as goal
 

@@ -1,3 +1,0 @@
-pub mod Names
-pub mod SessionsRead
-pub mod Tables

@@ -1,0 +1,73 @@
+-- Repeats.antt: one more of a thing that is done several times, and that no more are done once it does nothing.
+use Rattle.std.proofs.Common.{◌≡◌, ℕ, zero, suc, ◌+◌, ◌-◌, ◌≤◌, false, List, ◌++◌, append_assoc, refl, sym, ap, subst, ◌∙◌, arith}
+use Rattle.std.proofs.lemmas.List.{append-nil}
+use Rattle.broker_model.specs.declared.command.Command.{Command}
+use Rattle.broker_model.specs.declared.command.Output.{Output}
+use Rattle.ballot.specs.Effect.{Effect}
+use Rattle.world_base.specs.Core.{CoreState, Turn}
+use Rattle.world_base.specs.Inside.{Running, Turns}
+use Rattle.world_base.specs.Turns.{quiet, repeated, then_also}
+use Rattle.world_base.proofs.TurnsJoin.{turns_as, turns_idle, turns_join}
+
+-- a turn with these messages
+abbrev given_by : CoreState → List (Effect Command Output) → Turn
+given_by core messages = record { core = core; messages = messages }
+
+-- nothing more behind it
+ends_quiet : (t : Turn) → then_also t quiet ≡ t
+ends_quiet t = ap (given_by t.core) (append-nil t.messages)
+
+joins : (t : Turn) (f g : CoreState → Turn) → then_also t (λ core. then_also (f core) g) ≡ then_also (then_also t f) g
+joins t f g = ap (given_by (g (f t.core).core).core) (sym (append_assoc t.messages (f t.core).messages (g (f t.core).core).messages))
+
+module _ (next : CoreState → Turn) where
+  -- the last one is done behind the others
+  one_more : (n : ℕ) (core : CoreState) → repeated (suc n) next core ≡ then_also (repeated n next core) next
+  unfolding repeated
+  one_more zero core = ends_quiet (next core)
+  one_more (suc n) core =
+      let first : Turn = next core in
+      ap (λ (t : Turn). given_by t.core (first.messages ++ t.messages)) (one_more n first.core)
+      ∙ joins first (repeated n next) next
+
+  none_of_them : (core : CoreState) → repeated 0 next core ≡ quiet core
+  unfolding repeated
+  none_of_them core = refl
+
+  -- once the next one does nothing, no more are done
+  no_more : (n m : ℕ) (core : CoreState) → next (repeated n next core).core ≡ quiet (repeated n next core).core →
+      repeated (m + n) next core ≡ repeated n next core
+  no_more n zero core last = let same : 0 + n ≡ n = omega arith in ap (λ (k : ℕ). repeated k next core) same
+  no_more n (suc m) core last =
+      let next_one : suc m + n ≡ suc (m + n) = omega arith in
+      ap (λ (k : ℕ). repeated k next core) next_one
+      ∙ one_more (m + n) core
+      ∙ ap (λ (t : Turn). then_also t next) (no_more n m core last)
+      ∙ ap (λ (t : Turn). given_by t.core ((repeated n next core).messages ++ t.messages)) last
+      ∙ ends_quiet (repeated n next core)
+
+  -- ---- what the code did
+
+  pub repeats_none : (r : Running) (x : List (Effect Command Output)) → Turns r r x x (repeated 0 next r.core)
+  repeats_none r x = subst (λ (t : Turn). Turns r r x x t) (sym (none_of_them r.core)) (turns_idle r x)
+
+  pub repeats_more : (n : ℕ) (a b c : Running) (x y z : List (Effect Command Output)) →
+      Turns a b x y (repeated n next a.core) → Turns b c y z (next b.core) → Turns a c x z (repeated (suc n) next a.core)
+  repeats_more n a b c x y z done more =
+      subst (λ (t : Turn). Turns a c x z t) (sym (one_more n a.core))
+      (turns_join a b c x y z (repeated n next a.core) next done more)
+
+  -- the last one tells that the next would do nothing
+  pub repeats_enough : (n all : ℕ) (a b : Running) (x y : List (Effect Command Output)) → n ≤ all →
+      Turns a b x y (repeated n next a.core) → (b.wanting ≡ false → next b.core ≡ quiet b.core) →
+      Turns a b x y (repeated all next a.core)
+  repeats_enough n all a b x y few done last =
+      turns_as a b x y (repeated n next a.core) (repeated all next a.core) same done
+    where
+      same : b.wanting ≡ false → repeated n next a.core ≡ repeated all next a.core
+      same whole =
+          let core : b.core ≡ (repeated n next a.core).core = ap (λ (r : Running). r.core) (done.exact whole).0 in
+          let quiet_there = subst (λ (k : CoreState). next k ≡ quiet k) core (last whole) in
+          let rest : ℕ = all - n in
+          let is : rest + n ≡ all = omega (arith, few) in
+          sym (no_more n rest a.core quiet_there) ∙ ap (λ (k : ℕ). repeated k next a.core) is

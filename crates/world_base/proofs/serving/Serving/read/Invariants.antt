@@ -1,0 +1,9 @@
+use Rattle.world_base.specs.Inside.{Turns}
+use Rattle.world_base.specs.Reading.{reads_next}
+use Rattle.world_base.specs.Turns.{repeated}
+use Rattle.world_base.proofs.serving.Serving.read.Given as goal
+
+abbrev pub invariant-loop-packet : goal.invariant-loop-packet
+invariant-loop-packet l =
+    Turns l.initial.self l.self l.initial.effects.items l.effects.items
+    (repeated l._packet (reads_next l.initial.port) l.initial.self.core)

@@ -1,0 +1,65 @@
+use Rattle.std.proofs.Common.{slice_set, refl, sym, ◌∙◌}
+use Rattle.world_base.specs.Connections.{is_open_at}
+use Rattle.world_base.specs.Inside.{Running}
+use Rattle.world_base.proofs.Changes.{changed_there}
+use Rattle.world_base.proofs.Places.{none_found, found_there}
+use Rattle.world_base.proofs.Fronts.{nothing_open, nothing_next, more_there, more_next, packet_there, gone_there}
+use Rattle.world_base.proofs.serving.Serving.read_next.Goals as goal
+
+pub returns-in_default-clause-turns : goal.returns-in_default-clause-turns
+returns-in_default-clause-turns c =
+    nothing_open c.args.port _ _ (none_found (is_open_at c.args.port) _ (sym c.in_default.is ∙ c.place_at.ensures))
+
+pub returns-in_default-clause-done : goal.returns-in_default-clause-done
+returns-in_default-clause-done c = λ _ _.
+    nothing_next c.args.port _ (none_found (is_open_at c.args.port) _ (sym c.in_default.is ∙ c.place_at.ensures))
+
+pub returns-in-More-clause-turns : goal.returns-in-More-clause-turns
+returns-in-More-clause-turns c =
+    more_there c.args.port c.index_mut-connection.result.now c.next.new.self _ _ _
+    (rw (← c.self.view_is) (found_there (is_open_at c.args.port) _ c.place_at.result c.in-Some.index _
+    (rw (← c.self.view_is) at c.place_at.ensures) c.in-Some.is c.index_mut-connection.ensures.value))
+    c.in-More.ensures
+    (rw (← c.self.view_is) (changed_there c.args.port (λ _. c.next.new.self) _ c.place_at.result c.in-Some.index
+    c.index_mut-connection.result.now c.next.new.self (rw (← c.self.view_is) at c.place_at.ensures) c.in-Some.is
+    c.index_mut-connection.ensures.value refl))
+
+pub returns-in-More-clause-done : goal.returns-in-More-clause-done
+returns-in-More-clause-done c = λ _ _.
+    let behind : Running = record {
+      core = record {
+        replica = c.self.inside.replica;
+        accepted = c.self.inside.accepted;
+        connections = slice_set c.self.inside.connections.items c.in-Some.index c.next.new.self;
+      };
+      wanting = c.self.inside.wanting;
+    } in
+    more_next c.args.port c.index_mut-connection.result.now c.next.new.self c.args.self.now behind
+    (rw (← c.self.view_is) (found_there (is_open_at c.args.port) _ c.place_at.result c.in-Some.index _
+    (rw (← c.self.view_is) at c.place_at.ensures) c.in-Some.is c.index_mut-connection.ensures.value))
+    c.in-More.ensures
+    (rw (← c.self.view_is) (changed_there c.args.port (λ _. c.next.new.self) _ c.place_at.result c.in-Some.index
+    c.index_mut-connection.result.now c.next.new.self (rw (← c.self.view_is) at c.place_at.ensures) c.in-Some.is
+    c.index_mut-connection.ensures.value refl))
+
+pub returns-in-Packet-clause-turns : goal.returns-in-Packet-clause-turns
+returns-in-Packet-clause-turns c =
+    packet_there c.args.port c.index_mut-connection.result.now c.next.new.self c.in-Packet.packet _ _ _ _ _
+    (rw (← c.self.view_is) (found_there (is_open_at c.args.port) _ c.place_at.result c.in-Some.index _
+    (rw (← c.self.view_is) at c.place_at.ensures) c.in-Some.is c.index_mut-connection.ensures.value))
+    c.in-Packet.ensures
+    (rw (← c.self.view_is) (changed_there c.args.port (λ _. c.next.new.self) _ c.place_at.result c.in-Some.index
+    c.index_mut-connection.result.now c.next.new.self (rw (← c.self.view_is) at c.place_at.ensures) c.in-Some.is
+    c.index_mut-connection.ensures.value refl))
+    c.take.ensures
+
+pub returns-in-Refused-clause-turns : goal.returns-in-Refused-clause-turns
+returns-in-Refused-clause-turns c =
+    gone_there c.args.port c.index_mut-connection.result.now c.next.new.self c.next.result _ _ _ _ _
+    (rw (← c.self.view_is) (found_there (is_open_at c.args.port) _ c.place_at.result c.in-Some.index _
+    (rw (← c.self.view_is) at c.place_at.ensures) c.in-Some.is c.index_mut-connection.ensures.value))
+    c.next.ensures c.in-Refused.is
+    (rw (← c.self.view_is) (changed_there c.args.port (λ _. c.next.new.self) _ c.place_at.result c.in-Some.index
+    c.index_mut-connection.result.now c.next.new.self (rw (← c.self.view_is) at c.place_at.ensures) c.in-Some.is
+    c.index_mut-connection.ensures.value refl))
+    c.lose.ensures
