@@ -5,6 +5,7 @@ use machine::{Memory, Tally, TallyCommand};
 use master::{Event, Group};
 use std::alloc::Global;
 
+/// A configuration with these members and this primary.
 pub fn config(alloc: Global, members: &[u8], primary: u8) -> Result<Config, Memory> {
     Ok(Config {
         members: Members::from_slice(alloc, members)?,
@@ -12,38 +13,38 @@ pub fn config(alloc: Global, members: &[u8], primary: u8) -> Result<Config, Memo
     })
 }
 
-// A group of which node 1 is the first primary.
+/// A group of which node 1 is the first primary.
 pub fn group(alloc: Global, nodes: u8, members: &[u8]) -> Result<Group<Tally>, OpeningError> {
     let config = config(alloc, members, 1)?;
     Group::opening(alloc, nodes, config)
 }
 
-// Whether an event is not idle.
+/// Whether an event is not idle.
 pub fn happens(group: &mut Group<Tally>, event: &Event<TallyCommand>) -> bool {
     group.step(event).is_ok()
 }
 
-// Whether a node takes a number to add.
+/// Whether a node takes a number to add.
 pub fn adds(group: &mut Group<Tally>, node: u8, number: u64) -> bool {
     happens(group, &Event::Propose(node, TallyCommand::Add(number)))
 }
 
-// Whether the message of a number comes.
+/// Whether the message of a number comes.
 pub fn comes(group: &mut Group<Tally>, number: u64) -> bool {
     happens(group, &Event::Deliver(number))
 }
 
-// Whether the master gives a ballot to a configuration.
+/// Whether the master gives a ballot to a configuration.
 pub fn gives(group: &mut Group<Tally>, config: Config) -> bool {
     happens(group, &Event::Assign(config))
 }
 
-// How many messages were sent, how many outputs left, and how many places are agreed.
+/// How many messages were sent, how many outputs left, and how many places are agreed.
 pub fn counts(group: &Group<Tally>) -> (usize, usize, u64) {
     (group.sent().len(), group.left().len(), group.agreed_len())
 }
 
-// Whether messages come one after the other, with these counts behind each.
+/// Whether messages come one after the other, with these counts behind each.
 pub fn come(group: &mut Group<Tally>, rows: &[(u64, usize, usize, u64)]) -> bool {
     for (number, sent, left, agreed) in rows {
         if !comes(group, *number) || counts(group) != (*sent, *left, *agreed) {
@@ -53,20 +54,20 @@ pub fn come(group: &mut Group<Tally>, rows: &[(u64, usize, usize, u64)]) -> bool
     true
 }
 
-// Lets the messages come in the order of sending, also those that came before and those that these
-// bring about, up to the 40th. Those to a node that has stopped are idle.
+/// Lets the messages come in the order of sending, also those that came before and those that these
+/// bring about, up to the 40th. Those to a node that has stopped are idle.
 pub fn settle(group: &mut Group<Tally>) {
     for number in 0..40 {
         let _ = group.step(&Event::Deliver(number));
     }
 }
 
-// Whether these commands are the agreed list.
+/// Whether these commands are the agreed list.
 pub fn agrees(group: &Group<Tally>, commands: &[TallyCommand]) -> bool {
     group.agreed() == commands
 }
 
-// Whether the output at a place among those that left is this one.
+/// Whether the output at a place among those that left is this one.
 pub fn gave(group: &Group<Tally>, at: usize, place: u64, total: u64) -> bool {
     match group.left().get(at) {
         Some(Effect::Out(left, output)) => *left == place && *output == total,
@@ -74,7 +75,7 @@ pub fn gave(group: &Group<Tally>, at: usize, place: u64, total: u64) -> bool {
     }
 }
 
-// Whether a ballot is active and no step wanted memory.
+/// Whether a ballot is active and no step wanted memory.
 pub fn is_active(group: &Group<Tally>, ballot: u64) -> bool {
     group.active().0 == ballot && group.losses() == 0
 }
