@@ -5,8 +5,6 @@ ghost use Rattle.std.specs.List.{starts_with};
 ghost use Rattle.packet_base.specs.Reading.{
   topic_at,
   filter_at,
-  topic_of,
-  filter_of,
   byte_at,
   front_at,
   number_at,
@@ -17,6 +15,7 @@ ghost use Rattle.packet_base.specs.Reading.{
   is_text,
 };
 ghost use Rattle.packet_base.specs.Outcome.{Gives, Reads};
+ghost use Rattle.packet_base.specs.Inside.{name_of, pattern_of};
 
 use crate::packet_id::PacketId;
 use crate::stop::Stop;
@@ -134,22 +133,24 @@ impl<'a> Reader<'a> {
 
     /// A Topic Name with its length before it. A text with a fault is `Text`, `Topic` or
     /// `TooDeep` (MQTT 4.7).
-    #[tactic(auto, unfolding(crate::specs::Reading::topic_at))]
+    #[tactic(auto, unfolding(crate::specs::Reading::topic_at, crate::specs::Reading::text_at), using(crate::proofs::Texts::topic_ends))]
     pub fn topic(&mut self, alloc: Global) -> Result<TopicName, Stop>
         ensures { Reads (λ x. x) result self.new (topic_at self.old) }
     {
-        let text = self.text()?;
-        topic_name(alloc, text)
+        let len = self.number()?;
+        let bytes = self.front(usize::from(len))?;
+        topic_name(alloc, bytes)
     }
 
     /// A Topic Filter with its length before it. A text with a fault is `Text`, `Filter` or
     /// `TooDeep` (MQTT 4.7.1).
-    #[tactic(auto, unfolding(crate::specs::Reading::filter_at))]
+    #[tactic(auto, unfolding(crate::specs::Reading::filter_at, crate::specs::Reading::text_at), using(crate::proofs::Texts::filter_ends))]
     pub fn filter(&mut self, alloc: Global) -> Result<Filter, Stop>
         ensures { Reads (λ x. x) result self.new (filter_at self.old) }
     {
-        let text = self.text()?;
-        topic_filter(alloc, text)
+        let len = self.number()?;
+        let bytes = self.front(usize::from(len))?;
+        topic_filter(alloc, bytes)
     }
 
     /// All the bytes that are left.
@@ -185,18 +186,24 @@ fn checked_text(bytes: &[u8]) -> Result<&str, Stop>
     Ok(text)
 }
 
-// A text as a Topic Name.
-#[tactic(auto, using(crate::proofs::Texts::topic_refused, crate::proofs::Texts::topic_taken))]
-fn topic_name(alloc: Global, text: &str) -> Result<TopicName, Stop>
-    ensures { Gives (λ x. x) result (topic_of text.now) }
+// The bytes as a Topic Name. That U+0000 does not stand in them is left to the name's own checks.
+#[tactic(auto, using(crate::proofs::Texts::name_tests))]
+fn topic_name(alloc: Global, bytes: &[u8]) -> Result<TopicName, Stop>
+    ensures { Gives (λ x. x) result (name_of bytes.now) }
 {
+    let Ok(text) = std::str::from_utf8(bytes) else {
+        return Err(Stop::Malformed(MalformedKind::Text));
+    };
     Ok(TopicName::new(alloc, text)?)
 }
 
-// A text as a Topic Filter.
-#[tactic(auto, using(crate::proofs::Texts::filter_refused, crate::proofs::Texts::filter_taken))]
-fn topic_filter(alloc: Global, text: &str) -> Result<Filter, Stop>
-    ensures { Gives (λ x. x) result (filter_of text.now) }
+// The bytes as a Topic Filter. That U+0000 does not stand in them is left to its own checks.
+#[tactic(auto, using(crate::proofs::Texts::pattern_tests))]
+fn topic_filter(alloc: Global, bytes: &[u8]) -> Result<Filter, Stop>
+    ensures { Gives (λ x. x) result (pattern_of bytes.now) }
 {
+    let Ok(text) = std::str::from_utf8(bytes) else {
+        return Err(Stop::Malformed(MalformedKind::Text));
+    };
     Ok(Filter::new(alloc, text)?)
 }
