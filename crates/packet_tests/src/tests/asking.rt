@@ -1,0 +1,64 @@
+// Small questions that are asked of `decode` and `encode`.
+
+use packet::*;
+use std::alloc::{AllocError, Global};
+use topics::MalformedKind;
+
+/// Whether these bytes are less than a packet.
+pub fn is_unfinished(alloc: Global, bytes: &[u8]) -> bool {
+    match decode(alloc, bytes) {
+        Ok(Step::More) => true,
+        _ => false,
+    }
+}
+
+/// Whether these bytes are refused with this kind.
+pub fn is_malformed(alloc: Global, bytes: &[u8], kind: MalformedKind) -> bool {
+    match decode(alloc, bytes) {
+        Err(DecodeFault::Malformed(found)) => found == kind,
+        _ => false,
+    }
+}
+
+/// Whether these bytes are a CONNECT that is answered with this code.
+pub fn is_answered(alloc: Global, bytes: &[u8], code: RefusalCode) -> bool {
+    match decode(alloc, bytes) {
+        Err(DecodeFault::Refused(found)) => found == code,
+        _ => false,
+    }
+}
+
+/// Whether these bytes are read as the packet, all of them.
+pub fn is_read(alloc: Global, packet: &Packet, bytes: &[u8]) -> bool {
+    match decode(alloc, bytes) {
+        Ok(Step::Whole(read, len)) => read == *packet && len == bytes.len(),
+        _ => false,
+    }
+}
+
+/// Writes the packet, or tells the number of the refusal, which is 0 for an empty list.
+pub fn write(packet: &Packet, out: &mut Vec<u8>) -> Option<u8> {
+    if !packet.has_no_empty_list() {
+        return Some(0);
+    }
+    match encode(packet, out) {
+        Ok(()) => None,
+        Err(fault) => Some(fault.number()),
+    }
+}
+
+/// Whether these bytes are written for the packet, behind what the vector holds.
+fn is_written(alloc: Global, packet: &Packet, bytes: &[u8]) -> Result<bool, AllocError> {
+    let mut out = Vec::new(alloc);
+    out.push(9)?;
+    let refusal = write(packet, &mut out);
+    Ok(match (refusal, out.as_slice()) {
+        (None, [9, written @ ..]) => written == bytes,
+        _ => false,
+    })
+}
+
+/// Whether these bytes are written for the packet and read as it.
+pub fn is_spelled(alloc: Global, packet: Packet, bytes: &[u8]) -> Result<bool, AllocError> {
+    Ok(is_written(alloc, &packet, bytes)? && is_read(alloc, &packet, bytes))
+}
