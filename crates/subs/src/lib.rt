@@ -1,8 +1,5 @@
 //! The index of all clients' subscriptions.
 #![tactic(auto)]
 
-#[cfg(test)]
-mod tests;
-
 pub use subs_base::{ListIndex, SubIndex, grants_one_list};
 pub use subs_tree::TreeIndex;

@@ -7,13 +7,13 @@ use Rattle.std.specs.Map.{lookup}
 use Rattle.std.specs.Cmp.Lexicographic.{slice_cmp, bytes_decides}
 use Rattle.std.specs.Ordering.{nat_cmp}
 use Rattle.std.proofs.lemmas.Bool.{and_parts}
-use Rattle.topics.specs.Text.{Levels, levels}
+use Rattle.topics.specs.Text.{Levels, levels, levels_of}
 use Rattle.topics.specs.Matching.{is_all}
 use Rattle.packet.specs.declared.qos.QoS.{QoS}
 use Rattle.subs_tree.specs.declared.node.Node.{Node, out-Node}
 use Rattle.subs_tree.specs.declared.node.Node.TheViews.{roll-Node, out-roll-Node}
 use Rattle.subs_tree.specs.Tree.{asked, child}
-use Rattle.subs_tree.specs.Inside.{Asked, levels_of, nothing, same_levels, with_asked}
+use Rattle.subs_tree.specs.Inside.{Asked, nothing, same_levels, with_asked}
 use Rattle.subs_tree.proofs.LevelsFound.{updates_level, updates_client}
 use Rattle.subs_tree.proofs.AskedAfter.{below, here_changed, rest_changed, child_changed, child_same, same_levels_is}
 

@@ -1,15 +1,9 @@
 -- Words of the functions that go through the tree.
 use Rattle.std.specs.Prelude.{ℕ, Bool, true, false, is_some, List, [], ◌∷◌, bytes_eq, ◌&&◌, Option, Some, None, if◌then◌else◌}
-use Rattle.std.specs.Borrow.{Bor}
-use Rattle.topics.specs.Text.{Levels, levels}
+use Rattle.topics.specs.Text.{Levels}
 use Rattle.packet.specs.declared.qos.QoS.{QoS}
 use Rattle.subs_base.specs.Content.{Content}
 use Rattle.subs_base.specs.ListIndex.{Filters, at}
-
--- the levels of what follows, none where nothing does
-abbrev pub levels_of : Option (Bor (List ℕ)) → Levels
-levels_of None = []
-levels_of (Some text) = levels text.now
 
 -- at the levels of a filter and a client the QoS of that subscription
 abbrev pub Asked : Type 0

@@ -1,7 +1,6 @@
 //! The tree of all clients' subscriptions, and the index that stands on it.
 #![tactic(auto)]
 
-mod level;
 mod node;
 mod tree_index;
 

@@ -4,14 +4,16 @@ ghost use Rattle.std.specs.Prelude.{◌≡◌, OnOk, OnErr, ◌↔◌, IsTrue, I
 ghost use Rattle.std.specs.Cmp.Lexicographic.{slice_cmp};
 ghost use Rattle.std.specs.Ordering.{nat_cmp};
 ghost use Rattle.std.specs.BTreeMap.{Updates, get};
+ghost use Rattle.topics.specs.Text.{levels_of};
+ghost use Rattle.topics.specs.Matching.{is_all};
 ghost use Rattle.subs_tree.specs.Tree.{asked};
-ghost use Rattle.subs_tree.specs.Inside.{levels_of, nothing, with_asked};
+ghost use Rattle.subs_tree.specs.Inside.{nothing, with_asked};
 ghost use Rattle.subs_tree.specs.Walk.{greatest, Raises, found_at, found_below};
 
-use crate::level::{is_all, split_level};
 use packet::{ClientId, QoS};
 use std::alloc::{AllocError, Global};
 use std::collections::BTreeMap;
+use topics::split_level;
 
 /// The clients of one filter, with the QoS of their subscriptions.
 type Clients = BTreeMap<ClientId, QoS>;
@@ -141,6 +143,14 @@ impl Node {
     {
         self.here.is_empty() && self.rest.is_empty() && self.children.is_empty()
     }
+}
+
+/// Whether the level stands for every rest: `#` with nothing behind it (MQTT 4.7.1.2).
+#[tactic(auto, using(topics::proofs::LevelByLevel::is_last_levels))]
+fn is_all(level: &[u8], behind: Option<&[u8]>) -> bool
+    ensures { result ≡ is_all level.now (levels_of behind.entry) }
+{
+    level == b"#".as_slice() && behind.is_none()
 }
 
 fn set_client(clients: &mut Clients, client: &ClientId, qos: QoS) -> Result<(), AllocError>

@@ -9,14 +9,13 @@ ghost use Rattle.subs_tree.specs.Inside.{cleared};
 ghost use Rattle.subs_tree.specs.TreeIndex.{tree_content};
 ghost use Rattle.subs_tree.specs.Walk.{Raises, found_for};
 
-use crate::level::split_level;
 use crate::node::Node;
 use packet::{ClientId, QoS};
 use std::alloc::{AllocError, Global};
 use std::collections::BTreeMap;
 use std::marker::Model;
 use subs_base::{ListIndex, SubIndex};
-use topics::{Filter, TopicName};
+use topics::{Filter, TopicName, split_level};
 
 /// An index that walks the levels of a topic: a publication costs its levels and the rows that are
 /// found, whatever else stands there.

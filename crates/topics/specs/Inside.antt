@@ -14,18 +14,9 @@ use Rattle.std.specs.Prelude.{
   length,
   codes,
   bytes_eq,
-  Option,
-  Some,
-  None,
 }
-use Rattle.std.specs.Borrow.{Bor}
-use Rattle.topics.specs.Text.{Levels, levels, has_wildcards_in_place, has_no_wildcard}
+use Rattle.topics.specs.Text.{levels, has_wildcards_in_place, has_no_wildcard}
 use Rattle.topics.specs.Matching.{matches_rest}
-
--- the levels of what follows, none where nothing does
-abbrev pub levels_of : Option (Bor (List ℕ)) → Levels
-levels_of None = []
-levels_of (Some text) = levels text.now
 
 -- the filter and the topic match level by level, whatever they begin with
 abbrev pub matches_levels : List ℕ → List ℕ → Bool

@@ -24,6 +24,7 @@ use Rattle.std.specs.Prelude.{
   is_none,
 }
 use Rattle.std.specs.List.{list_any, slice_split}
+use Rattle.std.specs.Borrow.{Bor}
 use Rattle.std.specs.Str.{is_utf8}
 use Rattle.topics.specs.declared.malformed.MalformedKind.{MalformedKind}
 use Rattle.topics.specs.declared.malformed.MalformedKind.TheVariants as kinds
@@ -35,6 +36,11 @@ Levels = List (List ℕ)
 -- what stands between the `/`, which is 47, empty levels included (MQTT 4.7.1.1)
 abbrev pub levels : List ℕ → Levels
 levels text = slice_split (λ byte. byte == 47) text
+
+-- the levels of what follows, none where nothing does
+abbrev pub levels_of : Option (Bor (List ℕ)) → Levels
+levels_of None = []
+levels_of (Some text) = levels text.now
 
 -- whether the byte stands anywhere in the text
 abbrev pub has : ℕ → List ℕ → Bool

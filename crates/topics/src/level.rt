@@ -1,15 +1,15 @@
 // Going through a text level by level.
 
 ghost use Rattle.std.specs.Prelude.{◌≡◌, ◌∷◌, ◌||◌, codes, bytes_eq};
-ghost use Rattle.topics.specs.Text.{levels, has_length, has_no_wildcard, is_last};
-ghost use Rattle.topics.specs.Inside.{levels_of};
+ghost use Rattle.topics.specs.Text.{levels, levels_of, has_length, has_no_wildcard, is_last};
 
 /// The most bytes of a topic or a filter (MQTT 4.7.3).
 const MAX_BYTES: usize = 65_535;
 
-/// The first level, and what follows its `/`.
+/// A text's first level, which may be empty (MQTT 4.7.1.1), and what follows its `/`, if one stands
+/// there. Takes no memory; its time grows with the bytes of the level.
 #[tactic(auto, using(crate::proofs::LevelByLevel::levels_cut, crate::proofs::LevelByLevel::levels_whole))]
-pub(crate) fn split_level(text: &[u8]) -> (&[u8], Option<&[u8]>)
+pub fn split_level(text: &[u8]) -> (&[u8], Option<&[u8]>)
     ensures { levels text.now ≡ result.0.now ∷ levels_of result.1 }
 {
     for (i, byte) in text.iter().enumerate() {

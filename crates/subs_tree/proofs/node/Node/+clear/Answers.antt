@@ -2,7 +2,7 @@
 use Rattle.std.proofs.Common.{rules, ◌∙◌, ap, sym, refl, None}
 use Rattle.subs_tree.specs.declared.node.Node.{out-Node}
 use Rattle.subs_tree.specs.Tree.{asked}
-use Rattle.subs_tree.specs.Inside.{levels_of}
+use Rattle.topics.specs.Text.{levels_of}
 use Rattle.subs_tree.proofs.AskedAfter.{below}
 use Rattle.subs_tree.proofs.NodeAfter.{here_after, rest_after, child_made, children_stay_made, asked_behind, nothing_goes}
 use Rattle.subs_tree.proofs.node.Node.+clear.Goals as goal

@@ -3,9 +3,8 @@ use Rattle.std.proofs.Common.{◌≡◌, ap, sym, subst, codes, rules, ℕ, List
 use Rattle.std.specs.BTreeMap.{get}
 use Rattle.std.specs.Cmp.Lexicographic.{slice_cmp}
 use Rattle.std.specs.Ordering.{nat_cmp}
-use Rattle.topics.specs.Text.{Levels}
+use Rattle.topics.specs.Text.{Levels, levels_of}
 use Rattle.subs_tree.specs.declared.node.Node.{out-Node}
-use Rattle.subs_tree.specs.Inside.{levels_of}
 use Rattle.subs_tree.specs.Walk.{greatest, Raises, found_at, found_below}
 use Rattle.subs_tree.proofs.NodeAfter.{path}
 use Rattle.subs_tree.proofs.Raising.{both_raise, then_ok}

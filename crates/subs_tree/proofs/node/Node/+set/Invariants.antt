@@ -1,6 +1,6 @@
 -- Fewer levels are left at each call.
 use Rattle.std.proofs.Common.{length}
-use Rattle.subs_tree.specs.Inside.{levels_of}
+use Rattle.topics.specs.Text.{levels_of}
 use Rattle.subs_tree.proofs.node.Node.+set.Given as goal
 
 abbrev pub decreases-set : goal.decreases-set

@@ -1,0 +1,5 @@
+// What both indexes do, by callers that know the law alone.
+
+mod memory;
+mod random;
+mod rows;
