@@ -113,8 +113,8 @@ impl<M: Machine> Group<M> {
         ensures idle { IsErr result ↔ (turn
             (rules_by M.opening M.start_of M.after M.gives) self.old.moment event.now ≡ None) }
         ensures same { OnErr result (self.new ≡ self.old) }
-        // Whatever led up to here, the nodes agree behind the event, and what is agreed has only
-        // grown.
+        // Whatever led up to here, the nodes agree behind the event, what left is in order, and what
+        // is agreed has only grown.
         ensures agreement { (config : Config) (past : List (Moment M M.Command M.Output)) →
             Past (rules_by M.opening M.start_of M.after M.gives)
             config (self.old.moment ∷ past) →
@@ -138,8 +138,8 @@ impl<M: Machine> Group<M> {
         ensures exact { LosesNothing self.old self.new →
             self.new.moment ≡ group_run
             (rules_by M.opening M.start_of M.after M.gives) events.now self.old.moment }
-        // Whatever led up to here, the nodes agree behind the events, and what is agreed has only
-        // grown.
+        // Whatever led up to here, the nodes agree behind the events, what left is in order, and
+        // what is agreed has only grown.
         ensures agreement { (config : Config) (past : List (Moment M M.Command M.Output)) →
             Past (rules_by M.opening M.start_of M.after M.gives)
             config (self.old.moment ∷ past) →
