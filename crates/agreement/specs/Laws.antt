@@ -5,6 +5,7 @@ use Rattle.lists.specs.Lists.{IsPrefixOf}
 use Rattle.ballot.specs.Config.{Config}
 use Rattle.ballot.specs.Replica.{ReplicaState}
 use Rattle.agreement.specs.Agreement.{Agrees, Holds}
+use Rattle.agreement.specs.Leaving.{LeftInOrder}
 use Rattle.agreement.specs.Past.{Moment, Past, IsAgreed}
 use Rattle.agreement.specs.Proposals.{IsOfBallot, IsPartOf, commands_of, proposals_of}
 use Rattle.agreement.specs.Replays.{AreReplays}
@@ -15,12 +16,14 @@ HasAgreed {S} {C} {O} rules =
     (config : Config) (a : Moment S C O) (past : List (Moment S C O)) →
     Past rules config (a ∷ past) → (xs : List C) × IsAgreed config (a ∷ past) xs
 
--- the nodes agree on it, and one of them, a member of the active ballot, holds it
+-- the nodes agree on it, one of them, a member of the active ballot, holds it, and what left is its
+-- answers in order
 abbrev pub NodesAgree : {S C O : Type 0} → Rules S C O → Type 0
 NodesAgree {S} {C} {O} rules =
     (config : Config) (a : Moment S C O) (past : List (Moment S C O)) (xs : List C) →
     Past rules config (a ∷ past) → IsAgreed config (a ∷ past) xs →
     Agrees rules a.master a.world xs × Holds a.master a.world xs
+    × LeftInOrder rules (a ∷ past) a.world xs
 
 -- what is agreed begins what is agreed at the next moment
 abbrev pub AgreedGrows : {S C O : Type 0} → Rules S C O → Type 0

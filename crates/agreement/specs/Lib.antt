@@ -1,6 +1,7 @@
 pub mod Agreement
 pub mod Inside
 pub mod Laws
+pub mod Leaving
 pub mod MasterState
 pub mod Past
 pub mod Proposals

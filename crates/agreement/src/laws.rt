@@ -12,8 +12,9 @@ pub fn has_agreed<M: Machine>()
 {}
 
 /// The nodes agree on it: what is applied anywhere begins it, each member of the active
-/// configuration holds it, of two logs installed in one ballot one begins the other, and what left
-/// is the machine's outputs at places of it, each place at most once. Some node holds it.
+/// configuration holds it, of two logs installed in one ballot one begins the other, and some node
+/// holds it. What left is the machine's outputs at places of it, each place at most once, all that
+/// one ballot gave before all that a higher one gave, and in one ballot in rising order.
 pub fn nodes_agree<M: Machine>()
     ensures { NodesAgree (rules_by M.opening M.start_of M.after M.gives) }
 {}

@@ -1,6 +1,7 @@
 pub mod ActivationTaken
 pub mod ChangesTaken
 pub mod Committed
+pub mod Heeding
 pub mod MessagesTaken
 pub mod PlacesApplied
 pub mod ProposalAnswered

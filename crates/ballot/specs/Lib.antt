@@ -1,3 +1,4 @@
+pub mod Heeding
 pub mod Inside
 pub mod Refusals
 pub use Rattle.ballot_base.specs.Applying

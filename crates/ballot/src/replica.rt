@@ -20,6 +20,7 @@ use std::marker::Model;
 
 mod activating;
 mod changing;
+mod heeding;
 mod installing;
 mod messages;
 mod ticking;

@@ -4,5 +4,6 @@ pub mod Groups
 pub mod Happening
 pub mod Lawful
 pub mod Parting
+pub mod Quiet
 pub mod Runs
 pub mod Turns

@@ -123,6 +123,7 @@ agrees_after {S = S} {C = C} rules config first last past events came r =
       agreed = xs.1;
       agrees = z.0;
       holds = z.1;
+      leaves = z.2;
       only_grown = λ ys before. q.grown ys xs.0 before xs.1;
     }
 

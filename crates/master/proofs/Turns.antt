@@ -18,6 +18,7 @@ use Rattle.agreement.specs.Past.{Moment, opening_moment}
 use Rattle.ballot.specs.Status.{Status}
 use Rattle.agreement.specs.World.{World, messages, outputs, moved, opening_nodes, opening_world}
 use Rattle.master.specs.Exact.{running, unless_stopped}
+use Rattle.master.specs.Group.{GroupState}
 use Rattle.master.specs.Inside.{RunsAt, TookIn, Parted, TookTurn, moment_of, world_of}
 
 -- an exact step is one in which nothing was lost
@@ -186,6 +187,19 @@ crash_turn {S = S} {C = C} {O = O} rules m nodes sent left losses n old new r re
   where
     same : old.state ≡ r
     same = let e = sym (stands_at nodes n old (below_of nodes n r stands) read) ∙ stands in cc
+
+-- and the group then
+pub crash_group : {S C O : Type 0} (rules : Rules S C O) (m : MasterState) (nodes : List (CountedReplica S C)) (sent : List (ℕ × Message C)) (left : List (Effect C O))
+    (losses n : ℕ) (old new : CountedReplica S C) (r : ReplicaState S C) →
+    old ≡ get_or nodes n old → slice_get (map (λ (z : CountedReplica S C). z.state) nodes) n ≡ Some r → new.state ≡ halted rules old.state →
+    (let z : GroupState S C O = record { moment = moment_of m (set nodes n new) sent left; losses = losses } in z)
+    ≡ record { moment = record (moment_of m nodes sent left) { world = moved (world_of nodes sent left) n (halted rules r) [] }; losses = losses }
+crash_group {S = S} {C = C} {O = O} rules m nodes sent left losses n old new r read stands stopped =
+    let e : Some old.state ≡ Some r = sym (stands_at nodes n old (below_of nodes n r stands) read) ∙ stands in
+    let same : old.state ≡ r = cc in
+    ap (λ (w : World S C O). let z : GroupState S C O = record { moment = record { master = m; world = w }; losses = losses } in z)
+    (moved_is nodes sent sent left left [] n new (sym (append-nil sent)) (sym (append-nil (outputs left)))
+    ∙ ap (λ (s : ReplicaState S C). moved (world_of nodes sent left) n s []) (stopped ∙ ap (halted rules) same))
 
 -- a replica that is read where a node stands
 pub same_replica : {S C : Type 0} (nodes : List (CountedReplica S C)) (n : ℕ) (old : CountedReplica S C) (r : ReplicaState S C) →

@@ -1,16 +1,18 @@
 -- Steps.antt: steps of a group in which memory may have been wanting, and how these are counted.
-use Rattle.std.specs.Prelude.{◌^◌, ◌-◌, ◌<◌, ◌≡◌, ◌⊎◌, List, [], ◌∷◌, Some}
+use Rattle.std.specs.Prelude.{◌^◌, ◌-◌, ◌<◌, ◌≡◌, ◌⊎◌, ℕ, List, [], ◌∷◌, Some, None}
 use Rattle.machine.specs.Machine.{Rules}
 use Rattle.ballot.specs.Effect.{Effect}
 use Rattle.ballot.specs.Losses.{Loses, one_more}
 use Rattle.ballot.specs.Replica.{ReplicaState}
+use Rattle.ballot.specs.Sending.{nothing_done}
 use Rattle.agreement.specs.MasterState.{MasterOutcome}
 use Rattle.agreement.specs.Past.{Moment}
 use Rattle.agreement.specs.World.{moved}
 use Rattle.master.specs.declared.event.Event.{Event}
+use Rattle.master.specs.declared.event.Event.TheVariants.{Crash}
 use Rattle.master.specs.Group.{GroupState}
 use Rattle.master.specs.Exact.{NodeTurn, turn, group_step}
-use Rattle.master.specs.Exact.Turn.{by_node, by_master}
+use Rattle.master.specs.Exact.Turn.{by_node, by_master, unheeded}
 
 -- what an event may do where memory is wanting: nothing, the step of a node that it comes to with
 -- losses, or that of the master, whose message is lost
@@ -23,6 +25,22 @@ pub data Happens {S C O : Type 0} (rules : Rules S C O) :
       Happens rules a e (record a { world = moved a.world t.place new given })
   master_goes : {a : Moment S C O} {e : Event C} (o : MasterOutcome C) →
       turn rules a e ≡ Some (by_master o) → Happens rules a e (record a { master = o.state })
+
+-- an event for which no memory is needed: it comes to nobody, or to a master that does not heed it,
+-- the node that it comes to does nothing by the protocol, or it stops a node
+pub data TakesNoMemory {S C O : Type 0} (rules : Rules S C O) (a : Moment S C O) (e : Event C) :
+    Type 0 where
+  comes_to_nobody : turn rules a e ≡ None → TakesNoMemory rules a e
+  goes_unheeded : turn rules a e ≡ Some unheeded → TakesNoMemory rules a e
+  does_nothing : (t : NodeTurn S C O) → turn rules a e ≡ Some (by_node t) →
+      t.outcome ≡ nothing_done O t.before → TakesNoMemory rules a e
+  stops_a_node : (node : ℕ) → e ≡ Crash node → TakesNoMemory rules a e
+
+-- a group behind an event that was done exactly, with no loss
+abbrev pub done_exactly : {S C O : Type 0} →
+    Rules S C O → GroupState S C O → Event C → GroupState S C O
+done_exactly rules old event =
+    record { moment = group_step rules event old.moment; losses = old.losses }
 
 -- the step of an event, or one with losses that was counted
 pub record StepsBy {S C O : Type 0} (rules : Rules S C O) (old : GroupState S C O)

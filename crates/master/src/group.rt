@@ -4,6 +4,8 @@ ghost use Rattle.std.specs.Prelude.{ℕ, ◌-◌, ◌≡◌, ◌<◌, ◌≤◌,
 ghost use Rattle.machine.specs.Machine.{rules_by};
 ghost use Rattle.ballot.specs.Body.TheVariants.{Activate};
 ghost use Rattle.ballot.specs.Protocol.{replica_step};
+ghost use Rattle.ballot.specs.Protocol.Input.{Receives};
+ghost use Rattle.ballot.specs.Sending.{nothing_done};
 ghost use Rattle.ballot.specs.Losses.{one_more};
 ghost use Rattle.ballot.specs.Replica.{ReplicaState};
 ghost use Rattle.lists.specs.Lists.{In};
@@ -14,7 +16,7 @@ ghost use Rattle.agreement.specs.World.{can_open, log_of};
 ghost use Rattle.master.specs.Agreement.{AgreesAfter};
 ghost use Rattle.master.specs.Exact.{turn, group_step, group_run, running};
 ghost use Rattle.master.specs.Inside.{MasterTook, RunsAt, TookTurn, input_of};
-ghost use Rattle.master.specs.Steps.{Run, StepsBy, LosesNothing};
+ghost use Rattle.master.specs.Steps.{Run, StepsBy, TakesNoMemory, LosesNothing, done_exactly};
 
 use crate::copying::{config_of, copy_of};
 use crate::event::{Event, Idle};
@@ -113,8 +115,13 @@ impl<M: Machine> Group<M> {
         ensures idle { IsErr result ↔ (turn
             (rules_by M.opening M.start_of M.after M.gives) self.old.moment event.now ≡ None) }
         ensures same { OnErr result (self.new ≡ self.old) }
-        // Whatever led up to here, the nodes agree behind the event, and what is agreed has only
-        // grown.
+        // What needs no memory is done exactly, however little there is, and counts as no loss.
+        ensures quiet { TakesNoMemory (rules_by M.opening M.start_of M.after M.gives)
+            self.old.moment event.now →
+            self.new ≡ done_exactly (rules_by M.opening M.start_of M.after M.gives)
+            self.old event.now }
+        // Whatever led up to here, the nodes agree behind the event, what left is in order, and what
+        // is agreed has only grown.
         ensures agreement { (config : Config) (past : List (Moment M M.Command M.Output)) →
             Past (rules_by M.opening M.start_of M.after M.gives)
             config (self.old.moment ∷ past) →
@@ -138,8 +145,8 @@ impl<M: Machine> Group<M> {
         ensures exact { LosesNothing self.old self.new →
             self.new.moment ≡ group_run
             (rules_by M.opening M.start_of M.after M.gives) events.now self.old.moment }
-        // Whatever led up to here, the nodes agree behind the events, and what is agreed has only
-        // grown.
+        // Whatever led up to here, the nodes agree behind the events, what left is in order, and
+        // what is agreed has only grown.
         ensures agreement { (config : Config) (past : List (Moment M M.Command M.Output)) →
             Past (rules_by M.opening M.start_of M.after M.gives)
             config (self.old.moment ∷ past) →
@@ -216,6 +223,10 @@ impl<M: Machine> Group<M> {
         ensures idle { IsErr result ↔ (turn (rules_by M.opening M.start_of M.after M.gives)
             self.old.moment (Event.Propose node command.now) ≡ None) }
         ensures same { OnErr result (self.new ≡ self.old) }
+        ensures quiet { TakesNoMemory (rules_by M.opening M.start_of M.after M.gives)
+            self.old.moment (Event.Propose node command.now) →
+            self.new ≡ done_exactly (rules_by M.opening M.start_of M.after M.gives)
+            self.old (Event.Propose node command.now) }
     {
         let Some(at) = self.running(node) else {
             return Err(Idle);
@@ -237,6 +248,10 @@ impl<M: Machine> Group<M> {
         ensures idle { IsErr result ↔ (turn (rules_by M.opening M.start_of M.after M.gives)
             self.old.moment (Event.Assign config.now) ≡ None) }
         ensures same { OnErr result (self.new ≡ self.old) }
+        ensures quiet { TakesNoMemory (rules_by M.opening M.start_of M.after M.gives)
+            self.old.moment (Event.Assign config.now) →
+            self.new ≡ done_exactly (rules_by M.opening M.start_of M.after M.gives)
+            self.old (Event.Assign config.now) }
     {
         if !self.master.can_assign(config) {
             return Err(Idle);
@@ -273,6 +288,10 @@ impl<M: Machine> Group<M> {
         ensures idle { IsErr result ↔ (turn (rules_by M.opening M.start_of M.after M.gives)
             self.old.moment (Event.Deliver number) ≡ None) }
         ensures same { OnErr result (self.new ≡ self.old) }
+        ensures quiet { TakesNoMemory (rules_by M.opening M.start_of M.after M.gives)
+            self.old.moment (Event.Deliver number) →
+            self.new ≡ done_exactly (rules_by M.opening M.start_of M.after M.gives)
+            self.old (Event.Deliver number) }
     {
         let Some((receiver, message)) = self.sent.get(number as usize) else {
             return Err(Idle);
@@ -288,6 +307,9 @@ impl<M: Machine> Group<M> {
         let Some(at) = self.running(*receiver) else {
             return Err(Idle);
         };
+        if !self.heeds(at, message) {
+            return Ok(());
+        }
         match copy_of::<M>(self.alloc, message) {
             Ok(message) => self.take_turn(at, Taken::Received(message)),
             Err(_) => self.lose(),
@@ -316,10 +338,17 @@ impl<M: Machine> Group<M> {
         ensures idle { IsErr result ↔ (turn (rules_by M.opening M.start_of M.after M.gives)
             self.old.moment (Event.Tick node) ≡ None) }
         ensures same { OnErr result (self.new ≡ self.old) }
+        ensures quiet { TakesNoMemory (rules_by M.opening M.start_of M.after M.gives)
+            self.old.moment (Event.Tick node) →
+            self.new ≡ done_exactly (rules_by M.opening M.start_of M.after M.gives)
+            self.old (Event.Tick node) }
     {
         let Some(at) = self.running(node) else {
             return Err(Idle);
         };
+        if !self.nodes[at].speaks() {
+            return Ok(());
+        }
         self.take_turn(at, Taken::Ticked);
         Ok(())
     }
@@ -330,6 +359,10 @@ impl<M: Machine> Group<M> {
         ensures idle { IsErr result ↔ (turn (rules_by M.opening M.start_of M.after M.gives)
             self.old.moment (Event.Crash node) ≡ None) }
         ensures same { OnErr result (self.new ≡ self.old) }
+        ensures quiet { TakesNoMemory (rules_by M.opening M.start_of M.after M.gives)
+            self.old.moment (Event.Crash node) →
+            self.new ≡ done_exactly (rules_by M.opening M.start_of M.after M.gives)
+            self.old (Event.Crash node) }
     {
         let Some(at) = self.running(node) else {
             return Err(Idle);
@@ -352,6 +385,17 @@ impl<M: Machine> Group<M> {
             return None;
         }
         Some(at)
+    }
+
+    // Whether a message would do anything at a node.
+    fn heeds(&self, at: usize, message: &Message<M::Command>) -> bool
+        requires { at < length self.now.moment.world.nodes }
+        ensures { (r : ReplicaState M M.Command) →
+            slice_get self.now.moment.world.nodes at ≡ Some r →
+            ((result ≡ false) ↔ (replica_step (rules_by M.opening M.start_of M.after M.gives)
+            r (Receives message.now) ≡ nothing_done M.Output r)) }
+    {
+        self.nodes[at].heeds(message)
     }
 
     // A node that runs takes something in.

@@ -8,7 +8,9 @@ use Rattle.ballot.specs.Replica.{ReplicaState}
 use Rattle.agreement.specs.World.{World}
 use Rattle.lists.specs.Lists.{In, IsPrefixOf}
 use Rattle.agreement.specs.Inside.Chosen.{ChosenList, IsAgreedIn}
-use Rattle.agreement.specs.Agreement.{Agrees, Segment}
+use Rattle.agreement.specs.Agreement.{Agrees}
+use Rattle.agreement.specs.Leaving.{LeftInOrder, Segment}
+use Rattle.agreement.specs.Past.{Moment, WasActive}
 use Rattle.agreement.specs.Inside.Ballots.{Line, History, IsChosenIn}
 use Rattle.agreement.specs.Inside.Keeps.{GoesOn}
 use Rattle.agreement.specs.MasterState.{MasterState}
@@ -44,10 +46,18 @@ sound_agrees {S = S} {C = C} {O = O} rules m w h xs s k a =
       held = λ n r e i. agreed_held rules w h xs m.active k.older k.active_members.0 n r s a.chosen k.newest k.active_members.1
           (subst (λ ms. In (n + 1) ms) (sym k.active_members.2) i) e;
       fronts = λ n j r q e f same. same_ballot rules w h n j r q s e f same;
+    }
+
+-- what left is in order
+pub sound_leaves : {S C O : Type 0} (rules : Rules S C O) (past : List (Moment S C O)) (w : World S C O) (h : History C) (xs : List C) →
+    IsSound rules w h → IsAgreedIn w h xs → ((b : ℕ) → In b h.activated → WasActive past b) → LeftInOrder rules past w xs
+sound_leaves {S = S} {C = C} {O = O} rules past w h xs s a active =
+    record {
       segments = s.left.segments;
       left = s.left.left xs (λ b j l i e c. a.longest (take j l.list) (chosen_list w h b j l i e c));
       inside = λ y i. inside y (s.left.chosen y i);
-      apart = s.left.apart;
+      given = λ y i. active y.ballot (s.left.chosen y i).0;
+      in_order = s.left.in_order;
     }
   where
     inside : (y : Segment) → In y.ballot h.activated × (y.first < y.past) × IsChosenIn w h y.ballot y.past

@@ -7,7 +7,7 @@ use Rattle.agreement.specs.Inside.Chosen.{ChosenList, IsAgreedIn}
 use Rattle.agreement.specs.Laws.{HasAgreed, NodesAgree, MachinesReplay}
 use Rattle.agreement.specs.Past.{Moment, WasActive, IsChosen, IsAgreed}
 use Rattle.agreement.proofs.Agreed.AgreedExists.{agreed_exists}
-use Rattle.agreement.proofs.Agreed.Agreeing.{sound_agrees}
+use Rattle.agreement.proofs.Agreed.Agreeing.{sound_agrees, sound_leaves}
 use Rattle.agreement.proofs.Agreed.PastIsKnown.{IsKnown}
 use Rattle.agreement.proofs.Agreed.PastKnown.{past_known}
 use Rattle.agreement.proofs.Runs.Serves.{serves_held}
@@ -54,6 +54,7 @@ nodes_agree rules config a past xs came agreed =
     let z = agreed_known rules config a past q xs agreed in (
       sound_agrees rules a.master a.world q.history xs q.serves.sound q.serves.master z,
       serves_held rules a.master a.world q.history xs q.serves.sound q.serves.master q.serves.led z,
+      sound_leaves rules (a ∷ past) a.world q.history xs q.serves.sound z q.active,
     )
 
 -- and machines are replays

@@ -1,11 +1,11 @@
--- Apart.antt: the places that a commit gives were given by no other commit.
+-- Apart.antt: the places that a commit gives come behind those of lower ballots and before those of higher ones.
 use Rattle.std.proofs.Common.{◌≡◌, ℕ, ◌<◌, ◌≤◌, ◌⊎◌, inl, inr, length, Some, arith}
 use Rattle.std.proofs.lemmas.Bool.{cases_lt}
 use Rattle.std.proofs.lemmas.List.{length-take-le}
 use Rattle.agreement.specs.World.{World}
 use Rattle.lists.specs.Lists.{In}
 use Rattle.agreement.specs.Inside.Ballots.{Line, History, IsChosenIn, AreBallots, AreLines, IsWithin}
-use Rattle.agreement.specs.Agreement.{Segment}
+use Rattle.agreement.specs.Leaving.{Segment}
 use Rattle.lists.proofs.Beginnings.{prefix_length}
 use Rattle.agreement.proofs.Frame.Bases.{chosen_told}
 use Rattle.agreement.proofs.Frame.Taking.{activated_base}
@@ -25,18 +25,24 @@ chosen_below w h ballots lines within c d k i j less chosen lc ld e f =
     let p = prefix_length (activated_base w h ballots lines c d k i j less chosen lc ld e f) in
     let z = length-take-le k lc.list (chosen_within w h ballots within c k lc e chosen) in omega (arith, p, z)
 
--- an earlier segment shares no place with what an active primary commits now
-pub apart_now : {S C O : Type 0} (w : World S C O) (h : History C) → AreBallots h → AreLines w h → IsWithin w h → (s : Segment) →
+-- a segment of a ballot up to the one of an active primary lies below what that commits now
+pub below_now : {S C O : Type 0} (w : World S C O) (h : History C) → AreBallots h → AreLines w h → IsWithin w h → (s : Segment) →
     In s.ballot h.activated × (s.first < s.past) × IsChosenIn w h s.ballot s.past
     × ((l : Line C) × (h.line s.ballot ≡ Some l) × (length l.base ≤ s.first)) →
     (b first past : ℕ) (l : Line C) → In b h.activated → h.line b ≡ Some l → length l.base ≤ first → IsChosenIn w h b past →
-    (s.ballot ≡ b → s.past ≤ first) → (s.past ≤ first) ⊎ (past ≤ s.first)
-apart_now {S = S} {C = C} w h ballots lines within s (i, rising, chosen, (ls, lined, low)) b first past l j lined_b low_b chosen_b same =
-    by_order (cases_lt s.ballot b) (cases_lt b s.ballot)
+    (s.ballot ≡ b → s.past ≤ first) → s.ballot ≤ b → s.past ≤ first
+below_now {S = S} {C = C} w h ballots lines within s (i, rising, chosen, (ls, lined, low)) b first past l j lined_b low_b chosen_b same up =
+    by_order (cases_lt s.ballot b)
   where
-    by_order : (s.ballot < b) ⊎ (b ≤ s.ballot) → (b < s.ballot) ⊎ (s.ballot ≤ b) → (s.past ≤ first) ⊎ (past ≤ s.first)
-    by_order (inl less) other =
-        let z = chosen_below w h ballots lines within s.ballot b s.past i j less chosen ls l lined lined_b in inl (omega (arith, z, low_b))
-    by_order (inr high) (inl more) =
-        let z = chosen_below w h ballots lines within b s.ballot past j i more chosen_b l ls lined_b lined in inr (omega (arith, z, low))
-    by_order (inr high) (inr no_more) = inl (same (omega (arith, high, no_more)))
+    by_order : (s.ballot < b) ⊎ (b ≤ s.ballot) → s.past ≤ first
+    by_order (inl less) =
+        let z = chosen_below w h ballots lines within s.ballot b s.past i j less chosen ls l lined lined_b in omega (arith, z, low_b)
+    by_order (inr high) = same (omega (arith, high, up))
+
+-- and one of a higher ballot lies above it
+pub above_now : {S C O : Type 0} (w : World S C O) (h : History C) → AreBallots h → AreLines w h → IsWithin w h → (s : Segment) →
+    In s.ballot h.activated × (s.first < s.past) × IsChosenIn w h s.ballot s.past
+    × ((l : Line C) × (h.line s.ballot ≡ Some l) × (length l.base ≤ s.first)) →
+    (b first past : ℕ) (l : Line C) → In b h.activated → h.line b ≡ Some l → IsChosenIn w h b past → b < s.ballot → past ≤ s.first
+above_now {S = S} {C = C} w h ballots lines within s (i, rising, chosen, (ls, lined, low)) b first past l j lined_b chosen_b more =
+    let z = chosen_below w h ballots lines within b s.ballot past j i more chosen_b l ls lined_b lined in omega (arith, z, low)

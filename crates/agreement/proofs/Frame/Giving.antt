@@ -14,10 +14,10 @@ use Rattle.lists.specs.Lists.In.{here, there}
 use Rattle.agreement.specs.Inside.Ballots.{Given, Line, History, IsChosenIn, Extends, AreBallots, AreLines, IsWithin}
 use Rattle.agreement.specs.Inside.Moves.{Moves, with_lines}
 use Rattle.agreement.specs.Inside.Sound.{LeftIs, IsSound}
-use Rattle.agreement.specs.Agreement.{Segment}
+use Rattle.agreement.specs.Leaving.{Segment}
 use Rattle.lists.proofs.Places.{get_set}
 use Rattle.lists.proofs.Members.{in_append, in_at}
-use Rattle.agreement.proofs.Frame.Apart.{apart_now, chosen_within}
+use Rattle.agreement.proofs.Frame.Apart.{above_now, below_now, chosen_within}
 use Rattle.agreement.proofs.Frame.Framing.{within_of, move_extends, move_within}
 use Rattle.agreement.proofs.Frame.MoveLines.{move_lines}
 use Rattle.agreement.proofs.Changing.InstallHeard.{same_front}
@@ -45,6 +45,10 @@ same_outputs {C = C} {O = O} rules xs ys first past rising e =
     ap (λ us. outputs_from {O = O} rules (replay rules us) first (drop first (take past xs))) f
     ∙ ap (λ us. outputs_from {O = O} rules (replay rules (take first ys)) first (drop first us)) e
 
+at_most : {P : Type 0} (b c : ℕ) → (b < c) ⊎ ((b ≡ c) × P) → b ≤ c
+at_most b c (inl less) = omega (arith, less)
+at_most b c (inr (same, p)) = omega (arith, same)
+
 -- new outputs left
 pub left_more : {S C O : Type 0} (rules : Rules S C O) (w : World S C O) (h : History C) (line : ℕ → Option (Line C)) (n : ℕ)
     (old new : ReplicaState S C) (given : List (Effect C O)) → Moves w h line n old new given → IsSound rules w h →
@@ -62,7 +66,7 @@ left_more {S = S} {C = C} {O = O} rules w h line n old new given q s b first pas
           ∙ sym (flat_map-append (λ (y : Segment). outputs (outputs_between rules agreed y.first y.past)) s.left.segments (now ∷ []));
       chosen = λ y j. by_segment y (in_append s.left.segments (now ∷ []) j);
       applied = λ y j o e m is r f. by_applied y (in_append s.left.segments (now ∷ []) j) o e m is r f;
-      apart = λ a c y z e f less. by_place a c y z (get_pushed_to s.left.segments now y a e) (get_pushed_to s.left.segments now z c f) less;
+      in_order = λ a c y z e f less. by_place a c y z (get_pushed_to s.left.segments now y a e) (get_pushed_to s.left.segments now z c f) less;
     }
   where
     now : Segment
@@ -114,18 +118,32 @@ left_more {S = S} {C = C} {O = O} rules w h line n old new given q s b first pas
         let k : Some new ≡ Some r = sym (get_set w.nodes n old new q.stands) ∙ ap (slice_get (set w.nodes n new)) (sym same) ∙ f in
         let d : new ≡ r = cc in let c = ap (λ (u : ReplicaState S C). u.committed) d in omega (arith, c, up)
 
-    before : (y : Segment) → In y s.left.segments → (y.past ≤ first) ⊎ (past ≤ y.first)
-    before y j =
-        apart_now (moved w n new given) (with_lines h line) (ballots_same h line s.ballots)
+    below : (y : Segment) → In y s.left.segments → y.ballot ≤ b → y.past ≤ first
+    below y j =
+        below_now (moved w n new given) (with_lines h line) (ballots_same h line s.ballots)
         (move_lines w h line n old new given q (within_of rules w h s) s.lines) within y
         (by_segment y (inl j)) b first past l active lined low chosen
         (λ e. let z = s.left.applied y j g (ap h.given e ∙ given_b) n primary old q.stands in omega (arith, z, behind))
 
+    above : (y : Segment) → In y s.left.segments → b < y.ballot → past ≤ y.first
+    above y j =
+        above_now (moved w n new given) (with_lines h line) (ballots_same h line s.ballots)
+        (move_lines w h line n old new given q (within_of rules w h s) s.lines) within y
+        (by_segment y (inl j)) b first past l active lined chosen
+
     by_place : (a c : ℕ) (y z : Segment) → ((slice_get s.left.segments a ≡ Some y) × (a < length s.left.segments)) ⊎ ((a ≡ length s.left.segments) × (now ≡ y)) →
         ((slice_get s.left.segments c ≡ Some z) × (c < length s.left.segments)) ⊎ ((c ≡ length s.left.segments) × (now ≡ z)) →
-        a < c → (y.past ≤ z.first) ⊎ (z.past ≤ y.first)
-    by_place a c y z (inl (e, j)) (inl (f, k)) less = s.left.apart a c y z e f less
+        (y.ballot < z.ballot) ⊎ ((y.ballot ≡ z.ballot) × (a < c)) → y.past ≤ z.first
+    by_place a c y z (inl (e, j)) (inl (f, k)) less = s.left.in_order a c y z e f less
     by_place a c y z (inl (e, j)) (inr (same, f)) less =
-        subst (λ (u : Segment). (y.past ≤ u.first) ⊎ (u.past ≤ y.first)) f (before y (in_at s.left.segments a y e))
-    by_place a c y z (inr (same, e)) (inl (f, k)) less = absurd (omega (arith, same, k, less))
-    by_place a c y z (inr (same, e)) (inr (also, f)) less = absurd (omega (arith, same, also, less))
+        let o : b ≡ z.ballot = ap (λ (u : Segment). u.ballot) f in let p : first ≡ z.first = ap (λ (u : Segment). u.first) f in
+        let up = at_most y.ballot z.ballot less in
+        let below' = below y (in_at s.left.segments a y e) (omega (arith, o, up)) in omega (arith, p, below')
+    by_place a c y z (inr (same, e)) (inl (f, k)) (inl less) =
+        let o : b ≡ y.ballot = ap (λ (u : Segment). u.ballot) e in let p : past ≡ y.past = ap (λ (u : Segment). u.past) e in
+        let above' = above z (in_at s.left.segments c z f) (omega (arith, o, less)) in omega (arith, p, above')
+    by_place a c y z (inr (same, e)) (inl (f, k)) (inr (one, less)) = absurd (omega (arith, same, k, less))
+    by_place a c y z (inr (same, e)) (inr (also, f)) (inl less) =
+        let o : b ≡ y.ballot = ap (λ (u : Segment). u.ballot) e in let p : b ≡ z.ballot = ap (λ (u : Segment). u.ballot) f in
+        absurd (omega (arith, o, p, less))
+    by_place a c y z (inr (same, e)) (inr (also, f)) (inr (one, less)) = absurd (omega (arith, same, also, less))

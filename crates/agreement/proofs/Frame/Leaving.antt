@@ -11,7 +11,7 @@ use Rattle.lists.specs.Lists.{In, IsPrefixOf}
 use Rattle.agreement.specs.Inside.Ballots.{Line, History, IsChosenIn, Extends}
 use Rattle.agreement.specs.Inside.Moves.{Moves, with_lines}
 use Rattle.agreement.specs.Inside.Sound.{LeftIs}
-use Rattle.agreement.specs.Agreement.{Segment}
+use Rattle.agreement.specs.Leaving.{Segment}
 use Rattle.lists.proofs.Beginnings.{prefix_then}
 use Rattle.lists.proofs.Places.{get_set, get_set_other}
 use Rattle.agreement.proofs.Frame.Later.{chosen_kept, takes}
@@ -69,5 +69,5 @@ left_same {S = S} {C = C} {O = O} rules w h line n old new given q dumb s =
           ∙ s.left agreed (bounds_back w h v i agreed x (λ b j. j) bounds);
       chosen = λ y j. segment_kept w v h i y x (λ b k. k) (s.chosen y j);
       applied = λ y j g e m is r f. applied_still w n old new y.past q.stands q.committed m (s.applied y j g e m is) r f;
-      apart = s.apart;
+      in_order = s.in_order;
     }

@@ -11,7 +11,7 @@ use Rattle.agreement.specs.World.{World, messages, moved}
 use Rattle.lists.specs.Lists.{In}
 use Rattle.agreement.specs.Inside.Ballots.{Given, History, AreLines, Extends, IsWithin}
 use Rattle.agreement.specs.Inside.Sound.{Says, IsSoundNode, IsSound}
-use Rattle.agreement.specs.Agreement.{Segment}
+use Rattle.agreement.specs.Leaving.{Segment}
 use Rattle.lists.proofs.Places.{get_set, get_set_other}
 use Rattle.lists.proofs.Members.{in_append}
 use Rattle.agreement.proofs.Frame.Later.{chosen_kept, sealed_kept}
@@ -61,7 +61,7 @@ quiet_sound {S = S} {C = C} {O = O} rules w h n old new given s within q node sa
         chosen = λ y i. let c = s.left.chosen y i in
             (c.0, c.1, chosen_kept w (moved w n new given) h h y.ballot y.past x c.2, c.3);
         applied = λ y i g e m is r f. by_primary y i g e m is r f (cases_eq m n);
-        apart = s.left.apart;
+        in_order = s.left.in_order;
       };
     }
   where

@@ -73,7 +73,7 @@ master_sends {S = S} {C = C} {O = O} rules w h extra given activated s silent mo
       chosen = λ y j. segment_kept w v h i y extends active (s.left.chosen y j);
       applied = λ y j g e n is r f. s.left.applied y j g
           (back y.ballot g e (let z = s.ballots.were_given y.ballot (s.left.chosen y j).0 in (z.0, z.1))) n is r f;
-      apart = s.left.apart;
+      in_order = s.left.in_order;
     };
   },
   extends,

@@ -73,7 +73,7 @@ opening_sound {S = S} {C = C} {O = O} rules nodes config led =
         left = λ agreed bounds. refl;
         chosen = λ s i. elim i [ ];
         applied = λ s i g e n is r f. elim i [ ];
-        apart = λ i j s t e f less. cc;
+        in_order = λ i j s t e f less. cc;
       };
     }
   where

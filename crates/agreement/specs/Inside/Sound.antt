@@ -12,7 +12,7 @@ use Rattle.ballot.specs.Applying.{outputs_between}
 use Rattle.agreement.specs.World.{World, outputs}
 use Rattle.lists.specs.Lists.{In, IsPrefixOf}
 use Rattle.agreement.specs.Inside.Ballots.{Given, Line, History, Told, IsChosenIn, Sealed, AreBallots, AreLines, IsPlaced, Applied}
-use Rattle.agreement.specs.Agreement.{Segment}
+use Rattle.agreement.specs.Leaving.{AreInOrder, Segment}
 
 -- the node of a number has joined at least a ballot
 abbrev pub HasJoined : {S C O : Type 0} → World S C O → ℕ → ℕ → Type 0
@@ -130,7 +130,7 @@ pub record IsSoundNode {S C O : Type 0} (w : World S C O) (h : History C) (n : �
   pub installing : r.role ≡ Installing → IsInstalling w h n r
   pub active : r.role ≡ Active → IsActive w h n r
 
--- what left is the outputs of segments that share no place, each of what is chosen in its ballot
+-- what left is the outputs of segments in order, each of what is chosen in its ballot
 pub record LeftIs {S C O : Type 0} (rules : Rules S C O) (w : World S C O)
     (h : History C) : Type 0 where
   pub segments : List Segment
@@ -143,9 +143,7 @@ pub record LeftIs {S C O : Type 0} (rules : Rules S C O) (w : World S C O)
   pub applied : (s : Segment) → In s segments → (g : Given) → h.given s.ballot ≡ Some g → (n : ℕ) →
       g.primary ≡ n + 1 → (r : ReplicaState S C) → slice_get w.nodes n ≡ Some r →
       s.past ≤ r.committed
-  pub apart : (i j : ℕ) (s t : Segment) → slice_get segments i ≡ Some s →
-      slice_get segments j ≡ Some t →
-      i < j → (s.past ≤ t.first) ⊎ (t.past ≤ s.first)
+  pub in_order : AreInOrder segments
 
 -- what holds of a world
 pub record IsSound {S C O : Type 0} (rules : Rules S C O) (w : World S C O)

@@ -203,7 +203,7 @@ impl<M: Machine> Replica<M> {
     }
 
     // Whether an activated ballot begins here: all members hold its log, and there is a place left.
-    fn may_begin(&self, ballot: u64) -> bool
+    pub(super) fn may_begin(&self, ballot: u64) -> bool
         ensures { result ≡ ((self.now.state.joined == ballot
             && is_installing self.now.state.role)
             && (nat_le (length self.now.state.lacking) 0

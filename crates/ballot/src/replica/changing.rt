@@ -134,7 +134,7 @@ impl<M: Machine> Replica<M> {
     }
 
     // Whether the log is sent to the primary of a ballot.
-    fn may_join(&self, ballot: u64, previous: u64) -> bool
+    pub(super) fn may_join(&self, ballot: u64, previous: u64) -> bool
         ensures { result ≡ (nat_le self.now.state.joined ballot
             && nat_le previous self.now.state.held_in) }
     {
@@ -142,7 +142,7 @@ impl<M: Machine> Replica<M> {
     }
 
     // Whether a new primary takes a log of this length, which lacks no applied place.
-    fn waits_for(&self, ballot: u64, held: u64) -> bool
+    pub(super) fn waits_for(&self, ballot: u64, held: u64) -> bool
         ensures { result ≡ (self.now.state.joined == ballot
             && (is_fetching self.now.state.role && nat_le self.now.state.committed held)) }
     {
@@ -150,14 +150,14 @@ impl<M: Machine> Replica<M> {
     }
 
     // Whether the log is of a ballot that is joined.
-    fn holds(&self, ballot: u64) -> bool
+    pub(super) fn holds(&self, ballot: u64) -> bool
         ensures { result ≡ (self.now.state.joined == ballot && self.now.state.held_in == ballot) }
     {
         self.joined == ballot && self.held_in == ballot
     }
 
     // Whether a member takes a log of this length, which lacks no applied place.
-    fn lacks(&self, ballot: u64, held: u64) -> bool
+    pub(super) fn lacks(&self, ballot: u64, held: u64) -> bool
         ensures { result ≡ ((nat_lt self.now.state.joined ballot
             || (self.now.state.joined == ballot && nat_lt self.now.state.held_in ballot))
             && nat_le self.now.state.committed held) }

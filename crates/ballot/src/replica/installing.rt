@@ -48,7 +48,7 @@ impl<M: Machine> Replica<M> {
     }
 
     // Whether this new primary has not heard yet that a member took the log.
-    fn waits_for_answer(&self, from: u8, ballot: u64) -> bool
+    pub(super) fn waits_for_answer(&self, from: u8, ballot: u64) -> bool
         ensures { result ≡ ((self.now.state.joined == ballot
             && is_installing self.now.state.role)
             && list_any (λ member. member == from) self.now.state.lacking) }

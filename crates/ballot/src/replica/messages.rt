@@ -205,14 +205,14 @@ impl<M: Machine> Replica<M> {
     }
 
     // Whether this is a backup that holds the log of a ballot.
-    fn follows(&self, ballot: u64) -> bool
+    pub(super) fn follows(&self, ballot: u64) -> bool
         ensures { result ≡ follows self.now.state ballot }
     {
         (self.joined == ballot && self.held_in == ballot) && self.role.is_backup()
     }
 
     // Whether this is the active primary of a ballot.
-    fn leads(&self, ballot: u64) -> bool
+    pub(super) fn leads(&self, ballot: u64) -> bool
         ensures { result ≡ leads self.now.state ballot }
     {
         self.joined == ballot && self.role.is_active()

@@ -1,10 +1,12 @@
-use Rattle.std.proofs.Common.{ap, refl}
+use Rattle.std.proofs.Common.{◌-◌, ap, refl}
 use Rattle.machine.specs.Machine.{rules_by}
 use Rattle.ballot.specs.Replica.{CountedReplica}
 use Rattle.master.specs.declared.event.Event.TheVariants.{Crash}
 use Rattle.master.proofs.Counting.{stops_turn, steps_turn}
 use Rattle.master.proofs.Groups.{group_stops}
-use Rattle.master.proofs.Turns.{crash_turn}
+use Rattle.master.proofs.Turns.{crash_group, crash_turn}
+use Rattle.master.proofs.Quiet.{exactly_none, exactly_stopped}
+use Rattle.master.specs.Exact.{stopping}
 use Rattle.master.proofs.group.Group.crash.Goals as goal
 
 pub invariant_of-self : goal.invariant_of-self
@@ -22,5 +24,19 @@ returns-clause-step g c =
     let x = rw (← c.self.view_is) at c.in-Some.ensures.some in
     rw (← c.self.view_is) (steps_turn rules _ _ (Crash c.args.node) _ (stops_turn rules _ c.args.node c.in-Some.at x)
     (crash_turn rules c.self.inside.master c.self.inside.nodes.items c.self.inside.sent.items c.self.inside.left.items c.self.inside.losses c.in-Some.at
+    c.index_mut-replica.result.now c.stop.new.self x.replica c.index_mut-replica.ensures.value x.stands
+    (ap (λ (z : CountedReplica g.row.M.Denot g.row.M-Command.Denot). z.state) c.stop.ensures)))
+
+pub returns-in_default-clause-quiet : goal.returns-in_default-clause-quiet
+returns-in_default-clause-quiet g c =
+    let rules = rules_by g.M.Machine.opening g.M.Machine.start_of g.M.Machine.after g.M.Machine.gives in
+    λ q. exactly_none rules c.args.self.now (Crash c.args.node) (ap (stopping rules (c.args.node - 1)) (c.in_default.ensures.none refl))
+
+pub returns-clause-quiet : goal.returns-clause-quiet
+returns-clause-quiet g c =
+    let rules = rules_by g.M.Machine.opening g.M.Machine.start_of g.M.Machine.after g.M.Machine.gives in
+    let x = rw (← c.self.view_is) at c.in-Some.ensures.some in
+    rw (← c.self.view_is) (λ q. exactly_stopped rules _ _ c.args.node c.in-Some.at x
+    (crash_group rules c.self.inside.master c.self.inside.nodes.items c.self.inside.sent.items c.self.inside.left.items c.self.inside.losses c.in-Some.at
     c.index_mut-replica.result.now c.stop.new.self x.replica c.index_mut-replica.ensures.value x.stands
     (ap (λ (z : CountedReplica g.row.M.Denot g.row.M-Command.Denot). z.state) c.stop.ensures)))

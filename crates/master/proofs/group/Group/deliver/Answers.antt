@@ -5,6 +5,7 @@ use Rattle.machine.specs.Machine.{rules_by}
 use Rattle.master.specs.declared.event.Event.TheVariants.{Deliver}
 use Rattle.master.specs.Group.{GroupState}
 use Rattle.master.proofs.Counting.{asked_in, came_in, delivers_to_master, delivers_turn, delivers_nothing, hears_ballot, hears_nothing, not_sent, steps_master, steps_unheeded, get_there, get_past, some_idle, steps_turn, steps_lost, steps_idle}
+use Rattle.master.proofs.Quiet.{exactly_none, exactly_unheeded, master_needs, message_heeded, message_passed, steps_exactly_done}
 use Rattle.master.proofs.group.Group.deliver.Goals as goal
 
 pub returns-in_default-clause-step : goal.returns-in_default-clause-step
@@ -130,3 +131,89 @@ returns-in-None-clause-idle g c =
     let found = ap (λ us. slice_get us c.args.number) (sym sent) ∙ get_there c.deref.result.now c.args.number c.in-Some.field-0.now
     (ltb-true c.args.number (length c.deref.result.now) (sym c.in-Some.ensures.lookup.0)) c.in-Some.ensures.lookup.1 in
     (λ h. cc, λ e. some_idle (delivers_to_master rules c.args.self.now.moment c.args.number c.in-Some.field-0.now c.if-receiver-eq0.true found) e)
+
+pub returns-in_default-clause-quiet : goal.returns-in_default-clause-quiet
+returns-in_default-clause-quiet g c =
+    let rules = rules_by g.M.Machine.opening g.M.Machine.start_of g.M.Machine.after g.M.Machine.gives in
+    let sent : c.deref.result.now ≡ c.args.self.now.moment.world.sent = c.deref.ensures.value ∙ ap (λ (z : GroupState _ _ _). z.moment.world.sent) c.self.view_is in
+    let none : slice_get c.args.self.now.moment.world.sent c.args.number ≡ None =
+    ap (λ us. slice_get us c.args.number) (sym sent) ∙ get_past c.deref.result.now c.args.number (ltb-false c.args.number (length c.deref.result.now) (sym c.in_default.ensures.lookup.0)) in
+    λ q. exactly_none rules c.args.self.now (Deliver c.args.number) (not_sent rules c.args.self.now.moment c.args.number none)
+
+pub returns-in_default-running-clause-quiet : goal.returns-in_default-running-clause-quiet
+returns-in_default-running-clause-quiet g c =
+    let rules = rules_by g.M.Machine.opening g.M.Machine.start_of g.M.Machine.after g.M.Machine.gives in
+    let sent : c.deref.result.now ≡ c.args.self.now.moment.world.sent = c.deref.ensures.value ∙ ap (λ (z : GroupState _ _ _). z.moment.world.sent) c.self.view_is in
+    let found = ap (λ us. slice_get us c.args.number) (sym sent) ∙ get_there c.deref.result.now c.args.number c.in-Some.field-0.now
+    (ltb-true c.args.number (length c.deref.result.now) (sym c.in-Some.ensures.lookup.0)) c.in-Some.ensures.lookup.1 in
+    let idle = delivers_nothing rules c.args.self.now.moment c.args.number c.in-Some.field-0.now (omega (arith, c.if-receiver-eq0.false)) found (c.in_default-running.ensures.none refl) in
+    λ q. exactly_none rules c.args.self.now (Deliver c.args.number) idle
+
+pub returns-then-not-heeds-clause-step : goal.returns-then-not-heeds-clause-step
+returns-then-not-heeds-clause-step g c =
+    let rules = rules_by g.M.Machine.opening g.M.Machine.start_of g.M.Machine.after g.M.Machine.gives in
+    let sent : c.deref.result.now ≡ c.args.self.now.moment.world.sent = c.deref.ensures.value ∙ ap (λ (z : GroupState _ _ _). z.moment.world.sent) c.self.view_is in
+    let found = ap (λ us. slice_get us c.args.number) (sym sent) ∙ get_there c.deref.result.now c.args.number c.in-Some.field-0.now
+    (ltb-true c.args.number (length c.deref.result.now) (sym c.in-Some.ensures.lookup.0)) c.in-Some.ensures.lookup.1 in
+    let x = c.in-Some-running.ensures.some in
+    steps_exactly_done rules c.args.self.now c.args.self.now (Deliver c.args.number) (message_passed rules c.args.self.now c.args.number c.in-Some-running.at c.in-Some.field-0.now found x x.replica c.heeds.result refl (c.heeds.ensures x.replica x.stands) c.if-not-heeds.true)
+
+pub returns-then-not-heeds-clause-idle : goal.returns-then-not-heeds-clause-idle
+returns-then-not-heeds-clause-idle g c =
+    let rules = rules_by g.M.Machine.opening g.M.Machine.start_of g.M.Machine.after g.M.Machine.gives in
+    let sent : c.deref.result.now ≡ c.args.self.now.moment.world.sent = c.deref.ensures.value ∙ ap (λ (z : GroupState _ _ _). z.moment.world.sent) c.self.view_is in
+    let found = ap (λ us. slice_get us c.args.number) (sym sent) ∙ get_there c.deref.result.now c.args.number c.in-Some.field-0.now
+    (ltb-true c.args.number (length c.deref.result.now) (sym c.in-Some.ensures.lookup.0)) c.in-Some.ensures.lookup.1 in
+    let x = c.in-Some-running.ensures.some in
+    (λ h. cc, λ e. some_idle (delivers_turn rules c.args.self.now.moment c.args.number c.in-Some-running.at c.in-Some.field-0.now c.in-Some.field-0.now.1 found refl x) e)
+
+pub returns-then-not-heeds-clause-quiet : goal.returns-then-not-heeds-clause-quiet
+returns-then-not-heeds-clause-quiet g c =
+    let rules = rules_by g.M.Machine.opening g.M.Machine.start_of g.M.Machine.after g.M.Machine.gives in
+    let sent : c.deref.result.now ≡ c.args.self.now.moment.world.sent = c.deref.ensures.value ∙ ap (λ (z : GroupState _ _ _). z.moment.world.sent) c.self.view_is in
+    let found = ap (λ us. slice_get us c.args.number) (sym sent) ∙ get_there c.deref.result.now c.args.number c.in-Some.field-0.now
+    (ltb-true c.args.number (length c.deref.result.now) (sym c.in-Some.ensures.lookup.0)) c.in-Some.ensures.lookup.1 in
+    let x = c.in-Some-running.ensures.some in
+    λ q. message_passed rules c.args.self.now c.args.number c.in-Some-running.at c.in-Some.field-0.now found x x.replica c.heeds.result refl (c.heeds.ensures x.replica x.stands) c.if-not-heeds.true
+
+pub returns-in-Ok-clause-quiet : goal.returns-in-Ok-clause-quiet
+returns-in-Ok-clause-quiet g c =
+    let rules = rules_by g.M.Machine.opening g.M.Machine.start_of g.M.Machine.after g.M.Machine.gives in
+    let sent : c.deref.result.now ≡ c.args.self.now.moment.world.sent = c.deref.ensures.value ∙ ap (λ (z : GroupState _ _ _). z.moment.world.sent) c.self.view_is in
+    let found = ap (λ us. slice_get us c.args.number) (sym sent) ∙ get_there c.deref.result.now c.args.number c.in-Some.field-0.now
+    (ltb-true c.args.number (length c.deref.result.now) (sym c.in-Some.ensures.lookup.0)) c.in-Some.ensures.lookup.1 in
+    let x = c.in-Some-running.ensures.some in
+    λ q. message_heeded rules c.args.self.now c.args.number c.in-Some-running.at c.in-Some.field-0.now found x x.replica c.heeds.result refl (c.heeds.ensures x.replica x.stands) c.if-not-heeds.false q
+
+pub returns-in-Err-clause-quiet : goal.returns-in-Err-clause-quiet
+returns-in-Err-clause-quiet g c =
+    let rules = rules_by g.M.Machine.opening g.M.Machine.start_of g.M.Machine.after g.M.Machine.gives in
+    let sent : c.deref.result.now ≡ c.args.self.now.moment.world.sent = c.deref.ensures.value ∙ ap (λ (z : GroupState _ _ _). z.moment.world.sent) c.self.view_is in
+    let found = ap (λ us. slice_get us c.args.number) (sym sent) ∙ get_there c.deref.result.now c.args.number c.in-Some.field-0.now
+    (ltb-true c.args.number (length c.deref.result.now) (sym c.in-Some.ensures.lookup.0)) c.in-Some.ensures.lookup.1 in
+    let x = c.in-Some-running.ensures.some in
+    λ q. message_heeded rules c.args.self.now c.args.number c.in-Some-running.at c.in-Some.field-0.now found x x.replica c.heeds.result refl (c.heeds.ensures x.replica x.stands) c.if-not-heeds.false q
+
+pub returns-in-Some-asks_for-clause-quiet : goal.returns-in-Some-asks_for-clause-quiet
+returns-in-Some-asks_for-clause-quiet g c =
+    let rules = rules_by g.M.Machine.opening g.M.Machine.start_of g.M.Machine.after g.M.Machine.gives in
+    let sent : c.deref.result.now ≡ c.args.self.now.moment.world.sent = c.deref.ensures.value ∙ ap (λ (z : GroupState _ _ _). z.moment.world.sent) c.self.view_is in
+    let found = ap (λ us. slice_get us c.args.number) (sym sent) ∙ get_there c.deref.result.now c.args.number c.in-Some.field-0.now
+    (ltb-true c.args.number (length c.deref.result.now) (sym c.in-Some.ensures.lookup.0)) c.in-Some.ensures.lookup.1 in
+    let hears = hears_ballot rules c.args.self.now.moment.master c.in-Some.field-0.now.1.from c.in-Some-asks_for.ballot c.in-Some.field-0.now.1.body
+    (sym c.asks_for.ensures ∙ c.in-Some-asks_for.is) in
+    master_needs rules c.args.self.now.moment (Deliver c.args.number) _
+    (delivers_to_master rules c.args.self.now.moment c.args.number c.in-Some.field-0.now c.if-receiver-eq0.true found ∙ ap Some hears.1) (λ n f. cc)
+
+pub returns-in-None-clause-quiet : goal.returns-in-None-clause-quiet
+returns-in-None-clause-quiet g c =
+    let rules = rules_by g.M.Machine.opening g.M.Machine.start_of g.M.Machine.after g.M.Machine.gives in
+    let sent : c.deref.result.now ≡ c.args.self.now.moment.world.sent = c.deref.ensures.value ∙ ap (λ (z : GroupState _ _ _). z.moment.world.sent) c.self.view_is in
+    let found = ap (λ us. slice_get us c.args.number) (sym sent) ∙ get_there c.deref.result.now c.args.number c.in-Some.field-0.now
+    (ltb-true c.args.number (length c.deref.result.now) (sym c.in-Some.ensures.lookup.0)) c.in-Some.ensures.lookup.1 in
+    let hears = hears_nothing rules c.args.self.now.moment.master c.in-Some.field-0.now.1.from c.in-Some.field-0.now.1.body (sym c.asks_for.ensures ∙ c.in-None.is) in
+    λ q. exactly_unheeded rules c.args.self.now (Deliver c.args.number)
+    (delivers_to_master rules c.args.self.now.moment c.args.number c.in-Some.field-0.now c.if-receiver-eq0.true found ∙ ap Some hears)
+
+pub heeds-requires : goal.heeds-requires
+heeds-requires g c = c.in-Some-running.ensures.some.below

@@ -3,7 +3,8 @@ use Rattle.machine.specs.Machine.{rules_by}
 use Rattle.ballot.specs.Protocol.Input.{Proposes}
 use Rattle.ballot.specs.Replica.{status_of}
 use Rattle.master.specs.declared.event.Event.TheVariants.{Propose}
-use Rattle.master.proofs.Counting.{takes_turn, cannot_take, proposal_refused, proposal_taken, some_idle, steps_turn, steps_lost, steps_idle}
+use Rattle.master.proofs.Counting.{takes_nothing, takes_turn, cannot_take, proposal_refused, proposal_taken, some_idle, steps_turn, steps_lost, steps_idle}
+use Rattle.master.proofs.Quiet.{exactly_none, node_needs, proposal_does}
 use Rattle.master.proofs.Turns.{same_replica}
 use Rattle.master.proofs.group.Group.propose.Goals as goal
 
@@ -68,3 +69,41 @@ returns-in-Err-clause-idle g c =
     let can = proposal_taken x.replica c.status-status.result c.is_active.result c.args.command.now status c.is_active.ensures c.if-not-is_active.false c.if-status-ge-MOST_PLACES.false in
     let goes = takes_turn rules c.args.self.now.moment.world c.args.node c.in-Some.at (Proposes c.args.command.now) x can in
     (λ h. cc, λ e. some_idle goes e)
+
+pub returns-in_default-clause-quiet : goal.returns-in_default-clause-quiet
+returns-in_default-clause-quiet g c =
+    let rules = rules_by g.M.Machine.opening g.M.Machine.start_of g.M.Machine.after g.M.Machine.gives in
+    λ q. exactly_none rules c.args.self.now (Propose c.args.node c.args.command.now) (takes_nothing rules c.args.self.now.moment.world c.args.node (Proposes c.args.command.now) (c.in_default.ensures.none refl))
+
+pub returns-then-not-is_active-clause-quiet : goal.returns-then-not-is_active-clause-quiet
+returns-then-not-is_active-clause-quiet g c =
+    let rules = rules_by g.M.Machine.opening g.M.Machine.start_of g.M.Machine.after g.M.Machine.gives in
+    let x = c.in-Some.ensures.some in
+    let inside = rw (← c.self.view_is) at x.stands in
+    let same = same_replica c.self.inside.nodes.items c.in-Some.at c.index.result.now x.replica c.index.ensures inside in
+    let status : c.status-status.result ≡ status_of x.replica = c.status-status.ensures ∙ ap status_of same in
+    let idle = cannot_take rules c.args.self.now.moment.world c.args.node c.in-Some.at (Proposes c.args.command.now) x
+    (proposal_refused x.replica c.status-status.result c.is_active.result c.args.command.now status c.is_active.ensures c.then-not-is_active.either) in
+    λ q. exactly_none rules c.args.self.now (Propose c.args.node c.args.command.now) idle
+
+pub returns-in-Ok-clause-quiet : goal.returns-in-Ok-clause-quiet
+returns-in-Ok-clause-quiet g c =
+    let rules = rules_by g.M.Machine.opening g.M.Machine.start_of g.M.Machine.after g.M.Machine.gives in
+    let x = c.in-Some.ensures.some in
+    let inside = rw (← c.self.view_is) at x.stands in
+    let same = same_replica c.self.inside.nodes.items c.in-Some.at c.index.result.now x.replica c.index.ensures inside in
+    let status : c.status-status.result ≡ status_of x.replica = c.status-status.ensures ∙ ap status_of same in
+    let can = proposal_taken x.replica c.status-status.result c.is_active.result c.args.command.now status c.is_active.ensures c.if-not-is_active.false c.if-status-ge-MOST_PLACES.false in
+    let goes = takes_turn rules c.args.self.now.moment.world c.args.node c.in-Some.at (Proposes c.args.command.now) x can in
+    node_needs rules c.args.self.now.moment (Propose c.args.node c.args.command.now) _ goes (λ n f. cc) (λ f. proposal_does rules x.replica c.args.command.now can f)
+
+pub returns-in-Err-clause-quiet : goal.returns-in-Err-clause-quiet
+returns-in-Err-clause-quiet g c =
+    let rules = rules_by g.M.Machine.opening g.M.Machine.start_of g.M.Machine.after g.M.Machine.gives in
+    let x = c.in-Some.ensures.some in
+    let inside = rw (← c.self.view_is) at x.stands in
+    let same = same_replica c.self.inside.nodes.items c.in-Some.at c.index.result.now x.replica c.index.ensures inside in
+    let status : c.status-status.result ≡ status_of x.replica = c.status-status.ensures ∙ ap status_of same in
+    let can = proposal_taken x.replica c.status-status.result c.is_active.result c.args.command.now status c.is_active.ensures c.if-not-is_active.false c.if-status-ge-MOST_PLACES.false in
+    let goes = takes_turn rules c.args.self.now.moment.world c.args.node c.in-Some.at (Proposes c.args.command.now) x can in
+    node_needs rules c.args.self.now.moment (Propose c.args.node c.args.command.now) _ goes (λ n f. cc) (λ f. proposal_does rules x.replica c.args.command.now can f)

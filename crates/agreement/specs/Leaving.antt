@@ -1,0 +1,32 @@
+-- Leaving.antt: what left a group, and in which order.
+use Rattle.std.specs.Prelude.{ℕ, ◌<◌, ◌≤◌, ◌≡◌, ◌⊎◌, List, length, slice_get, Some}
+use Rattle.std.specs.List.{flat_map}
+use Rattle.machine.specs.Machine.{Rules}
+use Rattle.lists.specs.Lists.{In}
+use Rattle.ballot.specs.Applying.{outputs_between}
+use Rattle.agreement.specs.Past.{Moment, WasActive}
+use Rattle.agreement.specs.World.{World, outputs}
+
+-- the places whose outputs one commit gave: by which ballot's primary, from where to where
+pub record Segment : Type 0 where
+  pub ballot : ℕ
+  pub first : ℕ
+  pub past : ℕ
+
+-- of two segments that of the lower ballot comes before the other in the list, and of one ballot
+-- that which left first
+abbrev pub AreInOrder : List Segment → Type 0
+AreInOrder segments =
+    (i j : ℕ) (s t : Segment) → slice_get segments i ≡ Some s → slice_get segments j ≡ Some t →
+    (s.ballot < t.ballot) ⊎ ((s.ballot ≡ t.ballot) × (i < j)) → s.past ≤ t.first
+
+-- what left is the machine's answers at segments of a list, each given in a ballot that was active.
+-- No two share a place, and while one ballot alone was active the places rise as they left; the
+-- primary of an earlier ballot may give late what it had not given yet
+pub record LeftInOrder {S C O : Type 0} (rules : Rules S C O) (past : List (Moment S C O))
+    (w : World S C O) (xs : List C) : Type 0 where
+  pub segments : List Segment
+  pub left : w.left ≡ flat_map (λ s. outputs (outputs_between rules xs s.first s.past)) segments
+  pub inside : (s : Segment) → In s segments → (s.first < s.past) × (s.past ≤ length xs)
+  pub given : (s : Segment) → In s segments → WasActive past s.ballot
+  pub in_order : AreInOrder segments

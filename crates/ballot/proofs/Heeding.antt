@@ -1,0 +1,314 @@
+-- Heeding.antt: what a replica does not heed does nothing by the protocol, and only that.
+use Rattle.std.proofs.Common.{◌≡◌, ℕ, suc, ◌+◌, ◌<◌, ◌≤◌, ◌⊎◌, inl, inr, Bool, true, false, cond, List, [], ◌∷◌, ◌++◌, length, max, refl, ap, sym, ◌∙◌, arith}
+use Rattle.std.specs.Prelude.{nat_lt, nat_le, ◌&&◌, ◌||◌, ◌==◌}
+use Rattle.std.specs.List.{list_any}
+use Rattle.std.proofs.lemmas.Bool.{cases_Bool, cases_lt, or_cases, or_parts, and_parts, ltb-true, ltb-false, leb-true, leb-false, lt-ltb, le-leb}
+use Rattle.std.proofs.lemmas.List.{length-append}
+use Rattle.machine.specs.Machine.{Rules}
+use Rattle.ballot_base.specs.declared.message.Body.{Body}
+use Rattle.ballot_base.specs.declared.message.Body.TheVariants.{NewBallot, Join, State, Install, Installed, Activate, Activated, Superseded, Append, Held, Commit}
+use Rattle.ballot_base.specs.declared.message.Effect.{Effect}
+use Rattle.ballot_base.specs.declared.status.Progress.{Progress}
+use Rattle.ballot_base.specs.declared.status.Role.{Role}
+use Rattle.ballot_base.specs.declared.status.Role.TheVariants.{Backup, Fetching, Installing, Active}
+use Rattle.ballot_base.specs.Replica.{ReplicaState, is_fetching, is_installing, others, progress_at}
+use Rattle.ballot_base.specs.Applying.{applied_to}
+use Rattle.ballot_base.specs.Sending.{Outcome, nothing_done, message_to_each, message_to_followed}
+use Rattle.ballot_base.specs.Serving.{least, raised, raised_progress, follows, leads, commit_at, on_append, on_held, on_commit, appends_behind, on_tick_active}
+use Rattle.ballot_base.specs.Changing.{on_state, on_install, on_installed, on_activated, on_superseded, installs, on_tick_fetching}
+use Rattle.ballot_base.specs.Protocol.{received, ticked}
+use Rattle.ballot_base.proofs.StepRows.{added-log, commit_at-goes, commit_at-stays}
+use Rattle.ballot_base.proofs.ChangeRows.{on_new_ballot-joins, on_new_ballot-stays, on_join-stays, on_join-answers, on_state-stays, on_state-takes, on_install-takes, on_install-answers, on_install-stays, on_installed-stays, on_installed-counts, on_superseded-stays, on_superseded-leaves, on_activated-stays, on_activated-adds}
+use Rattle.ballot_base.proofs.MessageRows.{on_append-elsewhere, on_append-gap, on_append-takes, on_held-elsewhere, on_held-raises, on_commit-elsewhere, on_commit-past, on_commit-takes, on_tick_active-is}
+use Rattle.ballot.specs.Heeding.{rises, is_heeded, says_again}
+use Rattle.ballot.proofs.MessagesTaken.{commit_known}
+
+-- whatever sends does something, and so does whatever takes another role or ballot, or counts otherwise
+sends_something : {S C O : Type 0} {P : Type 0} (o : Outcome S C O) (r s : ReplicaState S C) (e : Effect C O) (es : List (Effect C O)) →
+    o ≡ record { state = s; effects = e ∷ es } → o ≡ nothing_done O r → P
+sends_something {S = S} {C = C} {O = O} o r s e es a b = let c = ap (λ (z : Outcome S C O). z.effects) (sym a ∙ b) in cc
+
+same_state : {S C O : Type 0} {o : Outcome S C O} {r s : ReplicaState S C} {es : List (Effect C O)} →
+    o ≡ record { state = s; effects = es } → o ≡ nothing_done O r → s ≡ r
+same_state {S = S} {C = C} {O = O} a b = ap (λ (z : Outcome S C O). z.state) (sym a ∙ b)
+
+-- a progress that rises is another, and one that does not stays
+still : (member held : ℕ) (progress : List Progress) → rises member held progress ≡ false → raised member held progress ≡ progress
+still member held [] none = refl
+still member held (x ∷ progress) none =
+    let p = or_parts (x.member == member && nat_lt x.held held) (rises member held progress) none in
+    ap (λ (y : Progress). y ∷ raised member held progress) (one (cases_Bool (x.member == member)) p.0)
+    ∙ ap (λ ys. x ∷ ys) (still member held progress p.1)
+  where
+    one : ((x.member == member) ≡ true) ⊎ ((x.member == member) ≡ false) → (x.member == member && nat_lt x.held held) ≡ false →
+        raised_progress member held x ≡ x
+    one (inr other) e = ap (λ b. cond b (record x { held = max x.held held }) x) other
+    one (inl same) e =
+        let low = ltb-false x.held held (sym (ap (λ b. b && nat_lt x.held held) same) ∙ e) in
+        let f : max x.held held ≡ x.held = omega (arith, low) in
+        ap (λ b. cond b (record x { held = max x.held held }) x) same
+        ∙ ap (λ n. let z : Progress = record x { held = n } in z) f
+
+moves : {P : Type 0} (member held : ℕ) (progress : List Progress) → rises member held progress ≡ true → raised member held progress ≡ progress → P
+moves member held [] some same = cc
+moves {P = P} member held (x ∷ progress) some same =
+    let head : raised_progress member held x ≡ x = cc in let rest : raised member held progress ≡ progress = cc in
+    by_one head (λ e. moves member held progress e rest) (or_cases (x.member == member && nat_lt x.held held) (rises member held progress) some)
+  where
+    by_one : raised_progress member held x ≡ x → (rises member held progress ≡ true → P) →
+        ((x.member == member && nat_lt x.held held) ≡ true) ⊎ (rises member held progress ≡ true) → P
+    by_one head behind (inr e) = behind e
+    by_one head behind (inl e) =
+        let p = and_parts (x.member == member) (nat_lt x.held held) e in
+        let low = ltb-true x.held held p.1 in
+        let h : max x.held held ≡ x.held =
+        ap (λ (z : Progress). z.held) (sym (ap (λ b. cond b (record x { held = max x.held held }) x) p.0) ∙ head) in
+        absurd (omega (arith, h, low))
+
+-- a member that is taken out of a list was in it
+shorter : (from : ℕ) (members : List ℕ) → length (others from members) ≤ length members
+shorter from [] = omega arith
+shorter from (m ∷ members) = by_one (shorter from members) (cases_Bool (m == from))
+  where
+    by_one : length (others from members) ≤ length members → ((m == from) ≡ true) ⊎ ((m == from) ≡ false) → length (others from (m ∷ members)) ≤ length (m ∷ members)
+    by_one g (inl same) =
+        let e : others from (m ∷ members) ≡ others from members = rw same refl in
+        let f = ap length e in omega (arith, f, g)
+    by_one g (inr other) =
+        let e : others from (m ∷ members) ≡ m ∷ others from members = rw other refl in
+        let f = ap length e in omega (arith, f, g)
+
+taken_out : {P : Type 0} (from : ℕ) (members : List ℕ) → list_any (λ m. m == from) members ≡ true → others from members ≡ members → P
+taken_out from [] some same = cc
+taken_out {P = P} from (m ∷ members) some same = by_one (λ a b. taken_out from members a b) (cases_Bool (m == from))
+  where
+    by_one : (list_any (λ m. m == from) members ≡ true → others from members ≡ members → P) → ((m == from) ≡ true) ⊎ ((m == from) ≡ false) → P
+    by_one behind (inl e) =
+        let f : others from (m ∷ members) ≡ others from members = rw e refl in
+        let g = ap length (sym f ∙ same) in let h = shorter from members in absurd (omega (arith, g, h))
+    by_one behind (inr e) =
+        let f : others from (m ∷ members) ≡ m ∷ others from members = rw e refl in
+        let g : m ∷ others from members ≡ m ∷ members = sym f ∙ same in
+        let rest : others from members ≡ members = cc in
+        behind (sym (ap (λ b. b || list_any (λ m. m == from) members) e) ∙ some) rest
+
+-- Installed, and Activated
+counts_on : {S C P : Type 0} (O : Type 0) (r : ReplicaState S C) (from b : ℕ) →
+    ((r.joined == b && is_installing r.role) && list_any (λ member. member == from) r.lacking) ≡ true →
+    on_installed O r from b ≡ nothing_done O r → P
+counts_on {S = S} {C = C} O r from b e f =
+    let s = same_state (on_installed-counts O r from b e) f in
+    taken_out from r.lacking (and_parts (r.joined == b && is_installing r.role) (list_any (λ member. member == from) r.lacking) e).1
+    (ap (λ (z : ReplicaState S C). z.lacking) s)
+
+begins : {S C O P : Type 0} (rules : Rules S C O) (r : ReplicaState S C) (b : ℕ) → is_heeded {C = C} r 0 (Activated b) ≡ true →
+    on_activated rules r b ≡ nothing_done O r → P
+begins {S = S} {C = C} {O = O} rules r b e f =
+    let g = ap (λ (z : Outcome S C O). length z.state.log) (sym (on_activated-adds rules r b e) ∙ f) in
+    let h = ap length (added-log rules (record (applied_to rules r (length r.log)) { role = Active; progress = progress_at (length r.log) (others r.id r.members) }) (rules.start_of b)) in
+    let long = length-append r.log (rules.start_of b ∷ []) in absurd (omega (arith, g, h, long))
+
+-- Held
+learned : {S C O P : Type 0} (rules : Rules S C O) (r : ReplicaState S C) (from b held : ℕ) → is_heeded {C = C} r from (Held b held) ≡ true →
+    on_held rules r from b held ≡ nothing_done O r → P
+learned {S = S} {C = C} {O = O} {P = P} rules r from b held e f =
+    by_commit (cases_lt r.committed n) (or_cases (rises from held r.progress) (nat_lt r.committed n) p.1)
+  where
+    n : ℕ
+    n = least (length r.log) (raised from held r.progress)
+
+    p : (leads r b ≡ true) × ((rises from held r.progress || nat_lt r.committed (least (length r.log) (raised from held r.progress))) ≡ true)
+    p = and_parts (leads r b) _ e
+
+    goes : commit_at rules (record r { progress = raised from held r.progress }) (least (length r.log) (raised from held r.progress)) ≡ nothing_done O r
+    goes = sym (on_held-raises rules r from b held p.0) ∙ f
+
+    by_commit : (r.committed < n) ⊎ (n ≤ r.committed) → (rises from held r.progress ≡ true) ⊎ (nat_lt r.committed n ≡ true) → P
+    by_commit (inl above) some =
+        let s = same_state (commit_at-goes rules (record r { progress = raised from held r.progress }) n above) goes in
+        let c : n ≡ r.committed = ap (λ (z : ReplicaState S C). z.committed) s in absurd (omega (arith, c, above))
+    by_commit (inr below) (inr more) = let z = ltb-true r.committed n more in absurd (omega (arith, z, below))
+    by_commit (inr below) (inl some) =
+        let s = same_state (commit_at-stays rules (record r { progress = raised from held r.progress }) n below) goes in
+        moves from held r.progress some (ap (λ (z : ReplicaState S C). z.progress) s)
+
+knew : {S C O : Type 0} (rules : Rules S C O) (r : ReplicaState S C) (from b held : ℕ) → is_heeded {C = C} r from (Held b held) ≡ false →
+    on_held rules r from b held ≡ nothing_done O r
+knew {S = S} {C = C} {O = O} rules r from b held e = by_leader (cases_Bool (leads r b))
+  where
+    n : ℕ
+    n = least (length r.log) (raised from held r.progress)
+
+    by_leader : (leads r b ≡ true) ⊎ (leads r b ≡ false) → on_held rules r from b held ≡ nothing_done O r
+    by_leader (inr off) = on_held-elsewhere rules r from b held off
+    by_leader (inl leader) =
+        let p = or_parts (rises from held r.progress) (nat_lt r.committed n)
+        (sym (ap (λ t. t && (rises from held r.progress || nat_lt r.committed n)) leader) ∙ e) in
+        on_held-raises rules r from b held leader
+        ∙ commit_at-stays rules (record r { progress = raised from held r.progress }) n (ltb-false r.committed n p.1)
+        ∙ ap (λ ps. nothing_done O (record r { progress = ps })) (still from held r.progress p.0)
+
+-- Append and Commit
+passed : {S C : Type 0} (O : Type 0) (r : ReplicaState S C) (from b place : ℕ) (command : C) → is_heeded r from (Append b place command) ≡ false →
+    on_append O r from b place command ≡ nothing_done O r
+passed O r from b place command e = by_follower (cases_Bool (follows r b))
+  where
+    by_follower : (follows r b ≡ true) ⊎ (follows r b ≡ false) → on_append O r from b place command ≡ nothing_done O r
+    by_follower (inr off) = on_append-elsewhere O r from b place command off
+    by_follower (inl follower) =
+        on_append-gap O r from b place command follower
+        (leb-false place (length r.log) (sym (ap (λ t. t && nat_le place (length r.log)) follower) ∙ e))
+
+taken : {S C P : Type 0} (O : Type 0) (r : ReplicaState S C) (from b place : ℕ) (command : C) → is_heeded r from (Append b place command) ≡ true →
+    on_append O r from b place command ≡ nothing_done O r → P
+taken O r from b place command e f =
+    let p = and_parts (follows r b) (nat_le place (length r.log)) e in
+    sends_something _ r _ _ _ (on_append-takes O r from b place command p.0 (leb-true place (length r.log) p.1)) f
+
+known : {S C O : Type 0} (rules : Rules S C O) (r : ReplicaState S C) (b held : ℕ) →
+    (follows r b && (nat_le held (length r.log) && nat_lt r.committed held)) ≡ false → on_commit rules r b held ≡ nothing_done O r
+known {O = O} rules r b held e = by_follower (cases_Bool (follows r b)) (cases_lt (length r.log) held)
+  where
+    by_follower : (follows r b ≡ true) ⊎ (follows r b ≡ false) → (length r.log < held) ⊎ (held ≤ length r.log) →
+        on_commit rules r b held ≡ nothing_done O r
+    by_follower (inr off) _ = on_commit-elsewhere rules r b held off
+    by_follower (inl follower) (inl past) = on_commit-past rules r b held follower past
+    by_follower (inl follower) (inr within) =
+        commit_known rules r b held follower within
+        (ltb-false r.committed held
+        (sym (ap (λ t. t && nat_lt r.committed held) (le-leb held (length r.log) within))
+        ∙ sym (ap (λ t. t && (nat_le held (length r.log) && nat_lt r.committed held)) follower) ∙ e))
+
+applied : {S C O P : Type 0} (rules : Rules S C O) (r : ReplicaState S C) (b held : ℕ) →
+    (follows r b && (nat_le held (length r.log) && nat_lt r.committed held)) ≡ true → on_commit rules r b held ≡ nothing_done O r → P
+applied {S = S} {C = C} rules r b held e f =
+    let p = and_parts (follows r b) (nat_le held (length r.log) && nat_lt r.committed held) e in
+    let q = and_parts (nat_le held (length r.log)) (nat_lt r.committed held) p.1 in
+    let s = same_state (on_commit-takes rules r b held p.0 (leb-true held (length r.log) q.0)) f in
+    let c : max r.committed held ≡ r.committed = ap (λ (z : ReplicaState S C). z.committed) s in
+    let low = ltb-true r.committed held q.1 in absurd (omega (arith, c, low))
+
+-- State, Install and Superseded
+took_log : {S C P : Type 0} (O : Type 0) (r : ReplicaState S C) (b : ℕ) (log : List C) → is_heeded r 0 (State b log) ≡ true →
+    on_state O r b log ≡ nothing_done O r → P
+took_log {S = S} {C = C} O r b log e f =
+    let p = and_parts (r.joined == b) (is_fetching r.role && nat_le r.committed (length log)) e in
+    let q = (and_parts (is_fetching r.role) (nat_le r.committed (length log)) p.1).0 in
+    let s = same_state (on_state-takes O r b log e) f in
+    let t : Installing ≡ r.role = ap (λ (z : ReplicaState S C). z.role) s in
+    let u : is_fetching Installing ≡ true = ap is_fetching t ∙ q in cc
+
+installed : {S C P : Type 0} (O : Type 0) (r : ReplicaState S C) (from b : ℕ) (log : List C) → is_heeded r from (Install b log) ≡ true →
+    on_install O r from b log ≡ nothing_done O r → P
+installed {S = S} {C = C} {P = P} O r from b log e f =
+    by_case (cases_Bool ((nat_lt r.joined b || (r.joined == b && nat_lt r.held_in b)) && nat_le r.committed (length log)))
+  where
+    by_case : (((nat_lt r.joined b || (r.joined == b && nat_lt r.held_in b)) && nat_le r.committed (length log)) ≡ true)
+        ⊎ (((nat_lt r.joined b || (r.joined == b && nat_lt r.held_in b)) && nat_le r.committed (length log)) ≡ false) → P
+    by_case (inl on) = sends_something _ r _ _ _ (on_install-takes O r from b log on) f
+    by_case (inr off) =
+        sends_something _ r _ _ _ (on_install-answers O r from b log off (sym (ap (λ t. t || (r.joined == b && r.held_in == b)) off) ∙ e)) f
+
+superseded : {S C P : Type 0} (O : Type 0) (r : ReplicaState S C) (b : ℕ) → (r.joined == b && is_installing r.role) ≡ true →
+    on_superseded O r b ≡ nothing_done O r → P
+superseded {S = S} {C = C} O r b e f =
+    let q = (and_parts (r.joined == b) (is_installing r.role) e).1 in
+    let s = same_state (on_superseded-leaves O r b e) f in
+    let t : Backup ≡ r.role = ap (λ (z : ReplicaState S C). z.role) s in
+    let u : is_installing Backup ≡ true = ap is_installing t ∙ q in cc
+
+-- so a message that is not heeded does nothing
+pub unheeded : {S C O : Type 0} (rules : Rules S C O) (r : ReplicaState S C) (from : ℕ) (body : Body C) → is_heeded r from body ≡ false →
+    received rules r from body ≡ nothing_done O r
+unheeded {O = O} rules r from (NewBallot b members a old) e = on_new_ballot-stays O r b members a old (ltb-false r.joined b e)
+unheeded {O = O} rules r from (Join b a) e = on_join-stays O r from b a e
+unheeded {O = O} rules r from (State b log) e = on_state-stays O r b log e
+unheeded {O = O} rules r from (Install b log) e =
+    let p = or_parts ((nat_lt r.joined b || (r.joined == b && nat_lt r.held_in b)) && nat_le r.committed (length log)) (r.joined == b && r.held_in == b) e in
+    on_install-stays O r from b log p.0 p.1
+unheeded {O = O} rules r from (Installed b held) e = on_installed-stays O r from b e
+unheeded {O = O} rules r from (Activate b) e = refl
+unheeded {O = O} rules r from (Activated b) e = on_activated-stays rules r b e
+unheeded {O = O} rules r from (Superseded b) e = on_superseded-stays O r b e
+unheeded {O = O} rules r from (Append b place command) e = passed O r from b place command e
+unheeded {O = O} rules r from (Held b held) e = knew rules r from b held e
+unheeded {O = O} rules r from (Commit b held) e = known rules r b held e
+
+-- and one that is heeded does something
+heeded : {S C O P : Type 0} (rules : Rules S C O) (r : ReplicaState S C) (from : ℕ) (body : Body C) → is_heeded r from body ≡ true →
+    received rules r from body ≡ nothing_done O r → P
+heeded {S = S} {C = C} {O = O} rules r from (NewBallot b members a old) e f =
+    let low = ltb-true r.joined b e in
+    let s = same_state (on_new_ballot-joins O r b members a old low) f in
+    let c : b ≡ r.joined = ap (λ (z : ReplicaState S C). z.joined) s in absurd (omega (arith, c, low))
+heeded {O = O} rules r from (Join b a) e f = sends_something _ r _ _ _ (on_join-answers O r from b a e) f
+heeded {O = O} rules r from (State b log) e f = took_log O r b log e f
+heeded {O = O} rules r from (Install b log) e f = installed O r from b log e f
+heeded {O = O} rules r from (Installed b held) e f = counts_on O r from b e f
+heeded rules r from (Activate b) e f = cc
+heeded rules r from (Activated b) e f = begins rules r b e f
+heeded {O = O} rules r from (Superseded b) e f = superseded O r b e f
+heeded {O = O} rules r from (Append b place command) e f = taken O r from b place command e f
+heeded rules r from (Held b held) e f = learned rules r from b held e f
+heeded rules r from (Commit b held) e f = applied rules r b held e f
+
+pub heeds_exactly : {S C O : Type 0} (rules : Rules S C O) (r : ReplicaState S C) (from : ℕ) (body : Body C) (heeds : Bool) → heeds ≡ is_heeded r from body →
+    (heeds ≡ false → received rules r from body ≡ nothing_done O r) × (received rules r from body ≡ nothing_done O r → heeds ≡ false)
+heeds_exactly {O = O} rules r from body heeds is = (λ e. unheeded rules r from body (sym is ∙ e), λ f. by_test f (cases_Bool (is_heeded r from body)))
+  where
+    by_test : received rules r from body ≡ nothing_done O r → (is_heeded r from body ≡ true) ⊎ (is_heeded r from body ≡ false) → heeds ≡ false
+    by_test f (inl e) = heeded rules r from body e f
+    by_test f (inr e) = is ∙ e
+
+-- an active primary that follows a member tells it what is committed
+told_some : {S C : Type 0} {P : Type 0} (O : Type 0) (r : ReplicaState S C) (p : Progress) (progress : List Progress) → r.progress ≡ p ∷ progress →
+    on_tick_active O r ≡ nothing_done O r → P
+told_some {S = S} {C = C} O r p progress e f =
+    let behind : List (Effect C O) = appends_behind O r.id r.joined r.log r.progress in
+    let tell : List Progress → List (Effect C O) = message_to_followed O r.id (Commit r.joined r.committed) in
+    let g : length (behind ++ tell r.progress) ≡ 0 = ap (λ (z : Outcome S C O). length z.effects) (sym (on_tick_active-is O r) ∙ f) in
+    let h : length (tell r.progress) ≡ suc (length (tell progress)) = ap (λ ps. length (tell ps)) e in
+    let long = length-append behind (tell r.progress) in absurd (omega (arith, g, h, long))
+
+told_none : {S C : Type 0} (O : Type 0) (r : ReplicaState S C) → r.progress ≡ [] → on_tick_active O r ≡ nothing_done O r
+told_none {S = S} {C = C} O r e =
+    on_tick_active-is O r
+    ∙ ap (λ ps. let o : Outcome S C O = record {
+      state = r;
+      effects = appends_behind O r.id r.joined r.log ps ++ message_to_followed O r.id (Commit r.joined r.committed) ps;
+    } in o) e
+
+asked_some : {S C : Type 0} {P : Type 0} (O : Type 0) (r : ReplicaState S C) (m : ℕ) (members : List ℕ) → r.previous_members ≡ m ∷ members →
+    on_tick_fetching O r ≡ nothing_done O r → P
+asked_some {S = S} {C = C} O r m members e f =
+    let g = sym (ap (message_to_each {C = C} O r.id (Join r.joined r.previous)) e) ∙ ap (λ (z : Outcome S C O). z.effects) f in cc
+
+hands_some : {S C : Type 0} {P : Type 0} (O : Type 0) (r : ReplicaState S C) (members : List ℕ) → installs O r members ≡ [] → P
+hands_some O r [] e = cc
+hands_some O r (m ∷ members) e = cc
+
+-- a tick that says nothing does nothing
+pub speaks_exactly : {S C : Type 0} (O : Type 0) (r : ReplicaState S C) (role : Role) (speaks : Bool) → speaks ≡ says_again r role →
+    (speaks ≡ false → ticked O r role ≡ nothing_done O r) × (ticked O r role ≡ nothing_done O r → speaks ≡ false)
+speaks_exactly O r Backup speaks is = (λ e. refl, λ f. is)
+speaks_exactly {S = S} {C = C} O r Fetching speaks is = by_members r.previous_members refl
+  where
+    by_members : (members : List ℕ) → r.previous_members ≡ members →
+        (speaks ≡ false → ticked O r Fetching ≡ nothing_done O r) × (ticked O r Fetching ≡ nothing_done O r → speaks ≡ false)
+    by_members [] e = (
+      λ f. ap (λ ms. let o : Outcome S C O = record { state = r; effects = message_to_each O r.id (Join r.joined r.previous) ms } in o) e,
+      λ f. is ∙ ap (λ ms. nat_lt 0 (length ms)) e,
+    )
+    by_members (m ∷ members) e =
+        let up : speaks ≡ true = is ∙ ap (λ ms. nat_lt 0 (length ms)) e ∙ lt-ltb 0 (length (m ∷ members)) (omega arith) in
+        (λ f. cc, λ f. asked_some O r m members e f)
+speaks_exactly {S = S} {C = C} O r Installing speaks is =
+    (λ f. cc, λ f. hands_some O r r.lacking (ap (λ (z : Outcome S C O). z.effects) f))
+speaks_exactly {S = S} {C = C} O r Active speaks is = by_progress r.progress refl
+  where
+    by_progress : (progress : List Progress) → r.progress ≡ progress →
+        (speaks ≡ false → ticked O r Active ≡ nothing_done O r) × (ticked O r Active ≡ nothing_done O r → speaks ≡ false)
+    by_progress [] e = (λ f. told_none O r e, λ f. is ∙ ap (λ ps. nat_lt 0 (length ps)) e)
+    by_progress (p ∷ progress) e =
+        let up : speaks ≡ true = is ∙ ap (λ ps. nat_lt 0 (length ps)) e ∙ lt-ltb 0 (length (p ∷ progress)) (omega arith) in
+        (λ f. cc, λ f. told_some O r p progress e f)

@@ -1,0 +1,96 @@
+// Which messages and ticks do something.
+
+ghost use Rattle.std.specs.Prelude.{◌≡◌, ◌↔◌, ◌||◌, ◌&&◌, false, length, nat_le, nat_lt};
+ghost use Rattle.machine.specs.Machine.{rules_by};
+ghost use Rattle.ballot.specs.Heeding.{is_heeded, rises, says_again};
+ghost use Rattle.ballot_base.specs.Protocol.{replica_step};
+ghost use Rattle.ballot_base.specs.Protocol.Input.{Receives, Ticks};
+ghost use Rattle.ballot_base.specs.Sending.{nothing_done};
+ghost use Rattle.ballot_base.specs.Serving.{least, raised};
+
+use super::Replica;
+use crate::progress::least_raised;
+use ballot_base::{Body, Message, Progress, Role};
+use machine::Machine;
+
+impl<M: Machine> Replica<M> {
+    /// Whether a message would do anything: change the replica, or send.
+    pub fn heeds(&self, message: &Message<M::Command>) -> bool
+        ensures { (result ≡ false) ↔
+            (replica_step (rules_by M.opening M.start_of M.after M.gives) self.now.state
+            (Receives message.now) ≡ nothing_done M.Output self.now.state) }
+    {
+        self.is_moved_by(message.from, &message.body)
+    }
+
+    // What each kind of message asks to do something.
+    fn is_moved_by(&self, from: u8, body: &Body<M::Command>) -> bool
+        ensures { result ≡ is_heeded self.now.state from body.now }
+    {
+        match body {
+            Body::NewBallot(ballot, _, _, _) => self.joined < *ballot,
+            Body::Join(ballot, previous) => self.may_join(*ballot, *previous),
+            Body::State(ballot, log) => self.waits_for(*ballot, log.as_slice().len() as u64),
+            Body::Install(ballot, log) => {
+                self.lacks(*ballot, log.as_slice().len() as u64) || self.holds(*ballot)
+            }
+            Body::Installed(ballot, _) => self.waits_for_answer(from, *ballot),
+            Body::Activate(_) => false,
+            Body::Activated(ballot) => self.may_begin(*ballot),
+            Body::Superseded(ballot) => self.installs(*ballot),
+            Body::Append(ballot, place, _) => {
+                self.follows(*ballot) && *place <= self.log.len() as u64
+            }
+            Body::Held(ballot, held) => self.leads(*ballot) && self.learns(from, *held),
+            Body::Commit(ballot, held) => self.follows(*ballot) && self.may_apply(*held),
+        }
+    }
+
+    // Whether a primary learns something new of a member, or has something to commit then.
+    fn learns(&self, from: u8, held: u64) -> bool
+        ensures { result ≡ (rises from held self.now.state.progress
+            || nat_lt self.now.state.committed
+            (least (length self.now.state.log) (raised from held self.now.state.progress))) }
+    {
+        would_rise(from, held, &self.progress)
+            || self.committed < least_raised(self.log.len() as u64, from, held, &self.progress)
+    }
+
+    // Whether the log has so many places, of which some are not applied.
+    fn may_apply(&self, held: u64) -> bool
+        ensures { result ≡ (nat_le held (length self.now.state.log)
+            && nat_lt self.now.state.committed held) }
+    {
+        held <= self.log.len() as u64 && self.committed < held
+    }
+
+    /// Whether a tick would say anything.
+    pub fn speaks(&self) -> bool
+        ensures { (result ≡ false) ↔
+            (replica_step (rules_by M.opening M.start_of M.after M.gives) self.now.state Ticks
+            ≡ nothing_done M.Output self.now.state) }
+    {
+        self.would_say()
+    }
+
+    // What each role says again.
+    fn would_say(&self) -> bool
+        ensures { result ≡ says_again self.now.state self.now.state.role }
+    {
+        match self.role {
+            Role::Backup => false,
+            Role::Fetching => !self.previous_members.as_slice().is_empty(),
+            Role::Installing => true,
+            Role::Active => !self.progress.is_empty(),
+        }
+    }
+}
+
+// Whether a member is known to hold less than this.
+fn would_rise(member: u8, held: u64, progress: &[Progress]) -> bool
+    ensures { result ≡ rises member held progress.now }
+{
+    progress
+        .iter()
+        .any(|reached| reached.member == member && reached.held < held)
+}

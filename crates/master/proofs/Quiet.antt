@@ -1,0 +1,148 @@
+-- Quiet.antt: events that need no memory are done exactly.
+use Rattle.std.proofs.Common.{◌≡◌, ℕ, zero, suc, ◌+◌, ◌-◌, ◌<◌, ◌⊎◌, inl, inr, Bool, true, false, List, [], ◌∷◌, ◌++◌, length, set, Some, None, Option, refl, ap, sym, ◌∙◌, subst, arith}
+use Rattle.std.specs.Prelude.{slice_get, nat_lt, ◌&&◌}
+use Rattle.std.proofs.lemmas.Bool.{and_parts, both_ways, ltb-true}
+use Rattle.std.proofs.lemmas.List.{append-nil, length-append}
+use Rattle.machine.specs.Machine.{Rules}
+use Rattle.ballot.specs.Effect.{Effect}
+use Rattle.ballot.specs.Message.{Message}
+use Rattle.ballot.specs.Losses.{halted}
+use Rattle.ballot.specs.Protocol.{Input, replica_step}
+use Rattle.ballot.specs.Protocol.Input.{Receives, Proposes, Ticks}
+use Rattle.ballot.specs.Replica.{ReplicaState, is_active}
+use Rattle.ballot.specs.Sending.{Outcome, nothing_done}
+use Rattle.ballot.specs.Serving.{added, most_places}
+use Rattle.ballot.proofs.StepRows.{added-log, proposed-adds}
+use Rattle.agreement.specs.MasterState.{MasterOutcome}
+use Rattle.agreement.specs.Past.{Moment}
+use Rattle.agreement.specs.World.{World, moved}
+use Rattle.master.specs.declared.event.Event.{Event}
+use Rattle.master.specs.declared.event.Event.TheVariants.{Deliver, Tick, Crash}
+use Rattle.master.specs.Group.{GroupState}
+use Rattle.master.specs.Exact.{NodeTurn, Turn, behind, can_take, turn}
+use Rattle.master.specs.Exact.Turn.{by_node, by_master, unheeded}
+use Rattle.master.specs.Inside.{RunsAt}
+use Rattle.master.specs.Steps.{StepsBy, TakesNoMemory, done_exactly}
+use Rattle.master.specs.Steps.TakesNoMemory.{comes_to_nobody, goes_unheeded, does_nothing, stops_a_node}
+use Rattle.master.proofs.Counting.{delivers_turn, some_idle, stops_turn, takes_turn}
+
+-- an event that changes nothing is done by doing nothing
+same_moment : {S C O : Type 0} (rules : Rules S C O) (old : GroupState S C O) (event : Event C) (x : Option (Turn S C O)) →
+    turn rules old.moment event ≡ x → behind old.moment x ≡ old.moment → old ≡ done_exactly rules old event
+same_moment {S = S} {C = C} {O = O} rules old event x e f =
+    ap (λ (a : Moment S C O). let z : GroupState S C O = record { moment = a; losses = old.losses } in z)
+    (sym f ∙ ap (behind old.moment) (sym e))
+
+pub exactly_none : {S C O : Type 0} (rules : Rules S C O) (old : GroupState S C O) (event : Event C) →
+    turn rules old.moment event ≡ None → old ≡ done_exactly rules old event
+exactly_none rules old event e = same_moment rules old event None e refl
+
+pub exactly_unheeded : {S C O : Type 0} (rules : Rules S C O) (old : GroupState S C O) (event : Event C) →
+    turn rules old.moment event ≡ Some unheeded → old ≡ done_exactly rules old event
+exactly_unheeded rules old event e = same_moment rules old event (Some unheeded) e refl
+
+set_same : {X : Type 0} (xs : List X) (n : ℕ) (x : X) → slice_get xs n ≡ Some x → set xs n x ≡ xs
+set_same [] n x e = cc
+set_same (y ∷ xs) zero x e = let f : y ≡ x = cc in ap (λ z. z ∷ xs) (sym f)
+set_same (y ∷ xs) (suc n) x e = ap (λ zs. y ∷ zs) (set_same xs n x e)
+
+moved_same : {S C O : Type 0} (w : World S C O) (n : ℕ) (r : ReplicaState S C) → slice_get w.nodes n ≡ Some r → moved w n r [] ≡ w
+moved_same {S = S} {C = C} {O = O} w n r stands =
+    ap (λ xs. let z : World S C O = record { nodes = xs; sent = w.sent ++ []; left = w.left ++ [] } in z) (set_same w.nodes n r stands)
+    ∙ ap (λ xs. let z : World S C O = record { nodes = w.nodes; sent = xs; left = w.left ++ [] } in z) (append-nil w.sent)
+    ∙ ap (λ xs. let z : World S C O = record { nodes = w.nodes; sent = w.sent; left = xs } in z) (append-nil w.left)
+
+-- a node that does nothing by the protocol
+pub exactly_nothing : {S C O : Type 0} (rules : Rules S C O) (old : GroupState S C O) (event : Event C) (n : ℕ) (r : ReplicaState S C) (o : Outcome S C O) →
+    turn rules old.moment event ≡ Some (by_node (record { place = n; before = r; outcome = o })) →
+    slice_get old.moment.world.nodes n ≡ Some r → o ≡ nothing_done O r → old ≡ done_exactly rules old event
+exactly_nothing {S = S} {C = C} {O = O} rules old event n r o e stands nothing =
+    same_moment rules old event _ e
+    (ap (λ (p : Outcome S C O). let z : Moment S C O = record old.moment { world = moved old.moment.world n p.state p.effects } in z) nothing
+    ∙ ap (λ (w : World S C O). let z : Moment S C O = record old.moment { world = w } in z) (moved_same old.moment.world n r stands))
+
+-- what is done exactly is a step
+pub steps_exactly_done : {S C O : Type 0} (rules : Rules S C O) (old new : GroupState S C O) (event : Event C) →
+    new ≡ done_exactly rules old event → StepsBy rules old event new
+steps_exactly_done {S = S} {C = C} {O = O} rules old new event e =
+    record { way = inl (ap (λ (z : GroupState S C O). z.moment) e, ap (λ (z : GroupState S C O). z.losses) e) }
+
+-- a node's turn needs no memory where it does nothing, or where the node stops
+pub node_needs : {S C O : Type 0} {P : Type 0} (rules : Rules S C O) (a : Moment S C O) (event : Event C) (t : NodeTurn S C O) →
+    turn rules a event ≡ Some (by_node t) → ((node : ℕ) → event ≡ Crash node → P) → (t.outcome ≡ nothing_done O t.before → P) →
+    TakesNoMemory rules a event → P
+node_needs rules a event t e stops nothing (comes_to_nobody f) = some_idle e f
+node_needs rules a event t e stops nothing (goes_unheeded f) = let g = sym e ∙ f in cc
+node_needs rules a event t e stops nothing (stops_a_node node f) = stops node f
+node_needs {S = S} {C = C} {O = O} rules a event t e stops nothing (does_nothing s f still) =
+    let g = sym e ∙ f in let same : t ≡ s = cc in
+    nothing (subst (λ (z : NodeTurn S C O). z.outcome ≡ nothing_done O z.before) (sym same) still)
+
+-- and one of the master needs some
+pub master_needs : {S C O : Type 0} {P : Type 0} (rules : Rules S C O) (a : Moment S C O) (event : Event C) (o : MasterOutcome C) →
+    turn rules a event ≡ Some (by_master o) → ((node : ℕ) → event ≡ Crash node → P) → TakesNoMemory rules a event → P
+master_needs rules a event o e stops (comes_to_nobody f) = some_idle e f
+master_needs rules a event o e stops (goes_unheeded f) = let g = sym e ∙ f in cc
+master_needs rules a event o e stops (stops_a_node node f) = stops node f
+master_needs rules a event o e stops (does_nothing s f still) = let g = sym e ∙ f in cc
+
+-- a proposal that is taken does something
+pub proposal_does : {S C O : Type 0} {P : Type 0} (rules : Rules S C O) (r : ReplicaState S C) (command : C) → can_take r (Proposes command) ≡ true →
+    replica_step rules r (Proposes command) ≡ nothing_done O r → P
+proposal_does {S = S} {C = C} {O = O} rules r command can nothing =
+    let p = and_parts (is_active r.role) (nat_lt (length r.log) most_places) can in
+    let e = ap (λ (o : Outcome S C O). length o.state.log) (sym (proposed-adds rules r command p.0 (ltb-true (length r.log) most_places p.1)) ∙ nothing) in
+    let f = ap length (added-log rules r command) in let long = length-append r.log (command ∷ []) in
+    absurd (omega (arith, e, f, long))
+
+-- a tick, where the node would say something and where not
+tick_goes : {S C O : Type 0} (rules : Rules S C O) (old : GroupState S C O) (node at : ℕ) (x : RunsAt old.moment.world.nodes node at) →
+    turn rules old.moment (Tick node) ≡ Some (by_node (record { place = at; before = x.replica; outcome = replica_step rules x.replica Ticks }))
+tick_goes rules old node at x = takes_turn rules old.moment.world node at Ticks x refl
+
+pub tick_silent : {S C O : Type 0} (rules : Rules S C O) (old : GroupState S C O) (node at : ℕ) (x : RunsAt old.moment.world.nodes node at)
+    (seen : ReplicaState S C) (speaks : Bool) → seen ≡ x.replica →
+    (speaks ≡ false → replica_step rules seen Ticks ≡ nothing_done O seen) × (replica_step rules seen Ticks ≡ nothing_done O seen → speaks ≡ false) →
+    speaks ≡ false → old ≡ done_exactly rules old (Tick node)
+tick_silent {S = S} {C = C} {O = O} rules old node at x seen speaks same exactly off =
+    exactly_nothing rules old (Tick node) at x.replica (replica_step rules x.replica Ticks) (tick_goes rules old node at x) x.stands
+    (subst (λ (r : ReplicaState S C). replica_step rules r Ticks ≡ nothing_done O r) same (exactly.0 off))
+
+pub tick_says : {S C O : Type 0} {P : Type 0} (rules : Rules S C O) (old : GroupState S C O) (node at : ℕ) (x : RunsAt old.moment.world.nodes node at)
+    (seen : ReplicaState S C) (speaks : Bool) → seen ≡ x.replica →
+    (speaks ≡ false → replica_step rules seen Ticks ≡ nothing_done O seen) × (replica_step rules seen Ticks ≡ nothing_done O seen → speaks ≡ false) →
+    speaks ≡ true → TakesNoMemory rules old.moment (Tick node) → P
+tick_says {S = S} {C = C} {O = O} rules old node at x seen speaks same exactly on =
+    node_needs rules old.moment (Tick node) _ (tick_goes rules old node at x) (λ n f. cc)
+    (λ f. absurd (both_ways speaks (exactly.1 (subst (λ (r : ReplicaState S C). replica_step rules r Ticks ≡ nothing_done O r) (sym same) f)) on))
+
+-- a message that comes to a node, where it would do something and where not
+pub message_passed : {S C O : Type 0} (rules : Rules S C O) (old : GroupState S C O) (k at : ℕ) (x : ℕ × Message C) → slice_get old.moment.world.sent k ≡ Some x →
+    (y : RunsAt old.moment.world.nodes x.0 at) (seen : ReplicaState S C) (heeds : Bool) → seen ≡ y.replica →
+    (heeds ≡ false → replica_step rules seen (Receives x.1) ≡ nothing_done O seen) × (replica_step rules seen (Receives x.1) ≡ nothing_done O seen → heeds ≡ false) →
+    heeds ≡ false → old ≡ done_exactly rules old (Deliver k)
+message_passed {S = S} {C = C} {O = O} rules old k at x found y seen heeds same exactly off =
+    exactly_nothing rules old (Deliver k) at y.replica (replica_step rules y.replica (Receives x.1)) (delivers_turn rules old.moment k at x x.1 found refl y) y.stands
+    (subst (λ (r : ReplicaState S C). replica_step rules r (Receives x.1) ≡ nothing_done O r) same (exactly.0 off))
+
+pub message_heeded : {S C O : Type 0} {P : Type 0} (rules : Rules S C O) (old : GroupState S C O) (k at : ℕ) (x : ℕ × Message C) → slice_get old.moment.world.sent k ≡ Some x →
+    (y : RunsAt old.moment.world.nodes x.0 at) (seen : ReplicaState S C) (heeds : Bool) → seen ≡ y.replica →
+    (heeds ≡ false → replica_step rules seen (Receives x.1) ≡ nothing_done O seen) × (replica_step rules seen (Receives x.1) ≡ nothing_done O seen → heeds ≡ false) →
+    heeds ≡ true → TakesNoMemory rules old.moment (Deliver k) → P
+message_heeded {S = S} {C = C} {O = O} rules old k at x found y seen heeds same exactly on =
+    node_needs rules old.moment (Deliver k) _ (delivers_turn rules old.moment k at x x.1 found refl y) (λ n f. cc)
+    (λ f. absurd (both_ways heeds (exactly.1 (subst (λ (r : ReplicaState S C). replica_step rules r (Receives x.1) ≡ nothing_done O r) (sym same) f)) on))
+
+-- a node that stops
+pub exactly_stopped : {S C O : Type 0} (rules : Rules S C O) (old new : GroupState S C O) (node at : ℕ) (x : RunsAt old.moment.world.nodes node at) →
+    new ≡ record { moment = record old.moment { world = moved old.moment.world at (halted rules x.replica) [] }; losses = old.losses } →
+    new ≡ done_exactly rules old (Crash node)
+exactly_stopped {S = S} {C = C} {O = O} rules old new node at x e =
+    e ∙ ap (λ (a : Moment S C O). let z : GroupState S C O = record { moment = a; losses = old.losses } in z)
+    (ap (behind old.moment) (sym (stops_turn rules old.moment.world.nodes node at x)))
+
+-- the same event by another name
+pub quiet_as : {S C O : Type 0} (rules : Rules S C O) (old new : GroupState S C O) (e event : Event C) → event ≡ e →
+    (TakesNoMemory rules old.moment e → new ≡ done_exactly rules old e) → TakesNoMemory rules old.moment event → new ≡ done_exactly rules old event
+quiet_as {C = C} rules old new e event same quiet =
+    subst (λ (x : Event C). TakesNoMemory rules old.moment x → new ≡ done_exactly rules old x) (sym same) quiet
