@@ -1,0 +1,90 @@
+-- What a node reads is taken into its log.
+use Rattle.std.proofs.Common.{◌≡◌, Bool, true, false, ◌&&◌, nat_lt, List, [], ◌∷◌, ◌++◌, length, refl, ap, ◌∙◌}
+use Rattle.std.specs.List.{fold}
+use Rattle.packet.specs.Spelling.{spelling}
+use Rattle.ballot.specs.Effect.{Effect}
+use Rattle.ballot.specs.Effect.TheVariants.{To, Out}
+use Rattle.ballot.specs.Replica.{CountedReplica, ReplicaState, is_active}
+use Rattle.ballot.specs.Sending.{Outcome}
+use Rattle.ballot.specs.Serving.{most_places, proposed}
+use Rattle.ballot.proofs.StepRows.{added-log}
+use Rattle.broker_base.specs.State.{State}
+use Rattle.broker_base.specs.Command.{Command}
+use Rattle.broker_base.specs.Output.{Output}
+use Rattle.broker_base.specs.Output.TheVariants as outputs
+use Rattle.broker_base.specs.Connection.{ConnectionName}
+use Rattle.world_base.specs.declared.item.Port.{Port}
+use Rattle.world_base.specs.declared.connection.Connection.{Connection}
+use Rattle.world_base.specs.Connections.{asked, left_with, closed, putting}
+use Rattle.world_base.specs.Core.{CoreState, rules, serves}
+use Rattle.world_base.specs.Reading.{changes}
+use Rattle.world_base.specs.Turns.{moved, served, proposes, has_room, changes_named}
+use Rattle.node_model.specs.Moves.Moves.{hears, opens_one, holds, reads_first, reads_later, closes, refuses, loses_one, crashes, settles, hands}
+use Rattle.node_model.specs.Ends.{ReadsAreTaken}
+use Rattle.node_model.proofs.Kept.{left_true}
+
+right_true : (a b : Bool) → (a && b) ≡ true → b ≡ true
+right_true true b e = e
+right_true false b e = absurd cc
+
+proposed_log : (r : ReplicaState State Command) (command : Command) → is_active r.role ≡ true → nat_lt (length r.log) most_places ≡ true
+    → (proposed rules r command).state.log ≡ r.log ++ command ∷ []
+unfolding proposed
+proposed_log r command active room = rw (active, room) (added-log rules r command)
+
+-- outputs leave the replica as it is
+named_replica : (name : ConnectionName) (f : Connection → Connection) (core : CoreState) → (changes_named name f core).replica ≡ core.replica
+unfolding changes_named
+named_replica name f core = refl
+
+served_replica : (core : CoreState) (e : Effect Command Output) → (served core e).replica ≡ core.replica
+served_replica core (Out place (outputs.Send name packet)) = named_replica name (putting (spelling packet)) core
+served_replica core (Out place (outputs.Close name)) = named_replica name closed core
+served_replica core (To receiver message) = refl
+
+fold_replica : (core : CoreState) (effects : List (Effect Command Output)) → (fold served core effects).replica ≡ core.replica
+fold_replica core [] = refl
+fold_replica core (e ∷ effects) = fold_replica (served core e) effects ∙ served_replica core e
+
+moved_log : (outcome : Outcome State Command Output) (core : CoreState) → (moved outcome core).core.replica.state.log ≡ outcome.state.log
+moved_log outcome core =
+    ap (λ (r : CountedReplica State Command). r.state.log)
+    (fold_replica (let k : CoreState = record core { replica = record core.replica { state = outcome.state } } in k) outcome.effects)
+
+proposes_log : (command : Command) (core : CoreState) → has_room core ≡ true → (proposes command core).core.replica.state.log ≡ core.replica.state.log ++ command ∷ []
+unfolding proposes
+proposes_log command core room =
+    let serving : serves core ≡ true = left_true (serves core) (nat_lt (length core.replica.state.log) most_places) room in
+    let active : is_active core.replica.state.role ≡ true = left_true (is_active core.replica.state.role) _ serving in
+    rw serving
+    (moved_log (proposed rules core.replica.state command) core
+    ∙ proposed_log core.replica.state command active (right_true (serves core) (nat_lt (length core.replica.state.log) most_places) room))
+
+changed_replica : (port : Port) (f : Connection → Connection) (core : CoreState) → (changes port f core).replica ≡ core.replica
+unfolding changes
+changed_replica port f core = refl
+
+-- a command is taken behind a change of a connection
+taken_behind : (command : Command) (core between : CoreState) → between.replica ≡ core.replica → has_room core ≡ true
+    → (proposes command between).core.replica.state.log ≡ core.replica.state.log ++ command ∷ []
+taken_behind command core between same room =
+    proposes_log command between (ap room_of same ∙ room) ∙ ap (λ (r : CountedReplica State Command). r.state.log ++ command ∷ []) same
+  where
+    room_of : CountedReplica State Command → Bool
+    room_of r = has_room (let k : CoreState = record { replica = r; accepted = 0; connections = [] } in k)
+
+pub reads_are_taken : ReadsAreTaken
+reads_are_taken core turn (reads_first port c connect rest at first is room) read =
+    taken_behind _ core (changes port asked (changes port (left_with rest) core))
+    (changed_replica port asked (changes port (left_with rest) core) ∙ changed_replica port (left_with rest) core) room
+reads_are_taken core turn (reads_later port c packet rest at later is room) read =
+    taken_behind _ core (changes port (left_with rest) core) (changed_replica port (left_with rest) core) room
+reads_are_taken core turn (hears input other) read = absurd cc
+reads_are_taken core turn (opens_one port) read = absurd cc
+reads_are_taken core turn (holds port piece) read = absurd cc
+reads_are_taken core turn (closes port) read = absurd cc
+reads_are_taken core turn (refuses port c code at first is) read = absurd cc
+reads_are_taken core turn (loses_one port c at proposed) read = absurd cc
+reads_are_taken core turn crashes read = absurd cc
+reads_are_taken core turn settles read = absurd cc
+reads_are_taken core turn (hands port) read = absurd cc

@@ -1,0 +1,134 @@
+-- One connection as its node has it, by its name: what is read off it and proposed, of all that its client writes.
+use Rattle.std.specs.Prelude.{◌≡◌, ◌≤◌, ◌<◌, ℕ, suc, Bool, true, false, if◌then◌else◌, List, [], ◌∷◌, ◌++◌, length, filter, Option, Some, None}
+use Rattle.std.specs.List.{find}
+use Rattle.packet.specs.declared.packet.Packet.{Packet}
+use Rattle.broker_base.specs.Connection.{ConnectionName, same_connection}
+use Rattle.broker_base.specs.Command.{Command}
+use Rattle.broker_base.specs.Command.TheVariants as commands
+use Rattle.ballot.specs.Config.{Config}
+use Rattle.lists.specs.Lists.{Each, IsPrefixOf}
+use Rattle.cutter.specs.Stream.{Stream}
+use Rattle.pipes.specs.Pipe.{Joins, IsPiped}
+use Rattle.story.specs.Story.{command_of, is_packet_of}
+use Rattle.world_base.specs.declared.connection.Connection.{Connection}
+use Rattle.world_base.specs.Connections.{is_first, is_open_named}
+use Rattle.world_base.specs.Core.{CoreState, Turn, opening_core}
+use Rattle.world_base.specs.Reading.{open_at}
+use Rattle.node_model.specs.Moves.Moves.{hears, opens_one, holds, reads_first, reads_later, closes, refuses, loses_one, crashes, settles, hands}
+use Rattle.node_model.specs.Moves.{Moves, Runs}
+use Rattle.node_model.specs.Moves.Runs.{rests, goes_on}
+
+-- ---- a node's connections
+
+-- the open connection of a name
+abbrev pub open_named : ConnectionName → CoreState → Option Connection
+open_named x core = find (is_open_named x) core.connections
+
+-- at most one of a list passes
+abbrev pub AtMostOne : {X : Type 0} → (X → Bool) → List X → Type 0
+AtMostOne test [] = Unit {0}
+AtMostOne test (c ∷ cs) = (test c ≡ true → Each (λ d. test d ≡ false) cs) × AtMostOne test cs
+
+-- a name is had by one connection at most, and has no number that the node did not give yet
+pub record IsOrderly (core : CoreState) : Type 0 where
+  pub names : (x : ConnectionName) → AtMostOne (λ (c : Connection). same_connection c.name x) core.connections
+  pub given : Each (λ (c : Connection). c.name.count ≤ core.accepted) core.connections
+
+-- ---- what a move is for one connection
+
+-- the command that it proposes
+abbrev pub proposal_of : {core : CoreState} {turn : Turn} → Moves core turn → List Command
+proposal_of (hears input is) = []
+proposal_of (opens_one port) = []
+proposal_of (holds port piece) = []
+proposal_of (reads_first port c connect rest at first is room) = commands.Connect c.name connect.client connect.clean ∷ []
+proposal_of (reads_later port c packet rest at later is room) = commands.Packet c.name packet ∷ []
+proposal_of (closes port) = []
+proposal_of (refuses port c code at first is) = []
+proposal_of (loses_one port c at proposed) = commands.Lost c.name ∷ []
+proposal_of crashes = []
+proposal_of settles = []
+proposal_of (hands port) = []
+
+-- the bytes that come on the connection of a name
+abbrev pub piece_on : ConnectionName → List ℕ → Option Connection → List ℕ
+piece_on x piece None = []
+piece_on x piece (Some c) = if same_connection c.name x then piece else []
+
+abbrev pub came_on : ConnectionName → {core : CoreState} {turn : Turn} → Moves core turn → List ℕ
+came_on x {core = core} (holds port piece) = piece_on x piece (open_at port core)
+came_on x _ = []
+
+-- ---- the connection
+
+-- what a node holds of a connection is the stream of a cutter that met no fault
+abbrev pub stream_of : List ℕ → Stream
+stream_of unread = record { held = unread; failed = false }
+
+abbrev pub is_nothing : List Packet → Bool
+is_nothing [] = true
+is_nothing (p ∷ ps) = false
+
+-- Of the packets that its client writes these were read, and these bytes are still to come: the node has not given the
+-- name yet, or has the connection open, or it is closed.
+pub data IsEnd (x : ConnectionName) (core : CoreState) (written read : List Packet) (under_way : List ℕ) : Type 0 where
+  not_yet : core.accepted < x.count → read ≡ [] → IsPiped written [] (stream_of []) under_way → IsEnd x core written read under_way
+  is_open : (c : Connection) → x.count ≤ core.accepted → open_named x core ≡ Some c → is_first c.stage ≡ is_nothing read →
+      IsPiped written read (stream_of c.unread) under_way → IsEnd x core written read under_way
+  is_over : x.count ≤ core.accepted → open_named x core ≡ None → IsPrefixOf read written → IsEnd x core written read under_way
+
+-- the commands of a connection's packets from this place on
+abbrev pub commands_of : ConnectionName → ℕ → List Packet → List Command
+commands_of x n [] = []
+commands_of x n (p ∷ more) = command_of x n p ∷ commands_of x (suc n) more
+
+-- What more is read in a move: the next of the packets that were written, each of which is proposed under the name, and
+-- nothing else is.
+pub record ReadsOn (x : ConnectionName) {core : CoreState} {turn : Turn} (m : Moves core turn) (written read : List Packet) (later : List ℕ) : Type 0 where
+  pub more : List Packet
+  pub end : IsEnd x turn.core written (read ++ more) later
+  pub proposed : filter (λ command. is_packet_of command x) (proposal_of m) ≡ commands_of x (length read) more
+
+-- so it is of each connection in each move, and the node's connections stay in order
+abbrev pub NodesReadInOrder : Type 0
+NodesReadInOrder = (core : CoreState) (turn : Turn) (m : Moves core turn) → IsOrderly core → IsOrderly turn.core
+    × ((x : ConnectionName) (written read : List Packet) (under_way later : List ℕ) → IsEnd x core written read under_way →
+    under_way ≡ came_on x m ++ later → ReadsOn x m written read later)
+
+-- ---- all that a node ever does
+
+-- the commands that it proposes, in order, and the bytes that come on the connection of a name
+abbrev pub proposals_of : {core : CoreState} {turn : Turn} → Runs core turn → List Command
+proposals_of rests = []
+proposals_of (goes_on m run) = proposal_of m ++ proposals_of run
+
+abbrev pub bytes_on : ConnectionName → {core : CoreState} {turn : Turn} → Runs core turn → List ℕ
+bytes_on x rests = []
+bytes_on x (goes_on m run) = came_on x m ++ bytes_on x run
+
+-- The client of a connection writes packets, and of their bytes, joined, some came and some are still to come. Then what
+-- the node proposed under the name are the commands of a beginning of those packets, each once and in their order.
+pub record Proposes (x : ConnectionName) (core : CoreState) (proposals : List Command) (written : List Packet) (later : List ℕ) : Type 0 where
+  pub read : List Packet
+  pub end : IsEnd x core written read later
+  pub front : IsPrefixOf read written
+  pub proposed : filter (λ command. is_packet_of command x) proposals ≡ commands_of x 0 read
+
+-- so it is in each run of a node from its opening on, and of each name that a connection can have
+abbrev pub NodesProposeInOrder : Type 0
+NodesProposeInOrder = (id : ℕ) (config : Config) (turn : Turn) (run : Runs (opening_core id config) turn) (x : ConnectionName)
+    (written : List Packet) (later : List ℕ) → 0 < x.count → Joins written (bytes_on x run ++ later) → Proposes x turn.core (proposals_of run) written later
+
+-- ---- what is read is taken
+
+-- whether a move reads a packet
+abbrev pub is_read : {core : CoreState} {turn : Turn} → Moves core turn → Bool
+is_read (reads_first port c connect rest at first is room) = true
+is_read (reads_later port c packet rest at later is room) = true
+is_read _ = false
+
+-- Each packet that is read stands in the node's log at once, behind all that stood there: so none is read behind one
+-- that was not taken.
+abbrev pub ReadsAreTaken : Type 0
+ReadsAreTaken = (core : CoreState) (turn : Turn) (m : Moves core turn) → is_read m ≡ true →
+    turn.core.replica.state.log ≡ core.replica.state.log ++ proposal_of m

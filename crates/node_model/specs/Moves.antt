@@ -1,0 +1,84 @@
+-- What a node does in a step, move by move: each of its steps is a run of these.
+use Rattle.std.specs.Prelude.{◌≡◌, ℕ, Bool, true, false, List, [], ◌∷◌, ◌++◌, Some, Ok, Err}
+use Rattle.packet.specs.Stop.TheVariants as stops
+use Rattle.packet.specs.RefusalCode.{RefusalCode}
+use Rattle.packet.specs.declared.packet.Packet.{Packet}
+use Rattle.packet.specs.declared.packet.Packet.TheVariants as packets
+use Rattle.packet.specs.declared.connect.Connect.{Connect}
+use Rattle.packet.specs.Verdict.{verdict}
+use Rattle.ballot.specs.Protocol.{Input}
+use Rattle.ballot.specs.Protocol.Input.{Receives, Proposes, Ticks}
+use Rattle.broker_base.specs.Command.{Command}
+use Rattle.broker_base.specs.Command.TheVariants as commands
+use Rattle.world_base.specs.declared.item.Port.{Port}
+use Rattle.world_base.specs.declared.item.Item.{Item}
+use Rattle.world_base.specs.declared.connection.Connection.{Connection}
+use Rattle.world_base.specs.Connections.{is_first, is_proposed, asked, holding, left_with, closed}
+use Rattle.world_base.specs.Core.{CoreState, Turn}
+use Rattle.world_base.specs.Handing.{hands_over}
+use Rattle.world_base.specs.Reading.{changes, open_at, refused}
+use Rattle.world_base.specs.Step.{node_step, opens, settled, crashed}
+use Rattle.world_base.specs.Turns.{quiet, proposes, drives, has_room}
+
+-- what a client's packets do not do to a replica
+abbrev pub is_proposal : Input Command → Bool
+is_proposal (Receives message) = false
+is_proposal (Proposes command) = true
+is_proposal Ticks = false
+
+pub data Moves (core : CoreState) : Turn → Type 0 where
+  -- the replica hears a message or a tick, and what it gives is done
+  hears : (input : Input Command) → is_proposal input ≡ false → Moves core (drives input core)
+  -- a connection is opened
+  opens_one : (port : Port) → Moves core (quiet (opens port core))
+  -- bytes come in on an open connection
+  holds : (port : Port) (piece : List ℕ) → Moves core (quiet (changes port (holding piece) core))
+  -- the first packet of an open connection, a CONNECT, is read and proposed; the log has room for it
+  reads_first : (port : Port) (c : Connection) (connect : Connect) (rest : List ℕ) → open_at port core ≡ Some c → is_first c.stage ≡ true →
+      verdict c.unread ≡ Ok (packets.Connect connect, rest) → has_room core ≡ true →
+      Moves core (proposes (commands.Connect c.name connect.client connect.clean) (changes port asked (changes port (left_with rest) core)))
+  -- so is each later one
+  reads_later : (port : Port) (c : Connection) (packet : Packet) (rest : List ℕ) → open_at port core ≡ Some c → is_first c.stage ≡ false →
+      verdict c.unread ≡ Ok (packet, rest) → has_room core ≡ true →
+      Moves core (proposes (commands.Packet c.name packet) (changes port (left_with rest) core))
+  -- a connection is closed, and nothing more is read off it
+  closes : (port : Port) → Moves core (quiet (changes port closed core))
+  -- .. with an answer, where its first packet is a CONNECT that is refused with a code
+  refuses : (port : Port) (c : Connection) (code : RefusalCode) → open_at port core ≡ Some c → is_first c.stage ≡ true →
+      verdict c.unread ≡ Err (stops.Refused code) → Moves core (quiet (changes port (refused code) core))
+  -- .. and the broker is to hear that it is lost, where its Connect was proposed
+  loses_one : (port : Port) (c : Connection) → open_at port core ≡ Some c → is_proposed c.stage ≡ true →
+      Moves core (proposes (commands.Lost c.name) (changes port closed core))
+  -- the node crashes
+  crashes : Moves core (quiet (crashed core))
+  -- where it serves clients no more all connections are closed; closed ones with nothing to hand over are gone
+  settles : Moves core (quiet (settled core))
+  -- what was put out for a port is handed over
+  hands : (port : Port) → Moves core (quiet (hands_over port core))
+
+-- a turn, and another behind it
+abbrev pub and_then : Turn → Turn → Turn
+and_then first next = record { core = next.core; messages = first.messages ++ next.messages }
+
+-- moves one behind the other
+pub data Runs : CoreState → Turn → Type 0 where
+  rests : {core : CoreState} → Runs core (quiet core)
+  goes_on : {core : CoreState} {first next : Turn} → Moves core first → Runs first.core next → Runs core (and_then first next)
+
+-- what a node does at the wish of others: it takes an item, or hands over what was put out for a port
+pub data Deed : Type 0 where
+  takes : Item → Deed
+  gives : Port → Deed
+
+abbrev pub done : Deed → CoreState → Turn
+done (takes item) core = node_step item core
+done (gives port) core = quiet (hands_over port core)
+
+-- one deed behind the other
+abbrev pub all_done : List Deed → CoreState → Turn
+all_done [] core = quiet core
+all_done (deed ∷ deeds) core = and_then (done deed core) (all_done deeds (done deed core).core)
+
+-- all that a node ever does is such a run
+abbrev pub DeedsAreMoves : Type 0
+DeedsAreMoves = (deeds : List Deed) (core : CoreState) → Runs core (all_done deeds core)

@@ -1,0 +1,28 @@
+// Laws of what a node does. The calls do nothing; their contracts are the laws.
+
+ghost use Rattle.node_model.specs.Ends.{NodesProposeInOrder, NodesReadInOrder, ReadsAreTaken};
+ghost use Rattle.node_model.specs.Moves.{DeedsAreMoves};
+
+/// All that a node does, its steps and the handing over of bytes, is a run of a few moves: what it reads of a client it
+/// proposes, and nothing else; what its replica gives is done at once.
+pub fn deeds_are_moves()
+    ensures { DeedsAreMoves }
+{}
+
+/// In each move, on each connection, a node reads the next packets that the client writes, or none, and proposes just
+/// these under the connection's name, the CONNECT first; and no two of its connections have one name (MQTT 3.1, 4.6).
+pub fn nodes_read_in_order()
+    ensures { NodesReadInOrder }
+{}
+
+/// From its opening on a node proposes under the name of a connection the commands of a beginning of what the client writes
+/// on it, each once and in order, however the bytes are cut and whatever else happens.
+pub fn nodes_propose_in_order()
+    ensures { NodesProposeInOrder }
+{}
+
+/// Each packet that a node reads stands in its log at once, behind all that stood there; so it reads none behind one that
+/// its log did not take.
+pub fn reads_are_taken()
+    ensures { ReadsAreTaken }
+{}

@@ -1,0 +1,7 @@
+//! What a node does, in the terms of the model of clients and nodes: all it does as moves, and what these are for one of its
+//! connections. Its functions do nothing; their contracts are the laws.
+#![tactic(auto)]
+
+mod laws;
+
+pub use laws::{deeds_are_moves, nodes_propose_in_order, nodes_read_in_order, reads_are_taken};
