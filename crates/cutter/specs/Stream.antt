@@ -3,7 +3,7 @@ use Rattle.std.specs.Prelude.{◌≡◌, ◌≢◌, ℕ, Bool, true, false, List
 use Rattle.topics.specs.declared.malformed.MalformedKind.TheVariants as kinds
 use Rattle.packet.specs.Stop.TheVariants as stops
 use Rattle.packet.specs.Spelling.{Spells, IsPacket}
-use Rattle.packet.specs.Verdict.{verdict}
+use Rattle.packet.specs.Verdict.{verdict, MayWantMemory}
 use Rattle.packet.specs.declared.packet.Packet.{Packet}
 use Rattle.packet.specs.declared.error.DecodeFault.{DecodeFault}
 use Rattle.packet.specs.declared.error.DecodeFault.TheVariants as faults
@@ -45,5 +45,6 @@ Takes old (Ok None) new =
     (old.failed ≡ false) × (verdict old.held ≡ Err stops.More) × (new ≡ old)
 Takes old (Err (errors.Decode fault)) new =
     (old.failed ≡ false) × IsFault fault old.held × (new ≡ record old { failed = true })
-Takes old (Err errors.Memory) new = (old.failed ≡ false) × (new ≡ old)
+Takes old (Err errors.Memory) new =
+    (old.failed ≡ false) × (new ≡ old) × MayWantMemory old.held
 Takes old (Err errors.Failed) new = (old.failed ≡ true) × (new ≡ old)

@@ -1,6 +1,6 @@
 // Taking packets from the front of a stream.
 
-ghost use Rattle.std.specs.Prelude.{◌≡◌, ◌++◌, ◌↔◌, [], true, false, length, OnOk, OnErr, IsErrOf};
+ghost use Rattle.std.specs.Prelude.{◌≡◌, ◌++◌, ◌<◌, ◌↔◌, [], true, false, length, OnOk, OnErr, IsErrOf};
 ghost use Rattle.cutter.specs.Stream.{Takes};
 
 use crate::error::CutError;
@@ -46,14 +46,15 @@ impl Cutter {
         self.held.len()
     }
 
-    /// Takes in the next piece of the stream. After `Memory` nothing has changed; `Failed` comes
-    /// exactly behind a fault of the stream.
+    /// Takes in the next piece of the stream. After `Memory`, which a piece without bytes never gets,
+    /// nothing has changed; `Failed` comes exactly behind a fault of the stream.
     pub fn feed(&mut self, piece: &[u8]) -> Result<(), CutError>
         ensures ok { OnOk result
             (self.new ≡ record self.old { held = self.old.held ++ piece.now }) }
         ensures failed { IsErrOf result CutError.Failed ↔ (self.old.failed ≡ true) }
         ensures fault { OnErr result (self.new ≡ self.old) }
         ensures memory { (self.old.failed ≡ false) → OnErr result (IsErrOf result CutError.Memory) }
+        ensures nothing { IsErrOf result CutError.Memory → 0 < length piece.now }
     {
         if self.failed {
             return Err(CutError::Failed);
@@ -63,7 +64,8 @@ impl Cutter {
     }
 
     /// Takes the next packet, where the whole of it came. A fault of the stream is answered once,
-    /// and `Failed` from then on; after `Memory` nothing has changed.
+    /// and `Failed` from then on; after `Memory`, which only comes where `decode` asks for memory,
+    /// nothing has changed.
     pub fn next(&mut self) -> Result<Option<Packet>, CutError>
         ensures { Takes self.old result self.new }
     {

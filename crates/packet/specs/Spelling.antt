@@ -1,9 +1,9 @@
 -- The bytes of a packet (MQTT 2, 3).
-use Rattle.std.specs.Prelude.{◌≡◌, ℕ, ◌<◌, ◌≤◌, List, [], ◌∷◌, ◌++◌, length}
+use Rattle.std.specs.Prelude.{◌≡◌, ℕ, ◌+◌, ◌<◌, ◌≤◌, List, [], ◌∷◌, ◌++◌, length}
 use Rattle.packet_base.specs.declared.header.Header.{Header}
 use Rattle.packet_base.specs.declared.header.Header.TheVariants as headers
 use Rattle.packet_base.specs.Header.{first_byte}
-use Rattle.packet_base.specs.Spelling.{IsLength, IsId, number, remaining_length}
+use Rattle.packet_base.specs.Spelling.{IsLength, IsId, number, remaining_length, length_bytes}
 use Rattle.packet.specs.declared.packet.Packet.{Packet}
 use Rattle.packet.specs.declared.packet.Packet.TheVariants as packets
 use Rattle.packet.specs.Connect.{connect, FitsConnect}
@@ -57,6 +57,10 @@ Spells p bytes =
 -- the bytes of a packet: the one list of bytes that spells it
 unfoldable pub spelling : Packet → List ℕ
 spelling p = first_byte (header p) ∷ remaining_length (length (body p)) ++ body p
+
+-- how many bytes that are: the first one, those of the Remaining Length, and the body's
+abbrev pub spelled_len : Packet → ℕ
+spelled_len p = 1 + length_bytes (length (body p)) + length (body p)
 
 -- each field is in its range, as it is in every packet of a program
 abbrev pub Fits : Packet → Type 0

@@ -1,12 +1,12 @@
 -- What bytes begin with: a packet, less than one, or the first fault from the left.
-use Rattle.std.specs.Prelude.{◌≡◌, ℕ, ◌≤◌, nat_le, List, [], ◌∷◌, ◌++◌, length, take, drop, Result, Ok, Err}
+use Rattle.std.specs.Prelude.{◌≡◌, ℕ, ◌≤◌, nat_le, Bool, true, false, is_ok, List, [], ◌∷◌, ◌++◌, length, take, drop, Result, Ok, Err}
 use Rattle.topics.specs.declared.malformed.MalformedKind.TheVariants as kinds
 use Rattle.packet_base.specs.declared.stop.Stop.{Stop}
 use Rattle.packet_base.specs.declared.stop.Stop.TheVariants as stops
 use Rattle.packet_base.specs.declared.header.Header.{Header}
 use Rattle.packet_base.specs.declared.header.Header.TheVariants as headers
 use Rattle.packet_base.specs.Header.{header_of}
-use Rattle.packet_base.specs.Reading.{◌>>=◌, ◌>>◌, check, ended, length_at}
+use Rattle.packet_base.specs.Reading.{◌>>=◌, ◌>>◌, check, ended, length_at, id_at, topic_at}
 use Rattle.packet_base.specs.Outcome.{StopsBy}
 use Rattle.packet.specs.declared.packet.Packet.{Packet}
 use Rattle.packet.specs.declared.packet.Packet.TheVariants as packets
@@ -60,6 +60,30 @@ verdict (first ∷ bytes) = do
 -- less than a packet, which more bytes may complete
 abbrev pub IsUnfinished : List ℕ → Type 0
 IsUnfinished bytes = verdict bytes ≡ Err stops.More
+
+-- Whether memory is asked for, and so whether what comes before is right: all of a CONNECT, the topic
+-- of a PUBLISH, the identifier of a packet with a list. No other packet has a text or a list.
+abbrev pub asks_in_body : Header → List ℕ → Bool
+asks_in_body headers.Connect body = is_ok (connect_of body)
+asks_in_body (headers.Publish flags retain) body = is_ok (topic_at body)
+asks_in_body headers.Subscribe body = is_ok (id_at body)
+asks_in_body headers.Suback body = is_ok (id_at body)
+asks_in_body headers.Unsubscribe body = is_ok (id_at body)
+asks_in_body header body = false
+
+-- the same behind a first byte and a length, once the whole body is there
+unfoldable pub asks_memory : List ℕ → Result Bool Stop
+asks_memory [] = Err stops.More
+asks_memory (first ∷ bytes) = do
+  header ← header_of first
+  len ← length_at 3 bytes
+  check (nat_le len.0 longest_body) (stops.Malformed kinds.TooLarge)
+  check (nat_le len.0 (length len.1)) stops.More
+  Ok (asks_in_body header (take len.0 len.1))
+
+-- memory may be wanting for the packet at the front
+abbrev pub MayWantMemory : List ℕ → Type 0
+MayWantMemory bytes = asks_memory bytes ≡ Ok true
 
 -- the answer of `decode` is the verdict, but that memory may be wanting
 abbrev pub Decodes : List ℕ → Result Step DecodeFault → Type 0

@@ -1,7 +1,7 @@
 // CONNACK: the server's answer to a CONNECT (MQTT 3.2).
 
 ghost use Rattle.std.specs.Prelude.{◌≡◌, ◌+◌, ◌≤◌, ◌++◌, length, min, vec_len, vec_capacity};
-ghost use Rattle.packet_base.specs.Outcome.{Gives};
+ghost use Rattle.packet_base.specs.Outcome.{Gives, TakesNoMemory};
 ghost use Rattle.packet.specs.Connack.{connack, connack_of, answer_of};
 
 use packet_base::{Reader, RefusalCode, Stop, put_byte};
@@ -20,7 +20,8 @@ impl Connack {
     // Reads a body.
     #[tactic(auto, unfolding(crate::specs::Connack::connack_of))]
     pub(crate) fn read(body: &mut Reader) -> Result<Connack, Stop>
-        ensures { Gives (λ x. x) result (connack_of body.old) }
+        ensures exact { Gives (λ x. x) result (connack_of body.old) }
+        ensures memory { TakesNoMemory result }
     {
         let present = body.byte()?;
         let code = body.byte()?;
@@ -56,7 +57,8 @@ impl Connack {
 
 // The two bytes of a body.
 fn answer(present: u8, code: u8) -> Result<Connack, Stop>
-    ensures { result ≡ answer_of present code }
+    ensures exact { result ≡ answer_of present code }
+    ensures memory { TakesNoMemory result }
 {
     match (present, code) {
         (0, 0) => Ok(Connack::Accepted(false)),

@@ -1,7 +1,7 @@
 // CONNECT: a client asks for a connection (MQTT 3.1).
 
-ghost use Rattle.std.specs.Prelude.{◌≡◌, ◌+◌, ◌≤◌, ◌++◌, length, min, vec_len, vec_capacity, IfOk};
-ghost use Rattle.packet_base.specs.Outcome.{Gives};
+ghost use Rattle.std.specs.Prelude.{◌≡◌, ◌+◌, ◌≤◌, ◌++◌, length, min, vec_len, vec_capacity, IfOk, IsOk};
+ghost use Rattle.packet_base.specs.Outcome.{Gives, WantsMemory};
 ghost use Rattle.packet.specs.Connect.{connect, connect_of, FitsConnect};
 
 use crate::client_id::{ClientId, has_client_length};
@@ -34,7 +34,8 @@ impl Connect {
     // Reads a body.
     #[tactic(auto, unfolding(crate::specs::Connect::connect_of), using(crate::proofs::Clients::client_checked))]
     pub(crate) fn read(alloc: Global, body: &mut Reader) -> Result<Connect, Stop>
-        ensures { Gives (λ x. x) result (connect_of body.old) }
+        ensures exact { Gives (λ x. x) result (connect_of body.old) }
+        ensures memory { WantsMemory result → IsOk (connect_of body.old) }
     {
         if !body.skip(&PROTOCOL) {
             return Err(Stop::Malformed(MalformedKind::Protocol));

@@ -1,8 +1,8 @@
 // Reading the packet at the front of a slice.
 
-ghost use Rattle.std.specs.Prelude.{◌≤◌, length, drop, ◌∷◌, IfOk};
-ghost use Rattle.packet_base.specs.Outcome.{Gives};
-ghost use Rattle.packet.specs.Verdict.{verdict, Decodes, IsWithin, IsSpelledSo, ReadsWhatIsSpelled};
+ghost use Rattle.std.specs.Prelude.{◌≤◌, length, drop, ◌∷◌, IfOk, IsErrOf};
+ghost use Rattle.packet_base.specs.Outcome.{Gives, WantsMemory};
+ghost use Rattle.packet.specs.Verdict.{verdict, Decodes, IsWithin, IsSpelledSo, ReadsWhatIsSpelled, MayWantMemory};
 
 use crate::error::DecodeFault;
 use crate::packet::{MAX_REMAINING, Packet};
@@ -24,7 +24,9 @@ pub enum Step {
 /// The first fault from the left is answered: `PacketType`, `Qos` or `Flags` of the first byte,
 /// `Length` of the Remaining Length, `TooLarge` where it is over 1,048,572; then, once the whole
 /// body is there, `Protocol`, `Text`, `Identifier`, `Shape` and `Refused` of its fields in their
-/// order. `Memory` may come in place of a packet.
+/// order. `Memory` may come once the whole body is there, and only in a packet with a text or a list:
+/// behind all fields of a CONNECT, the topic of a PUBLISH, the identifier of SUBSCRIBE, SUBACK and
+/// UNSUBSCRIBE.
 pub fn decode(alloc: Global, bytes: &[u8]) -> Result<Step, DecodeFault>
     ensures exact { Decodes bytes.now result }
     ensures within { IfOk result (IsWithin bytes.now) }
@@ -32,6 +34,9 @@ pub fn decode(alloc: Global, bytes: &[u8]) -> Result<Step, DecodeFault>
     // What is read is spelled so, and what is spelled is read.
     ensures found { IfOk result (IsSpelledSo bytes.now) }
     ensures only { ReadsWhatIsSpelled bytes.now result }
+
+    // Memory is wanting only where it is asked for.
+    ensures memory { IsErrOf result (DecodeFault.Malformed MalformedKind.Memory) → MayWantMemory bytes.now }
 {
     front_step(alloc, bytes)
 }
@@ -41,6 +46,7 @@ pub fn decode(alloc: Global, bytes: &[u8]) -> Result<Step, DecodeFault>
 fn front_step(alloc: Global, bytes: &[u8]) -> Result<Step, DecodeFault>
     ensures exact { Decodes bytes.now result }
     ensures within { IfOk result (IsWithin bytes.now) }
+    ensures memory { IsErrOf result (DecodeFault.Malformed MalformedKind.Memory) → MayWantMemory bytes.now }
 {
     match bytes {
         [] => Ok(Step::More),
@@ -54,10 +60,11 @@ fn front_step(alloc: Global, bytes: &[u8]) -> Result<Step, DecodeFault>
 }
 
 // The packet of a first byte and what stands behind it, and how many bytes it takes of these.
-#[tactic(auto, unfolding(crate::specs::Verdict::verdict))]
+#[tactic(auto, unfolding(crate::specs::Verdict::verdict, crate::specs::Verdict::asks_memory))]
 fn front_packet(alloc: Global, first: u8, behind: &[u8]) -> Result<(Packet, usize), Stop>
     ensures exact { Gives (λ x. (x.0, drop x.1 behind.now)) result (verdict (first ∷ behind.now)) }
     ensures within { IfOk result (λ x. x.1 ≤ length behind.now) }
+    ensures memory { WantsMemory result → MayWantMemory (first ∷ behind.now) }
 {
     let header = Header::of(first)?;
     let (len, rest) = take_length(behind)?;

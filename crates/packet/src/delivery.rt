@@ -1,7 +1,7 @@
 // How a PUBLISH is delivered.
 
 ghost use Rattle.std.specs.Prelude.{◌≡◌, ◌+◌, ◌≤◌, ◌++◌, length, vec_len, vec_capacity};
-ghost use Rattle.packet_base.specs.Outcome.{Reads};
+ghost use Rattle.packet_base.specs.Outcome.{Reads, TakesNoMemory};
 ghost use Rattle.packet.specs.Delivery.{
   delivery_flags,
   delivery_id,
@@ -63,7 +63,8 @@ impl Delivery {
     // Reads the identifier that these flags ask for.
     #[tactic(auto, unfolding(crate::specs::Delivery::delivery_at))]
     pub(crate) fn read(flags: DeliveryFlags, body: &mut Reader) -> Result<Delivery, Stop>
-        ensures { Reads (λ x. x) result body.new (delivery_at flags body.old) }
+        ensures exact { Reads (λ x. x) result body.new (delivery_at flags body.old) }
+        ensures memory { TakesNoMemory result }
     {
         match flags {
             DeliveryFlags::AtMostOnce => Ok(Delivery::AtMostOnce),

@@ -1,7 +1,7 @@
 // Writing a packet at the end of a vector.
 
-ghost use Rattle.std.specs.Prelude.{◌≡◌, ◌↔◌, OnOk, OnErr, IsErrOf};
-ghost use Rattle.packet.specs.Spelling.{IsListed, IsTooLarge, IsPacket, AppendsSpelling};
+ghost use Rattle.std.specs.Prelude.{◌≡◌, ◌≢◌, ◌↔◌, ◌+◌, ◌≤◌, Err, OnOk, OnErr, IsErrOf, vec_len, vec_capacity};
+ghost use Rattle.packet.specs.Spelling.{IsListed, IsTooLarge, IsPacket, AppendsSpelling, spelled_len};
 
 use crate::error::EncodeFault;
 use crate::packet::{MAX_REMAINING, Packet};
@@ -9,7 +9,7 @@ use packet_base::{length_size, put_byte, put_length};
 
 /// Writes the spelling of a packet at the end of the vector. `TooLarge` comes exactly where the
 /// body has more than 1,048,572 bytes, and before any memory is asked for; `Memory` where the
-/// vector could not grow. After an error it holds what it held.
+/// vector had no room and could not grow. After an error it holds what it held.
 pub fn encode(packet: &Packet, out: &mut Vec<u8>) -> Result<(), EncodeFault>
     requires listed { IsListed packet.now }
     ensures ok { OnOk result (AppendsSpelling out.old.items out.new.items packet.now) }
@@ -18,6 +18,10 @@ pub fn encode(packet: &Packet, out: &mut Vec<u8>) -> Result<(), EncodeFault>
     // Memory aside, a packet is refused exactly where it is too large.
     ensures large { IsErrOf result EncodeFault.TooLarge ↔ IsTooLarge packet.now }
     ensures err { OnErr result (out.new.items ≡ out.old.items) }
+
+    // No memory is taken where the vector has the room.
+    ensures room { vec_len out.old + spelled_len packet.now ≤ vec_capacity out.old
+        → result ≢ Err EncodeFault.Memory }
 {
     packet.known();
     let len = packet.body_len();

@@ -2,7 +2,7 @@
 // UNSUBACK (MQTT 3.4 to 3.7, 3.11).
 
 ghost use Rattle.std.specs.Prelude.{◌≡◌};
-ghost use Rattle.packet_base.specs.Outcome.{Gives};
+ghost use Rattle.packet_base.specs.Outcome.{Gives, TakesNoMemory};
 ghost use Rattle.packet.specs.IdAlone.{id_alone_of};
 
 use packet_base::{PacketId, Reader, Stop};
@@ -10,7 +10,8 @@ use packet_base::{PacketId, Reader, Stop};
 // Reads a body.
 #[tactic(auto, unfolding(crate::specs::IdAlone::id_alone_of))]
 pub(crate) fn read_id_alone(body: &mut Reader) -> Result<PacketId, Stop>
-    ensures { Gives (λ x. x) result (id_alone_of body.old) }
+    ensures exact { Gives (λ x. x) result (id_alone_of body.old) }
+    ensures memory { TakesNoMemory result }
 {
     let id = body.id()?;
     body.end()?;

@@ -11,12 +11,13 @@ ghost use Rattle.std.specs.Prelude.{
   vec_len,
   vec_capacity,
   IsTrue,
+  true,
   IfOk,
 };
-ghost use Rattle.packet_base.specs.Outcome.{Gives};
+ghost use Rattle.packet_base.specs.Outcome.{Gives, TakesNoMemory, WantsMemory};
 ghost use Rattle.packet_base.specs.Spelling.{IsId};
 ghost use Rattle.packet.specs.Spelling.{header, body, Fits, IsListed, IsTooLarge};
-ghost use Rattle.packet.specs.Verdict.{body_of, empty_of};
+ghost use Rattle.packet.specs.Verdict.{body_of, empty_of, asks_in_body};
 
 use crate::connack::Connack;
 use crate::connect::Connect;
@@ -135,7 +136,8 @@ impl Packet {
 
     // Reads the body of a packet whose first byte says this.
     pub(crate) fn read(alloc: Global, header: Header, body: &mut Reader) -> Result<Packet, Stop>
-        ensures { Gives (λ x. x) result (body_of header body.old) }
+        ensures exact { Gives (λ x. x) result (body_of header body.old) }
+        ensures memory { WantsMemory result → asks_in_body header body.old ≡ true }
     {
         Ok(match header {
             Header::Connect => Packet::Connect(Connect::read(alloc, body)?),
@@ -208,7 +210,8 @@ fn known_id(id: PacketId)
 
 // A packet whose body is empty.
 fn empty(packet: Packet, body: &mut Reader) -> Result<Packet, Stop>
-    ensures { Gives (λ x. x) result (empty_of packet body.old) }
+    ensures exact { Gives (λ x. x) result (empty_of packet body.old) }
+    ensures memory { TakesNoMemory result }
 {
     body.end()?;
     Ok(packet)

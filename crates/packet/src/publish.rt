@@ -9,8 +9,10 @@ ghost use Rattle.std.specs.Prelude.{
   min,
   vec_len,
   vec_capacity,
+  IsOk,
 };
-ghost use Rattle.packet_base.specs.Outcome.{Gives};
+ghost use Rattle.packet_base.specs.Outcome.{Gives, WantsMemory};
+ghost use Rattle.packet_base.specs.Reading.{topic_at};
 ghost use Rattle.packet.specs.Publish.{publish, publish_of, FitsPublish};
 
 use crate::delivery::Delivery;
@@ -42,7 +44,8 @@ impl Publish {
         retain: bool,
         body: &mut Reader,
     ) -> Result<Publish, Stop>
-        ensures { Gives (λ x. x) result (publish_of flags retain body.old) }
+        ensures exact { Gives (λ x. x) result (publish_of flags retain body.old) }
+        ensures memory { WantsMemory result → IsOk (topic_at body.old) }
     {
         let topic = body.topic(alloc)?;
         let delivery = Delivery::read(flags, body)?;

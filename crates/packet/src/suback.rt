@@ -9,8 +9,10 @@ ghost use Rattle.std.specs.Prelude.{
   min,
   vec_len,
   vec_capacity,
+  IsOk,
 };
-ghost use Rattle.packet_base.specs.Outcome.{Gives};
+ghost use Rattle.packet_base.specs.Outcome.{Gives, WantsMemory};
+ghost use Rattle.packet_base.specs.Reading.{id_at};
 ghost use Rattle.packet.specs.Suback.{
   granted_number,
   granted,
@@ -94,7 +96,8 @@ impl Suback {
     // Reads a body.
     #[tactic(auto, unfolding(crate::specs::Suback::suback_of))]
     pub(crate) fn read(alloc: Global, body: &mut Reader) -> Result<Suback, Stop>
-        ensures { Gives (λ x. x) result (suback_of body.old) }
+        ensures exact { Gives (λ x. x) result (suback_of body.old) }
+        ensures memory { WantsMemory result → IsOk (id_at body.old) }
     {
         let id = body.id()?;
         let codes = PacketList::read(alloc, body)?;

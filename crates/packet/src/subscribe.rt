@@ -9,8 +9,10 @@ ghost use Rattle.std.specs.Prelude.{
   min,
   vec_len,
   vec_capacity,
+  IsOk,
 };
-ghost use Rattle.packet_base.specs.Outcome.{Gives};
+ghost use Rattle.packet_base.specs.Outcome.{Gives, WantsMemory};
+ghost use Rattle.packet_base.specs.Reading.{id_at};
 ghost use Rattle.packet.specs.Subscribe.{
   subscription,
   subscription_at,
@@ -89,7 +91,8 @@ impl Subscribe {
     // Reads a body.
     #[tactic(auto, unfolding(crate::specs::Subscribe::subscribe_of))]
     pub(crate) fn read(alloc: Global, body: &mut Reader) -> Result<Subscribe, Stop>
-        ensures { Gives (λ x. x) result (subscribe_of body.old) }
+        ensures exact { Gives (λ x. x) result (subscribe_of body.old) }
+        ensures memory { WantsMemory result → IsOk (id_at body.old) }
     {
         let id = body.id()?;
         let filters = PacketList::read(alloc, body)?;

@@ -1,5 +1,6 @@
--- How the outcome of a call agrees with what reading gives. Want of memory may come at any time.
-use Rattle.std.specs.Prelude.{◌≡◌, ℕ, List, Result, Ok, Err}
+-- How the outcome of a call agrees with what reading gives. Want of memory may come in place of that,
+-- but where a clause of its own says when.
+use Rattle.std.specs.Prelude.{◌≡◌, ◌≢◌, ℕ, List, Result, Ok, Err}
 use Rattle.topics.specs.declared.malformed.MalformedKind.TheVariants as kinds
 use Rattle.packet_base.specs.declared.stop.Stop.{Stop}
 use Rattle.packet_base.specs.declared.stop.Stop.TheVariants as stops
@@ -21,3 +22,11 @@ abbrev pub Reads : {X Y : Type 0} → (X → Y) → Result X Stop → List ℕ
     → Result (Y × List ℕ) Stop → Type 0
 Reads view (Ok x) rest read = read ≡ Ok (view x, rest)
 Reads view (Err stop) rest read = StopsBy stop read
+
+-- memory was wanting
+abbrev pub WantsMemory : {X : Type 0} → Result X Stop → Type 0
+WantsMemory result = result ≡ Err (stops.Malformed kinds.Memory)
+
+-- no memory is asked for, so none is wanting
+abbrev pub TakesNoMemory : {X : Type 0} → Result X Stop → Type 0
+TakesNoMemory result = result ≢ Err (stops.Malformed kinds.Memory)

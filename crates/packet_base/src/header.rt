@@ -1,6 +1,7 @@
 // The first byte of a packet.
 
 ghost use Rattle.std.specs.Prelude.{◌≡◌};
+ghost use Rattle.packet_base.specs.Outcome.{TakesNoMemory};
 ghost use Rattle.packet_base.specs.Header.{
   header_of,
   first_byte,
@@ -74,7 +75,8 @@ impl Header {
     /// `Qos`, and one of QoS 0 with DUP `Flags`; for another type flags that are not its own
     /// answer `Flags`.
     pub fn of(first: u8) -> Result<Header, Stop>
-        ensures { result ≡ header_of first }
+        ensures exact { result ≡ header_of first }
+        ensures memory { TakesNoMemory result }
     {
         let flags = first % 16;
         match first / 16 {
@@ -121,7 +123,8 @@ impl Header {
 
 // A type whose flags are always the same.
 fn plain(header: Header, wanted: u8, flags: u8) -> Result<Header, Stop>
-    ensures { result ≡ plain_header header wanted flags }
+    ensures exact { result ≡ plain_header header wanted flags }
+    ensures memory { TakesNoMemory result }
 {
     if flags == wanted {
         return Ok(header);
@@ -131,7 +134,8 @@ fn plain(header: Header, wanted: u8, flags: u8) -> Result<Header, Stop>
 
 // The flags of a PUBLISH: DUP, two bits of QoS, RETAIN.
 fn publish(flags: u8) -> Result<Header, Stop>
-    ensures { result ≡ publish_header flags }
+    ensures exact { result ≡ publish_header flags }
+    ensures memory { TakesNoMemory result }
 {
     let dup = flags > 7;
     let retain = flags % 2 == 1;

@@ -1,6 +1,6 @@
 // A cursor over the bytes of a packet.
 
-ghost use Rattle.std.specs.Prelude.{◌≡◌, ◌<◌, true, IfOk, IsTrue, ◌==◌, nat_eq, length, drop};
+ghost use Rattle.std.specs.Prelude.{◌≡◌, ◌<◌, true, IfOk, IsOk, IsTrue, ◌==◌, nat_eq, length, drop};
 ghost use Rattle.std.specs.List.{starts_with};
 ghost use Rattle.packet_base.specs.Reading.{
   topic_at,
@@ -14,7 +14,7 @@ ghost use Rattle.packet_base.specs.Reading.{
   ended,
   is_text,
 };
-ghost use Rattle.packet_base.specs.Outcome.{Gives, Reads};
+ghost use Rattle.packet_base.specs.Outcome.{Gives, Reads, TakesNoMemory, WantsMemory};
 ghost use Rattle.packet_base.specs.Inside.{name_of, pattern_of};
 
 use crate::packet_id::PacketId;
@@ -74,7 +74,8 @@ impl<'a> Reader<'a> {
 
     /// The next byte.
     pub fn byte(&mut self) -> Result<u8, Stop>
-        ensures { Reads (λ x. x) result self.new (byte_at self.old) }
+        ensures exact { Reads (λ x. x) result self.new (byte_at self.old) }
+        ensures memory { TakesNoMemory result }
     {
         match self.rest {
             [] => Err(Stop::Malformed(MalformedKind::Shape)),
@@ -87,7 +88,8 @@ impl<'a> Reader<'a> {
 
     /// The next `len` bytes.
     pub fn front(&mut self, len: usize) -> Result<&'a [u8], Stop>
-        ensures { Reads (λ x. x.now) result self.new (front_at len self.old) }
+        ensures exact { Reads (λ x. x.now) result self.new (front_at len self.old) }
+        ensures memory { TakesNoMemory result }
     {
         let bytes = self.rest;
         if bytes.len() < len {
@@ -101,7 +103,8 @@ impl<'a> Reader<'a> {
     /// A number of two bytes, the high one first (MQTT 1.5.2).
     #[tactic(auto, unfolding(crate::specs::Reading::number_at))]
     pub fn number(&mut self) -> Result<u16, Stop>
-        ensures { Reads (λ x. x) result self.new (number_at self.old) }
+        ensures exact { Reads (λ x. x) result self.new (number_at self.old) }
+        ensures memory { TakesNoMemory result }
     {
         let front = self.front(2)?;
         Ok(u16::from_be_bytes([front[0], front[1]]))
@@ -110,7 +113,8 @@ impl<'a> Reader<'a> {
     /// A Packet Identifier; zero is `Identifier` (MQTT 2.3.1).
     #[tactic(auto, unfolding(crate::specs::Reading::id_at))]
     pub fn id(&mut self) -> Result<PacketId, Stop>
-        ensures { Reads (λ x. x) result self.new (id_at self.old) }
+        ensures exact { Reads (λ x. x) result self.new (id_at self.old) }
+        ensures memory { TakesNoMemory result }
     {
         let number = self.number()?;
         if number == 0 {
@@ -125,6 +129,7 @@ impl<'a> Reader<'a> {
     pub fn text(&mut self) -> Result<&'a str, Stop>
         ensures exact { Reads (λ x. x.now) result self.new (text_at self.old) }
         ensures checked { IfOk result (λ x. is_text x.now ≡ true) }
+        ensures memory { TakesNoMemory result }
     {
         let len = self.number()?;
         let bytes = self.front(usize::from(len))?;
@@ -135,7 +140,10 @@ impl<'a> Reader<'a> {
     /// `TooDeep` (MQTT 4.7).
     #[tactic(auto, unfolding(crate::specs::Reading::topic_at, crate::specs::Reading::text_at), using(crate::proofs::Texts::topic_ends))]
     pub fn topic(&mut self, alloc: Global) -> Result<TopicName, Stop>
-        ensures { Reads (λ x. x) result self.new (topic_at self.old) }
+        ensures exact { Reads (λ x. x) result self.new (topic_at self.old) }
+
+        // Memory may be wanting for a text without a fault only.
+        ensures memory { WantsMemory result → IsOk (topic_at self.old) }
     {
         let len = self.number()?;
         let bytes = self.front(usize::from(len))?;
@@ -146,7 +154,10 @@ impl<'a> Reader<'a> {
     /// `TooDeep` (MQTT 4.7.1).
     #[tactic(auto, unfolding(crate::specs::Reading::filter_at, crate::specs::Reading::text_at), using(crate::proofs::Texts::filter_ends))]
     pub fn filter(&mut self, alloc: Global) -> Result<Filter, Stop>
-        ensures { Reads (λ x. x) result self.new (filter_at self.old) }
+        ensures exact { Reads (λ x. x) result self.new (filter_at self.old) }
+
+        // Memory may be wanting for a text without a fault only.
+        ensures memory { WantsMemory result → IsOk (filter_at self.old) }
     {
         let len = self.number()?;
         let bytes = self.front(usize::from(len))?;
@@ -162,7 +173,8 @@ impl<'a> Reader<'a> {
 
     /// Bytes that are left over are `Shape`.
     pub fn end(&self) -> Result<(), Stop>
-        ensures { Gives (λ x. x) result (ended self.now) }
+        ensures exact { Gives (λ x. x) result (ended self.now) }
+        ensures memory { TakesNoMemory result }
     {
         if self.rest.is_empty() {
             return Ok(());
@@ -176,6 +188,7 @@ impl<'a> Reader<'a> {
 fn checked_text(bytes: &[u8]) -> Result<&str, Stop>
     ensures exact { Gives (λ x. x.now) result (text_of bytes.now) }
     ensures checked { IfOk result (λ x. is_text x.now ≡ true) }
+    ensures memory { TakesNoMemory result }
 {
     let Ok(text) = std::str::from_utf8(bytes) else {
         return Err(Stop::Malformed(MalformedKind::Text));
@@ -189,7 +202,8 @@ fn checked_text(bytes: &[u8]) -> Result<&str, Stop>
 // The bytes as a Topic Name. That U+0000 does not stand in them is left to the name's own checks.
 #[tactic(auto, using(crate::proofs::Texts::name_tests))]
 fn topic_name(alloc: Global, bytes: &[u8]) -> Result<TopicName, Stop>
-    ensures { Gives (λ x. x) result (name_of bytes.now) }
+    ensures exact { Gives (λ x. x) result (name_of bytes.now) }
+    ensures memory { WantsMemory result → IsOk (name_of bytes.now) }
 {
     let Ok(text) = std::str::from_utf8(bytes) else {
         return Err(Stop::Malformed(MalformedKind::Text));
@@ -200,7 +214,8 @@ fn topic_name(alloc: Global, bytes: &[u8]) -> Result<TopicName, Stop>
 // The bytes as a Topic Filter. That U+0000 does not stand in them is left to its own checks.
 #[tactic(auto, using(crate::proofs::Texts::pattern_tests))]
 fn topic_filter(alloc: Global, bytes: &[u8]) -> Result<Filter, Stop>
-    ensures { Gives (λ x. x) result (pattern_of bytes.now) }
+    ensures exact { Gives (λ x. x) result (pattern_of bytes.now) }
+    ensures memory { WantsMemory result → IsOk (pattern_of bytes.now) }
 {
     let Ok(text) = std::str::from_utf8(bytes) else {
         return Err(Stop::Malformed(MalformedKind::Text));

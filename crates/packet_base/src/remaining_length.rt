@@ -3,7 +3,7 @@
 ghost use Rattle.std.specs.Prelude.{◌≡◌, ◌+◌, ◌<◌, ◌≤◌, ◌^◌, IfOk, vec_len, vec_capacity};
 ghost use Rattle.packet_base.specs.Spelling.{AppendsLength, length_bytes};
 ghost use Rattle.packet_base.specs.Reading.{length_at};
-ghost use Rattle.packet_base.specs.Outcome.{Gives};
+ghost use Rattle.packet_base.specs.Outcome.{Gives, TakesNoMemory};
 ghost use Rattle.packet_base.specs.Inside.{length_limit};
 
 use crate::stop::Stop;
@@ -15,6 +15,7 @@ use topics::MalformedKind;
 pub fn take_length(bytes: &[u8]) -> Result<(u32, &[u8]), Stop>
     ensures exact { Gives (λ x. (x.0, x.1.now)) result (length_at 3 bytes.now) }
     ensures small { IfOk result (λ x. x.0 < 2 ^ 28) }
+    ensures memory { TakesNoMemory result }
 {
     length_from(bytes, 3)
 }
@@ -25,6 +26,7 @@ fn length_from(bytes: &[u8], follow: u8) -> Result<(u32, &[u8]), Stop>
     requires { follow < 4 }
     ensures exact { Gives (λ x. (x.0, x.1.now)) result (length_at follow bytes.now) }
     ensures limit { IfOk result (λ x. x.0 < length_limit follow) }
+    ensures memory { TakesNoMemory result }
 {
     match bytes {
         [] => Err(Stop::More),

@@ -13,13 +13,13 @@ returns-clause-exact c =
     c.in_ok-header.header
     c.in_ok-len.len
     c.in_ok-packet.packet
-    (sym c.in_ok-header.ensures)
+    (sym c.in_ok-header.ensures.exact)
     c.in_ok-len.ensures.exact
     (omega arith)
     (omega arith)
     (c.new.ensures ∙ c.split_at.ensures.front)
     c.split_at.ensures.back
-    c.in_ok-packet.ensures
+    c.in_ok-packet.ensures.exact
 
 pub overflow_sub-result : goal.overflow_sub-result
 overflow_sub-result c =

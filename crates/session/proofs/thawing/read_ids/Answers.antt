@@ -7,11 +7,11 @@ use Rattle.session.proofs.thawing.read_ids.Goals as goal
 pub returns-in_err-id : goal.returns-in_err-id
 returns-in_err-id c =
     let p = err_from_is_err_and c.from_residual.result c.from_residual.ensures.1 in
-    rw (p.1, p.2) (stops_so is_above id_at c.args.count c.loop.counter c.loop.read c.loop.reader _ _ c.loop-test.true c.loop.invariant c.in_err-id.ensures)
+    rw (p.1, p.2) (stops_so is_above id_at c.args.count c.loop.counter c.loop.read c.loop.reader _ _ c.loop-test.true c.loop.invariant c.in_err-id.ensures.exact)
 
 pub loop-preserved : goal.loop-preserved
 loop-preserved c =
-    goes_on is_above id_at c.args.count c.loop.counter c.loop.read _ c.loop.reader _ _ _ c.loop-test.true c.loop.invariant c.in_ok-id.ensures
+    goes_on is_above id_at c.args.count c.loop.counter c.loop.read _ c.loop.reader _ _ _ c.loop-test.true c.loop.invariant c.in_ok-id.ensures.exact
     c.in_ok-add.ensures.0 c.in_ok-add.ensures.1
 
 pub returns : goal.returns
@@ -20,4 +20,4 @@ returns c = ends is_above id_at c.args.count c.loop.counter c.loop.read c.loop.r
 pub returns-in_err-add : goal.returns-in_err-add
 returns-in_err-add c =
     let p = err_from_is_err_and c.from_residual-in_err-add.result c.from_residual-in_err-add.ensures.1 in
-    rw (p.1, p.2) (refused_so is_above id_at c.args.count c.loop.counter c.loop.read _ c.loop.reader _ _ _ _ c.loop-test.true c.loop.invariant c.in_ok-id.ensures c.in_err-add.ensures)
+    rw (p.1, p.2) (refused_so is_above id_at c.args.count c.loop.counter c.loop.read _ c.loop.reader _ _ _ _ c.loop-test.true c.loop.invariant c.in_ok-id.ensures.exact c.in_err-add.ensures)
