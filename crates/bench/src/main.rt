@@ -9,13 +9,14 @@ mod packets;
 mod publications;
 mod retained_topics;
 mod streams;
+mod tree;
 
 use anyhow::{Result, bail};
 use std::env;
 
 /// The benchmarks, each named like its file.
-const NAMES: [&str; 6] = [
-    "granted", "inbox", "matching", "packets", "retained", "streams",
+const NAMES: [&str; 7] = [
+    "granted", "inbox", "matching", "packets", "retained", "streams", "tree",
 ];
 
 fn main(rt: HostRuntime) -> Result<()> {
@@ -43,6 +44,7 @@ fn run(rt: &HostRuntime, name: &str) -> Result<()> {
         "packets" => packets::run(rt),
         "retained" => retained_topics::run(rt),
         "streams" => streams::run(rt),
+        "tree" => tree::run(rt),
         _ => bail!("no benchmark has the name {name}"),
     }
 }

@@ -1,0 +1,130 @@
+// The index as a tree beside the one as a list: a grant, a set and a clear, over many clients with
+// 64 filters each. In processor time.
+
+ghost use Rattle.std.specs.Prelude.{◌<◌};
+
+use anyhow::{Result, bail};
+use packet::{ClientId, QoS};
+use std::alloc::Global;
+use std::time::{CpuClock, Duration};
+use subs::{ListIndex, SubIndex, TreeIndex};
+use topics::{Filter, TopicName};
+
+const FILTERS: u32 = 64;
+
+/// How many clients have one filter cleared and set again.
+const CHANGES: u32 = 1_000;
+
+/// Whose last filter matches the topic.
+#[derive(Clone, Copy, Debug)]
+enum Shape {
+    /// Each client's, by `+` at one level.
+    One,
+    /// Each client's, by `#` alone.
+    All,
+    /// That of ten clients.
+    Ten,
+}
+
+/// Prints the times of both indexes at three sizes.
+pub fn run(rt: &HostRuntime) -> Result<()> {
+    for clients in &[1_000, 4_000, 64_000] {
+        measure::<TreeIndex>(rt, "tree", Shape::One, *clients, 10)?;
+        measure::<ListIndex>(rt, "list", Shape::One, *clients, 10)?;
+        measure::<TreeIndex>(rt, "tree", Shape::All, *clients, 10)?;
+        measure::<ListIndex>(rt, "list", Shape::All, *clients, 10)?;
+        measure::<TreeIndex>(rt, "tree", Shape::Ten, *clients, 10_000)?;
+        measure::<ListIndex>(rt, "list", Shape::Ten, *clients, 10)?;
+    }
+    Ok(())
+}
+
+fn measure<I: SubIndex>(
+    rt: &HostRuntime,
+    name: &str,
+    shape: Shape,
+    clients: u32,
+    rounds: u32,
+) -> Result<()>
+    requires { 0 < rounds }
+{
+    let mut index = index_of::<I>(rt.alloc(), shape, clients)?;
+    println!(rt; "{name} {shape:?}, {clients} clients of {FILTERS} filters")?;
+    print_grant(rt, &index, rounds)?;
+    print_changes(rt, &mut index, clients)
+}
+
+fn index_of<I: SubIndex>(alloc: Global, shape: Shape, clients: u32) -> Result<I> {
+    let mut index = I::new(alloc);
+    for number in 0..clients {
+        let client = client_of(alloc, number)?;
+        for which in 0..FILTERS {
+            let filter = filter_of(alloc, shape, number, which)?;
+            index.set(&client, &filter, QoS::AtLeastOnce)?;
+        }
+    }
+    Ok(index)
+}
+
+fn client_of(alloc: Global, number: u32) -> Result<ClientId> {
+    let name = format!(in alloc; "client-{number}")?;
+    Ok(ClientId::new(alloc, name.as_str())?)
+}
+
+fn filter_of(alloc: Global, shape: Shape, number: u32, which: u32) -> Result<Filter> {
+    let text = match shape {
+        Shape::All if which == FILTERS - 1 => String::from_str(alloc, "#")?,
+        Shape::Ten if which == FILTERS - 1 && number >= 10 => {
+            String::from_str(alloc, "house/64/+/light")?
+        }
+        _ => format!(in alloc; "house/{which}/+/light")?,
+    };
+    Ok(Filter::new(alloc, text.as_str())?)
+}
+
+fn print_grant<I: SubIndex>(rt: &HostRuntime, index: &I, rounds: u32) -> Result<()>
+    requires { 0 < rounds }
+{
+    let topic = TopicName::new(rt.alloc(), "house/63/kitchen/light")?;
+    let mut rows = Vec::new(rt.alloc());
+    let start = rt.process_cpu_time()?;
+    for _ in 0..rounds {
+        rows.clear();
+        index.granted(&topic, &mut rows)?;
+    }
+    let nanos = nanos_since(rt, start)? / u128::from(rounds);
+    println!(rt; "    {} rows granted in {nanos} ns", rows.len())?;
+    Ok(())
+}
+
+/// One filter of some clients is cleared, and set again.
+fn print_changes<I: SubIndex>(rt: &HostRuntime, index: &mut I, clients: u32) -> Result<()> {
+    let filter = Filter::new(rt.alloc(), "house/7/+/light")?;
+    let some = some_clients(rt.alloc(), clients)?;
+    let start = rt.process_cpu_time()?;
+    let all = some.iter().all(|client| index.clear(client, &filter));
+    let clear = nanos_since(rt, start)? / u128::from(CHANGES);
+    if !all {
+        bail!("a client has not its filter");
+    }
+    let start = rt.process_cpu_time()?;
+    for client in &some {
+        index.set(client, &filter, QoS::AtLeastOnce)?;
+    }
+    let set = nanos_since(rt, start)? / u128::from(CHANGES);
+    println!(rt; "    one cleared in {clear} ns, set in {set} ns")?;
+    Ok(())
+}
+
+/// Clients at equal distances.
+fn some_clients(alloc: Global, clients: u32) -> Result<Vec<ClientId>> {
+    let mut some = Vec::new(alloc);
+    for number in 0..CHANGES {
+        some.push(client_of(alloc, number.saturating_mul(clients / CHANGES))?)?;
+    }
+    Ok(some)
+}
+
+fn nanos_since(rt: &HostRuntime, start: Duration) -> Result<u128> {
+    Ok(rt.process_cpu_time()?.saturating_sub(start).as_nanos())
+}
