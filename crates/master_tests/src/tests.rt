@@ -4,3 +4,4 @@ mod changes;
 mod groups;
 mod idle;
 mod losses;
+mod takeovers;
