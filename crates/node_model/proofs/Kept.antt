@@ -132,7 +132,7 @@ stays_named : (name : ConnectionName) (f : Connection → Connection) (core : Co
 unfolding changes_named
 stays_named name f core o mild = stays_changed core (changes_named name f core) (is_open_named name) f o refl refl (λ d e. left_true (live d) (named name d) e) mild
 
-stays_served : (core : CoreState) (e : Effect Command Output) → IsOrderly core → Stays core (served core e)
+pub stays_served : (core : CoreState) (e : Effect Command Output) → IsOrderly core → Stays core (served core e)
 stays_served core (Out place (outputs.Send name packet)) o = stays_named name (putting (spelling packet)) core o (putting_is_mild (spelling packet))
 stays_served core (Out place (outputs.Close name)) o = stays_named name closed core o closed_is_mild
 stays_served core (To receiver message) o = stays_same core o
@@ -169,10 +169,10 @@ neither : (a b : Bool) → (a || b) ≡ false → a ≡ false
 neither true b e = cc
 neither false b e = refl
 
-unlisted_dead : (c : Connection) → is_listed c ≡ false → live c ≡ false
+pub unlisted_dead : (c : Connection) → is_listed c ≡ false → live c ≡ false
 unlisted_dead c e = neither (live c) (not (length c.pending == 0)) e
 
-all_closed : (x : ConnectionName) (cs : List Connection) → view live (named x) (map closed cs) ≡ None
+pub all_closed : (x : ConnectionName) (cs : List Connection) → view live (named x) (map closed cs) ≡ None
 all_closed x [] = refl
 all_closed x (c ∷ cs) = all_closed x cs
 

@@ -6,3 +6,4 @@ pub mod ReadsInOrder
 pub mod Opening
 pub mod ProposesInOrder
 pub mod Taken
+pub mod PutsInOrder

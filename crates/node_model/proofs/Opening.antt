@@ -15,7 +15,7 @@ use Rattle.world_base.specs.Core.{CoreState, serves}
 use Rattle.world_base.specs.Step.{opens, next_name}
 use Rattle.node_model.specs.Ends.{AtMostOne, IsOrderly, IsEnd, open_named, stream_of, is_nothing}
 use Rattle.node_model.specs.Ends.IsEnd.{not_yet, is_open, is_over}
-use Rattle.node_model.proofs.Views.{view, none_in_view, view_other, view_new, one_more}
+use Rattle.node_model.proofs.Views.{view, some_none, none_in_view, view_other, view_new, one_more}
 use Rattle.node_model.proofs.Kept.{live, named}
 
 record IsOpened (port : Port) (core later : CoreState) : Type 0 where
@@ -123,3 +123,25 @@ opens_well port core o = by ((serves core && not (list_any (is_at port) core.con
         let h : IsOpened port core opened = record { are = refl; more = refl } in
         record { orderly = opened_orderly port core opened o h; end = λ x written read under_way end. opened_end x port core opened written read under_way o h end }
     by false = record { orderly = o; end = λ x written read under_way end. end }
+
+-- an open connection stays as it is where another is opened
+pub open_stays : (x : ConnectionName) (port : Port) (core : CoreState) (c : Connection) → IsOrderly core → open_named x core ≡ Some c
+    → open_named x (opens port core) ≡ Some c
+unfolding opens
+open_stays x port core c o there = by ((serves core && not (list_any (is_at port) core.connections)) && is_connection_name (next_name core))
+  where
+    opened : CoreState
+    opened = record core { accepted = core.accepted + 1; connections = core.connections ++ fresh port (next_name core) ∷ [] }
+
+    other : same_connection (next_name core) x ≡ false
+    other = on (cases_Bool (same_connection (next_name core) x))
+      where
+        on : (same_connection (next_name core) x ≡ true) ⊎ (same_connection (next_name core) x ≡ false) → same_connection (next_name core) x ≡ false
+        on (inl e) =
+            let below : core.accepted < x.count = subst (λ (y : ConnectionName). core.accepted < y.count) (same_name (next_name core) x e) (new_number core) in
+            absurd (some_none c (sym there ∙ none_in_view live (named x) core.connections (none_named x core o below)))
+        on (inr e) = e
+
+    by : (b : Bool) → open_named x (if b then opened else core) ≡ Some c
+    by true = view_other live (named x) core.connections (fresh port (next_name core)) other ∙ there
+    by false = there

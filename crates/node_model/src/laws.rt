@@ -2,6 +2,7 @@
 
 ghost use Rattle.node_model.specs.Ends.{NodesProposeInOrder, NodesReadInOrder, ReadsAreTaken};
 ghost use Rattle.node_model.specs.Moves.{DeedsAreMoves};
+ghost use Rattle.node_model.specs.Puts.{PutsInOrder};
 
 /// All that a node does, its steps and the handing over of bytes, is a run of a few moves: what it reads of a client it
 /// proposes, and nothing else; what its replica gives is done at once.
@@ -25,4 +26,10 @@ pub fn nodes_propose_in_order()
 /// its log did not take.
 pub fn reads_are_taken()
     ensures { ReadsAreTaken }
+{}
+
+/// On a connection that stays open a move of a node puts out the packets that its replica's outputs send to it, in their
+/// order, behind what was put out before, and nothing else.
+pub fn puts_in_order()
+    ensures { PutsInOrder }
 {}

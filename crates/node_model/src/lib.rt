@@ -4,4 +4,6 @@
 
 mod laws;
 
-pub use laws::{deeds_are_moves, nodes_propose_in_order, nodes_read_in_order, reads_are_taken};
+pub use laws::{
+    deeds_are_moves, nodes_propose_in_order, nodes_read_in_order, puts_in_order, reads_are_taken,
+};

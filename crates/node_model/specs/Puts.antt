@@ -1,0 +1,49 @@
+-- What a node puts out on a connection in a move.
+use Rattle.std.specs.Prelude.{◌≡◌, ℕ, Bool, true, false, if◌then◌else◌, List, [], ◌∷◌, ◌++◌, Some}
+use Rattle.packet.specs.declared.packet.Packet.{Packet}
+use Rattle.packet.specs.Spelling.{spelling}
+use Rattle.ballot.specs.Effect.{Effect}
+use Rattle.ballot.specs.Effect.TheVariants.{To, Out}
+use Rattle.ballot.specs.Serving.{proposed}
+use Rattle.broker_base.specs.Command.{Command}
+use Rattle.broker_base.specs.Command.TheVariants as commands
+use Rattle.broker_base.specs.Output.{Output}
+use Rattle.broker_base.specs.Connection.{ConnectionName}
+use Rattle.story.specs.Sends.{sends_to}
+use Rattle.world_base.specs.declared.connection.Connection.{Connection}
+use Rattle.world_base.specs.Core.{CoreState, Turn, rules, serves}
+use Rattle.world_base.specs.Turns.{heard}
+use Rattle.node_model.specs.Moves.{Moves}
+use Rattle.node_model.specs.Moves.Moves.{hears, reads_first, reads_later, loses_one, hands}
+use Rattle.node_model.specs.Ends.{IsOrderly, open_named}
+
+-- what its replica gives in a move
+abbrev pub given_in : {core : CoreState} {turn : Turn} → Moves core turn → List (Effect Command Output)
+given_in {core = core} (hears input is) = (heard input core.replica.state).effects
+given_in {core = core} (reads_first port c connect rest at first is room) =
+    (proposed rules core.replica.state (commands.Connect c.name connect.client connect.clean)).effects
+given_in {core = core} (reads_later port c packet rest at later is room) = (proposed rules core.replica.state (commands.Packet c.name packet)).effects
+given_in {core = core} (loses_one port c at asked) = if serves core then (proposed rules core.replica.state (commands.Lost c.name)).effects else []
+given_in _ = []
+
+-- the broker's outputs among it
+abbrev pub outputs_of : List (Effect Command Output) → List Output
+outputs_of [] = []
+outputs_of (Out place output ∷ effects) = output ∷ outputs_of effects
+outputs_of (To receiver message ∷ effects) = outputs_of effects
+
+-- packets as bytes, joined
+abbrev pub spelled : List Packet → List ℕ
+spelled [] = []
+spelled (p ∷ ps) = spelling p ++ spelled ps
+
+abbrev pub is_handing : {core : CoreState} {turn : Turn} → Moves core turn → Bool
+is_handing (hands port) = true
+is_handing _ = false
+
+-- On a connection that stays open a move puts out the packets that the outputs of this move send to it, in order, behind
+-- what was put out before; handing over aside, nothing else changes what is put out.
+abbrev pub PutsInOrder : Type 0
+PutsInOrder = (core : CoreState) (turn : Turn) (m : Moves core turn) → IsOrderly core → is_handing m ≡ false →
+    (x : ConnectionName) (c d : Connection) → open_named x core ≡ Some c → open_named x turn.core ≡ Some d →
+    d.pending ≡ c.pending ++ spelled (sends_to x (outputs_of (given_in m)))
