@@ -1,7 +1,13 @@
 -- One connection of a node over a reader and a writer.
-use Rattle.std.specs.Prelude.{◌≡◌, ◌⊎◌, ℕ, List, Option, Some, None}
+use Rattle.std.specs.Prelude.{◌≡◌, ◌⊎◌, ℕ, List, [], Option, Some, None}
 use Rattle.std.specs.Io.KnownBytes.{Appends}
 use Rattle.node_base.specs.Counted.{counted_once}
+use Rattle.world_base.specs.Command.{Command}
+use Rattle.world_base.specs.Output.{Output}
+use Rattle.world_base.specs.Effect.{Effect}
+use Rattle.world_base.specs.declared.item.Item.{Item}
+use Rattle.world_base.specs.Core.{CountedCore}
+use Rattle.world_base.specs.Losses.{Stepped}
 use Rattle.node_base.specs.Engines.{WritesBeginning, WritesShort}
 use Rattle.node.specs.declared.ending.Ending.{Ending}
 use Rattle.node.specs.declared.ending.Ending.TheVariants as endings
@@ -35,3 +41,8 @@ TellsFaults (Some endings.Stopped) r s w x = (s ≡ r) × (x ≡ w)
 TellsFaults (Some endings.ReadFault) r s w x = (s ≡ counted_once r) × (x ≡ w)
 TellsFaults (Some endings.WriteFault) r s w x =
     ((s ≡ r) ⊎ (s ≡ counted_once r)) × (x ≡ counted_once w)
+
+-- a node took an item, and what it hands out to other nodes goes nowhere
+pub record TakesAlone (old : CountedCore) (item : Item) (new : CountedCore) : Type 0 where
+  pub messages : List (Effect Command Output)
+  pub stepped : Stepped old item new [] messages

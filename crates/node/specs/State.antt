@@ -1,20 +1,39 @@
--- A node with the items that wait for it.
-use Rattle.std.specs.Prelude.{◌≡◌, ℕ, List, ◌∷◌}
+-- A node and the items that it took.
+use Rattle.std.specs.Prelude.{◌≡◌, ℕ, [], List, ◌∷◌, ◌++◌}
+use Rattle.mailbox.specs.Ends.{Taker}
 use Rattle.world_base.specs.Command.{Command}
 use Rattle.world_base.specs.Output.{Output}
 use Rattle.world_base.specs.Effect.{Effect}
 use Rattle.world_base.specs.declared.item.Item.{Item}
-use Rattle.world_base.specs.Core.{CountedCore}
+use Rattle.world_base.specs.declared.item.Port.{Port}
+use Rattle.world_base.specs.Core.{CountedCore, opening_core}
+use Rattle.world_base.specs.Handing.{hands_over}
 use Rattle.world_base.specs.Losses.{Stepped}
 
--- the items that wait, each with the lane that it came by, the oldest first, and the node
-pub record Waiting : Type 0 where
-  pub items : List (ℕ × Item)
+-- A chain from the first state of a node: one step for each item, in their order, each with the lane that it
+-- came by; in between what was put out may have been handed over.
+pub data Replays (first : CountedCore) : List (ℕ × Item) → CountedCore → Type 0 where
+  opens : Replays first [] first
+  steps : {history : List (ℕ × Item)} {core : CountedCore}
+      (taken : ℕ × Item) (next : CountedCore) (before behind : List (Effect Command Output))
+      → Replays first history core → Stepped core taken.1 next before behind
+      → Replays first (history ++ taken ∷ []) next
+  hands : {history : List (ℕ × Item)} {core : CountedCore} (port : Port)
+      → Replays first history core
+      → Replays first history (record core { core = hands_over port core.core })
+
+-- what a node shows: its inbox with all that was taken from it, and itself
+pub record Seen : Type 0 where
+  pub taker : Taker Item
   pub node : CountedCore
 
--- the first item was taken, and the node's step with it was done
-pub record TakesOne (old new : Waiting) (before behind : List (Effect Command Output)) : Type 0 where
+-- one item was taken, and the node's step with it was done
+pub record TakesOne (old new : Seen) (before behind : List (Effect Command Output)) : Type 0 where
   pub lane : ℕ
   pub item : Item
-  pub front : old.items ≡ (lane, item) ∷ new.items
+  pub taken : new.taker ≡ record old.taker { taken = old.taker.taken ++ (lane, item) ∷ [] }
   pub stepped : Stepped old.node item new.node before behind
+
+-- what a number stands for where no node was picked
+abbrev pub no_core : CountedCore
+no_core = record { core = opening_core 0 (record { members = []; primary = 0 }); losses = 0 }

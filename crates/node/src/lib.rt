@@ -1,9 +1,9 @@
-//! A node: the items that wait for a replica with its connections, the lock round both, and the
-//! engines that read and write the bytes of a connection.
+//! A node: a replica with its connections and the inbox that its items come by, and one connection
+//! over a reader and a writer.
 #![tactic(auto)]
 
 mod ending;
-mod node;
+mod naming;
 mod node_state;
 mod running;
 mod service;
@@ -11,7 +11,7 @@ mod service;
 mod tests;
 
 pub use ending::Ending;
-pub use node::Node;
+pub use naming::NodeNaming;
 pub use node_base::{Counted, PIECE_BYTES, Written};
 pub use node_state::NodeState;
 pub use running::run_connection;

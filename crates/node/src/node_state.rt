@@ -1,74 +1,70 @@
-// A node with the items that wait for it.
+// A node with its inbox.
 
-ghost use Rattle.std.specs.Prelude.{◌≡◌, ◌≤◌, ◌↔◌, ◌++◌, [], ◌∷◌, true, false, IfOk, IsErrOf, OnErr, OnOk};
-ghost use Rattle.world_base.specs.LawfulConfig.{is_lawful};
+ghost use Rattle.std.specs.Prelude.{◌≡◌, ◌≤◌, ◌++◌, [], length, take, true, false, IfOk, OnErr, OnOk};
+ghost use Rattle.mailbox.specs.Delivery.{items_of};
+ghost use Rattle.mailbox.specs.Ends.{WasEmpty};
 ghost use Rattle.world_base.specs.Replica.{status_of};
-ghost use Rattle.world_base.specs.Core.{opening_core};
 ghost use Rattle.world_base.specs.Handing.{answer_of, bytes_of, hands_over, listed_at};
-ghost use Rattle.node.specs.State.{TakesOne};
+ghost use Rattle.node.specs.State.{Replays, TakesOne};
 
-use std::alloc::Global;
-use std::collections::VecDeque;
+use crate::naming::NodeNaming;
+use mailbox::{Lane, Receiver};
 use std::marker::Model;
-use world_base::{
-    Command, Config, Effect, Handed, Item, Memory, NodeCore, OpeningError, Output, Port, Status,
-};
+use std::sync::Wait;
+use world_base::{Command, Effect, Handed, Item, Memory, NodeCore, Output, Port, Status};
 
-/// A node with the items that wait for it, each with the lane that it came by.
+/// A node with the receiver of its inbox. Whatever calls come, the node is what its first state became
+/// by one step for each item that was taken, in their order.
 #[derive(Drop)]
-pub struct NodeState {
-    items: VecDeque<(u8, Item)>,
+pub struct NodeState<J: NodeNaming> {
+    receiver: Receiver<Item, J>,
     core: NodeCore,
 }
 
-impl Model for NodeState {
-    ghost use Rattle.node.specs.State.{Waiting};
+impl<J: NodeNaming> Model for NodeState<J> {
+    ghost use Rattle.node.specs.State.{Replays, Seen};
 
-    ghost Value = { Waiting };
+    ghost Value = { Seen };
 
-    ghost view = { λ state. record { items = state.items.items; node = state.core } };
+    ghost view = { λ state. record { taker = state.receiver; node = state.core } };
+
+    ghost invariant = { λ state.
+        Replays (J.first_of state.receiver.inbox) state.receiver.taken state.core };
 }
 
-impl NodeState {
-    /// Opens node `id` in ballot 1, whose members and primary are given. No item waits.
-    pub fn new(alloc: Global, id: u8, config: &Config) -> Result<NodeState, OpeningError>
-        requires low { 1 ≤ id }
-        requires high { id ≤ 15 }
-        ensures ok { IfOk result (λ state. state ≡ record {
-          items = [];
-          node = record { core = opening_core id config.now; losses = 0 };
-        }) }
-        ensures bad { IsErrOf result OpeningError.BadMembers
-            ↔ (is_lawful config.now.members config.now.primary ≡ false) }
+impl<J: NodeNaming> NodeState<J> {
+    /// A node of whose inbox nothing was taken.
+    pub fn new(receiver: Receiver<Item, J>, core: NodeCore) -> NodeState<J>
+        requires fresh { receiver.taken ≡ [] }
+        requires first { core ≡ J.first_of receiver.inbox }
+        ensures { result ≡ record { taker = receiver; node = core } }
     {
-        Ok(NodeState {
-            items: VecDeque::new(alloc),
-            core: NodeCore::new(alloc, id, config)?,
-        })
+        NodeState { receiver, core }
     }
 
-    /// Puts an item behind those that wait. Where memory is wanting nothing changes, and the item
-    /// is gone.
-    pub fn put(&mut self, lane: u8, item: Item) -> Result<(), Memory>
-        ensures ok { OnOk result
-            (self.new ≡ record self.old { items = self.old.items ++ (lane, item) ∷ [] }) }
-        ensures err { OnErr result (self.new ≡ self.old) }
+    /// The number of its inbox.
+    pub fn number(&self) -> u8
+        ensures { result ≡ self.now.taker.inbox }
     {
-        self.items.push_back((lane, item))?;
-        Ok(())
+        self.receiver.number()
     }
 
-    /// Takes the first item that waits and does the node's step with it: whether there was one.
-    pub fn take_one(&mut self, effects: &mut Vec<Effect<Command, Output>>) -> bool
+    /// Takes the item that came first and does the node's step with it: whether there was one. There is
+    /// none only where the inbox was empty at some moment of the call.
+    pub fn take_one<R: Wait>(
+        &mut self,
+        rt: &R,
+        effects: &mut Vec<Effect<Command, Output>>,
+    ) -> bool
         ensures took { result ≡ true →
             TakesOne self.old self.new effects.old.items effects.new.items }
 
         // No item waited, and nothing changed.
-        ensures none { result ≡ false → self.old.items ≡ [] }
+        ensures empty { result ≡ false → WasEmpty self.old.taker }
         ensures same { result ≡ false → self.new ≡ self.old }
         ensures silent { result ≡ false → effects.new.items ≡ effects.old.items }
     {
-        match self.items.pop_front() {
+        match self.receiver.take(rt) {
             Some((_, item)) => {
                 self.core.step(item, effects);
                 true
@@ -77,8 +73,28 @@ impl NodeState {
         }
     }
 
+    /// How many items of a lane of this inbox were taken. The lane then knows it too.
+    pub fn meet(&mut self, lane: &mut Lane<Item, J>) -> u64
+        requires { lane.old.inbox ≡ self.old.taker.inbox }
+        ensures exact { result ≡ length (items_of lane.old.lane self.old.taker.taken) }
+
+        // They are the first that the lane sent, and no fewer than it knew.
+        ensures first { items_of lane.old.lane self.old.taker.taken ≡ take result lane.old.sent }
+        ensures known { lane.old.met ≤ result }
+
+        // The node is a replay of all that was taken.
+        ensures replays {
+            Replays (J.first_of lane.old.inbox) self.old.taker.taken self.old.node }
+
+        // Nothing was sent or taken.
+        ensures same { self.new ≡ self.old }
+        ensures lane { lane.new ≡ record lane.old { met = result } }
+    {
+        self.receiver.meet(lane)
+    }
+
     /// Appends what was put out for a port and not handed over before, and tells whether more may
-    /// come, as [`NodeCore::outgoing`]. The items that wait stay as they are.
+    /// come, as [`NodeCore::outgoing`]. Nothing is taken.
     pub fn outgoing(&mut self, port: Port, out: &mut Vec<u8>) -> Result<Handed, Memory>
         ensures bytes { OnOk result
             (out.new.items ≡ out.old.items ++ bytes_of (listed_at port self.old.node.core)) }

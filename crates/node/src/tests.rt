@@ -1,13 +1,18 @@
 // What no clause says: that items are taken while there is memory, and that a connection runs over
 // devices that may fail.
 
-use crate::{Ending, Handed, Item, Node, NodeState, Piece, Port, run_connection};
+ghost use Rattle.std.specs.Prelude.{◌≡◌};
+
+use crate::{Ending, Handed, Item, NodeNaming, NodeState, Piece, Port, run_connection};
+use mailbox::Inbox;
 use node_base::Counted;
 use std::alloc::Global;
 use std::io;
 use std::io::{Read, Write};
+use std::marker::Brand;
+use std::sync::Wait;
 use std::test::Fail;
-use world_base::{Config, Members};
+use world_base::{Config, Members, NodeCore};
 
 // Client `a`, keep alive 60, CleanSession 0.
 const CONNECT: [u8; 15] = [
@@ -68,31 +73,50 @@ impl Write for Sink {
     }
 }
 
-fn sole(alloc: Global) -> Result<NodeState, Fail> {
+fn sole(alloc: Global) -> Result<NodeCore, Fail> {
     let config = Config {
         members: Members::from_slice(alloc, &[1])?,
         primary: 1,
     };
-    Ok(NodeState::new(alloc, 1, &config)?)
+    Ok(NodeCore::new(alloc, 1, &config)?)
+}
+
+// Takes what a lane sent, one item at a time: what went out, if nothing is wrong.
+fn answer<J: NodeNaming, R: Wait>(
+    rt: &R,
+    alloc: Global,
+    inbox: Inbox<Item>,
+    core: NodeCore,
+) -> Result<Option<Vec<u8>>, Fail>
+    requires inbox { inbox ≡ J.inbox_of 1 }
+    requires first { core ≡ J.first_of 1 }
+{
+    let (receiver, mut lanes) = inbox.named::<J>(1, 1)?;
+    let mut state = NodeState::new(receiver, core);
+    let mut effects = Vec::new(alloc);
+    let mut out = Vec::new(alloc);
+    let Some(mut lane) = lanes.pop() else {
+        return Ok(None);
+    };
+    let piece = Piece::from_slice(alloc, &CONNECT)?;
+    let sent = lane.send(rt, Item::Opened(Port(1), 0)).is_ok()
+        && lane.send(rt, Item::Bytes(Port(1), piece, 0)).is_ok();
+    let taken = state.take_one(rt, &mut effects) && state.take_one(rt, &mut effects);
+    if !sent || !taken || state.take_one(rt, &mut effects) || !effects.is_empty() {
+        return Ok(None);
+    }
+    if state.outgoing(Port(1), &mut out)? != Handed::Open || state.status().held != 1 {
+        return Ok(None);
+    }
+    Ok(Some(out))
 }
 
 #[test]
 fn items_are_taken_in_their_order(rt: HostRuntime) -> Result<(), Fail> {
-    let alloc = rt.alloc();
-    let mut state = sole(alloc)?;
-    let mut effects = Vec::new(alloc);
-    let mut out = Vec::new(alloc);
-    assert!(rt; !state.take_one(&mut effects));
-    let piece = Piece::from_slice(alloc, &CONNECT)?;
-    state.put(4, Item::Opened(Port(1), 0))?;
-    state.put(4, Item::Bytes(Port(1), piece, 0))?;
-    assert!(rt; state.take_one(&mut effects));
-    assert!(rt; state.take_one(&mut effects));
-    assert!(rt; !state.take_one(&mut effects));
-    assert!(rt; effects.is_empty());
-    assert!(rt; state.outgoing(Port(1), &mut out)? == Handed::Open);
-    assert_eq!(rt; out.as_slice(), ACCEPTED.as_slice());
-    assert!(rt; state.status().held == 1 && state.losses() == 0);
+    let inbox = Inbox::new(rt.alloc())?;
+    let core = sole(rt.alloc())?;
+    let out = answer::<Brand, HostRuntime>(&rt, rt.alloc(), inbox, core)?;
+    assert!(rt; out.is_some_and(|bytes| bytes.as_slice() == ACCEPTED.as_slice()));
     Ok(())
 }
 
@@ -111,7 +135,7 @@ fn each_device_fails_in_turn(rt: HostRuntime) -> Result<(), Fail> {
         (0, 7, Ending::WriteFault, 4),
     ];
     for (bad_read, bad_write, ending, count) in rows {
-        let mut node = Node::new(sole(rt.alloc())?);
+        let mut node = sole(rt.alloc())?;
         let mut input = Counted::new(Source {
             bytes: &CONNECT,
             calls: 0,
@@ -129,7 +153,7 @@ fn each_device_fails_in_turn(rt: HostRuntime) -> Result<(), Fail> {
         let written = output.into_device().bytes;
         assert_eq!(rt; written.len(), count);
         assert!(rt; ACCEPTED.starts_with(written.as_slice()));
-        assert_eq!(rt; node.losses(&rt), 0);
+        assert_eq!(rt; node.losses(), 0);
     }
     Ok(())
 }

@@ -9,8 +9,10 @@ use std::{fmt, io};
 /// Why the program ends with another status than 0.
 #[derive(Clone, Copy, Debug, PartialEq, Eq)]
 pub enum Fault {
-    /// Another word than `two` stands on the command line, or more than one.
+    /// The command line is none that the program knows.
     Words,
+    /// The address cannot be listened on.
+    Address,
     /// Memory was wanting.
     Memory,
     /// Standard input could not be read.
@@ -26,7 +28,7 @@ impl Fault {
     {
         match self {
             Fault::Words => 2,
-            Fault::Memory | Fault::Input | Fault::Output => 1,
+            Fault::Address | Fault::Memory | Fault::Input | Fault::Output => 1,
         }
     }
 }
@@ -34,7 +36,8 @@ impl Fault {
 impl fmt::Display for Fault {
     fn fmt<W: fmt::Write>(&self, f: &mut fmt::Formatter<W>) -> fmt::Result {
         let text = match self {
-            Fault::Words => "the only argument is `two`",
+            Fault::Words => "the arguments are `serve ADDRESS`, `two` or none",
+            Fault::Address => "this address cannot be listened on",
             Fault::Memory => "out of memory",
             Fault::Input => "standard input could not be read",
             Fault::Output => "standard output could not be written",

@@ -1,20 +1,24 @@
-//! The broker as a program. For now all of standard input is one connection of node 1, and what the
-//! node puts out goes to standard output. Without a word on the command line node 1 is the sole
-//! member of ballot 1; with the word `two` node 2 is a member beside it.
+//! The broker as a program. With the words `serve ADDRESS` it serves MQTT clients over TCP until the end of
+//! its standard input. Without a word all of standard input is one connection of node 1, and what the
+//! node puts out goes to standard output; with the word `two` node 2 is a member beside it.
 #![tactic(auto)]
 
 mod fault;
 mod pair;
+mod serving;
 #[cfg(test)]
 mod tests;
 
 use fault::Fault;
-use node::{Config, Counted, Ending, Members, Node, NodeState, Service, run_connection};
+use node::{Config, Counted, Ending, Members, NodeCore, Service, run_connection};
 use pair::Pair;
 use std::alloc::Global;
+use std::net::{Net, TcpListener, TcpStream};
 use std::process::ExitCode;
 use std::rt::Env;
 use std::sync::Wait;
+use std::thread::Threads;
+use std::time::Clock;
 use std::{env, io};
 
 fn main(rt: HostRuntime) -> ExitCode {
@@ -29,25 +33,30 @@ fn main(rt: HostRuntime) -> ExitCode {
 }
 
 // Runs the program by the words of its command line.
-fn run<R: Env + Input + Print + Wait + AllocGlobal>(rt: &R) -> Result<(), Fault> {
+fn run<R>(rt: &R) -> Result<(), Fault>
+where
+    R: Env + Input + Print + Threads + Wait + Clock + Sync + AllocGlobal,
+    R: Net<Listener = TcpListener, Stream = TcpStream>,
+{
     let mut words = env::args(rt)?;
     words.next();
     let Some(word) = words.next() else {
         return serve(rt, &mut sole(rt.alloc())?);
     };
-    if word.as_str() != "two" || words.next().is_some() {
-        return Err(Fault::Words);
+    match (word.as_str(), words.next(), words.next()) {
+        ("two", None, None) => serve(rt, &mut Pair::new(rt.alloc())?),
+        ("serve", Some(address), None) => serving::run(rt, address.as_str()),
+        _ => Err(Fault::Words),
     }
-    serve(rt, &mut Pair::new(rt.alloc())?)
 }
 
 // Node 1, the sole member of ballot 1.
-fn sole(alloc: Global) -> Result<Node, Fault> {
+fn sole(alloc: Global) -> Result<NodeCore, Fault> {
     let config = Config {
         members: Members::from_slice(alloc, &[1])?,
         primary: 1,
     };
-    Ok(Node::new(NodeState::new(alloc, 1, &config)?))
+    Ok(NodeCore::new(alloc, 1, &config)?)
 }
 
 // Serves standard input and output as one connection.

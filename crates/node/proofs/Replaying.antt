@@ -1,0 +1,43 @@
+-- Replaying.antt: a replay goes on.
+use Rattle.std.proofs.Common.{◌≡◌, ℕ, List, [], ◌∷◌, ◌++◌, Ok, Err, OnOk, OnErr, sym, subst}
+use Rattle.std.specs.Prelude.{Result}
+use Rattle.mailbox.specs.Ends.{Taker}
+use Rattle.world_base.specs.Command.{Command}
+use Rattle.world_base.specs.Output.{Output}
+use Rattle.world_base.specs.Effect.{Effect}
+use Rattle.world_base.specs.declared.handed.Handed.{Handed}
+use Rattle.world_base.specs.declared.item.Item.{Item}
+use Rattle.world_base.specs.declared.item.Port.{Port}
+use Rattle.world_base.specs.Core.{CountedCore}
+use Rattle.world_base.specs.Handing.{hands_over}
+use Rattle.world_base.specs.Losses.{Stepped}
+use Rattle.node.specs.State.{Replays}
+use Rattle.node.specs.State.Replays.{opens, steps, hands}
+
+-- nothing was taken yet
+pub opened : (first_of : ℕ → CountedCore) (taker : Taker Item) (core : CountedCore) → taker.taken ≡ []
+    → core ≡ first_of taker.inbox → Replays (first_of taker.inbox) taker.taken core
+opened first_of taker core none is =
+    subst (λ (items : List (ℕ × Item)). Replays (first_of taker.inbox) items core) (sym none)
+    (subst (λ (c : CountedCore). Replays (first_of taker.inbox) [] c) (sym is) opens)
+
+-- one item was taken, and its step was done
+pub stepped : (first_of : ℕ → CountedCore) (old new : Taker Item) (taken : ℕ × Item) (core next : CountedCore)
+    (before behind : List (Effect Command Output))
+    → new ≡ record old { taken = old.taken ++ taken ∷ [] }
+    → Replays (first_of old.inbox) old.taken core → Stepped core taken.1 next before behind
+    → Replays (first_of new.inbox) new.taken next
+stepped first_of old new taken core next before behind is replays step =
+    subst (λ (t : Taker Item). Replays (first_of t.inbox) t.taken next) (sym is)
+    (steps taken next before behind replays step)
+
+-- what was put out for a port was handed over, or memory was wanting
+pub handed : {E : Type 0} (first_of : ℕ → CountedCore) (taker : Taker Item) (port : Port) (core new : CountedCore)
+    (result : Result Handed E)
+    → OnOk result (new ≡ record core { core = hands_over port core.core })
+    → OnErr result (new ≡ core)
+    → Replays (first_of taker.inbox) taker.taken core → Replays (first_of taker.inbox) taker.taken new
+handed first_of taker port core new (Ok h) ok err replays =
+    subst (λ (c : CountedCore). Replays (first_of taker.inbox) taker.taken c) (sym ok) (hands port replays)
+handed first_of taker port core new (Err e) ok err replays =
+    subst (λ (c : CountedCore). Replays (first_of taker.inbox) taker.taken c) (sym err) replays

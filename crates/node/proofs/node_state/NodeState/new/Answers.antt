@@ -1,0 +1,6 @@
+use Rattle.node.proofs.Replaying.{opened}
+use Rattle.node.proofs.node_state.NodeState.new.Goals as goal
+
+pub invariant_of-result : goal.invariant_of-result
+invariant_of-result g c =
+    opened g.J.NodeNaming.first_of c.args.receiver c.args.core c.requires.fresh c.requires.first

@@ -1,0 +1,105 @@
+// The thread of one connection.
+
+use crate::link::Link;
+use crate::shared::Shared;
+use crate::turns::send;
+use mailbox::Lane;
+use node::{Item, NodeNaming, PIECE_BYTES, Piece, Port};
+use std::alloc::Global;
+use std::io::Read;
+use std::net::TcpStream;
+use std::sync::{Arc, Wait};
+use std::time::{Clock, Duration, Instant};
+
+/// How long a write may wait before the rest is left to the node's own thread, in milliseconds.
+const WRITE_MILLIS: u64 = 1;
+
+/// Serves a stream until its client or the node ends it. Where all lanes are taken, or there is no memory
+/// for it, the stream is closed at once.
+pub(crate) fn serve_stream<J: NodeNaming, R: Wait + Clock>(
+    rt: &R,
+    alloc: Global,
+    shared: &Shared<J>,
+    stream: TcpStream,
+    start: Instant,
+) {
+    if stream.set_nodelay(true).is_err() || stream.set_write_timeout(Some(Duration::from_millis(WRITE_MILLIS))).is_err() {
+        return;
+    }
+    let Some(mut lane) = shared.lanes.lock(rt).pop() else {
+        return;
+    };
+    let port = shared.new_port(rt);
+    if let Ok(link) = Arc::new(alloc, Link::new(alloc, port, stream)) {
+        listed(rt, alloc, shared, &mut lane, link, start);
+    }
+    // There was room for it when it was taken.
+    let _ = shared.lanes.lock(rt).push(lane);
+}
+
+// Lists the connection while it is served.
+fn listed<J: NodeNaming, R: Wait + Clock>(
+    rt: &R,
+    alloc: Global,
+    shared: &Shared<J>,
+    lane: &mut Lane<Item, J>,
+    link: Arc<Link, Global>,
+    start: Instant,
+) {
+    let Ok(other) = Arc::try_clone(&link) else {
+        return;
+    };
+    if shared.door.enter(rt, other) {
+        talk(rt, alloc, shared, lane, &link, start);
+    }
+    shared.door.leave(rt, link.port);
+    forget(rt, alloc, shared, link.port);
+}
+
+// Tells the node of the connection, of each piece that comes on it, and of its end.
+fn talk<J: NodeNaming, R: Wait + Clock>(
+    rt: &R,
+    alloc: Global,
+    shared: &Shared<J>,
+    lane: &mut Lane<Item, J>,
+    link: &Arc<Link, Global>,
+    start: Instant,
+) {
+    send(rt, alloc, shared, lane, Item::Opened(link.port, millis_since(rt, start)));
+    if let Ok(mut room) = Vec::from_elem(alloc, 0u8, PIECE_BYTES) {
+        for _ in rt.forever() {
+            let Some(piece) = read_piece(alloc, &link.stream, room.as_mut_slice()) else {
+                break;
+            };
+            let item = Item::Bytes(link.port, piece, millis_since(rt, start));
+            send(rt, alloc, shared, lane, item);
+        }
+    }
+    send(rt, alloc, shared, lane, Item::Ended(link.port));
+    link.shut();
+}
+
+// The bytes that come next; none at the end of the stream, where it failed, and where there is no memory.
+fn read_piece(alloc: Global, stream: &TcpStream, room: &mut [u8]) -> Option<Piece> {
+    let mut source = stream;
+    let count = source.read(room).unwrap_or(0);
+    if count == 0 {
+        return None;
+    }
+    Piece::from_slice(alloc, room.get(..count)?).ok()
+}
+
+// Takes what the node still holds for a connection that has ended, so that it holds no more.
+fn forget<J: NodeNaming, R: Wait>(rt: &R, alloc: Global, shared: &Shared<J>, port: Port) {
+    let mut left = Vec::new(alloc);
+    // Where there is no memory for it the node keeps it.
+    let _ = shared.node.lock(rt).outgoing(port, &mut left);
+}
+
+/// Milliseconds since the node was opened.
+pub(crate) fn millis_since<R: Clock>(rt: &R, start: Instant) -> u64 {
+    match start.elapsed(rt) {
+        Ok(time) => u64::try_from(time.as_millis()).unwrap_or(u64::MAX),
+        Err(_) => 0,
+    }
+}
