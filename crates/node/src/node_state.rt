@@ -51,11 +51,7 @@ impl<J: NodeNaming> NodeState<J> {
 
     /// Takes the item that came first and does the node's step with it: whether there was one. There is
     /// none only where the inbox was empty at some moment of the call.
-    pub fn take_one<R: Wait>(
-        &mut self,
-        rt: &R,
-        effects: &mut Vec<Effect<Command, Output>>,
-    ) -> bool
+    pub fn take_one<R: Wait>(&mut self, rt: &R, effects: &mut Vec<Effect<Command, Output>>) -> bool
         ensures took { result ≡ true →
             TakesOne self.old self.new effects.old.items effects.new.items }
 
@@ -83,8 +79,7 @@ impl<J: NodeNaming> NodeState<J> {
         ensures known { lane.old.met ≤ result }
 
         // The node is a replay of all that was taken.
-        ensures replays {
-            Replays (J.first_of lane.old.inbox) self.old.taker.taken self.old.node }
+        ensures replays { Replays (J.first_of lane.old.inbox) self.old.taker.taken self.old.node }
 
         // Nothing was sent or taken.
         ensures same { self.new ≡ self.old }

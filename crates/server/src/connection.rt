@@ -23,7 +23,11 @@ pub(crate) fn serve_stream<J: NodeNaming, R: Wait + Clock>(
     stream: TcpStream,
     start: Instant,
 ) {
-    if stream.set_nodelay(true).is_err() || stream.set_write_timeout(Some(Duration::from_millis(WRITE_MILLIS))).is_err() {
+    if stream.set_nodelay(true).is_err()
+        || stream
+            .set_write_timeout(Some(Duration::from_millis(WRITE_MILLIS)))
+            .is_err()
+    {
         return;
     }
     let Some(mut lane) = shared.lanes.lock(rt).pop() else {
@@ -65,7 +69,13 @@ fn talk<J: NodeNaming, R: Wait + Clock>(
     link: &Arc<Link, Global>,
     start: Instant,
 ) {
-    send(rt, alloc, shared, lane, Item::Opened(link.port, millis_since(rt, start)));
+    send(
+        rt,
+        alloc,
+        shared,
+        lane,
+        Item::Opened(link.port, millis_since(rt, start)),
+    );
     if let Ok(mut room) = Vec::from_elem(alloc, 0u8, PIECE_BYTES) {
         for _ in rt.forever() {
             let Some(piece) = read_piece(alloc, &link.stream, room.as_mut_slice()) else {

@@ -33,7 +33,9 @@ pub(crate) fn run<J: NodeNaming, R: Wait + Clock>(
             send(rt, alloc, shared, lane, Item::Tick(now));
         }
         if !write_late(rt, alloc, shared) {
-            shared.own_thread.park_timeout(rt, Duration::from_millis(TICK));
+            shared
+                .own_thread
+                .park_timeout(rt, Duration::from_millis(TICK));
         }
     }
 }

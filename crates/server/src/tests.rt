@@ -6,14 +6,13 @@ use crate::{CONNECTIONS, Door, serve};
 use mailbox::Inbox;
 use node::{Config, Members, NodeCore};
 use std::alloc::Global;
-use std::io;
 use std::io::{Read, Write};
 use std::marker::Brand;
 use std::net::{Net, TcpListener, TcpStream};
 use std::sync::Wait;
 use std::test::Fail;
-use std::thread;
 use std::time::Instant;
+use std::{io, thread};
 
 // CONNECT of client `a`, SUBSCRIBE to `t/#` and PUBLISH of `x` on `t/1`, both at QoS 2.
 const SENT: [u8; 35] = [

@@ -21,7 +21,9 @@ where
     let start = Instant::now(rt)?;
     let inbox = Inbox::new(rt.alloc()).ok().ok_or(Fault::Memory)?;
     let core = sole(rt.alloc())?;
-    let door = Door::new(rt.alloc(), CONNECTIONS).ok().ok_or(Fault::Memory)?;
+    let door = Door::new(rt.alloc(), CONNECTIONS)
+        .ok()
+        .ok_or(Fault::Memory)?;
     let listener = TcpListener::bind(rt, address).ok().ok_or(Fault::Address)?;
     tell(rt, address)?;
     let (served, ()) = thread::join(
