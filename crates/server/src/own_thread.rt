@@ -28,7 +28,7 @@ pub(crate) fn run<J: NodeNaming, R: Wait + Clock>(
             return;
         }
         let now = millis_since(rt, start);
-        if now >= told + TICK {
+        if now.saturating_sub(told) >= TICK {
             told = now;
             send(rt, alloc, shared, lane, Item::Tick(now));
         }

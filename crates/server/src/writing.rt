@@ -123,7 +123,10 @@ pub(crate) fn is_still_late<J: NodeNaming, R: Wait>(
 fn write_some(alloc: Global, stream: &TcpStream, bytes: &[u8]) -> Wrote {
     let mut device = stream;
     let mut rest = bytes;
-    while !rest.is_empty() {
+    for _ in 0..u64::MAX {
+        if rest.is_empty() {
+            return Wrote::Whole;
+        }
         match device.write(rest) {
             Ok(0) => return Wrote::Failed,
             Ok(count) => match rest.get(count..) {
@@ -135,7 +138,7 @@ fn write_some(alloc: Global, stream: &TcpStream, bytes: &[u8]) -> Wrote {
             Err(_) => return Wrote::Failed,
         }
     }
-    Wrote::Whole
+    Wrote::Failed
 }
 
 fn left(alloc: Global, rest: &[u8]) -> Wrote {
