@@ -35,7 +35,7 @@ fn main(rt: HostRuntime) -> ExitCode {
 // Runs the program by the words of its command line.
 fn run<R>(rt: &R) -> Result<(), Fault>
 where
-    R: Env + Input + Print + Threads + Wait + Clock + Sync + AllocGlobal,
+    R: Env + Input + Print + Eprint + Threads + Wait + Clock + Sync + AllocGlobal,
     R: Net<Listener = TcpListener, Stream = TcpStream>,
 {
     let mut words = env::args(rt)?;

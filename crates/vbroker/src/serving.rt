@@ -15,7 +15,7 @@ use std::time::{Clock, Instant};
 /// Serves the clients that come to an address, until the end of standard input.
 pub fn run<R>(rt: &R, address: &str) -> Result<(), Fault>
 where
-    R: Input + Print + Threads + Wait + Clock + Sync + AllocGlobal,
+    R: Input + Print + Eprint + Threads + Wait + Clock + Sync + AllocGlobal,
     R: Net<Listener = TcpListener, Stream = TcpStream>,
 {
     let start = Instant::now(rt)?;
@@ -25,7 +25,9 @@ where
         .ok()
         .ok_or(Fault::Memory)?;
     let listener = TcpListener::bind(rt, address).ok().ok_or(Fault::Address)?;
-    tell(rt, address)?;
+    eprintln!(rt; "node 1 listens on {address}")
+        .ok()
+        .ok_or(Fault::Output)?;
     let (served, ()) = thread::join(
         rt,
         || serve::<Brand, R>(rt, rt.alloc(), &listener, inbox, core, &door, start),
