@@ -9,6 +9,7 @@ use crate::shared::Shared;
 use mailbox::{Inbox, Lane};
 use node::{Item, Memory, NodeCore, NodeNaming, NodeState};
 use std::alloc::Global;
+use std::marker::Brand;
 use std::net::TcpListener;
 use std::sync::{Mutex, Wait};
 use std::thread;
@@ -19,9 +20,22 @@ use std::time::{Clock, Instant};
 pub const CONNECTIONS: u8 = 12;
 
 /// Serves the clients that come to a listener, at most [`CONNECTIONS`] at once; one more is closed. It
-/// returns once the door is closed, or where no thread can be started. The only error is want of memory at
-/// the start.
-pub fn serve<J: NodeNaming + Send + Sync, R: Threads + Wait + Clock + Sync>(
+/// returns once the door is closed, or where no thread can be started. Times are counted from `start`. The
+/// only error is want of memory at the start.
+pub fn serve<R: Threads + Wait + Clock + Sync>(
+    rt: &R,
+    alloc: Global,
+    listener: &TcpListener,
+    core: NodeCore,
+    door: &Door,
+    start: Instant,
+) -> Result<(), Memory> {
+    let inbox = Inbox::new(alloc)?;
+    serve_named::<Brand, R>(rt, alloc, listener, inbox, core, door, start)
+}
+
+// The same by an inbox whose number names it, with the node, for all threads.
+fn serve_named<J: NodeNaming + Send + Sync, R: Threads + Wait + Clock + Sync>(
     rt: &R,
     alloc: Global,
     listener: &TcpListener,

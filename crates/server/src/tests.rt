@@ -1,13 +1,9 @@
 // What no clause says: that bytes come in and go out over a socket.
 
-ghost use Rattle.std.specs.Prelude.{◌≡◌};
-
 use crate::{CONNECTIONS, Door, serve};
-use mailbox::Inbox;
 use node::{Config, Members, NodeCore};
 use std::alloc::Global;
 use std::io::{Read, Write};
-use std::marker::Brand;
 use std::net::{Net, TcpListener, TcpStream};
 use std::sync::Wait;
 use std::test::Fail;
@@ -56,17 +52,16 @@ where
 #[test]
 fn a_client_is_answered(rt: HostRuntime) -> Result<(), Fail> {
     let start = Instant::now(&rt)?;
-    let inbox = Inbox::new(rt.alloc())?;
     let core = sole(rt.alloc())?;
     let door = Door::new(rt.alloc(), CONNECTIONS)?;
     let listener = TcpListener::bind(&rt, "127.0.0.1:0")?;
     let (served, got) = thread::join(
         &rt,
-        || serve::<Brand, HostRuntime>(&rt, rt.alloc(), &listener, inbox, core, &door, start),
+        || serve(&rt, rt.alloc(), &listener, core, &door, start),
         || visit(&rt, &listener, &door),
     );
     served?;
-    assert_eq!(rt; got[..9], [0x20, 2, 0, 0, 0x90, 3, 0, 1, 2]);
+    assert_eq!(rt; &got[..9], [0x20, 2, 0, 0, 0x90, 3, 0, 1, 2].as_slice());
     assert!(rt; got.contains(&0x50) && got.contains(&0x34));
     Ok(())
 }

@@ -37,11 +37,11 @@ pub(crate) fn turn<J: NodeNaming, R: Wait>(rt: &R, alloc: Global, shared: &Share
             break;
         }
     }
-    for place in 0..usize::from(crate::CONNECTIONS) {
-        let Some(link) = shared.door.link_at(rt, place) else {
-            return;
-        };
-        flush(rt, alloc, shared, &link);
+    // From the last on, so that one that leaves meanwhile moves none past its turn.
+    for place in (0..usize::from(crate::CONNECTIONS)).rev() {
+        if let Some(link) = shared.door.link_at(rt, place) {
+            flush(rt, alloc, shared, &link);
+        }
     }
 }
 

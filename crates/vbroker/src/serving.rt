@@ -2,10 +2,8 @@
 
 use crate::fault::Fault;
 use crate::sole;
-use mailbox::Inbox;
 use server::{CONNECTIONS, Door, serve};
 use std::io::Read;
-use std::marker::Brand;
 use std::net::{Net, TcpListener, TcpStream};
 use std::sync::Wait;
 use std::thread;
@@ -19,7 +17,6 @@ where
     R: Net<Listener = TcpListener, Stream = TcpStream>,
 {
     let start = Instant::now(rt)?;
-    let inbox = Inbox::new(rt.alloc()).ok().ok_or(Fault::Memory)?;
     let core = sole(rt.alloc())?;
     let door = Door::new(rt.alloc(), CONNECTIONS)
         .ok()
@@ -30,7 +27,7 @@ where
         .ok_or(Fault::Output)?;
     let (served, ()) = thread::join(
         rt,
-        || serve::<Brand, R>(rt, rt.alloc(), &listener, inbox, core, &door, start),
+        || serve(rt, rt.alloc(), &listener, core, &door, start),
         || until_end(rt, &door, &listener),
     );
     served?;
