@@ -21,6 +21,3 @@ pub use refusal_code::RefusalCode;
 pub use remaining_length::{length_size, put_length, take_length};
 pub use stop::Stop;
 pub use writing::{put_byte, put_bytes, put_number, put_text};
-
-#[cfg(test)]
-mod tests;

@@ -4,6 +4,7 @@
 mod asking;
 mod connecting;
 mod faults;
+mod fields;
 mod listing;
 mod memory;
 mod publishing;
