@@ -1,109 +1,129 @@
 // The beginning and the end of connections, and bytes in pieces of any size.
 
-use super::*;
+use super::row::*;
+use client::ClientError;
+use std::alloc::{AllocError, Global};
+use std::test::*;
 use topics::MalformedKind;
 
-// A PUBLISH, and behind it what ends the connection: the PUBLISH stands.
-fn ends(rt: &impl Abort, alloc: Global, bytes: &[u8], cause: ClientError) -> Result<(), Fail> {
-    let mut piece = Vec::new(alloc);
-    piece.extend_from_slice(&PUBLISH)?;
+/// A PUBLISH, and behind it these bytes.
+fn behind_publish(alloc: Global, bytes: &[u8]) -> Result<Vec<u8>, AllocError> {
+    let mut piece = Vec::from_slice(alloc, PUBLISH)?;
     piece.extend_from_slice(bytes)?;
-    let fatal = Row {
-        act: Act::Bytes(&piece),
-        answer: Some(cause),
-        written: &PUBREC,
-        kept: 0,
-        accepted: 1,
-    };
-    let rows = [
-        writes(Act::Open, &CONNECT, 0, 0),
-        writes(Act::Bytes(&ACCEPTED), &NOTHING, 0, 0),
-        fatal,
-        refused(Act::Bytes(&NOTHING), ClientError::NotActive, 0, 1),
-    ];
-    let client = play(rt, alloc, &rows)?;
-    assert!(rt; !client.connected());
-    Ok(())
+    Ok(piece)
 }
 
-#[test]
-fn a_fault_ends_the_connection(rt: HostRuntime) -> Result<(), Fail> {
-    let malformed = ClientError::Malformed(MalformedKind::PacketType);
-    ends(&rt, rt.alloc(), &[0xF0, 0x00], malformed)?;
-    // A second CONNACK, CONNECT, PINGREQ and DISCONNECT.
-    ends(&rt, rt.alloc(), &ACCEPTED, ClientError::Protocol)?;
-    ends(&rt, rt.alloc(), &CONNECT, ClientError::Protocol)?;
-    ends(&rt, rt.alloc(), &[0xC0, 0x00], ClientError::Protocol)?;
-    ends(&rt, rt.alloc(), &[0xE0, 0x00], ClientError::Protocol)
-}
-
-// A CONNECT of another level, which a server would refuse with a code.
-#[test]
-fn a_connect_of_another_level(rt: HostRuntime) -> Result<(), Fail> {
-    let level_3 = [
-        0x10, 0x0D, 0x00, 0x04, 0x4D, 0x51, 0x54, 0x54, 0x03, 0x00, 0x00, 0x00, 0x00, 0x01, 0x61,
-    ];
-    ends(&rt, rt.alloc(), &level_3, ClientError::Protocol)
-}
-
-// Another first packet, and a CONNACK with a code.
-#[test]
-fn connack_comes_first(rt: HostRuntime) -> Result<(), Fail> {
-    let rows = [
-        writes(Act::Open, &CONNECT, 0, 0),
-        refused(Act::Bytes(&PUBLISH), ClientError::Protocol, 0, 0),
-        writes(Act::Open, &CONNECT, 0, 0),
-        refused(
-            Act::Bytes(&[0x20, 0x02, 0x00, 0x03]),
-            ClientError::NotActive,
+/// Whether this piece of a PUBLISH and more ends the connection, and the PUBLISH stands.
+fn is_the_end(alloc: Global, piece: &[u8], cause: ClientError) -> bool {
+    let rows: [Row<'_>; 4] = [
+        (Act::Open, None, CONNECT, 0, 0),
+        (Act::Bytes(ACCEPTED), None, NOTHING, 0, 0),
+        (Act::Bytes(piece), Some(cause), PUBREC, 0, 1),
+        (
+            Act::Bytes(NOTHING),
+            Some(ClientError::NotActive),
+            NOTHING,
             0,
-            0,
+            1,
         ),
-        writes(Act::Open, &CONNECT, 0, 0),
-        writes(Act::Bytes(&ACCEPTED), &NOTHING, 0, 0),
     ];
-    play(&rt, rt.alloc(), &rows)?;
-    Ok(())
+    match play(alloc, &rows) {
+        Ok(client) => !client.connected(),
+        Err(_) => false,
+    }
 }
+
+/// Whether these bytes behind a PUBLISH end the connection, and the PUBLISH stands.
+fn ends(alloc: Global, bytes: &[u8], cause: ClientError) -> bool {
+    match behind_publish(alloc, bytes) {
+        Ok(piece) => is_the_end(alloc, &piece, cause),
+        Err(_) => false,
+    }
+}
+
+#[test]
+fn malformed_bytes_end_the_connection(rt: HostRuntime) {
+    let malformed = ClientError::Malformed(MalformedKind::PacketType);
+    assert!(rt; ends(rt.alloc(), &[0xF0, 0x00], malformed));
+}
+
+/// A CONNECT of another level, which a server would refuse with a code.
+const LEVEL_3: &[u8] = &[
+    0x10, 0x0D, 0x00, 0x04, 0x4D, 0x51, 0x54, 0x54, 0x03, 0x00, 0x00, 0x00, 0x00, 0x01, 0x61,
+];
+
+// A second CONNACK, CONNECT, PINGREQ and DISCONNECT, and a CONNECT of another level.
+#[test]
+fn a_fault_ends_the_connection(rt: HostRuntime) {
+    for bytes in [ACCEPTED, CONNECT, &[0xC0, 0x00], &[0xE0, 0x00], LEVEL_3] {
+        assert!(rt; ends(rt.alloc(), bytes, ClientError::Protocol), "{bytes:?}");
+    }
+}
+
+/// Another first packet, and a CONNACK with a code.
+const CONNACK_FIRST: &[Row<'static>] = &[
+    (Act::Open, None, CONNECT, 0, 0),
+    (
+        Act::Bytes(PUBLISH),
+        Some(ClientError::Protocol),
+        NOTHING,
+        0,
+        0,
+    ),
+    (Act::Open, None, CONNECT, 0, 0),
+    (
+        Act::Bytes(&[0x20, 0x02, 0x00, 0x03]),
+        Some(ClientError::NotActive),
+        NOTHING,
+        0,
+        0,
+    ),
+    (Act::Open, None, CONNECT, 0, 0),
+    (Act::Bytes(ACCEPTED), None, NOTHING, 0, 0),
+];
+
+#[test]
+fn connack_comes_first(rt: HostRuntime) {
+    assert_eq!(rt; first_fault(rt.alloc(), CONNACK_FIRST), None);
+}
+
+const DISCONNECTS: &[Row<'static>] = &[
+    (Act::Disconnect, Some(ClientError::NotActive), NOTHING, 0, 0),
+    (Act::Open, None, CONNECT, 0, 0),
+    (Act::Subscribe, Some(ClientError::NotActive), NOTHING, 0, 0),
+    (Act::Disconnect, None, NOTHING, 0, 0),
+    (Act::Open, None, CONNECT, 0, 0),
+    (Act::Bytes(ACCEPTED), None, NOTHING, 0, 0),
+    (Act::Disconnect, None, &[0xE0, 0x00], 0, 0),
+    (
+        Act::Unsubscribe,
+        Some(ClientError::NotActive),
+        NOTHING,
+        0,
+        0,
+    ),
+];
 
 // DISCONNECT goes out where the connection was accepted, and nothing before.
 #[test]
-fn disconnect_is_written_online(rt: HostRuntime) -> Result<(), Fail> {
-    let rows = [
-        refused(Act::Disconnect, ClientError::NotActive, 0, 0),
-        writes(Act::Open, &CONNECT, 0, 0),
-        refused(Act::Subscribe, ClientError::NotActive, 0, 0),
-        writes(Act::Disconnect, &NOTHING, 0, 0),
-        writes(Act::Open, &CONNECT, 0, 0),
-        writes(Act::Bytes(&ACCEPTED), &NOTHING, 0, 0),
-        writes(Act::Disconnect, &[0xE0, 0x00], 0, 0),
-        refused(Act::Unsubscribe, ClientError::NotActive, 0, 0),
-    ];
-    play(&rt, rt.alloc(), &rows)?;
-    Ok(())
+fn disconnect_is_written_online(rt: HostRuntime) {
+    assert_eq!(rt; first_fault(rt.alloc(), DISCONNECTS), None);
 }
 
-// However CONNACK, PUBLISH and PUBREL are cut in two, the answers are the same.
+/// CONNACK, PUBLISH and PUBREL.
+const STREAM: &[u8] = &[
+    0x20, 0x02, 0x00, 0x00, 0x34, 0x08, 0x00, 0x03, 0x74, 0x2F, 0x31, 0x00, 0x01, 0x78, 0x62, 0x02,
+    0x00, 0x01,
+];
+
+const ANSWERS: &[u8] = &[0x50, 0x02, 0x00, 0x01, 0x70, 0x02, 0x00, 0x01];
+
+// However the stream is cut in two, the answers are the same.
 #[test]
-fn every_cut_gives_the_same(rt: HostRuntime) -> Result<(), Fail> {
-    let stream = [
-        0x20, 0x02, 0x00, 0x00, 0x34, 0x08, 0x00, 0x03, 0x74, 0x2F, 0x31, 0x00, 0x01, 0x78, 0x62,
-        0x02, 0x00, 0x01,
+fn every_cut_gives_the_same(rt: HostRuntime) {
+    let rows: [Row<'static>; 2] = [
+        (Act::Open, None, CONNECT, 0, 0),
+        (Act::Bytes(STREAM), None, ANSWERS, 0, 1),
     ];
-    for at in 0..=stream.len() {
-        let mut client = new_client(rt.alloc())?;
-        client.open()?;
-        client.on_bytes(&stream[..at])?;
-        client.on_bytes(&stream[at..])?;
-        let mut out = Vec::new(rt.alloc());
-        client.outgoing(&mut out)?;
-        let answers = [0x50, 0x02, 0x00, 0x01, 0x70, 0x02, 0x00, 0x01];
-        assert_eq!(rt;
-            &out[CONNECT.len().min(out.len())..],
-            answers.as_slice(),
-            "cut at {at}"
-        );
-        assert_eq!(rt; client.accepted().len(), 1);
-    }
-    Ok(())
+    assert_eq!(rt; first_fault(rt.alloc(), &rows), None);
 }

@@ -1,79 +1,111 @@
 // The handshakes of a client, as tables of bytes.
 
-use super::*;
+use super::row::*;
+use client::ClientCore;
+use packet::QoS;
+use std::test::*;
+
+const SPEAKS: &[Row<'static>] = &[
+    (Act::Open, None, CONNECT, 0, 0),
+    (Act::Bytes(ACCEPTED), None, NOTHING, 0, 0),
+    (
+        Act::Subscribe,
+        None,
+        &[0x82, 0x08, 0x00, 0x01, 0x00, 0x03, 0x74, 0x2F, 0x23, 0x02],
+        0,
+        0,
+    ),
+    (
+        Act::Publish(QoS::ExactlyOnce, b'x'),
+        None,
+        &[0x34, 0x08, 0x00, 0x03, 0x74, 0x2F, 0x31, 0x00, 0x02, 0x78],
+        1,
+        0,
+    ),
+];
 
 // CONNECT, SUBSCRIBE with identifier 1, and PUBLISH with the next one (MQTT 2.3.1).
 #[test]
-fn client_speaks(rt: HostRuntime) -> Result<(), Fail> {
-    let subscribe = [0x82, 0x08, 0x00, 0x01, 0x00, 0x03, 0x74, 0x2F, 0x23, 0x02];
-    let second = [0x34, 0x08, 0x00, 0x03, 0x74, 0x2F, 0x31, 0x00, 0x02, 0x78];
-    let rows = [
-        writes(Act::Open, &CONNECT, 0, 0),
-        writes(Act::Bytes(&ACCEPTED), &NOTHING, 0, 0),
-        writes(Act::Subscribe, &subscribe, 0, 0),
-        writes(Act::Publish(QoS::ExactlyOnce, b'x'), &second, 1, 0),
-    ];
-    play(&rt, rt.alloc(), &rows)?;
-    Ok(())
+fn client_speaks(rt: HostRuntime) {
+    assert_eq!(rt; first_fault(rt.alloc(), SPEAKS), None);
 }
+
+const UNSUBSCRIBE: &[u8] = &[0xA2, 0x07, 0x00, 0x01, 0x00, 0x03, 0x74, 0x2F, 0x23];
+
+const SUBACK: &[u8] = &[0x90, 0x03, 0x00, 0x01, 0x02];
+
+const UNSUBACK: &[u8] = &[0xB0, 0x02, 0x00, 0x01];
+
+/// PUBLISH of `y` at QoS 1 with identifier 1, and with 2.
+const FIRST: &[u8] = &[0x32, 0x08, 0x00, 0x03, 0x74, 0x2F, 0x31, 0x00, 0x01, 0x79];
+
+const SECOND: &[u8] = &[0x32, 0x08, 0x00, 0x03, 0x74, 0x2F, 0x31, 0x00, 0x02, 0x79];
+
+const REQUESTS: &[Row<'static>] = &[
+    (Act::Open, None, CONNECT, 0, 0),
+    (Act::Bytes(ACCEPTED), None, NOTHING, 0, 0),
+    (Act::Unsubscribe, None, UNSUBSCRIBE, 0, 0),
+    (Act::Bytes(SUBACK), None, NOTHING, 0, 0),
+    (Act::Publish(QoS::AtLeastOnce, b'y'), None, SECOND, 1, 0),
+    (Act::Bytes(UNSUBACK), None, NOTHING, 1, 0),
+    (Act::Publish(QoS::AtLeastOnce, b'y'), None, FIRST, 2, 0),
+];
 
 // SUBACK gives its identifier up, and does not answer an UNSUBSCRIBE.
 #[test]
-fn only_its_own_answer_ends_a_request(rt: HostRuntime) -> Result<(), Fail> {
-    const UNSUBSCRIBE: [u8; 9] = [0xA2, 0x07, 0x00, 0x01, 0x00, 0x03, 0x74, 0x2F, 0x23];
-    const SUBACK: [u8; 5] = [0x90, 0x03, 0x00, 0x01, 0x02];
-    const SECOND: [u8; 10] = [0x32, 0x08, 0x00, 0x03, 0x74, 0x2F, 0x31, 0x00, 0x02, 0x79];
-    const FIRST: [u8; 10] = [0x32, 0x08, 0x00, 0x03, 0x74, 0x2F, 0x31, 0x00, 0x01, 0x79];
-    const UNSUBACK: [u8; 4] = [0xB0, 0x02, 0x00, 0x01];
-    let rows = [
-        writes(Act::Open, &CONNECT, 0, 0),
-        writes(Act::Bytes(&ACCEPTED), &NOTHING, 0, 0),
-        writes(Act::Unsubscribe, &UNSUBSCRIBE, 0, 0),
-        writes(Act::Bytes(&SUBACK), &NOTHING, 0, 0),
-        writes(Act::Publish(QoS::AtLeastOnce, b'y'), &SECOND, 1, 0),
-        writes(Act::Bytes(&UNSUBACK), &NOTHING, 1, 0),
-        writes(Act::Publish(QoS::AtLeastOnce, b'y'), &FIRST, 2, 0),
-    ];
-    play(&rt, rt.alloc(), &rows)?;
-    Ok(())
+fn only_its_own_answer_ends_a_request(rt: HostRuntime) {
+    assert_eq!(rt; first_fault(rt.alloc(), REQUESTS), None);
+}
+
+/// That PUBLISH with DUP 1.
+const AGAIN: &[u8] = &[0x3C, 0x08, 0x00, 0x03, 0x74, 0x2F, 0x31, 0x00, 0x01, 0x78];
+
+const PUBREL: &[u8] = &[0x62, 0x02, 0x00, 0x01];
+
+const PUBCOMP: &[u8] = &[0x70, 0x02, 0x00, 0x01];
+
+const REPEATS: &[Row<'static>] = &[
+    (Act::Open, None, CONNECT, 0, 0),
+    (Act::Bytes(ACCEPTED), None, NOTHING, 0, 0),
+    (Act::Bytes(PUBLISH), None, PUBREC, 0, 1),
+    (Act::Bytes(AGAIN), None, PUBREC, 0, 1),
+    (Act::Bytes(PUBREL), None, PUBCOMP, 0, 1),
+    (Act::Bytes(PUBLISH), None, PUBREC, 0, 2),
+];
+
+/// How many are taken out, and how many are left then.
+pub fn taken(client: &mut ClientCore) -> (usize, usize) {
+    let taken = client.take_accepted();
+    (taken.len(), client.accepted().len())
 }
 
 // A publication at QoS 2 is accepted, its repeat is not, and after PUBREL its identifier is new.
 #[test]
-fn a_repeat_is_accepted_once(rt: HostRuntime) -> Result<(), Fail> {
-    let again = [0x3C, 0x08, 0x00, 0x03, 0x74, 0x2F, 0x31, 0x00, 0x01, 0x78];
-    let rows = [
-        writes(Act::Open, &CONNECT, 0, 0),
-        writes(Act::Bytes(&ACCEPTED), &NOTHING, 0, 0),
-        writes(Act::Bytes(&PUBLISH), &PUBREC, 0, 1),
-        writes(Act::Bytes(&again), &PUBREC, 0, 1),
-        writes(
-            Act::Bytes(&[0x62, 0x02, 0x00, 0x01]),
-            &[0x70, 0x02, 0x00, 0x01],
-            0,
-            1,
-        ),
-        writes(Act::Bytes(&PUBLISH), &PUBREC, 0, 2),
-    ];
-    let mut client = play(&rt, rt.alloc(), &rows)?;
-    assert_eq!(rt; client.take_accepted().len(), 2);
-    assert_eq!(rt; client.accepted().len(), 0);
-    Ok(())
+fn a_repeat_is_accepted_once(rt: HostRuntime) {
+    let counts = match play(rt.alloc(), REPEATS) {
+        Ok(mut client) => Ok(taken(&mut client)),
+        Err(at) => Err(at),
+    };
+    assert_eq!(rt; counts, Ok((2, 0)));
 }
+
+/// PUBLISH of `x` at QoS 0, and at QoS 1 with identifier 7.
+const ONCE: &[u8] = &[0x30, 0x06, 0x00, 0x03, 0x74, 0x2F, 0x31, 0x78];
+
+const ANSWERED: &[u8] = &[0x33, 0x08, 0x00, 0x03, 0x74, 0x2F, 0x31, 0x00, 0x07, 0x78];
+
+const PUBACK: &[u8] = &[0x40, 0x02, 0x00, 0x07];
+
+const LOWER: &[Row<'static>] = &[
+    (Act::Open, None, CONNECT, 0, 0),
+    (Act::Bytes(ACCEPTED), None, NOTHING, 0, 0),
+    (Act::Bytes(ONCE), None, NOTHING, 0, 1),
+    (Act::Bytes(ANSWERED), None, PUBACK, 0, 2),
+    (Act::Bytes(ANSWERED), None, PUBACK, 0, 3),
+];
 
 // QoS 0 and 1 are accepted each time, and PUBACK answers QoS 1.
 #[test]
-fn lower_qos_is_accepted_each_time(rt: HostRuntime) -> Result<(), Fail> {
-    let once = [0x30, 0x06, 0x00, 0x03, 0x74, 0x2F, 0x31, 0x78];
-    let answered = [0x33, 0x08, 0x00, 0x03, 0x74, 0x2F, 0x31, 0x00, 0x07, 0x78];
-    let puback = [0x40, 0x02, 0x00, 0x07];
-    let rows = [
-        writes(Act::Open, &CONNECT, 0, 0),
-        writes(Act::Bytes(&ACCEPTED), &NOTHING, 0, 0),
-        writes(Act::Bytes(&once), &NOTHING, 0, 1),
-        writes(Act::Bytes(&answered), &puback, 0, 2),
-        writes(Act::Bytes(&answered), &puback, 0, 3),
-    ];
-    play(&rt, rt.alloc(), &rows)?;
-    Ok(())
+fn lower_qos_is_accepted_each_time(rt: HostRuntime) {
+    assert_eq!(rt; first_fault(rt.alloc(), LOWER), None);
 }

@@ -1,172 +1,197 @@
 // Memory that is refused. Run with each allocation failing in turn: a call answers `Memory` and has
 // changed nothing, or the client is as after `lost`; done again, all comes as it does with memory.
 
-use super::*;
+use super::handshakes::taken;
+use super::row::*;
+use client::{ClientCore, ClientError};
+use packet::QoS;
+use std::alloc::Global;
+use std::test::*;
 
-// What others may see of a client, apart from its bytes.
-#[derive(Clone, Copy, Debug, PartialEq, Eq)]
-struct Shown {
-    kept: usize,
-    accepted: usize,
-    connected: bool,
-    present: bool,
-}
+/// What others may see of a client, apart from its bytes: how many are kept and were accepted,
+/// whether it is connected, and whether the server had its session.
+type Shown = (usize, usize, bool, bool);
 
 fn shown_by(client: &ClientCore) -> Shown {
-    Shown {
-        kept: client.kept(),
-        accepted: client.accepted().len(),
-        connected: client.connected(),
-        present: client.present(),
-    }
+    let (kept, accepted) = counts(client);
+    (kept, accepted, client.connected(), client.present())
 }
 
-// The same, with the connection gone.
+/// The same, with the connection gone.
 fn offline(shown: Shown) -> Shown {
-    Shown {
-        connected: false,
-        ..shown
+    (shown.0, shown.1, false, shown.3)
+}
+
+/// Client `a`; memory is wanting at most once.
+fn client_at_last(alloc: Global) -> Option<ClientCore> {
+    match new_client(alloc) {
+        Some(client) => Some(client),
+        None => new_client(alloc),
     }
 }
 
-// Client `a`; memory is wanting at most once.
-fn client_at_last(alloc: Global) -> Result<ClientCore, ClientError> {
-    new_client(alloc).or_else(|_| new_client(alloc))
+/// Opens a lost connection again, and drops what is written then: whether memory was found.
+fn is_back(client: &mut ClientCore, alloc: Global, was_accepted: bool) -> bool {
+    let opened = open(client).is_none();
+    let accepted = !was_accepted || give(client, PRESENT).is_none();
+    opened && accepted && take_written(client, alloc).is_some()
 }
 
-fn take_written(client: &mut ClientCore, alloc: Global) -> Result<Vec<u8>, ClientError> {
-    let mut out = Vec::new(alloc);
-    client.outgoing(&mut out)?;
-    Ok(out)
+/// Whether a client shows itself as after `lost`, and comes back.
+fn is_lost(client: &mut ClientCore, alloc: Global, before: Shown) -> bool {
+    shown_by(client) == offline(before)
+        && give(client, NOTHING) == Some(ClientError::NotActive)
+        && is_back(client, alloc, before.2)
 }
 
-// Opens a lost connection again, and drops what is written then.
-fn reconnect(client: &mut ClientCore, alloc: Global, accepted: bool) -> Result<(), ClientError> {
-    client.open()?;
-    if accepted {
-        client.on_bytes(&PRESENT)?;
+/// After want of memory in this act: nothing is written, and all is as it was before, or as after
+/// `lost` where bytes were read.
+fn is_left(client: &mut ClientCore, alloc: Global, done: Act<'_>, before: Shown) -> bool {
+    if !wrote(client, alloc, NOTHING) {
+        return false;
     }
-    take_written(client, alloc)?;
-    Ok(())
+    match done {
+        Act::Bytes(_) => is_lost(client, alloc, before),
+        _ => shown_by(client) == before,
+    }
 }
 
-// After want of memory in this act: nothing is written, and all is as it was before, or as after
-// `lost` where bytes were read.
-fn is_left(
-    rt: &impl Abort,
-    alloc: Global,
-    client: &mut ClientCore,
-    act: Act,
-    before: Shown,
-) -> Result<(), Fail> {
-    assert_eq!(rt; take_written(client, alloc)?.as_slice(), NOTHING.as_slice());
-    let Act::Bytes(_) = act else {
-        assert_eq!(rt; shown_by(client), before);
-        return Ok(());
-    };
-    assert_eq!(rt; shown_by(client), offline(before));
-    assert_eq!(rt; client.on_bytes(&NOTHING), Err(ClientError::NotActive));
-    reconnect(client, alloc, before.connected)?;
-    Ok(())
-}
-
-// Does what a row says, again where memory was wanting.
-fn check_again(
-    rt: &impl Abort,
-    alloc: Global,
-    client: &mut ClientCore,
-    row: &Row,
-) -> Result<(), Fail> {
+/// Does this, again where memory was wanting: what it is refused with then, or `TooLarge` where the
+/// want left something behind.
+fn act_again(client: &mut ClientCore, alloc: Global, done: Act<'_>) -> Option<ClientError> {
     let before = shown_by(client);
-    let mut answer = done(client, alloc, row.act, None).err();
-    if answer == Some(ClientError::Memory) {
-        is_left(rt, alloc, client, row.act, before)?;
-        answer = done(client, alloc, row.act, None).err();
+    let refusal = attempt(client, alloc, done, None);
+    if refusal != Some(ClientError::Memory) {
+        return refusal;
     }
-    assert_eq!(rt; answer, row.answer);
-    assert_eq!(rt; take_written(client, alloc)?.as_slice(), row.written);
-    assert_eq!(rt; client.kept(), row.kept);
-    assert_eq!(rt; client.accepted().len(), row.accepted);
-    Ok(())
+    if is_left(client, alloc, done, before) {
+        attempt(client, alloc, done, None)
+    } else {
+        Some(ClientError::TooLarge)
+    }
 }
 
-// Both directions at every QoS, what was published before the CONNACK, and requests.
+/// Whether a row comes out as it says, done again where memory was wanting.
+fn comes_out_again(client: &mut ClientCore, alloc: Global, row: &Row<'_>) -> bool {
+    let (done, refusal, written, kept, accepted) = *row;
+    act_again(client, alloc, done) == refusal
+        && wrote(client, alloc, written)
+        && counts(client) == (kept, accepted)
+}
+
+/// The first row that comes out otherwise.
+fn first_fault_again(client: &mut ClientCore, alloc: Global, rows: &[Row<'_>]) -> Option<usize> {
+    for (at, row) in rows.iter().enumerate() {
+        if !comes_out_again(client, alloc, row) {
+            return Some(at);
+        }
+    }
+    None
+}
+
+const ONCE: &[u8] = &[0x30, 0x06, 0x00, 0x03, 0x74, 0x2F, 0x31, 0x78];
+
+const AT_LEAST: &[u8] = &[0x32, 0x08, 0x00, 0x03, 0x74, 0x2F, 0x31, 0x00, 0x02, 0x78];
+
+const SUBSCRIBE: &[u8] = &[0x82, 0x08, 0x00, 0x03, 0x00, 0x03, 0x74, 0x2F, 0x23, 0x02];
+
+const UNSUBSCRIBE: &[u8] = &[0xA2, 0x07, 0x00, 0x04, 0x00, 0x03, 0x74, 0x2F, 0x23];
+
+const PUBREL: &[u8] = &[0x62, 0x02, 0x00, 0x01];
+
+const PUBCOMP: &[u8] = &[0x70, 0x02, 0x00, 0x01];
+
+const PUBACK: &[u8] = &[0x40, 0x02, 0x00, 0x02];
+
+/// Both directions at every QoS, what was published before the CONNACK, and requests.
+const CALLS: &[Row<'static>] = &[
+    (Act::Open, None, CONNECT, 0, 0),
+    (Act::Publish(QoS::ExactlyOnce, b'x'), None, NOTHING, 1, 0),
+    (Act::Bytes(ACCEPTED), None, PUBLISH, 1, 0),
+    (Act::Publish(QoS::AtLeastOnce, b'x'), None, AT_LEAST, 2, 0),
+    (Act::Publish(QoS::AtMostOnce, b'x'), None, ONCE, 2, 0),
+    (Act::Bytes(PUBREC), None, PUBREL, 2, 0),
+    (Act::Bytes(PUBLISH), None, PUBREC, 2, 1),
+    (Act::Bytes(PUBLISH), None, PUBREC, 2, 1),
+    (Act::Bytes(PUBREL), None, PUBCOMP, 2, 1),
+    (Act::Bytes(AT_LEAST), None, PUBACK, 2, 2),
+    (Act::Bytes(ONCE), None, NOTHING, 2, 3),
+    (Act::Subscribe, None, SUBSCRIBE, 2, 3),
+    (Act::Unsubscribe, None, UNSUBSCRIBE, 2, 3),
+    (Act::Bytes(PUBACK), None, NOTHING, 1, 3),
+    (Act::Bytes(PUBCOMP), None, NOTHING, 0, 3),
+    (Act::Disconnect, None, &[0xE0, 0x00], 0, 3),
+];
+
 #[test]
-fn a_call_without_memory_is_done_again(rt: HostRuntime) -> Result<(), Fail> {
-    const ONCE: [u8; 8] = [0x30, 0x06, 0x00, 0x03, 0x74, 0x2F, 0x31, 0x78];
-    const AT_LEAST: [u8; 10] = [0x32, 0x08, 0x00, 0x03, 0x74, 0x2F, 0x31, 0x00, 0x02, 0x78];
-    const SUBSCRIBE: [u8; 10] = [0x82, 0x08, 0x00, 0x03, 0x00, 0x03, 0x74, 0x2F, 0x23, 0x02];
-    const UNSUBSCRIBE: [u8; 9] = [0xA2, 0x07, 0x00, 0x04, 0x00, 0x03, 0x74, 0x2F, 0x23];
-    const PUBREL: [u8; 4] = [0x62, 0x02, 0x00, 0x01];
-    const PUBCOMP: [u8; 4] = [0x70, 0x02, 0x00, 0x01];
-    const PUBACK: [u8; 4] = [0x40, 0x02, 0x00, 0x02];
-    let rows = [
-        writes(Act::Open, &CONNECT, 0, 0),
-        writes(Act::Publish(QoS::ExactlyOnce, b'x'), &NOTHING, 1, 0),
-        writes(Act::Bytes(&ACCEPTED), &PUBLISH, 1, 0),
-        writes(Act::Publish(QoS::AtLeastOnce, b'x'), &AT_LEAST, 2, 0),
-        writes(Act::Publish(QoS::AtMostOnce, b'x'), &ONCE, 2, 0),
-        writes(Act::Bytes(&PUBREC), &PUBREL, 2, 0),
-        writes(Act::Bytes(&PUBLISH), &PUBREC, 2, 1),
-        writes(Act::Bytes(&PUBLISH), &PUBREC, 2, 1),
-        writes(Act::Bytes(&PUBREL), &PUBCOMP, 2, 1),
-        writes(Act::Bytes(&AT_LEAST), &PUBACK, 2, 2),
-        writes(Act::Bytes(&ONCE), &NOTHING, 2, 3),
-        writes(Act::Subscribe, &SUBSCRIBE, 2, 3),
-        writes(Act::Unsubscribe, &UNSUBSCRIBE, 2, 3),
-        writes(Act::Bytes(&PUBACK), &NOTHING, 1, 3),
-        writes(Act::Bytes(&PUBCOMP), &NOTHING, 0, 3),
-        writes(Act::Disconnect, &[0xE0, 0x00], 0, 3),
-    ];
-    let mut client = client_at_last(rt.alloc())?;
-    for row in &rows {
-        check_again(&rt, rt.alloc(), &mut client, row)?;
-    }
-    assert_eq!(rt; client.take_accepted().len(), 3);
-    assert_eq!(rt; client.accepted().len(), 0);
-    Ok(())
+fn a_call_without_memory_is_done_again(rt: HostRuntime) {
+    let mut client = client_at_last(rt.alloc()).expect(&rt, "memory is wanting at most once");
+    assert_eq!(rt; first_fault_again(&mut client, rt.alloc(), CALLS), None);
+    assert_eq!(rt; taken(&mut client), (3, 0));
 }
 
-// A client that the server accepted; memory is wanting at most once.
-fn online_at_last(alloc: Global) -> Result<ClientCore, ClientError> {
+/// Opens, again where memory was wanting.
+fn is_open(client: &mut ClientCore) -> bool {
+    open(client).is_none() || open(client).is_none()
+}
+
+/// Takes the CONNACK in, again on a new connection where memory was wanting.
+fn is_accepted(client: &mut ClientCore) -> bool {
+    give(client, ACCEPTED).is_none() || (open(client).is_none() && give(client, ACCEPTED).is_none())
+}
+
+/// A client that the server accepted; memory is wanting at most once.
+fn online_at_last(alloc: Global) -> Option<ClientCore> {
     let mut client = client_at_last(alloc)?;
-    if client.open().is_err() {
-        client.open()?;
-    }
-    if client.on_bytes(&ACCEPTED).is_err() {
-        client.open()?;
-        client.on_bytes(&ACCEPTED)?;
+    if !is_open(&mut client) || !is_accepted(&mut client) {
+        return None;
     }
     take_written(&mut client, alloc)?;
-    Ok(client)
+    Some(client)
+}
+
+const PUBLISHES: &[u8] = &[
+    0x34, 0x08, 0x00, 0x03, 0x74, 0x2F, 0x31, 0x00, 0x01, 0x78, 0x34, 0x08, 0x00, 0x03, 0x74, 0x2F,
+    0x31, 0x00, 0x02, 0x79,
+];
+
+const PUBRECS: &[u8] = &[0x50, 0x02, 0x00, 0x01, 0x50, 0x02, 0x00, 0x02];
+
+/// Whether the client wrote the PUBRECs of so many publications.
+fn answers(client: &mut ClientCore, alloc: Global, count: usize) -> bool {
+    match take_written(client, alloc) {
+        Some(out) => PUBRECS.starts_with(&out) && out.len() / 4 == count,
+        None => false,
+    }
+}
+
+/// Whether a client that found no memory is lost, and answers both when they come again.
+fn answers_again(client: &mut ClientCore, alloc: Global) -> bool {
+    !client.connected()
+        && is_back(client, alloc, true)
+        && give(client, PUBLISHES).is_none()
+        && wrote(client, alloc, PUBRECS)
+}
+
+/// Whether both are accepted and answered, those before a want of memory at once.
+fn is_taken_in(client: &mut ClientCore, alloc: Global) -> bool {
+    let refusal = give(client, PUBLISHES);
+    let count = client.accepted().len();
+    if !answers(client, alloc, count) {
+        return false;
+    }
+    match refusal {
+        None => count == 2,
+        Some(ClientError::Memory) => count < 2 && answers_again(client, alloc),
+        Some(_) => false,
+    }
 }
 
 // Of two publications in one piece the first stands where the second found no memory, with its
 // PUBREC, and when both come again each was accepted once.
 #[test]
-fn earlier_packets_of_a_piece_stand(rt: HostRuntime) -> Result<(), Fail> {
-    const PUBLISHES: [u8; 20] = [
-        0x34, 0x08, 0x00, 0x03, 0x74, 0x2F, 0x31, 0x00, 0x01, 0x78, 0x34, 0x08, 0x00, 0x03, 0x74,
-        0x2F, 0x31, 0x00, 0x02, 0x79,
-    ];
-    const PUBRECS: [u8; 8] = [0x50, 0x02, 0x00, 0x01, 0x50, 0x02, 0x00, 0x02];
-    let mut client = online_at_last(rt.alloc())?;
-    let answer = client.on_bytes(&PUBLISHES);
-    let stand = client.accepted().len();
-    let out = take_written(&mut client, rt.alloc())?;
-    assert!(rt; PUBRECS.as_slice().starts_with(out.as_slice()));
-    assert_eq!(rt; out.len() / 4, stand);
-    match answer {
-        Ok(()) => assert_eq!(rt; stand, 2),
-        Err(cause) => {
-            assert_eq!(rt; cause, ClientError::Memory);
-            assert!(rt; stand < 2 && !client.connected());
-            reconnect(&mut client, rt.alloc(), true)?;
-            client.on_bytes(&PUBLISHES)?;
-            let out = take_written(&mut client, rt.alloc())?;
-            assert_eq!(rt; out.as_slice(), PUBRECS.as_slice());
-        }
-    }
-    assert_eq!(rt; client.take_accepted().len(), 2);
-    Ok(())
+fn earlier_packets_of_a_piece_stand(rt: HostRuntime) {
+    let mut client = online_at_last(rt.alloc()).expect(&rt, "memory is wanting at most once");
+    assert!(rt; is_taken_in(&mut client, rt.alloc()));
+    assert_eq!(rt; taken(&mut client), (2, 0));
 }

@@ -1,156 +1,211 @@
 // Publications that a client keeps.
 
-use super::*;
+use super::row::*;
+use client::{ClientCore, ClientError};
+use packet::QoS;
+use std::alloc::Global;
+use std::test::*;
+
+/// PUBLISH of `y` at QoS 2 with identifier 2, its PUBREC, PUBREL and PUBCOMP.
+const SECOND: &[u8] = &[0x34, 0x08, 0x00, 0x03, 0x74, 0x2F, 0x31, 0x00, 0x02, 0x79];
+
+const PUBREC_2: &[u8] = &[0x50, 0x02, 0x00, 0x02];
+
+const PUBREL_2: &[u8] = &[0x62, 0x02, 0x00, 0x02];
+
+const PUBCOMP_2: &[u8] = &[0x70, 0x02, 0x00, 0x02];
+
+const PUBACK_3: &[u8] = &[0x40, 0x02, 0x00, 0x03];
+
+/// What is kept, in the order in which it goes out on the next connection.
+const AGAIN: &[u8] = &[
+    0x62, 0x02, 0x00, 0x02, 0x3C, 0x08, 0x00, 0x03, 0x74, 0x2F, 0x31, 0x00, 0x01, 0x78, 0x32, 0x08,
+    0x00, 0x03, 0x74, 0x2F, 0x31, 0x00, 0x03, 0x77,
+];
+
+const KEEPS: &[Row<'static>] = &[
+    (Act::Open, None, CONNECT, 0, 0),
+    (Act::Bytes(ACCEPTED), None, NOTHING, 0, 0),
+    (Act::Publish(QoS::ExactlyOnce, b'x'), None, PUBLISH, 1, 0),
+    (Act::Publish(QoS::ExactlyOnce, b'y'), None, SECOND, 2, 0),
+    (Act::Bytes(PUBREC_2), None, PUBREL_2, 2, 0),
+    (Act::Lost, None, NOTHING, 2, 0),
+    (Act::Publish(QoS::AtLeastOnce, b'w'), None, NOTHING, 3, 0),
+    (Act::Open, None, CONNECT, 3, 0),
+    (Act::Bytes(PRESENT), None, AGAIN, 3, 0),
+    (Act::Bytes(PUBREC_2), None, PUBREL_2, 3, 0),
+    (Act::Bytes(PUBCOMP_2), None, NOTHING, 2, 0),
+    (Act::Bytes(PUBACK_3), None, NOTHING, 1, 0),
+];
 
 // PUBREC releases the second, and on the next connection it goes first, then the others in the
 // order in which they were published, and at last what was published offline.
 #[test]
-fn kept_publications_go_out_again(rt: HostRuntime) -> Result<(), Fail> {
-    const FIRST: [u8; 10] = [0x34, 0x08, 0x00, 0x03, 0x74, 0x2F, 0x31, 0x00, 0x01, 0x78];
-    const SECOND: [u8; 10] = [0x34, 0x08, 0x00, 0x03, 0x74, 0x2F, 0x31, 0x00, 0x02, 0x79];
-    const PUBREL: [u8; 4] = [0x62, 0x02, 0x00, 0x02];
-    const AGAIN: [u8; 24] = [
-        0x62, 0x02, 0x00, 0x02, 0x3C, 0x08, 0x00, 0x03, 0x74, 0x2F, 0x31, 0x00, 0x01, 0x78, 0x32,
-        0x08, 0x00, 0x03, 0x74, 0x2F, 0x31, 0x00, 0x03, 0x77,
-    ];
-    const PUBREC_2: [u8; 4] = [0x50, 0x02, 0x00, 0x02];
-    const PUBCOMP_2: [u8; 4] = [0x70, 0x02, 0x00, 0x02];
-    const PUBACK_3: [u8; 4] = [0x40, 0x02, 0x00, 0x03];
-    let two = QoS::ExactlyOnce;
-    let rows = [
-        writes(Act::Open, &CONNECT, 0, 0),
-        writes(Act::Bytes(&ACCEPTED), &NOTHING, 0, 0),
-        writes(Act::Publish(two, b'x'), &FIRST, 1, 0),
-        writes(Act::Publish(two, b'y'), &SECOND, 2, 0),
-        writes(Act::Bytes(&PUBREC_2), &PUBREL, 2, 0),
-        writes(Act::Lost, &NOTHING, 2, 0),
-        writes(Act::Publish(QoS::AtLeastOnce, b'w'), &NOTHING, 3, 0),
-        writes(Act::Open, &CONNECT, 3, 0),
-        writes(Act::Bytes(&PRESENT), &AGAIN, 3, 0),
-        writes(Act::Bytes(&PUBREC_2), &PUBREL, 3, 0),
-        writes(Act::Bytes(&PUBCOMP_2), &NOTHING, 2, 0),
-        writes(Act::Bytes(&PUBACK_3), &NOTHING, 1, 0),
-    ];
-    let client = play(&rt, rt.alloc(), &rows)?;
-    assert!(rt; client.present());
-    Ok(())
+fn kept_publications_go_out_again(rt: HostRuntime) {
+    let present = match play(rt.alloc(), KEEPS) {
+        Ok(client) => Ok(client.present()),
+        Err(at) => Err(at),
+    };
+    assert_eq!(rt; present, Ok(true));
 }
+
+/// Whether so many publications at QoS 2 are kept.
+fn keeps_all(client: &mut ClientCore, alloc: Global, count: usize) -> bool {
+    for kept in 0..count {
+        let one = publish(client, alloc, QoS::ExactlyOnce, b"x");
+        if one.is_some() || !wrote(client, alloc, NOTHING) || counts(client).0 != kept + 1 {
+            return false;
+        }
+    }
+    true
+}
+
+const FULL: &Row<'static> = &(
+    Act::Publish(QoS::AtLeastOnce, b'x'),
+    Some(ClientError::WindowFull),
+    NOTHING,
+    16,
+    0,
+);
+
+const OFFLINE: &Row<'static> = &(
+    Act::Publish(QoS::AtMostOnce, b'x'),
+    Some(ClientError::NotActive),
+    NOTHING,
+    16,
+    0,
+);
 
 // Sixteen are kept, offline too; QoS 0 is not.
 #[test]
-fn the_seventeenth_is_refused(rt: HostRuntime) -> Result<(), Fail> {
-    let mut client = new_client(rt.alloc())?;
-    for kept in 1..17 {
-        let kept = writes(Act::Publish(QoS::ExactlyOnce, b'x'), &NOTHING, kept, 0);
-        check(&rt, rt.alloc(), &mut client, &kept, None)?;
+fn the_seventeenth_is_refused(rt: HostRuntime) {
+    let mut client = new_client(rt.alloc()).expect(&rt, "memory is left");
+    assert!(rt; keeps_all(&mut client, rt.alloc(), 16));
+    assert!(rt; comes_out(&mut client, rt.alloc(), FULL, None));
+    assert!(rt; comes_out(&mut client, rt.alloc(), OFFLINE, None));
+}
+
+/// CONNACK without a session present, and behind it a PUBLISH.
+const CONNACK: &[u8] = &[
+    0x20, 0x02, 0x00, 0x00, 0x34, 0x08, 0x00, 0x03, 0x74, 0x2F, 0x31, 0x00, 0x01, 0x78,
+];
+
+const FORGETS: &[Row<'static>] = &[
+    (Act::Open, None, CONNECT, 0, 0),
+    (Act::Bytes(ACCEPTED), None, NOTHING, 0, 0),
+    (Act::Publish(QoS::ExactlyOnce, b'x'), None, PUBLISH, 1, 0),
+    (Act::Bytes(PUBLISH), None, PUBREC, 1, 1),
+    (Act::Open, None, CONNECT, 1, 1),
+    (
+        Act::Bytes(CONNACK),
+        Some(ClientError::SessionLost),
+        NOTHING,
+        0,
+        1,
+    ),
+    (Act::Bytes(NOTHING), None, PUBREC, 0, 2),
+];
+
+/// Whether a client is online, and the number of the session that accepted last.
+fn last_session(client: &ClientCore) -> (bool, Option<u64>) {
+    match client.accepted() {
+        [.., last] => (client.connected(), Some(last.session)),
+        _ => (client.connected(), None),
     }
-    let full = refused(
-        Act::Publish(QoS::AtLeastOnce, b'x'),
-        ClientError::WindowFull,
-        16,
-        0,
-    );
-    check(&rt, rt.alloc(), &mut client, &full, None)?;
-    let offline = refused(
-        Act::Publish(QoS::AtMostOnce, b'x'),
-        ClientError::NotActive,
-        16,
-        0,
-    );
-    check(&rt, rt.alloc(), &mut client, &offline, None)
 }
 
 // A session that the server lost takes with it what was kept and which identifiers were accepted.
 // What is behind its CONNACK is handled by the next call.
 #[test]
-fn a_lost_session_forgets(rt: HostRuntime) -> Result<(), Fail> {
-    const FIRST: [u8; 10] = [0x34, 0x08, 0x00, 0x03, 0x74, 0x2F, 0x31, 0x00, 0x01, 0x78];
-    const CONNACK: [u8; 14] = [
-        0x20, 0x02, 0x00, 0x00, 0x34, 0x08, 0x00, 0x03, 0x74, 0x2F, 0x31, 0x00, 0x01, 0x78,
-    ];
-    let rows = [
-        writes(Act::Open, &CONNECT, 0, 0),
-        writes(Act::Bytes(&ACCEPTED), &NOTHING, 0, 0),
-        writes(Act::Publish(QoS::ExactlyOnce, b'x'), &FIRST, 1, 0),
-        writes(Act::Bytes(&PUBLISH), &PUBREC, 1, 1),
-        writes(Act::Open, &CONNECT, 1, 1),
-        refused(Act::Bytes(&CONNACK), ClientError::SessionLost, 0, 1),
-        writes(Act::Bytes(&NOTHING), &PUBREC, 0, 2),
-    ];
-    let client = play_cut(&rt, rt.alloc(), &rows, None)?;
-    assert!(rt; client.connected());
-    assert_eq!(rt; client.accepted().last().map(|one| one.session), Some(2));
-    Ok(())
+fn a_lost_session_forgets(rt: HostRuntime) {
+    let last = match play_cut(rt.alloc(), FORGETS, None) {
+        Ok(client) => Ok(last_session(&client)),
+        Err(at) => Err(at),
+    };
+    assert_eq!(rt; last, Ok((true, Some(2))));
 }
 
-// Publishes so many bytes on `t/1`.
+/// A client that the server accepted.
+fn online(alloc: Global) -> Option<ClientCore> {
+    let rows: [Row<'static>; 2] = [
+        (Act::Open, None, CONNECT, 0, 0),
+        (Act::Bytes(ACCEPTED), None, NOTHING, 0, 0),
+    ];
+    play_cut(alloc, &rows, None).ok()
+}
+
+/// Publishes so many bytes on `t/1`.
 fn publish_bytes(
     client: &mut ClientCore,
     alloc: Global,
     qos: QoS,
     length: usize,
-) -> Result<(), ClientError> {
-    let topic = TopicName::new(alloc, "t/1")
-        .ok()
-        .ok_or(ClientError::Memory)?;
-    let bytes = Vec::from_elem(alloc, 7u8, length)?;
-    client.publish(topic, qos, false, Payload::new(alloc, &bytes)?)
+) -> Option<ClientError> {
+    match Vec::from_elem(alloc, 7u8, length) {
+        Ok(bytes) => publish(client, alloc, qos, &bytes),
+        Err(_) => Some(ClientError::Memory),
+    }
+}
+
+/// How many bytes a client wrote.
+fn written_len(client: &mut ClientCore, alloc: Global) -> Option<usize> {
+    match take_written(client, alloc) {
+        Some(out) => Some(out.len()),
+        None => None,
+    }
+}
+
+const ONE: &Row<'static> = &(Act::Publish(QoS::ExactlyOnce, b'x'), None, PUBLISH, 1, 0);
+
+/// Whether a payload of one length is refused and nothing changes, and one of another goes out in a
+/// packet of 1,048,576 bytes.
+fn is_limited(alloc: Global, qos: QoS, refused: usize, largest: usize) -> bool {
+    let Some(mut client) = online(alloc) else {
+        return false;
+    };
+    publish_bytes(&mut client, alloc, qos, refused) == Some(ClientError::TooLarge)
+        && comes_out(&mut client, alloc, ONE, None)
+        && publish_bytes(&mut client, alloc, qos, largest).is_none()
+        && written_len(&mut client, alloc) == Some(1_048_576)
 }
 
 // Behind the fixed header a packet has at most 1,048,572 bytes: 5 of the topic and its length, 2 of
 // the identifier, and the payload. One byte more is refused, online and offline, and nothing changes.
 #[test]
-fn a_publication_too_large_is_refused(rt: HostRuntime) -> Result<(), Fail> {
-    const FIRST: [u8; 10] = [0x34, 0x08, 0x00, 0x03, 0x74, 0x2F, 0x31, 0x00, 0x01, 0x78];
-    let one = writes(Act::Publish(QoS::ExactlyOnce, b'x'), &FIRST, 1, 0);
+fn a_publication_too_large_is_refused(rt: HostRuntime) {
     let alloc = rt.alloc();
-    for qos in [QoS::AtMostOnce, QoS::AtLeastOnce, QoS::ExactlyOnce] {
-        let largest = if qos == QoS::AtMostOnce {
-            1_048_567
-        } else {
-            1_048_565
-        };
-        let rows = [
-            writes(Act::Open, &CONNECT, 0, 0),
-            writes(Act::Bytes(&ACCEPTED), &NOTHING, 0, 0),
-        ];
-        let mut client = play_cut(&rt, alloc, &rows, None)?;
-        let refusal = publish_bytes(&mut client, alloc, qos, largest + 1);
-        assert_eq!(rt; refusal, Err(ClientError::TooLarge));
-        check(&rt, alloc, &mut client, &one, None)?;
-        publish_bytes(&mut client, alloc, qos, largest)?;
-        let mut out = Vec::new(alloc);
-        client.outgoing(&mut out)?;
-        assert_eq!(rt; out.len(), 1_048_576);
-    }
-    let mut client = new_client(alloc)?;
-    let refusal = publish_bytes(&mut client, alloc, QoS::AtLeastOnce, 1_048_566);
-    assert_eq!(rt; refusal, Err(ClientError::TooLarge));
+    assert!(rt; is_limited(alloc, QoS::AtMostOnce, 1_048_568, 1_048_567));
+    assert!(rt; is_limited(alloc, QoS::AtLeastOnce, 1_048_566, 1_048_565));
+    assert!(rt; is_limited(alloc, QoS::ExactlyOnce, 1_048_566, 1_048_565));
+}
+
+#[test]
+fn too_large_is_refused_offline(rt: HostRuntime) {
+    let mut client = new_client(rt.alloc()).expect(&rt, "memory is left");
+    let refusal = publish_bytes(&mut client, rt.alloc(), QoS::AtLeastOnce, 1_048_566);
+    assert_eq!(rt; refusal, Some(ClientError::TooLarge));
     assert_eq!(rt; client.kept(), 0);
-    Ok(())
+}
+
+/// How many bytes a client writes that asks for this filter and gives it up.
+fn asked_len(client: &mut ClientCore, alloc: Global, text: &str) -> Option<usize> {
+    let subscribed = subscribe(client, alloc, text);
+    let unsubscribed = unsubscribe(client, alloc, text);
+    if subscribed.is_some() || unsubscribed.is_some() {
+        return None;
+    }
+    written_len(client, alloc)
 }
 
 // A filter has at most 65,535 bytes, so that no request is too large: the longest goes out whole.
+// Fixed header, identifier and length, the filter; and its QoS where it subscribes.
 #[test]
-fn the_longest_filter_is_asked_for(rt: HostRuntime) -> Result<(), Fail> {
-    let alloc = rt.alloc();
-    let rows = [
-        writes(Act::Open, &CONNECT, 0, 0),
-        writes(Act::Bytes(&ACCEPTED), &NOTHING, 0, 0),
-    ];
-    let mut client = play_cut(&rt, alloc, &rows, None)?;
-    let text = "a".repeat(alloc, 65_535)?;
-    for subscribes in [true, false] {
-        let filter = Filter::new(alloc, &text).ok().ok_or(ClientError::Memory)?;
-        if subscribes {
-            client.subscribe(filter, QoS::ExactlyOnce)?;
-        } else {
-            client.unsubscribe(filter)?;
-        }
-    }
-    let mut out = Vec::new(alloc);
-    client.outgoing(&mut out)?;
-    // Fixed header, identifier and length, the filter; and its QoS where it subscribes.
-    assert_eq!(rt; out.len(), 2 * (4 + 4 + 65_535) + 1);
-    Ok(())
+fn the_longest_filter_is_asked_for(rt: HostRuntime) {
+    let mut client = online(rt.alloc()).expect(&rt, "memory is left");
+    let text = "a"
+        .repeat(rt.alloc(), 65_535)
+        .ok()
+        .expect(&rt, "memory is left");
+    let len = asked_len(&mut client, rt.alloc(), &text);
+    assert_eq!(rt; len, Some((4 + 4 + 65_535 + 1) + (4 + 4 + 65_535)));
 }

@@ -1,0 +1,206 @@
+// Rows: what is done with a client, and what comes of it.
+
+use client::{ClientCore, ClientError};
+use packet::{ClientId, Payload, QoS};
+use std::alloc::Global;
+use topics::{Filter, TopicName};
+
+/// What is done with a client.
+#[derive(Clone, Copy)]
+pub enum Act<'a> {
+    Open,
+    Lost,
+    Disconnect,
+    /// The server sends these bytes.
+    Bytes(&'a [u8]),
+    /// Asks for `t/#` at QoS 2.
+    Subscribe,
+    /// Gives `t/#` up.
+    Unsubscribe,
+    /// Publishes one byte on `t/1`.
+    Publish(QoS, u8),
+}
+
+/// An act, what it is refused with, what is written then, and how many publications are kept and
+/// were accepted.
+pub type Row<'a> = (Act<'a>, Option<ClientError>, &'a [u8], usize, usize);
+
+/// CONNECT of client `a` with CleanSession 0 and keep alive 0 (MQTT 3.1).
+pub const CONNECT: &[u8] = &[
+    0x10, 0x0D, 0x00, 0x04, 0x4D, 0x51, 0x54, 0x54, 0x04, 0x00, 0x00, 0x00, 0x00, 0x01, 0x61,
+];
+
+/// CONNACK 0 without a session present (MQTT 3.2).
+pub const ACCEPTED: &[u8] = &[0x20, 0x02, 0x00, 0x00];
+
+/// CONNACK 0 with a session present.
+pub const PRESENT: &[u8] = &[0x20, 0x02, 0x01, 0x00];
+
+/// PUBLISH of `x` on `t/1` at QoS 2 with identifier 1 (MQTT 3.3).
+pub const PUBLISH: &[u8] = &[0x34, 0x08, 0x00, 0x03, 0x74, 0x2F, 0x31, 0x00, 0x01, 0x78];
+
+/// PUBREC of identifier 1.
+pub const PUBREC: &[u8] = &[0x50, 0x02, 0x00, 0x01];
+
+/// No bytes.
+pub const NOTHING: &[u8] = &[];
+
+/// No piece of the rows is longer.
+const LONGEST: usize = 26;
+
+/// Client `a`, never connected.
+pub fn new_client(alloc: Global) -> Option<ClientCore> {
+    let client = ClientId::new(alloc, "a").ok()?;
+    Some(ClientCore::new(alloc, client, 0))
+}
+
+/// Gives bytes of the server: what they are refused with.
+pub fn give(client: &mut ClientCore, bytes: &[u8]) -> Option<ClientError> {
+    client.on_bytes(bytes).err()
+}
+
+/// Opens a connection: what that is refused with.
+pub fn open(client: &mut ClientCore) -> Option<ClientError> {
+    client.open().err()
+}
+
+/// Gives a piece in two parts, of which the first has so many bytes, or all: the first refusal.
+fn give_in_two(client: &mut ClientCore, bytes: &[u8], cut: usize) -> Option<ClientError> {
+    let Some((front, behind)) = bytes.split_at_checked(cut.min(bytes.len())) else {
+        return Some(ClientError::TooLarge);
+    };
+    let first = give(client, front);
+    let second = give(client, behind);
+    first.or(second)
+}
+
+/// Gives a piece, whole or cut in two.
+fn give_cut(client: &mut ClientCore, bytes: &[u8], cut: Option<usize>) -> Option<ClientError> {
+    match cut {
+        Some(cut) => give_in_two(client, bytes, cut),
+        None => give(client, bytes),
+    }
+}
+
+fn leave(client: &mut ClientCore) -> Option<ClientError> {
+    client.disconnect().err()
+}
+
+/// Asks for a filter; `Memory` also where there is none for the filter.
+pub fn subscribe(client: &mut ClientCore, alloc: Global, text: &str) -> Option<ClientError> {
+    match Filter::new(alloc, text) {
+        Ok(filter) => client.subscribe(filter, QoS::ExactlyOnce).err(),
+        Err(_) => Some(ClientError::Memory),
+    }
+}
+
+/// Gives a filter up; `Memory` also where there is none for the filter.
+pub fn unsubscribe(client: &mut ClientCore, alloc: Global, text: &str) -> Option<ClientError> {
+    match Filter::new(alloc, text) {
+        Ok(filter) => client.unsubscribe(filter).err(),
+        Err(_) => Some(ClientError::Memory),
+    }
+}
+
+/// A topic and a payload; none where there is no memory for them.
+fn content(alloc: Global, bytes: &[u8]) -> Option<(TopicName, Payload)> {
+    let topic = TopicName::new(alloc, "t/1").ok()?;
+    let payload = Payload::new(alloc, bytes).ok()?;
+    Some((topic, payload))
+}
+
+/// Publishes these bytes on `t/1`; `Memory` also where there is none for what is published.
+pub fn publish(
+    client: &mut ClientCore,
+    alloc: Global,
+    qos: QoS,
+    bytes: &[u8],
+) -> Option<ClientError> {
+    match content(alloc, bytes) {
+        Some((topic, payload)) => client.publish(topic, qos, false, payload).err(),
+        None => Some(ClientError::Memory),
+    }
+}
+
+/// Does this: what it is refused with.
+pub fn attempt(
+    client: &mut ClientCore,
+    alloc: Global,
+    act: Act<'_>,
+    cut: Option<usize>,
+) -> Option<ClientError> {
+    match act {
+        Act::Open => open(client),
+        Act::Lost => {
+            client.lost();
+            None
+        }
+        Act::Disconnect => leave(client),
+        Act::Bytes(bytes) => give_cut(client, bytes, cut),
+        Act::Subscribe => subscribe(client, alloc, "t/#"),
+        Act::Unsubscribe => unsubscribe(client, alloc, "t/#"),
+        Act::Publish(qos, byte) => publish(client, alloc, qos, &[byte]),
+    }
+}
+
+/// What a client wrote; none where there is no memory for it.
+pub fn take_written(client: &mut ClientCore, alloc: Global) -> Option<Vec<u8>> {
+    let mut out = Vec::new(alloc);
+    match client.outgoing(&mut out) {
+        Ok(()) => Some(out),
+        Err(_) => None,
+    }
+}
+
+/// Whether a client wrote these bytes.
+pub fn wrote(client: &mut ClientCore, alloc: Global, wanted: &[u8]) -> bool {
+    match take_written(client, alloc) {
+        Some(out) => out.as_slice() == wanted,
+        None => false,
+    }
+}
+
+/// How many publications are kept, and how many were accepted.
+pub fn counts(client: &ClientCore) -> (usize, usize) {
+    (client.kept(), client.accepted().len())
+}
+
+/// Whether a row comes out with a client as it says.
+pub fn comes_out(
+    client: &mut ClientCore,
+    alloc: Global,
+    row: &Row<'_>,
+    cut: Option<usize>,
+) -> bool {
+    let (done, refusal, written, kept, accepted) = *row;
+    attempt(client, alloc, done, cut) == refusal
+        && wrote(client, alloc, written)
+        && counts(client) == (kept, accepted)
+}
+
+/// Goes through the rows with a client that was never connected, each piece of the server whole or
+/// cut in two; or tells the first row that comes out otherwise.
+pub fn play_cut(alloc: Global, rows: &[Row<'_>], cut: Option<usize>) -> Result<ClientCore, usize> {
+    let Some(mut client) = new_client(alloc) else {
+        return Err(0);
+    };
+    for (at, row) in rows.iter().enumerate() {
+        if !comes_out(&mut client, alloc, row, cut) {
+            return Err(at);
+        }
+    }
+    Ok(client)
+}
+
+/// The same with every cut of each piece, and at last with none.
+pub fn play(alloc: Global, rows: &[Row<'_>]) -> Result<ClientCore, usize> {
+    for cut in 0..LONGEST {
+        play_cut(alloc, rows, Some(cut))?;
+    }
+    play_cut(alloc, rows, None)
+}
+
+/// The first row that comes out otherwise, with some cut or none.
+pub fn first_fault(alloc: Global, rows: &[Row<'_>]) -> Option<usize> {
+    play(alloc, rows).err()
+}
