@@ -9,8 +9,6 @@ mod progress;
 mod replica;
 mod sending;
 mod taking;
-#[cfg(test)]
-mod tests;
 
 pub use ballot_base::{Body, Config, Effect, Log, Members, Message, Role, Status};
 pub use copying::copy_log;

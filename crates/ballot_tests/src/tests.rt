@@ -1,0 +1,5 @@
+mod changes;
+mod commands;
+mod opening;
+mod pairs;
+mod replicas;

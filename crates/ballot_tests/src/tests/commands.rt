@@ -1,0 +1,152 @@
+// Commands inside ballot 1, on worked rows of one, two and three members.
+
+use super::replicas::*;
+use ballot::{Body, Effect, OpeningError, ProposeError, Replica, Role};
+use machine::{Tally, TallyCommand};
+use std::alloc::Global;
+use std::test::Fail;
+
+// Whether a replica takes these commands.
+fn take(
+    replica: &mut Replica<Tally>,
+    commands: &[TallyCommand],
+    out: &mut Vec<Effect<TallyCommand, u64>>,
+) -> bool {
+    for command in commands {
+        if !takes(replica, *command, out) {
+            return false;
+        }
+    }
+    true
+}
+
+const THREE: &[TallyCommand] = &[
+    TallyCommand::Add(2),
+    TallyCommand::Start(2),
+    TallyCommand::Add(3),
+];
+
+// A sole member gives 2, nothing at the start of a ballot, and 5.
+#[test]
+fn a_sole_member_answers_at_once(rt: HostRuntime) -> Result<(), Fail> {
+    let mut replica = one(rt.alloc(), &[1], 1)?;
+    let mut out = Vec::new(rt.alloc());
+    assert!(rt; take(&mut replica, THREE, &mut out));
+    assert_eq!(rt; out.len(), 2);
+    assert!(rt; gives(&out, 0, 0, 2) && gives(&out, 1, 2, 5));
+    assert!(rt; shows(&replica, 1, Role::Active, 3, 3) && logs(&replica, THREE));
+    assert_eq!(rt; replica.losses(), 0);
+    Ok(())
+}
+
+// Node 1 of two members, which was told to add 2.
+fn primary_of_two(
+    alloc: Global,
+    out: &mut Vec<Effect<TallyCommand, u64>>,
+) -> Result<Replica<Tally>, OpeningError> {
+    let mut primary = one(alloc, &[1, 2], 1)?;
+    let _ = takes(&mut primary, TallyCommand::Add(2), out);
+    Ok(primary)
+}
+
+// What is proposed to one of two members leaves once the other holds it.
+#[test]
+fn append_held_commit(rt: HostRuntime) -> Result<(), Fail> {
+    let mut out = Vec::new(rt.alloc());
+    let mut primary = primary_of_two(rt.alloc(), &mut out)?;
+    assert!(rt; out.len() == 1 && appends(&out, 0, (1, 2), 0, 2));
+    out.clear();
+    assert!(rt; hears(&mut primary, 2, Body::Held(1, 1), &mut out));
+    assert_eq!(rt; out.len(), 2);
+    assert!(rt; gives(&out, 0, 0, 2) && commits(&out, 1, (1, 2), 1));
+    Ok(())
+}
+
+// What is heard twice changes nothing more; a tick says again what is committed.
+#[test]
+fn held_comes_twice(rt: HostRuntime) -> Result<(), Fail> {
+    let mut out = Vec::new(rt.alloc());
+    let mut primary = primary_of_two(rt.alloc(), &mut out)?;
+    assert!(rt; hears(&mut primary, 2, Body::Held(1, 1), &mut out));
+    out.clear();
+    assert!(rt; hears(&mut primary, 2, Body::Held(1, 1), &mut out));
+    assert_eq!(rt; out.len(), 0);
+    primary.tick(&mut out);
+    assert!(rt; out.len() == 1 && commits(&out, 0, (1, 2), 1));
+    assert_eq!(rt; primary.losses(), 0);
+    Ok(())
+}
+
+// Whether node 1 appends a number at a place, and the backup goes on.
+fn is_appended(
+    backup: &mut Replica<Tally>,
+    place: u64,
+    number: u64,
+    out: &mut Vec<Effect<TallyCommand, u64>>,
+) -> bool {
+    let body = Body::Append(1, place, TallyCommand::Add(number));
+    hears(backup, 1, body, out)
+}
+
+#[test]
+fn a_backup_takes_places_in_order(rt: HostRuntime) -> Result<(), Fail> {
+    let mut backup = two(rt.alloc(), &[1, 2], 1)?;
+    let mut out = Vec::new(rt.alloc());
+    assert!(rt; shows(&backup, 1, Role::Backup, 0, 0));
+    assert!(rt; is_appended(&mut backup, 1, 3, &mut out));
+    assert_eq!(rt; out.len(), 0);
+    assert!(rt; shows(&backup, 1, Role::Backup, 0, 0));
+    assert!(rt; is_appended(&mut backup, 0, 2, &mut out));
+    assert!(rt; out.len() == 1 && holds(&out, 0, (2, 1)));
+    Ok(())
+}
+
+// Whether a replica takes no command, because it is no active primary.
+fn is_not_active(replica: &mut Replica<Tally>, out: &mut Vec<Effect<TallyCommand, u64>>) -> bool {
+    match replica.propose(TallyCommand::Add(1), out) {
+        Err(ProposeError::NotActive) => true,
+        _ => false,
+    }
+}
+
+// A backup that is told what is committed says nothing, also at a tick, and takes no proposal.
+#[test]
+fn a_backup_is_silent(rt: HostRuntime) -> Result<(), Fail> {
+    let mut backup = two(rt.alloc(), &[1, 2], 1)?;
+    let mut out = Vec::new(rt.alloc());
+    assert!(rt; is_appended(&mut backup, 0, 2, &mut out));
+    out.clear();
+    assert!(rt; hears(&mut backup, 1, Body::Commit(1, 1), &mut out));
+    backup.tick(&mut out);
+    assert_eq!(rt; out.len(), 0);
+    assert!(rt; shows(&backup, 1, Role::Backup, 1, 1));
+    assert!(rt; is_not_active(&mut backup, &mut out));
+    assert_eq!(rt; backup.losses(), 0);
+    Ok(())
+}
+
+const TWO_NUMBERS: &[TallyCommand] = &[TallyCommand::Add(2), TallyCommand::Add(3)];
+
+// Node 2 of three members, which was told to add 2 and 3; node 1 holds the first.
+fn primary_of_three(
+    alloc: Global,
+    out: &mut Vec<Effect<TallyCommand, u64>>,
+) -> Result<Replica<Tally>, OpeningError> {
+    let mut primary = two(alloc, &[1, 2, 3], 2)?;
+    let _ = take(&mut primary, TWO_NUMBERS, out) && hears(&mut primary, 1, Body::Held(1, 1), out);
+    Ok(primary)
+}
+
+// A tick sends the place at a progress, to each member that lacks one, and what is committed to each.
+#[test]
+fn a_tick_sends_what_is_lacking(rt: HostRuntime) -> Result<(), Fail> {
+    let mut out = Vec::new(rt.alloc());
+    let mut primary = primary_of_three(rt.alloc(), &mut out)?;
+    assert_eq!(rt; out.len(), 4);
+    out.clear();
+    primary.tick(&mut out);
+    assert_eq!(rt; out.len(), 4);
+    assert!(rt; appends(&out, 0, (2, 1), 1, 3) && appends(&out, 1, (2, 3), 0, 2));
+    assert!(rt; commits(&out, 2, (2, 1), 0) && commits(&out, 3, (2, 3), 0));
+    Ok(())
+}

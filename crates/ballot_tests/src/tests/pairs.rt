@@ -1,0 +1,93 @@
+// Two nodes, and what came out of them.
+
+use super::replicas::{hears, one, two};
+use ballot::{Body, Effect, Members, Message, OpeningError, Replica};
+use machine::{Memory, Tally, TallyCommand};
+use std::alloc::Global;
+
+/// Nodes 1 and 2, and what their calls handed out.
+#[derive(Drop)]
+pub struct Pair {
+    pub one: Replica<Tally>,
+    pub two: Replica<Tally>,
+    pub out: Vec<Effect<TallyCommand, u64>>,
+}
+
+/// Two nodes open in ballot 1 with these members, of which node 1 is the primary.
+pub fn open(alloc: Global, members: &[u8]) -> Result<Pair, OpeningError> {
+    Ok(Pair {
+        one: one(alloc, members, 1)?,
+        two: two(alloc, members, 1)?,
+        out: Vec::new(alloc),
+    })
+}
+
+/// What the master says as it gives ballot 2 to nodes 1 and 2, behind the members of ballot 1.
+pub fn ballot_two(alloc: Global, previous: &[u8]) -> Result<Body<TallyCommand>, Memory> {
+    let members = Members::from_slice(alloc, &[1, 2])?;
+    let previous = Members::from_slice(alloc, previous)?;
+    Ok(Body::NewBallot(2, members, 1, previous))
+}
+
+/// Node 2 hears the master, and nothing else is under way.
+pub fn master_says(pair: &mut Pair, body: Body<TallyCommand>) -> bool {
+    pair.out.clear();
+    hears(&mut pair.two, 0, body, &mut pair.out)
+}
+
+/// Two nodes, of which the second is given ballot 2 with both for its members.
+pub fn assigned(alloc: Global, previous: &[u8]) -> Result<Pair, OpeningError> {
+    let mut pair = open(alloc, previous)?;
+    let body = ballot_two(alloc, previous)?;
+    let _ = master_says(&mut pair, body);
+    Ok(pair)
+}
+
+/// What kind a message is.
+fn kind_of(body: &Body<TallyCommand>) -> &'static str {
+    match body {
+        Body::NewBallot(_, _, _, _) => "NewBallot",
+        Body::Join(_, _) => "Join",
+        Body::State(_, _) => "State",
+        Body::Install(_, _) => "Install",
+        Body::Installed(_, _) => "Installed",
+        Body::Activate(_) => "Activate",
+        Body::Activated(_) => "Activated",
+        Body::Superseded(_) => "Superseded",
+        Body::Append(_, _, _) => "Append",
+        Body::Held(_, _) => "Held",
+        Body::Commit(_, _) => "Commit",
+    }
+}
+
+/// Whether a node, if it is one of the two, goes on with a message.
+fn is_heard(pair: &mut Pair, receiver: u8, message: Message<TallyCommand>) -> bool {
+    match receiver {
+        1 => hears(&mut pair.one, message.from, message.body, &mut pair.out),
+        2 => hears(&mut pair.two, message.from, message.body, &mut pair.out),
+        _ => true,
+    }
+}
+
+/// The last message goes to its receiver. What kind it is, is the result.
+pub fn hand_on(pair: &mut Pair) -> &'static str {
+    let Some(Effect::To(receiver, message)) = pair.out.pop() else {
+        return "nothing";
+    };
+    let kind = kind_of(&message.body);
+    if is_heard(pair, receiver, message) {
+        kind
+    } else {
+        "halted"
+    }
+}
+
+/// Whether the messages that are handed on in turn are of these kinds.
+pub fn hands_on(pair: &mut Pair, kinds: &[&str]) -> bool {
+    for kind in kinds {
+        if hand_on(pair) != *kind {
+            return false;
+        }
+    }
+    true
+}

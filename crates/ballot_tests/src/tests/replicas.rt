@@ -1,0 +1,109 @@
+// Replicas of counting machines, and small questions that are asked of them.
+
+use ballot::{Body, Config, Effect, Members, Message, OpeningError, Replica, Role};
+use machine::{Memory, Tally, TallyCommand};
+use std::alloc::Global;
+
+/// A configuration with these members and this primary.
+pub fn config(alloc: Global, members: &[u8], primary: u8) -> Result<Config, Memory> {
+    Ok(Config {
+        members: Members::from_slice(alloc, members)?,
+        primary,
+    })
+}
+
+/// Node 1, open in ballot 1 with these members and this primary.
+pub fn one(alloc: Global, members: &[u8], primary: u8) -> Result<Replica<Tally>, OpeningError> {
+    let config = config(alloc, members, primary)?;
+    Replica::new(alloc, 1, &config)
+}
+
+/// Node 2, open in ballot 1 with these members and this primary.
+pub fn two(alloc: Global, members: &[u8], primary: u8) -> Result<Replica<Tally>, OpeningError> {
+    let config = config(alloc, members, primary)?;
+    Replica::new(alloc, 2, &config)
+}
+
+/// Whether a replica takes a command.
+pub fn takes(
+    replica: &mut Replica<Tally>,
+    command: TallyCommand,
+    out: &mut Vec<Effect<TallyCommand, u64>>,
+) -> bool {
+    replica.propose(command, out).is_ok()
+}
+
+/// Whether a replica goes on once it hears a node.
+pub fn hears(
+    replica: &mut Replica<Tally>,
+    from: u8,
+    body: Body<TallyCommand>,
+    out: &mut Vec<Effect<TallyCommand, u64>>,
+) -> bool {
+    replica.on(Message { from, body }, out).is_ok()
+}
+
+/// Ballot, role, held and committed places of a replica that runs.
+pub fn shows(replica: &Replica<Tally>, ballot: u64, role: Role, held: u64, committed: u64) -> bool {
+    let status = replica.status();
+    let place = status.held == held && status.committed == committed;
+    status.ballot == ballot && status.role == role && place && !status.stopped
+}
+
+/// Whether these commands are the log.
+pub fn logs(replica: &Replica<Tally>, commands: &[TallyCommand]) -> bool {
+    replica.log() == commands
+}
+
+/// Whether the effect at a place is this output.
+pub fn gives(out: &[Effect<TallyCommand, u64>], at: usize, place: u64, total: u64) -> bool {
+    match out.get(at) {
+        Some(Effect::Out(left, output)) => *left == place && *output == total,
+        _ => false,
+    }
+}
+
+/// The way of a message: its sender and its receiver.
+pub type Way = (u8, u8);
+
+/// What is said on a way by the effect at a place.
+fn said(out: &[Effect<TallyCommand, u64>], at: usize, way: Way) -> Option<&Body<TallyCommand>> {
+    match out.get(at) {
+        Some(Effect::To(receiver, message)) if (message.from, *receiver) == way => {
+            Some(&message.body)
+        }
+        _ => None,
+    }
+}
+
+/// Whether the effect appends a number at a place of ballot 1.
+pub fn appends(
+    out: &[Effect<TallyCommand, u64>],
+    at: usize,
+    way: Way,
+    place: u64,
+    number: u64,
+) -> bool {
+    match said(out, at, way) {
+        Some(Body::Append(1, told, TallyCommand::Add(added))) => {
+            *told == place && *added == number
+        }
+        _ => false,
+    }
+}
+
+/// Whether the effect says that one place of ballot 1 is held.
+pub fn holds(out: &[Effect<TallyCommand, u64>], at: usize, way: Way) -> bool {
+    match said(out, at, way) {
+        Some(Body::Held(1, 1)) => true,
+        _ => false,
+    }
+}
+
+/// Whether the effect says how many places of ballot 1 are committed.
+pub fn commits(out: &[Effect<TallyCommand, u64>], at: usize, way: Way, count: u64) -> bool {
+    match said(out, at, way) {
+        Some(Body::Commit(1, told)) => *told == count,
+        _ => false,
+    }
+}
