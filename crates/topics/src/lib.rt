@@ -8,8 +8,6 @@ mod level;
 mod malformed;
 mod matching;
 mod survey;
-#[cfg(test)]
-mod tests;
 mod text;
 mod topic_name;
 

@@ -1,0 +1,5 @@
+mod asking;
+mod calls;
+mod faults;
+mod limits;
+mod matching;
