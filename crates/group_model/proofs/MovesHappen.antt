@@ -1,0 +1,234 @@
+-- Each move of a node is one event among replicas, or none.
+use Rattle.std.proofs.Common.{inl, ◌≡◌, ℕ, Bool, true, false, if◌then◌else◌, nat_lt, List, [], ◌∷◌, ◌++◌, length, Some, slice_get, slice_set, map, refl, sym, ap, ◌∙◌, subst}
+use Rattle.std.proofs.lemmas.List.{append-nil}
+use Rattle.lists.specs.Lists.{In}
+use Rattle.lists.specs.Lists.In.{there}
+use Rattle.ballot.specs.Config.{Config}
+use Rattle.ballot.specs.Effect.{Effect}
+use Rattle.ballot.specs.Losses.{Loses, Thinned, halted}
+use Rattle.ballot.specs.Losses.Thinned.{none, keeps}
+use Rattle.ballot.specs.Message.{Message}
+use Rattle.ballot.specs.Protocol.{Input, replica_step}
+use Rattle.ballot.specs.Protocol.Input.{Receives, Proposes, Ticks}
+use Rattle.ballot.specs.Replica.{CountedReplica, ReplicaState}
+use Rattle.ballot.specs.Sending.{Outcome, nothing_done}
+use Rattle.ballot.specs.Serving.{most_places, proposed}
+use Rattle.broker_base.specs.State.{State}
+use Rattle.broker_base.specs.Command.{Command}
+use Rattle.broker_base.specs.Command.TheVariants as commands
+use Rattle.broker_base.specs.Output.{Output}
+use Rattle.agreement.specs.MasterState.{MasterState}
+use Rattle.agreement.specs.Past.{Moment, Past}
+use Rattle.agreement.specs.Past.Past.{went_on}
+use Rattle.agreement.specs.Proposals.{proposal_by, proposals_of}
+use Rattle.agreement.specs.Steps.{MayHappen, MayTake}
+use Rattle.agreement.specs.Steps.MayHappen.{node_takes, node_stops}
+use Rattle.agreement.specs.World.{World, messages, outputs}
+use Rattle.agreement.specs.World.{moved as moved_world}
+use Rattle.world_base.specs.declared.item.Port.{Port}
+use Rattle.world_base.specs.Core.{CoreState, Turn, rules, serves}
+use Rattle.world_base.specs.Reading.{changes}
+use Rattle.world_base.specs.Turns.{drives, heard, moved, proposes, quiet}
+use Rattle.world_base.specs.Connections.{asked, closed, holding, left_with}
+use Rattle.world_base.specs.Reading.{refused}
+use Rattle.node_model.specs.Moves.{Moves, is_proposal}
+use Rattle.node_model.specs.Moves.Moves.{hears, opens_one, holds, reads_first, reads_later, closes, refuses, loses_one, crashes, settles, hands}
+use Rattle.node_model.specs.Puts.{given_in}
+use Rattle.group_model.specs.Group.{Group, behind_turn, moment_of, replica_of}
+use Rattle.group_model.specs.Goes.{InputWasSent, WasSent, put_in_move}
+use Rattle.group_model.proofs.Placed.{get_mapped, messages_kept, set_mapped, set_same}
+use Rattle.group_model.proofs.Replicas.{changes_keep, hands_keeps, moved_replica, opens_keeps, room_serves, serving_runs, settles_keeps}
+
+abbrev Given : Type 0
+Given = List (Effect Command Output)
+
+-- A past goes on to this moment, by no event or by one, in which these commands were proposed.
+pub record Further {config : Config} {a : Moment State Command Output} {earlier : List (Moment State Command Output)} (came : Past rules config (a ∷ earlier))
+    (b : Moment State Command Output) (put : List (ℕ × Command)) : Type 0 where
+  pub before : List (Moment State Command Output)
+  pub past : Past rules config (b ∷ before)
+  pub proposed : proposals_of past ≡ proposals_of came ++ put
+  pub kept : (z : Moment State Command Output) → In z (a ∷ earlier) → In z (b ∷ before)
+
+-- ---- moments of groups
+
+same_world : {nodes later_nodes : List (ReplicaState State Command)} {sent later_sent : List (ℕ × Message Command)} {left later_left : List (ℕ × Output)}
+    → nodes ≡ later_nodes → sent ≡ later_sent → left ≡ later_left
+    → (let w : World State Command Output = record { nodes = nodes; sent = sent; left = left } in w)
+    ≡ (let v : World State Command Output = record { nodes = later_nodes; sent = later_sent; left = later_left } in v)
+same_world a b c = rw (a, b, c) refl
+
+abbrev with_world : MasterState → World State Command Output → Moment State Command Output
+with_world m w = record { master = m; world = w }
+
+-- behind a turn the replica at the place is this one
+behind_is : (g : Group) (n : ℕ) (turn : Turn) (given effects : Given) (new : ReplicaState State Command) → replica_of turn.core ≡ new
+    → messages turn.messages ≡ messages effects → outputs given ≡ outputs effects
+    → with_world g.master (let w : World State Command Output = record { nodes = slice_set (map replica_of g.nodes) n new; sent = g.sent ++ messages effects; left = g.left ++ outputs effects } in w)
+    ≡ moment_of (behind_turn g n turn given)
+behind_is g n turn given effects new replica sent left =
+    ap (with_world g.master)
+    (sym (same_world (set_mapped replica_of g.nodes n turn.core ∙ ap (λ r. slice_set (map replica_of g.nodes) n r) replica)
+    (ap (λ l. g.sent ++ l) sent) (ap (λ l. g.left ++ l) left)))
+
+-- ---- no event
+
+-- a turn that leaves the replica as it is, and hands out nothing
+stays_as_it_is : (g : Group) (n : ℕ) (core : CoreState) (turn : Turn) → slice_get g.nodes n ≡ Some core → replica_of turn.core ≡ replica_of core
+    → turn.messages ≡ [] → moment_of g ≡ moment_of (behind_turn g n turn [])
+stays_as_it_is g n core turn at same none_sent =
+    ap (with_world g.master)
+    (same_world
+    (sym (set_mapped replica_of g.nodes n turn.core ∙ ap (λ r. slice_set (map replica_of g.nodes) n r) same
+    ∙ set_same (map replica_of g.nodes) n (replica_of core) (get_mapped replica_of g.nodes n core at)))
+    (sym (ap (λ l. g.sent ++ messages l) none_sent ∙ append-nil g.sent)) (sym (append-nil g.left)))
+
+no_event : (config : Config) (a b : Moment State Command Output) (earlier : List (Moment State Command Output)) (came : Past rules config (a ∷ earlier)) → a ≡ b
+    → Further came b []
+no_event config a b earlier came same =
+    subst (λ z. Further came z []) same (record { before = earlier; past = came; proposed = sym (append-nil (proposals_of came)); kept = λ z i. i })
+
+-- ---- one step of a replica
+
+all_kept : (effects : Given) → Thinned effects effects
+all_kept [] = none
+all_kept (e ∷ effects) = keeps (all_kept effects)
+
+exactly : (r : ReplicaState State Command) (outcome : Outcome State Command Output) → Loses rules r outcome outcome.state outcome.effects
+exactly r outcome = inl (refl, all_kept outcome.effects)
+
+one_step : (g : Group) (n : ℕ) (core : CoreState) (turn : Turn) (input : Input Command) (given : Given) (config : Config)
+    (earlier : List (Moment State Command Output)) (came : Past rules config (moment_of g ∷ earlier)) → slice_get g.nodes n ≡ Some core
+    → (replica_of core).stopped ≡ false → MayTake (moment_of g).world n input
+    → replica_of turn.core ≡ (replica_step rules (replica_of core) input).state
+    → messages turn.messages ≡ messages (replica_step rules (replica_of core) input).effects
+    → outputs given ≡ outputs (replica_step rules (replica_of core) input).effects
+    → Further came (moment_of (behind_turn g n turn given)) (proposal_by (replica_of core) input)
+one_step g n core turn input given config earlier came at runs may replica sent left =
+    subst (λ z. Further came z (proposal_by (replica_of core) input)) (behind_is g n turn given outcome.effects outcome.state replica sent left)
+    (record { before = moment_of g ∷ earlier; past = went_on came step; proposed = refl; kept = λ z i. there i })
+  where
+    outcome : Outcome State Command Output
+    outcome = replica_step rules (replica_of core) input
+
+    step : MayHappen rules g.master (moment_of g).world g.master (moved_world (moment_of g).world n outcome.state outcome.effects)
+    step = node_takes n (replica_of core) input (get_mapped replica_of g.nodes n core at) runs may (exactly (replica_of core) outcome)
+
+-- a crash
+one_stop : (g : Group) (n : ℕ) (core : CoreState) (turn : Turn) (config : Config) (earlier : List (Moment State Command Output))
+    (came : Past rules config (moment_of g ∷ earlier)) → slice_get g.nodes n ≡ Some core → replica_of turn.core ≡ halted rules (replica_of core)
+    → turn.messages ≡ [] → Further came (moment_of (behind_turn g n turn [])) []
+one_stop g n core turn config earlier came at replica none_sent =
+    subst (λ z. Further came z []) (behind_is g n turn [] [] (halted rules (replica_of core)) replica (ap messages none_sent) refl)
+    (record { before = moment_of g ∷ earlier; past = went_on came step; proposed = refl; kept = λ z i. there i })
+  where
+    step : MayHappen rules g.master (moment_of g).world g.master (moved_world (moment_of g).world n (halted rules (replica_of core)) [])
+    step = node_stops n (replica_of core) (get_mapped replica_of g.nodes n core at)
+
+-- ---- moves
+
+-- what is asked of each move
+abbrev Happens : Group → ℕ → (core : CoreState) (turn : Turn) → Moves core turn → Type 0
+Happens g n core turn m = (config : Config) (earlier : List (Moment State Command Output)) (came : Past rules config (moment_of g ∷ earlier))
+    → Further came (moment_of (behind_turn g n turn (given_in m))) (put_in_move m)
+
+pub quietly : (g : Group) (n : ℕ) (core later : CoreState) → slice_get g.nodes n ≡ Some core → later.replica ≡ core.replica → (config : Config)
+    (earlier : List (Moment State Command Output)) (came : Past rules config (moment_of g ∷ earlier)) → Further came (moment_of (behind_turn g n (quiet later) [])) []
+quietly g n core later at same config earlier came =
+    no_event config (moment_of g) _ earlier came
+    (stays_as_it_is g n core (quiet later) at (ap (λ (r : CountedReplica State Command). r.state) same) refl)
+
+-- a command is put to the replica of a node that serves
+put_happens : (g : Group) (n : ℕ) (core between : CoreState) (command : Command) → slice_get g.nodes n ≡ Some core → between.replica ≡ core.replica
+    → serves core ≡ true → (config : Config) (earlier : List (Moment State Command Output)) (came : Past rules config (moment_of g ∷ earlier))
+    → Further came (moment_of (behind_turn g n (proposes command between) (proposed rules (replica_of core) command).effects)) (((replica_of core).joined, command) ∷ [])
+unfolding proposes
+put_happens g n core between command at same serving config earlier came =
+    rw (serving_between)
+    (one_step g n core (moved (proposed rules (replica_of between) command) between) (Proposes command) (proposed rules (replica_of core) command).effects
+    config earlier came at (serving_runs core serving) tt
+    (moved_replica (proposed rules (replica_of between) command) between ∙ ap (λ r. (proposed rules r command).state) same_replica)
+    (messages_kept (proposed rules (replica_of between) command).effects ∙ ap (λ r. messages (proposed rules r command).effects) same_replica) refl)
+  where
+    same_replica : replica_of between ≡ replica_of core
+    same_replica = ap (λ (r : CountedReplica State Command). r.state) same
+
+    serving_between : serves between ≡ true
+    serving_between = ap (λ (r : CountedReplica State Command). serves (let k : CoreState = record { replica = r; accepted = 0; connections = [] } in k)) same ∙ serving
+
+-- a replica that has stopped does nothing
+heard_stopped : (b : Bool) (r : ReplicaState State Command) (input : Input Command) → b ≡ true
+    → (if b then nothing_done Output r else replica_step rules r input) ≡ nothing_done Output r
+heard_stopped true r input e = refl
+heard_stopped false r input e = absurd cc
+
+heard_running : (b : Bool) (r : ReplicaState State Command) (input : Input Command) → b ≡ false
+    → (if b then nothing_done Output r else replica_step rules r input) ≡ replica_step rules r input
+heard_running true r input e = absurd cc
+heard_running false r input e = refl
+
+heard_happens : (g : Group) (n : ℕ) (core : CoreState) (input : Input Command) → slice_get g.nodes n ≡ Some core → is_proposal input ≡ false
+    → InputWasSent g n input → (config : Config) (earlier : List (Moment State Command Output)) (came : Past rules config (moment_of g ∷ earlier))
+    → Further came (moment_of (behind_turn g n (drives input core) (heard input (replica_of core)).effects)) []
+unfolding drives
+heard_happens g n core input at other sent config earlier came = by (replica_of core).stopped refl
+  where
+    may : (i : Input Command) → is_proposal i ≡ false → InputWasSent g n i → MayTake (moment_of g).world n i
+    may (Receives message) e s = s
+    may (Proposes command) e s = absurd cc
+    may Ticks e s = tt
+
+    none_put : (i : Input Command) → is_proposal i ≡ false → proposal_by (replica_of core) i ≡ []
+    none_put (Receives message) e = refl
+    none_put (Proposes command) e = absurd cc
+    none_put Ticks e = refl
+
+    behind : Outcome State Command Output → Type 0
+    behind o = Further came (moment_of (behind_turn g n (moved o core) o.effects)) []
+
+    by : (b : Bool) → (replica_of core).stopped ≡ b → behind (heard input (replica_of core))
+    by true e =
+        subst behind (sym (heard_stopped (replica_of core).stopped (replica_of core) input e))
+        (no_event config (moment_of g) _ earlier came
+        (stays_as_it_is g n core (moved (nothing_done Output (replica_of core)) core) at (moved_replica (nothing_done Output (replica_of core)) core) refl))
+    by false e =
+        subst behind (sym (heard_running (replica_of core).stopped (replica_of core) input e))
+        (subst (λ l. Further came (moment_of (behind_turn g n (moved (replica_step rules (replica_of core) input) core) (replica_step rules (replica_of core) input).effects)) l)
+        (none_put input other)
+        (one_step g n core (moved (replica_step rules (replica_of core) input) core) input (replica_step rules (replica_of core) input).effects config earlier came at e
+        (may input other sent) (moved_replica (replica_step rules (replica_of core) input) core)
+        (messages_kept (replica_step rules (replica_of core) input).effects) refl))
+
+-- where the node does not serve, nobody hears that a connection is lost
+lost_unheard : (g : Group) (n : ℕ) (core : CoreState) (port : Port) (command : Command) → slice_get g.nodes n ≡ Some core → serves core ≡ false → (config : Config)
+    (earlier : List (Moment State Command Output)) (came : Past rules config (moment_of g ∷ earlier))
+    → Further came (moment_of (behind_turn g n (proposes command (changes port closed core)) [])) []
+unfolding proposes
+lost_unheard g n core port command at none_served config earlier came =
+    rw (ap (λ (r : CountedReplica State Command). serves (let k : CoreState = record { replica = r; accepted = 0; connections = [] } in k)) (changes_keep port closed core) ∙ none_served)
+    (quietly g n core (changes port closed core) at (changes_keep port closed core) config earlier came)
+
+pub moves_happen : (g : Group) (n : ℕ) (core : CoreState) (turn : Turn) (m : Moves core turn) → slice_get g.nodes n ≡ Some core → WasSent g n m → Happens g n core turn m
+moves_happen g n core turn (hears input other) at sent = heard_happens g n core input at other sent
+moves_happen g n core turn (opens_one port) at sent = quietly g n core _ at (opens_keeps port core)
+moves_happen g n core turn (holds port piece) at sent = quietly g n core _ at (changes_keep port (holding piece) core)
+moves_happen g n core turn (reads_first port c connect rest is_at first is room) at sent =
+    put_happens g n core (changes port asked (changes port (left_with rest) core)) _ at
+    (changes_keep port asked (changes port (left_with rest) core) ∙ changes_keep port (left_with rest) core)
+    (room_serves core (nat_lt (length (replica_of core).log) most_places) room)
+moves_happen g n core turn (reads_later port c packet rest is_at later is room) at sent =
+    put_happens g n core (changes port (left_with rest) core) _ at (changes_keep port (left_with rest) core)
+    (room_serves core (nat_lt (length (replica_of core).log) most_places) room)
+moves_happen g n core turn (closes port) at sent = quietly g n core _ at (changes_keep port closed core)
+moves_happen g n core turn (refuses port c code is_at first is) at sent = quietly g n core _ at (changes_keep port (refused code) core)
+moves_happen g n core turn (loses_one port c is_at was_asked) at sent = by (serves core) refl
+  where
+    by : (b : Bool) → serves core ≡ b → (config : Config) (earlier : List (Moment State Command Output)) (came : Past rules config (moment_of g ∷ earlier))
+        → Further came (moment_of (behind_turn g n (proposes (commands.Lost c.name) (changes port closed core))
+        (if b then (proposed rules (replica_of core) (commands.Lost c.name)).effects else [])))
+        (map (λ command. ((replica_of core).joined, command)) (if b then commands.Lost c.name ∷ [] else []))
+    by true e = put_happens g n core (changes port closed core) _ at (changes_keep port closed core) e
+    by false e = lost_unheard g n core port (commands.Lost c.name) at e
+moves_happen g n core turn crashes at sent = λ config earlier came. one_stop g n core _ config earlier came at refl refl
+moves_happen g n core turn settles at sent = quietly g n core _ at (settles_keeps core)
+moves_happen g n core turn (hands port) at sent = quietly g n core _ at (hands_keeps port core)

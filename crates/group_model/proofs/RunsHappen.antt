@@ -1,0 +1,88 @@
+-- What a node does by a run of moves are events among replicas, one behind the other.
+use Rattle.std.proofs.Common.{◌≡◌, ℕ, List, ◌∷◌, ◌++◌, Some, slice_get, refl, sym, ap, ◌∙◌, subst, append_assoc}
+use Rattle.ballot.specs.Config.{Config}
+use Rattle.ballot.specs.Effect.{Effect}
+use Rattle.ballot.specs.Message.{Message}
+use Rattle.ballot.specs.Protocol.{Input}
+use Rattle.ballot.specs.Protocol.Input.{Receives, Proposes, Ticks}
+use Rattle.broker_base.specs.State.{State}
+use Rattle.broker_base.specs.Command.{Command}
+use Rattle.broker_base.specs.Output.{Output}
+use Rattle.agreement.specs.Past.{Moment, Past}
+use Rattle.agreement.specs.Proposals.{proposals_of}
+use Rattle.agreement.specs.World.{messages, outputs}
+use Rattle.world_base.specs.Core.{CoreState, Turn, rules}
+use Rattle.node_model.specs.Moves.{Moves, Runs, and_then}
+use Rattle.node_model.specs.Moves.Moves.{hears, opens_one, holds, reads_first, reads_later, closes, refuses, loses_one, crashes, settles, hands}
+use Rattle.node_model.specs.Moves.Runs.{rests, goes_on}
+use Rattle.node_model.specs.Puts.{given_in}
+use Rattle.group_model.specs.Group.{Group, behind_turn, moment_of}
+use Rattle.group_model.specs.Goes.{AllWasSent, InputWasSent, WasSent, all_given, put_in_move, put_in_run}
+use Rattle.group_model.proofs.MovesHappen.{Further, moves_happen, quietly}
+use Rattle.group_model.proofs.Placed.{get_of_set, set_twice}
+use Rattle.lists.proofs.Members.{in_left}
+use Rattle.agreement.proofs.Effects.{messages-append, outputs-append}
+
+-- ---- what was sent stays sent
+
+input_still : (g : Group) (n : ℕ) (turn : Turn) (given : List (Effect Command Output)) (input : Input Command) → InputWasSent g n input
+    → InputWasSent (behind_turn g n turn given) n input
+input_still g n turn given (Receives message) i = in_left (messages turn.messages) i
+input_still g n turn given (Proposes command) i = tt
+input_still g n turn given Ticks i = tt
+
+sent_still : (g : Group) (n : ℕ) (turn : Turn) (given : List (Effect Command Output)) {core : CoreState} {later : Turn} (m : Moves core later) → WasSent g n m
+    → WasSent (behind_turn g n turn given) n m
+sent_still g n turn given (hears input is) i = input_still g n turn given input i
+sent_still g n turn given (opens_one port) i = tt
+sent_still g n turn given (holds port piece) i = tt
+sent_still g n turn given (reads_first port c connect rest at first is room) i = tt
+sent_still g n turn given (reads_later port c packet rest at later is room) i = tt
+sent_still g n turn given (closes port) i = tt
+sent_still g n turn given (refuses port c code at first is) i = tt
+sent_still g n turn given (loses_one port c at asked) i = tt
+sent_still g n turn given crashes i = tt
+sent_still g n turn given settles i = tt
+sent_still g n turn given (hands port) i = tt
+
+all_sent_still : (g : Group) (n : ℕ) (turn : Turn) (given : List (Effect Command Output)) {core : CoreState} {later : Turn} (run : Runs core later) → AllWasSent g n run
+    → AllWasSent (behind_turn g n turn given) n run
+all_sent_still g n turn given rests sent = tt
+all_sent_still g n turn given (goes_on m run) sent = (sent_still g n turn given m sent.0, all_sent_still g n turn given run sent.1)
+
+-- ---- two turns are one
+
+same_group : (g : Group) {nodes later_nodes : List CoreState} {sent later_sent : List (ℕ × Message Command)} {left later_left : List (ℕ × Output)}
+    → nodes ≡ later_nodes → sent ≡ later_sent → left ≡ later_left
+    → (let a : Group = record g { nodes = nodes; sent = sent; left = left } in a) ≡ (let b : Group = record g { nodes = later_nodes; sent = later_sent; left = later_left } in b)
+same_group g a b c = rw (a, b, c) refl
+
+two_turns : (g : Group) (n : ℕ) (first next : Turn) (given more : List (Effect Command Output))
+    → behind_turn (behind_turn g n first given) n next more ≡ behind_turn g n (and_then first next) (given ++ more)
+two_turns g n first next given more =
+    same_group g (set_twice g.nodes n first.core next.core)
+    (append_assoc g.sent (messages first.messages) (messages next.messages) ∙ ap (λ l. g.sent ++ l) (sym (messages-append first.messages next.messages)))
+    (append_assoc g.left (outputs given) (outputs more) ∙ ap (λ l. g.left ++ l) (sym (outputs-append given more)))
+
+-- ---- runs
+
+both : {config : Config} {a b c : Moment State Command Output} {earlier : List (Moment State Command Output)} (came : Past rules config (a ∷ earlier)) (put more : List (ℕ × Command))
+    → (first : Further came b put) → Further first.past c more → Further came c (put ++ more)
+both came put more first next =
+    record {
+      before = next.before;
+      past = next.past;
+      proposed = next.proposed ∙ ap (λ l. l ++ more) first.proposed ∙ append_assoc (proposals_of came) put more;
+      kept = λ z i. next.kept z (first.kept z i);
+    }
+
+pub runs_happen : (g : Group) (n : ℕ) (core : CoreState) (turn : Turn) (run : Runs core turn) → slice_get g.nodes n ≡ Some core → AllWasSent g n run → (config : Config)
+    (earlier : List (Moment State Command Output)) (came : Past rules config (moment_of g ∷ earlier))
+    → Further came (moment_of (behind_turn g n turn (all_given run))) (put_in_run run)
+runs_happen g n core turn rests at sent config earlier came = quietly g n core core at refl config earlier came
+runs_happen g n core turn (goes_on {first = first} {next = next} m run) at sent config earlier came =
+    let step = moves_happen g n core first m at sent.0 config earlier came in
+    let behind : Group = behind_turn g n first (given_in m) in
+    let rest = runs_happen behind n first.core next run (get_of_set g.nodes n core first.core at) (all_sent_still g n first (given_in m) run sent.1) config step.before step.past in
+    both came (put_in_move m) (put_in_run run) step
+    (subst (λ (h : Group). Further step.past (moment_of h) (put_in_run run)) (two_turns g n first next (given_in m) (all_given run)) rest)

@@ -1,0 +1,60 @@
+-- A group: nodes with the connections of their clients, one master, and the messages between them.
+use Rattle.std.specs.Prelude.{ℕ, zero, suc, ◌+◌, List, [], ◌∷◌, ◌++◌, map, slice_set}
+use Rattle.ballot.specs.Config.{Config}
+use Rattle.ballot.specs.Message.{Message}
+use Rattle.ballot.specs.Effect.{Effect}
+use Rattle.ballot.specs.Replica.{ReplicaState}
+use Rattle.ballot.specs.Sending.{master}
+use Rattle.broker_base.specs.State.{State}
+use Rattle.broker_base.specs.Command.{Command}
+use Rattle.broker_base.specs.Output.{Output}
+use Rattle.agreement.specs.MasterState.{MasterState, MasterOutcome, opening_master}
+use Rattle.agreement.specs.Past.{Moment}
+use Rattle.agreement.specs.World.{messages, outputs}
+use Rattle.world_base.specs.Core.{CoreState, Turn, opening_core}
+
+-- Node n + 1 stands at place n. All messages that were ever sent stay, each with its receiver: any may come late, again
+-- or never. So do the outputs that replicas gave, with their places in the log.
+pub record Group : Type 0 where
+  pub master : MasterState
+  pub nodes : List CoreState
+  pub sent : List (ℕ × Message Command)
+  pub left : List (ℕ × Output)
+
+-- ---- as it opens
+
+abbrev pub opening_cores : ℕ → Config → List CoreState
+opening_cores zero config = []
+opening_cores (suc n) config = opening_cores n config ++ opening_core (n + 1) config ∷ []
+
+abbrev pub opening_group : ℕ → Config → Group
+opening_group nodes config =
+    record { master = opening_master config; nodes = opening_cores nodes config; sent = []; left = [] }
+
+-- ---- behind what happens
+
+-- behind a turn of the node at place n, in which its replica gave this
+abbrev pub behind_turn : Group → ℕ → Turn → List (Effect Command Output) → Group
+behind_turn g n turn given =
+    record g {
+      nodes = slice_set g.nodes n turn.core;
+      sent = g.sent ++ messages turn.messages;
+      left = g.left ++ outputs given;
+    }
+
+-- behind a message of the master
+abbrev pub told_by_master : Group → MasterOutcome Command → Group
+told_by_master g o = record g { sent = g.sent ++ (o.receiver, record { from = master; body = o.body }) ∷ [] }
+
+-- with another state of the master
+abbrev pub with_master : Group → MasterState → Group
+with_master g m = record g { master = m }
+
+-- ---- its replicas, as they are seen where nodes agree
+
+abbrev pub replica_of : CoreState → ReplicaState State Command
+replica_of core = core.replica.state
+
+abbrev pub moment_of : Group → Moment State Command Output
+moment_of g =
+    record { master = g.master; world = record { nodes = map replica_of g.nodes; sent = g.sent; left = g.left } }

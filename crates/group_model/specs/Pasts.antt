@@ -1,0 +1,23 @@
+-- That the replicas of a group went through a past as agreement is proved of.
+use Rattle.std.specs.Prelude.{◌≡◌, ℕ, List, ◌∷◌}
+use Rattle.lists.specs.Lists.{Each, In}
+use Rattle.ballot.specs.Config.{Config}
+use Rattle.broker_base.specs.State.{State}
+use Rattle.broker_base.specs.Command.{Command}
+use Rattle.broker_base.specs.Output.{Output}
+use Rattle.agreement.specs.Past.{Moment, Past}
+use Rattle.agreement.specs.Proposals.{proposals_of}
+use Rattle.world_base.specs.Core.{rules}
+use Rattle.group_model.specs.Group.{Group, moment_of}
+use Rattle.group_model.specs.Goes.{Went, all_put, groups_of}
+
+-- A past whose last moment are the replicas of the group. In it these commands were proposed, and each of these earlier
+-- groups has its moment.
+pub record HasPast (config : Config) (g : Group) (groups : List Group) (put : List (ℕ × Command)) : Type 0 where
+  pub earlier : List (Moment State Command Output)
+  pub past : Past rules config (moment_of g ∷ earlier)
+  pub proposed : proposals_of past ≡ put
+  pub seen : Each (λ (h : Group). In (moment_of h) (moment_of g ∷ earlier)) groups
+
+abbrev pub GroupsArePasts : Type 0
+GroupsArePasts = (nodes : ℕ) (config : Config) (g : Group) (went : Went nodes config g) → HasPast config g (groups_of went) (all_put went)

@@ -1,0 +1,7 @@
+//! A group of nodes, as definitions and laws: nodes with their clients' connections, the messages between them, and one
+//! master. It joins what one node does to the agreement of all.
+#![tactic(auto)]
+
+mod laws;
+
+pub use laws::groups_are_pasts;
