@@ -1,0 +1,130 @@
+// A broker with the clients that talk to it, each of which answers what it gets at once.
+
+use anyhow::{Result, anyhow};
+use broker::BrokerMachine;
+use broker_model::{Command, ConnectionId, Output, SizedPacket};
+use machine::Machine;
+use packet::{
+    ClientId, Delivery, Packet, PacketId, PacketList, Payload, Publish, QoS, Subscribe,
+    Subscription,
+};
+use std::alloc::Global;
+use std::collections::VecDeque;
+use topics::{Filter, TopicName};
+
+/// How many bytes a publication carries.
+const PAYLOAD: [u8; 64] = [7; 64];
+
+/// A broker, and what its clients have put on the way to it.
+#[derive(Drop)]
+pub struct Clients {
+    pub broker: BrokerMachine,
+    under_way: VecDeque<Command>,
+    alloc: Global,
+}
+
+impl Clients {
+    /// A broker that begins in ballot 1.
+    pub fn new(alloc: Global) -> Result<Clients> {
+        let mut clients = Clients {
+            broker: BrokerMachine::fresh(alloc)?,
+            under_way: VecDeque::new(alloc),
+            alloc,
+        };
+        clients.put(Command::Start(1))?;
+        Ok(clients)
+    }
+
+    /// A client opens a connection with this number, with CleanSession 0.
+    pub fn connect(&mut self, count: u64, client: &str) -> Result<()> {
+        let client = ClientId::new(self.alloc, client)?;
+        self.put(Command::Connect(name_of(count)?, client, false))
+    }
+
+    /// A connection is lost.
+    pub fn lose(&mut self, count: u64) -> Result<()> {
+        self.put(Command::Lost(name_of(count)?))
+    }
+
+    /// A client asks for these filters in one packet.
+    pub fn subscribe(&mut self, count: u64, filters: Vec<Filter>, qos: QoS) -> Result<()> {
+        let mut wanted = Vec::new(self.alloc);
+        for filter in filters {
+            wanted.push(Subscription { filter, qos })?;
+        }
+        let subscribe = Subscribe {
+            id: PacketId::new(1),
+            filters: PacketList::new(wanted),
+        };
+        self.send(count, Packet::Subscribe(subscribe))
+    }
+
+    /// A client publishes under identifier 1, and all clients answer what comes of it until nothing is under way.
+    pub fn publish(&mut self, count: u64, topic: &TopicName, qos: QoS, retain: bool) -> Result<()> {
+        let publish = Publish {
+            topic: topic.clone()?,
+            delivery: delivery_at(qos),
+            retain,
+            payload: Payload::new(self.alloc, &PAYLOAD)?,
+        };
+        self.send(count, Packet::Publish(publish))
+    }
+
+    fn send(&mut self, count: u64, packet: Packet) -> Result<()> {
+        self.put(Command::Packet(name_of(count)?, SizedPacket::new(packet)?))
+    }
+
+    // Does a command, and all that the clients answer.
+    fn put(&mut self, command: Command) -> Result<()> {
+        self.under_way.push_back(command)?;
+        for _ in 0..u64::MAX {
+            let Some(command) = self.under_way.pop_front() else {
+                break;
+            };
+            self.take(&command)?;
+        }
+        Ok(())
+    }
+
+    // Does a command alone, and keeps what the clients answer.
+    fn take(&mut self, command: &Command) -> Result<()> {
+        let mut given = Vec::new(self.alloc);
+        self.broker.apply(command, &mut given)?;
+        for output in &given {
+            if let Output::Send(name, packet) = output {
+                if let Some(answer) = answer_to(packet) {
+                    let answer = Command::Packet(*name, SizedPacket::new(answer)?);
+                    self.under_way.push_back(answer)?;
+                }
+            }
+        }
+        Ok(())
+    }
+}
+
+/// The name of a connection of ballot 1.
+fn name_of(count: u64) -> Result<ConnectionId> {
+    ConnectionId::new(1, count).ok_or_else(|| anyhow!("no connection has the number {count}"))
+}
+
+fn delivery_at(qos: QoS) -> Delivery {
+    match qos {
+        QoS::AtMostOnce => Delivery::AtMostOnce,
+        QoS::AtLeastOnce => Delivery::AtLeastOnce(false, PacketId::new(1)),
+        QoS::ExactlyOnce => Delivery::ExactlyOnce(false, PacketId::new(1)),
+    }
+}
+
+// What a client answers to a packet (MQTT 4.3).
+fn answer_to(packet: &Packet) -> Option<Packet> {
+    match packet {
+        Packet::Publish(publish) => match publish.delivery {
+            Delivery::AtMostOnce => None,
+            Delivery::AtLeastOnce(_, id) => Some(Packet::Puback(id)),
+            Delivery::ExactlyOnce(_, id) => Some(Packet::Pubrec(id)),
+        },
+        Packet::Pubrec(id) => Some(Packet::Pubrel(*id)),
+        Packet::Pubrel(id) => Some(Packet::Pubcomp(*id)),
+        _ => None,
+    }
+}

@@ -1,0 +1,48 @@
+//! Measurements of the broker by itself, one a run: the first word names it, and without a word the
+//! names are listed. The figures are in `docs/PERFORMANCE.md`.
+#![tactic(auto)]
+
+mod clients;
+mod crowd;
+mod freezing;
+mod publications;
+mod queue;
+mod retained_topics;
+
+use anyhow::{Result, bail};
+use std::env;
+use std::time::{CpuClock, Duration};
+
+/// The benchmarks, each named like its file.
+const NAMES: [&str; 4] = ["freezing", "publications", "queue", "retained"];
+
+fn main(rt: HostRuntime) -> Result<()> {
+    let mut words = env::args(&rt)?;
+    words.next();
+    match words.next() {
+        Some(name) => run(&rt, name.as_str()),
+        None => list(&rt),
+    }
+}
+
+fn list(rt: &impl Print) -> Result<()> {
+    for name in &NAMES {
+        println!(rt; "{name}")?;
+    }
+    Ok(())
+}
+
+fn run(rt: &HostRuntime, name: &str) -> Result<()> {
+    match name {
+        "freezing" => freezing::run(rt),
+        "publications" => publications::run(rt),
+        "queue" => queue::run(rt),
+        "retained" => retained_topics::run(rt),
+        _ => bail!("no benchmark has the name {name}"),
+    }
+}
+
+/// The processor time since a start, in nanoseconds.
+fn nanos_since(rt: &HostRuntime, start: Duration) -> Result<u128> {
+    Ok(rt.process_cpu_time()?.saturating_sub(start).as_nanos())
+}

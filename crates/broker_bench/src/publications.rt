@@ -1,0 +1,59 @@
+// Publications a second, each with the handshakes of its publisher and of its subscribers.
+
+use crate::clients::Clients;
+use crate::{crowd, nanos_since};
+use anyhow::Result;
+use packet::QoS;
+use std::alloc::Global;
+use std::time::CpuClock;
+use topics::{Filter, TopicName};
+
+const ROUNDS: u32 = 100_000;
+
+/// The connection of the publisher; those of the subscribers follow.
+const PUBLISHER: u64 = 1;
+
+/// How many sessions stand beside: with the publisher's and the subscriber's as many as there may be.
+const BESIDE: u32 = 4_094;
+
+/// Prints the time of a publication at each QoS: to one subscriber, to ten, and to one with many
+/// sessions beside it.
+pub fn run(rt: &HostRuntime) -> Result<()> {
+    for qos in &[QoS::AtMostOnce, QoS::AtLeastOnce, QoS::ExactlyOnce] {
+        measure(rt, *qos, 1, 0)?;
+        measure(rt, *qos, 10, 0)?;
+        measure(rt, *qos, 1, BESIDE)?;
+    }
+    Ok(())
+}
+
+fn measure(rt: &HostRuntime, qos: QoS, subscribers: u64, beside: u32) -> Result<()> {
+    let mut clients = Clients::new(rt.alloc())?;
+    crowd::gather(&mut clients, rt.alloc(), beside)?;
+    clients.connect(PUBLISHER, "publisher")?;
+    subscribe_all(&mut clients, rt.alloc(), subscribers, qos)?;
+
+    let topic = TopicName::new(rt.alloc(), "plant/1/pump/speed")?;
+    let start = rt.process_cpu_time()?;
+    for _ in 0..ROUNDS {
+        clients.publish(PUBLISHER, &topic, qos, false)?;
+    }
+    let nanos = nanos_since(rt, start)? / u128::from(ROUNDS);
+    let number = qos.number();
+    println!(rt;
+        "QoS {number}, to {subscribers}, {beside} sessions beside: {nanos} ns a publication"
+    )?;
+    Ok(())
+}
+
+fn subscribe_all(clients: &mut Clients, alloc: Global, subscribers: u64, qos: QoS) -> Result<()> {
+    for number in 0..subscribers {
+        let count = PUBLISHER.saturating_add(1).saturating_add(number);
+        let name = format!(in alloc; "subscriber-{number}")?;
+        clients.connect(count, name.as_str())?;
+        let mut filters = Vec::new(alloc);
+        filters.push(Filter::new(alloc, "plant/+/pump/#")?)?;
+        clients.subscribe(count, filters, qos)?;
+    }
+    Ok(())
+}
