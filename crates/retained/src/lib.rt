@@ -7,8 +7,6 @@ mod finding;
 mod laws;
 mod retained_publication;
 mod retained_store;
-#[cfg(test)]
-mod tests;
 
 pub use error::RetainedError;
 pub use laws::{last_is_retained, stays_in_bounds};

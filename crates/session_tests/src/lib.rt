@@ -2,4 +2,6 @@
 #![tactic(auto)]
 
 #[cfg(test)]
+mod row;
+#[cfg(test)]
 mod tests;
