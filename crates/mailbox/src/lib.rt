@@ -8,8 +8,6 @@ mod lane;
 mod moves;
 mod naming;
 mod receiver;
-#[cfg(test)]
-mod tests;
 mod view;
 
 pub use inbox::{INBOX_ITEMS, Inbox, MOST_LANES};

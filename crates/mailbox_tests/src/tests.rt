@@ -2,7 +2,7 @@
 
 ghost use Rattle.std.specs.Prelude.{◌≡◌};
 
-use crate::{Inbox, Lane, Naming, Receiver};
+use mailbox::{Inbox, Lane, Naming, Receiver};
 use std::alloc::{AllocError, Global};
 use std::marker::Brand;
 use std::process::Abort;
