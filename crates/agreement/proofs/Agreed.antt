@@ -11,3 +11,5 @@ pub mod PastIsKnown
 pub mod KnownSteps
 pub mod PastKnown
 pub mod PastOrder
+pub mod PlainSteps
+pub mod TakenInOrder

@@ -1,14 +1,17 @@
 -- Laws.antt: what holds of every past of a group whose master answers each Assign.
-use Rattle.std.specs.Prelude.{ℕ, Bool, ◌≡◌, List, ◌∷◌, filter, slice_get, Some}
+use Rattle.std.specs.Prelude.{ℕ, Bool, ◌≡◌, List, [], ◌∷◌, filter, slice_get, Some}
 use Rattle.machine.specs.Machine.{Rules}
-use Rattle.lists.specs.Lists.{IsPrefixOf}
+use Rattle.lists.specs.Lists.{In, IsPrefixOf}
 use Rattle.ballot.specs.Config.{Config}
 use Rattle.ballot.specs.Replica.{ReplicaState}
 use Rattle.agreement.specs.Agreement.{Agrees, Holds}
 use Rattle.agreement.specs.Leaving.{LeftInOrder}
+use Rattle.agreement.specs.MasterState.{MasterState}
 use Rattle.agreement.specs.Past.{Moment, Past, IsAgreed}
-use Rattle.agreement.specs.Proposals.{IsOfBallot, IsPartOf, commands_of, proposals_of}
+use Rattle.agreement.specs.Proposals.{IsOfBallot, IsPartOf, IsTaken, commands_of, proposal_of, proposals_of, taken_in, taken_of, takes_at}
 use Rattle.agreement.specs.Replays.{AreReplays}
+use Rattle.agreement.specs.Steps.{MayHappen}
+use Rattle.agreement.specs.World.{World, log_of}
 
 -- there is an agreed list at each moment
 abbrev pub HasAgreed : {S C O : Type 0} → Rules S C O → Type 0
@@ -37,13 +40,28 @@ MachinesReplay {S} {C} {O} rules =
     (config : Config) (a : Moment S C O) (past : List (Moment S C O)) →
     Past rules config (a ∷ past) → AreReplays rules a.world
 
--- of the commands that were proposed in one ballot only, each log has a beginning in the order of
--- proposing, of those that were taken
+-- of the commands that were taken in one ballot only, each log has a beginning in the order of
+-- proposing
 abbrev pub KeepsTheOrder : {S C O : Type 0} → Rules S C O → Type 0
 KeepsTheOrder {S} {C} {O} rules =
     (config : Config) (a : Moment S C O) (past : List (Moment S C O)) →
     (came : Past rules config (a ∷ past)) →
-    (taken : List (ℕ × C)) × IsPartOf taken (proposals_of came)
-    × ((names : C → Bool) (ballot : ℕ) → IsOfBallot rules.start_of names ballot taken →
+    IsPartOf (taken_of came) (proposals_of came)
+    × ((names : C → Bool) (ballot : ℕ) → IsOfBallot rules.start_of names ballot (taken_of came) →
     (n : ℕ) (r : ReplicaState S C) → slice_get a.world.nodes n ≡ Some r →
-    IsPrefixOf (filter names r.log) (filter names (commands_of taken)))
+    IsPrefixOf (filter names r.log) (filter names (commands_of (taken_of came))))
+
+-- what a node takes in a step stands at once at the end of its log; all that is taken some node
+-- takes; and a proposal that is not taken changes no log
+pub record StandsAtOnce {S C O : Type 0} {rules : Rules S C O} {m : MasterState} {w : World S C O}
+    {k : MasterState} {v : World S C O} (step : MayHappen rules m w k v) : Type 0 where
+  pub stands : (n : ℕ) (row : ℕ × C) → In row (takes_at n step) → IsTaken w v n row
+  pub somewhere : (row : ℕ × C) → In row (taken_in step) → (n : ℕ) × In row (takes_at n step)
+  pub refused : taken_in step ≡ [] → (row : ℕ × C) → In row (proposal_of step) →
+      (n : ℕ) → log_of (slice_get v.nodes n) ≡ log_of (slice_get w.nodes n)
+
+-- so it is in each step
+abbrev pub TakenStandAtOnce : {S C O : Type 0} → Rules S C O → Type 0
+TakenStandAtOnce {S} {C} {O} rules =
+    (m : MasterState) (w : World S C O) (k : MasterState) (v : World S C O) →
+    (step : MayHappen rules m w k v) → StandsAtOnce step

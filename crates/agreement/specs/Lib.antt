@@ -4,6 +4,7 @@ pub mod Laws
 pub mod Leaving
 pub mod MasterState
 pub mod Past
+pub mod Primaries
 pub mod Proposals
 pub mod Replays
 pub mod Steps

@@ -1,7 +1,14 @@
 // Laws of groups with changes of configuration. The calls do nothing; their contracts are the laws.
 
 ghost use Rattle.machine.specs.Machine.{rules_by};
-ghost use Rattle.agreement.specs.Laws.{AgreedGrows, HasAgreed, KeepsTheOrder, MachinesReplay, NodesAgree};
+ghost use Rattle.agreement.specs.Laws.{
+  AgreedGrows,
+  HasAgreed,
+  KeepsTheOrder,
+  MachinesReplay,
+  NodesAgree,
+  TakenStandAtOnce,
+};
 
 use machine::Machine;
 
@@ -30,8 +37,14 @@ pub fn machines_replay<M: Machine>()
     ensures { MachinesReplay (rules_by M.opening M.start_of M.after M.gives) }
 {}
 
-/// Of the commands that were proposed in one ballot only, each log has a beginning in the order of
-/// proposing.
+/// Of the commands that were taken in one ballot only, each log has a beginning in the order of
+/// proposing. Which were taken the past tells: those by which a log grew.
 pub fn keeps_the_order<M: Machine>()
     ensures { KeepsTheOrder (rules_by M.opening M.start_of M.after M.gives) }
+{}
+
+/// What a node takes in a step stands at once at the end of its log, and the node is the active
+/// primary of the ballot in which it is counted; a proposal that is not taken changes no log.
+pub fn taken_stand_at_once<M: Machine>()
+    ensures { TakenStandAtOnce (rules_by M.opening M.start_of M.after M.gives) }
 {}

@@ -4,4 +4,6 @@
 
 mod laws;
 
-pub use laws::{agreed_grows, has_agreed, keeps_the_order, machines_replay, nodes_agree};
+pub use laws::{
+    agreed_grows, has_agreed, keeps_the_order, machines_replay, nodes_agree, taken_stand_at_once,
+};

@@ -20,8 +20,8 @@ pub fn worlds_are_served()
     ensures { WorldsAreServed }
 {}
 
-/// Of the commands that were proposed in one ballot only, as those of one connection are, the list on which nodes agree has a
-/// beginning in the order of proposing, of those that a primary took.
+/// Of the commands that were taken in one ballot only, as those of one connection are, the list on which nodes agree has a
+/// beginning in the order of proposing; the past tells which were taken.
 pub fn agreed_keeps_the_order<M: Machine>()
     ensures { AgreedKeepsTheOrder (rules_by M.opening M.start_of M.after M.gives) }
 {}
