@@ -8,7 +8,8 @@ use Rattle.agreement.specs.Agreement.{Agrees, Holds}
 use Rattle.agreement.specs.Leaving.{LeftInOrder}
 use Rattle.agreement.specs.MasterState.{MasterState}
 use Rattle.agreement.specs.Past.{Moment, Past, IsAgreed}
-use Rattle.agreement.specs.Proposals.{IsOfBallot, IsPartOf, IsTaken, commands_of, proposal_of, proposals_of, taken_in, taken_of, takes_at}
+use Rattle.agreement.specs.Primaries.{IsPrimary}
+use Rattle.agreement.specs.Proposals.{IsOfBallot, IsPartOf, IsTaken, commands_of, proposal_of, proposals_of, rows_in, taken_at, taken_in, taken_of, takes_at}
 use Rattle.agreement.specs.Replays.{AreReplays}
 use Rattle.agreement.specs.Steps.{MayHappen}
 use Rattle.agreement.specs.World.{World, log_of}
@@ -65,3 +66,19 @@ abbrev pub TakenStandAtOnce : {S C O : Type 0} → Rules S C O → Type 0
 TakenStandAtOnce {S} {C} {O} rules =
     (m : MasterState) (w : World S C O) (k : MasterState) (v : World S C O) →
     (step : MayHappen rules m w k v) → StandsAtOnce step
+
+-- a ballot has one active primary at most, over all moments of a past
+abbrev pub OnePrimaryABallot : {S C O : Type 0} → Rules S C O → Type 0
+OnePrimaryABallot {S} {C} {O} rules =
+    (config : Config) (a : Moment S C O) (past : List (Moment S C O)) →
+    Past rules config (a ∷ past) →
+    (c d : Moment S C O) (m n ballot : ℕ) → In c (a ∷ past) → In d (a ∷ past) →
+    IsPrimary c.world m ballot → IsPrimary d.world n ballot → m ≡ n
+
+-- so what was taken in a ballot was taken by the one node that was its active primary
+abbrev pub OneNodeTakesABallot : {S C O : Type 0} → Rules S C O → Type 0
+OneNodeTakesABallot {S} {C} {O} rules =
+    (config : Config) (a : Moment S C O) (past : List (Moment S C O)) →
+    (came : Past rules config (a ∷ past)) →
+    (c : Moment S C O) (n ballot : ℕ) → In c (a ∷ past) → IsPrimary c.world n ballot →
+    rows_in ballot (taken_of came) ≡ rows_in ballot (taken_at n came)

@@ -1,6 +1,6 @@
 -- Proposals.antt: what was proposed to nodes, in order, what of it they took, and what logs keep of
 -- that order.
-use Rattle.std.specs.Prelude.{ℕ, Bool, true, false, ◌≡◌, List, [], ◌∷◌, ◌++◌, length, slice_get, Some, nat_lt, ◌==◌, if◌then◌else◌}
+use Rattle.std.specs.Prelude.{ℕ, Bool, true, false, ◌≡◌, List, [], ◌∷◌, ◌++◌, length, filter, slice_get, Some, nat_lt, ◌==◌, if◌then◌else◌}
 use Rattle.machine.specs.Machine.{Rules}
 use Rattle.lists.specs.Lists.{In}
 use Rattle.ballot.specs.Config.{Config}
@@ -72,6 +72,10 @@ abbrev pub taken_at : {S C O : Type 0} {rules : Rules S C O} {config : Config}
     {past : List (Moment S C O)} → ℕ → Past rules config past → List (ℕ × C)
 taken_at n (began nodes lawful is) = []
 taken_at n (went_on came step) = taken_at n came ++ takes_at n step
+
+-- the rows of one ballot
+abbrev pub rows_in : {C : Type 0} → ℕ → List (ℕ × C) → List (ℕ × C)
+rows_in {C} ballot rows = filter (λ (row : ℕ × C). row.0 == ballot) rows
 
 -- the node at place n took a proposal in a step: it ran, and was the active primary of the ballot
 -- that the row names; behind the step its log is what it was, with the command at its end

@@ -7,6 +7,8 @@ ghost use Rattle.agreement.specs.Laws.{
   KeepsTheOrder,
   MachinesReplay,
   NodesAgree,
+  OneNodeTakesABallot,
+  OnePrimaryABallot,
   TakenStandAtOnce,
 };
 
@@ -47,4 +49,15 @@ pub fn keeps_the_order<M: Machine>()
 /// primary of the ballot in which it is counted; a proposal that is not taken changes no log.
 pub fn taken_stand_at_once<M: Machine>()
     ensures { TakenStandAtOnce (rules_by M.opening M.start_of M.after M.gives) }
+{}
+
+/// A ballot has one active primary: two nodes that were active in it, at whatever moments, are one.
+pub fn one_primary_a_ballot<M: Machine>()
+    ensures { OnePrimaryABallot (rules_by M.opening M.start_of M.after M.gives) }
+{}
+
+/// So all that was taken in a ballot was taken by the node that was its active primary, in that
+/// order.
+pub fn one_node_takes_a_ballot<M: Machine>()
+    ensures { OneNodeTakesABallot (rules_by M.opening M.start_of M.after M.gives) }
 {}

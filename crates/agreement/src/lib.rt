@@ -5,5 +5,6 @@
 mod laws;
 
 pub use laws::{
-    agreed_grows, has_agreed, keeps_the_order, machines_replay, nodes_agree, taken_stand_at_once,
+    agreed_grows, has_agreed, keeps_the_order, machines_replay, nodes_agree,
+    one_node_takes_a_ballot, one_primary_a_ballot, taken_stand_at_once,
 };
