@@ -1,10 +1,12 @@
 -- Laws.antt: what holds of every past of a group whose master answers each Assign.
-use Rattle.std.specs.Prelude.{ℕ, Bool, ◌≡◌, List, [], ◌∷◌, filter, slice_get, Some}
+use Rattle.std.specs.Prelude.{ℕ, Bool, ◌≤◌, ◌≡◌, List, [], ◌∷◌, ◌++◌, filter, length, slice_get, Some}
 use Rattle.machine.specs.Machine.{Rules}
 use Rattle.lists.specs.Lists.{In, IsPrefixOf}
+use Rattle.ballot.specs.Applying.{outputs_between}
 use Rattle.ballot.specs.Config.{Config}
 use Rattle.ballot.specs.Replica.{ReplicaState}
 use Rattle.agreement.specs.Agreement.{Agrees, Holds}
+use Rattle.agreement.specs.Giving.{GivesNext, LeadsOn, given_in, given_of}
 use Rattle.agreement.specs.Leaving.{LeftInOrder}
 use Rattle.agreement.specs.MasterState.{MasterState}
 use Rattle.agreement.specs.Past.{Moment, Past, IsAgreed}
@@ -12,7 +14,7 @@ use Rattle.agreement.specs.Primaries.{IsPrimary}
 use Rattle.agreement.specs.Proposals.{IsOfBallot, IsPartOf, IsTaken, commands_of, proposal_of, proposals_of, rows_in, taken_at, taken_in, taken_of, takes_at}
 use Rattle.agreement.specs.Replays.{AreReplays}
 use Rattle.agreement.specs.Steps.{MayHappen}
-use Rattle.agreement.specs.World.{World, log_of}
+use Rattle.agreement.specs.World.{World, log_of, outputs}
 
 -- there is an agreed list at each moment
 abbrev pub HasAgreed : {S C O : Type 0} → Rules S C O → Type 0
@@ -82,3 +84,26 @@ OneNodeTakesABallot {S} {C} {O} rules =
     (came : Past rules config (a ∷ past)) →
     (c : Moment S C O) (n ballot : ℕ) → In c (a ∷ past) → IsPrimary c.world n ballot →
     rows_in ballot (taken_of came) ≡ rows_in ballot (taken_at n came)
+
+-- what a node gives in a step is the answers at the next places of the agreed list
+abbrev pub AnswersAtTheNextPlaces : {S C O : Type 0} → Rules S C O → Type 0
+AnswersAtTheNextPlaces {S} {C} {O} rules =
+    (config : Config) (a b : Moment S C O) (past : List (Moment S C O)) (xs : List C) →
+    Past rules config (a ∷ past) → IsAgreed config (b ∷ a ∷ past) xs →
+    (step : MayHappen rules a.master a.world b.master b.world) →
+    (n : ℕ) (old new : ReplicaState S C) → slice_get a.world.nodes n ≡ Some old →
+    slice_get b.world.nodes n ≡ Some new → GivesNext rules old new xs (given_in n step)
+
+-- so between two moments of a ballot that it leads a node gives the answers at all places of the
+-- agreed list, from where it had applied it to where it has applied it: none is left out, and none
+-- comes twice
+abbrev pub AnswersWhileItLeads : {S C O : Type 0} → Rules S C O → Type 0
+AnswersWhileItLeads {S} {C} {O} rules =
+    (config : Config) (a b : Moment S C O) (past later : List (Moment S C O)) (xs : List C) →
+    (came : Past rules config (a ∷ past)) (more : Past rules config (b ∷ later)) →
+    IsAgreed config (b ∷ later) xs → (n ballot : ℕ) → LeadsOn n ballot came b later more →
+    (old new : ReplicaState S C) → slice_get a.world.nodes n ≡ Some old →
+    slice_get b.world.nodes n ≡ Some new →
+    (old.committed ≤ new.committed) × (new.committed ≤ length xs)
+    × (given_of n more
+    ≡ given_of n came ++ outputs (outputs_between rules xs old.committed new.committed))

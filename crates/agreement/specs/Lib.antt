@@ -1,4 +1,5 @@
 pub mod Agreement
+pub mod Giving
 pub mod Inside
 pub mod Laws
 pub mod Leaving

@@ -3,6 +3,8 @@
 ghost use Rattle.machine.specs.Machine.{rules_by};
 ghost use Rattle.agreement.specs.Laws.{
   AgreedGrows,
+  AnswersAtTheNextPlaces,
+  AnswersWhileItLeads,
   HasAgreed,
   KeepsTheOrder,
   MachinesReplay,
@@ -60,4 +62,17 @@ pub fn one_primary_a_ballot<M: Machine>()
 /// order.
 pub fn one_node_takes_a_ballot<M: Machine>()
     ensures { OneNodeTakesABallot (rules_by M.opening M.start_of M.after M.gives) }
+{}
+
+/// What a node gives in a step is the machine's answers at the next places of the agreed list: from
+/// where it had applied it to where it has applied it now, where it is the active primary, and else
+/// nothing. One that becomes the active primary gives nothing for what its log had before.
+pub fn answers_at_the_next_places<M: Machine>()
+    ensures { AnswersAtTheNextPlaces (rules_by M.opening M.start_of M.after M.gives) }
+{}
+
+/// So while a node is the active primary of one ballot it gives the answers at all places of the
+/// agreed list, from one moment to another: none is left out, and none comes twice.
+pub fn answers_while_it_leads<M: Machine>()
+    ensures { AnswersWhileItLeads (rules_by M.opening M.start_of M.after M.gives) }
 {}
