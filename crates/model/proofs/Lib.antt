@@ -14,3 +14,4 @@ pub mod TakenOn
 pub mod Serving
 pub mod AgreedInOrder
 pub mod TakeoverRun
+pub mod GroupServes

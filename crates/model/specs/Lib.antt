@@ -3,4 +3,5 @@ pub mod Goes
 pub mod Exact
 pub mod Served
 pub mod Agreed
+pub mod Groups
 pub mod Rows

@@ -3,6 +3,7 @@
 ghost use Rattle.machine.specs.Machine.{rules_by};
 ghost use Rattle.model.specs.Agreed.{AgreedKeepsTheOrder};
 ghost use Rattle.model.specs.Exact.{WorldsAreExact};
+ghost use Rattle.model.specs.Groups.{GroupsServe};
 ghost use Rattle.model.specs.Served.{WorldsAreServed};
 
 use machine::Machine;
@@ -24,4 +25,10 @@ pub fn worlds_are_served()
 /// beginning in the order of proposing; the past tells which were taken.
 pub fn agreed_keeps_the_order<M: Machine>()
     ensures { AgreedKeepsTheOrder (rules_by M.opening M.start_of M.after M.gives) }
+{}
+
+/// A group of nodes that take of each connection the packets that its end has read, in order and in the ballot of its name,
+/// and none of other connections, serves the world: what it agrees on next is a list to which the world comes.
+pub fn groups_serve()
+    ensures { GroupsServe }
 {}
