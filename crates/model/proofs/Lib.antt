@@ -15,3 +15,6 @@ pub mod Serving
 pub mod AgreedInOrder
 pub mod TakeoverRun
 pub mod GroupServes
+pub mod BrokerRules
+pub mod PutOut
+pub mod GroupsPutOut

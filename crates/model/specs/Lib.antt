@@ -4,4 +4,5 @@ pub mod Exact
 pub mod Served
 pub mod Agreed
 pub mod Groups
+pub mod PutOut
 pub mod Rows

@@ -4,6 +4,7 @@ ghost use Rattle.machine.specs.Machine.{rules_by};
 ghost use Rattle.model.specs.Agreed.{AgreedKeepsTheOrder};
 ghost use Rattle.model.specs.Exact.{WorldsAreExact};
 ghost use Rattle.model.specs.Groups.{GroupsServe};
+ghost use Rattle.model.specs.PutOut.{GivenIsPutOut, GroupsPutOut};
 ghost use Rattle.model.specs.Served.{WorldsAreServed};
 
 use machine::Machine;
@@ -31,4 +32,16 @@ pub fn agreed_keeps_the_order<M: Machine>()
 /// and none of other connections, serves the world: what it agrees on next is a list to which the world comes.
 pub fn groups_serve()
     ensures { GroupsServe }
+{}
+
+/// What the broker's machine gives at the next places of the agreed list, none left out, may be put out on an open end of a
+/// connection, as far as it is for the connection: a world comes to have it.
+pub fn given_is_put_out()
+    ensures { GivenIsPutOut }
+{}
+
+/// So may all that a node of a group gives between two moments of a ballot that it leads, on an open end that has what the
+/// node gave before.
+pub fn groups_put_out()
+    ensures { GroupsPutOut }
 {}
