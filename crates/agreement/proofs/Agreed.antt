@@ -11,3 +11,7 @@ pub mod PastIsKnown
 pub mod KnownSteps
 pub mod PastKnown
 pub mod PastOrder
+pub mod OneNodeTakes
+pub mod OnePrimary
+pub mod PlainSteps
+pub mod TakenInOrder

@@ -2,6 +2,7 @@ pub mod Agreed
 pub mod Changing
 pub mod Effects
 pub mod Frame
+pub mod Given
 pub mod LawfulConfigs
 pub mod Machines
 pub mod Masters

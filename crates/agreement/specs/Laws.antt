@@ -1,14 +1,20 @@
 -- Laws.antt: what holds of every past of a group whose master answers each Assign.
-use Rattle.std.specs.Prelude.{ℕ, Bool, ◌≡◌, List, ◌∷◌, filter, slice_get, Some}
+use Rattle.std.specs.Prelude.{ℕ, Bool, ◌≤◌, ◌≡◌, List, [], ◌∷◌, ◌++◌, filter, length, slice_get, Some}
 use Rattle.machine.specs.Machine.{Rules}
-use Rattle.lists.specs.Lists.{IsPrefixOf}
+use Rattle.lists.specs.Lists.{In, IsPrefixOf}
+use Rattle.ballot.specs.Applying.{outputs_between}
 use Rattle.ballot.specs.Config.{Config}
 use Rattle.ballot.specs.Replica.{ReplicaState}
 use Rattle.agreement.specs.Agreement.{Agrees, Holds}
+use Rattle.agreement.specs.Giving.{GivesNext, LeadsOn, given_in, given_of}
 use Rattle.agreement.specs.Leaving.{LeftInOrder}
+use Rattle.agreement.specs.MasterState.{MasterState}
 use Rattle.agreement.specs.Past.{Moment, Past, IsAgreed}
-use Rattle.agreement.specs.Proposals.{IsOfBallot, IsPartOf, commands_of, proposals_of}
+use Rattle.agreement.specs.Primaries.{IsPrimary}
+use Rattle.agreement.specs.Proposals.{IsOfBallot, IsPartOf, IsTaken, commands_of, proposal_of, proposals_of, rows_in, taken_at, taken_in, taken_of, takes_at}
 use Rattle.agreement.specs.Replays.{AreReplays}
+use Rattle.agreement.specs.Steps.{MayHappen}
+use Rattle.agreement.specs.World.{World, log_of, outputs}
 
 -- there is an agreed list at each moment
 abbrev pub HasAgreed : {S C O : Type 0} → Rules S C O → Type 0
@@ -37,13 +43,67 @@ MachinesReplay {S} {C} {O} rules =
     (config : Config) (a : Moment S C O) (past : List (Moment S C O)) →
     Past rules config (a ∷ past) → AreReplays rules a.world
 
--- of the commands that were proposed in one ballot only, each log has a beginning in the order of
--- proposing, of those that were taken
+-- of the commands that were taken in one ballot only, each log has a beginning in the order of
+-- proposing
 abbrev pub KeepsTheOrder : {S C O : Type 0} → Rules S C O → Type 0
 KeepsTheOrder {S} {C} {O} rules =
     (config : Config) (a : Moment S C O) (past : List (Moment S C O)) →
     (came : Past rules config (a ∷ past)) →
-    (taken : List (ℕ × C)) × IsPartOf taken (proposals_of came)
-    × ((names : C → Bool) (ballot : ℕ) → IsOfBallot rules.start_of names ballot taken →
+    IsPartOf (taken_of came) (proposals_of came)
+    × ((names : C → Bool) (ballot : ℕ) → IsOfBallot rules.start_of names ballot (taken_of came) →
     (n : ℕ) (r : ReplicaState S C) → slice_get a.world.nodes n ≡ Some r →
-    IsPrefixOf (filter names r.log) (filter names (commands_of taken)))
+    IsPrefixOf (filter names r.log) (filter names (commands_of (taken_of came))))
+
+-- what a node takes in a step stands at once at the end of its log; all that is taken some node
+-- takes; and a proposal that is not taken changes no log
+pub record StandsAtOnce {S C O : Type 0} {rules : Rules S C O} {m : MasterState} {w : World S C O}
+    {k : MasterState} {v : World S C O} (step : MayHappen rules m w k v) : Type 0 where
+  pub stands : (n : ℕ) (row : ℕ × C) → In row (takes_at n step) → IsTaken w v n row
+  pub somewhere : (row : ℕ × C) → In row (taken_in step) → (n : ℕ) × In row (takes_at n step)
+  pub refused : taken_in step ≡ [] → (row : ℕ × C) → In row (proposal_of step) →
+      (n : ℕ) → log_of (slice_get v.nodes n) ≡ log_of (slice_get w.nodes n)
+
+-- so it is in each step
+abbrev pub TakenStandAtOnce : {S C O : Type 0} → Rules S C O → Type 0
+TakenStandAtOnce {S} {C} {O} rules =
+    (m : MasterState) (w : World S C O) (k : MasterState) (v : World S C O) →
+    (step : MayHappen rules m w k v) → StandsAtOnce step
+
+-- a ballot has one active primary at most, over all moments of a past
+abbrev pub OnePrimaryABallot : {S C O : Type 0} → Rules S C O → Type 0
+OnePrimaryABallot {S} {C} {O} rules =
+    (config : Config) (a : Moment S C O) (past : List (Moment S C O)) →
+    Past rules config (a ∷ past) →
+    (c d : Moment S C O) (m n ballot : ℕ) → In c (a ∷ past) → In d (a ∷ past) →
+    IsPrimary c.world m ballot → IsPrimary d.world n ballot → m ≡ n
+
+-- so what was taken in a ballot was taken by the one node that was its active primary
+abbrev pub OneNodeTakesABallot : {S C O : Type 0} → Rules S C O → Type 0
+OneNodeTakesABallot {S} {C} {O} rules =
+    (config : Config) (a : Moment S C O) (past : List (Moment S C O)) →
+    (came : Past rules config (a ∷ past)) →
+    (c : Moment S C O) (n ballot : ℕ) → In c (a ∷ past) → IsPrimary c.world n ballot →
+    rows_in ballot (taken_of came) ≡ rows_in ballot (taken_at n came)
+
+-- what a node gives in a step is the answers at the next places of the agreed list
+abbrev pub AnswersAtTheNextPlaces : {S C O : Type 0} → Rules S C O → Type 0
+AnswersAtTheNextPlaces {S} {C} {O} rules =
+    (config : Config) (a b : Moment S C O) (past : List (Moment S C O)) (xs : List C) →
+    Past rules config (a ∷ past) → IsAgreed config (b ∷ a ∷ past) xs →
+    (step : MayHappen rules a.master a.world b.master b.world) →
+    (n : ℕ) (old new : ReplicaState S C) → slice_get a.world.nodes n ≡ Some old →
+    slice_get b.world.nodes n ≡ Some new → GivesNext rules old new xs (given_in n step)
+
+-- so between two moments of a ballot that it leads a node gives the answers at all places of the
+-- agreed list, from where it had applied it to where it has applied it: none is left out, and none
+-- comes twice
+abbrev pub AnswersWhileItLeads : {S C O : Type 0} → Rules S C O → Type 0
+AnswersWhileItLeads {S} {C} {O} rules =
+    (config : Config) (a b : Moment S C O) (past later : List (Moment S C O)) (xs : List C) →
+    (came : Past rules config (a ∷ past)) (more : Past rules config (b ∷ later)) →
+    IsAgreed config (b ∷ later) xs → (n ballot : ℕ) → LeadsOn n ballot came b later more →
+    (old new : ReplicaState S C) → slice_get a.world.nodes n ≡ Some old →
+    slice_get b.world.nodes n ≡ Some new →
+    (old.committed ≤ new.committed) × (new.committed ≤ length xs)
+    × (given_of n more
+    ≡ given_of n came ++ outputs (outputs_between rules xs old.committed new.committed))

@@ -1,9 +1,11 @@
 pub mod Agreement
+pub mod Giving
 pub mod Inside
 pub mod Laws
 pub mod Leaving
 pub mod MasterState
 pub mod Past
+pub mod Primaries
 pub mod Proposals
 pub mod Replays
 pub mod Steps

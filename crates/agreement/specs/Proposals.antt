@@ -1,5 +1,6 @@
--- Proposals.antt: what was proposed to nodes, in order, and what logs keep of that order.
-use Rattle.std.specs.Prelude.{ℕ, Bool, true, false, ◌≡◌, List, [], ◌∷◌, ◌++◌}
+-- Proposals.antt: what was proposed to nodes, in order, what of it they took, and what logs keep of
+-- that order.
+use Rattle.std.specs.Prelude.{ℕ, Bool, true, false, ◌≡◌, List, [], ◌∷◌, ◌++◌, length, filter, slice_get, Some, nat_lt, ◌==◌, if◌then◌else◌}
 use Rattle.machine.specs.Machine.{Rules}
 use Rattle.lists.specs.Lists.{In}
 use Rattle.ballot.specs.Config.{Config}
@@ -9,6 +10,7 @@ use Rattle.ballot.specs.Replica.{ReplicaState}
 use Rattle.agreement.specs.MasterState.{MasterState}
 use Rattle.agreement.specs.Past.{Moment, Past}
 use Rattle.agreement.specs.Past.Past.{began, went_on}
+use Rattle.agreement.specs.Primaries.{IsPrimary}
 use Rattle.agreement.specs.Steps.{MayHappen}
 use Rattle.agreement.specs.Steps.MayHappen.{node_takes, node_stops, master_assigns, master_hears, assignment_lost, answer_lost}
 use Rattle.agreement.specs.World.{World}
@@ -34,7 +36,57 @@ abbrev pub proposals_of : {S C O : Type 0} {rules : Rules S C O} {config : Confi
 proposals_of (began nodes lawful is) = []
 proposals_of (went_on came step) = proposals_of came ++ proposal_of step
 
--- some of a list, in its order: those that a primary took into its log
+-- of it what the node takes: its log is longer behind the step
+abbrev pub taken_by : {S C : Type 0} → ReplicaState S C → ReplicaState S C → Input C → List (ℕ × C)
+taken_by old new input =
+    if nat_lt (length old.log) (length new.log) then proposal_by old input else []
+
+abbrev pub taken_in : {S C O : Type 0} {rules : Rules S C O} {m : MasterState} {w : World S C O}
+    {k : MasterState} {v : World S C O} → MayHappen rules m w k v → List (ℕ × C)
+taken_in (node_takes n r input {new = new} {given = given} stands runs may loses) =
+    taken_by r new input
+taken_in (node_stops n r stands) = []
+taken_in (master_assigns config) = []
+taken_in (master_hears from b sent) = []
+taken_in (assignment_lost config) = []
+taken_in (answer_lost from b sent) = []
+
+-- all that was taken in a past, in order
+abbrev pub taken_of : {S C O : Type 0} {rules : Rules S C O} {config : Config}
+    {past : List (Moment S C O)} → Past rules config past → List (ℕ × C)
+taken_of (began nodes lawful is) = []
+taken_of (went_on came step) = taken_of came ++ taken_in step
+
+-- and what the node at place n took of it
+abbrev pub takes_at : {S C O : Type 0} {rules : Rules S C O} {m : MasterState} {w : World S C O}
+    {k : MasterState} {v : World S C O} → ℕ → MayHappen rules m w k v → List (ℕ × C)
+takes_at n (node_takes i r input {new = new} {given = given} stands runs may loses) =
+    if i == n then taken_by r new input else []
+takes_at n (node_stops i r stands) = []
+takes_at n (master_assigns config) = []
+takes_at n (master_hears from b sent) = []
+takes_at n (assignment_lost config) = []
+takes_at n (answer_lost from b sent) = []
+
+abbrev pub taken_at : {S C O : Type 0} {rules : Rules S C O} {config : Config}
+    {past : List (Moment S C O)} → ℕ → Past rules config past → List (ℕ × C)
+taken_at n (began nodes lawful is) = []
+taken_at n (went_on came step) = taken_at n came ++ takes_at n step
+
+-- the rows of one ballot
+abbrev pub rows_in : {C : Type 0} → ℕ → List (ℕ × C) → List (ℕ × C)
+rows_in {C} ballot rows = filter (λ (row : ℕ × C). row.0 == ballot) rows
+
+-- the node at place n took a proposal in a step: it ran, and was the active primary of the ballot
+-- that the row names; behind the step its log is what it was, with the command at its end
+pub record IsTaken {S C O : Type 0} (w v : World S C O) (n : ℕ) (row : ℕ × C) : Type 0 where
+  pub primary : IsPrimary w n row.0
+  pub runs : primary.replica.stopped ≡ false
+  pub behind : ReplicaState S C
+  pub stands : slice_get v.nodes n ≡ Some behind
+  pub log : behind.log ≡ primary.replica.log ++ row.1 ∷ []
+
+-- some of a list, in its order
 pub data IsPartOf {X : Type 0} : List X → List X → Type 0 where
   nothing_left : IsPartOf [] []
   with_one : {x : X} {xs ys : List X} → IsPartOf xs ys → IsPartOf (x ∷ xs) (x ∷ ys)

@@ -4,4 +4,8 @@
 
 mod laws;
 
-pub use laws::{agreed_grows, has_agreed, keeps_the_order, machines_replay, nodes_agree};
+pub use laws::{
+    agreed_grows, answers_at_the_next_places, answers_while_it_leads, has_agreed, keeps_the_order,
+    machines_replay, nodes_agree, one_node_takes_a_ballot, one_primary_a_ballot,
+    taken_stand_at_once,
+};

@@ -15,7 +15,6 @@ agreed_in_order {C = Command} rules keeps agree config a past agreed came is =
     let order = keeps config a past came in
     let holds = (agree config a past agreed came is).1 in (
       order.0,
-      order.1,
       λ names ballot own.
-          prefix_then (filter_front names agreed holds.replica.log holds.held) (order.2 names ballot own holds.node holds.replica holds.stands),
+          prefix_then (filter_front names agreed holds.replica.log holds.held) (order.1 names ballot own holds.node holds.replica holds.stands),
     )

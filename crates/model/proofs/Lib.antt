@@ -14,3 +14,7 @@ pub mod TakenOn
 pub mod Serving
 pub mod AgreedInOrder
 pub mod TakeoverRun
+pub mod GroupServes
+pub mod BrokerRules
+pub mod PutOut
+pub mod GroupsPutOut

@@ -4,14 +4,14 @@ use Rattle.machine.specs.Machine.{Rules}
 use Rattle.lists.specs.Lists.{IsPrefixOf}
 use Rattle.ballot.specs.Config.{Config}
 use Rattle.agreement.specs.Past.{Moment, Past, IsAgreed}
-use Rattle.agreement.specs.Proposals.{IsOfBallot, IsPartOf, commands_of, proposals_of}
+use Rattle.agreement.specs.Proposals.{IsOfBallot, IsPartOf, commands_of, proposals_of, taken_of}
 
--- Of the commands that were proposed in one ballot only, as those of one connection, the agreed list has a beginning in
--- the order of proposing, of those that a primary took.
+-- Of the commands that were taken in one ballot only, as those of one connection, the agreed list has a beginning in the
+-- order of proposing.
 abbrev pub AgreedKeepsTheOrder : {S C O : Type 0} → Rules S C O → Type 0
 AgreedKeepsTheOrder {S} {C} {O} rules =
     (config : Config) (a : Moment S C O) (past : List (Moment S C O)) (agreed : List C) →
     (came : Past rules config (a ∷ past)) → IsAgreed config (a ∷ past) agreed →
-    (taken : List (ℕ × C)) × IsPartOf taken (proposals_of came)
-    × ((names : C → Bool) (ballot : ℕ) → IsOfBallot rules.start_of names ballot taken →
-    IsPrefixOf (filter names agreed) (filter names (commands_of taken)))
+    IsPartOf (taken_of came) (proposals_of came)
+    × ((names : C → Bool) (ballot : ℕ) → IsOfBallot rules.start_of names ballot (taken_of came) →
+    IsPrefixOf (filter names agreed) (filter names (commands_of (taken_of came))))

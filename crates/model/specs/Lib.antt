@@ -3,4 +3,6 @@ pub mod Goes
 pub mod Exact
 pub mod Served
 pub mod Agreed
+pub mod Groups
+pub mod PutOut
 pub mod Rows

@@ -3,6 +3,8 @@
 ghost use Rattle.machine.specs.Machine.{rules_by};
 ghost use Rattle.model.specs.Agreed.{AgreedKeepsTheOrder};
 ghost use Rattle.model.specs.Exact.{WorldsAreExact};
+ghost use Rattle.model.specs.Groups.{GroupsServe};
+ghost use Rattle.model.specs.PutOut.{GivenIsPutOut, GroupsPutOut};
 ghost use Rattle.model.specs.Served.{WorldsAreServed};
 
 use machine::Machine;
@@ -20,8 +22,26 @@ pub fn worlds_are_served()
     ensures { WorldsAreServed }
 {}
 
-/// Of the commands that were proposed in one ballot only, as those of one connection are, the list on which nodes agree has a
-/// beginning in the order of proposing, of those that a primary took.
+/// Of the commands that were taken in one ballot only, as those of one connection are, the list on which nodes agree has a
+/// beginning in the order of proposing; the past tells which were taken.
 pub fn agreed_keeps_the_order<M: Machine>()
     ensures { AgreedKeepsTheOrder (rules_by M.opening M.start_of M.after M.gives) }
+{}
+
+/// A group of nodes that take of each connection the packets that its end has read, in order and in the ballot of its name,
+/// and none of other connections, serves the world: what it agrees on next is a list to which the world comes.
+pub fn groups_serve()
+    ensures { GroupsServe }
+{}
+
+/// What the broker's machine gives at the next places of the agreed list, none left out, may be put out on an open end of a
+/// connection, as far as it is for the connection: a world comes to have it.
+pub fn given_is_put_out()
+    ensures { GivenIsPutOut }
+{}
+
+/// So may all that a node of a group gives between two moments of a ballot that it leads, on an open end that has what the
+/// node gave before.
+pub fn groups_put_out()
+    ensures { GroupsPutOut }
 {}

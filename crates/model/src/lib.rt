@@ -5,5 +5,8 @@
 mod laws;
 mod rows;
 
-pub use laws::{agreed_keeps_the_order, worlds_are_exact, worlds_are_served};
+pub use laws::{
+    agreed_keeps_the_order, given_is_put_out, groups_put_out, groups_serve, worlds_are_exact,
+    worlds_are_served,
+};
 pub use rows::accepts_once_over_a_takeover;

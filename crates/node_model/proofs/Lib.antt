@@ -7,3 +7,8 @@ pub mod Opening
 pub mod ProposesInOrder
 pub mod Taken
 pub mod PutsInOrder
+pub mod Shut
+pub mod ShutByOutputs
+pub mod ShutByChanges
+pub mod NothingOnClosed
+pub mod NewNames

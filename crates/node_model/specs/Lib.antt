@@ -1,3 +1,5 @@
 pub mod Moves
 pub mod Ends
 pub mod Puts
+pub mod Closed
+pub mod Names

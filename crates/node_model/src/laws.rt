@@ -1,7 +1,9 @@
 // Laws of what a node does. The calls do nothing; their contracts are the laws.
 
+ghost use Rattle.node_model.specs.Closed.{NothingOnClosed};
 ghost use Rattle.node_model.specs.Ends.{NodesProposeInOrder, NodesReadInOrder, ReadsAreTaken};
 ghost use Rattle.node_model.specs.Moves.{DeedsAreMoves};
+ghost use Rattle.node_model.specs.Names.{NewNamesAreOfTheBallot};
 ghost use Rattle.node_model.specs.Puts.{PutsInOrder};
 
 /// All that a node does, its steps and the handing over of bytes, is a run of a few moves: what it reads of a client it
@@ -32,4 +34,17 @@ pub fn reads_are_taken()
 /// order, behind what was put out before, and nothing else.
 pub fn puts_in_order()
     ensures { PutsInOrder }
+{}
+
+/// On a connection that is closed nothing more is put out: behind each move of a node it has the bytes to hand over that it
+/// had, or is closed in this move, and got a beginning of what the replica's outputs send to it, or the node's own answer to
+/// a CONNECT that it refuses.
+pub fn nothing_on_closed()
+    ensures { NothingOnClosed }
+{}
+
+/// A connection that is new behind a move has a name of the ballot that the node leads as its active primary, with the next
+/// number there.
+pub fn new_names_are_of_the_ballot()
+    ensures { NewNamesAreOfTheBallot }
 {}

@@ -5,5 +5,6 @@
 mod laws;
 
 pub use laws::{
-    deeds_are_moves, nodes_propose_in_order, nodes_read_in_order, puts_in_order, reads_are_taken,
+    deeds_are_moves, new_names_are_of_the_ballot, nodes_propose_in_order, nodes_read_in_order,
+    nothing_on_closed, puts_in_order, reads_are_taken,
 };

@@ -38,7 +38,7 @@ get_pushed_to {X = X} (z ∷ xs) x y (suc i) e = by_rest (get_pushed_to xs x y i
     by_rest (inr (same, f)) = inr (omega (arith, same), f)
 
 -- two lists with the same front give the same outputs of its places
-same_outputs : {S C O : Type 0} (rules : Rules S C O) (xs ys : List C) (first past : ℕ) → first ≤ past → take past xs ≡ take past ys →
+pub same_outputs : {S C O : Type 0} (rules : Rules S C O) (xs ys : List C) (first past : ℕ) → first ≤ past → take past xs ≡ take past ys →
     outputs_between rules xs first past ≡ outputs_between rules ys first past
 same_outputs {C = C} {O = O} rules xs ys first past rising e =
     let f : take first xs ≡ take first ys = sym (take-take first past xs rising) ∙ ap (take first) e ∙ take-take first past ys rising in

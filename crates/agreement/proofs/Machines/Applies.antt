@@ -55,7 +55,7 @@ added_applies {S = S} {C = C} {O = O} rules r c =
     (commit_applies rules r (record r { log = r.log ++ c ∷ [] }) (least (length (r.log ++ c ∷ [])) r.progress) refl refl)
 
 -- the places from one length to a third are those up to a second, and those behind it
-parts_join : {C : Type 0} (log : List C) (from mid to : ℕ) → from ≤ mid → mid ≤ to → mid ≤ length log →
+pub parts_join : {C : Type 0} (log : List C) (from mid to : ℕ) → from ≤ mid → mid ≤ to → mid ≤ length log →
     drop from (take to log) ≡ drop from (take mid log) ++ drop mid (take to log)
 parts_join log from mid to low high within =
     let long = length-take-le mid log within in

@@ -56,7 +56,7 @@ said_behind {C = C} O P id b log (reached ∷ progress) f to m i =
     by_part rest (inl j) = said_at O P id b reached (slice_get log reached.held) (f reached here) to m j
     by_part rest (inr j) = rest j
 
-silent_behind : {C : Type 0} (O : Type 0) (id b : ℕ) (log : List C) (progress : List Progress) → outputs (appends_behind O id b log progress) ≡ []
+pub silent_behind : {C : Type 0} (O : Type 0) (id b : ℕ) (log : List C) (progress : List Progress) → outputs (appends_behind O id b log progress) ≡ []
 silent_behind O id b log [] = refl
 silent_behind {C = C} O id b log (reached ∷ progress) =
     outputs-append (append_at O id b reached (slice_get log reached.held)) (appends_behind O id b log progress)

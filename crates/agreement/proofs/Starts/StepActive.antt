@@ -65,7 +65,7 @@ received_begins rules r from (Held b held) = inl (active_held rules r from b hel
 received_begins {O = O} rules r from (Commit b held) = inl (active_commit rules r b held)
 
 -- a tick
-ticked_stays : {S C : Type 0} (O : Type 0) (r : ReplicaState S C) (role : Role) → StaysActive r (ticked O r role)
+pub ticked_stays : {S C : Type 0} (O : Type 0) (r : ReplicaState S C) (role : Role) → StaysActive r (ticked O r role)
 unfolding on_tick_active
 ticked_stays O r Backup f = (f, refl)
 ticked_stays O r Fetching f = (f, refl)

@@ -1,0 +1,85 @@
+-- WhileItLeads.antt: while a node leads a ballot it gives the answers at all places of the agreed list, from where it was to where it is.
+use Rattle.std.proofs.Common.{◌≡◌, ℕ, ◌≤◌, List, ◌∷◌, ◌++◌, length, Some, ap, sym, ◌∙◌, append_assoc, arith}
+use Rattle.std.specs.Prelude.{Option, slice_get}
+use Rattle.std.proofs.lemmas.List.{append-nil, length-take-le}
+use Rattle.machine.specs.Machine.{Rules}
+use Rattle.lists.proofs.Beginnings.{prefix_length, take_prefix}
+use Rattle.ballot.specs.Applying.{outputs_between}
+use Rattle.ballot.specs.Config.{Config}
+use Rattle.ballot.specs.Replica.{ReplicaState, is_active}
+use Rattle.agreement.specs.Giving.{LeadsOn, given_in, given_of}
+use Rattle.agreement.specs.Giving.LeadsOn.{leads_there, leads_still}
+use Rattle.agreement.specs.Laws.{AnswersWhileItLeads}
+use Rattle.agreement.specs.Past.{Moment, Past, IsAgreed}
+use Rattle.agreement.specs.Primaries.{IsPrimary}
+use Rattle.agreement.specs.World.{outputs}
+use Rattle.agreement.proofs.Agreed.PastAgrees.{has_agreed, nodes_agree}
+use Rattle.agreement.proofs.Agreed.PastGrows.{agreed_grows}
+use Rattle.agreement.proofs.Agreed.PastKnown.{past_known}
+use Rattle.agreement.proofs.Frame.Giving.{same_outputs}
+use Rattle.agreement.proofs.Given.NextPlaces.{answers_at_the_next_places}
+use Rattle.agreement.proofs.Given.Places.{between_joins, none_between}
+use Rattle.agreement.proofs.Given.StepGives.{from_active}
+
+-- it leads at the last moment
+leads_now : {S C O : Type 0} {rules : Rules S C O} {config : Config} {n ballot : ℕ} {a b : Moment S C O} {past later : List (Moment S C O)}
+    {came : Past rules config (a ∷ past)} {more : Past rules config (b ∷ later)} → LeadsOn n ballot came b later more → IsPrimary b.world n ballot
+leads_now (leads_there p) = p
+leads_now (leads_still leads step p) = p
+
+-- what a node applied lies within the agreed list
+applied_inside : {S C O : Type 0} (rules : Rules S C O) (config : Config) (a : Moment S C O) (past : List (Moment S C O)) (xs : List C) →
+    Past rules config (a ∷ past) → IsAgreed config (a ∷ past) xs → (n : ℕ) (r : ReplicaState S C) → slice_get a.world.nodes n ≡ Some r →
+    r.committed ≤ length xs
+applied_inside rules config a past xs came agreed n r stands =
+    let within = ((past_known rules config a past came).serves.sound.nodes n r stands).within in
+    let short = prefix_length ((nodes_agree rules config a past xs came agreed).0.applied n r stands) in
+    let long = length-take-le r.committed r.log within in omega (arith, short, long)
+
+one_node : {X : Type 0} (o : Option X) (x y : X) → o ≡ Some x → o ≡ Some y → x ≡ y
+one_node o x y e f = cc
+
+-- by the moments in between
+gave_between : {S C O : Type 0} (rules : Rules S C O) (config : Config) (a : Moment S C O) (past : List (Moment S C O)) →
+    (came : Past rules config (a ∷ past)) → (n ballot : ℕ) (old : ReplicaState S C) → slice_get a.world.nodes n ≡ Some old →
+    (b : Moment S C O) (later : List (Moment S C O)) (xs : List C) (more : Past rules config (b ∷ later)) → IsAgreed config (b ∷ later) xs →
+    LeadsOn n ballot came b later more → (new : ReplicaState S C) → slice_get b.world.nodes n ≡ Some new →
+    (old.committed ≤ new.committed)
+    × (given_of n more ≡ given_of n came ++ outputs (outputs_between rules xs old.committed new.committed))
+gave_between {S = S} {C = C} {O = O} rules config a past came n ballot old stood b later xs more agreed (leads_there p) new stands =
+    let same : new ≡ old = one_node (slice_get a.world.nodes n) new old stands stood in
+    let e = ap (λ (r : ReplicaState S C). r.committed) same in (
+      omega (arith, e),
+      sym (ap (λ k. given_of n came ++ outputs (outputs_between rules xs old.committed k)) e
+          ∙ ap (λ us. given_of n came ++ us) (none_between rules xs old.committed) ∙ append-nil (given_of n came)),
+    )
+gave_between {S = S} {C = C} {O = O} rules config a past came n ballot old stood c later xs more agreed
+    (leads_still {b = b} {later = earlier} {more = before} leads step p) new stands =
+    let mid = leads_now leads in
+    let r = mid.replica in
+    let ys = has_agreed rules config b earlier before in
+    let first = gave_between rules config a past came n ballot old stood b earlier ys.0 before ys.1 leads r mid.stands in
+    let next = answers_at_the_next_places rules config b c earlier xs before agreed step n r new mid.stands stands in
+    let active = ap (λ (x : ReplicaState S C). is_active x.role) (one_node (slice_get c.world.nodes n) new p.replica stands p.stands) ∙ p.active in
+    let from = from_active r mid.active in
+    let up = next.rising active in
+    let low = first.0 in
+    let inside = applied_inside rules config b earlier ys.0 before ys.1 n r mid.stands in
+    let grown = agreed_grows rules config c (b ∷ earlier) ys.0 xs ys.1 agreed in
+    let longer = prefix_length grown in (
+      omega (arith, low, up, from),
+      ap (λ us. us ++ given_in n step) first.1
+          ∙ ap (λ us. (given_of n came ++ outputs us) ++ given_in n step)
+          (same_outputs rules ys.0 xs old.committed r.committed low (sym (take_prefix r.committed grown inside)))
+          ∙ ap (λ us. (given_of n came ++ outputs (outputs_between rules xs old.committed r.committed)) ++ us)
+          (next.next active ∙ ap (λ k. outputs (outputs_between rules xs k new.committed)) from)
+          ∙ append_assoc (given_of n came) (outputs (outputs_between rules xs old.committed r.committed)) (outputs (outputs_between rules xs r.committed new.committed))
+          ∙ ap (λ us. given_of n came ++ us)
+          (between_joins rules xs old.committed r.committed new.committed low (omega (arith, up, from)) (omega (arith, inside, longer))),
+    )
+
+-- in the words of the law
+pub answers_while_it_leads : {S C O : Type 0} (rules : Rules S C O) → AnswersWhileItLeads rules
+answers_while_it_leads rules config a b past later xs came more agreed n ballot leads old new stood stands =
+    let g = gave_between rules config a past came n ballot old stood b later xs more agreed leads new stands in
+    (g.0, applied_inside rules config b later xs more agreed n new stands, g.1)

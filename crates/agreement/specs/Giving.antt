@@ -1,0 +1,57 @@
+-- Giving.antt: what one node gives, in a step and between two moments at which it leads one ballot.
+use Rattle.std.specs.Prelude.{ℕ, true, false, ◌≤◌, ◌≡◌, ◌==◌, List, [], ◌∷◌, ◌++◌, length, if◌then◌else◌}
+use Rattle.machine.specs.Machine.{Rules}
+use Rattle.ballot.specs.Applying.{outputs_between}
+use Rattle.ballot.specs.Config.{Config}
+use Rattle.ballot.specs.Replica.{ReplicaState, is_active}
+use Rattle.agreement.specs.MasterState.{MasterState}
+use Rattle.agreement.specs.Past.{Moment, Past}
+use Rattle.agreement.specs.Past.Past.{began, went_on}
+use Rattle.agreement.specs.Primaries.{IsPrimary}
+use Rattle.agreement.specs.Steps.{MayHappen}
+use Rattle.agreement.specs.Steps.MayHappen.{node_takes, node_stops, master_assigns, master_hears, assignment_lost, answer_lost}
+use Rattle.agreement.specs.World.{World, outputs}
+
+-- the outputs that the node at place n gives in a step, each with its place in the list
+abbrev pub given_in : {S C O : Type 0} {rules : Rules S C O} {m : MasterState} {w : World S C O}
+    {k : MasterState} {v : World S C O} → ℕ → MayHappen rules m w k v → List (ℕ × O)
+given_in n (node_takes i r input {new = new} {given = given} stands runs may loses) =
+    if i == n then outputs given else []
+given_in n (node_stops i r stands) = []
+given_in n (master_assigns config) = []
+given_in n (master_hears from b sent) = []
+given_in n (assignment_lost config) = []
+given_in n (answer_lost from b sent) = []
+
+-- all that it gave in a past, in order
+abbrev pub given_of : {S C O : Type 0} {rules : Rules S C O} {config : Config}
+    {past : List (Moment S C O)} → ℕ → Past rules config past → List (ℕ × O)
+given_of n (began nodes lawful is) = []
+given_of n (went_on came step) = given_of n came ++ given_in n step
+
+-- the place from which a node gives: how far it has applied its log, if it is the active primary;
+-- one that becomes it applies its whole log first, and gives nothing for that
+abbrev pub gives_from : {S C : Type 0} → ReplicaState S C → ℕ
+gives_from r = if is_active r.role then r.committed else length r.log
+
+-- what a node gave while it became another: nothing where it is no active primary, and else the
+-- machine's answers at the places of the list from there on to where it has applied it now
+pub record GivesNext {S C O : Type 0} (rules : Rules S C O) (old new : ReplicaState S C)
+    (xs : List C) (given : List (ℕ × O)) : Type 0 where
+  pub idle : is_active new.role ≡ false → given ≡ []
+  pub rising : is_active new.role ≡ true → gives_from old ≤ new.committed
+  pub inside : new.committed ≤ length xs
+  pub next : is_active new.role ≡ true →
+      given ≡ outputs (outputs_between rules xs (gives_from old) new.committed)
+
+-- a past goes on from a moment, and the node at place n is the active primary of a ballot at that
+-- moment and at each later one
+pub data LeadsOn {S C O : Type 0} {rules : Rules S C O} {config : Config} (n ballot : ℕ)
+    {a : Moment S C O} {past : List (Moment S C O)} (came : Past rules config (a ∷ past)) :
+    (b : Moment S C O) (later : List (Moment S C O)) → Past rules config (b ∷ later) →
+    Type 0 where
+  leads_there : IsPrimary a.world n ballot → LeadsOn n ballot came a past came
+  leads_still : {b c : Moment S C O} {later : List (Moment S C O)}
+      {more : Past rules config (b ∷ later)} → LeadsOn n ballot came b later more →
+      (step : MayHappen rules b.master b.world c.master c.world) → IsPrimary c.world n ballot →
+      LeadsOn n ballot came c (b ∷ later) (went_on more step)

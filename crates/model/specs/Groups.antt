@@ -1,0 +1,42 @@
+-- How a group of nodes serves a world: what its nodes take is what the ends of the world's connections read.
+use Rattle.std.specs.Prelude.{◌≡◌, ℕ, true, false, List, ◌∷◌, filter, take}
+use Rattle.machine.specs.Machine.{Rules}
+use Rattle.ballot.specs.Config.{Config}
+use Rattle.broker_base.specs.Connection.{ConnectionName}
+use Rattle.broker_base.specs.Command.{Command}
+use Rattle.broker_base.specs.Output.{Output}
+use Rattle.broker_base.specs.State.{State}
+use Rattle.lists.specs.Lists.{In}
+use Rattle.agreement.specs.Past.{Moment, Past, IsAgreed}
+use Rattle.agreement.specs.Primaries.{IsPrimary}
+use Rattle.agreement.specs.Proposals.{commands_of, taken_at, taken_of}
+use Rattle.story.specs.Sides.{Connection}
+use Rattle.story.specs.Story.{is_packet_of}
+use Rattle.model.specs.World.{End, ClientEnds, World}
+use Rattle.model.specs.Goes.{HasPipe, is_of_connection}
+use Rattle.model.specs.Exact.{commands_from}
+use Rattle.model.specs.Served.{IsOfPipe, IsServed}
+
+-- A node that was the active primary of a connection's ballot, and took of its packets those that its end has read.
+pub record ReadsAt {rules : Rules State Command Output} {config : Config} {past : List (Moment State Command Output)} (came : Past rules config past)
+    (κ : Connection) (e : End) : Type 0 where
+  pub node : ℕ
+  pub moment : Moment State Command Output
+  pub among : In moment past
+  pub primary : IsPrimary moment.world node κ.name.ballot
+  pub taken : filter (λ command. is_packet_of command κ.name) (commands_of (taken_at node came)) ≡ commands_from κ.name 0 (take e.read κ.written)
+
+-- What is asked of the nodes: they take commands of a connection in the ballot of its name alone, of each connection the
+-- packets that its end has read, in order, and of no others.
+pub record TakesAsRead {rules : Rules State Command Output} {config : Config} {past : List (Moment State Command Output)} (came : Past rules config past)
+    (w : World) : Type 0 where
+  pub ballots : (row : ℕ × Command) → In row (taken_of came) → (x : ConnectionName) → is_packet_of row.1 x ≡ true → row.0 ≡ x.ballot
+  pub ends : (i j : ℕ) (c : ClientEnds) (κ : Connection) (e : End) → HasPipe w i c j κ e → ReadsAt came κ e
+  pub known : (row : ℕ × Command) → In row (taken_of came) → is_of_connection row.1 ≡ true → IsOfPipe w row.1
+
+-- Then what is agreed at one moment is served by what is agreed at the next: it has grown, and has of each connection a
+-- beginning of the packets that were read, in their order.
+abbrev pub GroupsServe : Type 0
+GroupsServe = (rules : Rules State Command Output) → ((ballot : ℕ) → is_of_connection (rules.start_of ballot) ≡ false) →
+    (config : Config) (a : Moment State Command Output) (past : List (Moment State Command Output)) (w : World) (later : List Command) →
+    (came : Past rules config (a ∷ past)) → IsAgreed config past w.agreed → IsAgreed config (a ∷ past) later → TakesAsRead came w → IsServed w later

@@ -1,0 +1,58 @@
+-- What a node gives is put out on the ends of its connections.
+use Rattle.std.specs.Prelude.{◌≡◌, ◌≤◌, ℕ, true, List, ◌∷◌, ◌++◌, length, map, set, slice_get, Some}
+use Rattle.machine.specs.Machine.{Rules}
+use Rattle.ballot.specs.Applying.{outputs_between}
+use Rattle.ballot.specs.Config.{Config}
+use Rattle.ballot.specs.Replica.{ReplicaState}
+use Rattle.agreement.specs.Giving.{LeadsOn, given_of}
+use Rattle.agreement.specs.Past.{Moment, Past, IsAgreed}
+use Rattle.agreement.specs.World.{outputs}
+use Rattle.broker_base.specs.Connection.{ConnectionName}
+use Rattle.broker_base.specs.Place.{Client}
+use Rattle.broker_base.specs.Commands.{usual_limits}
+use Rattle.broker_base.specs.Command.{Command}
+use Rattle.broker_base.specs.Command.TheVariants as commands
+use Rattle.broker_base.specs.Output.{Output}
+use Rattle.broker_base.specs.State.{State, empty_state}
+use Rattle.broker_base.specs.Step.{step}
+use Rattle.story.specs.Sends.{sends_to}
+use Rattle.story.specs.Sides.{Connection}
+use Rattle.model.specs.World.{End, ClientEnds, World, with_client}
+use Rattle.model.specs.Goes.{HasPipe, Reached}
+
+-- the broker's machine, with a window of 16
+abbrev pub broker_rules : Rules State Command Output
+broker_rules =
+    record {
+      opening = empty_state 16;
+      start_of = commands.Start;
+      after = λ state command. (step usual_limits 16 state command).0;
+      gives = λ state command. (step usual_limits 16 state command).1;
+    }
+
+-- the outputs that a node gave, without their places
+abbrev pub answered : List (ℕ × Output) → List Output
+answered given = map (λ (row : ℕ × Output). row.1) given
+
+-- the end of a connection whose node has applied the list up to a place and gave this, of which it put out what is for the
+-- connection
+abbrev pub end_given : ConnectionName → ℕ → List (ℕ × Output) → End → End
+end_given x past given e = record e { seen = past; put = e.put ++ sends_to x (answered given) }
+
+-- What the machine gives at the next places of the agreed list, none left out, may be put out on an open end: the world comes
+-- to have it.
+abbrev pub GivenIsPutOut : Type 0
+GivenIsPutOut = (cs : List Client) (w : World) (i j : ℕ) (c : ClientEnds) (κ : Connection) (e : End) (past : ℕ) → Reached cs w → HasPipe w i c j κ e →
+    e.is_open ≡ true → e.seen ≤ past → past ≤ length w.agreed →
+    Reached cs (with_client i (record c { ends = set c.ends j (end_given κ.name past (outputs (outputs_between broker_rules w.agreed e.seen past)) e) }) w)
+
+-- So may all that a node of a group gives between two moments of a ballot that it leads, on an open end that has what the
+-- node gave before.
+abbrev pub GroupsPutOut : Type 0
+GroupsPutOut = (config : Config) (a b : Moment State Command Output) (past later : List (Moment State Command Output))
+    (came : Past broker_rules config (a ∷ past)) (more : Past broker_rules config (b ∷ later)) (n ballot : ℕ) → LeadsOn n ballot came b later more →
+    (old new : ReplicaState State Command) → slice_get a.world.nodes n ≡ Some old → slice_get b.world.nodes n ≡ Some new →
+    (given : List (ℕ × Output)) → given_of n more ≡ given_of n came ++ given →
+    (cs : List Client) (w : World) → Reached cs w → IsAgreed config (b ∷ later) w.agreed →
+    (i j : ℕ) (c : ClientEnds) (κ : Connection) (e : End) → HasPipe w i c j κ e → e.is_open ≡ true → e.seen ≡ old.committed →
+    Reached cs (with_client i (record c { ends = set c.ends j (end_given κ.name new.committed given e) }) w)

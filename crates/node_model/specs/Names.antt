@@ -1,0 +1,19 @@
+-- Which name a connection gets that a node opens.
+use Rattle.std.specs.Prelude.{◌≡◌, ◌+◌, true, Some, None}
+use Rattle.broker_base.specs.Connection.{ConnectionName}
+use Rattle.world_base.specs.declared.connection.Connection.{Connection}
+use Rattle.world_base.specs.Core.{CoreState, Turn, serves}
+use Rattle.node_model.specs.Closed.{listed_named}
+use Rattle.node_model.specs.Ends.{IsOrderly}
+use Rattle.node_model.specs.Moves.{Moves}
+
+-- Of the ballot that its replica leads as the active primary, and the next number there.
+pub record IsNextName (core : CoreState) (x : ConnectionName) : Type 0 where
+  pub leads : serves core ≡ true
+  pub ballot : x.ballot ≡ core.replica.state.joined
+  pub count : x.count ≡ core.accepted + 1
+
+-- so it is of each connection that is new behind a move
+abbrev pub NewNamesAreOfTheBallot : Type 0
+NewNamesAreOfTheBallot = (core : CoreState) (turn : Turn) (m : Moves core turn) → IsOrderly core → (x : ConnectionName) (d : Connection) →
+    listed_named x core ≡ None → listed_named x turn.core ≡ Some d → IsNextName core x
