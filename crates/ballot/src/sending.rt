@@ -1,13 +1,13 @@
 // Messages that a call hands out. One that finds no memory is lost.
 
-ghost use Rattle.std.specs.Prelude.{[], ◌∷◌, slice_get};
+ghost use Rattle.std.specs.Prelude.{◌≡◌, [], ◌∷◌, slice_get, IfOk};
 ghost use Rattle.ballot.specs.Inside.{Sends};
 ghost use Rattle.ballot_base.specs.Serving.{append_at, appends_behind};
 ghost use Rattle.ballot_base.specs.Sending.{message_to, message_to_each, message_to_followed};
 
 use crate::copying::copy_log;
 use ballot_base::{Body, Effect, Message, Progress};
-use machine::Machine;
+use machine::{Machine, Memory};
 use std::alloc::Global;
 
 /// The number by which the master is named.
@@ -24,6 +24,23 @@ pub fn send<C: Drop, O: Drop>(
     out.push(Effect::To(receiver, message)).is_ok()
 }
 
+/// Sends a message whose body was made, if there was memory for that. Whether there was, and for the
+/// message too, is the result.
+fn send_made<C: Drop, O: Drop>(
+    out: &mut Vec<Effect<C, O>>,
+    from: u8,
+    receiver: u8,
+    made: Result<Body<C>, Memory>,
+) -> bool
+    ensures { (body : Body C) → IfOk made (λ it. it ≡ body) →
+        Sends out.old.items out.new.items (message_to O from body receiver ∷ []) result }
+{
+    match made {
+        Ok(body) => send(out, receiver, Message { from, body }),
+        Err(_) => false,
+    }
+}
+
 /// Sends a copy of the command at a place to a node.
 fn send_append<M: Machine>(
     alloc: Global,
@@ -37,13 +54,20 @@ fn send_append<M: Machine>(
     ensures { Sends out.old.items out.new.items
         (message_to M.Output from (Body.Append ballot place command.now) receiver ∷ []) result }
 {
-    match M::copy(alloc, command) {
-        Ok(copied) => {
-            let body = Body::Append(ballot, place, copied);
-            send(out, receiver, Message { from, body })
-        }
-        Err(_) => false,
-    }
+    let made = append_of::<M>(alloc, ballot, place, command);
+    send_made(out, from, receiver, made)
+}
+
+/// What carries a copy of the command at a place.
+fn append_of<M: Machine>(
+    alloc: Global,
+    ballot: u64,
+    place: u64,
+    command: &M::Command,
+) -> Result<Body<M::Command>, Memory>
+    ensures { IfOk result (λ body. body ≡ Body.Append ballot place command.now) }
+{
+    Ok(Body::Append(ballot, place, M::copy(alloc, command)?))
 }
 
 /// Sends the command at a place to each node with a progress.
@@ -167,34 +191,30 @@ pub fn send_state<M: Machine>(
     ensures { Sends out.old.items out.new.items
         (message_to M.Output from (Body.State ballot log.now) receiver ∷ []) result }
 {
-    match copy_log::<M>(alloc, log) {
-        Ok(copied) => {
-            let body = Body::State(ballot, copied);
-            send(out, receiver, Message { from, body })
-        }
-        Err(_) => false,
-    }
+    let made = state_of::<M>(alloc, ballot, log);
+    send_made(out, from, receiver, made)
 }
 
-/// Hands a copy of a log to a member.
-fn send_install<M: Machine>(
+/// What carries a copy of a log to the primary that asked for it.
+fn state_of<M: Machine>(
     alloc: Global,
-    from: u8,
     ballot: u64,
     log: &[M::Command],
-    receiver: u8,
-    out: &mut Vec<Effect<M::Command, M::Output>>,
-) -> bool
-    ensures { Sends out.old.items out.new.items
-        (message_to M.Output from (Body.Install ballot log.now) receiver ∷ []) result }
+) -> Result<Body<M::Command>, Memory>
+    ensures { IfOk result (λ body. body ≡ Body.State ballot log.now) }
 {
-    match copy_log::<M>(alloc, log) {
-        Ok(copied) => {
-            let body = Body::Install(ballot, copied);
-            send(out, receiver, Message { from, body })
-        }
-        Err(_) => false,
-    }
+    Ok(Body::State(ballot, copy_log::<M>(alloc, log)?))
+}
+
+/// What carries a copy of a log to a member.
+fn install_of<M: Machine>(
+    alloc: Global,
+    ballot: u64,
+    log: &[M::Command],
+) -> Result<Body<M::Command>, Memory>
+    ensures { IfOk result (λ body. body ≡ Body.Install ballot log.now) }
+{
+    Ok(Body::Install(ballot, copy_log::<M>(alloc, log)?))
 }
 
 /// Hands a copy of a log to each of some members.
@@ -211,7 +231,8 @@ pub fn send_installs<M: Machine>(
 {
     let mut whole = true;
     for receiver in receivers {
-        let sent = send_install::<M>(alloc, from, ballot, log, *receiver, out);
+        let made = install_of::<M>(alloc, ballot, log);
+        let sent = send_made(out, from, *receiver, made);
         whole = whole && sent;
     }
     whole

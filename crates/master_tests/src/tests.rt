@@ -3,5 +3,5 @@ mod ballots;
 mod changes;
 mod groups;
 mod idle;
-mod losses;
+mod memory;
 mod takeovers;

@@ -7,14 +7,19 @@ use machine::TallyCommand;
 use std::alloc::Global;
 use std::test::Fail;
 
+// Whether the log is fetched and installed.
+fn goes_over(pair: &mut Pair) -> bool {
+    shows(&pair.two, 2, Role::Fetching, 0, 0)
+        && hands_on(pair, &["Join", "State"])
+        && shows(&pair.two, 2, Role::Installing, 0, 0)
+        && hands_on(pair, &["Install", "Installed", "Activate"])
+}
+
 // Ballot 2 goes from the sole member 1 to the members 1 and 2: the log goes over.
 #[test]
 fn the_log_goes_over(rt: HostRuntime) -> Result<(), Fail> {
     let mut pair = assigned(rt.alloc(), &[1])?;
-    assert!(rt; shows(&pair.two, 2, Role::Fetching, 0, 0));
-    assert!(rt; hands_on(&mut pair, &["Join", "State"]));
-    assert!(rt; shows(&pair.two, 2, Role::Installing, 0, 0));
-    assert!(rt; hands_on(&mut pair, &["Install", "Installed", "Activate"]));
+    assert!(rt; goes_over(&mut pair));
     Ok(())
 }
 
@@ -26,27 +31,37 @@ fn went_over(alloc: Global) -> Result<Pair, OpeningError> {
     Ok(pair)
 }
 
+// Whether the start of the ballot is added and committed.
+fn begins(pair: &mut Pair) -> bool {
+    master_says(pair, Body::Activated(2))
+        && shows(&pair.two, 2, Role::Active, 1, 0)
+        && hands_on(pair, &["Append", "Held", "Commit"])
+        && shows(&pair.one, 2, Role::Backup, 1, 1)
+        && shows(&pair.two, 2, Role::Active, 1, 1)
+        && pair.two.losses() == 0
+}
+
 // And then the ballot begins with its start, which is committed.
 #[test]
 fn configuration_changes(rt: HostRuntime) -> Result<(), Fail> {
     let mut pair = went_over(rt.alloc())?;
-    assert!(rt; master_says(&mut pair, Body::Activated(2)));
-    assert!(rt; shows(&pair.two, 2, Role::Active, 1, 0));
-    assert!(rt; hands_on(&mut pair, &["Append", "Held", "Commit"]));
-    assert!(rt; shows(&pair.one, 2, Role::Backup, 1, 1));
-    assert!(rt; shows(&pair.two, 2, Role::Active, 1, 1));
-    assert_eq!(rt; pair.two.losses(), 0);
+    assert!(rt; begins(&mut pair));
     Ok(())
+}
+
+// Whether node 2 is a backup behind Superseded, and stays one.
+fn is_put_out(pair: &mut Pair) -> bool {
+    master_says(pair, Body::Superseded(2))
+        && master_says(pair, Body::Activated(2))
+        && hands_on(pair, &["nothing"])
+        && shows(&pair.two, 2, Role::Backup, 0, 0)
 }
 
 // A ballot that was put out leaves its primary a backup, and does not begin any more.
 #[test]
 fn ballot_is_put_out(rt: HostRuntime) -> Result<(), Fail> {
     let mut pair = went_over(rt.alloc())?;
-    assert!(rt; master_says(&mut pair, Body::Superseded(2)));
-    assert!(rt; master_says(&mut pair, Body::Activated(2)));
-    assert!(rt; hands_on(&mut pair, &["nothing"]));
-    assert!(rt; shows(&pair.two, 2, Role::Backup, 0, 0));
+    assert!(rt; is_put_out(&mut pair));
     Ok(())
 }
 
@@ -57,15 +72,20 @@ fn left_behind(alloc: Global) -> Result<Pair, OpeningError> {
     Ok(pair)
 }
 
+// Whether the log of node 1 is replaced by that of a ballot.
+fn is_replaced(pair: &mut Pair, ballot: Body<TallyCommand>) -> bool {
+    shows(&pair.one, 1, Role::Active, 1, 0)
+        && master_says(pair, ballot)
+        && hands_on(pair, &["Join", "State", "Install"])
+        && shows(&pair.one, 2, Role::Backup, 0, 0)
+}
+
 // The log of a primary that was left behind is longer; that of the new ballot takes its place.
 #[test]
 fn stale_primary(rt: HostRuntime) -> Result<(), Fail> {
-    let mut pair = left_behind(rt.alloc())?;
-    assert!(rt; shows(&pair.one, 1, Role::Active, 1, 0));
     let body = ballot_two(rt.alloc(), &[1, 2])?;
-    assert!(rt; master_says(&mut pair, body));
-    assert!(rt; hands_on(&mut pair, &["Join", "State", "Install"]));
-    assert!(rt; shows(&pair.one, 2, Role::Backup, 0, 0));
+    let mut pair = left_behind(rt.alloc())?;
+    assert!(rt; is_replaced(&mut pair, body));
     Ok(())
 }
 

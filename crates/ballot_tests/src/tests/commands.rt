@@ -26,16 +26,23 @@ const THREE: &[TallyCommand] = &[
     TallyCommand::Add(3),
 ];
 
+// Whether a sole member answers these commands at once.
+fn answers_at_once(replica: &mut Replica<Tally>, out: &mut Vec<Effect<TallyCommand, u64>>) -> bool {
+    take(replica, THREE, out)
+        && out.len() == 2
+        && gives(out, 0, 0, 2)
+        && gives(out, 1, 2, 5)
+        && shows(replica, 1, Role::Active, 3, 3)
+        && logs(replica, THREE)
+        && replica.losses() == 0
+}
+
 // A sole member gives 2, nothing at the start of a ballot, and 5.
 #[test]
 fn a_sole_member_answers_at_once(rt: HostRuntime) -> Result<(), Fail> {
     let mut replica = one(rt.alloc(), &[1], 1)?;
     let mut out = Vec::new(rt.alloc());
-    assert!(rt; take(&mut replica, THREE, &mut out));
-    assert_eq!(rt; out.len(), 2);
-    assert!(rt; gives(&out, 0, 0, 2) && gives(&out, 1, 2, 5));
-    assert!(rt; shows(&replica, 1, Role::Active, 3, 3) && logs(&replica, THREE));
-    assert_eq!(rt; replica.losses(), 0);
+    assert!(rt; answers_at_once(&mut replica, &mut out));
     Ok(())
 }
 
@@ -49,17 +56,34 @@ fn primary_of_two(
     Ok(primary)
 }
 
+// Whether the output leaves once node 2 holds the place, and node 2 is told.
+fn leaves_once_held(
+    primary: &mut Replica<Tally>,
+    out: &mut Vec<Effect<TallyCommand, u64>>,
+) -> bool {
+    out.clear();
+    hears(primary, 2, Body::Held(1, 1), out)
+        && out.len() == 2
+        && gives(out, 0, 0, 2)
+        && commits(out, 1, (1, 2), 1)
+}
+
 // What is proposed to one of two members leaves once the other holds it.
 #[test]
 fn append_held_commit(rt: HostRuntime) -> Result<(), Fail> {
     let mut out = Vec::new(rt.alloc());
     let mut primary = primary_of_two(rt.alloc(), &mut out)?;
     assert!(rt; out.len() == 1 && appends(&out, 0, (1, 2), 0, 2));
-    out.clear();
-    assert!(rt; hears(&mut primary, 2, Body::Held(1, 1), &mut out));
-    assert_eq!(rt; out.len(), 2);
-    assert!(rt; gives(&out, 0, 0, 2) && commits(&out, 1, (1, 2), 1));
+    assert!(rt; leaves_once_held(&mut primary, &mut out));
     Ok(())
+}
+
+// Whether a Held that comes again does nothing, and a tick tells what is committed.
+fn hears_it_again(primary: &mut Replica<Tally>, out: &mut Vec<Effect<TallyCommand, u64>>) -> bool {
+    out.clear();
+    let is_silent = hears(primary, 2, Body::Held(1, 1), out) && out.is_empty();
+    primary.tick(out);
+    is_silent && out.len() == 1 && commits(out, 0, (1, 2), 1) && primary.losses() == 0
 }
 
 // What is heard twice changes nothing more; a tick says again what is committed.
@@ -68,12 +92,7 @@ fn held_comes_twice(rt: HostRuntime) -> Result<(), Fail> {
     let mut out = Vec::new(rt.alloc());
     let mut primary = primary_of_two(rt.alloc(), &mut out)?;
     assert!(rt; hears(&mut primary, 2, Body::Held(1, 1), &mut out));
-    out.clear();
-    assert!(rt; hears(&mut primary, 2, Body::Held(1, 1), &mut out));
-    assert_eq!(rt; out.len(), 0);
-    primary.tick(&mut out);
-    assert!(rt; out.len() == 1 && commits(&out, 0, (1, 2), 1));
-    assert_eq!(rt; primary.losses(), 0);
+    assert!(rt; hears_it_again(&mut primary, &mut out));
     Ok(())
 }
 
@@ -88,16 +107,25 @@ fn is_appended(
     hears(backup, 1, body, out)
 }
 
+// Whether place 1 waits for place 0.
+fn waits_for_the_first(
+    backup: &mut Replica<Tally>,
+    out: &mut Vec<Effect<TallyCommand, u64>>,
+) -> bool {
+    shows(backup, 1, Role::Backup, 0, 0)
+        && is_appended(backup, 1, 3, out)
+        && out.is_empty()
+        && shows(backup, 1, Role::Backup, 0, 0)
+        && is_appended(backup, 0, 2, out)
+        && out.len() == 1
+        && holds(out, 0, (2, 1))
+}
+
 #[test]
 fn a_backup_takes_places_in_order(rt: HostRuntime) -> Result<(), Fail> {
     let mut backup = two(rt.alloc(), &[1, 2], 1)?;
     let mut out = Vec::new(rt.alloc());
-    assert!(rt; shows(&backup, 1, Role::Backup, 0, 0));
-    assert!(rt; is_appended(&mut backup, 1, 3, &mut out));
-    assert_eq!(rt; out.len(), 0);
-    assert!(rt; shows(&backup, 1, Role::Backup, 0, 0));
-    assert!(rt; is_appended(&mut backup, 0, 2, &mut out));
-    assert!(rt; out.len() == 1 && holds(&out, 0, (2, 1)));
+    assert!(rt; waits_for_the_first(&mut backup, &mut out));
     Ok(())
 }
 
@@ -109,19 +137,22 @@ fn is_not_active(replica: &mut Replica<Tally>, out: &mut Vec<Effect<TallyCommand
     }
 }
 
+// Whether a backup that holds a place says nothing to its Commit, nor at a tick.
+fn is_silent(backup: &mut Replica<Tally>, out: &mut Vec<Effect<TallyCommand, u64>>) -> bool {
+    out.clear();
+    let goes_on = hears(backup, 1, Body::Commit(1, 1), out);
+    backup.tick(out);
+    goes_on && out.is_empty() && shows(backup, 1, Role::Backup, 1, 1)
+}
+
 // A backup that is told what is committed says nothing, also at a tick, and takes no proposal.
 #[test]
 fn a_backup_is_silent(rt: HostRuntime) -> Result<(), Fail> {
     let mut backup = two(rt.alloc(), &[1, 2], 1)?;
     let mut out = Vec::new(rt.alloc());
     assert!(rt; is_appended(&mut backup, 0, 2, &mut out));
-    out.clear();
-    assert!(rt; hears(&mut backup, 1, Body::Commit(1, 1), &mut out));
-    backup.tick(&mut out);
-    assert_eq!(rt; out.len(), 0);
-    assert!(rt; shows(&backup, 1, Role::Backup, 1, 1));
-    assert!(rt; is_not_active(&mut backup, &mut out));
-    assert_eq!(rt; backup.losses(), 0);
+    assert!(rt; is_silent(&mut backup, &mut out));
+    assert!(rt; is_not_active(&mut backup, &mut out) && backup.losses() == 0);
     Ok(())
 }
 
@@ -137,16 +168,26 @@ fn primary_of_three(
     Ok(primary)
 }
 
+// Whether a tick says these four things.
+fn says_what_is_lacking(
+    primary: &mut Replica<Tally>,
+    out: &mut Vec<Effect<TallyCommand, u64>>,
+) -> bool {
+    out.clear();
+    primary.tick(out);
+    out.len() == 4
+        && appends(out, 0, (2, 1), 1, 3)
+        && appends(out, 1, (2, 3), 0, 2)
+        && commits(out, 2, (2, 1), 0)
+        && commits(out, 3, (2, 3), 0)
+}
+
 // A tick sends the place at a progress, to each member that lacks one, and what is committed to each.
 #[test]
 fn a_tick_sends_what_is_lacking(rt: HostRuntime) -> Result<(), Fail> {
     let mut out = Vec::new(rt.alloc());
     let mut primary = primary_of_three(rt.alloc(), &mut out)?;
     assert_eq!(rt; out.len(), 4);
-    out.clear();
-    primary.tick(&mut out);
-    assert_eq!(rt; out.len(), 4);
-    assert!(rt; appends(&out, 0, (2, 1), 1, 3) && appends(&out, 1, (2, 3), 0, 2));
-    assert!(rt; commits(&out, 2, (2, 1), 0) && commits(&out, 3, (2, 3), 0));
+    assert!(rt; says_what_is_lacking(&mut primary, &mut out));
     Ok(())
 }

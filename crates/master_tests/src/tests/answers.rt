@@ -30,22 +30,37 @@ fn is_commit(group: &Group<Tally>, at: usize) -> bool {
     }
 }
 
+const ANSWERED: &[Row] = &[(0, 2, 0, 1), (0, 3, 0, 1), (1, 4, 1, 1), (3, 4, 1, 1)];
+
+// Whether these messages were sent, in order.
+fn sent_all(group: &Group<Tally>) -> bool {
+    is_append(group, 0) && is_held(group, 1) && is_held(group, 2) && is_commit(group, 3)
+}
+
+// Whether a command is answered once both members hold it.
+fn waits_for_all(group: &mut Group<Tally>) -> bool {
+    adds(group, 1, 2)
+        && counts(group) == (1, 0, 0)
+        && come(group, ANSWERED)
+        && sent_all(group)
+        && gave(group, 0, 0, 2)
+        && agrees(group, &[TallyCommand::Add(2)])
+        && is_active(group, 1)
+}
+
 // A command is appended, held, answered and committed; a message may come twice.
 #[test]
 fn an_answer_waits_for_all_members(rt: HostRuntime) -> Result<(), Fail> {
     let mut group = group(rt.alloc(), 2, &[1, 2])?;
-    assert!(rt; adds(&mut group, 1, 2));
-    assert_eq!(rt; counts(&group), (1, 0, 0));
-    let rows = [(0, 2, 0, 1), (0, 3, 0, 1), (1, 4, 1, 1), (3, 4, 1, 1)];
-    assert!(rt; come(&mut group, &rows));
-    assert!(rt; is_append(&group, 0));
-    assert!(rt; is_held(&group, 1) && is_held(&group, 2));
-    assert!(rt; is_commit(&group, 3));
-    assert!(rt; gave(&group, 0, 0, 2));
-    assert!(rt; agrees(&group, &[TallyCommand::Add(2)]));
-    assert!(rt; is_active(&group, 1));
+    assert!(rt; waits_for_all(&mut group));
     Ok(())
 }
+
+const ALONE: &[TallyCommand] = &[
+    TallyCommand::Add(2),
+    TallyCommand::Start(2),
+    TallyCommand::Add(3),
+];
 
 // A sole member is told two numbers, and of a ballot between them.
 fn run_alone(group: &mut Group<Tally>) {
@@ -56,19 +71,19 @@ fn run_alone(group: &mut Group<Tally>) {
     ]);
 }
 
+// Whether these are the outputs and the list in the end.
+fn has_counted(group: &Group<Tally>) -> bool {
+    counts(group) == (0, 2, 3)
+        && gave(group, 0, 0, 2)
+        && gave(group, 1, 2, 5)
+        && agrees(group, ALONE)
+}
+
 // A sole member answers at once: 2, nothing at the start of a ballot, and 5.
 #[test]
 fn tally_counts(rt: HostRuntime) -> Result<(), Fail> {
     let mut group = group(rt.alloc(), 1, &[1])?;
     run_alone(&mut group);
-    assert_eq!(rt; counts(&group), (0, 2, 3));
-    assert!(rt; gave(&group, 0, 0, 2));
-    assert!(rt; gave(&group, 1, 2, 5));
-    let places = [
-        TallyCommand::Add(2),
-        TallyCommand::Start(2),
-        TallyCommand::Add(3),
-    ];
-    assert!(rt; agrees(&group, &places));
+    assert!(rt; has_counted(&group));
     Ok(())
 }

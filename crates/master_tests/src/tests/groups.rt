@@ -44,8 +44,11 @@ pub fn counts(group: &Group<Tally>) -> (usize, usize, u64) {
     (group.sent().len(), group.left().len(), group.agreed_len())
 }
 
+/// The number of a message that comes, and the counts behind it.
+pub type Row = (u64, usize, usize, u64);
+
 /// Whether messages come one after the other, with these counts behind each.
-pub fn come(group: &mut Group<Tally>, rows: &[(u64, usize, usize, u64)]) -> bool {
+pub fn come(group: &mut Group<Tally>, rows: &[Row]) -> bool {
     for (number, sent, left, agreed) in rows {
         if !comes(group, *number) || counts(group) != (*sent, *left, *agreed) {
             return false;
@@ -54,11 +57,17 @@ pub fn come(group: &mut Group<Tally>, rows: &[(u64, usize, usize, u64)]) -> bool
     true
 }
 
-/// Lets the messages come in the order of sending, also those that came before and those that these
-/// bring about, up to the 40th. Those to a node that has stopped are idle.
+/// Lets the messages come in the order of sending, also those that came before. Those to a node
+/// that has stopped are idle.
 pub fn settle(group: &mut Group<Tally>) {
-    for number in 0..40 {
-        let _ = group.step(&Event::Deliver(number));
+    go_on(group, 0);
+}
+
+/// Lets the messages from a number on come, and those that these bring about, up to forty.
+pub fn go_on(group: &mut Group<Tally>, first: usize) {
+    let until = first.saturating_add(40);
+    for number in first..until {
+        let _ = comes(group, number as u64);
     }
 }
 

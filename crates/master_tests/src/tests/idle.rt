@@ -7,7 +7,7 @@ use std::test::Fail;
 
 // Whether an event is idle.
 fn is_idle(group: &mut Group<Tally>, event: &Event<TallyCommand>) -> bool {
-    group.step(event) == Err(Idle)
+    !happens(group, event)
 }
 
 // Whether there is no node 0 or 3, no message, and no backup that takes a proposal.
@@ -33,14 +33,11 @@ fn idles_stopped(group: &mut Group<Tally>) -> bool {
 #[test]
 fn what_cannot_happen_is_idle(rt: HostRuntime) -> Result<(), Fail> {
     let mut group = group(rt.alloc(), 2, &[1, 2])?;
-    assert!(rt; idles_at_first(&mut group));
-    assert_eq!(rt; Idle.number(), 24);
-    assert!(rt; adds(&mut group, 1, 2));
-    assert!(rt; happens(&mut group, &Event::Crash(2)));
+    assert!(rt; idles_at_first(&mut group) && Idle.number() == 24);
+    assert!(rt; adds(&mut group, 1, 2) && happens(&mut group, &Event::Crash(2)));
     assert!(rt; idles_stopped(&mut group));
     group.run(&[Event::Tick(2), Event::Tick(1)]);
-    assert_eq!(rt; counts(&group), (3, 0, 0));
-    assert!(rt; is_active(&group, 1));
+    assert!(rt; counts(&group) == (3, 0, 0) && is_active(&group, 1));
     Ok(())
 }
 
@@ -51,22 +48,28 @@ fn is_refused(alloc: Global, nodes: u8, members: &[u8], primary: u8) -> Result<b
     Ok(matches!(&opened, Err(OpeningError::BadMembers)))
 }
 
+const BAD: &[(u8, &[u8], u8)] = &[
+    (2, &[2, 1], 2),
+    (2, &[], 1),
+    (2, &[1], 2),
+    (2, &[1, 3], 1),
+    (16, &[1, 2], 1),
+    (0, &[1], 1),
+];
+
+// The first row that is not refused.
+fn first_opened(alloc: Global, rows: &[(u8, &[u8], u8)]) -> Result<Option<usize>, Fail> {
+    for (row, (nodes, members, primary)) in rows.iter().enumerate() {
+        if !is_refused(alloc, *nodes, members, *primary)? {
+            return Ok(Some(row));
+        }
+    }
+    Ok(None)
+}
+
 #[test]
 fn bad_members_are_refused(rt: HostRuntime) -> Result<(), Fail> {
-    let rows: [(u8, &[u8], u8); 6] = [
-        (2, &[2, 1], 2),
-        (2, &[], 1),
-        (2, &[1], 2),
-        (2, &[1, 3], 1),
-        (16, &[1, 2], 1),
-        (0, &[1], 1),
-    ];
-    for (nodes, members, primary) in rows {
-        assert!(rt;
-            is_refused(rt.alloc(), nodes, members, primary)?,
-            "at {nodes}, {members:?}"
-        );
-    }
+    assert_eq!(rt; first_opened(rt.alloc(), BAD)?, None);
     assert!(rt; !is_refused(rt.alloc(), 15, &[1, 2, 15], 1)?);
     Ok(())
 }

@@ -1,79 +1,117 @@
 use super::groups::*;
-use ballot::Effect;
+use ballot::{Config, Effect};
 use machine::{Memory, Tally, TallyCommand};
 use master::{Event, Group};
 use std::alloc::Global;
 use std::test::Fail;
 
+// How far a group has come: which message comes next, how many places are agreed, and whether these
+// have only grown.
+#[derive(Drop)]
+struct Course {
+    next: usize,
+    agreed: u64,
+    only_grows: bool,
+}
+
+// Lets an event happen or be idle, and asks what is agreed behind it.
+fn goes_by(group: &mut Group<Tally>, course: &mut Course, event: &Event<TallyCommand>) {
+    let _ = happens(group, event);
+    let agreed = group.agreed_len();
+    course.only_grows = course.only_grows && course.agreed <= agreed;
+    course.agreed = agreed;
+}
+
 // Stops a node if that is asked, and gives the next ballot to three members.
 fn take_over(
     group: &mut Group<Tally>,
+    course: &mut Course,
     alloc: Global,
     stops: Option<u8>,
     members: [u8; 3],
 ) -> Result<(), Memory> {
     if let Some(node) = stops {
-        let _ = group.step(&Event::Crash(node));
+        goes_by(group, course, &Event::Crash(node));
     }
     let config = config(alloc, &members, members[0])?;
-    let _ = group.step(&Event::Assign(config));
+    goes_by(group, course, &Event::Assign(config));
     Ok(())
 }
 
-// Ten messages come in turn, as far as they were sent. The number of the next one is the result.
-fn come_on(group: &mut Group<Tally>, next: usize) -> usize {
-    let until = next.saturating_add(10);
-    for number in next..until {
-        let _ = group.step(&Event::Deliver(number as u64));
+// Ten messages come in turn, as far as they were sent.
+fn come_on(group: &mut Group<Tally>, course: &mut Course) {
+    let until = course.next.saturating_add(10);
+    for number in course.next..until {
+        goes_by(group, course, &Event::Deliver(number as u64));
     }
-    until.min(group.sent().len())
+    course.next = until.min(group.sent().len());
 }
 
 // A primary and the one before it take a command each, a message comes again, and time passes now
 // and then.
-fn take_some(group: &mut Group<Tally>, leader: u8, stale: u8, number: u64) {
-    let _ = group.step(&Event::Propose(leader, TallyCommand::Add(number)));
-    let _ = group.step(&Event::Propose(stale, TallyCommand::Add(7)));
-    let _ = group.step(&match number % 16 {
+fn take_some(group: &mut Group<Tally>, course: &mut Course, leader: u8, stale: u8, number: u64) {
+    goes_by(
+        group,
+        course,
+        &Event::Propose(leader, TallyCommand::Add(number)),
+    );
+    goes_by(group, course, &Event::Propose(stale, TallyCommand::Add(7)));
+    let event = match number % 16 {
         0 => Event::Tick(leader),
         8 => Event::Tick(stale),
         _ => Event::Deliver(number.saturating_mul(5)),
-    });
+    };
+    goes_by(group, course, &event);
 }
 
-// 1,677 events under one primary, behind so many messages that came. The number of the next one is
-// the result.
-fn serve(group: &mut Group<Tally>, leader: u8, stale: u8, come: usize) -> usize {
-    let mut next = come;
+// 1,677 events under one primary.
+fn serve(group: &mut Group<Tally>, course: &mut Course, leader: u8, stale: u8) {
     for number in 0..129 {
-        take_some(group, leader, stale, number);
-        next = come_on(group, next);
+        take_some(group, course, leader, stale, number);
+        come_on(group, course);
     }
-    next
+}
+
+// Whether another configuration takes over and agrees on commands with its members. Each second time
+// its former primary has stopped.
+fn serves_next(
+    group: &mut Group<Tally>,
+    course: &mut Course,
+    alloc: Global,
+    leader: u8,
+) -> Result<bool, Memory> {
+    let before = course.agreed;
+    let stale = leader.saturating_sub(1);
+    let stops = if leader % 2 == 0 { Some(stale) } else { None };
+    let members = [leader, leader.saturating_add(1), leader.saturating_add(2)];
+    take_over(group, course, alloc, stops, members)?;
+    serve(group, course, leader, stale);
+    Ok(is_active(group, u64::from(leader)) && course.agreed.saturating_sub(before) > 100)
+}
+
+// Whether twelve configurations do so, one after the other, and what is agreed only grows.
+fn serve_in_turn(group: &mut Group<Tally>, alloc: Global) -> Result<bool, Memory> {
+    let mut course = Course {
+        next: 0,
+        agreed: 0,
+        only_grows: true,
+    };
+    serve(group, &mut course, 1, 1);
+    for leader in 2..14 {
+        if !serves_next(group, &mut course, alloc, leader)? {
+            return Ok(false);
+        }
+    }
+    Ok(course.only_grows)
 }
 
 // More than 20,000 events, in which twelve times another configuration takes over: each second time
-// its former primary has stopped, and else goes on for itself. Nothing is lost, and each primary
-// agrees on commands with its members.
+// its former primary has stopped, and else goes on for itself. Nothing is lost, what is agreed, asked
+// behind each event, only grows, and each primary agrees on commands with its members.
 #[test]
 fn takeovers_lose_nothing(rt: HostRuntime) -> Result<(), Fail> {
     let mut group = group(rt.alloc(), 15, &[1, 2, 3])?;
-    let mut next = serve(&mut group, 1, 1, 0);
-    let mut agreed = group.agreed_len();
-    for leader in 2..14 {
-        let stale = leader - 1;
-        let stops = if leader % 2 == 0 { Some(stale) } else { None };
-        take_over(
-            &mut group,
-            rt.alloc(),
-            stops,
-            [leader, leader + 1, leader + 2],
-        )?;
-        next = serve(&mut group, leader, stale, next);
-        assert!(rt; is_active(&group, u64::from(leader)));
-        assert!(rt; group.agreed_len().saturating_sub(agreed) > 100);
-        agreed = group.agreed_len();
-    }
+    assert!(rt; serve_in_turn(&mut group, rt.alloc())?);
     Ok(())
 }
 
@@ -95,21 +133,35 @@ fn all_come(group: &mut Group<Tally>, numbers: &[u64]) -> bool {
     true
 }
 
+const CHANGE: &[u64] = &[2, 4, 5, 6, 7, 8, 9, 10, 11];
+
+// Whether node 1 adds a command, which node 2 holds, and ballot 2 becomes active.
+fn goes_over(group: &mut Group<Tally>, change: Config) -> bool {
+    adds(group, 1, 2)
+        && comes(group, 0)
+        && gives(group, change)
+        && all_come(group, CHANGE)
+        && is_active(group, 2)
+}
+
+// Whether the output of place 2 leaves, and then that of place 0.
+fn leaves_late(group: &mut Group<Tally>) -> bool {
+    adds(group, 2, 3)
+        && all_come(group, &[13, 14])
+        && left_at(group, 0) == Some(2)
+        && comes(group, 1)
+        && left_at(group, 1) == Some(0)
+        && gave(group, 0, 2, 5)
+        && gave(group, 1, 0, 2)
+}
+
 // A primary whose ballot has ended hears late that place 0 was held: message 1. The next primary has
 // given the output of place 2 by then.
 #[test]
 fn a_late_answer_leaves_behind_later_ones(rt: HostRuntime) -> Result<(), Fail> {
     let mut group = group(rt.alloc(), 3, &[1, 2])?;
     let change = config(rt.alloc(), &[2, 3], 2)?;
-    assert!(rt; adds(&mut group, 1, 2) && comes(&mut group, 0));
-    assert!(rt; gives(&mut group, change));
-    assert!(rt; all_come(&mut group, &[2, 4, 5, 6, 7, 8, 9, 10, 11]));
-    assert!(rt; is_active(&group, 2));
-    assert!(rt; adds(&mut group, 2, 3));
-    assert!(rt; all_come(&mut group, &[13, 14]));
-    assert_eq!(rt; left_at(&group, 0), Some(2));
-    assert!(rt; comes(&mut group, 1));
-    assert_eq!(rt; left_at(&group, 1), Some(0));
-    assert!(rt; gave(&group, 0, 2, 5) && gave(&group, 1, 0, 2));
+    assert!(rt; goes_over(&mut group, change));
+    assert!(rt; leaves_late(&mut group));
     Ok(())
 }

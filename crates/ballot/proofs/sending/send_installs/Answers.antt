@@ -8,7 +8,7 @@ loop-receiver-init g c = Sends-nothing _
 
 pub loop-receiver-preserved : goal.loop-receiver-preserved
 loop-receiver-preserved g c =
-    let e : c.if-whole.whole ≡ (c.loop-receiver.whole && c.send_install-sent.result) =
+    let e : c.if-whole.whole ≡ (c.loop-receiver.whole && c.send_made-sent.result) =
     elim c.if-whole.branch [ then-whole w ↦ search rules | else-whole w ↦ search rules ] in
     rw e (Sends-more _ c.args.receivers.now c.loop-receiver.receiver-index 0 (omega arith)
-    c.loop-receiver.invariant c.send_install-sent.ensures)
+    c.loop-receiver.invariant (c.send_made-sent.ensures _ c.install_of-made.ensures))

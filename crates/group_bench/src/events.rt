@@ -1,0 +1,63 @@
+// The time of an event in a group of three members, and how it goes on as the group grows older.
+
+ghost use Rattle.std.specs.Prelude.{◌<◌};
+
+use crate::groups::{agreed_at_last, opened, proposal, time_since};
+use anyhow::Result;
+use machine::{Tally, TallyCommand};
+use master::{Event, Group};
+use std::time::CpuClock;
+
+/// Prints the time of an event at three numbers of events, with and without the length of the
+/// agreed list asked behind each.
+pub fn run(rt: &HostRuntime) -> Result<()> {
+    for events in &[10_000, 100_000, 1_000_000] {
+        measure(rt, *events, false)?;
+        measure(rt, *events, true)?;
+    }
+    Ok(())
+}
+
+/// The event of a number: a command is proposed, and its six messages come in the order of sending,
+/// which are an Append, a Held and a Commit for each of two backups.
+fn event_at(number: u64) -> Event<TallyCommand> {
+    let command = number / 7;
+    match number % 7 {
+        0 => proposal(command),
+        behind => Event::Deliver(command.saturating_mul(6).saturating_add(behind - 1)),
+    }
+}
+
+fn measure(rt: &HostRuntime, events: u64, asks: bool) -> Result<()>
+    requires { 0 < events }
+{
+    let mut group = opened(rt.alloc(), &[1, 2, 3])?;
+    measure_in(rt, &mut group, events, asks)
+}
+
+fn measure_in(rt: &HostRuntime, group: &mut Group<Tally>, events: u64, asks: bool) -> Result<()>
+    requires { 0 < events }
+{
+    let start = rt.process_cpu_time()?;
+    let asked = let_happen(group, events, asks)?;
+    let nanos = time_since(rt, start)?.as_nanos() / u128::from(events);
+    print(rt, events, nanos, agreed_at_last(group)?, asked)
+}
+
+fn print(rt: &HostRuntime, events: u64, nanos: u128, agreed: u64, asked: u64) -> Result<()> {
+    println!(rt; "{events} events, {agreed} places agreed: {nanos} ns each (asked {asked})")?;
+    Ok(())
+}
+
+/// Lets so many events happen. The sum of what was answered behind each is the result, so that no
+/// question can be left out.
+fn let_happen(group: &mut Group<Tally>, events: u64, asks: bool) -> Result<u64> {
+    let mut asked = 0u64;
+    for number in 0..events {
+        group.step(&event_at(number))?;
+        if asks {
+            asked = asked.saturating_add(group.agreed_len());
+        }
+    }
+    Ok(asked)
+}

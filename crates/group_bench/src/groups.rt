@@ -1,0 +1,38 @@
+// Groups of machines that add numbers, and the processor time that their steps take.
+
+use anyhow::{Result, bail};
+use ballot::{Config, Members};
+use machine::{Tally, TallyCommand};
+use master::{Event, Group};
+use std::alloc::Global;
+use std::time::{CpuClock, Duration};
+
+/// A group of three nodes in ballot 1, with these members and node 1 as primary.
+pub fn opened(alloc: Global, members: &[u8]) -> Result<Group<Tally>> {
+    let config = config_of(alloc, members, 1)?;
+    Ok(Group::opening(alloc, 3, config)?)
+}
+
+/// A configuration with these members and this primary.
+pub fn config_of(alloc: Global, members: &[u8], primary: u8) -> Result<Config> {
+    let members = Members::from_slice(alloc, members)?;
+    Ok(Config { members, primary })
+}
+
+/// The command of a number goes to node 1.
+pub fn proposal(number: u64) -> Event<TallyCommand> {
+    Event::Propose(1, TallyCommand::Add(number))
+}
+
+/// The length of the agreed list of a group in which no memory was wanting.
+pub fn agreed_at_last(group: &Group<Tally>) -> Result<u64> {
+    if group.losses() != 0 {
+        bail!("memory was wanting");
+    }
+    Ok(group.agreed_len())
+}
+
+/// The processor time since a moment.
+pub fn time_since(rt: &HostRuntime, start: Duration) -> Result<Duration> {
+    Ok(rt.process_cpu_time()?.saturating_sub(start))
+}
