@@ -17,6 +17,6 @@ pub use node_state::NodeState;
 pub use running::run_connection;
 pub use service::Service;
 pub use world_base::{
-    Command, Config, ConnectionId, Effect, Handed, Item, Members, Memory, Message, NodeCore,
+    Body, Command, Config, ConnectionId, Effect, Handed, Item, Members, Memory, Message, NodeCore,
     OpeningError, Output, Piece, Port, Status,
 };

@@ -4,7 +4,8 @@ ghost use Rattle.std.specs.Prelude.{◌≡◌, ◌≤◌, ◌++◌, [], length, 
 ghost use Rattle.mailbox.specs.Delivery.{items_of};
 ghost use Rattle.mailbox.specs.Ends.{WasEmpty};
 ghost use Rattle.world_base.specs.Replica.{status_of};
-ghost use Rattle.world_base.specs.Handing.{answer_of, bytes_of, hands_over, listed_at};
+ghost use Rattle.lists.specs.Lists.{IsPrefixOf};
+ghost use Rattle.world_base.specs.Handing.{answer_of, bytes_of, hands_over, idle_ports, listed_at};
 ghost use Rattle.node.specs.State.{Replays, TakesOne};
 
 use crate::naming::NodeNaming;
@@ -104,6 +105,16 @@ impl<J: NodeNaming> NodeState<J> {
         ensures err { OnErr result (out.new.items ≡ out.old.items) }
     {
         self.core.outgoing(port, out)
+    }
+
+    /// Appends the ports of the connections that are open and have nothing to hand over, as
+    /// [`NodeCore::idle_ports`].
+    pub fn idle_ports(&self, ports: &mut Vec<Port>) -> Result<(), Memory>
+        ensures ok { OnOk result
+            (ports.new.items ≡ ports.old.items ++ idle_ports self.now.node.core) }
+        ensures err { OnErr result (IsPrefixOf ports.old.items ports.new.items) }
+    {
+        self.core.idle_ports(ports)
     }
 
     /// What the node's replica shows of itself.

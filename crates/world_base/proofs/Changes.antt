@@ -11,7 +11,7 @@ use Rattle.world_base.specs.Reading.{changes}
 use Rattle.world_base.specs.Turns.{changes_named}
 use Rattle.world_base.proofs.Places.{none_changed, place_changed}
 
-there : (test : Connection → Bool) (change : Connection → Connection) (r : Running) (place : Option ℕ) (i : ℕ)
+pub there : (test : Connection → Bool) (change : Connection → Connection) (r : Running) (place : Option ℕ) (i : ℕ)
     (c new : Connection) → place ≡ position test r.core.connections → place ≡ Some i →
     c ≡ get_or r.core.connections i c → new ≡ change c →
     record r { core = record r.core { connections = set r.core.connections i new } }

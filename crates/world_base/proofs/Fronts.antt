@@ -69,53 +69,53 @@ becomes_itself port core c new found is =
 -- ---- what the front makes of the node
 
 -- no connection of the port is open
-pub nothing_open : (port : Port) (r : Running) (out : List (Effect Command Output)) →
-    open_at port r.core ≡ None → Turns r r out out (reads_next port r.core)
+pub nothing_open : (now : ℕ) (port : Port) (r : Running) (out : List (Effect Command Output)) →
+    open_at port r.core ≡ None → Turns r r out out (reads_next now port r.core)
 unfolding reads_next
-nothing_open port r out none = subst (λ (t : Turn). Turns r r out out t) (rw none refl) (turns_idle r out)
+nothing_open now port r out none = subst (λ (t : Turn). Turns r r out out t) (rw none refl) (turns_idle r out)
 
-pub nothing_next : (port : Port) (core : CoreState) → open_at port core ≡ None → reads_next port core ≡ quiet core
+pub nothing_next : (now : ℕ) (port : Port) (core : CoreState) → open_at port core ≡ None → reads_next now port core ≡ quiet core
 unfolding reads_next
-nothing_next port core none = rw none refl
+nothing_next now port core none = rw none refl
 
-reads_by : (port : Port) (core : CoreState) (c : Connection) (v : Result (Packet × List ℕ) Stop) →
-    open_at port core ≡ Some c → verdict c.unread ≡ v → reads port c core v ≡ reads_next port core
+reads_by : (now : ℕ) (port : Port) (core : CoreState) (c : Connection) (v : Result (Packet × List ℕ) Stop) →
+    open_at port core ≡ Some c → verdict c.unread ≡ v → reads now port c core v ≡ reads_next now port core
 unfolding reads_next
-reads_by port core c v found is = rw (found, is) refl
+reads_by now port core c v found is = rw (found, is) refl
 
 -- less than a packet: nothing changes
-same_behind : (port : Port) (c new : Connection) (a b : Running) → open_at port a.core ≡ Some c →
-    TakesFront c fronts.More new → b ≡ record a { core = changes port (λ _. new) a.core } → b ≡ a
-same_behind port c new a b found did is =
+same_behind : (now : ℕ) (port : Port) (c new : Connection) (a b : Running) → open_at port a.core ≡ Some c →
+    TakesFront now c fronts.More new → b ≡ record a { core = changes port (λ _. new) a.core } → b ≡ a
+same_behind now port c new a b found did is =
     is ∙ ap (λ (k : CoreState). record a { core = k }) (becomes_itself port a.core c new found did.1)
 
-pub more_next : (port : Port) (c new : Connection) (a b : Running) → open_at port a.core ≡ Some c →
-    TakesFront c fronts.More new → b ≡ record a { core = changes port (λ _. new) a.core } →
-    reads_next port b.core ≡ quiet b.core
-more_next port c new a b found did is =
-    subst (λ (r : Running). reads_next port r.core ≡ quiet r.core) (sym (same_behind port c new a b found did is))
-    (sym (reads_by port a.core c (Err stops.More) found did.0))
+pub more_next : (now : ℕ) (port : Port) (c new : Connection) (a b : Running) → open_at port a.core ≡ Some c →
+    TakesFront now c fronts.More new → b ≡ record a { core = changes port (λ _. new) a.core } →
+    reads_next now port b.core ≡ quiet b.core
+more_next now port c new a b found did is =
+    subst (λ (r : Running). reads_next now port r.core ≡ quiet r.core) (sym (same_behind now port c new a b found did is))
+    (sym (reads_by now port a.core c (Err stops.More) found did.0))
 
-pub more_there : (port : Port) (c new : Connection) (a b : Running) (out : List (Effect Command Output)) →
-    open_at port a.core ≡ Some c → TakesFront c fronts.More new →
-    b ≡ record a { core = changes port (λ _. new) a.core } → Turns a b out out (reads_next port a.core)
-more_there port c new a b out found did is =
+pub more_there : (now : ℕ) (port : Port) (c new : Connection) (a b : Running) (out : List (Effect Command Output)) →
+    open_at port a.core ≡ Some c → TakesFront now c fronts.More new →
+    b ≡ record a { core = changes port (λ _. new) a.core } → Turns a b out out (reads_next now port a.core)
+more_there now port c new a b out found did is =
     subst (λ (t : Turn). Turns a b out out t)
-    (ap quiet (becomes_itself port a.core c new found did.1) ∙ reads_by port a.core c (Err stops.More) found did.0)
+    (ap quiet (becomes_itself port a.core c new found did.1) ∙ reads_by now port a.core c (Err stops.More) found did.0)
     (turns_quiet a b out (changes port (λ _. new) a.core) (λ _. is))
 
 -- a packet
-pub packet_there : (port : Port) (c new : Connection) (packet : Packet) (a b r : Running) (x y : List (Effect Command Output)) →
-    open_at port a.core ≡ Some c → TakesFront c (fronts.Packet packet) new →
+pub packet_there : (now : ℕ) (port : Port) (c new : Connection) (packet : Packet) (a b r : Running) (x y : List (Effect Command Output)) →
+    open_at port a.core ≡ Some c → TakesFront now c (fronts.Packet packet) new →
     b ≡ record a { core = changes port (λ _. new) a.core } →
     Turns b r x y (if is_first c.stage then begins port c.name packet b.core else says port c.name packet b.core) →
-    Turns a r x y (reads_next port a.core)
-packet_there port c new packet a b r x y found did is turns =
+    Turns a r x y (reads_next now port a.core)
+packet_there now port c new packet a b r x y found did is turns =
     let rest = did.0 in
-    subst (λ (t : Turn). Turns a r x y t) (reads_by port a.core c (Ok (packet, rest)) found did.1)
-    (turns_behind a b r x y (changes port (left_with rest) a.core)
+    subst (λ (t : Turn). Turns a r x y t) (reads_by now port a.core c (Ok (packet, rest)) found did.1)
+    (turns_behind a b r x y (changes port (left_with now rest) a.core)
     (λ core. if is_first c.stage then begins port c.name packet core else says port c.name packet core)
-    (is ∙ ap (λ (k : CoreState). record a { core = k }) (becomes_same port a.core c new (left_with rest) found did.3)) turns)
+    (is ∙ ap (λ (k : CoreState). record a { core = k }) (becomes_same port a.core c new (left_with now rest) found did.3)) turns)
 
 -- a connection that is closed behind a change, and the broker hears that it is lost where it heard of its CONNECT
 abbrev pub Told : Connection → CoreState → Turn
@@ -124,29 +124,29 @@ Told c core = if is_proposed c.stage then proposes (commands.Lost c.name) core e
 lost_there : (port : Port) (c : Connection) (core : CoreState) → Told c (changes port closed core) ≡ loses port c core
 lost_there port c core = refl
 
-pub fault_there : (port : Port) (c new : Connection) (a b r : Running) (x y : List (Effect Command Output)) →
-    open_at port a.core ≡ Some c → TakesFront c fronts.Fault new →
+pub fault_there : (now : ℕ) (port : Port) (c new : Connection) (a b r : Running) (x y : List (Effect Command Output)) →
+    open_at port a.core ≡ Some c → TakesFront now c fronts.Fault new →
     b ≡ record a { core = changes port (λ _. new) a.core } → Turns b r x y (Told c b.core) →
-    Turns a r x y (reads_next port a.core)
-fault_there port c new a b r x y found did is turns = by (verdict c.unread) refl did.0
+    Turns a r x y (reads_next now port a.core)
+fault_there now port c new a b r x y found did is turns = by (verdict c.unread) refl did.0
   where
     lost : Turns a r x y (loses port c a.core)
     lost =
         turns_behind a b r x y (changes port closed a.core) (Told c)
         (is ∙ ap (λ (k : CoreState). record a { core = k }) (becomes_same port a.core c new closed found did.1)) turns
 
-    by : (v : Result (Packet × List ℕ) Stop) → verdict c.unread ≡ v → IsFault v → Turns a r x y (reads_next port a.core)
+    by : (v : Result (Packet × List ℕ) Stop) → verdict c.unread ≡ v → IsFault v → Turns a r x y (reads_next now port a.core)
     by (Err stops.More) e fault = absurd fault
-    by (Err (stops.Malformed kind)) e fault = subst (λ (t : Turn). Turns a r x y t) (reads_by port a.core c _ found e) lost
+    by (Err (stops.Malformed kind)) e fault = subst (λ (t : Turn). Turns a r x y t) (reads_by now port a.core c _ found e) lost
     by (Err (stops.Refused code)) e fault = absurd fault
     by (Ok _) e fault = absurd fault
 
-pub refused_there : (port : Port) (c new : Connection) (code : RefusalCode) (a b r : Running) (x y : List (Effect Command Output)) →
-    open_at port a.core ≡ Some c → TakesFront c (fronts.Refused code) new →
+pub refused_there : (now : ℕ) (port : Port) (c new : Connection) (code : RefusalCode) (a b r : Running) (x y : List (Effect Command Output)) →
+    open_at port a.core ≡ Some c → TakesFront now c (fronts.Refused code) new →
     b ≡ record a { core = changes port (λ _. new) a.core } → Turns b r x y (Told c b.core) →
-    Turns a r x y (reads_next port a.core)
-refused_there port c new code a b r x y found did is turns =
-    subst (λ (t : Turn). Turns a r x y t) (reads_by port a.core c _ found did.0) (by c.stage refl did.1)
+    Turns a r x y (reads_next now port a.core)
+refused_there now port c new code a b r x y found did is turns =
+    subst (λ (t : Turn). Turns a r x y t) (reads_by now port a.core c _ found did.0) (by c.stage refl did.1)
   where
     behind : (change : Connection → Connection) → new ≡ change c → Turns a r x y (Told c (changes port change a.core))
     behind change e =
@@ -162,12 +162,12 @@ refused_there port c new code a b r x y found did is turns =
     by Failed e is_new = rw (e) (rw (e) at (behind closed (rw (e) at is_new)))
 
 -- either of them
-pub gone_there : (port : Port) (c new : Connection) (front : Front) (a b r : Running) (x y : List (Effect Command Output)) →
-    open_at port a.core ≡ Some c → TakesFront c front new →
+pub gone_there : (now : ℕ) (port : Port) (c new : Connection) (front : Front) (a b r : Running) (x y : List (Effect Command Output)) →
+    open_at port a.core ≡ Some c → TakesFront now c front new →
     ((code : RefusalCode) × (front ≡ fronts.Refused code)) ⊎ (front ≡ fronts.Fault) →
     b ≡ record a { core = changes port (λ _. new) a.core } → Turns b r x y (Told c b.core) →
-    Turns a r x y (reads_next port a.core)
-gone_there port c new front a b r x y found did (inl (code, e)) is turns =
-    refused_there port c new code a b r x y found (subst (λ f. TakesFront c f new) e did) is turns
-gone_there port c new front a b r x y found did (inr e) is turns =
-    fault_there port c new a b r x y found (subst (λ f. TakesFront c f new) e did) is turns
+    Turns a r x y (reads_next now port a.core)
+gone_there now port c new front a b r x y found did (inl (code, e)) is turns =
+    refused_there now port c new code a b r x y found (subst (λ f. TakesFront now c f new) e did) is turns
+gone_there now port c new front a b r x y found did (inr e) is turns =
+    fault_there now port c new a b r x y found (subst (λ f. TakesFront now c f new) e did) is turns

@@ -1,12 +1,14 @@
 mod Asked
 mod Changes
 mod Closes
+mod Failures
 mod Fronts
 mod HandsOver
 mod Opens
 mod Places
 mod Proposes
 mod Settles
+mod Silences
 mod Spelled
 mod TurnsJoin
 mod Repeats

@@ -1,5 +1,5 @@
 -- Opens.antt: what the tests before a connection is accepted decide.
-use Rattle.std.proofs.Common.{◌≡◌, ◌+◌, true, false, List, [], ◌∷◌, ◌++◌, refl, sym, ap, ◌∙◌}
+use Rattle.std.proofs.Common.{◌≡◌, ℕ, true, false, List, [], ◌∷◌, ◌++◌, refl, sym, ap, ◌∙◌}
 use Rattle.std.specs.List.{list_any}
 use Rattle.broker_model.specs.Connection.{ConnectionName, is_connection_name}
 use Rattle.world_base.specs.declared.item.Port.{Port}
@@ -29,14 +29,23 @@ unfolding opens
 opens-spent port r serving free spent = same r _ (rw (serving, free, spent) refl)
 
 -- one is
-pub opened : (port : Port) (r : Running) (name : ConnectionName) (c : Connection) (all : List Connection) →
+as_name : (name : ConnectionName) (ballot count : ℕ) → ballot ≡ name.ballot → count ≡ name.count →
+    (let x : ConnectionName = record { ballot = ballot; count = count } in x) ≡ name
+as_name name ballot count b n =
+    ap (λ (k : ℕ). let x : ConnectionName = record { ballot = k; count = count } in x) b
+    ∙ ap (λ (k : ℕ). let x : ConnectionName = record { ballot = name.ballot; count = k } in x) n
+
+pub opened : (port : Port) (r : Running) (name : ConnectionName) (ballot count : ℕ) (c : Connection) (all : List Connection) →
     serves r.core ≡ true → list_any (is_at port) r.core.connections ≡ false →
-    is_connection_name (next_name r.core) ≡ true → name ≡ next_name r.core → c ≡ fresh port name →
-    all ≡ r.core.connections ++ c ∷ [] →
-    record r { core = record r.core { accepted = r.core.accepted + 1; connections = all } }
+    is_connection_name (next_name r.core) ≡ true → name ≡ next_name r.core → ballot ≡ name.ballot → count ≡ name.count →
+    c ≡ fresh port name → all ≡ r.core.connections ++ c ∷ [] →
+    record r { core = record r.core { last_name = record { ballot = ballot; count = count }; connections = all } }
     ≡ record r { core = opens port r.core }
 unfolding opens
-opened port r name c all serving free named is new added =
+opened port r name ballot count c all serving free named is b n new added =
     rw (serving, free, named)
-    (ap (λ (l : List Connection). record r { core = record r.core { accepted = r.core.accepted + 1; connections = l } })
-    (added ∙ ap (λ (x : Connection). r.core.connections ++ x ∷ []) (new ∙ ap (fresh port) is)))
+    (ap (λ (l : List Connection). record r { core = record r.core { last_name = record { ballot = ballot; count = count }; connections = l } })
+    (added ∙ ap (λ (x : Connection). r.core.connections ++ x ∷ []) new)
+    ∙ ap (λ (x : ConnectionName). record r { core = record r.core { last_name = x; connections = r.core.connections ++ fresh port name ∷ [] } })
+    (as_name name ballot count b n)
+    ∙ ap (λ (x : ConnectionName). record r { core = record r.core { last_name = x; connections = r.core.connections ++ fresh port x ∷ [] } }) is)

@@ -1,5 +1,5 @@
 -- The connections of a node, in the order in which they were opened, and what becomes of one.
-use Rattle.std.specs.Prelude.{ℕ, Bool, true, false, not, ◌&&◌, ◌||◌, ◌==◌, if◌then◌else◌, List, [], ◌∷◌, ◌++◌, length}
+use Rattle.std.specs.Prelude.{ℕ, ◌+◌, ◌*◌, Bool, true, false, not, ◌&&◌, ◌||◌, ◌==◌, nat_lt, nat_le, if◌then◌else◌, List, [], ◌∷◌, ◌++◌, length}
 use Rattle.broker_model.specs.Connection.{ConnectionName, same_connection}
 use Rattle.world_base.specs.declared.item.Port.{Port}
 use Rattle.world_base.specs.declared.connection.Stage.{Stage}
@@ -26,6 +26,16 @@ is_proposed Proposed = true
 is_proposed Over = false
 is_proposed Failed = false
 
+-- closed as lost, of which the broker is still to hear
+abbrev pub is_failed : Stage → Bool
+is_failed Awaits = false
+is_failed Proposed = false
+is_failed Over = false
+is_failed Failed = true
+
+abbrev pub has_failed : Connection → Bool
+has_failed c = is_failed c.stage
+
 -- a connection of a port, also a closed one; the open one; the open one of a name
 abbrev pub is_at : Port → Connection → Bool
 is_at port c = c.port.0 == port.0
@@ -47,30 +57,49 @@ is_proposed_at port c = is_proposed c.stage && is_at port c
 abbrev pub is_listed : Connection → Bool
 is_listed c = not (is_over c.stage) || not (length c.pending == 0)
 
+-- it is open, has a keep alive, and no packet came whole for more than one and a half times of it (MQTT 3.1.2.10);
+-- a keep alive counts seconds, times count milliseconds
+abbrev pub is_silent : ℕ → Connection → Bool
+is_silent now c = (not (is_over c.stage) && nat_lt 0 c.keep_alive) && nat_lt (c.last_packet + 1500 * c.keep_alive) now
+
 -- a new connection
 abbrev pub fresh : Port → ConnectionName → Connection
-fresh port name = record { port = port; name = name; stage = Awaits; unread = []; pending = [] }
+fresh port name =
+    record { port = port; name = name; stage = Awaits; keep_alive = 0; last_packet = 0; unread = []; pending = [] }
 
 -- bytes that came are held until they are read
 abbrev pub holding : List ℕ → Connection → Connection
 holding piece c = record c { unread = c.unread ++ piece }
 
--- a packet was read; these bytes came behind it
-abbrev pub left_with : List ℕ → Connection → Connection
-left_with rest c = record c { unread = rest }
+-- a packet was read, which was whole at this time; these bytes came behind it
+abbrev pub left_with : ℕ → List ℕ → Connection → Connection
+left_with now rest c = record c { unread = rest; last_packet = now }
 
--- its Connect is proposed
-abbrev pub asked : Connection → Connection
-asked c = record c { stage = Proposed }
+-- its CONNECT, with this keep alive, is proposed
+abbrev pub asked : ℕ → Connection → Connection
+asked keep_alive c = record c { stage = Proposed; keep_alive = keep_alive }
 
--- closed: nothing more is read, and what was put out before is still handed over
+-- closed: nothing more is read or waited for, and what was put out before is still handed over
 abbrev pub closed : Connection → Connection
-closed c = record c { stage = Over; unread = [] }
+closed c = record c { stage = Over; keep_alive = 0; last_packet = 0; unread = [] }
 
--- bytes are put out, and handed over
+-- bytes are put out
 abbrev pub putting : List ℕ → Connection → Connection
 putting bytes c = record c { pending = c.pending ++ bytes }
 
+-- how many bytes may wait to be handed over on one connection
+abbrev pub most_pending : ℕ
+most_pending = 134217728
+
+-- closed as lost: the broker is to hear of it, where it heard of its CONNECT
+abbrev pub failing : Connection → Connection
+failing c = record (closed c) { stage = if is_proposed c.stage then Failed else Over }
+
+-- bytes are put out where there is room for them; else the connection is closed as lost
+abbrev pub put_out : List ℕ → Connection → Connection
+put_out bytes c = if nat_le (length c.pending + length bytes) most_pending then putting bytes c else failing c
+
+-- what was put out is handed over
 abbrev pub handed : Connection → Connection
 handed c = record c { pending = [] }
 

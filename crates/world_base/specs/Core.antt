@@ -2,6 +2,7 @@
 use Rattle.std.specs.Prelude.{ℕ, Bool, not, ◌&&◌, List, []}
 use Rattle.ballot.specs.Machine.{Rules}
 use Rattle.broker_base.specs.State.{State, empty_state}
+use Rattle.broker_model.specs.Connection.{ConnectionName}
 use Rattle.broker_model.specs.declared.command.Command.{Command}
 use Rattle.broker_model.specs.declared.command.Command.TheVariants.{Start}
 use Rattle.broker_model.specs.declared.command.Output.{Output}
@@ -14,8 +15,8 @@ use Rattle.world_base.specs.declared.connection.Connection.{Connection}
 -- what a node keeps; its connections stand in the order in which they were opened
 pub record CoreState : Type 0 where
   pub replica : CountedReplica State Command
-  -- how many connections of this ballot it accepted
-  pub accepted : ℕ
+  -- the name of the connection that it accepted last; number 0 of ballot 0 before the first
+  pub last_name : ConnectionName
   pub connections : List Connection
 
 -- a node with the number of its steps in which memory was wanting, up to 2^64 - 1
@@ -37,7 +38,7 @@ abbrev pub opening_core : ℕ → Config → CoreState
 opening_core id config =
     record {
       replica = record { state = opening rules id config; losses = 0 };
-      accepted = 0;
+      last_name = record { ballot = 0; count = 0 };
       connections = [];
     }
 

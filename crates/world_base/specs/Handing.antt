@@ -1,5 +1,5 @@
 -- What a node hands over of the bytes that it put out for a port.
-use Rattle.std.specs.Prelude.{ℕ, if◌then◌else◌, List, [], Option, Some, None}
+use Rattle.std.specs.Prelude.{ℕ, Bool, not, ◌&&◌, ◌==◌, if◌then◌else◌, List, [], length, map, Option, Some, None}
 use Rattle.std.specs.List.{find, filter}
 use Rattle.world_base.specs.declared.item.Port.{Port}
 use Rattle.world_base.specs.declared.handed.Handed.{Handed}
@@ -30,3 +30,11 @@ left_by port core (Some c) =
 
 unfoldable pub hands_over : Port → CoreState → CoreState
 hands_over port core = left_by port core (listed_at port core)
+
+-- open, with nothing to hand over
+abbrev pub is_idle : Connection → Bool
+is_idle c = not (is_over c.stage) && (length c.pending == 0)
+
+-- the ports of these: for each other port something is to be handed over, or it is closed
+abbrev pub idle_ports : CoreState → List Port
+idle_ports core = map (λ (c : Connection). c.port) (filter is_idle core.connections)

@@ -11,7 +11,6 @@ use Rattle.packet.specs.declared.packet.Packet.{Packet}
 use Rattle.packet.specs.Verdict.{verdict}
 use Rattle.broker_model.specs.Sized.{IsSized}
 use Rattle.world_base.specs.declared.connection.Connection.{Connection}
-use Rattle.world_base.specs.declared.connection.Stage.TheVariants.{Failed}
 use Rattle.world_base.specs.declared.front.Front.{Front}
 use Rattle.world_base.specs.declared.front.Front.TheVariants as fronts
 use Rattle.world_base.specs.Connections.{is_first, left_with, closed}
@@ -45,10 +44,6 @@ Hears old new outcome given = new.wanting ≡ false →
     })
     × (given ≡ outcome.effects)
 
--- closed for want of memory, and the broker is still to hear that it is lost
-abbrev pub failing : Connection → Connection
-failing c = record (closed c) { stage = Failed }
-
 -- a fault of the bytes
 abbrev pub IsFault : Result (Packet × List ℕ) Stop → Type 0
 IsFault (Err (stops.Malformed kind)) = Unit {0}
@@ -62,13 +57,13 @@ Reads bytes (fronts.Refused code) left = verdict bytes ≡ Err (stops.Refused co
 Reads bytes fronts.Fault left = IsFault (verdict bytes)
 Reads bytes fronts.Wanting left = Unit {0}
 
--- what reading on makes of a connection
-abbrev pub TakesFront : Connection → Front → Connection → Type 0
-TakesFront old fronts.More new = (verdict old.unread ≡ Err stops.More) × (new ≡ old)
-TakesFront old (fronts.Packet packet) new =
-    (rest : List ℕ) × (verdict old.unread ≡ Ok (packet, rest)) × IsSized packet × (new ≡ left_with rest old)
-TakesFront old (fronts.Refused code) new =
+-- what reading on at this time makes of a connection
+abbrev pub TakesFront : ℕ → Connection → Front → Connection → Type 0
+TakesFront now old fronts.More new = (verdict old.unread ≡ Err stops.More) × (new ≡ old)
+TakesFront now old (fronts.Packet packet) new =
+    (rest : List ℕ) × (verdict old.unread ≡ Ok (packet, rest)) × IsSized packet × (new ≡ left_with now rest old)
+TakesFront now old (fronts.Refused code) new =
     (verdict old.unread ≡ Err (stops.Refused code))
     × (new ≡ (if is_first old.stage then refused code old else closed old))
-TakesFront old fronts.Fault new = IsFault (verdict old.unread) × (new ≡ closed old)
-TakesFront old fronts.Wanting new = new ≡ closed old
+TakesFront now old fronts.Fault new = IsFault (verdict old.unread) × (new ≡ closed old)
+TakesFront now old fronts.Wanting new = new ≡ closed old

@@ -1,7 +1,9 @@
 pub mod Connections
 pub mod Core
+pub mod Failing
 pub mod Handing
 pub mod Inside
+pub mod KeepAlive
 pub mod Losses
 pub mod Reading
 pub mod Step

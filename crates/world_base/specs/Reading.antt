@@ -56,37 +56,37 @@ says port name packet core =
 
 -- the first packet of a connection must be a CONNECT (MQTT 3.1.0-1)
 abbrev pub begins : Port → ConnectionName → Packet → CoreState → Turn
-begins port name (packets.Connect connect) core = asks port name connect (changes port asked core)
+begins port name (packets.Connect connect) core = asks port name connect (changes port (asked connect.keep_alive) core)
 begins port name _ core = quiet (changes port closed core)
 
 -- a CONNECT that is refused with a code is answered, and then closed (MQTT 3.2.2.3)
 abbrev pub refused : RefusalCode → Connection → Connection
 refused code c = closed (putting (spelling (packets.Connack (connacks.Refused code))) c)
 
--- what the front of a connection's bytes makes of the node: a later CONNECT that is refused with a code is a malformed
--- packet
-abbrev pub reads : Port → Connection → CoreState → Result (Packet × List ℕ) Stop → Turn
-reads port c core (Err stops.More) = quiet core
-reads port c core (Err (stops.Malformed kind)) = loses port c core
-reads port c core (Err (stops.Refused code)) =
+-- what the front of a connection's bytes makes of the node at this time: a later CONNECT that is refused with a code is a
+-- malformed packet
+abbrev pub reads : ℕ → Port → Connection → CoreState → Result (Packet × List ℕ) Stop → Turn
+reads now port c core (Err stops.More) = quiet core
+reads now port c core (Err (stops.Malformed kind)) = loses port c core
+reads now port c core (Err (stops.Refused code)) =
     if is_first c.stage then quiet (changes port (refused code) core) else loses port c core
-reads port c core (Ok (packet, rest)) =
+reads now port c core (Ok (packet, rest)) =
     if is_first c.stage
-    then begins port c.name packet (changes port (left_with rest) core)
-    else says port c.name packet (changes port (left_with rest) core)
+    then begins port c.name packet (changes port (left_with now rest) core)
+    else says port c.name packet (changes port (left_with now rest) core)
 
-abbrev pub reads_of : Port → CoreState → Option Connection → Turn
-reads_of port core None = quiet core
-reads_of port core (Some c) = reads port c core (verdict c.unread)
+abbrev pub reads_of : ℕ → Port → CoreState → Option Connection → Turn
+reads_of now port core None = quiet core
+reads_of now port core (Some c) = reads now port c core (verdict c.unread)
 
 -- the next packet of a port
-unfoldable pub reads_next : Port → CoreState → Turn
-reads_next port core = reads_of port core (open_at port core)
+unfoldable pub reads_next : ℕ → Port → CoreState → Turn
+reads_next now port core = reads_of now port core (open_at port core)
 
 abbrev pub unread_of : Option Connection → ℕ
 unread_of None = 0
 unread_of (Some c) = length c.unread
 
 -- all whole packets of a port, each with what it gives before the next: they are no more than the bytes
-abbrev pub reads_all : Port → CoreState → Turn
-reads_all port core = repeated (unread_of (open_at port core)) (reads_next port) core
+abbrev pub reads_all : ℕ → Port → CoreState → Turn
+reads_all now port core = repeated (unread_of (open_at port core)) (reads_next now port) core

@@ -1,5 +1,5 @@
 -- What one item makes of a node.
-use Rattle.std.specs.Prelude.{◌+◌, not, ◌&&◌, if◌then◌else◌, [], ◌∷◌, ◌++◌, map, filter}
+use Rattle.std.specs.Prelude.{ℕ, ◌+◌, not, ◌&&◌, ◌==◌, if◌then◌else◌, [], ◌∷◌, ◌++◌, map, filter}
 use Rattle.std.specs.List.{list_any}
 use Rattle.broker_model.specs.Connection.{ConnectionName, is_connection_name}
 use Rattle.ballot.specs.Losses.{halted}
@@ -9,21 +9,27 @@ use Rattle.world_base.specs.declared.item.Item.{Item}
 use Rattle.world_base.specs.declared.item.Item.TheVariants.{Peer, Tick, Opened, Bytes, Ended, Crash}
 use Rattle.world_base.specs.Connections.{is_at, is_listed, fresh, holding, closed}
 use Rattle.world_base.specs.Core.{CoreState, Turn, rules, serves}
+use Rattle.world_base.specs.Failing.{loses_all_failed}
+use Rattle.world_base.specs.KeepAlive.{ends_all_silent}
 use Rattle.world_base.specs.Reading.{changes, ends, reads_all}
 use Rattle.world_base.specs.Turns.{quiet, then_also, drives}
 
--- the name of the next connection of this ballot
-abbrev pub next_name : CoreState → ConnectionName
-next_name core = record { ballot = core.replica.state.joined; count = core.accepted + 1 }
+-- how many connections it accepted in the ballot that it joined
+abbrev pub accepted : CoreState → ℕ
+accepted core = if core.last_name.ballot == core.replica.state.joined then core.last_name.count else 0
 
--- a connection is accepted while the node serves clients, and gets the next number of the ballot;
+-- the name of the next connection: those of a ballot are numbered from 1
+abbrev pub next_name : CoreState → ConnectionName
+next_name core = record { ballot = core.replica.state.joined; count = accepted core + 1 }
+
+-- a connection is accepted while the node serves clients, and gets the next name of the ballot;
 -- a port may be used again once nothing of it is listed
 unfoldable pub opens : Port → CoreState → CoreState
 opens port core =
     if (serves core && not (list_any (is_at port) core.connections))
     && is_connection_name (next_name core)
     then record core {
-      accepted = core.accepted + 1;
+      last_name = next_name core;
       connections = core.connections ++ fresh port (next_name core) ∷ [];
     }
     else core
@@ -42,18 +48,22 @@ abbrev pub crashed : CoreState → CoreState
 crashed core =
     record core { replica = record core.replica { state = halted rules core.replica.state } }
 
--- an item before its connections are settled
+-- an item alone
 abbrev pub takes_in : Item → CoreState → Turn
 takes_in (Peer message) core = drives (Receives message) core
-takes_in (Tick now) core = drives Ticks core
+takes_in (Tick now) core = then_also (drives Ticks core) (ends_all_silent now)
 takes_in (Opened port now) core = quiet (opens port core)
 takes_in (Bytes port piece now) core =
-    then_also (quiet (changes port (holding piece) core)) (reads_all port)
+    then_also (quiet (changes port (holding piece) core)) (reads_all now port)
 takes_in (Ended port) core = ends port core
 takes_in Crash core = quiet (crashed core)
 
--- the step of a node on an item
+-- an item, and the losses that follow from it
+abbrev pub acts_on : Item → CoreState → Turn
+acts_on item core = then_also (takes_in item core) loses_all_failed
+
+-- the step of a node on an item: behind it connections are settled
 abbrev pub node_step : Item → CoreState → Turn
 node_step item core =
-    let turn = takes_in item core in
+    let turn = acts_on item core in
     record { core = settled turn.core; messages = turn.messages }

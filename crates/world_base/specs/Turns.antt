@@ -13,7 +13,7 @@ use Rattle.ballot.specs.Replica.{ReplicaState}
 use Rattle.ballot.specs.Sending.{Outcome, nothing_done}
 use Rattle.ballot.specs.Serving.{proposed, most_places}
 use Rattle.world_base.specs.declared.connection.Connection.{Connection}
-use Rattle.world_base.specs.Connections.{is_open_named, closed, putting, changed}
+use Rattle.world_base.specs.Connections.{is_open_named, closed, put_out, changed}
 use Rattle.world_base.specs.Core.{CoreState, Turn, rules, serves}
 use Rattle.packet.specs.Spelling.{spelling}
 
@@ -43,7 +43,7 @@ changes_named name change core =
 
 -- an output of the broker is done on its connection; one for a connection that is not open is dropped
 abbrev pub served_by : Output → CoreState → CoreState
-served_by (outputs.Send name packet) core = changes_named name (putting (spelling packet)) core
+served_by (outputs.Send name packet) core = changes_named name (put_out (spelling packet)) core
 served_by (outputs.Close name) core = changes_named name closed core
 
 abbrev pub served : CoreState → Effect Command Output → CoreState

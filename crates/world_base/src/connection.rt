@@ -1,9 +1,9 @@
 // One connection of a node.
 
 ghost use Rattle.std.specs.Prelude.{◌≡◌, ◌++◌, false, true, OnOk, OnErr};
-ghost use Rattle.world_base.specs.Connections.{asked, closed, fresh, handed, holding, is_at, is_first, is_listed, is_open_at, is_open_named, is_over, is_proposed, putting};
-ghost use Rattle.world_base.specs.Handing.{answer_of};
-ghost use Rattle.world_base.specs.Inside.{TakesFront, failing};
+ghost use Rattle.world_base.specs.Connections.{asked, closed, failing, fresh, has_failed, put_out, handed, holding, is_at, is_first, is_listed, is_open_at, is_open_named, is_over, is_proposed, is_silent, putting};
+ghost use Rattle.world_base.specs.Handing.{answer_of, is_idle};
+ghost use Rattle.world_base.specs.Inside.{TakesFront};
 ghost use Rattle.packet.specs.Spelling.{spelling};
 ghost use Rattle.world_base.specs.Reading.{refused};
 
@@ -17,6 +17,9 @@ use broker_model::ConnectionId;
 use packet::{Connack, Packet, RefusalCode};
 use std::alloc::Global;
 
+/// How many bytes may wait to be handed over on one connection: more than a client is sent again.
+const MOST_PENDING: usize = 134_217_728;
+
 /// How far a connection is.
 #[derive(Clone, Copy, Debug, PartialEq, Eq)]
 pub enum Stage {
@@ -26,7 +29,7 @@ pub enum Stage {
     Proposed,
     /// It is closed.
     Over,
-    /// It is closed for want of memory, and the broker is still to hear that it is lost.
+    /// It is closed as lost, of which the broker is still to hear.
     Failed,
 }
 
@@ -36,6 +39,10 @@ pub struct Connection {
     pub port: Port,
     pub name: ConnectionId,
     pub stage: Stage,
+    /// The most seconds between two packets of its client, by its CONNECT; 0 for no limit (MQTT 3.1.2.10).
+    pub keep_alive: u16,
+    /// When its last packet was whole, in milliseconds; 0 before the first.
+    pub last_packet: u64,
     pub unread: Unread,
     pub pending: Piece,
 }
@@ -49,6 +56,8 @@ impl Connection {
             port,
             name,
             stage: Stage::Awaits,
+            keep_alive: 0,
+            last_packet: 0,
             unread: Unread::new(alloc),
             pending: Piece::new(alloc),
         }
@@ -82,6 +91,13 @@ impl Connection {
         matches!(self.stage, Stage::Over | Stage::Failed)
     }
 
+    /// Whether it is closed as lost, of which the broker is still to hear.
+    pub fn has_failed(&self) -> bool
+        ensures { result ≡ has_failed self.now }
+    {
+        self.stage == Stage::Failed
+    }
+
     /// Whether its first packet is awaited.
     pub fn is_first(&self) -> bool
         ensures { result ≡ is_first self.now.stage }
@@ -96,11 +112,27 @@ impl Connection {
         self.stage == Stage::Proposed
     }
 
+    /// Whether it is open, and no packet came whole for more than one and a half times of its keep alive
+    /// (MQTT 3.1.2.10).
+    pub fn is_silent(&self, now: u64) -> bool
+        ensures { result ≡ is_silent now self.now }
+    {
+        let allowed = 1_500 * u64::from(self.keep_alive);
+        !self.is_over() && self.keep_alive > 0 && now.saturating_sub(self.last_packet) > allowed
+    }
+
     /// Whether it is listed: it is open, or has bytes to hand over.
     pub fn is_listed(&self) -> bool
         ensures { result ≡ is_listed self.now }
     {
         !self.is_over() || !self.pending.is_empty()
+    }
+
+    /// Whether it is open, and has nothing to hand over.
+    pub fn is_idle(&self) -> bool
+        ensures { result ≡ is_idle self.now }
+    {
+        !self.is_over() && self.pending.is_empty()
     }
 
     /// Whether more may be put out for it.
@@ -122,14 +154,15 @@ impl Connection {
         self.unread.add(piece)
     }
 
-    /// Reads the next packet. All but a packet or less than one closes it; a first CONNECT that is
-    /// refused with a code is answered before.
-    pub fn next(&mut self) -> Front
-        ensures { TakesFront self.old result self.new }
+    /// Reads the next packet, which is whole at this time. All but a packet or less than one closes it; a
+    /// first CONNECT that is refused with a code is answered before.
+    pub fn next(&mut self, now: u64) -> Front
+        ensures { TakesFront now self.old result self.new }
     {
         let front = self.unread.next();
         match front {
-            Front::More | Front::Packet(_) => {}
+            Front::More => {}
+            Front::Packet(_) => self.last_packet = now,
             Front::Refused(code) => {
                 if !self.is_first() {
                     self.close();
@@ -142,11 +175,12 @@ impl Connection {
         front
     }
 
-    /// Its CONNECT becomes a command.
-    pub fn ask(&mut self)
-        ensures { self.new ≡ asked self.old }
+    /// Its CONNECT, which has this keep alive, becomes a command.
+    pub fn ask(&mut self, keep_alive: u16)
+        ensures { self.new ≡ asked keep_alive self.old }
     {
         self.stage = Stage::Proposed;
+        self.keep_alive = keep_alive;
     }
 
     /// Puts a packet out: whether it was. Where it has no bytes or memory is wanting nothing changes.
@@ -167,25 +201,34 @@ impl Connection {
         put
     }
 
-    /// Puts a packet out, or closes the connection as failed where there is no memory: whether there
-    /// was.
+    /// Puts a packet out, or closes the connection as lost where there is no room for it, or no memory:
+    /// whether there was memory.
     pub fn put_or_fail(&mut self, packet: &Packet) -> bool
-        ensures whole { result ≡ true → self.new ≡ putting (spelling packet.now) self.old }
+        ensures whole { result ≡ true → self.new ≡ put_out (spelling packet.now) self.old }
         ensures lost { result ≡ false → self.new ≡ failing self.old }
     {
-        if !self.put(packet) {
-            self.fail();
-            return false;
+        match self.pending.put_within(packet, MOST_PENDING) {
+            Ok(true) => true,
+            Ok(false) => {
+                self.fail();
+                true
+            }
+            Err(_) => {
+                self.fail();
+                false
+            }
         }
-        true
     }
 
-    /// Closes it for want of memory: the broker is still to hear that it is lost.
+    /// Closes it as lost: the broker is to hear of it, where it heard of its CONNECT.
     pub fn fail(&mut self)
         ensures { self.new ≡ failing self.old }
     {
+        let proposed = self.is_proposed();
         self.close();
-        self.stage = Stage::Failed;
+        if proposed {
+            self.stage = Stage::Failed;
+        }
     }
 
     /// Hands over what was put out, behind what `out` holds. Where memory is wanting nothing changes.
@@ -205,6 +248,8 @@ impl Connection {
         ensures { self.new ≡ closed self.old }
     {
         self.stage = Stage::Over;
+        self.keep_alive = 0;
+        self.last_packet = 0;
         self.unread.clear();
     }
 }

@@ -3,11 +3,12 @@
 ghost use Rattle.std.specs.Prelude.{◌≡◌, ◌++◌, IfOk, OnErr, OnOk};
 ghost use Rattle.std.specs.List.{position};
 ghost use Rattle.world_base.specs.Connections.{is_at};
-ghost use Rattle.world_base.specs.Handing.{answer_of, bytes_of, hands_over, listed_at};
+ghost use Rattle.lists.specs.Lists.{IsPrefixOf};
+ghost use Rattle.world_base.specs.Handing.{answer_of, bytes_of, hands_over, idle_ports, listed_at};
 
 use crate::handed::Handed;
 use crate::item::Port;
-use crate::listing::keep_listed;
+use crate::listing::{keep_listed, push_idle};
 use crate::serving::Serving;
 use ballot::Memory;
 
@@ -32,6 +33,16 @@ impl Serving {
         connection.outgoing(out)?;
         keep_listed(&mut self.connections);
         Ok(answer)
+    }
+
+    /// Appends the ports of the connections that are open and have nothing to hand over. Where memory is
+    /// wanting some of them may be appended.
+    pub fn idle_ports(&self, ports: &mut Vec<Port>) -> Result<(), Memory>
+        ensures ok { OnOk result
+            (ports.new.items ≡ ports.old.items ++ idle_ports self.now.core) }
+        ensures err { OnErr result (IsPrefixOf ports.old.items ports.new.items) }
+    {
+        push_idle(&self.connections, ports)
     }
 
     // Where the listed connection of a port stands.

@@ -15,7 +15,8 @@ pub struct Port(pub u64);
 pub enum Item {
     /// A message of another node.
     Peer(Message<Command>),
-    /// It is this time: the replica says again what others may have missed.
+    /// It is this time: the replica says again what others may have missed, and connections whose keep alive
+    /// is over are closed.
     Tick(u64),
     /// A stream was opened, at this time.
     Opened(Port, u64),

@@ -1,17 +1,60 @@
 // The list of a node's connections as a whole.
 
-ghost use Rattle.std.specs.Prelude.{◌≡◌, true, [], ◌∷◌, ◌++◌, map, filter};
+ghost use Rattle.std.specs.Prelude.{◌≡◌, true, [], ◌∷◌, ◌++◌, map, filter, OnErr, OnOk};
 ghost use Rattle.std.specs.List.{list_any};
 ghost use Rattle.world_base.specs.Connections.{closed, is_at, is_listed};
+ghost use Rattle.lists.specs.Lists.{IsPrefixOf};
+ghost use Rattle.world_base.specs.Handing.{is_idle};
+ghost use Rattle.world_base.specs.declared.connection.Connection.{Connection};
+ghost use Rattle.world_base.specs.KeepAlive.{lower, lowest_silent};
 
 use crate::connection::Connection;
 use crate::item::Port;
+use ballot::Memory;
 
 /// Whether a connection of this port is listed.
 pub fn has_port(connections: &[Connection], port: Port) -> bool
     ensures { result ≡ list_any (is_at port) connections.now }
 {
     connections.iter().any(|c| c.is_at(port))
+}
+
+/// The lowest port of the connections that are silent at this time.
+pub fn lowest_silent(connections: &[Connection], now: u64) -> Option<Port>
+    ensures { result ≡ lowest_silent now connections.now }
+{
+    let mut lowest = None;
+    for connection in connections {
+        if connection.is_silent(now) {
+            lowest = Some(lower(lowest, connection.port));
+        }
+    }
+    lowest
+}
+
+// The lower of two ports.
+fn lower(low: Option<Port>, port: Port) -> Port
+    ensures { result ≡ lower low port }
+{
+    match low {
+        Some(low) if low.0 <= port.0 => low,
+        _ => port,
+    }
+}
+
+/// Appends the ports of the connections that are open and have nothing to hand over. Where memory is wanting
+/// some of them may be appended.
+pub fn push_idle(connections: &[Connection], ports: &mut Vec<Port>) -> Result<(), Memory>
+    ensures ok { OnOk result (ports.new.items ≡ ports.old.items
+        ++ map (λ (c : Connection). c.port) (filter is_idle connections.now)) }
+    ensures err { OnErr result (IsPrefixOf ports.old.items ports.new.items) }
+{
+    for connection in connections {
+        if connection.is_idle() {
+            ports.push(connection.port)?;
+        }
+    }
+    Ok(())
 }
 
 /// Adds a connection at the end: whether there was memory.

@@ -4,7 +4,8 @@ ghost use Rattle.std.specs.Prelude.{◌≡◌, ◌≤◌, ◌↔◌, ◌++◌, f
 ghost use Rattle.ballot.specs.LawfulConfig.{is_lawful};
 ghost use Rattle.ballot.specs.Replica.{status_of};
 ghost use Rattle.world_base.specs.Core.{opening_core};
-ghost use Rattle.world_base.specs.Handing.{answer_of, bytes_of, hands_over, listed_at};
+ghost use Rattle.lists.specs.Lists.{IsPrefixOf};
+ghost use Rattle.world_base.specs.Handing.{answer_of, bytes_of, hands_over, idle_ports, listed_at};
 ghost use Rattle.world_base.specs.Losses.{Stepped};
 
 use crate::handed::Handed;
@@ -68,9 +69,8 @@ impl NodeCore {
         ensures { Stepped self.old item self.new effects.old.items effects.new.items }
     {
         self.serving.begin_step();
-        self.serving.take_in(item, effects);
+        self.serving.act_on(item, effects);
         if self.serving.is_wanting() {
-            self.serving.lose_failed(effects);
             self.losses = self.losses.saturating_add(1);
         }
         self.serving.settle();
@@ -92,5 +92,16 @@ impl NodeCore {
         ensures err { OnErr result (out.new.items ≡ out.old.items) }
     {
         self.serving.outgoing(port, out)
+    }
+
+    /// Appends the ports of the connections that are open and have nothing to hand over: for each other port
+    /// [`NodeCore::outgoing`] gives bytes, or answers [`Handed::Closed`]. Where memory is wanting some of them
+    /// may be appended.
+    pub fn idle_ports(&self, ports: &mut Vec<Port>) -> Result<(), Memory>
+        ensures ok { OnOk result
+            (ports.new.items ≡ ports.old.items ++ idle_ports self.now.core) }
+        ensures err { OnErr result (IsPrefixOf ports.old.items ports.new.items) }
+    {
+        self.serving.idle_ports(ports)
     }
 }

@@ -1,6 +1,6 @@
 // Bytes in their order.
 
-ghost use Rattle.std.specs.Prelude.{◌≡◌, ◌==◌, ◌++◌, true, false, [], length, IfOk};
+ghost use Rattle.std.specs.Prelude.{◌≡◌, ◌==◌, ◌+◌, ◌++◌, true, false, [], length, nat_le, if◌then◌else◌, IfOk, OnErr};
 ghost use Rattle.packet.specs.Spelling.{IsPacket, spelling};
 
 use ballot::Memory;
@@ -66,6 +66,26 @@ impl Piece {
         }
         spelling_spells();
         encode(packet, &mut self.bytes).is_ok()
+    }
+
+    /// Adds the bytes of a packet at the end, where there are no more than `most` then: whether they were
+    /// added. The only error is want of memory, as in [`Piece::put`].
+    pub(crate) fn put_within(&mut self, packet: &Packet, most: usize) -> Result<bool, Memory>
+        ensures fits { IfOk result (λ put.
+            put ≡ nat_le (length self.old + length (spelling packet.now)) most) }
+        ensures ok { IfOk result (λ put.
+            self.new ≡ if put then self.old ++ spelling packet.now else self.old) }
+        ensures err { OnErr result (self.new ≡ self.old) }
+    {
+        let before = self.bytes.len();
+        if !self.put(packet) {
+            return Err(Memory);
+        }
+        if self.bytes.len() > most {
+            self.bytes.truncate(before);
+            return Ok(false);
+        }
+        Ok(true)
     }
 
     /// Takes all bytes away.

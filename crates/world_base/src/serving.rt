@@ -1,21 +1,22 @@
 // A node during a step.
 
-ghost use Rattle.std.specs.Prelude.{◌≡◌, ◌≤◌, ◌↔◌, false, true, IfOk, IfSome, OnSome, IfNone, IsErrOf};
+ghost use Rattle.std.specs.Prelude.{◌≡◌, ◌≤◌, ◌^◌, ◌↔◌, false, true, length, IfOk, IfSome, OnSome, IfNone, IsErrOf};
 ghost use Rattle.std.specs.List.{position};
 ghost use Rattle.broker_model.specs.Connection.{is_connection_name};
 ghost use Rattle.ballot.specs.LawfulConfig.{is_lawful};
 ghost use Rattle.ballot.specs.Replica.{status_of};
-ghost use Rattle.world_base.specs.Connections.{asked, closed, holding, is_open_at, is_open_named, putting};
+ghost use Rattle.world_base.specs.Connections.{asked, closed, has_failed, holding, is_open_at, is_open_named, put_out};
 ghost use Rattle.world_base.specs.Core.{opening_core, serves};
 ghost use Rattle.world_base.specs.Inside.{Does};
+ghost use Rattle.world_base.specs.KeepAlive.{lowest_silent};
 ghost use Rattle.packet.specs.Spelling.{spelling};
 ghost use Rattle.world_base.specs.Reading.{changes, open_at, refused, unread_of};
-ghost use Rattle.world_base.specs.Step.{next_name, opens, settled};
+ghost use Rattle.world_base.specs.Step.{accepted, next_name, opens, settled};
 ghost use Rattle.world_base.specs.Turns.{changes_named};
 
 use crate::connection::Connection;
 use crate::item::Port;
-use crate::listing::{close_each, has_port, keep_listed, push};
+use crate::listing::{close_each, has_port, keep_listed, lowest_silent, push};
 use crate::piece::Piece;
 use ballot::{Config, OpeningError, Replica, Status};
 use broker::BrokerMachine;
@@ -30,7 +31,9 @@ use std::marker::Model;
 pub struct Serving {
     pub(crate) alloc: Global,
     pub(crate) replica: Replica<BrokerMachine>,
-    pub(crate) accepted: u64,
+    // The name of the connection that was accepted last, both 0 before the first.
+    pub(crate) last_ballot: u64,
+    pub(crate) last_count: u64,
     pub(crate) connections: Vec<Connection>,
     pub(crate) wanting: bool,
 }
@@ -45,13 +48,13 @@ impl Model for Serving {
         record {
           core = record {
             replica = s.replica;
-            accepted = s.accepted;
+            last_name = record { ballot = s.last_ballot; count = s.last_count };
             connections = s.connections.items;
           };
           wanting = s.wanting;
         } };
 
-    ghost invariant = { λ s. s.accepted ≤ 2 ^ 40 };
+    ghost invariant = { λ s. s.last_count ≤ 2 ^ 40 };
 }
 
 impl Serving {
@@ -68,7 +71,8 @@ impl Serving {
         Ok(Serving {
             alloc,
             replica,
-            accepted: 0,
+            last_ballot: 0,
+            last_count: 0,
             connections: Vec::new(alloc),
             wanting: false,
         })
@@ -117,6 +121,27 @@ impl Serving {
         self.connections.iter().position(|c| c.is_open_named(name))
     }
 
+    /// How many connections are listed.
+    pub fn listed(&self) -> usize
+        ensures { result ≡ length self.now.core.connections }
+    {
+        self.connections.len()
+    }
+
+    /// The lowest port of the connections that are silent at this time.
+    pub fn lowest_silent(&self, now: u64) -> Option<Port>
+        ensures { result ≡ lowest_silent now self.now.core.connections }
+    {
+        lowest_silent(&self.connections, now)
+    }
+
+    /// Where the first connection stands that was closed as lost, of which the broker is still to hear.
+    pub fn place_failed(&self) -> Option<usize>
+        ensures { result ≡ position has_failed self.now.core.connections }
+    {
+        self.connections.iter().position(|c| c.has_failed())
+    }
+
     /// Closes the open connection of a port.
     pub fn close(&mut self, port: Port)
         ensures { self.new ≡ record self.old { core = changes port closed self.old.core } }
@@ -126,12 +151,12 @@ impl Serving {
         }
     }
 
-    /// The CONNECT of the open connection of a port becomes a command.
-    pub fn ask_at(&mut self, port: Port)
-        ensures { self.new ≡ record self.old { core = changes port asked self.old.core } }
+    /// The CONNECT of the open connection of a port, which has this keep alive, becomes a command.
+    pub fn ask_at(&mut self, port: Port, keep_alive: u16)
+        ensures { self.new ≡ record self.old { core = changes port (asked keep_alive) self.old.core } }
     {
         if let Some(index) = self.place_at(port) {
-            self.connections[index].ask();
+            self.connections[index].ask(keep_alive);
         }
     }
 
@@ -181,10 +206,11 @@ impl Serving {
         }
     }
 
-    /// Puts a packet out on the open connection of a name, which is closed where there is no memory.
+    /// Puts a packet out on the open connection of a name, which is closed as lost where there is no room or no
+    /// memory for it.
     pub fn put(&mut self, name: ConnectionId, packet: &Packet)
         ensures { Does self.old self.new
-            (changes_named name (putting (spelling packet.now)) self.old.core) }
+            (changes_named name (put_out (spelling packet.now)) self.old.core) }
     {
         if let Some(index) = self.place_of(name) {
             let whole = self.connections[index].put_or_fail(packet);
@@ -194,13 +220,25 @@ impl Serving {
         }
     }
 
+    // How many connections were accepted in the ballot that the replica joined.
+    fn accepted(&self) -> u64
+        ensures count { result ≡ accepted self.now.core }
+        ensures most { result ≤ 2 ^ 40 }
+    {
+        if self.last_ballot == self.replica.status().ballot {
+            self.last_count
+        } else {
+            0
+        }
+    }
+
     // The name of the next connection, or none where the numbers of this ballot are spent.
     fn next_name(&self) -> Option<ConnectionId>
         ensures named { IfSome result (λ name. name ≡ next_name self.now.core) }
         ensures some { OnSome result (is_connection_name (next_name self.now.core) ≡ true) }
         ensures none { IfNone result (is_connection_name (next_name self.now.core) ≡ false) }
     {
-        ConnectionId::new(self.replica.status().ballot, self.accepted + 1)
+        ConnectionId::new(self.replica.status().ballot, self.accepted() + 1)
     }
 
     /// Accepts a connection.
@@ -221,7 +259,8 @@ impl Serving {
             self.wanting = true;
             return;
         }
-        self.accepted += 1;
+        self.last_ballot = name.ballot();
+        self.last_count = name.count();
     }
 
     /// Closes all connections where the node no longer serves clients, and takes closed ones with

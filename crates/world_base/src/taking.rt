@@ -1,13 +1,14 @@
 // What an item does to a node.
 
-ghost use Rattle.std.specs.Prelude.{◌≡◌, false, true, if◌then◌else◌};
+ghost use Rattle.std.specs.Prelude.{◌≡◌, false, if◌then◌else◌};
 ghost use Rattle.broker_model.specs.declared.command.Command.TheVariants as commands;
 ghost use Rattle.broker_model.specs.Sized.{IsSized};
 ghost use Rattle.world_base.specs.Connections.{holding, is_first, is_proposed};
 ghost use Rattle.world_base.specs.Inside.{Turns};
-ghost use Rattle.lists.specs.Lists.{IsPrefixOf};
+ghost use Rattle.world_base.specs.Failing.{loses_all_failed, loses_failed};
+ghost use Rattle.world_base.specs.KeepAlive.{ends_all_silent};
 ghost use Rattle.world_base.specs.Reading.{asks, begins, changes, ends, reads_all, reads_next, says};
-ghost use Rattle.world_base.specs.Step.{takes_in};
+ghost use Rattle.world_base.specs.Step.{acts_on, takes_in};
 ghost use Rattle.world_base.specs.Turns.{proposes, quiet};
 
 use crate::connection::Stage;
@@ -20,21 +21,47 @@ use broker_model::{Command, ConnectionId, Output, SizedPacket};
 use packet::{Connect, Packet};
 
 impl Serving {
-    /// Takes an item in. Whether memory was wanting is told by `is_wanting`.
-    pub fn take_in(&mut self, item: Item, effects: &mut Vec<Effect<Command, Output>>)
+    /// Takes an item in, and has the broker hear of each connection that fails in it. Whether memory was
+    /// wanting is told by `is_wanting`.
+    pub fn act_on(&mut self, item: Item, effects: &mut Vec<Effect<Command, Output>>)
+        ensures { Turns self.old self.new effects.old.items effects.new.items
+            (acts_on item self.old.core) }
+    {
+        self.take_in(item, effects);
+        self.lose_failed(effects);
+    }
+
+    // Takes an item in.
+    fn take_in(&mut self, item: Item, effects: &mut Vec<Effect<Command, Output>>)
         ensures { Turns self.old self.new effects.old.items effects.new.items
             (takes_in item self.old.core) }
     {
         match item {
             Item::Peer(message) => self.receive(message, effects),
-            Item::Tick(_) => self.tick(effects),
+            Item::Tick(now) => {
+                self.tick(effects);
+                self.end_silent(now, effects);
+            }
             Item::Opened(port, _) => self.open(port),
-            Item::Bytes(port, piece, _) => {
+            Item::Bytes(port, piece, now) => {
                 self.hold(port, piece, effects);
-                self.read(port, effects);
+                self.read(port, now, effects);
             }
             Item::Ended(port) => self.end(port, effects),
             Item::Crash => self.replica.stop(),
+        }
+    }
+
+    // Closes the silent connections as lost, in rising order of ports.
+    fn end_silent(&mut self, now: u64, effects: &mut Vec<Effect<Command, Output>>)
+        ensures { Turns self.old self.new effects.old.items effects.new.items
+            (ends_all_silent now self.old.core) }
+    {
+        for _connection in 0..self.listed() {
+            let Some(port) = self.lowest_silent(now) else {
+                return;
+            };
+            self.end(port, effects);
         }
     }
 
@@ -49,24 +76,29 @@ impl Serving {
         }
     }
 
-    // Takes all whole packets of a port in turn.
-    fn read(&mut self, port: Port, effects: &mut Vec<Effect<Command, Output>>)
+    // Takes all packets of a port in turn that are whole at this time.
+    fn read(&mut self, port: Port, now: u64, effects: &mut Vec<Effect<Command, Output>>)
         ensures { Turns self.old self.new effects.old.items effects.new.items
-            (reads_all port self.old.core) }
+            (reads_all now port self.old.core) }
     {
         for _packet in 0..self.held(port) {
-            if !self.read_next(port, effects) {
+            if !self.read_next(port, now, effects) {
                 return;
             }
         }
     }
 
     // Takes the next packet of a port: whether another may follow.
-    fn read_next(&mut self, port: Port, effects: &mut Vec<Effect<Command, Output>>) -> bool
+    fn read_next(
+        &mut self,
+        port: Port,
+        now: u64,
+        effects: &mut Vec<Effect<Command, Output>>,
+    ) -> bool
         ensures turns { Turns self.old self.new effects.old.items effects.new.items
-            (reads_next port self.old.core) }
+            (reads_next now port self.old.core) }
         ensures done { result ≡ false → self.new.wanting ≡ false →
-            reads_next port self.new.core ≡ quiet self.new.core }
+            reads_next now port self.new.core ≡ quiet self.new.core }
     {
         let Some(index) = self.place_at(port) else {
             return false;
@@ -74,7 +106,7 @@ impl Serving {
         let connection = &mut self.connections[index];
         let name = connection.name;
         let stage = connection.stage;
-        match connection.next() {
+        match connection.next(now) {
             Front::More => return false,
             Front::Packet(packet) => self.take(port, name, stage, packet, effects),
             Front::Refused(_) | Front::Fault => self.lose(name, stage, effects),
@@ -106,7 +138,7 @@ impl Serving {
         }
         match packet {
             Packet::Connect(connect) => {
-                self.ask_at(port);
+                self.ask_at(port, connect.keep_alive);
                 self.connect(port, name, connect, effects);
             }
             _ => self.close(port),
@@ -179,31 +211,32 @@ impl Serving {
         }
     }
 
-    /// Tells the broker of the connections that were closed for want of memory.
-    pub fn lose_failed(&mut self, effects: &mut Vec<Effect<Command, Output>>)
-        requires { self.old.wanting ≡ true }
-        ensures wanting { self.new.wanting ≡ true }
-        ensures extends { IsPrefixOf effects.old.items effects.new.items }
+    // Has the broker hear of each connection that failed. What it then puts out may close others, of which it
+    // hears too.
+    fn lose_failed(&mut self, effects: &mut Vec<Effect<Command, Output>>)
+        ensures { Turns self.old self.new effects.old.items effects.new.items
+            (loses_all_failed self.old.core) }
     {
-        for index in 0..self.connections.len() {
-            self.lose_if_failed(index, effects);
+        for _connection in 0..self.listed() {
+            if !self.lose_one_failed(effects) {
+                return;
+            }
         }
     }
 
-    // The same of the connection at a place of the list.
-    fn lose_if_failed(&mut self, index: usize, effects: &mut Vec<Effect<Command, Output>>)
-        requires { self.old.wanting ≡ true }
-        ensures wanting { self.new.wanting ≡ true }
-        ensures extends { IsPrefixOf effects.old.items effects.new.items }
+    // Has the broker hear of the first connection that failed: whether there was one.
+    fn lose_one_failed(&mut self, effects: &mut Vec<Effect<Command, Output>>) -> bool
+        ensures turns { Turns self.old self.new effects.old.items effects.new.items
+            (loses_failed self.old.core) }
+        ensures done { result ≡ false → loses_failed self.new.core ≡ quiet self.new.core }
     {
-        let Some(connection) = self.connections.get_mut(index) else {
-            return;
+        let Some(index) = self.place_failed() else {
+            return false;
         };
-        if connection.stage != Stage::Failed {
-            return;
-        }
-        connection.stage = Stage::Over;
+        let connection = &mut self.connections[index];
         let name = connection.name;
+        connection.close();
         self.propose(Command::Lost(name), effects);
+        true
     }
 }

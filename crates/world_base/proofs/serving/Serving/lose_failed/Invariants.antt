@@ -1,6 +1,9 @@
-use Rattle.std.proofs.Common.{◌≡◌, true}
-use Rattle.lists.specs.Lists.{IsPrefixOf}
+use Rattle.world_base.specs.Failing.{loses_failed}
+use Rattle.world_base.specs.Inside.{Turns}
+use Rattle.world_base.specs.Turns.{repeated}
 use Rattle.world_base.proofs.serving.Serving.lose_failed.Given as goal
 
-abbrev pub invariant-loop-index : goal.invariant-loop-index
-invariant-loop-index l = (l.self.wanting ≡ true) × IsPrefixOf l.initial.effects.items l.effects.items
+abbrev pub invariant-loop-connection : goal.invariant-loop-connection
+invariant-loop-connection l =
+    Turns l.initial.self l.self l.initial.effects.items l.effects.items
+    (repeated l._connection loses_failed l.initial.self.core)

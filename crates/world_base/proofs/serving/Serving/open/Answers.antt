@@ -24,5 +24,6 @@ returns c = λ _.
     let free = rw c.deref.ensures.value at (sym c.has_port.ensures ∙ c.if-has_port.false) in
     let named = rw (← c.self.view_is) at c.in-Some.ensures.some in
     let name = rw (← c.self.view_is) at c.in-Some.ensures.named in
-    rw (← c.self.view_is) (opened c.args.port _ c.in-Some.name c.new-connection.result c.push.new.connections.items
-    serving free named name c.new-connection.ensures (c.push.ensures c.if-not-push.false))
+    rw (← c.self.view_is) (opened c.args.port _ c.in-Some.name c.ballot-self-inside.result c.count-self-inside.result
+    c.new-connection.result c.push.new.connections.items serving free named name c.ballot-self-inside.ensures.value
+    c.count-self-inside.ensures.value c.new-connection.ensures (c.push.ensures c.if-not-push.false))

@@ -6,4 +6,4 @@ use Rattle.world_base.proofs.serving.Serving.read.Given as goal
 abbrev pub invariant-loop-packet : goal.invariant-loop-packet
 invariant-loop-packet l =
     Turns l.initial.self l.self l.initial.effects.items l.effects.items
-    (repeated l._packet (reads_next l.initial.port) l.initial.self.core)
+    (repeated l._packet (reads_next l.initial.now l.initial.port) l.initial.self.core)

@@ -8,15 +8,15 @@ use Rattle.world_base.proofs.serving.Serving.read_next.Goals as goal
 
 pub returns-in_default-clause-turns : goal.returns-in_default-clause-turns
 returns-in_default-clause-turns c =
-    nothing_open c.args.port _ _ (none_found (is_open_at c.args.port) _ (sym c.in_default.is ∙ c.place_at.ensures))
+    nothing_open c.args.now c.args.port _ _ (none_found (is_open_at c.args.port) _ (sym c.in_default.is ∙ c.place_at.ensures))
 
 pub returns-in_default-clause-done : goal.returns-in_default-clause-done
 returns-in_default-clause-done c = λ _ _.
-    nothing_next c.args.port _ (none_found (is_open_at c.args.port) _ (sym c.in_default.is ∙ c.place_at.ensures))
+    nothing_next c.args.now c.args.port _ (none_found (is_open_at c.args.port) _ (sym c.in_default.is ∙ c.place_at.ensures))
 
 pub returns-in-More-clause-turns : goal.returns-in-More-clause-turns
 returns-in-More-clause-turns c =
-    more_there c.args.port c.index_mut-connection.result.now c.next.new.self _ _ _
+    more_there c.args.now c.args.port c.index_mut-connection.result.now c.next.new.self _ _ _
     (rw (← c.self.view_is) (found_there (is_open_at c.args.port) _ c.place_at.result c.in-Some.index _
     (rw (← c.self.view_is) at c.place_at.ensures) c.in-Some.is c.index_mut-connection.ensures.value))
     c.in-More.ensures
@@ -29,12 +29,12 @@ returns-in-More-clause-done c = λ _ _.
     let behind : Running = record {
       core = record {
         replica = c.self.inside.replica;
-        accepted = c.self.inside.accepted;
+        last_name = record { ballot = c.self.inside.last_ballot; count = c.self.inside.last_count };
         connections = slice_set c.self.inside.connections.items c.in-Some.index c.next.new.self;
       };
       wanting = c.self.inside.wanting;
     } in
-    more_next c.args.port c.index_mut-connection.result.now c.next.new.self c.args.self.now behind
+    more_next c.args.now c.args.port c.index_mut-connection.result.now c.next.new.self c.args.self.now behind
     (rw (← c.self.view_is) (found_there (is_open_at c.args.port) _ c.place_at.result c.in-Some.index _
     (rw (← c.self.view_is) at c.place_at.ensures) c.in-Some.is c.index_mut-connection.ensures.value))
     c.in-More.ensures
@@ -44,7 +44,7 @@ returns-in-More-clause-done c = λ _ _.
 
 pub returns-in-Packet-clause-turns : goal.returns-in-Packet-clause-turns
 returns-in-Packet-clause-turns c =
-    packet_there c.args.port c.index_mut-connection.result.now c.next.new.self c.in-Packet.packet _ _ _ _ _
+    packet_there c.args.now c.args.port c.index_mut-connection.result.now c.next.new.self c.in-Packet.packet _ _ _ _ _
     (rw (← c.self.view_is) (found_there (is_open_at c.args.port) _ c.place_at.result c.in-Some.index _
     (rw (← c.self.view_is) at c.place_at.ensures) c.in-Some.is c.index_mut-connection.ensures.value))
     c.in-Packet.ensures
@@ -55,7 +55,7 @@ returns-in-Packet-clause-turns c =
 
 pub returns-in-Refused-clause-turns : goal.returns-in-Refused-clause-turns
 returns-in-Refused-clause-turns c =
-    gone_there c.args.port c.index_mut-connection.result.now c.next.new.self c.next.result _ _ _ _ _
+    gone_there c.args.now c.args.port c.index_mut-connection.result.now c.next.new.self c.next.result _ _ _ _ _
     (rw (← c.self.view_is) (found_there (is_open_at c.args.port) _ c.place_at.result c.in-Some.index _
     (rw (← c.self.view_is) at c.place_at.ensures) c.in-Some.is c.index_mut-connection.ensures.value))
     c.next.ensures c.in-Refused.is

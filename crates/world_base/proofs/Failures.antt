@@ -1,0 +1,33 @@
+-- Failures.antt: the first connection that failed, and that the broker hears of it.
+use Rattle.std.proofs.Common.{◌≡◌, List, Some, None, refl, subst}
+use Rattle.std.specs.List.{find}
+use Rattle.broker_model.specs.declared.command.Command.{Command}
+use Rattle.broker_model.specs.declared.command.Command.TheVariants as commands
+use Rattle.broker_model.specs.declared.command.Output.{Output}
+use Rattle.ballot.specs.Effect.{Effect}
+use Rattle.world_base.specs.declared.connection.Connection.{Connection}
+use Rattle.world_base.specs.Connections.{has_failed}
+use Rattle.world_base.specs.Core.{CoreState, Turn}
+use Rattle.world_base.specs.Failing.{closes_failed, loses_failed}
+use Rattle.world_base.specs.Inside.{Running, Turns}
+use Rattle.world_base.specs.Turns.{quiet, proposes}
+use Rattle.world_base.proofs.TurnsJoin.{turns_idle, turns_behind}
+
+-- none failed
+pub failed_next : (core : CoreState) → find has_failed core.connections ≡ None → loses_failed core ≡ quiet core
+unfolding loses_failed
+failed_next core none = rw none refl
+
+pub failed_none : (r : Running) (out : List (Effect Command Output)) → find has_failed r.core.connections ≡ None →
+    Turns r r out out (loses_failed r.core)
+unfolding loses_failed
+failed_none r out none = subst (λ (t : Turn). Turns r r out out t) (rw none refl) (turns_idle r out)
+
+-- one did
+pub failed_one : (c : Connection) (a b r : Running) (x y : List (Effect Command Output)) →
+    find has_failed a.core.connections ≡ Some c → b ≡ record a { core = closes_failed a.core } →
+    Turns b r x y (proposes (commands.Lost c.name) b.core) → Turns a r x y (loses_failed a.core)
+unfolding loses_failed
+failed_one c a b r x y found shut turns =
+    subst (λ (t : Turn). Turns a r x y t) (rw found refl)
+    (turns_behind a b r x y (closes_failed a.core) (proposes (commands.Lost c.name)) shut turns)

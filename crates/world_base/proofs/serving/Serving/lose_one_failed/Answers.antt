@@ -1,0 +1,26 @@
+use Rattle.std.proofs.Common.{sym, ◌∙◌}
+use Rattle.world_base.specs.Connections.{closed, has_failed}
+use Rattle.world_base.proofs.Changes.{there}
+use Rattle.world_base.proofs.Failures.{failed_none, failed_next, failed_one}
+use Rattle.world_base.proofs.Places.{none_found, found_there}
+use Rattle.world_base.proofs.serving.Serving.lose_one_failed.Goals as goal
+
+pub returns-in_default-clause-turns : goal.returns-in_default-clause-turns
+returns-in_default-clause-turns c =
+    failed_none c.args.self.now c.args.effects.now.items
+    (none_found has_failed c.args.self.now.core.connections (sym c.in_default.is ∙ c.place_failed.ensures))
+
+pub returns-in_default-clause-done : goal.returns-in_default-clause-done
+returns-in_default-clause-done c = λ _.
+    failed_next c.args.self.now.core
+    (none_found has_failed c.args.self.now.core.connections (sym c.in_default.is ∙ c.place_failed.ensures))
+
+pub returns-clause-turns : goal.returns-clause-turns
+returns-clause-turns c =
+    failed_one c.index_mut-connection.result.now _ _ _ _ _
+    (rw (← c.self.view_is) (found_there has_failed _ c.place_failed.result c.in-Some.index _
+    (rw (← c.self.view_is) at c.place_failed.ensures) c.in-Some.is c.index_mut-connection.ensures.value))
+    (rw (← c.self.view_is) (there has_failed closed _ c.place_failed.result c.in-Some.index
+    c.index_mut-connection.result.now c.close.new.self (rw (← c.self.view_is) at c.place_failed.ensures) c.in-Some.is
+    c.index_mut-connection.ensures.value c.close.ensures))
+    c.propose.ensures.turns
