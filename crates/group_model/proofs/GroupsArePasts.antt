@@ -1,5 +1,5 @@
 -- The replicas of a group went through a past.
-use Rattle.std.proofs.Common.{◌≡◌, ℕ, List, [], ◌∷◌, ◌++◌, Option, Some, None, refl, ap, ◌∙◌, subst}
+use Rattle.std.proofs.Common.{◌≡◌, ℕ, List, [], ◌∷◌, ◌++◌, Option, Some, None, refl, sym, ap, ◌∙◌, subst}
 use Rattle.lists.specs.Lists.{Each, In}
 use Rattle.lists.specs.Lists.In.{here, there}
 use Rattle.ballot.specs.Config.{Config}
@@ -9,17 +9,19 @@ use Rattle.broker_base.specs.Output.{Output}
 use Rattle.agreement.specs.MasterState.{AssignRefusal, MasterState, master_behind, opening_master, refusal}
 use Rattle.agreement.specs.Past.{Moment, Past, opening_moment}
 use Rattle.agreement.specs.Past.Past.{began, went_on}
+use Rattle.agreement.specs.Proposals.{taken_of}
 use Rattle.agreement.specs.Steps.{world_behind}
 use Rattle.agreement.specs.Steps.MayHappen.{master_assigns, master_hears}
 use Rattle.agreement.specs.World.{World}
 use Rattle.world_base.specs.Core.{rules}
 use Rattle.group_model.specs.Group.{Group, moment_of, opening_group, with_master}
-use Rattle.group_model.specs.Goes.{MayGo, behind_assign, groups_of, put_in_step}
+use Rattle.group_model.specs.Goes.{MayGo, all_put, behind_assign, groups_of, put_in_step}
 use Rattle.group_model.specs.Goes.MayGo.{node_acts, master_assigns as assigns, master_hears as hears_master}
 use Rattle.group_model.specs.Goes.Went.{opened, then_went}
-use Rattle.group_model.specs.Pasts.{GroupsArePasts}
+use Rattle.group_model.specs.Pasts.{GroupsArePasts, packets_in}
 use Rattle.group_model.proofs.MovesHappen.{Further}
 use Rattle.group_model.proofs.RunsHappen.{runs_happen}
+use Rattle.group_model.proofs.Packets.{packets_join}
 use Rattle.group_model.proofs.Placed.{opened_replicas}
 
 abbrev at_moment : MasterState → World State Command Output → Moment State Command Output
@@ -37,12 +39,12 @@ assigned_as g config None = refl
 
 goes_on : (config : Config) (g h : Group) (step : MayGo g h) (earlier : List (Moment State Command Output)) (came : Past rules config (moment_of g ∷ earlier))
     → Further came (moment_of h) (put_in_step step)
-goes_on config g h (node_acts n core deed turn run at is sent) earlier came = runs_happen g n core turn run at sent config earlier came
+goes_on config g h (node_acts n core deed turn run at is first sent) earlier came = runs_happen g n core turn run at sent config earlier came
 goes_on config g h (assigns wanted) earlier came =
     subst (λ z. Further came z []) (assigned_as g wanted (refusal g.master wanted))
-    (record { before = moment_of g ∷ earlier; past = went_on came (master_assigns wanted); proposed = refl; kept = λ z i. there i })
+    (record { before = moment_of g ∷ earlier; past = went_on came (master_assigns wanted); proposed = refl; taken = λ x. packets_join x (taken_of came) []; kept = λ z i. there i })
 goes_on config g h (hears_master from ballot sent) earlier came =
-    record { before = moment_of g ∷ earlier; past = went_on came (master_hears from ballot sent); proposed = refl; kept = λ z i. there i }
+    record { before = moment_of g ∷ earlier; past = went_on came (master_hears from ballot sent); proposed = refl; taken = λ x. packets_join x (taken_of came) []; kept = λ z i. there i }
 
 seen_still : {old new : List (Moment State Command Output)} (groups : List Group) → ((z : Moment State Command Output) → In z old → In z new)
     → Each (λ h. In (moment_of h) old) groups → Each (λ h. In (moment_of h) new) groups
@@ -50,7 +52,7 @@ seen_still [] kept all = tt
 seen_still (h ∷ groups) kept all = (kept (moment_of h) all.0, seen_still groups kept all.1)
 
 pub groups_are_pasts : GroupsArePasts
-groups_are_pasts nodes config g (opened can) = record { earlier = []; past = began nodes can (opens_as nodes config); proposed = refl; seen = (here, tt) }
+groups_are_pasts nodes config g (opened can) = record { earlier = []; past = began nodes can (opens_as nodes config); proposed = refl; taken = λ x. refl; seen = (here, tt) }
 groups_are_pasts nodes config h (then_went {g = g} went step) =
     let so_far = groups_are_pasts nodes config g went in
     let further = goes_on config g h step so_far.earlier so_far.past in
@@ -58,5 +60,7 @@ groups_are_pasts nodes config h (then_went {g = g} went step) =
       earlier = further.before;
       past = further.past;
       proposed = further.proposed ∙ ap (λ l. l ++ put_in_step step) so_far.proposed;
+      taken = λ x.
+          further.taken x ∙ ap (λ l. l ++ packets_in x (put_in_step step)) (so_far.taken x) ∙ sym (packets_join x (all_put went) (put_in_step step));
       seen = (here, seen_still (groups_of went) further.kept so_far.seen);
     }

@@ -1,5 +1,9 @@
 pub mod Placed
 pub mod Replicas
+pub mod Packets
 pub mod MovesHappen
 pub mod RunsHappen
 pub mod GroupsArePasts
+pub mod PutsInBallot
+pub mod NamesInGroups
+pub mod Ordered

@@ -1,5 +1,5 @@
 -- Each move of a node is one event among replicas, or none.
-use Rattle.std.proofs.Common.{inl, ◌≡◌, ℕ, Bool, true, false, if◌then◌else◌, nat_lt, List, [], ◌∷◌, ◌++◌, length, Some, slice_get, slice_set, map, refl, sym, ap, ◌∙◌, subst}
+use Rattle.std.proofs.Common.{inl, ◌≡◌, ℕ, Bool, true, false, ◌&&◌, if◌then◌else◌, nat_lt, List, [], ◌∷◌, ◌++◌, length, Some, slice_get, slice_set, map, refl, sym, ap, ◌∙◌, subst}
 use Rattle.std.proofs.lemmas.List.{append-nil}
 use Rattle.lists.specs.Lists.{In}
 use Rattle.lists.specs.Lists.In.{there}
@@ -17,25 +17,29 @@ use Rattle.broker_base.specs.State.{State}
 use Rattle.broker_base.specs.Command.{Command}
 use Rattle.broker_base.specs.Command.TheVariants as commands
 use Rattle.broker_base.specs.Output.{Output}
+use Rattle.broker_base.specs.Connection.{ConnectionName}
+use Rattle.story.specs.Story.{is_packet_of}
 use Rattle.agreement.specs.MasterState.{MasterState}
 use Rattle.agreement.specs.Past.{Moment, Past}
 use Rattle.agreement.specs.Past.Past.{went_on}
-use Rattle.agreement.specs.Proposals.{proposal_by, proposals_of}
+use Rattle.agreement.specs.Proposals.{proposal_by, proposals_of, taken_by, taken_of}
 use Rattle.agreement.specs.Steps.{MayHappen, MayTake}
 use Rattle.agreement.specs.Steps.MayHappen.{node_takes, node_stops}
 use Rattle.agreement.specs.World.{World, messages, outputs}
 use Rattle.agreement.specs.World.{moved as moved_world}
-use Rattle.world_base.specs.declared.item.Port.{Port}
 use Rattle.world_base.specs.Core.{CoreState, Turn, rules, serves}
+use Rattle.world_base.specs.Failing.{closes_failed}
 use Rattle.world_base.specs.Reading.{changes}
-use Rattle.world_base.specs.Turns.{drives, heard, moved, proposes, quiet}
+use Rattle.world_base.specs.Turns.{drives, has_room, heard, moved, proposes, quiet}
 use Rattle.world_base.specs.Connections.{asked, closed, holding, left_with}
 use Rattle.world_base.specs.Reading.{refused}
 use Rattle.node_model.specs.Moves.{Moves, is_proposal}
-use Rattle.node_model.specs.Moves.Moves.{hears, opens_one, holds, reads_first, reads_later, closes, refuses, loses_one, crashes, settles, hands}
+use Rattle.node_model.specs.Moves.Moves.{hears, opens_one, holds, reads_first, reads_later, closes, refuses, loses_one, loses_next, crashes, settles, hands}
 use Rattle.node_model.specs.Puts.{given_in}
 use Rattle.group_model.specs.Group.{Group, behind_turn, moment_of, replica_of}
 use Rattle.group_model.specs.Goes.{InputWasSent, WasSent, put_in_move}
+use Rattle.group_model.specs.Pasts.{packets_in}
+use Rattle.group_model.proofs.Packets.{AreTaken, HasRoomFor, none_taken, packets_join, proposal_taken}
 use Rattle.group_model.proofs.Placed.{get_mapped, messages_kept, set_mapped, set_same}
 use Rattle.group_model.proofs.Replicas.{changes_keep, hands_keeps, moved_replica, opens_keeps, room_serves, serving_runs, settles_keeps}
 
@@ -48,6 +52,7 @@ pub record Further {config : Config} {a : Moment State Command Output} {earlier 
   pub before : List (Moment State Command Output)
   pub past : Past rules config (b ∷ before)
   pub proposed : proposals_of past ≡ proposals_of came ++ put
+  pub taken : (x : ConnectionName) → packets_in x (taken_of past) ≡ packets_in x (taken_of came) ++ packets_in x put
   pub kept : (z : Moment State Command Output) → In z (a ∷ earlier) → In z (b ∷ before)
 
 -- ---- moments of groups
@@ -86,7 +91,13 @@ stays_as_it_is g n core turn at same none_sent =
 no_event : (config : Config) (a b : Moment State Command Output) (earlier : List (Moment State Command Output)) (came : Past rules config (a ∷ earlier)) → a ≡ b
     → Further came b []
 no_event config a b earlier came same =
-    subst (λ z. Further came z []) same (record { before = earlier; past = came; proposed = sym (append-nil (proposals_of came)); kept = λ z i. i })
+    subst (λ z. Further came z []) same (record {
+      before = earlier;
+      past = came;
+      proposed = sym (append-nil (proposals_of came));
+      taken = λ x. sym (append-nil (packets_in x (taken_of came)));
+      kept = λ z i. i;
+    })
 
 -- ---- one step of a replica
 
@@ -103,10 +114,17 @@ one_step : (g : Group) (n : ℕ) (core : CoreState) (turn : Turn) (input : Input
     → replica_of turn.core ≡ (replica_step rules (replica_of core) input).state
     → messages turn.messages ≡ messages (replica_step rules (replica_of core) input).effects
     → outputs given ≡ outputs (replica_step rules (replica_of core) input).effects
+    → AreTaken (replica_of core) (replica_step rules (replica_of core) input).state input
     → Further came (moment_of (behind_turn g n turn given)) (proposal_by (replica_of core) input)
-one_step g n core turn input given config earlier came at runs may replica sent left =
+one_step g n core turn input given config earlier came at runs may replica sent left took =
     subst (λ z. Further came z (proposal_by (replica_of core) input)) (behind_is g n turn given outcome.effects outcome.state replica sent left)
-    (record { before = moment_of g ∷ earlier; past = went_on came step; proposed = refl; kept = λ z i. there i })
+    (record {
+      before = moment_of g ∷ earlier;
+      past = went_on came step;
+      proposed = refl;
+      taken = λ x. packets_join x (taken_of came) (taken_by (replica_of core) outcome.state input) ∙ ap (λ l. packets_in x (taken_of came) ++ l) (took x);
+      kept = λ z i. there i;
+    })
   where
     outcome : Outcome State Command Output
     outcome = replica_step rules (replica_of core) input
@@ -120,7 +138,7 @@ one_stop : (g : Group) (n : ℕ) (core : CoreState) (turn : Turn) (config : Conf
     → turn.messages ≡ [] → Further came (moment_of (behind_turn g n turn [])) []
 one_stop g n core turn config earlier came at replica none_sent =
     subst (λ z. Further came z []) (behind_is g n turn [] [] (halted rules (replica_of core)) replica (ap messages none_sent) refl)
-    (record { before = moment_of g ∷ earlier; past = went_on came step; proposed = refl; kept = λ z i. there i })
+    (record { before = moment_of g ∷ earlier; past = went_on came step; proposed = refl; taken = λ x. packets_join x (taken_of came) []; kept = λ z i. there i })
   where
     step : MayHappen rules g.master (moment_of g).world g.master (moved_world (moment_of g).world n (halted rules (replica_of core)) [])
     step = node_stops n (replica_of core) (get_mapped replica_of g.nodes n core at)
@@ -140,21 +158,23 @@ quietly g n core later at same config earlier came =
 
 -- a command is put to the replica of a node that serves
 put_happens : (g : Group) (n : ℕ) (core between : CoreState) (command : Command) → slice_get g.nodes n ≡ Some core → between.replica ≡ core.replica
-    → serves core ≡ true → (config : Config) (earlier : List (Moment State Command Output)) (came : Past rules config (moment_of g ∷ earlier))
+    → serves core ≡ true → HasRoomFor core command → (config : Config) (earlier : List (Moment State Command Output))
+    (came : Past rules config (moment_of g ∷ earlier))
     → Further came (moment_of (behind_turn g n (proposes command between) (proposed rules (replica_of core) command).effects)) (((replica_of core).joined, command) ∷ [])
 unfolding proposes
-put_happens g n core between command at same serving config earlier came =
+put_happens g n core between command at same serving room config earlier came =
     rw (serving_between)
     (one_step g n core (moved (proposed rules (replica_of between) command) between) (Proposes command) (proposed rules (replica_of core) command).effects
     config earlier came at (serving_runs core serving) tt
     (moved_replica (proposed rules (replica_of between) command) between ∙ ap (λ r. (proposed rules r command).state) same_replica)
-    (messages_kept (proposed rules (replica_of between) command).effects ∙ ap (λ r. messages (proposed rules r command).effects) same_replica) refl)
+    (messages_kept (proposed rules (replica_of between) command).effects ∙ ap (λ r. messages (proposed rules r command).effects) same_replica) refl
+    (proposal_taken core command serving room))
   where
     same_replica : replica_of between ≡ replica_of core
     same_replica = ap (λ (r : CountedReplica State Command). r.state) same
 
     serving_between : serves between ≡ true
-    serving_between = ap (λ (r : CountedReplica State Command). serves (let k : CoreState = record { replica = r; accepted = 0; connections = [] } in k)) same ∙ serving
+    serving_between = ap (λ (r : CountedReplica State Command). serves (let k : CoreState = record { replica = r; last_name = record { ballot = 0; count = 0 }; connections = [] } in k)) same ∙ serving
 
 -- a replica that has stopped does nothing
 heard_stopped : (b : Bool) (r : ReplicaState State Command) (input : Input Command) → b ≡ true
@@ -197,38 +217,54 @@ heard_happens g n core input at other sent config earlier came = by (replica_of 
         (none_put input other)
         (one_step g n core (moved (replica_step rules (replica_of core) input) core) input (replica_step rules (replica_of core) input).effects config earlier came at e
         (may input other sent) (moved_replica (replica_step rules (replica_of core) input) core)
-        (messages_kept (replica_step rules (replica_of core) input).effects) refl))
+        (messages_kept (replica_step rules (replica_of core) input).effects) refl (none_taken (replica_of core) (replica_step rules (replica_of core) input).state input other)))
 
 -- where the node does not serve, nobody hears that a connection is lost
-lost_unheard : (g : Group) (n : ℕ) (core : CoreState) (port : Port) (command : Command) → slice_get g.nodes n ≡ Some core → serves core ≡ false → (config : Config)
-    (earlier : List (Moment State Command Output)) (came : Past rules config (moment_of g ∷ earlier))
-    → Further came (moment_of (behind_turn g n (proposes command (changes port closed core)) [])) []
+lost_unheard : (g : Group) (n : ℕ) (core between : CoreState) (command : Command) → slice_get g.nodes n ≡ Some core → between.replica ≡ core.replica
+    → serves core ≡ false → (config : Config) (earlier : List (Moment State Command Output)) (came : Past rules config (moment_of g ∷ earlier))
+    → Further came (moment_of (behind_turn g n (proposes command between) [])) []
 unfolding proposes
-lost_unheard g n core port command at none_served config earlier came =
-    rw (ap (λ (r : CountedReplica State Command). serves (let k : CoreState = record { replica = r; accepted = 0; connections = [] } in k)) (changes_keep port closed core) ∙ none_served)
-    (quietly g n core (changes port closed core) at (changes_keep port closed core) config earlier came)
+lost_unheard g n core between command at same none_served config earlier came =
+    rw (ap (λ (r : CountedReplica State Command). serves (let k : CoreState = record { replica = r; last_name = record { ballot = 0; count = 0 }; connections = [] } in k)) same ∙ none_served)
+    (quietly g n core between at same config earlier came)
+
+-- where it serves, the broker hears it
+lost_happens : (g : Group) (n : ℕ) (core between : CoreState) (command : Command) → slice_get g.nodes n ≡ Some core → between.replica ≡ core.replica
+    → HasRoomFor core command → (b : Bool) → serves core ≡ b → (config : Config) (earlier : List (Moment State Command Output))
+    (came : Past rules config (moment_of g ∷ earlier))
+    → Further came (moment_of (behind_turn g n (proposes command between) (if b then (proposed rules (replica_of core) command).effects else [])))
+    (map (λ put. ((replica_of core).joined, put)) (if b then command ∷ [] else []))
+lost_happens g n core between command at same room true e = put_happens g n core between command at same e room
+lost_happens g n core between command at same room false e = lost_unheard g n core between command at same e
+
+room_is : (core : CoreState) → has_room core ≡ true → nat_lt (length (replica_of core).log) most_places ≡ true
+room_is core room = right_true (serves core) (nat_lt (length (replica_of core).log) most_places) room
+  where
+    right_true : (a b : Bool) → (a && b) ≡ true → b ≡ true
+    right_true true b e = e
+    right_true false b e = absurd cc
+
+-- a loss is no packet
+lost_is_none : (core : CoreState) (name : ConnectionName) → HasRoomFor core (commands.Lost name)
+lost_is_none core name x is = let e : is_packet_of (commands.Lost name) x ≡ true = is in absurd cc
 
 pub moves_happen : (g : Group) (n : ℕ) (core : CoreState) (turn : Turn) (m : Moves core turn) → slice_get g.nodes n ≡ Some core → WasSent g n m → Happens g n core turn m
 moves_happen g n core turn (hears input other) at sent = heard_happens g n core input at other sent
 moves_happen g n core turn (opens_one port) at sent = quietly g n core _ at (opens_keeps port core)
 moves_happen g n core turn (holds port piece) at sent = quietly g n core _ at (changes_keep port (holding piece) core)
-moves_happen g n core turn (reads_first port c connect rest is_at first is room) at sent =
-    put_happens g n core (changes port asked (changes port (left_with rest) core)) _ at
-    (changes_keep port asked (changes port (left_with rest) core) ∙ changes_keep port (left_with rest) core)
-    (room_serves core (nat_lt (length (replica_of core).log) most_places) room)
-moves_happen g n core turn (reads_later port c packet rest is_at later is room) at sent =
-    put_happens g n core (changes port (left_with rest) core) _ at (changes_keep port (left_with rest) core)
-    (room_serves core (nat_lt (length (replica_of core).log) most_places) room)
+moves_happen g n core turn (reads_first now port c connect rest is_at first is room) at sent =
+    put_happens g n core (changes port (asked connect.keep_alive) (changes port (left_with now rest) core)) _ at
+    (changes_keep port (asked connect.keep_alive) (changes port (left_with now rest) core) ∙ changes_keep port (left_with now rest) core)
+    (room_serves core (nat_lt (length (replica_of core).log) most_places) room) (λ x is_one. room_is core room)
+moves_happen g n core turn (reads_later now port c packet rest is_at later is room) at sent =
+    put_happens g n core (changes port (left_with now rest) core) _ at (changes_keep port (left_with now rest) core)
+    (room_serves core (nat_lt (length (replica_of core).log) most_places) room) (λ x is_one. room_is core room)
 moves_happen g n core turn (closes port) at sent = quietly g n core _ at (changes_keep port closed core)
 moves_happen g n core turn (refuses port c code is_at first is) at sent = quietly g n core _ at (changes_keep port (refused code) core)
-moves_happen g n core turn (loses_one port c is_at was_asked) at sent = by (serves core) refl
-  where
-    by : (b : Bool) → serves core ≡ b → (config : Config) (earlier : List (Moment State Command Output)) (came : Past rules config (moment_of g ∷ earlier))
-        → Further came (moment_of (behind_turn g n (proposes (commands.Lost c.name) (changes port closed core))
-        (if b then (proposed rules (replica_of core) (commands.Lost c.name)).effects else [])))
-        (map (λ command. ((replica_of core).joined, command)) (if b then commands.Lost c.name ∷ [] else []))
-    by true e = put_happens g n core (changes port closed core) _ at (changes_keep port closed core) e
-    by false e = lost_unheard g n core port (commands.Lost c.name) at e
+moves_happen g n core turn (loses_one port c is_at was_asked) at sent =
+    lost_happens g n core (changes port closed core) (commands.Lost c.name) at (changes_keep port closed core) (lost_is_none core c.name) (serves core) refl
+moves_happen g n core turn (loses_next c is_at) at sent =
+    lost_happens g n core (closes_failed core) (commands.Lost c.name) at refl (lost_is_none core c.name) (serves core) refl
 moves_happen g n core turn crashes at sent = λ config earlier came. one_stop g n core _ config earlier came at refl refl
 moves_happen g n core turn settles at sent = quietly g n core _ at (settles_keeps core)
 moves_happen g n core turn (hands port) at sent = quietly g n core _ at (hands_keeps port core)

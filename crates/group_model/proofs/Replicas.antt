@@ -13,7 +13,7 @@ use Rattle.broker_base.specs.Output.TheVariants as outputs
 use Rattle.broker_base.specs.Connection.{ConnectionName}
 use Rattle.world_base.specs.declared.item.Port.{Port}
 use Rattle.world_base.specs.declared.connection.Connection.{Connection}
-use Rattle.world_base.specs.Connections.{closed, putting}
+use Rattle.world_base.specs.Connections.{closed, put_out}
 use Rattle.world_base.specs.Core.{CoreState, serves}
 use Rattle.world_base.specs.Handing.{hands_over, left_by, listed_at}
 use Rattle.world_base.specs.Reading.{changes}
@@ -31,10 +31,10 @@ pub opens_keeps : (port : Port) (core : CoreState) → (opens port core).replica
 unfolding opens
 opens_keeps port core = by _ _ _
   where
-    by : (b : Bool) (n : ℕ) (cs : List Connection)
-        → (let k : CoreState = if b then record core { accepted = n; connections = cs } else core in k).replica ≡ core.replica
-    by true n cs = refl
-    by false n cs = refl
+    by : (b : Bool) (name : ConnectionName) (cs : List Connection)
+        → (let k : CoreState = if b then record core { last_name = name; connections = cs } else core in k).replica ≡ core.replica
+    by true name cs = refl
+    by false name cs = refl
 
 pub settles_keeps : (core : CoreState) → (settled core).replica ≡ core.replica
 unfolding settled
@@ -55,7 +55,7 @@ unfolding changes_named
 named_keeps name f core = refl
 
 served_keeps : (core : CoreState) (e : Effect Command Output) → (served core e).replica ≡ core.replica
-served_keeps core (Out place (outputs.Send name packet)) = named_keeps name (putting (spelling packet)) core
+served_keeps core (Out place (outputs.Send name packet)) = named_keeps name (put_out (spelling packet)) core
 served_keeps core (Out place (outputs.Close name)) = named_keeps name closed core
 served_keeps core (To receiver message) = refl
 

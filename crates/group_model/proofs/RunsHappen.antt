@@ -9,16 +9,18 @@ use Rattle.broker_base.specs.State.{State}
 use Rattle.broker_base.specs.Command.{Command}
 use Rattle.broker_base.specs.Output.{Output}
 use Rattle.agreement.specs.Past.{Moment, Past}
-use Rattle.agreement.specs.Proposals.{proposals_of}
+use Rattle.agreement.specs.Proposals.{proposals_of, taken_of}
 use Rattle.agreement.specs.World.{messages, outputs}
 use Rattle.world_base.specs.Core.{CoreState, Turn, rules}
 use Rattle.node_model.specs.Moves.{Moves, Runs, and_then}
-use Rattle.node_model.specs.Moves.Moves.{hears, opens_one, holds, reads_first, reads_later, closes, refuses, loses_one, crashes, settles, hands}
+use Rattle.node_model.specs.Moves.Moves.{hears, opens_one, holds, reads_first, reads_later, closes, refuses, loses_one, loses_next, crashes, settles, hands}
 use Rattle.node_model.specs.Moves.Runs.{rests, goes_on}
 use Rattle.node_model.specs.Puts.{given_in}
 use Rattle.group_model.specs.Group.{Group, behind_turn, moment_of}
 use Rattle.group_model.specs.Goes.{AllWasSent, InputWasSent, WasSent, all_given, put_in_move, put_in_run}
 use Rattle.group_model.proofs.MovesHappen.{Further, moves_happen, quietly}
+use Rattle.group_model.specs.Pasts.{packets_in}
+use Rattle.group_model.proofs.Packets.{packets_join}
 use Rattle.group_model.proofs.Placed.{get_of_set, set_twice}
 use Rattle.lists.proofs.Members.{in_left}
 use Rattle.agreement.proofs.Effects.{messages-append, outputs-append}
@@ -36,11 +38,12 @@ sent_still : (g : Group) (n : ℕ) (turn : Turn) (given : List (Effect Command O
 sent_still g n turn given (hears input is) i = input_still g n turn given input i
 sent_still g n turn given (opens_one port) i = tt
 sent_still g n turn given (holds port piece) i = tt
-sent_still g n turn given (reads_first port c connect rest at first is room) i = tt
-sent_still g n turn given (reads_later port c packet rest at later is room) i = tt
+sent_still g n turn given (reads_first now port c connect rest at first is room) i = tt
+sent_still g n turn given (reads_later now port c packet rest at later is room) i = tt
 sent_still g n turn given (closes port) i = tt
 sent_still g n turn given (refuses port c code at first is) i = tt
 sent_still g n turn given (loses_one port c at asked) i = tt
+sent_still g n turn given (loses_next c at) i = tt
 sent_still g n turn given crashes i = tt
 sent_still g n turn given settles i = tt
 sent_still g n turn given (hands port) i = tt
@@ -73,6 +76,9 @@ both came put more first next =
       before = next.before;
       past = next.past;
       proposed = next.proposed ∙ ap (λ l. l ++ more) first.proposed ∙ append_assoc (proposals_of came) put more;
+      taken = λ x.
+          next.taken x ∙ ap (λ l. l ++ packets_in x more) (first.taken x) ∙ append_assoc (packets_in x (taken_of came)) (packets_in x put) (packets_in x more)
+          ∙ ap (λ l. packets_in x (taken_of came) ++ l) (sym (packets_join x put more));
       kept = λ z i. next.kept z (first.kept z i);
     }
 

@@ -12,9 +12,10 @@ use Rattle.broker_base.specs.Output.{Output}
 use Rattle.agreement.specs.MasterState.{AssignRefusal, activated, assigned, master_behind, refusal}
 use Rattle.agreement.specs.World.{can_open}
 use Rattle.world_base.specs.Core.{CoreState, Turn, serves}
+use Rattle.node_model.specs.Hearing.{HearsAtFirst}
 use Rattle.node_model.specs.Moves.{Deed, Moves, Runs, done}
 use Rattle.node_model.specs.Moves.Runs.{rests, goes_on}
-use Rattle.node_model.specs.Moves.Moves.{hears, reads_first, reads_later, loses_one}
+use Rattle.node_model.specs.Moves.Moves.{hears, reads_first, reads_later, loses_one, loses_next}
 use Rattle.node_model.specs.Puts.{given_in}
 use Rattle.group_model.specs.Group.{Group, behind_turn, opening_group, replica_of, told_by_master, with_master}
 
@@ -39,9 +40,10 @@ all_given (goes_on m run) = given_in m ++ all_given run
 
 -- the commands that a node puts to its replica in a move
 abbrev pub commands_put : {core : CoreState} {turn : Turn} → Moves core turn → List Command
-commands_put (reads_first port c connect rest at first is room) = commands.Connect c.name connect.client connect.clean ∷ []
-commands_put (reads_later port c packet rest at later is room) = commands.Packet c.name packet ∷ []
+commands_put (reads_first now port c connect rest at first is room) = commands.Connect c.name connect.client connect.clean ∷ []
+commands_put (reads_later now port c packet rest at later is room) = commands.Packet c.name packet ∷ []
 commands_put {core = core} (loses_one port c at asked) = if serves core then commands.Lost c.name ∷ [] else []
+commands_put {core = core} (loses_next c at) = if serves core then commands.Lost c.name ∷ [] else []
 commands_put _ = []
 
 -- .. each with the ballot that it has joined then
@@ -58,9 +60,9 @@ behind_assign g config (Some why) = g
 behind_assign g config None = told_by_master g (assigned Command g.master config)
 
 pub data MayGo (g : Group) : Group → Type 0 where
-  -- a node takes an item, or hands over bytes, by these moves
+  -- a node takes an item, or hands over bytes, by these moves; what its replica hears comes first
   node_acts : (n : ℕ) (core : CoreState) (deed : Deed) (turn : Turn) (run : Runs core turn) → slice_get g.nodes n ≡ Some core →
-      turn ≡ done deed core → AllWasSent g n run → MayGo g (behind_turn g n turn (all_given run))
+      turn ≡ done deed core → HearsAtFirst run → AllWasSent g n run → MayGo g (behind_turn g n turn (all_given run))
   -- an administrator asks for another configuration
   master_assigns : (config : Config) →
       MayGo g (with_master (behind_assign g config (refusal g.master config)) (master_behind g.master config (refusal g.master config)))
@@ -76,7 +78,7 @@ pub data Went (nodes : ℕ) (config : Config) : Group → Type 0 where
 
 -- what nodes put to their replicas, each command with the ballot that its node had joined, in order
 abbrev pub put_in_step : {g h : Group} → MayGo g h → List (ℕ × Command)
-put_in_step (node_acts n core deed turn run at is sent) = put_in_run run
+put_in_step (node_acts n core deed turn run at is first sent) = put_in_run run
 put_in_step (master_assigns config) = []
 put_in_step (master_hears from ballot sent) = []
 

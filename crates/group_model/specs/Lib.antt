@@ -1,3 +1,5 @@
 pub mod Group
 pub mod Goes
 pub mod Pasts
+pub mod Ballots
+pub mod Order

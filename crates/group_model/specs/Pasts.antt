@@ -1,22 +1,29 @@
 -- That the replicas of a group went through a past as agreement is proved of.
-use Rattle.std.specs.Prelude.{◌≡◌, ℕ, List, ◌∷◌}
+use Rattle.std.specs.Prelude.{◌≡◌, ℕ, List, ◌∷◌, filter}
 use Rattle.lists.specs.Lists.{Each, In}
 use Rattle.ballot.specs.Config.{Config}
 use Rattle.broker_base.specs.State.{State}
 use Rattle.broker_base.specs.Command.{Command}
 use Rattle.broker_base.specs.Output.{Output}
+use Rattle.broker_base.specs.Connection.{ConnectionName}
+use Rattle.story.specs.Story.{is_packet_of}
 use Rattle.agreement.specs.Past.{Moment, Past}
-use Rattle.agreement.specs.Proposals.{proposals_of}
+use Rattle.agreement.specs.Proposals.{proposals_of, taken_of}
 use Rattle.world_base.specs.Core.{rules}
 use Rattle.group_model.specs.Group.{Group, moment_of}
 use Rattle.group_model.specs.Goes.{Went, all_put, groups_of}
 
--- A past whose last moment are the replicas of the group. In it these commands were proposed, and each of these earlier
--- groups has its moment.
+-- the packets of a connection among commands, each with a ballot
+abbrev pub packets_in : ConnectionName → List (ℕ × Command) → List (ℕ × Command)
+packets_in x rows = filter (λ (row : ℕ × Command). is_packet_of row.1 x) rows
+
+-- A past whose last moment are the replicas of the group. In it these commands were proposed, of them the packets of all
+-- connections were taken, and each of these earlier groups has its moment.
 pub record HasPast (config : Config) (g : Group) (groups : List Group) (put : List (ℕ × Command)) : Type 0 where
   pub earlier : List (Moment State Command Output)
   pub past : Past rules config (moment_of g ∷ earlier)
   pub proposed : proposals_of past ≡ put
+  pub taken : (x : ConnectionName) → packets_in x (taken_of past) ≡ packets_in x put
   pub seen : Each (λ (h : Group). In (moment_of h) (moment_of g ∷ earlier)) groups
 
 abbrev pub GroupsArePasts : Type 0

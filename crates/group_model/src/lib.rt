@@ -4,4 +4,4 @@
 
 mod laws;
 
-pub use laws::groups_are_pasts;
+pub use laws::{groups_are_pasts, groups_keep_the_order, puts_in_the_ballot_of_the_name};

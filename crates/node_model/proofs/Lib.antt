@@ -1,4 +1,6 @@
 pub mod StepsMove
+pub mod NamesInOrder
+pub mod JoinedGrows
 pub mod Views
 pub mod ByVerdict
 pub mod Kept
@@ -12,3 +14,13 @@ pub mod ShutByOutputs
 pub mod ShutByChanges
 pub mod NothingOnClosed
 pub mod NewNames
+pub mod Weights
+pub mod EachKept
+pub mod SilentEnd
+pub mod LossesTold
+pub mod ReplicaStays
+pub mod ReplicaLeads
+pub mod MovesOfReplica
+pub mod OpenBehind
+pub mod NamesInMoves
+pub mod NamesKeepTheirBallot

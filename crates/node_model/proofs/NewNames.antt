@@ -11,7 +11,7 @@ use Rattle.world_base.specs.Handing.{hands_over, left_by}
 use Rattle.world_base.specs.Step.{next_name, opens, settled}
 use Rattle.node_model.specs.Closed.{listed_named}
 use Rattle.node_model.specs.Ends.{IsOrderly}
-use Rattle.node_model.specs.Moves.Moves.{hears, opens_one, holds, reads_first, reads_later, closes, refuses, loses_one, crashes, settles, hands}
+use Rattle.node_model.specs.Moves.Moves.{hears, opens_one, holds, reads_first, reads_later, closes, refuses, loses_one, loses_next, crashes, settles, hands}
 use Rattle.node_model.specs.Names.{IsNextName, NewNamesAreOfTheBallot}
 use Rattle.node_model.proofs.Views.{found_passes, one_changed, one_mapped, some_none, view, view_of_changed, view_of_others}
 use Rattle.node_model.proofs.Kept.{left_true, named, named_kept}
@@ -27,7 +27,7 @@ stays_away bytes (Some c) (Some e) d (stays_open a b f) none there = some_none c
 stays_away bytes (Some c) (Some e) d (is_shut front a b f g) none there = some_none c none
 stays_away bytes (Some c) (Some e) d (was_shut a b f) none there = some_none c none
 
-opened_new : (x : ConnectionName) (port : Port) (core : CoreState) (d : Connection) → listed_named x core ≡ None → listed_named x (opens port core) ≡ Some d
+pub opened_new : (x : ConnectionName) (port : Port) (core : CoreState) (d : Connection) → listed_named x core ≡ None → listed_named x (opens port core) ≡ Some d
     → IsNextName core x
 unfolding opens
 opened_new x port core d none there = by ((serves core && not (list_any (is_at port) core.connections)) && is_connection_name (next_name core)) refl there
@@ -39,7 +39,7 @@ opened_new x port core d none there = by ((serves core && not (list_any (is_at p
         record { leads = leads; ballot = sym (ap (λ (y : ConnectionName). y.ballot) same); count = sym (ap (λ (y : ConnectionName). y.count) same) }
 
     by : (b : Bool) → ((serves core && not (list_any (is_at port) core.connections)) && is_connection_name (next_name core)) ≡ b
-        → listed_named x (let k : CoreState = if b then record core { accepted = core.accepted + 1; connections = core.connections ++ fresh port (next_name core) ∷ [] } else core in k) ≡ Some d
+        → listed_named x (let k : CoreState = if b then record core { last_name = next_name core; connections = core.connections ++ fresh port (next_name core) ∷ [] } else core in k) ≡ Some d
         → IsNextName core x
     by true serving f =
         now (found_pushed (named x) core.connections (fresh port (next_name core)) d f)
@@ -84,13 +84,14 @@ new_names_are_of_the_ballot core turn settles o x d none there = absurd (settled
 new_names_are_of_the_ballot core turn (hands port) o x d none there = absurd (handed_away x port core d o none there)
 new_names_are_of_the_ballot core turn (hears input other) o x d none there = absurd (stays_away _ _ _ d (move_shuts core turn (hears input other) o x tt) none there)
 new_names_are_of_the_ballot core turn (holds port piece) o x d none there = absurd (stays_away _ _ _ d (move_shuts core turn (holds port piece) o x tt) none there)
-new_names_are_of_the_ballot core turn (reads_first port c connect rest at first is room) o x d none there =
-    absurd (stays_away _ _ _ d (move_shuts core turn (reads_first port c connect rest at first is room) o x tt) none there)
-new_names_are_of_the_ballot core turn (reads_later port c packet rest at later is room) o x d none there =
-    absurd (stays_away _ _ _ d (move_shuts core turn (reads_later port c packet rest at later is room) o x tt) none there)
+new_names_are_of_the_ballot core turn (reads_first now port c connect rest at first is room) o x d none there =
+    absurd (stays_away _ _ _ d (move_shuts core turn (reads_first now port c connect rest at first is room) o x tt) none there)
+new_names_are_of_the_ballot core turn (reads_later now port c packet rest at later is room) o x d none there =
+    absurd (stays_away _ _ _ d (move_shuts core turn (reads_later now port c packet rest at later is room) o x tt) none there)
 new_names_are_of_the_ballot core turn (closes port) o x d none there = absurd (stays_away _ _ _ d (move_shuts core turn (closes port) o x tt) none there)
 new_names_are_of_the_ballot core turn (refuses port c code at first is) o x d none there =
     absurd (stays_away _ _ _ d (move_shuts core turn (refuses port c code at first is) o x tt) none there)
 new_names_are_of_the_ballot core turn (loses_one port c at asked_before) o x d none there =
     absurd (stays_away _ _ _ d (move_shuts core turn (loses_one port c at asked_before) o x tt) none there)
+new_names_are_of_the_ballot core turn (loses_next c at) o x d none there = absurd (stays_away _ _ _ d (move_shuts core turn (loses_next c at) o x tt) none there)
 new_names_are_of_the_ballot core turn crashes o x d none there = absurd (stays_away _ _ _ d (move_shuts core turn crashes o x tt) none there)

@@ -7,7 +7,10 @@ use Rattle.broker_base.specs.Connection.{ConnectionName, is_connection_name}
 use Rattle.story.specs.Sends.{sends_to}
 use Rattle.world_base.specs.declared.item.Port.{Port}
 use Rattle.world_base.specs.declared.connection.Connection.{Connection}
-use Rattle.world_base.specs.Connections.{asked, closed, fresh, handed, holding, is_at, is_listed, is_over, left_with, changed}
+use Rattle.world_base.specs.Connections.{asked, closed, fresh, handed, has_failed, holding, is_at, is_failed, is_listed, is_over, left_with, changed}
+use Rattle.world_base.specs.declared.connection.Stage.{Stage}
+use Rattle.world_base.specs.declared.connection.Stage.TheVariants.{Awaits, Proposed, Over, Failed}
+use Rattle.world_base.specs.Failing.{closes_failed}
 use Rattle.world_base.specs.Core.{CoreState, Turn, serves}
 use Rattle.world_base.specs.Handing.{hands_over, left_by}
 use Rattle.world_base.specs.Reading.{changes}
@@ -16,11 +19,11 @@ use Rattle.node_model.specs.Closed.{IsClosedBy, NothingOnClosed, listed_named, r
 use Rattle.node_model.specs.Closed.IsClosedBy.{was_closed, closes_now}
 use Rattle.node_model.specs.Ends.{IsOrderly}
 use Rattle.node_model.specs.Moves.{Moves}
-use Rattle.node_model.specs.Moves.Moves.{hears, opens_one, holds, reads_first, reads_later, closes, refuses, loses_one, crashes, settles, hands}
+use Rattle.node_model.specs.Moves.Moves.{hears, opens_one, holds, reads_first, reads_later, closes, refuses, loses_one, loses_next, crashes, settles, hands}
 use Rattle.node_model.specs.Puts.{given_in, outputs_of, spelled}
 use Rattle.node_model.proofs.Views.{one_changed, one_mapped, same_some, view, view_of_changed, view_of_others}
-use Rattle.node_model.proofs.Kept.{live, named, named_kept}
-use Rattle.node_model.proofs.Shut.{Shuts, all, found_filtered, found_mapped, listed_open, shuts_closed, shuts_joined, shuts_same}
+use Rattle.node_model.proofs.Kept.{live, named, named_kept, stays_failed}
+use Rattle.node_model.proofs.Shut.{Shuts, all, found_filtered, found_mapped, listed_open, shuts_closed, shuts_joined, shuts_same, shuts_tested}
 use Rattle.node_model.proofs.Shut.Shuts.{nobody, stays_open, is_shut, was_shut}
 use Rattle.node_model.proofs.ShutByOutputs.{driven_shuts}
 use Rattle.node_model.proofs.ShutByChanges.{asked_shuts, at_orderly, at_replica, at_shuts, behind_shuts, holding_shuts, left_shuts, refused_shuts, with_room}
@@ -74,7 +77,7 @@ opened_closed x port core d e over =
     old (inl f) = f
     old (inr f) = let g = ap (λ (z : Connection). is_over z.stage) f in cc
 
-    by : (b : Bool) → listed_named x (let k : CoreState = if b then record core { accepted = core.accepted + 1; connections = core.connections ++ fresh port (next_name core) ∷ [] } else core in k) ≡ Some d
+    by : (b : Bool) → listed_named x (let k : CoreState = if b then record core { last_name = next_name core; connections = core.connections ++ fresh port (next_name core) ∷ [] } else core in k) ≡ Some d
         → listed_named x core ≡ Some d
     by true f = old (found_pushed (named x) core.connections (fresh port (next_name core)) d f)
     by false f = f
@@ -129,6 +132,16 @@ handed_closed x port core d o e over = by (find (is_at port) core.connections) r
 
 -- ---- the law
 
+-- one that failed is closed
+failed_dead : (c : Connection) → has_failed c ≡ true → live c ≡ false
+failed_dead c failed = by c.stage failed
+  where
+    by : (s : Stage) → is_failed s ≡ true → not (is_over s) ≡ false
+    by Awaits e = cc
+    by Proposed e = cc
+    by Over e = cc
+    by Failed e = refl
+
 -- a move that opens nothing, and does not settle or hand over
 abbrev pub Changes : {core : CoreState} {turn : Turn} → Moves core turn → Type 0
 Changes (opens_one port) = ⊥
@@ -141,17 +154,17 @@ pub move_shuts : (core : CoreState) (turn : Turn) (m : Moves core turn) → IsOr
     → Shuts (sent_in x m) (listed_named x core) (listed_named x turn.core)
 move_shuts core turn (hears input other) o x may = driven_shuts x input core o
 move_shuts core turn (holds port piece) o x may = at_shuts x port (holding piece) core o (λ z. refl) (holding_shuts piece)
-move_shuts core turn (reads_first port c connect rest at first is room) o x may =
-    let left : CoreState = changes port (left_with rest) core in
-    let ordered = at_orderly port (left_with rest) core o (λ z. refl) in
-    with_room x _ core (changes port asked left) room
-    (behind_shuts x _ core (changes port asked left)
-    (shuts_joined (at_shuts x port (left_with rest) core o (λ z. refl) (left_shuts rest)) (at_shuts x port asked left ordered (λ z. refl) asked_shuts))
-    (at_orderly port asked left ordered (λ z. refl)) (at_replica port asked left ∙ at_replica port (left_with rest) core))
-move_shuts core turn (reads_later port c packet rest at later is room) o x may =
-    with_room x _ core (changes port (left_with rest) core) room
-    (behind_shuts x _ core (changes port (left_with rest) core) (at_shuts x port (left_with rest) core o (λ z. refl) (left_shuts rest))
-    (at_orderly port (left_with rest) core o (λ z. refl)) (at_replica port (left_with rest) core))
+move_shuts core turn (reads_first now port c connect rest at first is room) o x may =
+    let left : CoreState = changes port (left_with now rest) core in
+    let ordered = at_orderly port (left_with now rest) core o (λ z. refl) in
+    with_room x _ core (changes port (asked connect.keep_alive) left) room
+    (behind_shuts x _ core (changes port (asked connect.keep_alive) left)
+    (shuts_joined (at_shuts x port (left_with now rest) core o (λ z. refl) (left_shuts now rest)) (at_shuts x port (asked connect.keep_alive) left ordered (λ z. refl) (asked_shuts connect.keep_alive)))
+    (at_orderly port (asked connect.keep_alive) left ordered (λ z. refl)) (at_replica port (asked connect.keep_alive) left ∙ at_replica port (left_with now rest) core))
+move_shuts core turn (reads_later now port c packet rest at later is room) o x may =
+    with_room x _ core (changes port (left_with now rest) core) room
+    (behind_shuts x _ core (changes port (left_with now rest) core) (at_shuts x port (left_with now rest) core o (λ z. refl) (left_shuts now rest))
+    (at_orderly port (left_with now rest) core o (λ z. refl)) (at_replica port (left_with now rest) core))
 move_shuts core turn (closes port) o x may = at_shuts x port closed core o (λ z. refl) (λ z lives. shuts_closed z)
 move_shuts core turn (refuses port c code at first is) o x may =
     subst (λ l. Shuts (spelled l) (listed_named x core) (listed_named x turn.core)) (sym (append-nil (refusal_in x {core = core} (refuses port c code at first is))))
@@ -159,6 +172,9 @@ move_shuts core turn (refuses port c code at first is) o x may =
 move_shuts core turn (loses_one port c at asked_before) o x may =
     behind_shuts x _ core (changes port closed core) (at_shuts x port closed core o (λ z. refl) (λ z lives. shuts_closed z))
     (at_orderly port closed core o (λ z. refl)) (at_replica port closed core)
+move_shuts core turn (loses_next c at) o x may =
+    behind_shuts x _ core (closes_failed core)
+    (shuts_tested x has_failed closed core.connections (o.names x) (λ z. refl) (λ z failed. was_shut (failed_dead z failed) refl refl)) (stays_failed core o).orderly refl
 move_shuts core turn crashes o x may = shuts_same (listed_named x core)
 move_shuts core turn (opens_one port) o x may = absurd may
 move_shuts core turn settles o x may = absurd may
@@ -175,12 +191,13 @@ nothing_on_closed core turn settles o x d there over = settled_closed x core d o
 nothing_on_closed core turn (hands port) o x d there over = was_closed d (handed_closed x port core d o there over) over refl
 nothing_on_closed core turn (hears input other) o x d there over = changed_closed core turn (hears input other) o x d tt there over
 nothing_on_closed core turn (holds port piece) o x d there over = changed_closed core turn (holds port piece) o x d tt there over
-nothing_on_closed core turn (reads_first port c connect rest at first is room) o x d there over =
-    changed_closed core turn (reads_first port c connect rest at first is room) o x d tt there over
-nothing_on_closed core turn (reads_later port c packet rest at later is room) o x d there over =
-    changed_closed core turn (reads_later port c packet rest at later is room) o x d tt there over
+nothing_on_closed core turn (reads_first now port c connect rest at first is room) o x d there over =
+    changed_closed core turn (reads_first now port c connect rest at first is room) o x d tt there over
+nothing_on_closed core turn (reads_later now port c packet rest at later is room) o x d there over =
+    changed_closed core turn (reads_later now port c packet rest at later is room) o x d tt there over
 nothing_on_closed core turn (closes port) o x d there over = changed_closed core turn (closes port) o x d tt there over
 nothing_on_closed core turn (refuses port c code at first is) o x d there over = changed_closed core turn (refuses port c code at first is) o x d tt there over
 nothing_on_closed core turn (loses_one port c at asked_before) o x d there over =
     changed_closed core turn (loses_one port c at asked_before) o x d tt there over
+nothing_on_closed core turn (loses_next c at) o x d there over = changed_closed core turn (loses_next c at) o x d tt there over
 nothing_on_closed core turn crashes o x d there over = changed_closed core turn crashes o x d tt there over

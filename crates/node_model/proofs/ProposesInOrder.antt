@@ -1,5 +1,6 @@
 -- All that a node ever does: what it proposes for a connection is a beginning of what its client writes.
-use Rattle.std.proofs.Common.{◌≡◌, ◌+◌, ℕ, suc, List, [], ◌∷◌, ◌++◌, length, refl, sym, ap, ◌∙◌, subst, filter, append_assoc, arith}
+use Rattle.std.proofs.Common.{◌≡◌, ◌⊎◌, inl, inr, ◌≤◌, ◌<◌, ◌+◌, ℕ, suc, List, [], ◌∷◌, ◌++◌, length, refl, sym, ap, ◌∙◌, subst, filter, append_assoc, arith}
+use Rattle.std.proofs.lemmas.Bool.{cases_lt}
 use Rattle.std.proofs.lemmas.List.{append-nil, length-append}
 use Rattle.std.proofs.lemmas.List.Elements.{filter-append}
 use Rattle.packet.specs.declared.packet.Packet.{Packet}
@@ -11,7 +12,7 @@ use Rattle.story.specs.Story.{is_packet_of, command_of}
 use Rattle.world_base.specs.Core.{CoreState, Turn, opening_core}
 use Rattle.node_model.specs.Moves.{Moves, Runs}
 use Rattle.node_model.specs.Moves.Runs.{rests, goes_on}
-use Rattle.node_model.specs.Ends.{IsOrderly, IsEnd, ReadsOn, NodesProposeInOrder, proposal_of, proposals_of, came_on, bytes_on, commands_of}
+use Rattle.node_model.specs.Ends.{Precedes, IsOrderly, IsEnd, ReadsOn, NodesProposeInOrder, proposal_of, proposals_of, came_on, bytes_on, commands_of}
 use Rattle.node_model.specs.Ends.IsEnd.{not_yet, is_open, is_over}
 use Rattle.node_model.proofs.ReadsInOrder.{nodes_read_in_order}
 
@@ -55,16 +56,27 @@ runs_read x {core = core} (goes_on {first = first} m run) written read under_way
     one_then x m run written read (bytes_on x run ++ later) later one
     (runs_read x run written (read ++ one.more) (bytes_on x run ++ later) later all.0 one.end refl)
 
-opening_orderly : (id : ℕ) (config : Config) → IsOrderly (opening_core id config)
-opening_orderly id config = record { names = λ x. tt; given = tt }
+pub opening_orderly : (id : ℕ) (config : Config) → IsOrderly (opening_core id config)
+opening_orderly id config = record { names = λ x. tt; given = tt; within = nothing_above (opening_core id config).replica.state.joined }
+  where
+    nothing_above : (n : ℕ) → 0 ≤ n
+    nothing_above n = omega arith
 
 front_of : (x : ConnectionName) (core : CoreState) (written read : List Packet) (later : List ℕ) → IsEnd x core written read later → IsPrefixOf read written
 front_of x core written read later (not_yet below none piped) = record { rest = written; is = ap (λ (ps : List Packet). ps ++ written) (sym none) }
 front_of x core written read later (is_open c given is first piped) = record { rest = piped.rest; is = piped.is }
 front_of x core written read later (is_over given is front) = front
 
+-- before the first connection all names are still to come
+still_to_come : (x : ConnectionName) → 0 < x.count → Precedes (record { ballot = 0; count = 0 }) x
+still_to_come x some = by (cases_lt 0 x.ballot)
+  where
+    by : (0 < x.ballot) ⊎ (x.ballot ≤ 0) → Precedes (record { ballot = 0; count = 0 }) x
+    by (inl above) = inl above
+    by (inr none) = inr (omega (arith, none), some)
+
 pub nodes_propose_in_order : NodesProposeInOrder
 nodes_propose_in_order id config turn run x written later some joined =
     let z = runs_read x run written [] (bytes_on x run ++ later) later (opening_orderly id config)
-    (not_yet some refl (record { rest = written; is = refl; joined = joined; sound = refl })) refl in
+    (not_yet (still_to_come x some) refl (record { rest = written; is = refl; joined = joined; sound = refl })) refl in
     record { read = z.more; end = z.end; front = front_of x turn.core written z.more later z.end; proposed = z.proposed }

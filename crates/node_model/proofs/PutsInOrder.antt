@@ -1,5 +1,5 @@
 -- What a node puts out on a connection are the packets that name it, in order.
-use Rattle.std.proofs.Common.{◌≡◌, ℕ, Bool, true, false, ◌&&◌, if◌then◌else◌, List, [], ◌∷◌, ◌++◌, Option, Some, None, refl, sym, ap, ◌∙◌, subst, filter, map, append_assoc}
+use Rattle.std.proofs.Common.{◌≡◌, ◌+◌, ℕ, nat_le, length, Bool, true, false, ◌&&◌, if◌then◌else◌, List, [], ◌∷◌, ◌++◌, Option, Some, None, refl, sym, ap, ◌∙◌, subst, filter, map, append_assoc, arith}
 use Rattle.std.specs.List.{find, fold}
 use Rattle.std.proofs.lemmas.List.{append-nil}
 use Rattle.packet.specs.declared.packet.Packet.{Packet}
@@ -21,17 +21,20 @@ use Rattle.world_base.specs.declared.connection.Connection.{Connection}
 use Rattle.ballot.specs.Protocol.{Input}
 use Rattle.ballot.specs.Replica.{CountedReplica, ReplicaState}
 use Rattle.world_base.specs.Step.{settled, opens}
-use Rattle.world_base.specs.Connections.{asked, holding, left_with, is_listed, is_at, is_open_at, is_open_named, closed, putting, changed}
+use Rattle.world_base.specs.Connections.{asked, holding, left_with, is_listed, is_at, is_open_at, is_open_named, most_pending, closed, failing, put_out, putting, changed}
 use Rattle.world_base.specs.Core.{CoreState, Turn, rules, serves}
+use Rattle.world_base.specs.Failing.{closes_failed}
 use Rattle.world_base.specs.Reading.{changes, refused}
 use Rattle.world_base.specs.Turns.{quiet, moved, served, proposes, changes_named, drives, heard, has_room}
 use Rattle.node_model.specs.Ends.{AtMostOne, IsOrderly, open_named}
 use Rattle.node_model.specs.Moves.{Moves}
-use Rattle.node_model.specs.Moves.Moves.{hears, opens_one, holds, reads_first, reads_later, closes, refuses, loses_one, crashes, settles, hands}
+use Rattle.node_model.specs.Moves.Moves.{hears, opens_one, holds, reads_first, reads_later, closes, refuses, loses_one, loses_next, crashes, settles, hands}
 use Rattle.node_model.specs.Puts.{PutsInOrder, given_in, is_handing, outputs_of, spelled}
 use Rattle.node_model.proofs.Opening.{open_stays}
 use Rattle.node_model.proofs.Views.{view, if_live, found_passes, same_some, some_none, none_changes, view_of_others, view_of_changed, view_filtered}
-use Rattle.node_model.proofs.Kept.{live, named, named_kept, left_true, stays_served, all_closed, unlisted_dead, changed_orderly}
+use Rattle.node_model.proofs.Kept.{live, named, named_kept, left_true, stays_served, all_closed, unlisted_dead, changed_orderly, failing_over, put_out_name, same_of_failed, stays_failed, heard_up}
+use Rattle.node_model.proofs.JoinedGrows.{Up, up_proposed}
+use Rattle.node_model.proofs.NamesInOrder.{same_le}
 
 -- these bytes are put out behind, if the connection stays open
 pub data Puts (bytes : List ℕ) : Option Connection → Option Connection → Type 0 where
@@ -49,14 +52,14 @@ puts_joined {a = a} {b = b} (put {c = c} e) (put f) = put (f ∙ ap (λ (l : Lis
 puts_joined (put e) gone = gone
 puts_joined gone nobody = gone
 
-if_still : (bytes : List ℕ) (c d : Connection) (b : Bool) → d.pending ≡ c.pending ++ bytes → Puts bytes (Some c) (if b then Some d else None)
-if_still bytes c d true e = put e
+if_still : (bytes : List ℕ) (c d : Connection) (b : Bool) → (b ≡ true → d.pending ≡ c.pending ++ bytes) → Puts bytes (Some c) (if b then Some d else None)
+if_still bytes c d true e = put (e refl)
 if_still bytes c d false e = gone
 
 -- one that is found is changed
 puts_found : (x : ConnectionName) (test : Connection → Bool) (f : Connection → Connection) (cs : List Connection) (c : Connection) (bytes : List ℕ) → AtMostOne (named x) cs
     → ((d : Connection) → test d ≡ true → live d ≡ true) → ((d : Connection) → (f d).name ≡ d.name) → find test cs ≡ Some c → named x c ≡ true
-    → (f c).pending ≡ c.pending ++ bytes → Puts bytes (view live (named x) cs) (view live (named x) (changed test f cs))
+    → (live (f c) ≡ true → (f c).pending ≡ c.pending ++ bytes) → Puts bytes (view live (named x) cs) (view live (named x) (changed test f cs))
 puts_found x test f cs c bytes one lives name found is pending =
     let two = view_of_changed live (named x) test f cs c one lives (named_kept x f name) found is in
     subst (λ (o : Option Connection). Puts bytes o (view live (named x) (changed test f cs))) (sym two.0)
@@ -74,7 +77,7 @@ puts_nothing : (x : ConnectionName) (test : Connection → Bool) (f : Connection
 puts_nothing x test f cs one lives name pending = by (find test cs) refl
   where
     on : (c : Connection) → find test cs ≡ Some c → (b : Bool) → named x c ≡ b → Puts [] (view live (named x) cs) (view live (named x) (changed test f cs))
-    on c e true is = puts_found x test f cs c [] one lives name e is (pending c ∙ sym (append-nil c.pending))
+    on c e true is = puts_found x test f cs c [] one lives name e is (λ _. pending c ∙ sym (append-nil c.pending))
     on c e false other = puts_others x test f cs c name e other
 
     by : (o : Option Connection) → find test cs ≡ o → Puts [] (view live (named x) cs) (view live (named x) (changed test f cs))
@@ -83,8 +86,17 @@ puts_nothing x test f cs one lives name pending = by (find test cs) refl
 
 -- ---- one output
 
+-- bytes are put out, where the connection stays open
+put_out_pending : (bytes : List ℕ) (c : Connection) → live (put_out bytes c) ≡ true → (put_out bytes c).pending ≡ c.pending ++ bytes
+put_out_pending bytes c = by (nat_le (length c.pending + length bytes) most_pending)
+  where
+    by : (b : Bool) → live (if b then putting bytes c else failing c) ≡ true
+        → (let d : Connection = if b then putting bytes c else failing c in d).pending ≡ c.pending ++ bytes
+    by true lives = refl
+    by false lives = let over = failing_over c in absurd cc
+
 sent_list : (x name : ConnectionName) (bytes : List ℕ) (cs : List Connection) → AtMostOne (named x) cs → (b : Bool) → same_connection x name ≡ b
-    → Puts (if b then bytes else []) (view live (named x) cs) (view live (named x) (changed (is_open_named name) (putting bytes) cs))
+    → Puts (if b then bytes else []) (view live (named x) cs) (view live (named x) (changed (is_open_named name) (put_out bytes) cs))
 sent_list x name bytes cs one true e = by (find (is_open_named x) cs) refl
   where
     same : x ≡ name
@@ -97,15 +109,16 @@ sent_list x name bytes cs one true e = by (find (is_open_named x) cs) refl
     right true b t = t
     right false b t = absurd cc
 
-    there : (o : Option Connection) → find (is_open_named x) cs ≡ o → Puts bytes (view live (named x) cs) (view live (named x) (changed (is_open_named x) (putting bytes) cs))
+    there : (o : Option Connection) → find (is_open_named x) cs ≡ o → Puts bytes (view live (named x) cs) (view live (named x) (changed (is_open_named x) (put_out bytes) cs))
     there None f =
-        subst (λ (l : List Connection). Puts bytes (view live (named x) cs) (view live (named x) l)) (sym (none_changes (is_open_named x) (putting bytes) cs f))
+        subst (λ (l : List Connection). Puts bytes (view live (named x) cs) (view live (named x) l)) (sym (none_changes (is_open_named x) (put_out bytes) cs f))
         (subst (λ (o : Option Connection). Puts bytes o o) (sym f) nobody)
     there (Some c) f =
-        puts_found x (is_open_named x) (putting bytes) cs c bytes one lives (λ d. refl) f (right (live c) (named x c) (found_passes (is_open_named x) cs c f)) refl
+        puts_found x (is_open_named x) (put_out bytes) cs c bytes one lives (put_out_name bytes) f (right (live c) (named x c) (found_passes (is_open_named x) cs c f))
+        (put_out_pending bytes c)
 
-    by : (o : Option Connection) → find (is_open_named x) cs ≡ o → Puts bytes (view live (named x) cs) (view live (named x) (changed (is_open_named name) (putting bytes) cs))
-    by o f = subst (λ (y : ConnectionName). Puts bytes (view live (named x) cs) (view live (named x) (changed (is_open_named y) (putting bytes) cs))) same (there o f)
+    by : (o : Option Connection) → find (is_open_named x) cs ≡ o → Puts bytes (view live (named x) cs) (view live (named x) (changed (is_open_named name) (put_out bytes) cs))
+    by o f = subst (λ (y : ConnectionName). Puts bytes (view live (named x) cs) (view live (named x) (changed (is_open_named y) (put_out bytes) cs))) same (there o f)
 sent_list x name bytes cs one false e = by (find (is_open_named name) cs) refl
   where
     right : (a b : Bool) → (a && b) ≡ true → b ≡ true
@@ -119,13 +132,13 @@ sent_list x name bytes cs one false e = by (find (is_open_named name) cs) refl
         sym itself ∙ e
     flip c is false f = refl
 
-    by : (o : Option Connection) → find (is_open_named name) cs ≡ o → Puts [] (view live (named x) cs) (view live (named x) (changed (is_open_named name) (putting bytes) cs))
+    by : (o : Option Connection) → find (is_open_named name) cs ≡ o → Puts [] (view live (named x) cs) (view live (named x) (changed (is_open_named name) (put_out bytes) cs))
     by None f =
-        subst (λ (l : List Connection). Puts [] (view live (named x) cs) (view live (named x) l)) (sym (none_changes (is_open_named name) (putting bytes) cs f))
+        subst (λ (l : List Connection). Puts [] (view live (named x) cs) (view live (named x) l)) (sym (none_changes (is_open_named name) (put_out bytes) cs f))
         (puts_none (view live (named x) cs))
     by (Some c) f =
         let is = same_name c.name name (right (live c) (named name c) (found_passes (is_open_named name) cs c f)) in
-        puts_others x (is_open_named name) (putting bytes) cs c (λ d. refl) f (flip c is (named x c) refl)
+        puts_others x (is_open_named name) (put_out bytes) cs c (put_out_name bytes) f (flip c is (named x c) refl)
 
 -- ---- what a step of the replica gives
 
@@ -156,11 +169,11 @@ served_puts x core (Out place (outputs.Close name)) o =
     named_puts x name closed core []
     (puts_nothing x (is_open_named name) closed core.connections (o.names x) (λ d e. left_true (live d) (named name d) e) (λ d. refl) (λ d. refl))
 served_puts x core (Out place (outputs.Send name packet)) o =
-    named_puts x name (putting (spelling packet)) core (spelled (if same_connection x name then packet ∷ [] else []))
+    named_puts x name (put_out (spelling packet)) core (spelled (if same_connection x name then packet ∷ [] else []))
     (by (same_connection x name) (sent_list x name (spelling packet) core.connections (o.names x) (same_connection x name) refl))
   where
     after : Option Connection
-    after = view live (named x) (changed (is_open_named name) (putting (spelling packet)) core.connections)
+    after = view live (named x) (changed (is_open_named name) (put_out (spelling packet)) core.connections)
 
     by : (b : Bool) → Puts (if b then spelling packet else []) (open_named x core) after → Puts (spelled (if b then packet ∷ [] else [])) (open_named x core) after
     by true h = subst (λ (l : List ℕ). Puts l (open_named x core) after) (sym (append-nil (spelling packet))) h
@@ -173,16 +186,17 @@ delivered_puts x core (e ∷ effects) o =
     subst (λ (l : List ℕ). Puts l (open_named x core) (open_named x (fold served (served core e) effects))) (sym (bytes_join x e effects))
     (puts_joined (served_puts x core e o) (delivered_puts x (served core e) effects (stays_served core e o).orderly))
 
-moved_puts : (x : ConnectionName) (outcome : Outcome State Command Output) (core : CoreState) → IsOrderly core
+moved_puts : (x : ConnectionName) (outcome : Outcome State Command Output) (core : CoreState) → Up core.replica.state outcome → IsOrderly core
     → Puts (bytes_for x outcome.effects) (open_named x core) (open_named x (moved outcome core).core)
-moved_puts x outcome core o =
+moved_puts x outcome core up o =
+    let within = o.within in
     delivered_puts x (let k : CoreState = record core { replica = record core.replica { state = outcome.state } } in k) outcome.effects
-    (record { names = o.names; given = o.given })
+    (record { names = o.names; given = o.given; within = omega (arith, within, up) })
 
 driven_puts : (x : ConnectionName) (input : Input Command) (core : CoreState) → IsOrderly core
     → Puts (bytes_for x (heard input core.replica.state).effects) (open_named x core) (open_named x (drives input core).core)
 unfolding drives
-driven_puts x input core o = moved_puts x (heard input core.replica.state) core o
+driven_puts x input core o = moved_puts x (heard input core.replica.state) core (heard_up input core) o
 
 -- what a proposal gives
 abbrev given_by : Command → Bool → ReplicaState State Command → List (Effect Command Output)
@@ -195,7 +209,7 @@ proposed_puts x command core o = by (serves core)
   where
     by : (b : Bool) → Puts (bytes_for x (given_by command b core.replica.state)) (open_named x core)
         (open_named x (let t : Turn = if b then moved (proposed rules core.replica.state command) core else quiet core in t).core)
-    by true = moved_puts x (proposed rules core.replica.state command) core o
+    by true = moved_puts x (proposed rules core.replica.state command) core (up_proposed rules core.replica.state command) o
     by false = puts_none (open_named x core)
 
 -- ---- moves
@@ -215,7 +229,7 @@ at_puts x port f core o name pending =
 
 at_orderly : (port : Port) (f : Connection → Connection) (core : CoreState) → IsOrderly core → ((d : Connection) → (f d).name ≡ d.name) → IsOrderly (changes port f core)
 unfolding changes
-at_orderly port f core o name = changed_orderly core (changes port f core) (is_open_at port) f o refl refl name
+at_orderly port f core o name = changed_orderly core (changes port f core) (is_open_at port) f o refl refl (same_le core.replica.state.joined) name
 
 at_replica : (port : Port) (f : Connection → Connection) (core : CoreState) → (changes port f core).replica ≡ core.replica
 unfolding changes
@@ -230,7 +244,7 @@ behind_puts x command core between first o same =
     (proposed_puts x command between o))
   where
     given_of : CountedReplica State Command → List (Effect Command Output)
-    given_of r = given_by command (serves (let k : CoreState = record { replica = r; accepted = 0; connections = [] } in k)) r.state
+    given_of r = given_by command (serves (let k : CoreState = record { replica = r; last_name = record { ballot = 0; count = 0 }; connections = [] } in k)) r.state
 
 with_room : (x : ConnectionName) (command : Command) (core between : CoreState) → has_room core ≡ true
     → Puts (bytes_for x (given_by command (serves core) core.replica.state)) (open_named x core) (open_named x (proposes command between).core)
@@ -286,21 +300,24 @@ all_puts : (core : CoreState) (turn : Turn) (m : Moves core turn) → IsOrderly 
 all_puts core turn (hears input other) o no_hand x c there = driven_puts x input core o
 all_puts core turn (opens_one port) o no_hand x c there = opened_puts x port core c o there
 all_puts core turn (holds port piece) o no_hand x c there = at_puts x port (holding piece) core o (λ d. refl) (λ d. refl)
-all_puts core turn (reads_first port k connect rest at first is room) o no_hand x c there =
-    let left : CoreState = changes port (left_with rest) core in
-    let ordered = at_orderly port (left_with rest) core o (λ d. refl) in
-    with_room x _ core (changes port asked left) room
-    (behind_puts x _ core (changes port asked left)
-    (puts_joined (at_puts x port (left_with rest) core o (λ d. refl) (λ d. refl)) (at_puts x port asked left ordered (λ d. refl) (λ d. refl)))
-    (at_orderly port asked left ordered (λ d. refl)) (at_replica port asked left ∙ at_replica port (left_with rest) core))
-all_puts core turn (reads_later port k packet rest at later is room) o no_hand x c there =
-    with_room x _ core (changes port (left_with rest) core) room
-    (behind_puts x _ core (changes port (left_with rest) core) (at_puts x port (left_with rest) core o (λ d. refl) (λ d. refl))
-    (at_orderly port (left_with rest) core o (λ d. refl)) (at_replica port (left_with rest) core))
+all_puts core turn (reads_first now port k connect rest at first is room) o no_hand x c there =
+    let left : CoreState = changes port (left_with now rest) core in
+    let ordered = at_orderly port (left_with now rest) core o (λ d. refl) in
+    with_room x _ core (changes port (asked connect.keep_alive) left) room
+    (behind_puts x _ core (changes port (asked connect.keep_alive) left)
+    (puts_joined (at_puts x port (left_with now rest) core o (λ d. refl) (λ d. refl)) (at_puts x port (asked connect.keep_alive) left ordered (λ d. refl) (λ d. refl)))
+    (at_orderly port (asked connect.keep_alive) left ordered (λ d. refl)) (at_replica port (asked connect.keep_alive) left ∙ at_replica port (left_with now rest) core))
+all_puts core turn (reads_later now port k packet rest at later is room) o no_hand x c there =
+    with_room x _ core (changes port (left_with now rest) core) room
+    (behind_puts x _ core (changes port (left_with now rest) core) (at_puts x port (left_with now rest) core o (λ d. refl) (λ d. refl))
+    (at_orderly port (left_with now rest) core o (λ d. refl)) (at_replica port (left_with now rest) core))
 all_puts core turn (closes port) o no_hand x c there = at_puts x port closed core o (λ d. refl) (λ d. refl)
 all_puts core turn (refuses port k code at first is) o no_hand x c there = refused_puts x port code core o
 all_puts core turn (loses_one port k at proposed_before) o no_hand x c there =
     behind_puts x _ core (changes port closed core) (at_puts x port closed core o (λ d. refl) (λ d. refl)) (at_orderly port closed core o (λ d. refl)) (at_replica port closed core)
+all_puts core turn (loses_next k at) o no_hand x c there =
+    behind_puts x _ core (closes_failed core) (subst (Puts [] (open_named x core)) (sym (same_of_failed x core)) (puts_none (open_named x core)))
+    (stays_failed core o).orderly refl
 all_puts core turn crashes o no_hand x c there = puts_none (open_named x core)
 all_puts core turn settles o no_hand x c there = settled_puts x core
 all_puts core turn (hands port) o no_hand x c there = absurd cc

@@ -1,5 +1,5 @@
 -- What becomes of a connection that may be closed: what a change of one connection of a list makes of it.
-use Rattle.std.proofs.Common.{◌≡◌, ℕ, Bool, true, false, ◌&&◌, if◌then◌else◌, List, [], ◌∷◌, ◌++◌, Option, Some, None, refl, sym, ap, ◌∙◌, subst, filter, map, append_assoc}
+use Rattle.std.proofs.Common.{◌≡◌, ℕ, ◌+◌, nat_le, length, not, Bool, true, false, ◌&&◌, if◌then◌else◌, List, [], ◌∷◌, ◌++◌, Option, Some, None, refl, sym, ap, ◌∙◌, subst, filter, map, append_assoc}
 use Rattle.std.specs.List.{find}
 use Rattle.std.proofs.lemmas.List.{append-nil}
 use Rattle.std.proofs.lemmas.Bool.{both_ways}
@@ -7,10 +7,10 @@ use Rattle.broker_base.specs.Connection.{ConnectionName}
 use Rattle.lists.specs.Lists.{IsPrefixOf}
 use Rattle.lists.proofs.Beginnings.{prefix_then}
 use Rattle.world_base.specs.declared.connection.Connection.{Connection}
-use Rattle.world_base.specs.Connections.{closed, changed}
+use Rattle.world_base.specs.Connections.{closed, changed, failing, most_pending, put_out, putting}
 use Rattle.node_model.specs.Ends.{AtMostOne}
 use Rattle.node_model.proofs.Views.{view, found_each, found_passes, same_some, some_none, none_changes, view_of_others, view_of_changed}
-use Rattle.node_model.proofs.Kept.{live, named, named_kept}
+use Rattle.node_model.proofs.Kept.{failing_over, live, named, named_kept}
 
 -- the connection of a name, open or not
 abbrev pub all : Connection → Bool
@@ -57,6 +57,14 @@ shuts_closed c = by (live c) refl
     by true e = is_shut [] e refl (sym (append-nil c.pending)) (record { rest = []; is = refl })
     by false e = was_shut e refl refl
 
+-- bytes are put out where there is room for them, and else it is closed
+pub put_out_shuts : (bytes : List ℕ) (c : Connection) → live c ≡ true → Shuts bytes (Some c) (Some (put_out bytes c))
+put_out_shuts bytes c lives = by (nat_le (length c.pending + length bytes) most_pending)
+  where
+    by : (b : Bool) → Shuts bytes (Some c) (Some (if b then putting bytes c else failing c))
+    by true = stays_open lives lives refl
+    by false = is_shut [] lives (ap not (failing_over c)) (sym (append-nil c.pending)) (record { rest = bytes; is = refl })
+
 -- ---- a change of one of the list
 
 -- of that name, and of another
@@ -77,19 +85,25 @@ pub shuts_unchanged : (x : ConnectionName) (test : Connection → Bool) (f : Con
 shuts_unchanged x test f cs none =
     subst (λ (l : List Connection). Shuts [] (view all (named x) cs) (view all (named x) l)) (sym (none_changes test f cs none)) (shuts_same (view all (named x) cs))
 
--- a change of an open connection that puts out nothing
-pub shuts_nothing : (x : ConnectionName) (test : Connection → Bool) (f : Connection → Connection) (cs : List Connection) → AtMostOne (named x) cs
-    → ((d : Connection) → test d ≡ true → live d ≡ true) → ((d : Connection) → (f d).name ≡ d.name)
-    → ((d : Connection) → live d ≡ true → Shuts [] (Some d) (Some (f d))) → Shuts [] (view all (named x) cs) (view all (named x) (changed test f cs))
-shuts_nothing x test f cs one lives name each = by (find test cs) refl
+-- a change that puts out nothing
+pub shuts_tested : (x : ConnectionName) (test : Connection → Bool) (f : Connection → Connection) (cs : List Connection) → AtMostOne (named x) cs
+    → ((d : Connection) → (f d).name ≡ d.name) → ((d : Connection) → test d ≡ true → Shuts [] (Some d) (Some (f d)))
+    → Shuts [] (view all (named x) cs) (view all (named x) (changed test f cs))
+shuts_tested x test f cs one name each = by (find test cs) refl
   where
     on : (c : Connection) → find test cs ≡ Some c → (b : Bool) → named x c ≡ b → Shuts [] (view all (named x) cs) (view all (named x) (changed test f cs))
-    on c e true is = shuts_on x test f cs c [] one name e is (each c (lives c (found_passes test cs c e)))
+    on c e true is = shuts_on x test f cs c [] one name e is (each c (found_passes test cs c e))
     on c e false other = shuts_others x test f cs c name e other
 
     by : (o : Option Connection) → find test cs ≡ o → Shuts [] (view all (named x) cs) (view all (named x) (changed test f cs))
     by None e = shuts_unchanged x test f cs e
     by (Some c) e = on c e (named x c) refl
+
+-- a change of an open connection that puts out nothing
+pub shuts_nothing : (x : ConnectionName) (test : Connection → Bool) (f : Connection → Connection) (cs : List Connection) → AtMostOne (named x) cs
+    → ((d : Connection) → test d ≡ true → live d ≡ true) → ((d : Connection) → (f d).name ≡ d.name)
+    → ((d : Connection) → live d ≡ true → Shuts [] (Some d) (Some (f d))) → Shuts [] (view all (named x) cs) (view all (named x) (changed test f cs))
+shuts_nothing x test f cs one lives name each = shuts_tested x test f cs one name (λ d e. each d (lives d e))
 
 -- ---- open, or closed
 

@@ -21,6 +21,7 @@ use Rattle.world_base.specs.Turns.{has_room, proposes}
 use Rattle.node_model.specs.Closed.{listed_named}
 use Rattle.node_model.specs.Ends.{IsOrderly}
 use Rattle.node_model.specs.Puts.{spelled}
+use Rattle.node_model.proofs.NamesInOrder.{same_le}
 use Rattle.node_model.proofs.Views.{found_passes}
 use Rattle.node_model.proofs.Kept.{changed_orderly, left_true, live, named}
 use Rattle.node_model.proofs.Shut.{Shuts, shuts_joined, shuts_nothing, shuts_on, shuts_others}
@@ -37,7 +38,7 @@ at_shuts x port f core o name each =
 
 pub at_orderly : (port : Port) (f : Connection → Connection) (core : CoreState) → IsOrderly core → ((d : Connection) → (f d).name ≡ d.name) → IsOrderly (changes port f core)
 unfolding changes
-at_orderly port f core o name = changed_orderly core (changes port f core) (is_open_at port) f o refl refl name
+at_orderly port f core o name = changed_orderly core (changes port f core) (is_open_at port) f o refl refl (same_le core.replica.state.joined) name
 
 pub at_replica : (port : Port) (f : Connection → Connection) (core : CoreState) → (changes port f core).replica ≡ core.replica
 unfolding changes
@@ -46,11 +47,11 @@ at_replica port f core = refl
 pub holding_shuts : (piece : List ℕ) (d : Connection) → live d ≡ true → Shuts [] (Some d) (Some (holding piece d))
 holding_shuts piece d e = stays_open e e (sym (append-nil d.pending))
 
-pub left_shuts : (rest : List ℕ) (d : Connection) → live d ≡ true → Shuts [] (Some d) (Some (left_with rest d))
-left_shuts rest d e = stays_open e e (sym (append-nil d.pending))
+pub left_shuts : (now : ℕ) (rest : List ℕ) (d : Connection) → live d ≡ true → Shuts [] (Some d) (Some (left_with now rest d))
+left_shuts now rest d e = stays_open e e (sym (append-nil d.pending))
 
-pub asked_shuts : (d : Connection) → live d ≡ true → Shuts [] (Some d) (Some (asked d))
-asked_shuts d e = stays_open e refl (sym (append-nil d.pending))
+pub asked_shuts : (keep_alive : ℕ) (d : Connection) → live d ≡ true → Shuts [] (Some d) (Some (asked keep_alive d))
+asked_shuts keep_alive d e = stays_open e refl (sym (append-nil d.pending))
 
 -- a proposal behind a change of connections
 pub behind_shuts : (x : ConnectionName) (command : Command) (core between : CoreState) → Shuts [] (listed_named x core) (listed_named x between) → IsOrderly between
@@ -62,7 +63,7 @@ behind_shuts x command core between first o same =
     (proposed_shuts x command between o))
   where
     given_of : CountedReplica State Command → List (Effect Command Output)
-    given_of r = given_by command (serves (let k : CoreState = record { replica = r; accepted = 0; connections = [] } in k)) r.state
+    given_of r = given_by command (serves (let k : CoreState = record { replica = r; last_name = record { ballot = 0; count = 0 }; connections = [] } in k)) r.state
 
 pub with_room : (x : ConnectionName) (command : Command) (core between : CoreState) → has_room core ≡ true
     → Shuts (bytes_for x (given_by command (serves core) core.replica.state)) (listed_named x core) (listed_named x (proposes command between).core)

@@ -1,5 +1,6 @@
 -- All that a node does is a run of moves.
-use Rattle.std.proofs.Common.{◌≡◌, ℕ, zero, suc, Bool, true, false, not, ◌&&◌, if◌then◌else◌, List, [], ◌∷◌, Option, Some, None, Result, Ok, Err, refl, sym, ap, ◌∙◌, subst, append_assoc}
+use Rattle.std.proofs.Common.{◌≡◌, ℕ, zero, suc, Bool, true, false, not, ◌&&◌, if◌then◌else◌, List, [], ◌∷◌, length, Option, Some, None, Result, Ok, Err, refl, sym, ap, ◌∙◌, subst, append_assoc}
+use Rattle.std.specs.List.{find}
 use Rattle.std.proofs.lemmas.List.{append-nil}
 use Rattle.packet.specs.Stop.{Stop}
 use Rattle.packet.specs.Stop.TheVariants as stops
@@ -17,14 +18,18 @@ use Rattle.world_base.specs.declared.item.Port.{Port}
 use Rattle.world_base.specs.declared.item.Item.{Item}
 use Rattle.world_base.specs.declared.item.Item.TheVariants.{Peer, Tick, Opened, Bytes, Ended, Crash}
 use Rattle.world_base.specs.declared.connection.Connection.{Connection}
-use Rattle.world_base.specs.Connections.{is_over, is_first, is_proposed, is_at, is_open_at, asked, holding, left_with, closed, changed}
+use Rattle.world_base.specs.Connections.{is_over, is_first, is_proposed, has_failed, is_at, is_open_at, asked, holding, left_with, closed, changed}
 use Rattle.world_base.specs.Core.{CoreState, Turn}
 use Rattle.world_base.specs.Reading.{changes, open_at, loses, loses_open, ends, asks, says, begins, reads, reads_of, reads_next, refused, unread_of}
-use Rattle.world_base.specs.Step.{node_step, settled, takes_in}
-use Rattle.world_base.specs.Turns.{quiet, proposes, has_room, repeated}
+use Rattle.world_base.specs.Step.{node_step, acts_on, settled, takes_in}
+use Rattle.world_base.specs.Failing.{loses_failed, loses_if}
+use Rattle.world_base.specs.KeepAlive.{ends_if, ends_silent, lowest_silent}
+use Rattle.world_base.specs.Turns.{quiet, proposes, drives, has_room, repeated}
+use Rattle.node_model.specs.Hearing.{DeedsHearAtFirst, HearsAtFirst, IsCalm}
+use Rattle.node_model.specs.Keeping.{moves_replica}
 use Rattle.node_model.specs.Moves.{Moves, Runs, Deed, and_then, done, DeedsAreMoves}
 use Rattle.node_model.specs.Moves.Deed.{takes, gives}
-use Rattle.node_model.specs.Moves.Moves.{hears, opens_one, holds, reads_first, reads_later, closes, refuses, loses_one, crashes, settles, hands}
+use Rattle.node_model.specs.Moves.Moves.{hears, opens_one, holds, reads_first, reads_later, closes, refuses, loses_one, loses_next, crashes, settles, hands}
 use Rattle.node_model.specs.Moves.Runs.{rests, goes_on}
 
 abbrev Given : Type 0
@@ -38,9 +43,44 @@ runs_join {b = b} (goes_on {core = core} {first = first} {next = next} m r) q =
     subst (λ (given : Given). Runs core (let t : Turn = record { core = b.core; messages = given } in t)) (sym (append_assoc first.messages next.messages b.messages))
     (goes_on m (runs_join r q))
 
-pub one_move : {core : CoreState} {t : Turn} → Moves core t → Runs core t
-one_move {core = core} {t = t} m =
-    subst (λ (given : Given). Runs core (let u : Turn = record { core = t.core; messages = given } in u)) (append-nil t.messages) (goes_on m rests)
+-- runs in which the replica hears nothing, or hears it at first
+abbrev pub Calm : CoreState → Turn → Type 0
+Calm core turn = (run : Runs core turn) × IsCalm run
+
+abbrev pub First : CoreState → Turn → Type 0
+First core turn = (run : Runs core turn) × HearsAtFirst run
+
+calm_then : {core : CoreState} {a b : Turn} (run : Runs core a) → IsCalm run → Calm a.core b → Calm core (and_then a b)
+calm_then rests calm r = r
+calm_then {b = b} (goes_on {core = core} {first = first} {next = next} m run) calm r =
+    let rest = calm_then run calm.1 r in
+    subst (λ (given : Given). Calm core (let t : Turn = record { core = b.core; messages = given } in t)) (sym (append_assoc first.messages next.messages b.messages))
+    (goes_on m rest.0, (calm.0, rest.1))
+
+calm_join : {core : CoreState} {a b : Turn} → Calm core a → Calm a.core b → Calm core (and_then a b)
+calm_join q r = calm_then q.0 q.1 r
+
+calm_move : {core : CoreState} {t : Turn} (m : Moves core t) → moves_replica m ≡ false → Calm core t
+calm_move {core = core} {t = t} m calm =
+    subst (λ (given : Given). Calm core (let u : Turn = record { core = t.core; messages = given } in u)) (append-nil t.messages) (goes_on m rests, (calm, tt))
+
+calm_first : {core : CoreState} {a : Turn} (run : Runs core a) → IsCalm run → First core a
+calm_first rests calm = (rests, tt)
+calm_first (goes_on m run) calm = (goes_on m run, calm.1)
+
+first_then : {core : CoreState} {a b : Turn} (run : Runs core a) → HearsAtFirst run → Calm a.core b → First core (and_then a b)
+first_then rests first r = calm_first r.0 r.1
+first_then {b = b} (goes_on {core = core} {first = first} {next = next} m run) heard r =
+    let rest = calm_then run heard r in
+    subst (λ (given : Given). First core (let t : Turn = record { core = b.core; messages = given } in t)) (sym (append_assoc first.messages next.messages b.messages))
+    (goes_on m rest.0, rest.1)
+
+first_join : {core : CoreState} {a b : Turn} → First core a → Calm a.core b → First core (and_then a b)
+first_join q r = first_then q.0 q.1 r
+
+first_move : {core : CoreState} {t : Turn} → Moves core t → First core t
+first_move {core = core} {t = t} m =
+    subst (λ (given : Given). First core (let u : Turn = record { core = t.core; messages = given } in u)) (append-nil t.messages) (goes_on m rests, tt)
 
 -- ---- what changes a connection before it is closed leaves no trace
 
@@ -59,19 +99,19 @@ still_closed : (port : Port) (g : Connection → Connection) (core : CoreState) 
 unfolding changes
 still_closed port g core kept same = ap (λ (l : List Connection). record core { connections = l }) (twice (is_open_at port) closed g core.connections kept)
 
-closed_left : (port : Port) (rest : List ℕ) (core : CoreState) → changes port closed (changes port (left_with rest) core) ≡ changes port closed core
-closed_left port rest core = still_closed port (left_with rest) core (λ c e. e) (λ c. refl)
+closed_left : (now : ℕ) (port : Port) (rest : List ℕ) (core : CoreState) → changes port closed (changes port (left_with now rest) core) ≡ changes port closed core
+closed_left now port rest core = still_closed port (left_with now rest) core (λ c e. e) (λ c. refl)
 
 right_true : (a b : Bool) → (a && b) ≡ true → b ≡ true
 right_true true b e = e
 right_true false b e = cc
 
-asked_open : (port : Port) (c : Connection) → is_open_at port c ≡ true → is_open_at port (asked c) ≡ true
-asked_open port c e = right_true (not (is_over c.stage)) (is_at port c) e
+asked_open : (keep_alive : ℕ) (port : Port) (c : Connection) → is_open_at port c ≡ true → is_open_at port (asked keep_alive c) ≡ true
+asked_open keep_alive port c e = right_true (not (is_over c.stage)) (is_at port c) e
 
-closed_asked : (port : Port) (rest : List ℕ) (core : CoreState)
-    → changes port closed (changes port asked (changes port (left_with rest) core)) ≡ changes port closed core
-closed_asked port rest core = still_closed port asked (changes port (left_with rest) core) (asked_open port) (λ c. refl) ∙ closed_left port rest core
+closed_asked : (keep_alive now : ℕ) (port : Port) (rest : List ℕ) (core : CoreState)
+    → changes port closed (changes port (asked keep_alive) (changes port (left_with now rest) core)) ≡ changes port closed core
+closed_asked keep_alive now port rest core = still_closed port (asked keep_alive) (changes port (left_with now rest) core) (asked_open keep_alive port) (λ c. refl) ∙ closed_left now port rest core
 
 -- ---- changes of connections leave the replica as it is
 
@@ -82,109 +122,139 @@ room_kept port change core = refl
 -- ---- a connection is lost
 
 lost_by : (port : Port) (c : Connection) (core : CoreState) → open_at port core ≡ Some c → (b : Bool) → is_proposed c.stage ≡ b
-    → Runs core (if b then proposes (commands.Lost c.name) (changes port closed core) else quiet (changes port closed core))
-lost_by port c core at true e = one_move (loses_one port c at e)
-lost_by port c core at false e = one_move (closes port)
+    → Calm core (if b then proposes (commands.Lost c.name) (changes port closed core) else quiet (changes port closed core))
+lost_by port c core at true e = calm_move (loses_one port c at e) refl
+lost_by port c core at false e = calm_move (closes port) refl
 
-lost_runs : (port : Port) (c : Connection) (core : CoreState) → open_at port core ≡ Some c → Runs core (loses port c core)
+lost_runs : (port : Port) (c : Connection) (core : CoreState) → open_at port core ≡ Some c → Calm core (loses port c core)
 lost_runs port c core at = lost_by port c core at (is_proposed c.stage) refl
 
-ended_runs : (port : Port) (core : CoreState) (o : Option Connection) → open_at port core ≡ o → Runs core (loses_open port core o)
-ended_runs port core None at = rests
+ended_runs : (port : Port) (core : CoreState) (o : Option Connection) → open_at port core ≡ o → Calm core (loses_open port core o)
+ended_runs port core None at = (rests, tt)
 ended_runs port core (Some c) at = lost_runs port c core at
 
-ends_run : (port : Port) (core : CoreState) → Runs core (ends port core)
+ends_run : (port : Port) (core : CoreState) → Calm core (ends port core)
 unfolding ends
 ends_run port core = ended_runs port core (open_at port core) refl
 
 -- ---- a packet is read
 
-closes_with : (port : Port) (core later : CoreState) → later ≡ changes port closed core → Runs core (quiet later)
-closes_with port core later same = subst (λ (z : CoreState). Runs core (quiet z)) (sym same) (one_move (closes port))
+closes_with : (port : Port) (core later : CoreState) → later ≡ changes port closed core → Calm core (quiet later)
+closes_with port core later same = subst (λ (z : CoreState). Calm core (quiet z)) (sym same) (calm_move (closes port) refl)
 
-first_runs : (port : Port) (c : Connection) (core : CoreState) (connect : Connect) (rest : List ℕ) → open_at port core ≡ Some c → is_first c.stage ≡ true
+first_runs : (now : ℕ) (port : Port) (c : Connection) (core : CoreState) (connect : Connect) (rest : List ℕ) → open_at port core ≡ Some c → is_first c.stage ≡ true
     → verdict c.unread ≡ Ok (packets.Connect connect, rest)
-    → Runs core (asks port c.name connect (changes port asked (changes port (left_with rest) core)))
-first_runs port c core connect rest at first is = by (has_room core) refl
+    → Calm core (asks port c.name connect (changes port (asked connect.keep_alive) (changes port (left_with now rest) core)))
+first_runs now port c core connect rest at first is = by (has_room core) refl
   where
-    same : has_room (changes port asked (changes port (left_with rest) core)) ≡ has_room core
-    same = room_kept port asked (changes port (left_with rest) core) ∙ room_kept port (left_with rest) core
+    same : has_room (changes port (asked connect.keep_alive) (changes port (left_with now rest) core)) ≡ has_room core
+    same = room_kept port (asked connect.keep_alive) (changes port (left_with now rest) core) ∙ room_kept port (left_with now rest) core
 
-    by : (b : Bool) → has_room core ≡ b → Runs core (asks port c.name connect (changes port asked (changes port (left_with rest) core)))
-    by true room = rw (same ∙ room) (one_move (reads_first port c connect rest at first is room))
-    by false none = rw (same ∙ none) (closes_with port core _ (closed_asked port rest core))
+    by : (b : Bool) → has_room core ≡ b → Calm core (asks port c.name connect (changes port (asked connect.keep_alive) (changes port (left_with now rest) core)))
+    by true room = rw (same ∙ room) (calm_move (reads_first now port c connect rest at first is room) refl)
+    by false none = rw (same ∙ none) (closes_with port core _ (closed_asked connect.keep_alive now port rest core))
 
-begins_runs : (port : Port) (c : Connection) (core : CoreState) (packet : Packet) (rest : List ℕ) → open_at port core ≡ Some c → is_first c.stage ≡ true
-    → verdict c.unread ≡ Ok (packet, rest) → Runs core (begins port c.name packet (changes port (left_with rest) core))
-begins_runs port c core (packets.Connect connect) rest at first is = first_runs port c core connect rest at first is
-begins_runs port c core _ rest at first is = closes_with port core _ (closed_left port rest core)
+begins_runs : (now : ℕ) (port : Port) (c : Connection) (core : CoreState) (packet : Packet) (rest : List ℕ) → open_at port core ≡ Some c → is_first c.stage ≡ true
+    → verdict c.unread ≡ Ok (packet, rest) → Calm core (begins port c.name packet (changes port (left_with now rest) core))
+begins_runs now port c core (packets.Connect connect) rest at first is = first_runs now port c core connect rest at first is
+begins_runs now port c core _ rest at first is = closes_with port core _ (closed_left now port rest core)
 
-says_runs : (port : Port) (c : Connection) (core : CoreState) (packet : Packet) (rest : List ℕ) → open_at port core ≡ Some c → is_first c.stage ≡ false
-    → verdict c.unread ≡ Ok (packet, rest) → Runs core (says port c.name packet (changes port (left_with rest) core))
-says_runs port c core packet rest at later is = by (has_room core) refl
+says_runs : (now : ℕ) (port : Port) (c : Connection) (core : CoreState) (packet : Packet) (rest : List ℕ) → open_at port core ≡ Some c → is_first c.stage ≡ false
+    → verdict c.unread ≡ Ok (packet, rest) → Calm core (says port c.name packet (changes port (left_with now rest) core))
+says_runs now port c core packet rest at later is = by (has_room core) refl
   where
-    by : (b : Bool) → has_room core ≡ b → Runs core (says port c.name packet (changes port (left_with rest) core))
-    by true room = rw (room_kept port (left_with rest) core ∙ room) (one_move (reads_later port c packet rest at later is room))
-    by false none = rw (room_kept port (left_with rest) core ∙ none) (closes_with port core _ (closed_left port rest core))
+    by : (b : Bool) → has_room core ≡ b → Calm core (says port c.name packet (changes port (left_with now rest) core))
+    by true room = rw (room_kept port (left_with now rest) core ∙ room) (calm_move (reads_later now port c packet rest at later is room) refl)
+    by false none = rw (room_kept port (left_with now rest) core ∙ none) (closes_with port core _ (closed_left now port rest core))
 
-packet_runs : (port : Port) (c : Connection) (core : CoreState) (packet : Packet) (rest : List ℕ) → open_at port core ≡ Some c
-    → verdict c.unread ≡ Ok (packet, rest) → Runs core (reads port c core (Ok (packet, rest)))
-packet_runs port c core packet rest at is = by (is_first c.stage) refl
+packet_runs : (now : ℕ) (port : Port) (c : Connection) (core : CoreState) (packet : Packet) (rest : List ℕ) → open_at port core ≡ Some c
+    → verdict c.unread ≡ Ok (packet, rest) → Calm core (reads now port c core (Ok (packet, rest)))
+packet_runs now port c core packet rest at is = by (is_first c.stage) refl
   where
     by : (b : Bool) → is_first c.stage ≡ b
-        → Runs core (if b then begins port c.name packet (changes port (left_with rest) core) else says port c.name packet (changes port (left_with rest) core))
-    by true first = begins_runs port c core packet rest at first is
-    by false later = says_runs port c core packet rest at later is
+        → Calm core (if b then begins port c.name packet (changes port (left_with now rest) core) else says port c.name packet (changes port (left_with now rest) core))
+    by true first = begins_runs now port c core packet rest at first is
+    by false later = says_runs now port c core packet rest at later is
 
-refused_runs : (port : Port) (c : Connection) (core : CoreState) (code : RefusalCode) → open_at port core ≡ Some c
-    → verdict c.unread ≡ Err (stops.Refused code) → Runs core (reads port c core (Err (stops.Refused code)))
-refused_runs port c core code at is = by (is_first c.stage) refl
+refused_runs : (now : ℕ) (port : Port) (c : Connection) (core : CoreState) (code : RefusalCode) → open_at port core ≡ Some c
+    → verdict c.unread ≡ Err (stops.Refused code) → Calm core (reads now port c core (Err (stops.Refused code)))
+refused_runs now port c core code at is = by (is_first c.stage) refl
   where
-    by : (b : Bool) → is_first c.stage ≡ b → Runs core (if b then quiet (changes port (refused code) core) else loses port c core)
-    by true first = one_move (refuses port c code at first is)
+    by : (b : Bool) → is_first c.stage ≡ b → Calm core (if b then quiet (changes port (refused code) core) else loses port c core)
+    by true first = calm_move (refuses port c code at first is) refl
     by false later = lost_runs port c core at
 
-front_runs : (port : Port) (c : Connection) (core : CoreState) (front : Result (Packet × List ℕ) Stop) → open_at port core ≡ Some c
-    → verdict c.unread ≡ front → Runs core (reads port c core front)
-front_runs port c core (Ok (packet, rest)) at is = packet_runs port c core packet rest at is
-front_runs port c core (Err stops.More) at is = rests
-front_runs port c core (Err (stops.Malformed kind)) at is = lost_runs port c core at
-front_runs port c core (Err (stops.Refused code)) at is = refused_runs port c core code at is
+front_runs : (now : ℕ) (port : Port) (c : Connection) (core : CoreState) (front : Result (Packet × List ℕ) Stop) → open_at port core ≡ Some c
+    → verdict c.unread ≡ front → Calm core (reads now port c core front)
+front_runs now port c core (Ok (packet, rest)) at is = packet_runs now port c core packet rest at is
+front_runs now port c core (Err stops.More) at is = (rests, tt)
+front_runs now port c core (Err (stops.Malformed kind)) at is = lost_runs port c core at
+front_runs now port c core (Err (stops.Refused code)) at is = refused_runs now port c core code at is
 
-read_runs : (port : Port) (core : CoreState) (o : Option Connection) → open_at port core ≡ o → Runs core (reads_of port core o)
-read_runs port core None at = rests
-read_runs port core (Some c) at = front_runs port c core (verdict c.unread) at refl
+read_runs : (now : ℕ) (port : Port) (core : CoreState) (o : Option Connection) → open_at port core ≡ o → Calm core (reads_of now port core o)
+read_runs now port core None at = (rests, tt)
+read_runs now port core (Some c) at = front_runs now port c core (verdict c.unread) at refl
 
-next_runs : (port : Port) (core : CoreState) → Runs core (reads_next port core)
+next_runs : (now : ℕ) (port : Port) (core : CoreState) → Calm core (reads_next now port core)
 unfolding reads_next
-next_runs port core = read_runs port core (open_at port core) refl
+next_runs now port core = read_runs now port core (open_at port core) refl
 
-repeated_runs : (times : ℕ) (port : Port) (core : CoreState) → Runs core (repeated times (reads_next port) core)
+-- ---- so many times
+
+repeated_runs : (next : CoreState → Turn) → ((core : CoreState) → Calm core (next core)) → (times : ℕ) (core : CoreState) → Calm core (repeated times next core)
 unfolding repeated
-repeated_runs zero port core = rests
-repeated_runs (suc more) port core = runs_join (next_runs port core) (repeated_runs more port (reads_next port core).core)
+repeated_runs next each zero core = (rests, tt)
+repeated_runs next each (suc more) core = calm_join (each core) (repeated_runs next each more (next core).core)
+
+-- ---- a connection is silent
+
+silent_runs : (core : CoreState) (o : Option Port) → Calm core (ends_if o core)
+silent_runs core None = (rests, tt)
+silent_runs core (Some port) = ends_run port core
+
+silent_run : (now : ℕ) (core : CoreState) → Calm core (ends_silent now core)
+unfolding ends_silent
+silent_run now core = silent_runs core (lowest_silent now core.connections)
+
+-- ---- a connection failed
+
+failed_runs : (core : CoreState) (o : Option Connection) → find has_failed core.connections ≡ o → Calm core (loses_if o core)
+failed_runs core None at = (rests, tt)
+failed_runs core (Some c) at = calm_move (loses_next c at) refl
+
+failed_run : (core : CoreState) → Calm core (loses_failed core)
+unfolding loses_failed
+failed_run core = failed_runs core (find has_failed core.connections) refl
 
 -- ---- a step
 
-taken_in : (item : Item) (core : CoreState) → Runs core (takes_in item core)
-taken_in (Peer message) core = one_move (hears (Receives message) refl)
-taken_in (Tick now) core = one_move (hears Ticks refl)
-taken_in (Opened port now) core = one_move (opens_one port)
+taken_in : (item : Item) (core : CoreState) → First core (takes_in item core)
+taken_in (Peer message) core = first_move (hears (Receives message) refl)
+taken_in (Tick now) core =
+    first_join (first_move (hears Ticks refl))
+    (repeated_runs (ends_silent now) (silent_run now) (length (drives Ticks core).core.connections) (drives Ticks core).core)
+taken_in (Opened port now) core = first_move (opens_one port)
 taken_in (Bytes port piece now) core =
-    runs_join (one_move (holds port piece))
-    (repeated_runs (unread_of (open_at port (changes port (holding piece) core))) port (changes port (holding piece) core))
-taken_in (Ended port) core = ends_run port core
-taken_in Crash core = one_move crashes
+    first_join (first_move (holds port piece))
+    (repeated_runs (reads_next now port) (next_runs now port) (unread_of (open_at port (changes port (holding piece) core)))
+    (changes port (holding piece) core))
+taken_in (Ended port) core = let r = ends_run port core in calm_first r.0 r.1
+taken_in Crash core = first_move crashes
 
-pub step_runs : (item : Item) (core : CoreState) → Runs core (node_step item core)
+acted_on : (item : Item) (core : CoreState) → First core (acts_on item core)
+acted_on item core =
+    first_join (taken_in item core)
+    (repeated_runs loses_failed failed_run (length (takes_in item core).core.connections) (takes_in item core).core)
+
+step_runs : (item : Item) (core : CoreState) → First core (node_step item core)
 step_runs item core =
-    subst (λ (given : Given). Runs core (let t : Turn = record { core = settled (takes_in item core).core; messages = given } in t))
-    (append-nil (takes_in item core).messages) (runs_join (taken_in item core) (one_move settles))
+    subst (λ (given : Given). First core (let t : Turn = record { core = settled (acts_on item core).core; messages = given } in t))
+    (append-nil (acts_on item core).messages) (first_join (acted_on item core) (calm_move settles refl))
 
-done_runs : (deed : Deed) (core : CoreState) → Runs core (done deed core)
-done_runs (takes item) core = step_runs item core
-done_runs (gives port) core = one_move (hands port)
+pub deeds_hear_at_first : DeedsHearAtFirst
+deeds_hear_at_first (takes item) core = step_runs item core
+deeds_hear_at_first (gives port) core = first_move (hands port)
 
 pub deeds_are_moves : DeedsAreMoves
 deeds_are_moves [] core = rests
-deeds_are_moves (deed ∷ deeds) core = runs_join (done_runs deed core) (deeds_are_moves deeds (done deed core).core)
+deeds_are_moves (deed ∷ deeds) core = runs_join (deeds_hear_at_first deed core).0 (deeds_are_moves deeds (done deed core).core)

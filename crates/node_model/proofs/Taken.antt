@@ -15,11 +15,11 @@ use Rattle.broker_base.specs.Output.TheVariants as outputs
 use Rattle.broker_base.specs.Connection.{ConnectionName}
 use Rattle.world_base.specs.declared.item.Port.{Port}
 use Rattle.world_base.specs.declared.connection.Connection.{Connection}
-use Rattle.world_base.specs.Connections.{asked, left_with, closed, putting}
+use Rattle.world_base.specs.Connections.{asked, left_with, closed, put_out}
 use Rattle.world_base.specs.Core.{CoreState, rules, serves}
 use Rattle.world_base.specs.Reading.{changes}
 use Rattle.world_base.specs.Turns.{moved, served, proposes, has_room, changes_named}
-use Rattle.node_model.specs.Moves.Moves.{hears, opens_one, holds, reads_first, reads_later, closes, refuses, loses_one, crashes, settles, hands}
+use Rattle.node_model.specs.Moves.Moves.{hears, opens_one, holds, reads_first, reads_later, closes, refuses, loses_one, loses_next, crashes, settles, hands}
 use Rattle.node_model.specs.Ends.{ReadsAreTaken}
 use Rattle.node_model.proofs.Kept.{left_true}
 
@@ -27,7 +27,7 @@ right_true : (a b : Bool) → (a && b) ≡ true → b ≡ true
 right_true true b e = e
 right_true false b e = absurd cc
 
-proposed_log : (r : ReplicaState State Command) (command : Command) → is_active r.role ≡ true → nat_lt (length r.log) most_places ≡ true
+pub proposed_log : (r : ReplicaState State Command) (command : Command) → is_active r.role ≡ true → nat_lt (length r.log) most_places ≡ true
     → (proposed rules r command).state.log ≡ r.log ++ command ∷ []
 unfolding proposed
 proposed_log r command active room = rw (active, room) (added-log rules r command)
@@ -38,7 +38,7 @@ unfolding changes_named
 named_replica name f core = refl
 
 served_replica : (core : CoreState) (e : Effect Command Output) → (served core e).replica ≡ core.replica
-served_replica core (Out place (outputs.Send name packet)) = named_replica name (putting (spelling packet)) core
+served_replica core (Out place (outputs.Send name packet)) = named_replica name (put_out (spelling packet)) core
 served_replica core (Out place (outputs.Close name)) = named_replica name closed core
 served_replica core (To receiver message) = refl
 
@@ -71,20 +71,21 @@ taken_behind command core between same room =
     proposes_log command between (ap room_of same ∙ room) ∙ ap (λ (r : CountedReplica State Command). r.state.log ++ command ∷ []) same
   where
     room_of : CountedReplica State Command → Bool
-    room_of r = has_room (let k : CoreState = record { replica = r; accepted = 0; connections = [] } in k)
+    room_of r = has_room (let k : CoreState = record { replica = r; last_name = record { ballot = 0; count = 0 }; connections = [] } in k)
 
 pub reads_are_taken : ReadsAreTaken
-reads_are_taken core turn (reads_first port c connect rest at first is room) read =
-    taken_behind _ core (changes port asked (changes port (left_with rest) core))
-    (changed_replica port asked (changes port (left_with rest) core) ∙ changed_replica port (left_with rest) core) room
-reads_are_taken core turn (reads_later port c packet rest at later is room) read =
-    taken_behind _ core (changes port (left_with rest) core) (changed_replica port (left_with rest) core) room
+reads_are_taken core turn (reads_first now port c connect rest at first is room) read =
+    taken_behind _ core (changes port (asked connect.keep_alive) (changes port (left_with now rest) core))
+    (changed_replica port (asked connect.keep_alive) (changes port (left_with now rest) core) ∙ changed_replica port (left_with now rest) core) room
+reads_are_taken core turn (reads_later now port c packet rest at later is room) read =
+    taken_behind _ core (changes port (left_with now rest) core) (changed_replica port (left_with now rest) core) room
 reads_are_taken core turn (hears input other) read = absurd cc
 reads_are_taken core turn (opens_one port) read = absurd cc
 reads_are_taken core turn (holds port piece) read = absurd cc
 reads_are_taken core turn (closes port) read = absurd cc
 reads_are_taken core turn (refuses port c code at first is) read = absurd cc
 reads_are_taken core turn (loses_one port c at proposed) read = absurd cc
+reads_are_taken core turn (loses_next c at) read = absurd cc
 reads_are_taken core turn crashes read = absurd cc
 reads_are_taken core turn settles read = absurd cc
 reads_are_taken core turn (hands port) read = absurd cc

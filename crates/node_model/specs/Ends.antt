@@ -1,5 +1,5 @@
 -- One connection as its node has it, by its name: what is read off it and proposed, of all that its client writes.
-use Rattle.std.specs.Prelude.{◌≡◌, ◌≤◌, ◌<◌, ℕ, suc, Bool, true, false, if◌then◌else◌, List, [], ◌∷◌, ◌++◌, length, filter, Option, Some, None}
+use Rattle.std.specs.Prelude.{◌≡◌, ◌≤◌, ◌<◌, ◌⊎◌, ℕ, suc, Bool, true, false, if◌then◌else◌, List, [], ◌∷◌, ◌++◌, length, filter, Option, Some, None}
 use Rattle.std.specs.List.{find}
 use Rattle.packet.specs.declared.packet.Packet.{Packet}
 use Rattle.broker_base.specs.Connection.{ConnectionName, same_connection}
@@ -14,7 +14,7 @@ use Rattle.world_base.specs.declared.connection.Connection.{Connection}
 use Rattle.world_base.specs.Connections.{is_first, is_open_named}
 use Rattle.world_base.specs.Core.{CoreState, Turn, opening_core}
 use Rattle.world_base.specs.Reading.{open_at}
-use Rattle.node_model.specs.Moves.Moves.{hears, opens_one, holds, reads_first, reads_later, closes, refuses, loses_one, crashes, settles, hands}
+use Rattle.node_model.specs.Moves.Moves.{hears, opens_one, holds, reads_first, reads_later, closes, refuses, loses_one, loses_next, crashes, settles, hands}
 use Rattle.node_model.specs.Moves.{Moves, Runs}
 use Rattle.node_model.specs.Moves.Runs.{rests, goes_on}
 
@@ -29,10 +29,19 @@ abbrev pub AtMostOne : {X : Type 0} → (X → Bool) → List X → Type 0
 AtMostOne test [] = Unit {0}
 AtMostOne test (c ∷ cs) = (test c ≡ true → Each (λ d. test d ≡ false) cs) × AtMostOne test cs
 
--- a name is had by one connection at most, and has no number that the node did not give yet
+-- names stand in the order in which a node gives them, by ballot, then by number: one comes before another
+abbrev pub Precedes : ConnectionName → ConnectionName → Type 0
+Precedes x y = (x.ballot < y.ballot) ⊎ ((x.ballot ≡ y.ballot) × (x.count < y.count))
+
+-- a name that was given or passed over, where this one was given last
+abbrev pub IsGiven : ConnectionName → ConnectionName → Type 0
+IsGiven last x = (x.ballot < last.ballot) ⊎ ((x.ballot ≡ last.ballot) × (x.count ≤ last.count))
+
+-- a name is had by one connection at most, and was given; none was given for a later ballot than the one that was joined
 pub record IsOrderly (core : CoreState) : Type 0 where
   pub names : (x : ConnectionName) → AtMostOne (λ (c : Connection). same_connection c.name x) core.connections
-  pub given : Each (λ (c : Connection). c.name.count ≤ core.accepted) core.connections
+  pub given : Each (λ (c : Connection). IsGiven core.last_name c.name) core.connections
+  pub within : core.last_name.ballot ≤ core.replica.state.joined
 
 -- ---- what a move is for one connection
 
@@ -41,11 +50,12 @@ abbrev pub proposal_of : {core : CoreState} {turn : Turn} → Moves core turn �
 proposal_of (hears input is) = []
 proposal_of (opens_one port) = []
 proposal_of (holds port piece) = []
-proposal_of (reads_first port c connect rest at first is room) = commands.Connect c.name connect.client connect.clean ∷ []
-proposal_of (reads_later port c packet rest at later is room) = commands.Packet c.name packet ∷ []
+proposal_of (reads_first now port c connect rest at first is room) = commands.Connect c.name connect.client connect.clean ∷ []
+proposal_of (reads_later now port c packet rest at later is room) = commands.Packet c.name packet ∷ []
 proposal_of (closes port) = []
 proposal_of (refuses port c code at first is) = []
 proposal_of (loses_one port c at proposed) = commands.Lost c.name ∷ []
+proposal_of (loses_next c at) = commands.Lost c.name ∷ []
 proposal_of crashes = []
 proposal_of settles = []
 proposal_of (hands port) = []
@@ -72,10 +82,10 @@ is_nothing (p ∷ ps) = false
 -- Of the packets that its client writes these were read, and these bytes are still to come: the node has not given the
 -- name yet, or has the connection open, or it is closed.
 pub data IsEnd (x : ConnectionName) (core : CoreState) (written read : List Packet) (under_way : List ℕ) : Type 0 where
-  not_yet : core.accepted < x.count → read ≡ [] → IsPiped written [] (stream_of []) under_way → IsEnd x core written read under_way
-  is_open : (c : Connection) → x.count ≤ core.accepted → open_named x core ≡ Some c → is_first c.stage ≡ is_nothing read →
+  not_yet : Precedes core.last_name x → read ≡ [] → IsPiped written [] (stream_of []) under_way → IsEnd x core written read under_way
+  is_open : (c : Connection) → IsGiven core.last_name x → open_named x core ≡ Some c → is_first c.stage ≡ is_nothing read →
       IsPiped written read (stream_of c.unread) under_way → IsEnd x core written read under_way
-  is_over : x.count ≤ core.accepted → open_named x core ≡ None → IsPrefixOf read written → IsEnd x core written read under_way
+  is_over : IsGiven core.last_name x → open_named x core ≡ None → IsPrefixOf read written → IsEnd x core written read under_way
 
 -- the commands of a connection's packets from this place on
 abbrev pub commands_of : ConnectionName → ℕ → List Packet → List Command
@@ -123,8 +133,8 @@ NodesProposeInOrder = (id : ℕ) (config : Config) (turn : Turn) (run : Runs (op
 
 -- whether a move reads a packet
 abbrev pub is_read : {core : CoreState} {turn : Turn} → Moves core turn → Bool
-is_read (reads_first port c connect rest at first is room) = true
-is_read (reads_later port c packet rest at later is room) = true
+is_read (reads_first now port c connect rest at first is room) = true
+is_read (reads_later now port c packet rest at later is room) = true
 is_read _ = false
 
 -- Each packet that is read stands in the node's log at once, behind all that stood there: so none is read behind one

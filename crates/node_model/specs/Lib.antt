@@ -3,3 +3,6 @@ pub mod Ends
 pub mod Puts
 pub mod Closed
 pub mod Names
+pub mod Behind
+pub mod Keeping
+pub mod Hearing

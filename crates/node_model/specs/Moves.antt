@@ -1,5 +1,6 @@
 -- What a node does in a step, move by move: each of its steps is a run of these.
 use Rattle.std.specs.Prelude.{◌≡◌, ℕ, Bool, true, false, List, [], ◌∷◌, ◌++◌, Some, Ok, Err}
+use Rattle.std.specs.List.{find}
 use Rattle.packet.specs.Stop.TheVariants as stops
 use Rattle.packet.specs.RefusalCode.{RefusalCode}
 use Rattle.packet.specs.declared.packet.Packet.{Packet}
@@ -13,8 +14,9 @@ use Rattle.broker_base.specs.Command.TheVariants as commands
 use Rattle.world_base.specs.declared.item.Port.{Port}
 use Rattle.world_base.specs.declared.item.Item.{Item}
 use Rattle.world_base.specs.declared.connection.Connection.{Connection}
-use Rattle.world_base.specs.Connections.{is_first, is_proposed, asked, holding, left_with, closed}
+use Rattle.world_base.specs.Connections.{has_failed, is_first, is_proposed, asked, holding, left_with, closed}
 use Rattle.world_base.specs.Core.{CoreState, Turn}
+use Rattle.world_base.specs.Failing.{closes_failed}
 use Rattle.world_base.specs.Handing.{hands_over}
 use Rattle.world_base.specs.Reading.{changes, open_at, refused}
 use Rattle.world_base.specs.Step.{node_step, opens, settled, crashed}
@@ -33,14 +35,14 @@ pub data Moves (core : CoreState) : Turn → Type 0 where
   opens_one : (port : Port) → Moves core (quiet (opens port core))
   -- bytes come in on an open connection
   holds : (port : Port) (piece : List ℕ) → Moves core (quiet (changes port (holding piece) core))
-  -- the first packet of an open connection, a CONNECT, is read and proposed; the log has room for it
-  reads_first : (port : Port) (c : Connection) (connect : Connect) (rest : List ℕ) → open_at port core ≡ Some c → is_first c.stage ≡ true →
+  -- the first packet of an open connection, a CONNECT, is read and proposed, whole at this time; the log has room for it
+  reads_first : (now : ℕ) (port : Port) (c : Connection) (connect : Connect) (rest : List ℕ) → open_at port core ≡ Some c → is_first c.stage ≡ true →
       verdict c.unread ≡ Ok (packets.Connect connect, rest) → has_room core ≡ true →
-      Moves core (proposes (commands.Connect c.name connect.client connect.clean) (changes port asked (changes port (left_with rest) core)))
+      Moves core (proposes (commands.Connect c.name connect.client connect.clean) (changes port (asked connect.keep_alive) (changes port (left_with now rest) core)))
   -- so is each later one
-  reads_later : (port : Port) (c : Connection) (packet : Packet) (rest : List ℕ) → open_at port core ≡ Some c → is_first c.stage ≡ false →
+  reads_later : (now : ℕ) (port : Port) (c : Connection) (packet : Packet) (rest : List ℕ) → open_at port core ≡ Some c → is_first c.stage ≡ false →
       verdict c.unread ≡ Ok (packet, rest) → has_room core ≡ true →
-      Moves core (proposes (commands.Packet c.name packet) (changes port (left_with rest) core))
+      Moves core (proposes (commands.Packet c.name packet) (changes port (left_with now rest) core))
   -- a connection is closed, and nothing more is read off it
   closes : (port : Port) → Moves core (quiet (changes port closed core))
   -- .. with an answer, where its first packet is a CONNECT that is refused with a code
@@ -49,6 +51,9 @@ pub data Moves (core : CoreState) : Turn → Type 0 where
   -- .. and the broker is to hear that it is lost, where its Connect was proposed
   loses_one : (port : Port) (c : Connection) → open_at port core ≡ Some c → is_proposed c.stage ≡ true →
       Moves core (proposes (commands.Lost c.name) (changes port closed core))
+  -- so it is to hear of one that was closed since there was no room for what was put out on it
+  loses_next : (c : Connection) → find has_failed core.connections ≡ Some c →
+      Moves core (proposes (commands.Lost c.name) (closes_failed core))
   -- the node crashes
   crashes : Moves core (quiet (crashed core))
   -- where it serves clients no more all connections are closed; closed ones with nothing to hand over are gone

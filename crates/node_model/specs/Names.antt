@@ -3,6 +3,7 @@ use Rattle.std.specs.Prelude.{◌≡◌, ◌+◌, true, Some, None}
 use Rattle.broker_base.specs.Connection.{ConnectionName}
 use Rattle.world_base.specs.declared.connection.Connection.{Connection}
 use Rattle.world_base.specs.Core.{CoreState, Turn, serves}
+use Rattle.world_base.specs.Step.{accepted}
 use Rattle.node_model.specs.Closed.{listed_named}
 use Rattle.node_model.specs.Ends.{IsOrderly}
 use Rattle.node_model.specs.Moves.{Moves}
@@ -11,7 +12,7 @@ use Rattle.node_model.specs.Moves.{Moves}
 pub record IsNextName (core : CoreState) (x : ConnectionName) : Type 0 where
   pub leads : serves core ≡ true
   pub ballot : x.ballot ≡ core.replica.state.joined
-  pub count : x.count ≡ core.accepted + 1
+  pub count : x.count ≡ accepted core + 1
 
 -- so it is of each connection that is new behind a move
 abbrev pub NewNamesAreOfTheBallot : Type 0

@@ -1,7 +1,10 @@
 // Laws of what a node does. The calls do nothing; their contracts are the laws.
 
+ghost use Rattle.node_model.specs.Behind.{EachLossIsTold, NoneIsSilent};
 ghost use Rattle.node_model.specs.Closed.{NothingOnClosed};
 ghost use Rattle.node_model.specs.Ends.{NodesProposeInOrder, NodesReadInOrder, ReadsAreTaken};
+ghost use Rattle.node_model.specs.Hearing.{DeedsHearAtFirst};
+ghost use Rattle.node_model.specs.Keeping.{NamesKeepTheirBallot};
 ghost use Rattle.node_model.specs.Moves.{DeedsAreMoves};
 ghost use Rattle.node_model.specs.Names.{NewNamesAreOfTheBallot};
 ghost use Rattle.node_model.specs.Puts.{PutsInOrder};
@@ -10,6 +13,12 @@ ghost use Rattle.node_model.specs.Puts.{PutsInOrder};
 /// proposes, and nothing else; what its replica gives is done at once.
 pub fn deeds_are_moves()
     ensures { DeedsAreMoves }
+{}
+
+/// Each step of a node, and each handing over of bytes, is such a run in which the replica hears something, or stops, in the
+/// first move alone.
+pub fn deeds_hear_at_first()
+    ensures { DeedsHearAtFirst }
 {}
 
 /// In each move, on each connection, a node reads the next packets that the client writes, or none, and proposes just
@@ -47,4 +56,21 @@ pub fn nothing_on_closed()
 /// number there.
 pub fn new_names_are_of_the_ballot()
     ensures { NewNamesAreOfTheBallot }
+{}
+
+/// Behind a tick no connection is silent for longer than its keep alive allows (MQTT 3.1.2.10).
+pub fn none_is_silent()
+    ensures { NoneIsSilent }
+{}
+
+/// Behind each step the broker has heard of the loss of every connection that was closed in it because there was no room
+/// for what was put out.
+pub fn each_loss_is_told()
+    ensures { EachLossIsTold }
+{}
+
+/// Each open connection of a node has a name of the ballot that the node leads, in all moves but between what its replica hears
+/// and the settling behind it; so it proposes under a name in the ballot of that name alone.
+pub fn names_keep_their_ballot()
+    ensures { NamesKeepTheirBallot }
 {}

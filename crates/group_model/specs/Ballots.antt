@@ -1,0 +1,17 @@
+-- In which ballot the packets of a connection are put to a replica.
+use Rattle.std.specs.Prelude.{◌≡◌, ℕ, true}
+use Rattle.lists.specs.Lists.{Each}
+use Rattle.ballot.specs.Config.{Config}
+use Rattle.broker_base.specs.Command.{Command}
+use Rattle.broker_base.specs.Connection.{ConnectionName}
+use Rattle.story.specs.Story.{is_packet_of}
+use Rattle.group_model.specs.Group.{Group}
+use Rattle.group_model.specs.Goes.{Went, all_put}
+
+-- a packet of a connection, its CONNECT too, with the ballot that the connection's name has
+abbrev pub IsInItsBallot : ℕ × Command → Type 0
+IsInItsBallot put = (x : ConnectionName) → is_packet_of put.1 x ≡ true → x.ballot ≡ put.0
+
+-- so it is of all that nodes of a group put to their replicas
+abbrev pub PutsInTheBallotOfTheName : Type 0
+PutsInTheBallotOfTheName = (nodes : ℕ) (config : Config) (g : Group) (went : Went nodes config g) → Each IsInItsBallot (all_put went)

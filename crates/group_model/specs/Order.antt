@@ -1,0 +1,28 @@
+-- In which order the packets of a connection stand in the logs of a group and in the agreed list.
+use Rattle.std.specs.Prelude.{◌≡◌, ℕ, List, ◌∷◌, filter, slice_get, Some}
+use Rattle.lists.specs.Lists.{IsPrefixOf}
+use Rattle.ballot.specs.Config.{Config}
+use Rattle.broker_base.specs.Command.{Command}
+use Rattle.broker_base.specs.Connection.{ConnectionName}
+use Rattle.story.specs.Story.{is_packet_of}
+use Rattle.agreement.specs.Past.{IsAgreed}
+use Rattle.agreement.specs.Proposals.{commands_of}
+use Rattle.world_base.specs.Core.{CoreState}
+use Rattle.group_model.specs.Group.{Group, moment_of, replica_of}
+use Rattle.group_model.specs.Goes.{Went, all_put, groups_of}
+use Rattle.group_model.specs.Pasts.{HasPast}
+
+-- the packets of a connection among commands
+abbrev pub packets_of : ConnectionName → List Command → List Command
+packets_of x commands = filter (λ (command : Command). is_packet_of command x) commands
+
+-- of each connection the log of each node, and the agreed list, has a beginning of the packets that were put for it, in order
+pub record KeepsOrder (config : Config) (g : Group) (groups : List Group) (put : List (ℕ × Command)) : Type 0 where
+  pub of : HasPast config g groups put
+  pub logs : (x : ConnectionName) (n : ℕ) (core : CoreState) → slice_get g.nodes n ≡ Some core →
+      IsPrefixOf (packets_of x (replica_of core).log) (packets_of x (commands_of put))
+  pub agreed : (x : ConnectionName) (xs : List Command) → IsAgreed config (moment_of g ∷ of.earlier) xs →
+      IsPrefixOf (packets_of x xs) (packets_of x (commands_of put))
+
+abbrev pub GroupsKeepTheOrder : Type 0
+GroupsKeepTheOrder = (nodes : ℕ) (config : Config) (g : Group) (went : Went nodes config g) → KeepsOrder config g (groups_of went) (all_put went)
