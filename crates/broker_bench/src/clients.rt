@@ -59,6 +59,13 @@ impl Clients {
         self.send(count, Packet::Subscribe(subscribe))
     }
 
+    /// A client asks for one filter.
+    pub fn subscribe_one(&mut self, count: u64, text: &str, qos: QoS) -> Result<()> {
+        let mut filters = Vec::new(self.alloc);
+        filters.push(Filter::new(self.alloc, text)?)?;
+        self.subscribe(count, filters, qos)
+    }
+
     /// A client publishes under identifier 1, and all clients answer what comes of it until nothing is under way.
     pub fn publish(&mut self, count: u64, topic: &TopicName, qos: QoS, retain: bool) -> Result<()> {
         let publish = Publish {

@@ -15,13 +15,17 @@ const FIRST: u64 = 1_000;
 /// So many clients come, ask for filters and are lost: their sessions stay.
 pub fn gather(clients: &mut Clients, alloc: Global, sessions: u32) -> Result<()> {
     for session in 0..sessions {
-        let count = FIRST.saturating_add(u64::from(session));
-        let name = format!(in alloc; "beside-{session}")?;
-        clients.connect(count, name.as_str())?;
-        clients.subscribe(count, filters(alloc)?, QoS::AtLeastOnce)?;
-        clients.lose(count)?;
+        visit(clients, alloc, session)?;
     }
     Ok(())
+}
+
+fn visit(clients: &mut Clients, alloc: Global, session: u32) -> Result<()> {
+    let count = FIRST.saturating_add(u64::from(session));
+    let name = format!(in alloc; "beside-{session}")?;
+    clients.connect(count, name.as_str())?;
+    clients.subscribe(count, filters(alloc)?, QoS::AtLeastOnce)?;
+    clients.lose(count)
 }
 
 fn filters(alloc: Global) -> Result<Vec<Filter>> {

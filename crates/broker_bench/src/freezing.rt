@@ -13,14 +13,17 @@ const SESSIONS: u32 = 4_096;
 pub fn run(rt: &HostRuntime) -> Result<()> {
     let mut clients = Clients::new(rt.alloc())?;
     crowd::gather(&mut clients, rt.alloc(), SESSIONS)?;
+    measure(rt, &clients)
+}
 
+fn measure(rt: &HostRuntime, clients: &Clients) -> Result<()> {
     let mut bytes = Vec::new(rt.alloc());
     let start = rt.process_cpu_time()?;
     clients.broker.freeze(&mut bytes)?;
     let frozen = nanos_since(rt, start)? / 1_000;
 
     let start = rt.process_cpu_time()?;
-    let _thawed = BrokerMachine::thaw(rt.alloc(), &bytes)?;
+    BrokerMachine::thaw(rt.alloc(), &bytes)?;
     let thawed = nanos_since(rt, start)? / 1_000;
     let len = bytes.len();
     println!(rt;

@@ -6,7 +6,7 @@ use anyhow::Result;
 use packet::QoS;
 use std::alloc::Global;
 use std::time::CpuClock;
-use topics::{Filter, TopicName};
+use topics::TopicName;
 
 const ROUNDS: u32 = 100_000;
 
@@ -29,16 +29,7 @@ pub fn run(rt: &HostRuntime) -> Result<()> {
 
 fn measure(rt: &HostRuntime, qos: QoS, subscribers: u64, beside: u32) -> Result<()> {
     let mut clients = Clients::new(rt.alloc())?;
-    crowd::gather(&mut clients, rt.alloc(), beside)?;
-    clients.connect(PUBLISHER, "publisher")?;
-    subscribe_all(&mut clients, rt.alloc(), subscribers, qos)?;
-
-    let topic = TopicName::new(rt.alloc(), "plant/1/pump/speed")?;
-    let start = rt.process_cpu_time()?;
-    for _ in 0..ROUNDS {
-        clients.publish(PUBLISHER, &topic, qos, false)?;
-    }
-    let nanos = nanos_since(rt, start)? / u128::from(ROUNDS);
+    let nanos = time(rt, &mut clients, qos, subscribers, beside)? / u128::from(ROUNDS);
     let number = qos.number();
     println!(rt;
         "QoS {number}, to {subscribers}, {beside} sessions beside: {nanos} ns a publication"
@@ -46,14 +37,29 @@ fn measure(rt: &HostRuntime, qos: QoS, subscribers: u64, beside: u32) -> Result<
     Ok(())
 }
 
-fn subscribe_all(clients: &mut Clients, alloc: Global, subscribers: u64, qos: QoS) -> Result<()> {
+fn time(
+    rt: &HostRuntime,
+    clients: &mut Clients,
+    qos: QoS,
+    subscribers: u64,
+    beside: u32,
+) -> Result<u128> {
+    crowd::gather(clients, rt.alloc(), beside)?;
+    clients.connect(PUBLISHER, "publisher")?;
     for number in 0..subscribers {
-        let count = PUBLISHER.saturating_add(1).saturating_add(number);
-        let name = format!(in alloc; "subscriber-{number}")?;
-        clients.connect(count, name.as_str())?;
-        let mut filters = Vec::new(alloc);
-        filters.push(Filter::new(alloc, "plant/+/pump/#")?)?;
-        clients.subscribe(count, filters, qos)?;
+        subscribe(clients, rt.alloc(), number, qos)?;
     }
-    Ok(())
+    let topic = TopicName::new(rt.alloc(), "plant/1/pump/speed")?;
+    let start = rt.process_cpu_time()?;
+    for _ in 0..ROUNDS {
+        clients.publish(PUBLISHER, &topic, qos, false)?;
+    }
+    nanos_since(rt, start)
+}
+
+fn subscribe(clients: &mut Clients, alloc: Global, number: u64, qos: QoS) -> Result<()> {
+    let count = PUBLISHER.saturating_add(1).saturating_add(number);
+    let name = format!(in alloc; "subscriber-{number}")?;
+    clients.connect(count, name.as_str())?;
+    clients.subscribe_one(count, "plant/+/pump/#", qos)
 }

@@ -5,7 +5,7 @@ use crate::nanos_since;
 use anyhow::Result;
 use packet::QoS;
 use std::time::CpuClock;
-use topics::{Filter, TopicName};
+use topics::TopicName;
 
 /// How many publications wait.
 const WAITING: u32 = 4_000;
@@ -13,33 +13,37 @@ const WAITING: u32 = 4_000;
 /// Prints the time for each publication that is put into the queue, and that leaves it with its handshake.
 pub fn run(rt: &HostRuntime) -> Result<()> {
     for qos in &[QoS::AtLeastOnce, QoS::ExactlyOnce] {
-        measure(rt, *qos)?;
+        let mut clients = Clients::new(rt.alloc())?;
+        measure(rt, &mut clients, *qos)?;
     }
     Ok(())
 }
 
-fn measure(rt: &HostRuntime, qos: QoS) -> Result<()> {
-    let mut clients = Clients::new(rt.alloc())?;
-    let mut filters = Vec::new(rt.alloc());
-    filters.push(Filter::new(rt.alloc(), "plant/#")?)?;
+fn measure(rt: &HostRuntime, clients: &mut Clients, qos: QoS) -> Result<()> {
     clients.connect(1, "subscriber")?;
-    clients.subscribe(1, filters, qos)?;
+    clients.subscribe_one(1, "plant/#", qos)?;
     clients.lose(1)?;
     clients.connect(2, "publisher")?;
-
-    let topic = TopicName::new(rt.alloc(), "plant/1/pump/speed")?;
-    let start = rt.process_cpu_time()?;
-    for _ in 0..WAITING {
-        clients.publish(2, &topic, qos, false)?;
-    }
-    let filled = nanos_since(rt, start)? / u128::from(WAITING);
-
-    let start = rt.process_cpu_time()?;
-    clients.connect(3, "subscriber")?;
-    let drained = nanos_since(rt, start)? / u128::from(WAITING);
+    let filled = fill(rt, clients, qos)? / u128::from(WAITING);
+    let drained = drain(rt, clients)? / u128::from(WAITING);
     let number = qos.number();
     println!(rt;
         "QoS {number}: {WAITING} put in at {filled} ns each, sent and answered at {drained} ns each"
     )?;
     Ok(())
+}
+
+fn fill(rt: &HostRuntime, clients: &mut Clients, qos: QoS) -> Result<u128> {
+    let topic = TopicName::new(rt.alloc(), "plant/1/pump/speed")?;
+    let start = rt.process_cpu_time()?;
+    for _ in 0..WAITING {
+        clients.publish(2, &topic, qos, false)?;
+    }
+    nanos_since(rt, start)
+}
+
+fn drain(rt: &HostRuntime, clients: &mut Clients) -> Result<u128> {
+    let start = rt.process_cpu_time()?;
+    clients.connect(3, "subscriber")?;
+    nanos_since(rt, start)
 }
