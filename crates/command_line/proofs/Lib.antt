@@ -1,0 +1,7 @@
+pub mod Added
+pub mod Entries
+pub mod Listed
+pub mod Plain
+pub mod SameDocument
+pub mod SmallNumbers
+pub mod ValuesRead

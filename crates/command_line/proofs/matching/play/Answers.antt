@@ -1,0 +1,7 @@
+use Rattle.std.proofs.Common.{codes, sym, ◌∙◌}
+use Rattle.clap.specs.Words.{found_of}
+use Rattle.clap.proofs.WalkLemmas.{first_value-rows}
+use Rattle.command_line.proofs.matching.play.Goals as goal
+
+pub returns : goal.returns
+returns c = sym (first_value-rows (found_of c.args.found.now) (codes "file")) ∙ sym c.get_str.ensures

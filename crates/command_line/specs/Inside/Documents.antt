@@ -1,0 +1,19 @@
+-- What the functions say that read a TOML document.
+use Rattle.std.specs.Prelude.{◌≡◌, ℕ, Bool, true, List, nat_le}
+use Rattle.std.specs.List.{list_all}
+use Rattle.ballot_base.specs.declared.config.Config.{Config}
+use Rattle.command_line.specs.declared.node_table.ListeningNode.{ListeningNode}
+use Rattle.command_line.specs.declared.node_table.NodeTable.{NodeTable}
+
+-- a number that a node may have, or 0
+abbrev pub is_small : ℕ → Bool
+is_small n = nat_le n 15
+
+abbrev pub has_small_id : ListeningNode → Bool
+has_small_id node = is_small node.id
+
+-- the numbers are ones that nodes may have
+pub record IsSmall (t : NodeTable) : Type 0 where
+  pub members : list_all is_small t.config.members ≡ true
+  pub primary : is_small t.config.primary ≡ true
+  pub nodes : list_all has_small_id t.nodes.items ≡ true

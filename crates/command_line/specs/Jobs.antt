@@ -1,0 +1,68 @@
+-- The job of a command line, by the matches that `clap` has of its words.
+use Rattle.std.specs.Prelude.{◌≡◌, ◌<◌, ◌^◌, ℕ, List, true, false, Option, Some, None, codes, option_map}
+use Rattle.std.specs.Str.Parse.{IsNumeral, digits_value, without_leading_plus}
+use Rattle.packet.specs.QoS.{qos_number}
+use Rattle.clap.specs.Walk.{texts}
+use Rattle.clap.specs.Words.{IsAmong, Kinds, Row, Text, all_of, first_of, kind_of, one_of}
+use Rattle.command_line.specs.declared.job.Job.{Job}
+use Rattle.command_line.specs.declared.job.Job.TheVariants as jobs
+use Rattle.command_line.specs.declared.job.Serve.{Serve}
+use Rattle.command_line.specs.declared.job.Publish.{Publish}
+use Rattle.command_line.specs.declared.job.Subscribe.{Subscribe}
+use Rattle.command_line.specs.declared.job.Play.{Play}
+use Rattle.command_line.specs.declared.fault.LineFault.{LineFault}
+use Rattle.command_line.specs.declared.fault.LineFault.TheVariants as faults
+
+-- a decimal text of 32 bits; a plus may stand in front
+abbrev pub IsNumber : Text → ℕ → Type 0
+IsNumber text n = (IsNumeral 10 (without_leading_plus text)
+    × (digits_value 10 (without_leading_plus text) < 2 ^ 32))
+    × (n ≡ digits_value 10 (without_leading_plus text))
+
+-- the first value of an argument is a number
+pub record HasNumber (id : Text) (rows : List Row) (n : ℕ) : Type 0 where
+  pub text : Text
+  pub given : one_of id rows ≡ Some text
+  pub said : IsNumber text n
+
+abbrev pub IsServe : List Row → Serve → Type 0
+IsServe rows job = first_of (codes "config") rows ≡ Some job.config.now
+
+pub record IsPublish (rows : List Row) (job : Publish) : Type 0 where
+  pub id : first_of (codes "id") rows ≡ Some job.id.now
+  pub topic : first_of (codes "topic") rows ≡ Some job.topic.now
+  pub qos : HasNumber (codes "qos") rows (qos_number job.qos)
+  pub message : first_of (codes "message") rows ≡ Some job.message.now
+  pub retained : one_of (codes "retain") rows ≡ Some (codes "true") → job.retain ≡ true
+  pub not_retained : one_of (codes "retain") rows ≡ Some (codes "false") → job.retain ≡ false
+  pub tries : HasNumber (codes "tries") rows job.tries
+  pub addresses : all_of (codes "address") rows ≡ Some (texts job.addresses.items)
+
+pub record IsSubscribe (rows : List Row) (job : Subscribe) : Type 0 where
+  pub id : first_of (codes "id") rows ≡ Some job.id.now
+  pub filter : first_of (codes "filter") rows ≡ Some job.filter.now
+  pub qos : HasNumber (codes "qos") rows (qos_number job.qos)
+  pub count : HasNumber (codes "count") rows job.count
+  pub tries : HasNumber (codes "tries") rows job.tries
+  pub addresses : all_of (codes "address") rows ≡ Some (texts job.addresses.items)
+
+abbrev pub IsPlay : List Row → Play → Type 0
+IsPlay rows job = first_of (codes "file") rows ≡ option_map (λ script. script.now) job.script
+
+-- the job is that of the subcommand of this name, with the values of its matches
+abbrev pub IsJobOf : Text × List Row → Job → Type 0
+IsJobOf met (jobs.Serve job) = (met.0 ≡ codes "serve") × IsServe met.1 job
+IsJobOf met (jobs.Publish job) = (met.0 ≡ codes "pub") × IsPublish met.1 job
+IsJobOf met (jobs.Subscribe job) = (met.0 ≡ codes "sub") × IsSubscribe met.1 job
+IsJobOf met (jobs.Play job) = (met.0 ≡ codes "play") × IsPlay met.1 job
+
+-- the job is that of the subcommand that was met
+abbrev pub IsJob : Option (Text × List Row) → Job → Type 0
+IsJob None job = ⊥
+IsJob (Some met) job = IsJobOf met job
+
+-- a refusal of the words has one of these kinds
+abbrev pub IsRefusal : Kinds → LineFault → Type 0
+IsRefusal kinds (faults.Words error) = IsAmong (kind_of error) kinds
+IsRefusal kinds faults.Incomplete = Unit {0}
+IsRefusal kinds faults.Memory = Unit {0}

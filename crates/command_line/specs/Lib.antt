@@ -1,0 +1,4 @@
+pub mod Program
+pub mod Jobs
+pub mod Tables
+pub mod Inside

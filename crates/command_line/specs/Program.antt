@@ -1,0 +1,104 @@
+-- The program's command line: its subcommands and their arguments, as `clap` is told of them.
+use Rattle.std.specs.Prelude.{◌≡◌, ◌∷◌, [], ℕ, true, false, Some, codes, pos}
+use Rattle.clap.specs.Words.{App, Rule, Text, app_of, new_app, new_rule, rule_of}
+use Rattle.clap.specs.Words.{with_rule, with_subcommand}
+use Rattle.clap.specs.declared.builder.action.ArgAction.TheVariants.{Append, SetTrue}
+use Rattle.clap.specs.declared.builder.arg.Arg.{Arg}
+use Rattle.clap.specs.declared.builder.command.Command.{Command}
+use Rattle.clap.specs.declared.builder.command.Command.TheViews.{out-Command}
+use Rattle.clap.specs.declared.builder.value_parser.ValueParser.TheVariants as parsers
+
+-- `--name VALUE`, which has to be there
+abbrev pub required_option : Text → Rule
+required_option name =
+    record (new_rule name) { long = Some name; required = true; value_names = 1 }
+
+-- `--name N` with a number from `least` to `most`, which has to be there
+abbrev pub number_option : Text → ℕ → ℕ → Rule
+number_option name least most =
+    record (required_option name) { parser = Some (parsers.Signed (pos least) (pos most)) }
+
+abbrev pub config_rule : Rule
+config_rule = required_option (codes "config")
+
+abbrev pub qos_rule : Rule
+qos_rule = number_option (codes "qos") 0 2
+
+abbrev pub count_rule : Rule
+count_rule = number_option (codes "count") 1 1000000
+
+-- 10 where it is left out
+abbrev pub tries_rule : Rule
+tries_rule = record (number_option (codes "tries") 1 1000) {
+  required = false;
+  defaults = codes "10" ∷ [];
+}
+
+-- a flag
+abbrev pub retain_rule : Rule
+retain_rule = record (new_rule (codes "retain")) {
+  long = Some (codes "retain");
+  action = Some SetTrue;
+}
+
+-- `ADDR...`
+abbrev pub address_rule : Rule
+address_rule = record (new_rule (codes "address")) {
+  action = Some Append;
+  required = true;
+  value_names = 1;
+}
+
+-- `[FILE]`
+abbrev pub file_rule : Rule
+file_rule = record (new_rule (codes "file")) { value_names = 1 }
+
+abbrev pub serve_app : App
+serve_app = with_rule (new_app (codes "serve")) config_rule
+
+-- `--tries N ADDR...`, of `pub` and `sub`
+abbrev pub with_openings : App → App
+with_openings app = with_rule (with_rule app tries_rule) address_rule
+
+abbrev pub publish_app : App
+publish_app = with_openings
+    (with_rule
+    (with_rule
+    (with_rule
+    (with_rule (with_rule (new_app (codes "pub")) (required_option (codes "id")))
+    (required_option (codes "topic"))) qos_rule) (required_option (codes "message"))) retain_rule)
+
+abbrev pub subscribe_app : App
+subscribe_app = with_openings
+    (with_rule
+    (with_rule
+    (with_rule (with_rule (new_app (codes "sub")) (required_option (codes "id")))
+    (required_option (codes "filter"))) qos_rule) count_rule)
+
+abbrev pub play_app : App
+play_app = with_rule (new_app (codes "play")) file_rule
+
+-- the program without its subcommands: it has a version, and wants a subcommand
+abbrev pub bare_program : App
+bare_program = record (new_app (codes "vbroker")) {
+  top = record ((new_app (codes "vbroker")).top) {
+    has_version = true;
+    subcommand_required = true;
+    disable_help_subcommand = true;
+  };
+}
+
+-- the whole command line
+abbrev pub program : App
+program = with_subcommand
+    (with_subcommand
+    (with_subcommand (with_subcommand bare_program serve_app.top) publish_app.top)
+    subscribe_app.top) play_app.top
+
+-- the argument has this rule, and subcommands do not take it
+abbrev pub IsArgument : Rule → Arg → Type 0
+IsArgument rule arg = (rule_of arg ≡ rule) × (arg.global ≡ false)
+
+-- the command is read as this one, and no argument is taken by subcommands
+abbrev pub IsCommand : App → Command → Type 0
+IsCommand app command = (app_of command ≡ app) × ((out-Command command).has_globals ≡ false)

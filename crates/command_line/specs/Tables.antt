@@ -1,0 +1,47 @@
+-- The table of nodes, and the TOML document that says it.
+use Rattle.std.specs.Prelude.{◌≡◌, ◌==◌, ◌&&◌, ℕ, Bool, true, not, List, [], ◌∷◌, map, nat_le, codes, pos, Some, string_bytes}
+use Rattle.std.specs.List.{list_all, list_any}
+use Rattle.toml.specs.Data.{Data, Members, array, integer, member, no_members, string, table}
+use Rattle.toml.specs.Parse.{parse_document}
+use Rattle.toml.specs.View.{items_of}
+use Rattle.ballot_base.specs.LawfulConfig.{is_lawful}
+use Rattle.command_line.specs.declared.node_table.ListeningNode.{ListeningNode}
+use Rattle.command_line.specs.declared.node_table.NodeTable.{NodeTable}
+
+abbrev pub number : ℕ → Data
+number n = integer (pos n)
+
+-- a list of values, each said by `says`
+abbrev pub list_data : {X : Type 0} → (X → Data) → List X → Data
+list_data says xs = array (items_of (map says xs))
+
+-- `id = 1` and `listen = "127.0.0.1:1883"`, in the order of their keys
+abbrev pub node_data : ListeningNode → Data
+node_data node = table (member (codes "id") (number node.id)
+    (member (codes "listen") (string (string_bytes node.listen)) no_members))
+
+-- `members = [1]`, a table `[[node]]` for each node, and `primary = 1`, in the order of their keys
+abbrev pub document_of : NodeTable → Members
+document_of t = member (codes "members") (list_data number t.config.members)
+    (member (codes "node") (list_data node_data t.nodes.items)
+    (member (codes "primary") (number t.config.primary) no_members))
+
+-- one of the nodes has this number
+abbrev pub has : List ListeningNode → ℕ → Bool
+has nodes id = list_any (λ (node : ListeningNode). node.id == id) nodes
+
+-- each number is from 1 to 15, and none stands twice
+abbrev pub are_told_apart : List ListeningNode → Bool
+are_told_apart [] = true
+are_told_apart (node ∷ nodes) = (nat_le 1 node.id && nat_le node.id 15)
+    && (not (has nodes node.id) && are_told_apart nodes)
+
+-- the nodes can be told apart, and the members of ballot 1 are among them
+abbrev pub is_lawful_table : NodeTable → Bool
+is_lawful_table t = are_told_apart t.nodes.items
+    && (list_all (has t.nodes.items) t.config.members
+    && is_lawful t.config.members t.config.primary)
+
+-- the text is a TOML document that says this table and no more
+abbrev pub Says : List ℕ → NodeTable → Type 0
+Says text t = (parse_document text ≡ Some (document_of t)) × (is_lawful_table t ≡ true)

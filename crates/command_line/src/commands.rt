@@ -1,0 +1,128 @@
+// The program's subcommands.
+
+ghost use Rattle.std.specs.Prelude.{◌≡◌, IfOk};
+ghost use Rattle.clap.specs.Words.{App, Rule, new_app, with_rule, with_subcommand};
+ghost use Rattle.command_line.specs.Program.{IsArgument, IsCommand, bare_program, play_app, program, publish_app, serve_app, subscribe_app};
+
+use crate::arguments;
+use clap::{Arg, Command};
+use std::alloc::{AllocError, Global};
+
+const AFTER_HELP: &str = "Exit status: 0 done; 1 a fault of file, network or memory;
+2 a command line that was refused, or help; 3 a refused table, topic or other argument.
+
+Example:
+  vbroker serve --config examples/one.toml";
+
+const AFTER_SERVE: &str = "It serves until the end of standard input, or the line `quit`.
+
+Example:
+  vbroker serve --config examples/one.toml";
+
+const AFTER_PUBLISH: &str = "It writes nothing where all went well.
+
+Example:
+  vbroker pub --id switch --topic house/lamp --qos 2 --message on 127.0.0.1:1883";
+
+const AFTER_SUBSCRIBE: &str = "Each message is one line: QoS, retain, topic, payload.
+
+Example:
+  vbroker sub --id meter --filter 'house/#' --qos 2 --count 3 127.0.0.1:1883";
+
+const AFTER_PLAY: &str = "Example:
+  vbroker play takeover.script";
+
+/// The whole command line.
+pub(crate) fn program<'a>(alloc: Global) -> Result<Command<'a>, AllocError>
+    ensures { IfOk result (IsCommand program) }
+{
+    let command = bare_program(alloc);
+    let command = enter(command, serve(alloc)?)?;
+    let command = enter(command, publish(alloc)?)?;
+    let command = enter(command, subscribe(alloc)?)?;
+    enter(command, play(alloc)?)
+}
+
+// The program without its subcommands.
+fn bare_program<'a>(alloc: Global) -> Command<'a>
+    ensures { IsCommand bare_program result }
+{
+    Command::new(alloc, "vbroker")
+        .version("0.1.0")
+        .about("An MQTT 3.1.1 broker, and two small clients of it")
+        .after_help(AFTER_HELP)
+        .subcommand_required(true)
+        .disable_help_subcommand(true)
+}
+
+// A subcommand without its arguments.
+fn bare<'a>(alloc: Global, name: &'a str, about: &'a str, after_help: &'a str) -> Command<'a>
+    ensures { IsCommand (new_app name.entry.now) result }
+{
+    Command::new(alloc, name)
+        .about(about)
+        .after_help(after_help)
+}
+
+// The command with one argument more.
+fn add<'a>(command: Command<'a>, arg: Arg<'a>) -> Result<Command<'a>, AllocError>
+    ensures { (app : App) (rule : Rule) → IsCommand app command.entry → IsArgument rule arg.entry
+        → IfOk result (IsCommand (with_rule app rule)) }
+{
+    command.arg(arg)
+}
+
+// The command with one subcommand more.
+fn enter<'a>(command: Command<'a>, subcommand: Command<'a>) -> Result<Command<'a>, AllocError>
+    ensures { (app sub_app : App) → IsCommand app command.entry
+        → IsCommand sub_app subcommand.entry
+        → IfOk result (IsCommand (with_subcommand app sub_app.top)) }
+{
+    command.subcommand(subcommand)
+}
+
+// `serve`.
+fn serve<'a>(alloc: Global) -> Result<Command<'a>, AllocError>
+    ensures { IfOk result (IsCommand serve_app) }
+{
+    let command = bare(alloc, "serve", "Serves MQTT clients over TCP", AFTER_SERVE);
+    add(command, arguments::config(alloc))
+}
+
+// `pub`.
+fn publish<'a>(alloc: Global) -> Result<Command<'a>, AllocError>
+    ensures { IfOk result (IsCommand publish_app) }
+{
+    let about = "Publishes one message, and waits until it is acknowledged";
+    let command = bare(alloc, "pub", about, AFTER_PUBLISH);
+    let command = add(command, arguments::id(alloc))?;
+    let command = add(command, arguments::topic(alloc))?;
+    let command = add(command, arguments::qos(alloc))?;
+    let command = add(command, arguments::message(alloc))?;
+    let command = add(command, arguments::retain(alloc))?;
+    let command = add(command, arguments::tries(alloc))?;
+    add(command, arguments::addresses(alloc))
+}
+
+// `sub`.
+fn subscribe<'a>(alloc: Global) -> Result<Command<'a>, AllocError>
+    ensures { IfOk result (IsCommand subscribe_app) }
+{
+    let about = "Prints messages as they come, and ends behind the last";
+    let command = bare(alloc, "sub", about, AFTER_SUBSCRIBE);
+    let command = add(command, arguments::id(alloc))?;
+    let command = add(command, arguments::filter(alloc))?;
+    let command = add(command, arguments::qos(alloc))?;
+    let command = add(command, arguments::count(alloc))?;
+    let command = add(command, arguments::tries(alloc))?;
+    add(command, arguments::addresses(alloc))
+}
+
+// `play`.
+fn play<'a>(alloc: Global) -> Result<Command<'a>, AllocError>
+    ensures { IfOk result (IsCommand play_app) }
+{
+    let about = "Runs a script over nodes and clients; this version has none, and refuses it";
+    let command = bare(alloc, "play", about, AFTER_PLAY);
+    add(command, arguments::file(alloc))
+}

@@ -1,0 +1,119 @@
+// The values of a TOML document.
+
+ghost use Rattle.std.specs.Prelude.{◌≡◌, ◌≤◌, ◌↔◌, ℕ, List, true, Some, None, IfOk, IfSome, IsNone, IsErrOf};
+ghost use Rattle.std.specs.List.{list_all};
+ghost use Rattle.toml.specs.Data.{Data, Members as Entries, member};
+ghost use Rattle.toml.specs.View.{members_view, table_view, view};
+ghost use Rattle.command_line.specs.declared.node_table.ListeningNode.{ListeningNode};
+ghost use Rattle.command_line.specs.declared.node_table.NodeTable.{NodeTable};
+ghost use Rattle.command_line.specs.Tables.{document_of, list_data, node_data, number};
+ghost use Rattle.command_line.specs.Inside.Documents.{IsSmall, has_small_id, is_small};
+
+use crate::fault::TableFault;
+use crate::node_table::{ListeningNode, NodeTable};
+use ballot_base::{Config, Members};
+use std::alloc::Global;
+use std::collections::btree_map::Iter;
+use toml::{Table, Value};
+
+/// The table of nodes that a document says, whose numbers are at most 15.
+pub(crate) fn document_table(alloc: Global, document: &Table) -> Result<NodeTable, TableFault>
+    ensures value { IfOk result (λ t. table_view document.now ≡ document_of t) }
+    ensures shape { IsErrOf result TableFault.Shape → (t : NodeTable) → IsSmall t
+        → table_view document.now ≡ document_of t → ⊥ }
+{
+    let mut entries = document.iter();
+    let members = next_value(&mut entries, "members").ok_or(TableFault::Shape)?;
+    let nodes = next_value(&mut entries, "node").ok_or(TableFault::Shape)?;
+    let primary = next_value(&mut entries, "primary").ok_or(TableFault::Shape)?;
+    if entries.next().is_some() {
+        return Err(TableFault::Shape);
+    }
+    let primary = small_number(primary).ok_or(TableFault::Shape)?;
+    let members = numbers_of(alloc, members)?;
+    let nodes = nodes_of(alloc, nodes)?;
+    Ok(NodeTable {
+        config: Config { members, primary },
+        nodes,
+    })
+}
+
+// The value of the next entry, if its key is this one.
+fn next_value<'a>(entries: &mut Iter<'a, String, Value>, key: &str) -> Option<&'a Value>
+    ensures some { IfSome result (λ value. members_view entries.old
+        ≡ member key.now (view value.now) (members_view entries.new)) }
+    ensures none { IsNone result → (d : Data) (rest : Entries)
+        → members_view entries.old ≡ member key.now d rest → ⊥ }
+{
+    let (name, value) = entries.next()?;
+    if name.as_str() == key {
+        Some(value)
+    } else {
+        None
+    }
+}
+
+// A number from 0 to 15.
+fn small_number(value: &Value) -> Option<u8>
+    ensures some { IfSome result (λ n. view value.now ≡ number n) }
+    ensures none { IsNone result → (n : ℕ) → is_small n ≡ true → view value.now ≡ number n → ⊥ }
+{
+    let number = value.as_integer()?;
+    if 0 <= number && number <= 15 {
+        Some(number as u8)
+    } else {
+        None
+    }
+}
+
+// A list of numbers from 0 to 15.
+fn numbers_of(alloc: Global, value: &Value) -> Result<Members, TableFault>
+    ensures value { IfOk result (λ numbers. view value.now ≡ list_data number numbers) }
+    ensures shape { IsErrOf result TableFault.Shape → (ns : List ℕ) → list_all is_small ns ≡ true
+        → view value.now ≡ list_data number ns → ⊥ }
+{
+    let values = value.as_array().ok_or(TableFault::Shape)?;
+    let mut numbers = Vec::new(alloc);
+    for one in values {
+        let number = small_number(one).ok_or(TableFault::Shape)?;
+        numbers.push(number)?;
+    }
+    Members::from_slice(alloc, numbers.as_slice())
+        .ok()
+        .ok_or(TableFault::Memory)
+}
+
+// The nodes.
+fn nodes_of(alloc: Global, value: &Value) -> Result<Vec<ListeningNode>, TableFault>
+    ensures value { IfOk result (λ nodes. view value.now ≡ list_data node_data nodes.items) }
+    ensures shape { IsErrOf result TableFault.Shape → (nodes : List ListeningNode)
+        → list_all has_small_id nodes ≡ true → view value.now ≡ list_data node_data nodes → ⊥ }
+{
+    let values = value.as_array().ok_or(TableFault::Shape)?;
+    let mut nodes = Vec::new(alloc);
+    for one in values {
+        nodes.push(node_of(alloc, one)?)?;
+    }
+    Ok(nodes)
+}
+
+// A node.
+fn node_of(alloc: Global, value: &Value) -> Result<ListeningNode, TableFault>
+    ensures value { IfOk result (λ node. view value.now ≡ node_data node) }
+    ensures shape { IsErrOf result TableFault.Shape → (node : ListeningNode)
+        → has_small_id node ≡ true → view value.now ≡ node_data node → ⊥ }
+{
+    let table = value.as_table().ok_or(TableFault::Shape)?;
+    let mut entries = table.iter();
+    let id = next_value(&mut entries, "id").ok_or(TableFault::Shape)?;
+    let listen = next_value(&mut entries, "listen").ok_or(TableFault::Shape)?;
+    if entries.next().is_some() {
+        return Err(TableFault::Shape);
+    }
+    let id = small_number(id).ok_or(TableFault::Shape)?;
+    let listen = listen.as_str().ok_or(TableFault::Shape)?;
+    Ok(ListeningNode {
+        id,
+        listen: String::from_str(alloc, listen)?,
+    })
+}

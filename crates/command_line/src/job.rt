@@ -1,0 +1,66 @@
+// What a command line asks for.
+
+use packet::QoS;
+
+/// What a command line asks for: one of the subcommands, with its values. The texts are the user's words.
+#[derive(Debug, Drop)]
+pub enum Job<'a> {
+    /// To serve clients.
+    Serve(Serve<'a>),
+    /// To publish once.
+    Publish(Publish<'a>),
+    /// To print what is published.
+    Subscribe(Subscribe<'a>),
+    /// To run a script.
+    Play(Play<'a>),
+}
+
+/// To serve clients.
+#[derive(Debug, Drop)]
+pub struct Serve<'a> {
+    /// The file with the table of nodes.
+    pub config: &'a str,
+}
+
+/// To publish once.
+#[derive(Debug, Drop)]
+pub struct Publish<'a> {
+    /// The Client Identifier, which is not checked here.
+    pub id: &'a str,
+    /// The Topic Name, which is not checked here.
+    pub topic: &'a str,
+    /// How surely it is delivered.
+    pub qos: QoS,
+    /// The payload.
+    pub message: &'a str,
+    /// RETAIN.
+    pub retain: bool,
+    /// How many connections are opened at most, 1 to 1000.
+    pub tries: u32,
+    /// The addresses of servers, at least one, which are not checked here.
+    pub addresses: Vec<&'a str>,
+}
+
+/// To print what is published.
+#[derive(Debug, Drop)]
+pub struct Subscribe<'a> {
+    /// The Client Identifier, which is not checked here.
+    pub id: &'a str,
+    /// The Topic Filter, which is not checked here.
+    pub filter: &'a str,
+    /// The greatest QoS that is asked for.
+    pub qos: QoS,
+    /// How many publications are printed, 1 to 1,000,000.
+    pub count: u32,
+    /// How many connections are opened at most, 1 to 1000.
+    pub tries: u32,
+    /// The addresses of servers, at least one, which are not checked here.
+    pub addresses: Vec<&'a str>,
+}
+
+/// To run a script.
+#[derive(Debug, Drop)]
+pub struct Play<'a> {
+    /// The file with the script; without one it is standard input.
+    pub script: Option<&'a str>,
+}

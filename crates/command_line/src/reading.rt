@@ -1,0 +1,63 @@
+// The text of a table of nodes.
+
+ghost use Rattle.std.specs.Prelude.{◌≡◌, IfOk, IsErrOf};
+ghost use Rattle.std.specs.List.{list_all};
+ghost use Rattle.command_line.specs.declared.node_table.NodeTable.{NodeTable};
+ghost use Rattle.command_line.specs.Tables.{Says, are_told_apart, has, is_lawful_table};
+
+use crate::document::document_table;
+use crate::fault::TableFault;
+use crate::node_table::{ListeningNode, NodeTable};
+use std::alloc::Global;
+
+/// Reads the table of nodes out of a TOML document. [`TableFault::Shape`] comes exactly where the text is
+/// no document of a lawful table, or has a key more; the order of its keys is free.
+pub fn table(alloc: Global, text: &str) -> Result<NodeTable, TableFault>
+    ensures value { IfOk result (Says text.now) }
+    ensures shape { IsErrOf result TableFault.Shape → (t : NodeTable) → Says text.now t → ⊥ }
+{
+    let document = match toml::table_from_str(alloc, text) {
+        Ok(document) => document,
+        Err(error) if error.is_memory() => return Err(TableFault::Memory),
+        Err(_) => return Err(TableFault::Shape),
+    };
+    let read = document_table(alloc, &document)?;
+    if is_lawful(&read) {
+        Ok(read)
+    } else {
+        Err(TableFault::Shape)
+    }
+}
+
+// Whether the nodes can be told apart, and the members of ballot 1 are among them.
+fn is_lawful(read: &NodeTable) -> bool
+    ensures { result ≡ is_lawful_table read.now }
+{
+    let nodes = read.nodes.as_slice();
+    are_told_apart(nodes)
+        && (are_nodes(nodes, read.config.members.as_slice()) && read.config.is_lawful())
+}
+
+// Whether each number is from 1 to 15, and none stands twice.
+fn are_told_apart(nodes: &[ListeningNode]) -> bool
+    ensures { result ≡ are_told_apart nodes.now }
+{
+    let Some((node, others)) = nodes.split_first() else {
+        return true;
+    };
+    (1 <= node.id && node.id <= 15) && (!has(others, node.id) && are_told_apart(others))
+}
+
+// Whether each of these is a node.
+fn are_nodes(nodes: &[ListeningNode], members: &[u8]) -> bool
+    ensures { result ≡ list_all (has nodes.now) members.now }
+{
+    members.iter().all(|member| has(nodes, *member))
+}
+
+// Whether a node has this number.
+fn has(nodes: &[ListeningNode], id: u8) -> bool
+    ensures { result ≡ has nodes.now id }
+{
+    nodes.iter().any(|node| node.id == id)
+}

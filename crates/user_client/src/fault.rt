@@ -1,0 +1,51 @@
+// Why a client did not do what it was asked for.
+
+use client::ClientError;
+use std::alloc::{AllocError, AllocFailed};
+use topics::MalformedKind;
+
+/// Why a client did not do what it was asked for.
+#[derive(Clone, Copy, Debug, PartialEq, Eq)]
+pub enum ClientFault {
+    /// The identifier, the topic, the filter or the message was refused, by this number. No connection
+    /// was opened.
+    Refused(u8),
+    /// The server had a session of this identifier before.
+    SessionPresent,
+    /// All connections were lost, or the server lost the session.
+    Lost,
+    /// No memory was found.
+    Memory,
+    /// What was received could not be written out.
+    Output,
+}
+
+impl From<MalformedKind> for ClientFault {
+    fn from(kind: MalformedKind) -> ClientFault {
+        match kind {
+            MalformedKind::Memory => ClientFault::Memory,
+            other => ClientFault::Refused(other.number()),
+        }
+    }
+}
+
+impl From<ClientError> for ClientFault {
+    fn from(error: ClientError) -> ClientFault {
+        match error {
+            ClientError::Memory => ClientFault::Memory,
+            other => ClientFault::Refused(other.number()),
+        }
+    }
+}
+
+impl From<AllocError> for ClientFault {
+    fn from(_error: AllocError) -> ClientFault {
+        ClientFault::Memory
+    }
+}
+
+impl<T: Drop> From<AllocFailed<T>> for ClientFault {
+    fn from(_error: AllocFailed<T>) -> ClientFault {
+        ClientFault::Memory
+    }
+}

@@ -1,0 +1,19 @@
+//! Two small clients of an MQTT 3.1.1 server, for a person at a terminal: one publishes once, one prints
+//! what is published. They run over any streams, and open a new one where one is lost.
+#![tactic(auto)]
+
+mod errand;
+mod fault;
+mod printing;
+mod publisher;
+mod servers;
+mod subscriber;
+#[cfg(test)]
+mod tests;
+mod visiting;
+
+pub use fault::ClientFault;
+pub use printing::{print_line, print_text};
+pub use publisher::Publisher;
+pub use servers::Servers;
+pub use subscriber::Subscriber;
