@@ -41,7 +41,8 @@ pub(crate) fn serve_stream<J: NodeNaming, R: Wait + Clock>(
     let _ = shared.lanes.lock(rt).push(lane);
 }
 
-// Lists the connection while it is served.
+// Tells the node of the connection, and lists it while it is served. A port of which the node has not heard yet
+// is one that it closed, so it is listed behind that.
 fn listed<J: NodeNaming, R: Wait + Clock>(
     rt: &R,
     alloc: Global,
@@ -53,14 +54,18 @@ fn listed<J: NodeNaming, R: Wait + Clock>(
     let Ok(other) = Arc::try_clone(&link) else {
         return;
     };
+    let opened = Item::Opened(link.port, millis_since(rt, start));
+    send(rt, alloc, shared, lane, opened);
     if shared.door.enter(rt, other) {
         talk(rt, alloc, shared, lane, &link, start);
     }
+    send(rt, alloc, shared, lane, Item::Ended(link.port));
+    link.shut();
     shared.door.leave(rt, link.port);
     forget(rt, alloc, shared, link.port);
 }
 
-// Tells the node of the connection, of each piece that comes on it, and of its end.
+// Tells the node of each piece that comes on the connection, until its end.
 fn talk<J: NodeNaming, R: Wait + Clock>(
     rt: &R,
     alloc: Global,
@@ -69,24 +74,16 @@ fn talk<J: NodeNaming, R: Wait + Clock>(
     link: &Arc<Link, Global>,
     start: Instant,
 ) {
-    send(
-        rt,
-        alloc,
-        shared,
-        lane,
-        Item::Opened(link.port, millis_since(rt, start)),
-    );
-    if let Ok(mut room) = Vec::from_elem(alloc, 0u8, PIECE_BYTES) {
-        for _ in rt.forever() {
-            let Some(piece) = read_piece(alloc, &link.stream, room.as_mut_slice()) else {
-                break;
-            };
-            let item = Item::Bytes(link.port, piece, millis_since(rt, start));
-            send(rt, alloc, shared, lane, item);
-        }
+    let Ok(mut room) = Vec::from_elem(alloc, 0u8, PIECE_BYTES) else {
+        return;
+    };
+    for _ in rt.forever() {
+        let Some(piece) = read_piece(alloc, &link.stream, room.as_mut_slice()) else {
+            break;
+        };
+        let item = Item::Bytes(link.port, piece, millis_since(rt, start));
+        send(rt, alloc, shared, lane, item);
     }
-    send(rt, alloc, shared, lane, Item::Ended(link.port));
-    link.shut();
 }
 
 // The bytes that come next; none at the end of the stream, where it failed, and where there is no memory.

@@ -9,8 +9,6 @@ mod link;
 mod listening;
 mod own_thread;
 mod shared;
-#[cfg(test)]
-mod tests;
 mod turns;
 mod writing;
 

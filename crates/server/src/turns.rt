@@ -37,10 +37,14 @@ pub(crate) fn turn<J: NodeNaming, R: Wait>(rt: &R, alloc: Global, shared: &Share
             break;
         }
     }
+    let mut idle = Vec::new(alloc);
+    // Where there is no memory for them all are looked at.
+    let _ = shared.node.lock(rt).idle_ports(&mut idle);
     // From the last on, so that one that leaves meanwhile moves none past its turn.
     for place in (0..usize::from(crate::CONNECTIONS)).rev() {
-        if let Some(link) = shared.door.link_at(rt, place) {
-            flush(rt, alloc, shared, &link);
+        match shared.door.link_at(rt, place) {
+            Some(link) if !idle.contains(&link.port) => flush(rt, alloc, shared, &link),
+            _ => {}
         }
     }
 }
