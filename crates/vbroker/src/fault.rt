@@ -3,46 +3,81 @@
 ghost use Rattle.std.specs.Prelude.{◌≡◌};
 ghost use Rattle.vbroker.specs.Faults.{status_of};
 
+use command_line::TableFault;
 use node::{Memory, OpeningError};
-use std::{fmt, io};
+use std::alloc::AllocError;
+use std::io::ErrorKind;
+use thiserror::Error;
+use user_client::ClientFault;
 
-/// Why the program ends with another status than 0.
-#[derive(Clone, Copy, Debug, PartialEq, Eq)]
+/// Why the program ends with another status than 0. Its text is for the user.
+#[derive(Debug, Drop, Error)]
 pub enum Fault {
-    /// The command line is none that the program knows.
-    Words,
-    /// The address cannot be listened on.
-    Address,
     /// Memory was wanting.
+    #[error("out of memory")]
     Memory,
     /// Standard input could not be read.
+    #[error("standard input could not be read")]
     Input,
     /// Standard output could not be written.
+    #[error("standard output could not be written")]
     Output,
+    /// The clock could not be read.
+    #[error("the clock could not be read")]
+    Clock,
+    /// A file could not be read.
+    #[error("cannot read {0}: {1}")]
+    File(String, ErrorKind),
+    /// An address cannot be listened on.
+    #[error("cannot listen on {0}: {1}")]
+    Address(String, ErrorKind),
+    /// A word of the command line is no UTF-8, or a value is missing.
+    #[error("the words of the command line could not be read; try vbroker --help")]
+    Words,
+    /// The file is no table of nodes.
+    #[error("config")]
+    Config,
+    /// The table has more nodes than one.
+    #[error("this version serves one node, and the table has {0}; leave one [[node]] in it")]
+    SeveralNodes(usize),
+    /// A script was to be played.
+    #[error("this version plays no scripts")]
+    Script,
+    /// A client's identifier, topic, filter or message was refused.
+    #[error("refused {0}")]
+    Refused(u8),
+    /// The server had a session of the client's identifier before.
+    #[error("session present")]
+    SessionPresent,
+    /// All connections of a client were lost, or its session was.
+    #[error("lost")]
+    Lost,
 }
 
 impl Fault {
-    /// The exit status: 2 for a command line that is refused, 1 for a fault of memory or file.
-    pub fn status(self) -> u8
-        ensures { result ≡ status_of self }
+    /// The exit status: 1 for a fault of file, network or memory, 2 for a command line that is
+    /// refused, 3 for a refused table or argument.
+    pub fn status(&self) -> u8
+        ensures { result ≡ status_of self.now }
     {
         match self {
-            Fault::Words => 2,
-            Fault::Address | Fault::Memory | Fault::Input | Fault::Output => 1,
+            Fault::Memory
+            | Fault::Input
+            | Fault::Output
+            | Fault::Clock
+            | Fault::File(_, _)
+            | Fault::Address(_, _)
+            | Fault::SessionPresent
+            | Fault::Lost => 1,
+            Fault::Words | Fault::Script => 2,
+            Fault::Config | Fault::SeveralNodes(_) | Fault::Refused(_) => 3,
         }
     }
 }
 
-impl fmt::Display for Fault {
-    fn fmt<W: fmt::Write>(&self, f: &mut fmt::Formatter<W>) -> fmt::Result {
-        let text = match self {
-            Fault::Words => "the arguments are `serve ADDRESS`, `two` or none",
-            Fault::Address => "this address cannot be listened on",
-            Fault::Memory => "out of memory",
-            Fault::Input => "standard input could not be read",
-            Fault::Output => "standard output could not be written",
-        };
-        write!(f, "{text}")
+impl From<AllocError> for Fault {
+    fn from(_error: AllocError) -> Fault {
+        Fault::Memory
     }
 }
 
@@ -59,13 +94,23 @@ impl From<OpeningError> for Fault {
     }
 }
 
-impl From<io::Error> for Fault {
-    // Only the words of the command line are read by calls that answer so: one that is not UTF-8 is
-    // none that this program knows.
-    fn from(error: io::Error) -> Fault {
-        match error.kind() {
-            io::ErrorKind::OutOfMemory => Fault::Memory,
-            _ => Fault::Words,
+impl From<TableFault> for Fault {
+    fn from(fault: TableFault) -> Fault {
+        match fault {
+            TableFault::Shape => Fault::Config,
+            TableFault::Memory => Fault::Memory,
+        }
+    }
+}
+
+impl From<ClientFault> for Fault {
+    fn from(fault: ClientFault) -> Fault {
+        match fault {
+            ClientFault::Refused(number) => Fault::Refused(number),
+            ClientFault::SessionPresent => Fault::SessionPresent,
+            ClientFault::Lost => Fault::Lost,
+            ClientFault::Memory => Fault::Memory,
+            ClientFault::Output => Fault::Output,
         }
     }
 }

@@ -1,75 +1,82 @@
-//! The broker as a program. With the words `serve ADDRESS` it serves MQTT clients over TCP until the end of
-//! its standard input. Without a word all of standard input is one connection of node 1, and what the
-//! node puts out goes to standard output; with the word `two` node 2 is a member beside it.
+//! The broker as a program: it serves MQTT clients over TCP, publishes or prints as a client does itself, and
+//! without a word takes all of standard input for one connection of node 1.
 #![tactic(auto)]
 
 mod fault;
-mod pair;
+mod performing;
+mod piped;
 mod serving;
-#[cfg(test)]
-mod tests;
+mod standard_error;
+mod talking;
 
+use clap::error::ErrorKind;
+use command_line::{Job, LineFault, line};
 use fault::Fault;
-use node::{Config, Counted, Ending, Members, NodeCore, Service, run_connection};
-use pair::Pair;
-use std::alloc::Global;
+use performing::{perform, tell};
+use standard_error::StandardError;
 use std::net::{Net, TcpListener, TcpStream};
 use std::process::ExitCode;
-use std::rt::Env;
+use std::rt::{Env, Files};
 use std::sync::Wait;
 use std::thread::Threads;
 use std::time::Clock;
 use std::{env, io};
 
 fn main(rt: HostRuntime) -> ExitCode {
-    match run(&rt) {
-        Ok(()) => ExitCode::SUCCESS,
-        Err(fault) => {
-            // There is nowhere else to tell it.
-            let _ = eprintln!(rt; "vbroker: {fault}");
-            ExitCode::from(fault.status())
-        }
-    }
+    ExitCode::from(run(&rt))
 }
 
-// Runs the program by the words of its command line.
-fn run<R>(rt: &R) -> Result<(), Fault>
+// Does what the words of the command line say, and gives the exit status.
+fn run<R>(rt: &R) -> u8
 where
-    R: Env + Input + Print + Eprint + Threads + Wait + Clock + Sync + AllocGlobal,
+    R: Env + Files + Input + Print + Eprint + Threads + Wait + Clock + Sync + AllocGlobal,
     R: Net<Listener = TcpListener, Stream = TcpStream>,
 {
-    let mut words = env::args(rt)?;
-    words.next();
-    let Some(word) = words.next() else {
-        return serve(rt, &mut sole(rt.alloc())?);
+    let mut faults = StandardError::new(rt);
+    let words = match words(rt) {
+        Ok(words) => words,
+        Err(fault) => return tell(&mut faults, &fault),
     };
-    match (word.as_str(), words.next(), words.next()) {
-        ("two", None, None) => serve(rt, &mut Pair::new(rt.alloc())?),
-        ("serve", Some(address), None) => serving::run(rt, address.as_str()),
-        _ => Err(Fault::Words),
+    if let Some(ended) = piped::run(rt, words.as_slice()) {
+        return ended.map_or_else(|fault| tell(&mut faults, &fault), |()| 0);
+    }
+    match line(rt.alloc(), words.as_slice()) {
+        Ok(job) => do_job(rt, &job),
+        Err(fault) => refuse(rt, fault),
     }
 }
 
-// Node 1, the sole member of ballot 1.
-fn sole(alloc: Global) -> Result<NodeCore, Fault> {
-    let config = Config {
-        members: Members::from_slice(alloc, &[1])?,
-        primary: 1,
-    };
-    Ok(NodeCore::new(alloc, 1, &config)?)
+// Does a job over the standard streams.
+fn do_job<R>(rt: &R, job: &Job<'_>) -> u8
+where
+    R: Files + Input + Print + Eprint + Threads + Wait + Clock + Sync + AllocGlobal,
+    R: Net<Listener = TcpListener, Stream = TcpStream>,
+{
+    let mut input = rt.reader();
+    let mut output = io::writer(rt);
+    let mut faults = StandardError::new(rt);
+    perform(rt, job, &mut input, &mut output, &mut faults)
 }
 
-// Serves standard input and output as one connection.
-fn serve<R, S>(rt: &R, service: &mut S) -> Result<(), Fault>
-where
-    R: Input + Print + Wait + AllocGlobal,
-    S: Service,
-{
-    let mut input = Counted::new(rt.reader());
-    let mut output = Counted::new(io::writer(rt));
-    match run_connection(rt, rt.alloc(), service, &mut input, &mut output)? {
-        Ending::Closed | Ending::Ended => Ok(()),
-        Ending::ReadFault => Err(Fault::Input),
-        Ending::Stopped | Ending::WriteFault => Err(Fault::Output),
+// The words of the command line.
+fn words<R: Env + AllocGlobal>(rt: &R) -> Result<Vec<String>, Fault> {
+    let words = env::args(rt).ok().ok_or(Fault::Words)?;
+    Ok(words.collect(rt.alloc())?)
+}
+
+// Says why a command line gives no job. Help and the version go to standard output.
+fn refuse<R: Print + Eprint>(rt: &R, fault: LineFault) -> u8 {
+    match fault {
+        LineFault::Words(error) => {
+            // There is nowhere else to tell it.
+            let _ = error.print(rt);
+            if error.kind() == ErrorKind::DisplayVersion {
+                0
+            } else {
+                2
+            }
+        }
+        LineFault::Incomplete => tell(&mut StandardError::new(rt), &Fault::Words),
+        LineFault::Memory => tell(&mut StandardError::new(rt), &Fault::Memory),
     }
 }

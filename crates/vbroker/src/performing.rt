@@ -1,0 +1,45 @@
+// Doing a job.
+
+use crate::fault::Fault;
+use crate::{serving, talking};
+use command_line::Job;
+use std::io::{BufRead, Write};
+use std::net::{Net, TcpListener, TcpStream};
+use std::rt::Files;
+use std::sync::Wait;
+use std::thread::Threads;
+use std::time::Clock;
+
+/// Does a job over one reader and two writers, and gives the exit status. A fault is told in one line.
+pub fn perform<R, I, O, E>(
+    rt: &R,
+    job: &Job<'_>,
+    input: &mut I,
+    output: &mut O,
+    faults: &mut E,
+) -> u8
+where
+    R: Files + Threads + Wait + Clock + Sync + AllocGlobal,
+    R: Net<Listener = TcpListener, Stream = TcpStream>,
+    I: BufRead + Drop,
+    O: Write + Drop,
+    E: Write + Drop,
+{
+    let done = match job {
+        Job::Serve(job) => serving::run(rt, job, input, output, faults),
+        Job::Publish(job) => talking::publish(rt, job),
+        Job::Subscribe(job) => talking::subscribe(rt, job, output),
+        Job::Play(_) => Err(Fault::Script),
+    };
+    match done {
+        Ok(()) => 0,
+        Err(fault) => tell(faults, &fault),
+    }
+}
+
+/// Tells a fault, and gives its exit status.
+pub fn tell<E: Write>(faults: &mut E, fault: &Fault) -> u8 {
+    // There is nowhere else to tell it.
+    let _ = writeln!(faults, "vbroker: {fault}");
+    fault.status()
+}

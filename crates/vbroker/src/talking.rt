@@ -1,0 +1,75 @@
+// The two clients, over TCP.
+
+use crate::fault::Fault;
+use command_line::{Publish, Subscribe};
+use std::io::Write;
+use std::net::{Net, TcpStream};
+use std::thread;
+use std::time::{Clock, Duration};
+use user_client::{Publisher, Servers, Subscriber};
+
+/// How long a client waits behind a connection that was lost, in milliseconds.
+const REST: u64 = 200;
+
+// Servers at these addresses, each in its turn.
+#[derive(Drop)]
+struct TcpServers<'a, R> {
+    rt: &'a R,
+    addresses: &'a [&'a str],
+    next: usize,
+}
+
+impl<'a, R: Net<Stream = TcpStream> + Clock> Servers for TcpServers<'a, R> {
+    type Stream = TcpStream;
+
+    fn open(&mut self) -> Option<TcpStream> {
+        let address = self.addresses.get(self.next).or(self.addresses.first())?;
+        self.next = self.next.saturating_add(1);
+        if self.next >= self.addresses.len() {
+            self.next = 0;
+        }
+        let stream = TcpStream::connect(self.rt, *address).ok()?;
+        stream.set_nodelay(true).ok()?;
+        Some(stream)
+    }
+
+    fn rest(&mut self) {
+        thread::sleep(self.rt, Duration::from_millis(REST));
+    }
+}
+
+/// Publishes once. It writes nothing where all went well.
+pub fn publish<R>(rt: &R, job: &Publish<'_>) -> Result<(), Fault>
+where
+    R: Clock + AllocGlobal + Net<Stream = TcpStream>,
+{
+    let mut publisher = Publisher::new(
+        rt.alloc(),
+        job.id,
+        job.topic,
+        job.qos,
+        job.retain,
+        job.message,
+    )?;
+    let mut servers = TcpServers {
+        rt,
+        addresses: job.addresses.as_slice(),
+        next: 0,
+    };
+    Ok(publisher.run(&mut servers, job.tries)?)
+}
+
+/// Prints what is published, a line each.
+pub fn subscribe<R, O>(rt: &R, job: &Subscribe<'_>, output: &mut O) -> Result<(), Fault>
+where
+    R: Clock + AllocGlobal + Net<Stream = TcpStream>,
+    O: Write + Drop,
+{
+    let mut subscriber = Subscriber::new(rt.alloc(), job.id, job.filter, job.qos, job.count)?;
+    let mut servers = TcpServers {
+        rt,
+        addresses: job.addresses.as_slice(),
+        next: 0,
+    };
+    Ok(subscriber.run(&mut servers, output, job.tries)?)
+}
