@@ -1,6 +1,5 @@
 // Laws of groups with changes of configuration. The calls do nothing; their contracts are the laws.
 
-ghost use Rattle.machine.specs.Machine.{rules_by};
 ghost use Rattle.agreement.specs.Laws.{
   AgreedGrows,
   AnswersAtTheNextPlaces,
@@ -19,7 +18,7 @@ use machine::Machine;
 /// At each moment of a group there is an agreed list: the longest that is chosen in a ballot that
 /// was active.
 pub fn has_agreed<M: Machine>()
-    ensures { HasAgreed (rules_by M.opening M.start_of M.after M.gives) }
+    ensures { HasAgreed M.rules }
 {}
 
 /// The nodes agree on it: what is applied anywhere begins it, each member of the active
@@ -27,52 +26,52 @@ pub fn has_agreed<M: Machine>()
 /// holds it. What left is the machine's outputs at places of it, each place at most once, all that
 /// one ballot gave before all that a higher one gave, and in one ballot in rising order.
 pub fn nodes_agree<M: Machine>()
-    ensures { NodesAgree (rules_by M.opening M.start_of M.after M.gives) }
+    ensures { NodesAgree M.rules }
 {}
 
 /// What is agreed begins what is agreed at the next moment, whatever happens in between.
 pub fn agreed_grows<M: Machine>()
-    ensures { AgreedGrows (rules_by M.opening M.start_of M.after M.gives) }
+    ensures { AgreedGrows M.rules }
 {}
 
 /// The machine of each node that runs is the replay of the places that it applied, whichever log it
 /// was handed.
 pub fn machines_replay<M: Machine>()
-    ensures { MachinesReplay (rules_by M.opening M.start_of M.after M.gives) }
+    ensures { MachinesReplay M.rules }
 {}
 
 /// Of the commands that were taken in one ballot only, each log has a beginning in the order of
 /// proposing. Which were taken the past tells: those by which a log grew.
 pub fn keeps_the_order<M: Machine>()
-    ensures { KeepsTheOrder (rules_by M.opening M.start_of M.after M.gives) }
+    ensures { KeepsTheOrder M.rules }
 {}
 
 /// What a node takes in a step stands at once at the end of its log, and the node is the active
 /// primary of the ballot in which it is counted; a proposal that is not taken changes no log.
 pub fn taken_stand_at_once<M: Machine>()
-    ensures { TakenStandAtOnce (rules_by M.opening M.start_of M.after M.gives) }
+    ensures { TakenStandAtOnce M.rules }
 {}
 
 /// A ballot has one active primary: two nodes that were active in it, at whatever moments, are one.
 pub fn one_primary_a_ballot<M: Machine>()
-    ensures { OnePrimaryABallot (rules_by M.opening M.start_of M.after M.gives) }
+    ensures { OnePrimaryABallot M.rules }
 {}
 
 /// So all that was taken in a ballot was taken by the node that was its active primary, in that
 /// order.
 pub fn one_node_takes_a_ballot<M: Machine>()
-    ensures { OneNodeTakesABallot (rules_by M.opening M.start_of M.after M.gives) }
+    ensures { OneNodeTakesABallot M.rules }
 {}
 
 /// What a node gives in a step is the machine's answers at the next places of the agreed list: from
 /// where it had applied it to where it has applied it now, where it is the active primary, and else
 /// nothing. One that becomes the active primary gives nothing for what its log had before.
 pub fn answers_at_the_next_places<M: Machine>()
-    ensures { AnswersAtTheNextPlaces (rules_by M.opening M.start_of M.after M.gives) }
+    ensures { AnswersAtTheNextPlaces M.rules }
 {}
 
 /// So while a node is the active primary of one ballot it gives the answers at all places of the
 /// agreed list, from one moment to another: none is left out, and none comes twice.
 pub fn answers_while_it_leads<M: Machine>()
-    ensures { AnswersWhileItLeads (rules_by M.opening M.start_of M.after M.gives) }
+    ensures { AnswersWhileItLeads M.rules }
 {}

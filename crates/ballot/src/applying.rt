@@ -1,7 +1,7 @@
 // Commands that are done by the machine, place by place.
 
 ghost use Rattle.std.specs.Prelude.{◌≡◌, ◌≤◌, ◌++◌, length, map, take, drop, OnOk, OnErr};
-ghost use Rattle.machine.specs.Machine.{rules_by, replay_from};
+ghost use Rattle.machine.specs.Machine.{replay_from};
 ghost use Rattle.lists.specs.Lists.{IsPrefixOf};
 ghost use Rattle.ballot_base.specs.Applying.{outputs_from};
 
@@ -36,8 +36,7 @@ pub fn apply_dropping<M: Machine>(
     requires rising { from ≤ to }
     requires within { to ≤ length log.now }
     ensures { OnOk result
-        (machine.new ≡ replay_from (rules_by M.opening M.start_of M.after M.gives)
-        machine.old (drop from (take to log.now))) }
+        (machine.new ≡ replay_from M.rules machine.old (drop from (take to log.now))) }
 {
     for place in from..to {
         let mut given = Vec::new(alloc);
@@ -59,12 +58,10 @@ pub fn apply_places<M: Machine>(
     requires rising { from ≤ to }
     requires within { to ≤ length log.now }
     ensures state { OnOk result
-        (machine.new ≡ replay_from (rules_by M.opening M.start_of M.after M.gives)
-        machine.old (drop from (take to log.now))) }
+        (machine.new ≡ replay_from M.rules machine.old (drop from (take to log.now))) }
     ensures outputs { OnOk result
         (out.new.items ≡ out.old.items ++
-        outputs_from (rules_by M.opening M.start_of M.after M.gives)
-        machine.old from (drop from (take to log.now))) }
+        outputs_from M.rules machine.old from (drop from (take to log.now))) }
     ensures err { OnErr result (IsPrefixOf out.old.items out.new.items) }
 {
     for place in from..to {

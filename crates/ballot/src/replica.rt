@@ -1,7 +1,6 @@
 // One replica.
 
 ghost use Rattle.std.specs.Prelude.{◌≡◌, ◌≤◌, ◌<◌, ◌↔◌, ◌⊎◌, true, false, length, IfOk, OnOk, OnErr, IsErrOf, MatchResult, if◌then◌else◌};
-ghost use Rattle.machine.specs.Machine.{rules_by};
 ghost use Rattle.ballot.specs.Inside.{Sends, Lacks};
 ghost use Rattle.lists.specs.Lists.{IsPrefixOf};
 ghost use Rattle.ballot_base.specs.LawfulConfig.{is_lawful};
@@ -64,7 +63,7 @@ impl<M: Machine> Model for Replica<M> {
             log = r.log.items;
             base = 0;
             committed = r.committed;
-            machine = if r.stopped then M.opening else r.machine;
+            machine = if r.stopped then M.rules.opening else r.machine;
             role = r.role;
             members = r.members;
             previous = r.previous;
@@ -86,7 +85,7 @@ impl<M: Machine> Replica<M> {
         requires high { id ≤ 15 }
         ensures ok { IfOk result (λ replica.
             replica ≡ record {
-              state = opening (rules_by M.opening M.start_of M.after M.gives) id config.now;
+              state = opening M.rules id config.now;
               losses = 0;
             }) }
         ensures bad { IsErrOf result OpeningError.BadMembers
@@ -154,7 +153,7 @@ impl<M: Machine> Replica<M> {
     /// gone.
     pub fn stop(&mut self)
         ensures { self.new ≡ record self.old {
-          state = halted (rules_by M.opening M.start_of M.after M.gives) self.old.state;
+          state = halted M.rules self.old.state;
         } }
     {
         self.stopped = true;
@@ -170,12 +169,11 @@ impl<M: Machine> Replica<M> {
     ) -> Result<(), ProposeError>
         // The protocol's step, or one in which memory was wanting and that was counted.
         ensures step { self.old.state.stopped ≡ false →
-            Stepped (rules_by M.opening M.start_of M.after M.gives) self.old
-            (proposed (rules_by M.opening M.start_of M.after M.gives) self.old.state command)
+            Stepped M.rules self.old (proposed M.rules self.old.state command)
             self.new out.old.items out.new.items }
         ensures done { OnOk result
             (Done self.old
-            (added (rules_by M.opening M.start_of M.after M.gives) self.old.state command)
+            (added M.rules self.old.state command)
             self.new out.old.items out.new.items) }
 
         // When each refusal comes; want of memory alone is free to come at any time.
@@ -218,10 +216,9 @@ impl<M: Machine> Replica<M> {
         ensures outcome { MatchResult result
             (λ _.
             Done self.old
-            (added (rules_by M.opening M.start_of M.after M.gives) self.old.state command)
+            (added M.rules self.old.state command)
             self.new out.old.items out.new.items)
-            (λ error. Lacks (rules_by M.opening M.start_of M.after M.gives)
-            error self.old self.new) }
+            (λ error. Lacks M.rules error self.old self.new) }
         ensures err { OnErr result (out.new.items ≡ out.old.items) }
     {
         let before = out.len();
@@ -268,16 +265,14 @@ impl<M: Machine> Replica<M> {
         ensures state { OnOk result
             (self.new ≡ record self.old {
               state =
-                  (commit_at (rules_by M.opening M.start_of M.after M.gives)
-                  self.old.state held).state;
+                  (commit_at M.rules self.old.state held).state;
             }) }
         ensures effects { IfOk result
             (Sends out.old.items out.new.items
-            (commit_at (rules_by M.opening M.start_of M.after M.gives)
-            self.old.state held).effects) }
+            (commit_at M.rules self.old.state held).effects) }
         ensures stops { OnErr result
             (self.new ≡ record self.old {
-              state = halted (rules_by M.opening M.start_of M.after M.gives) self.old.state;
+              state = halted M.rules self.old.state;
             }) }
         ensures needed { OnErr result (self.old.state.committed < held) }
         ensures err { OnErr result (IsPrefixOf out.old.items out.new.items) }

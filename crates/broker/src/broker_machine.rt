@@ -34,26 +34,18 @@ impl Model for BrokerMachine {
 // It begins empty, and does a command as the step of a state with the limits of this broker says. It
 // is frozen to form 1.
 impl Machine for BrokerMachine {
-    ghost use Rattle.broker_model.specs.declared.command.Command.TheVariants.{Start};
     ghost use Rattle.broker_model.specs.Logged.{IsBrokerCommand};
-    ghost use Rattle.broker_base.specs.State.{empty_state};
     ghost use Rattle.broker_form.specs.Form.{frozen, thawed};
     ghost use Rattle.broker_form.specs.FormLaws.{IsUsualState};
     ghost use Rattle.broker_form.proofs.Thawing.{frozen_is_thawed};
-    ghost use Rattle.broker.specs.Standing.{after, answers};
+    ghost use Rattle.broker.specs.Standing.{broker_rules};
     ghost use Rattle.broker_form.proofs.UsualStates.{empty_is_usual, stays_usual};
 
     type Command = Command;
 
     type Output = Output;
 
-    ghost after = { after };
-
-    ghost gives = { answers };
-
-    ghost opening = { empty_state 16 };
-
-    ghost start_of = { Start };
+    ghost rules = { broker_rules };
 
     ghost frozen = { frozen };
 

@@ -5,6 +5,10 @@ use Rattle.machine.specs.declared.tally.TallyCommand.{TallyCommand}
 use Rattle.machine.specs.declared.tally.TallyCommand.TheVariants.{Add, Start}
 use Rattle.machine.specs.Tally.{total_after, bytes_of, tally_of}
 
+-- a tally begins below 2^64
+pub IsTotal-opening : 0 < 2 ^ 64
+IsTotal-opening = search rules
+
 -- a total stays below 2^64
 pub IsTotal-after : (total : ℕ) (command : TallyCommand) →
     total < 2 ^ 64 → total_after total command < 2 ^ 64

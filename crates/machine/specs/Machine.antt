@@ -11,12 +11,6 @@ pub record Rules (S C O : Type 0) : Type 0 where
   pub after : S → C → S
   pub gives : S → C → List O
 
--- the rules of a machine, from its members
-abbrev pub rules_by : {S C O : Type 0} →
-    S → (ℕ → C) → (S → C → S) → (S → C → List O) → Rules S C O
-rules_by opening start_of after gives =
-    record { opening = opening; start_of = start_of; after = after; gives = gives }
-
 -- the state after commands that were done one after the other from the state s
 abbrev pub replay_from : {S C O : Type 0} → Rules S C O → S → List C → S
 replay_from rules s [] = s

@@ -1,6 +1,7 @@
 -- Tally.antt: the machine that adds numbers modulo 2^64.
 use Rattle.std.specs.Prelude.{ℕ, ◌+◌, ◌%◌, ◌^◌, ◌<◌, ◌==◌, List, [], ◌∷◌, length, Option, Some, None, if◌then◌else◌}
 use Rattle.std.specs.Int.{w64, to_be_bytes, from_be_bytes}
+use Rattle.machine.specs.Machine.{Rules}
 use Rattle.machine.specs.declared.tally.Tally.{Tally}
 use Rattle.machine.specs.declared.tally.TallyCommand.{TallyCommand}
 use Rattle.machine.specs.declared.tally.TallyCommand.TheVariants.{Add, Start}
@@ -14,6 +15,16 @@ total_after total (Start ballot) = total
 abbrev pub totals_given : ℕ → TallyCommand → List ℕ
 totals_given total (Add number) = total_after total (Add number) ∷ []
 totals_given total (Start ballot) = []
+
+-- the rules of a tally: it begins at 0
+abbrev pub tally_rules : Rules Tally TallyCommand ℕ
+tally_rules =
+    record {
+      opening = record { total = 0 };
+      start_of = Start;
+      after = λ s c. record { total = total_after s.total c };
+      gives = λ s c. totals_given s.total c;
+    }
 
 -- the numbers of commands have 64 bits
 abbrev pub IsTallyCommand : TallyCommand → Type 0

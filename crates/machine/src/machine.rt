@@ -1,6 +1,7 @@
 // What a machine must be for its replicas to agree.
 
 ghost use Rattle.std.specs.Prelude.{ℕ, List, Option, Some, None, ◌≡◌, ◌++◌, IfOk, OnOk, OnErr};
+ghost use Rattle.machine.specs.Machine.{Rules};
 
 use crate::error::{Halted, Memory, ThawFault};
 use std::alloc::Global;
@@ -8,7 +9,8 @@ use std::alloc::Global;
 /// A deterministic machine: what it becomes and what it gives follow from its state and the
 /// command alone, so that replicas that take the same commands in the same order stay equal.
 ///
-/// `after` and `gives` are its rules. `IsState` and `IsCommand` hold of every value that a program
+/// `rules` says where every machine begins, which command begins a ballot, what a command makes of
+/// a state, and what it gives. `IsState` and `IsCommand` hold of every value that a program
 /// has in hand: they say which numbers and sizes there are.
 pub trait Machine: Drop {
     /// What a log holds.
@@ -16,15 +18,8 @@ pub trait Machine: Drop {
     /// What a command gives.
     type Output: Drop;
 
-    // The rules: the state after a command, and what the command gives, in order.
-    ghost after: { Self → Self.Command → Self };
-
-    ghost gives: { Self → Self.Command → List Self.Output };
-
-    // Where every machine begins, and the command that begins a ballot.
-    ghost opening: { Self };
-
-    ghost start_of: { ℕ → Self.Command };
+    // The rules, as one record.
+    ghost rules: { Rules Self Self.Command Self.Output };
 
     // The bytes that a state is frozen to, and the state that bytes stand for, if any.
     ghost frozen: { Self → List ℕ };
@@ -42,18 +37,18 @@ pub trait Machine: Drop {
 
     /// A machine at its beginning. All of them are equal; the only error is want of memory.
     fn fresh(alloc: Global) -> Result<Self, Memory>
-        ensures { IfOk result (λ machine. machine ≡ opening) };
+        ensures { IfOk result (λ machine. machine ≡ rules.opening) };
 
     /// The command that each log takes at the beginning of a ballot after the first.
     fn start(ballot: u64) -> Self::Command
-        ensures { result ≡ start_of ballot };
+        ensures { result ≡ rules.start_of ballot };
 
     /// Does one command and appends what it gives to `out`. [`Halted`] comes only where a growth
     /// was refused: `out` is then as before, and the machine is not used again.
     fn apply(&mut self, command: &Self::Command, out: &mut Vec<Self::Output>) -> Result<(), Halted>
-        ensures state { OnOk result (self.new ≡ after self.old command.now) }
+        ensures state { OnOk result (self.new ≡ rules.after self.old command.now) }
         ensures outputs { OnOk result
-            (out.new.items ≡ out.old.items ++ gives self.old command.now) }
+            (out.new.items ≡ out.old.items ++ rules.gives self.old command.now) }
         ensures err { OnErr result (out.new.items ≡ out.old.items) }
         ensures valid { IsState self.old };
 
@@ -70,9 +65,10 @@ pub trait Machine: Drop {
         ensures shape { result ≡ Err ThawFault.Shape → thawed bytes.now ≡ None };
 
     // The laws.
-    ghost opens: { IsState opening };
+    ghost opens: { IsState rules.opening };
 
-    ghost keeps: { (s : Self) (c : Self.Command) → IsState s → IsCommand c → IsState (after s c) };
+    ghost keeps: { (s : Self) (c : Self.Command) →
+        IsState s → IsCommand c → IsState (rules.after s c) };
 
     ghost thaws: { (s : Self) → IsState s → thawed (frozen s) ≡ Some s };
 }

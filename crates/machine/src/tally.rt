@@ -21,22 +21,14 @@ pub enum TallyCommand {
 
 impl Machine for Tally {
     ghost use Rattle.std.specs.Prelude.{ℕ, List, Option, Some, None, ◌≡◌, ◌<◌, ◌^◌};
-    ghost use Rattle.std.proofs.Common.{rules};
-    ghost use Rattle.machine.specs.declared.tally.TallyCommand.TheVariants.{Start};
-    ghost use Rattle.machine.specs.Tally.{total_after, totals_given, bytes_of, tally_of, IsTallyCommand};
-    ghost use Rattle.machine.specs.Inside.{tally_of-bytes_of, IsTotal-after};
+    ghost use Rattle.machine.specs.Tally.{tally_rules, bytes_of, tally_of, IsTallyCommand};
+    ghost use Rattle.machine.specs.Inside.{IsTotal-opening, IsTotal-after, tally_of-bytes_of};
 
     type Command = TallyCommand;
 
     type Output = u64;
 
-    ghost after = { λ s c. record { total = total_after s.total c } };
-
-    ghost gives = { λ s c. totals_given s.total c };
-
-    ghost opening = { record { total = 0 } };
-
-    ghost start_of = { λ ballot. Start ballot };
+    ghost rules = { tally_rules };
 
     ghost frozen = { λ s. bytes_of s.total };
 
@@ -90,7 +82,7 @@ impl Machine for Tally {
         }
     }
 
-    ghost opens = { Prim.search rules };
+    ghost opens = { IsTotal-opening };
 
     ghost keeps = { λ s c state command. IsTotal-after s.total c state };
 

@@ -1,7 +1,6 @@
 // A group of replicas and their master.
 
 ghost use Rattle.std.specs.Prelude.{ℕ, ◌-◌, ◌≡◌, ◌<◌, ◌≤◌, ◌↔◌, true, false, None, Some, [], length, slice_get, map, List, ◌∷◌, IfOk, IfSome, OnOk, OnErr, IsErr, IsErrOf};
-ghost use Rattle.machine.specs.Machine.{rules_by};
 ghost use Rattle.ballot.specs.Body.TheVariants.{Activate};
 ghost use Rattle.ballot.specs.Protocol.{replica_step};
 ghost use Rattle.ballot.specs.Protocol.Input.{Receives};
@@ -47,7 +46,6 @@ pub struct Group<M: Machine> {
 
 impl<M: Machine> Model for Group<M> {
     ghost use Rattle.std.specs.Prelude.{◌≡◌, []};
-    ghost use Rattle.machine.specs.Machine.{rules_by};
     ghost use Rattle.master.specs.Group.{GroupState};
     ghost use Rattle.master.specs.Inside.{IsGroup, moment_of};
     ghost use Rattle.agreement.specs.World.{messages};
@@ -63,7 +61,7 @@ impl<M: Machine> Model for Group<M> {
     // Some past led up to here.
     ghost invariant = { λ g.
         (messages g.left.items ≡ []) ×
-        IsGroup (rules_by M.opening M.start_of M.after M.gives)
+        IsGroup M.rules
         (moment_of g.master g.nodes.items g.sent.items g.left.items) g.told g.next };
 }
 
@@ -73,11 +71,10 @@ impl<M: Machine> Group<M> {
     pub fn opening(alloc: Global, nodes: u8, config: Config) -> Result<Group<M>, OpeningError>
         ensures ok { IfOk result (λ group.
             group ≡ record {
-              moment = opening_moment (rules_by M.opening M.start_of M.after M.gives) nodes config;
+              moment = opening_moment M.rules nodes config;
               losses = 0;
             }) }
-        ensures opens { IfOk result (λ group.
-            Past (rules_by M.opening M.start_of M.after M.gives) config (group.moment ∷ [])) }
+        ensures opens { IfOk result (λ group. Past M.rules config (group.moment ∷ [])) }
         ensures bad { IsErrOf result OpeningError.BadMembers ↔ (can_open nodes config ≡ false) }
     {
         if !can_open(nodes, &config) {
@@ -107,26 +104,19 @@ impl<M: Machine> Group<M> {
     /// Lets one thing happen. [`Idle`] comes for what cannot happen now, and changes nothing. Where
     /// memory is wanting, messages are lost, nothing happens, or the node stops.
     pub fn step(&mut self, event: &Event<M::Command>) -> Result<(), Idle>
-        ensures step { StepsBy
-            (rules_by M.opening M.start_of M.after M.gives) self.old event.now self.new }
+        ensures step { StepsBy M.rules self.old event.now self.new }
         ensures exact { LosesNothing self.old self.new →
-            self.new.moment ≡ group_step
-            (rules_by M.opening M.start_of M.after M.gives) event.now self.old.moment }
-        ensures idle { IsErr result ↔ (turn
-            (rules_by M.opening M.start_of M.after M.gives) self.old.moment event.now ≡ None) }
+            self.new.moment ≡ group_step M.rules event.now self.old.moment }
+        ensures idle { IsErr result ↔ (turn M.rules self.old.moment event.now ≡ None) }
         ensures same { OnErr result (self.new ≡ self.old) }
         // What needs no memory is done exactly, however little there is, and counts as no loss.
-        ensures quiet { TakesNoMemory (rules_by M.opening M.start_of M.after M.gives)
-            self.old.moment event.now →
-            self.new ≡ done_exactly (rules_by M.opening M.start_of M.after M.gives)
-            self.old event.now }
+        ensures quiet { TakesNoMemory M.rules self.old.moment event.now →
+            self.new ≡ done_exactly M.rules self.old event.now }
         // Whatever led up to here, the nodes agree behind the event, what left is in order, and what
         // is agreed has only grown.
         ensures agreement { (config : Config) (past : List (Moment M M.Command M.Output)) →
-            Past (rules_by M.opening M.start_of M.after M.gives)
-            config (self.old.moment ∷ past) →
-            AgreesAfter (rules_by M.opening M.start_of M.after M.gives)
-            config (self.old.moment ∷ past) self.new.moment }
+            Past M.rules config (self.old.moment ∷ past) →
+            AgreesAfter M.rules config (self.old.moment ∷ past) self.new.moment }
     {
         match event {
             Event::Propose(node, command) => self.propose(*node, command),
@@ -140,18 +130,14 @@ impl<M: Machine> Group<M> {
     /// Lets events happen one after the other. Idle ones are passed over.
     pub fn run(&mut self, events: &[Event<M::Command>])
         // Each event is done exactly, or with losses that are counted there.
-        ensures run { Run (rules_by M.opening M.start_of M.after M.gives)
-            self.old events.now self.new }
+        ensures run { Run M.rules self.old events.now self.new }
         ensures exact { LosesNothing self.old self.new →
-            self.new.moment ≡ group_run
-            (rules_by M.opening M.start_of M.after M.gives) events.now self.old.moment }
+            self.new.moment ≡ group_run M.rules events.now self.old.moment }
         // Whatever led up to here, the nodes agree behind the events, what left is in order, and
         // what is agreed has only grown.
         ensures agreement { (config : Config) (past : List (Moment M M.Command M.Output)) →
-            Past (rules_by M.opening M.start_of M.after M.gives)
-            config (self.old.moment ∷ past) →
-            AgreesAfter (rules_by M.opening M.start_of M.after M.gives)
-            config (self.old.moment ∷ past) self.new.moment }
+            Past M.rules config (self.old.moment ∷ past) →
+            AgreesAfter M.rules config (self.old.moment ∷ past) self.new.moment }
     {
         for event in events {
             let _ = self.step(event);
@@ -161,8 +147,7 @@ impl<M: Machine> Group<M> {
     /// The agreed list: the longest that is chosen in a ballot that was active.
     pub fn agreed(&self) -> &[M::Command]
         ensures { (config : Config) (past : List (Moment M M.Command M.Output)) →
-            Past (rules_by M.opening M.start_of M.after M.gives)
-            config (self.now.moment ∷ past) →
+            Past M.rules config (self.now.moment ∷ past) →
             IsAgreed config (self.now.moment ∷ past) result.now }
     {
         let length = self.agreed_len() as usize;
@@ -176,8 +161,7 @@ impl<M: Machine> Group<M> {
     pub fn agreed_len(&self) -> u64
         ensures { (config : Config) (past : List (Moment M M.Command M.Output))
             (agreed : List M.Command) →
-            Past (rules_by M.opening M.start_of M.after M.gives)
-            config (self.now.moment ∷ past) →
+            Past M.rules config (self.now.moment ∷ past) →
             IsAgreed config (self.now.moment ∷ past) agreed → result ≡ length agreed }
     {
         let (_, members) = self.master.active();
@@ -218,15 +202,12 @@ impl<M: Machine> Group<M> {
     }
 
     fn propose(&mut self, node: u8, command: &M::Command) -> Result<(), Idle>
-        ensures step { StepsBy (rules_by M.opening M.start_of M.after M.gives)
-            self.old (Event.Propose node command.now) self.new }
-        ensures idle { IsErr result ↔ (turn (rules_by M.opening M.start_of M.after M.gives)
+        ensures step { StepsBy M.rules self.old (Event.Propose node command.now) self.new }
+        ensures idle { IsErr result ↔ (turn M.rules
             self.old.moment (Event.Propose node command.now) ≡ None) }
         ensures same { OnErr result (self.new ≡ self.old) }
-        ensures quiet { TakesNoMemory (rules_by M.opening M.start_of M.after M.gives)
-            self.old.moment (Event.Propose node command.now) →
-            self.new ≡ done_exactly (rules_by M.opening M.start_of M.after M.gives)
-            self.old (Event.Propose node command.now) }
+        ensures quiet { TakesNoMemory M.rules self.old.moment (Event.Propose node command.now) →
+            self.new ≡ done_exactly M.rules self.old (Event.Propose node command.now) }
     {
         let Some(at) = self.running(node) else {
             return Err(Idle);
@@ -243,15 +224,12 @@ impl<M: Machine> Group<M> {
     }
 
     fn assign(&mut self, config: &Config) -> Result<(), Idle>
-        ensures step { StepsBy (rules_by M.opening M.start_of M.after M.gives)
-            self.old (Event.Assign config.now) self.new }
-        ensures idle { IsErr result ↔ (turn (rules_by M.opening M.start_of M.after M.gives)
+        ensures step { StepsBy M.rules self.old (Event.Assign config.now) self.new }
+        ensures idle { IsErr result ↔ (turn M.rules
             self.old.moment (Event.Assign config.now) ≡ None) }
         ensures same { OnErr result (self.new ≡ self.old) }
-        ensures quiet { TakesNoMemory (rules_by M.opening M.start_of M.after M.gives)
-            self.old.moment (Event.Assign config.now) →
-            self.new ≡ done_exactly (rules_by M.opening M.start_of M.after M.gives)
-            self.old (Event.Assign config.now) }
+        ensures quiet { TakesNoMemory M.rules self.old.moment (Event.Assign config.now) →
+            self.new ≡ done_exactly M.rules self.old (Event.Assign config.now) }
     {
         if !self.master.can_assign(config) {
             return Err(Idle);
@@ -283,15 +261,11 @@ impl<M: Machine> Group<M> {
     }
 
     fn deliver(&mut self, number: u64) -> Result<(), Idle>
-        ensures step { StepsBy (rules_by M.opening M.start_of M.after M.gives)
-            self.old (Event.Deliver number) self.new }
-        ensures idle { IsErr result ↔ (turn (rules_by M.opening M.start_of M.after M.gives)
-            self.old.moment (Event.Deliver number) ≡ None) }
+        ensures step { StepsBy M.rules self.old (Event.Deliver number) self.new }
+        ensures idle { IsErr result ↔ (turn M.rules self.old.moment (Event.Deliver number) ≡ None) }
         ensures same { OnErr result (self.new ≡ self.old) }
-        ensures quiet { TakesNoMemory (rules_by M.opening M.start_of M.after M.gives)
-            self.old.moment (Event.Deliver number) →
-            self.new ≡ done_exactly (rules_by M.opening M.start_of M.after M.gives)
-            self.old (Event.Deliver number) }
+        ensures quiet { TakesNoMemory M.rules self.old.moment (Event.Deliver number) →
+            self.new ≡ done_exactly M.rules self.old (Event.Deliver number) }
     {
         let Some((receiver, message)) = self.sent.get(number as usize) else {
             return Err(Idle);
@@ -333,15 +307,11 @@ impl<M: Machine> Group<M> {
     }
 
     fn tick(&mut self, node: u8) -> Result<(), Idle>
-        ensures step { StepsBy (rules_by M.opening M.start_of M.after M.gives)
-            self.old (Event.Tick node) self.new }
-        ensures idle { IsErr result ↔ (turn (rules_by M.opening M.start_of M.after M.gives)
-            self.old.moment (Event.Tick node) ≡ None) }
+        ensures step { StepsBy M.rules self.old (Event.Tick node) self.new }
+        ensures idle { IsErr result ↔ (turn M.rules self.old.moment (Event.Tick node) ≡ None) }
         ensures same { OnErr result (self.new ≡ self.old) }
-        ensures quiet { TakesNoMemory (rules_by M.opening M.start_of M.after M.gives)
-            self.old.moment (Event.Tick node) →
-            self.new ≡ done_exactly (rules_by M.opening M.start_of M.after M.gives)
-            self.old (Event.Tick node) }
+        ensures quiet { TakesNoMemory M.rules self.old.moment (Event.Tick node) →
+            self.new ≡ done_exactly M.rules self.old (Event.Tick node) }
     {
         let Some(at) = self.running(node) else {
             return Err(Idle);
@@ -354,15 +324,11 @@ impl<M: Machine> Group<M> {
     }
 
     fn crash(&mut self, node: u8) -> Result<(), Idle>
-        ensures step { StepsBy (rules_by M.opening M.start_of M.after M.gives)
-            self.old (Event.Crash node) self.new }
-        ensures idle { IsErr result ↔ (turn (rules_by M.opening M.start_of M.after M.gives)
-            self.old.moment (Event.Crash node) ≡ None) }
+        ensures step { StepsBy M.rules self.old (Event.Crash node) self.new }
+        ensures idle { IsErr result ↔ (turn M.rules self.old.moment (Event.Crash node) ≡ None) }
         ensures same { OnErr result (self.new ≡ self.old) }
-        ensures quiet { TakesNoMemory (rules_by M.opening M.start_of M.after M.gives)
-            self.old.moment (Event.Crash node) →
-            self.new ≡ done_exactly (rules_by M.opening M.start_of M.after M.gives)
-            self.old (Event.Crash node) }
+        ensures quiet { TakesNoMemory M.rules self.old.moment (Event.Crash node) →
+            self.new ≡ done_exactly M.rules self.old (Event.Crash node) }
     {
         let Some(at) = self.running(node) else {
             return Err(Idle);
@@ -392,7 +358,7 @@ impl<M: Machine> Group<M> {
         requires { at < length self.now.moment.world.nodes }
         ensures { (r : ReplicaState M M.Command) →
             slice_get self.now.moment.world.nodes at ≡ Some r →
-            ((result ≡ false) ↔ (replica_step (rules_by M.opening M.start_of M.after M.gives)
+            ((result ≡ false) ↔ (replica_step M.rules
             r (Receives message.now) ≡ nothing_done M.Output r)) }
     {
         self.nodes[at].heeds(message)
@@ -406,12 +372,10 @@ impl<M: Machine> Group<M> {
         requires may { MayTake self.old.moment.world at (input_of taken) }
         ensures { (replica : ReplicaState M M.Command) →
             slice_get self.old.moment.world.nodes at ≡ Some replica →
-            TookTurn (rules_by M.opening M.start_of M.after M.gives) self.old
-            (record {
+            TookTurn M.rules self.old (record {
               place = at;
               before = replica;
-              outcome = replica_step (rules_by M.opening M.start_of M.after M.gives)
-                  replica (input_of taken);
+              outcome = replica_step M.rules replica (input_of taken);
             }) self.new }
     {
         let from = self.left.len();

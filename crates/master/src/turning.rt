@@ -3,7 +3,6 @@
 ghost use Rattle.std.specs.Prelude.{◌≡◌, ◌≤◌, false, [], ◌∷◌, ◌++◌, length, take, drop, ◌&&◌, if◌then◌else◌};
 ghost use Rattle.ballot.specs.Losses.{one_more};
 ghost use Rattle.std.specs.Bool.{OnTrue, OnFalse};
-ghost use Rattle.machine.specs.Machine.{rules_by};
 ghost use Rattle.ballot.specs.Protocol.{replica_step};
 ghost use Rattle.agreement.specs.World.{messages};
 ghost use Rattle.master.specs.Inside.{Parted, TookIn, input_of, is_message};
@@ -29,9 +28,8 @@ pub fn take_in<M: Machine>(
     out: &mut Vec<Effect<M::Command, M::Output>>,
 ) -> bool
     requires { replica.old.state.stopped ≡ false }
-    ensures { TookIn (rules_by M.opening M.start_of M.after M.gives) replica.old.state
-        (replica_step (rules_by M.opening M.start_of M.after M.gives)
-        replica.old.state (input_of taken))
+    ensures { TookIn M.rules replica.old.state
+        (replica_step M.rules replica.old.state (input_of taken))
         replica.new.state out.old.items out.new.items result }
 {
     let before = replica.losses();

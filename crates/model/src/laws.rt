@@ -1,6 +1,5 @@
 // Laws of every world of clients and nodes. The calls do nothing; their contracts are the laws.
 
-ghost use Rattle.machine.specs.Machine.{rules_by};
 ghost use Rattle.model.specs.Agreed.{AgreedKeepsTheOrder};
 ghost use Rattle.model.specs.Exact.{WorldsAreExact};
 ghost use Rattle.model.specs.Groups.{GroupsServe};
@@ -25,7 +24,7 @@ pub fn worlds_are_served()
 /// Of the commands that were taken in one ballot only, as those of one connection are, the list on which nodes agree has a
 /// beginning in the order of proposing; the past tells which were taken.
 pub fn agreed_keeps_the_order<M: Machine>()
-    ensures { AgreedKeepsTheOrder (rules_by M.opening M.start_of M.after M.gives) }
+    ensures { AgreedKeepsTheOrder M.rules }
 {}
 
 /// A group of nodes that take of each connection the packets that its end has read, in order and in the ballot of its name,

@@ -1,12 +1,11 @@
 -- A node: one replica of the broker with its connections, and how it opens.
 use Rattle.std.specs.Prelude.{ℕ, Bool, not, ◌&&◌, List, []}
 use Rattle.ballot.specs.Machine.{Rules}
-use Rattle.broker_base.specs.State.{State, empty_state}
+use Rattle.broker_base.specs.State.{State}
 use Rattle.broker_model.specs.Connection.{ConnectionName}
 use Rattle.broker_model.specs.declared.command.Command.{Command}
-use Rattle.broker_model.specs.declared.command.Command.TheVariants.{Start}
 use Rattle.broker_model.specs.declared.command.Output.{Output}
-use Rattle.broker.specs.Standing.{after, answers}
+use Rattle.broker.specs.Standing.{broker_rules}
 use Rattle.ballot.specs.Config.{Config}
 use Rattle.ballot.specs.Effect.{Effect}
 use Rattle.ballot.specs.Replica.{CountedReplica, is_active, opening}
@@ -29,9 +28,9 @@ pub record Turn : Type 0 where
   pub core : CoreState
   pub messages : List (Effect Command Output)
 
--- the broker's rules: a window of 16 at first, then step by step
+-- the rules of the machine that a node replicates
 abbrev pub rules : Rules State Command Output
-rules = record { opening = empty_state 16; start_of = Start; after = after; gives = answers }
+rules = broker_rules
 
 -- a new node: the replica opens in ballot 1, and no connection was opened yet
 abbrev pub opening_core : ℕ → Config → CoreState

@@ -1,7 +1,6 @@
 // What a replica does when its ballot becomes active.
 
 ghost use Rattle.std.specs.Prelude.{◌≡◌, ◌++◌, ◌&&◌, ◌==◌, nat_lt, nat_le, true, false, [], ◌∷◌, ◌-◌, ◌<◌, List, length, take, IfOk, OnOk, OnErr, MatchResult};
-ghost use Rattle.machine.specs.Machine.{rules_by};
 ghost use Rattle.ballot.specs.Inside.{Begins, Sends, Went};
 ghost use Rattle.ballot_base.specs.Changing.{on_activated};
 ghost use Rattle.ballot_base.specs.Replica.{is_installing, others, progress_at};
@@ -30,8 +29,7 @@ impl<M: Machine> Replica<M> {
         out: &mut Vec<Effect<M::Command, M::Output>>,
     ) -> Result<(), Halted>
         requires { self.old.state.stopped ≡ false }
-        ensures went { Went (rules_by M.opening M.start_of M.after M.gives) self.old
-            (on_activated (rules_by M.opening M.start_of M.after M.gives) self.old.state ballot)
+        ensures went { Went M.rules self.old (on_activated M.rules self.old.state ballot)
             self.new out.old.items out.new.items }
         ensures ok { OnOk result (self.new.state.stopped ≡ false) }
         ensures err { OnErr result ((self.new.state.stopped ≡ true) ×
@@ -75,7 +73,7 @@ impl<M: Machine> Replica<M> {
             progress_at (length self.old.state.log)
             (others self.old.state.id self.old.state.members)) }
         ensures state { OnOk result (self.new ≡ record self.old {
-          state = record self.old.state { log = self.old.state.log ++ M.start_of ballot ∷ [] };
+          state = record self.old.state { log = self.old.state.log ++ M.rules.start_of ballot ∷ [] };
         }) }
         ensures err { OnErr result (self.new ≡ self.old) }
     {
@@ -93,14 +91,13 @@ impl<M: Machine> Replica<M> {
         requires behind { self.old.state.committed < length self.old.state.log }
         ensures earlier { IfOk result (λ waiting. waiting.items ≡ self.old.state.progress) }
         ensures state { OnOk result (self.new ≡ record self.old {
-          state = record (applied_to (rules_by M.opening M.start_of M.after M.gives)
-              self.old.state (length self.old.state.log - 1)) {
-                role = Role.Active;
-                progress = progress.items;
-              };
+          state = record (applied_to M.rules self.old.state (length self.old.state.log - 1)) {
+            role = Role.Active;
+            progress = progress.items;
+          };
         }) }
         ensures stops { OnErr result (self.new ≡ record self.old {
-          state = halted (rules_by M.opening M.start_of M.after M.gives) self.old.state;
+          state = halted M.rules self.old.state;
         }) }
     {
         let held = self.log.len() as u64 - 1;
@@ -131,7 +128,7 @@ impl<M: Machine> Replica<M> {
         requires some { 0 < length self.old.state.log }
         requires behind { committed < length self.old.state.log }
         ensures outcome { MatchResult result
-            (λ _. Begins (rules_by M.opening M.start_of M.after M.gives) self.old self.new
+            (λ _. Begins M.rules self.old self.new
             out.old.items out.new.items)
             (λ _. (out.new.items ≡ out.old.items) × (self.new ≡ record {
               state = record self.old.state {
@@ -140,7 +137,7 @@ impl<M: Machine> Replica<M> {
                 role = Role.Installing;
                 progress = waiting.items;
                 stopped = true;
-                machine = M.opening;
+                machine = M.rules.opening;
               };
               losses = one_more self.old.losses;
             })) }
@@ -171,19 +168,17 @@ impl<M: Machine> Replica<M> {
         requires some { 0 < length self.old.state.log }
         ensures state { OnOk result
             (self.new ≡ record self.old {
-              state = (commit (rules_by M.opening M.start_of M.after M.gives)
-                  self.old.state).state;
+              state = (commit M.rules self.old.state).state;
             }) }
         ensures effects { IfOk result (λ whole. (front : List M.Command) (last : M.Command) →
             self.old.state.log ≡ front ++ last ∷ [] →
             Sends out.old.items out.new.items
             (message_to_followed M.Output self.old.state.id
             (Body.Append self.old.state.joined (length front) last) self.old.state.progress
-            ++ (commit (rules_by M.opening M.start_of M.after M.gives)
-            self.old.state).effects) whole) }
+            ++ (commit M.rules self.old.state).effects) whole) }
         ensures stops { OnErr result
             (self.new ≡ record self.old {
-              state = halted (rules_by M.opening M.start_of M.after M.gives) self.old.state;
+              state = halted M.rules self.old.state;
             }) }
         ensures err { OnErr result (IsPrefixOf out.old.items out.new.items) }
     {

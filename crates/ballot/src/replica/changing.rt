@@ -1,7 +1,6 @@
 // What a replica does with the messages by which a log goes over to a new ballot.
 
 ghost use Rattle.std.specs.Prelude.{◌≡◌, ◌&&◌, ◌||◌, ◌==◌, nat_lt, nat_le, if◌then◌else◌};
-ghost use Rattle.machine.specs.Machine.{rules_by};
 ghost use Rattle.ballot.specs.Inside.{Went};
 ghost use Rattle.ballot_base.specs.Changing.{on_new_ballot, on_join, on_state, on_install};
 ghost use Rattle.ballot_base.specs.Replica.{is_fetching};
@@ -23,7 +22,7 @@ impl<M: Machine> Replica<M> {
         previous_members: Members,
         out: &mut Vec<Effect<M::Command, M::Output>>,
     )
-        ensures went { Went (rules_by M.opening M.start_of M.after M.gives) self.old
+        ensures went { Went M.rules self.old
             (on_new_ballot M.Output self.old.state ballot members previous previous_members)
             self.new out.old.items out.new.items }
         ensures runs { self.new.state.stopped ≡ self.old.state.stopped }
@@ -51,8 +50,7 @@ impl<M: Machine> Replica<M> {
         previous: u64,
         out: &mut Vec<Effect<M::Command, M::Output>>,
     )
-        ensures went { Went (rules_by M.opening M.start_of M.after M.gives) self.old
-            (on_join M.Output self.old.state from ballot previous)
+        ensures went { Went M.rules self.old (on_join M.Output self.old.state from ballot previous)
             self.new out.old.items out.new.items }
         ensures runs { self.new.state.stopped ≡ self.old.state.stopped }
     {
@@ -85,7 +83,7 @@ impl<M: Machine> Replica<M> {
         log: Log<M::Command>,
         out: &mut Vec<Effect<M::Command, M::Output>>,
     )
-        ensures went { Went (rules_by M.opening M.start_of M.after M.gives) self.old
+        ensures went { Went M.rules self.old
             (on_state M.Output self.old.state ballot log) self.new out.old.items out.new.items }
         ensures runs { self.new.state.stopped ≡ self.old.state.stopped }
     {
@@ -115,8 +113,7 @@ impl<M: Machine> Replica<M> {
         log: Log<M::Command>,
         out: &mut Vec<Effect<M::Command, M::Output>>,
     )
-        ensures went { Went (rules_by M.opening M.start_of M.after M.gives) self.old
-            (on_install M.Output self.old.state from ballot log)
+        ensures went { Went M.rules self.old (on_install M.Output self.old.state from ballot log)
             self.new out.old.items out.new.items }
         ensures runs { self.new.state.stopped ≡ self.old.state.stopped }
     {

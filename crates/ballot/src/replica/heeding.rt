@@ -1,7 +1,6 @@
 // Which messages and ticks do something.
 
 ghost use Rattle.std.specs.Prelude.{◌≡◌, ◌↔◌, ◌||◌, ◌&&◌, false, length, nat_le, nat_lt};
-ghost use Rattle.machine.specs.Machine.{rules_by};
 ghost use Rattle.ballot.specs.Heeding.{is_heeded, rises, says_again};
 ghost use Rattle.ballot_base.specs.Protocol.{replica_step};
 ghost use Rattle.ballot_base.specs.Protocol.Input.{Receives, Ticks};
@@ -17,7 +16,7 @@ impl<M: Machine> Replica<M> {
     /// Whether a message would do anything: change the replica, or send.
     pub fn heeds(&self, message: &Message<M::Command>) -> bool
         ensures { (result ≡ false) ↔
-            (replica_step (rules_by M.opening M.start_of M.after M.gives) self.now.state
+            (replica_step M.rules self.now.state
             (Receives message.now) ≡ nothing_done M.Output self.now.state) }
     {
         self.is_moved_by(message.from, &message.body)
@@ -67,7 +66,7 @@ impl<M: Machine> Replica<M> {
     /// Whether a tick would say anything.
     pub fn speaks(&self) -> bool
         ensures { (result ≡ false) ↔
-            (replica_step (rules_by M.opening M.start_of M.after M.gives) self.now.state Ticks
+            (replica_step M.rules self.now.state Ticks
             ≡ nothing_done M.Output self.now.state) }
     {
         self.would_say()

@@ -2,7 +2,6 @@
 
 ghost use Rattle.std.specs.Prelude.{◌≡◌, ◌&&◌, ◌==◌, []};
 ghost use Rattle.std.specs.List.{list_any};
-ghost use Rattle.machine.specs.Machine.{rules_by};
 ghost use Rattle.ballot.specs.Inside.{Went};
 ghost use Rattle.ballot_base.specs.Changing.{on_installed, on_superseded};
 ghost use Rattle.ballot_base.specs.Replica.{is_installing};
@@ -21,8 +20,7 @@ impl<M: Machine> Replica<M> {
         ballot: u64,
         out: &mut Vec<Effect<M::Command, M::Output>>,
     )
-        ensures went { Went (rules_by M.opening M.start_of M.after M.gives) self.old
-            (on_installed M.Output self.old.state from ballot)
+        ensures went { Went M.rules self.old (on_installed M.Output self.old.state from ballot)
             self.new out.old.items out.new.items }
         ensures runs { self.new.state.stopped ≡ self.old.state.stopped }
     {
@@ -38,7 +36,7 @@ impl<M: Machine> Replica<M> {
 
     // The ballot was put out.
     pub(super) fn on_superseded(&mut self, ballot: u64)
-        ensures went { Went (rules_by M.opening M.start_of M.after M.gives) self.old
+        ensures went { Went M.rules self.old
             (on_superseded M.Output self.old.state ballot) self.new [] [] }
         ensures runs { self.new.state.stopped ≡ self.old.state.stopped }
     {

@@ -1,7 +1,6 @@
 // What a replica does with each message of another node.
 
 ghost use Rattle.std.specs.Prelude.{◌≡◌, ◌<◌, ◌↔◌, true, false, [], ◌∷◌, OnOk, OnErr, IsErr};
-ghost use Rattle.machine.specs.Machine.{rules_by};
 ghost use Rattle.ballot.specs.Inside.{Says, Went};
 ghost use Rattle.ballot_base.specs.Losses.{Stepped, IsQuiet};
 ghost use Rattle.ballot_base.specs.Sending.{message_to};
@@ -26,18 +25,14 @@ impl<M: Machine> Replica<M> {
     ) -> Result<(), Halted>
         // The protocol's step, or one in which memory was wanting and that was counted.
         ensures step { self.old.state.stopped ≡ false →
-            Stepped (rules_by M.opening M.start_of M.after M.gives) self.old
-            (replica_step (rules_by M.opening M.start_of M.after M.gives)
-            self.old.state (Receives message))
+            Stepped M.rules self.old (replica_step M.rules self.old.state (Receives message))
             self.new out.old.items out.new.items }
         // What sends, adds and applies nothing never wants memory.
         ensures quiet { self.old.state.stopped ≡ false →
             IsQuiet self.old.state
-            (replica_step (rules_by M.opening M.start_of M.after M.gives)
-            self.old.state (Receives message)) →
+            (replica_step M.rules self.old.state (Receives message)) →
             self.new ≡ record self.old {
-              state = (replica_step (rules_by M.opening M.start_of M.after M.gives)
-                  self.old.state (Receives message)).state;
+              state = (replica_step M.rules self.old.state (Receives message)).state;
             } }
 
         ensures halted { IsErr result ↔ (self.new.state.stopped ≡ true) }
@@ -58,8 +53,7 @@ impl<M: Machine> Replica<M> {
         out: &mut Vec<Effect<M::Command, M::Output>>,
     ) -> Result<(), Halted>
         requires { self.old.state.stopped ≡ false }
-        ensures went { Went (rules_by M.opening M.start_of M.after M.gives) self.old
-            (received (rules_by M.opening M.start_of M.after M.gives) self.old.state from body)
+        ensures went { Went M.rules self.old (received M.rules self.old.state from body)
             self.new out.old.items out.new.items }
         ensures ok { OnOk result (self.new.state.stopped ≡ false) }
         ensures err { OnErr result ((self.new.state.stopped ≡ true) ×
@@ -94,7 +88,7 @@ impl<M: Machine> Replica<M> {
         command: M::Command,
         out: &mut Vec<Effect<M::Command, M::Output>>,
     )
-        ensures went { Went (rules_by M.opening M.start_of M.after M.gives) self.old
+        ensures went { Went M.rules self.old
             (on_append M.Output self.old.state from ballot place command) self.new
             out.old.items out.new.items }
         ensures runs { self.new.state.stopped ≡ self.old.state.stopped }
@@ -145,9 +139,7 @@ impl<M: Machine> Replica<M> {
         out: &mut Vec<Effect<M::Command, M::Output>>,
     ) -> Result<(), Halted>
         requires { self.old.state.stopped ≡ false }
-        ensures went { Went (rules_by M.opening M.start_of M.after M.gives) self.old
-            (on_held
-            (rules_by M.opening M.start_of M.after M.gives) self.old.state from ballot held)
+        ensures went { Went M.rules self.old (on_held M.rules self.old.state from ballot held)
             self.new out.old.items out.new.items }
         ensures ok { OnOk result (self.new.state.stopped ≡ false) }
         ensures err { OnErr result ((self.new.state.stopped ≡ true) ×
@@ -175,8 +167,7 @@ impl<M: Machine> Replica<M> {
     // A backup applies what every member holds. The outputs are the primary's to give.
     fn on_commit(&mut self, ballot: u64, held: u64) -> Result<(), Halted>
         requires { self.old.state.stopped ≡ false }
-        ensures went { Went (rules_by M.opening M.start_of M.after M.gives) self.old
-            (on_commit (rules_by M.opening M.start_of M.after M.gives)
+        ensures went { Went M.rules self.old (on_commit M.rules
             self.old.state ballot held) self.new [] [] }
         ensures ok { OnOk result (self.new.state.stopped ≡ false) }
         ensures err { OnErr result (self.new.state.stopped ≡ true) }

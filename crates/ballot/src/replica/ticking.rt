@@ -1,7 +1,6 @@
 // What a replica does as time passes.
 
 ghost use Rattle.std.specs.Prelude.{◌≡◌, ◌++◌, true, false};
-ghost use Rattle.machine.specs.Machine.{rules_by};
 ghost use Rattle.ballot.specs.Inside.{Sends};
 ghost use Rattle.ballot_base.specs.Losses.{Stepped, IsQuiet};
 ghost use Rattle.ballot_base.specs.Protocol.{replica_step, ticked};
@@ -21,14 +20,11 @@ impl<M: Machine> Replica<M> {
     /// the others may lack. It takes no step of its own, and never halts.
     pub fn tick(&mut self, out: &mut Vec<Effect<M::Command, M::Output>>)
         ensures step { self.old.state.stopped ≡ false →
-            Stepped (rules_by M.opening M.start_of M.after M.gives) self.old
-            (replica_step (rules_by M.opening M.start_of M.after M.gives)
-            self.old.state Ticks)
+            Stepped M.rules self.old (replica_step M.rules self.old.state Ticks)
             self.new out.old.items out.new.items }
         ensures quiet { self.old.state.stopped ≡ false →
             IsQuiet self.old.state
-            (replica_step (rules_by M.opening M.start_of M.after M.gives)
-            self.old.state Ticks) →
+            (replica_step M.rules self.old.state Ticks) →
             self.new ≡ self.old }
         ensures state { self.new.state ≡ self.old.state }
         ensures stopped { self.old.state.stopped ≡ true →

@@ -1,7 +1,6 @@
-use Rattle.machine.specs.Machine.{rules_by}
 use Rattle.agreement.proofs.Given.NextPlaces.{answers_at_the_next_places}
 use Rattle.agreement.proofs.laws.answers_at_the_next_places.Goals as goal
 
 pub returns : goal.returns
 returns g c =
-    answers_at_the_next_places (rules_by g.M.Machine.opening g.M.Machine.start_of g.M.Machine.after g.M.Machine.gives)
+    answers_at_the_next_places g.M.Machine.rules

@@ -1,10 +1,9 @@
 use Rattle.std.proofs.Common.{arith}
-use Rattle.machine.specs.Machine.{rules_by}
 use Rattle.ballot.proofs.PlacesApplied.{place_applied}
 use Rattle.ballot.proofs.applying.apply_dropping.Goals as goal
 
 pub loop-place-preserved : goal.loop-place-preserved
 loop-place-preserved g c =
-    let rules = rules_by g.M.Machine.opening g.M.Machine.start_of g.M.Machine.after g.M.Machine.gives in
+    let rules = g.M.Machine.rules in
     place_applied rules c.args.machine.now c.args.log.now c.args.from c.loop-place.place c.index-log-place.result
     c.loop-place.machine c.apply.new.self (omega arith) (omega arith) c.index-log-place.is c.loop-place.invariant c.in_ok-apply.ensures.state

@@ -1,8 +1,8 @@
 use Rattle.std.proofs.Common.{◌≡◌, take, drop}
-use Rattle.machine.specs.Machine.{rules_by, replay_from}
+use Rattle.machine.specs.Machine.{replay_from}
 use Rattle.ballot.proofs.applying.apply_dropping.Given as goal
 
 abbrev pub invariant-loop-place : goal.invariant-loop-place
 invariant-loop-place g l =
-    let rules = rules_by g.M.Machine.opening g.M.Machine.start_of g.M.Machine.after g.M.Machine.gives in
+    let rules = g.M.Machine.rules in
     l.machine ≡ replay_from rules l.initial.machine (drop l.from (take l.place l.log))

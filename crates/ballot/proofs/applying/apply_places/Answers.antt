@@ -1,5 +1,4 @@
 use Rattle.std.proofs.Common.{arith}
-use Rattle.machine.specs.Machine.{rules_by}
 use Rattle.ballot.proofs.PlacesApplied.{on_err_any, place_applied, place_given}
 use Rattle.lists.proofs.Beginnings.{prefix_then}
 use Rattle.ballot.proofs.applying.apply_places.Goals as goal
@@ -10,7 +9,7 @@ returns-in_err-put_out-clause-err g c =
 
 pub loop-place-preserved : goal.loop-place-preserved
 loop-place-preserved g c =
-    let rules = rules_by g.M.Machine.opening g.M.Machine.start_of g.M.Machine.after g.M.Machine.gives in
+    let rules = g.M.Machine.rules in
     let place = c.loop-place.place in
     record {
       state = place_applied rules c.args.machine.now c.args.log.now c.args.from place c.index-log-place.result

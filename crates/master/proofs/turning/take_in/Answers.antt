@@ -1,7 +1,6 @@
 use Rattle.std.proofs.Common.{ap, sym, ◌∙◌, arith}
 use Rattle.std.specs.Prelude.{nat_lt}
 use Rattle.std.proofs.lemmas.Bool.{ltb-true}
-use Rattle.machine.specs.Machine.{rules_by}
 use Rattle.ballot.specs.Losses.{Stepped}
 use Rattle.ballot.specs.Protocol.{replica_step}
 use Rattle.master.specs.Inside.{input_of}
@@ -11,7 +10,7 @@ use Rattle.master.proofs.turning.take_in.Goals.{in-Received, in-Proposed, in-Tic
 
 pub returns-then-losses-before : goal.returns-then-losses-before
 returns-then-losses-before g c =
-    let rules = rules_by g.M.Machine.opening g.M.Machine.start_of g.M.Machine.after g.M.Machine.gives in
+    let rules = g.M.Machine.rules in
     let step : Stepped rules c.args.replica.now (replica_step rules c.args.replica.now.state (input_of c.args.taken))
     c.match-taken.replica c.args.out.now.items c.match-taken.out.items =
     elim c.match-taken.branch [

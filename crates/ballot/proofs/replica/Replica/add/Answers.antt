@@ -1,5 +1,4 @@
 use Rattle.std.proofs.Common.{◌≡◌, ◌≤◌, ◌&&◌, length, refl, sym, ◌∙◌, rules, arith}
-use Rattle.machine.specs.Machine.{rules_by}
 use Rattle.ballot_base.specs.Serving.{least}
 use Rattle.ballot_base.proofs.StepRows.{least-le}
 use Rattle.ballot.proofs.Committed.{add_done, pushed_whole}
@@ -14,7 +13,7 @@ commit_at-requires-clause-within g c =
 
 pub returns-after-sent-clause-outcome : goal.returns-after-sent-clause-outcome
 returns-after-sent-clause-outcome g c =
-    let steps = rules_by g.M.Machine.opening g.M.Machine.start_of g.M.Machine.after g.M.Machine.gives in
+    let steps = g.M.Machine.rules in
     let items = pushed_whole c.push.result _ _ c.push.new.self.items
     (sym c.is_err.ensures.value ∙ c.if-is_err.false) c.push.ensures.items in
     let place : c.len-place.result ≡ length c.self.inside.log.items = omega (arith, c.self.inside.log.ok.0) in

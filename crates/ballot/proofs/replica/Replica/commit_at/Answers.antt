@@ -1,5 +1,4 @@
 use Rattle.std.proofs.Common.{◌≡◌, false, take, drop, refl, ap, ◌∙◌}
-use Rattle.machine.specs.Machine.{rules_by}
 use Rattle.ballot_base.specs.Replica.{CountedReplica}
 use Rattle.ballot.proofs.PlacesApplied.{shown, shown_applied}
 use Rattle.ballot.proofs.Committed.{commit_stays, commit_gives_nothing, commit_goes, commit_gives}
@@ -7,27 +6,27 @@ use Rattle.ballot.proofs.replica.Replica.commit_at.Goals as goal
 
 pub returns-then-held-self-clause-state : goal.returns-then-held-self-clause-state
 returns-then-held-self-clause-state g c =
-    let rules = rules_by g.M.Machine.opening g.M.Machine.start_of g.M.Machine.after g.M.Machine.gives in
+    let rules = g.M.Machine.rules in
     rw (← c.self.view_is) (commit_stays rules _ c.args.held c.if-held-self.true)
 
 pub returns-then-held-self-clause-effects : goal.returns-then-held-self-clause-effects
 returns-then-held-self-clause-effects g c =
-    let rules = rules_by g.M.Machine.opening g.M.Machine.start_of g.M.Machine.after g.M.Machine.gives in
+    let rules = g.M.Machine.rules in
     rw (← c.self.view_is) (commit_gives_nothing rules _ c.args.held _ c.if-held-self.true)
 
 pub returns-in-Ok-clause-state : goal.returns-in-Ok-clause-state
 returns-in-Ok-clause-state g c =
-    let rules = rules_by g.M.Machine.opening g.M.Machine.start_of g.M.Machine.after g.M.Machine.gives in
+    let rules = g.M.Machine.rules in
     let running : c.self.inside.stopped ≡ false = ap (λ (z : CountedReplica _ _). z.state.stopped) c.self.view_is ∙ c.requires.running in
     rw (← c.self.view_is) (commit_goes rules _ _ c.args.held _ c.if-held-self.false refl
-    (shown_applied rules c.self.inside.stopped g.M.Machine.opening c.self.inside.machine c.apply_places.new.machine
+    (shown_applied rules c.self.inside.stopped g.M.Machine.rules.opening c.self.inside.machine c.apply_places.new.machine
     (drop c.self.inside.committed (take c.args.held c.self.inside.log.items)) running
     (rw c.deref.ensures.value at c.in-Ok.ensures.state)))
 
 pub returns-in-Ok-clause-effects : goal.returns-in-Ok-clause-effects
 returns-in-Ok-clause-effects g c =
-    let rules = rules_by g.M.Machine.opening g.M.Machine.start_of g.M.Machine.after g.M.Machine.gives in
+    let rules = g.M.Machine.rules in
     let running : c.self.inside.stopped ≡ false = ap (λ (z : CountedReplica _ _). z.state.stopped) c.self.view_is ∙ c.requires.running in
     rw (← c.self.view_is) (commit_gives rules _ c.args.held c.self.inside.machine _ _ _ _ _ _ c.if-held-self.false
-    (shown c.self.inside.stopped g.M.Machine.opening c.self.inside.machine running)
+    (shown c.self.inside.stopped g.M.Machine.rules.opening c.self.inside.machine running)
     c.deref.ensures.value c.deref-in-Ok.ensures.value c.in-Ok.ensures.outputs c.send_commits.ensures)

@@ -1,5 +1,4 @@
 use Rattle.std.proofs.Common.{◌≤◌, length, ap, sym, ◌∙◌}
-use Rattle.machine.specs.Machine.{rules_by}
 use Rattle.ballot_base.specs.Losses.{one_more}
 use Rattle.ballot_base.specs.Replica.{CountedReplica}
 use Rattle.ballot_base.proofs.ChangeRows.{on_activated-stays}
@@ -9,12 +8,12 @@ use Rattle.ballot.proofs.replica.Replica.on_activated.Goals as goal
 
 pub returns-then-not-may_begin-clause-went : goal.returns-then-not-may_begin-clause-went
 returns-then-not-may_begin-clause-went g c =
-    let steps = rules_by g.M.Machine.opening g.M.Machine.start_of g.M.Machine.after g.M.Machine.gives in
+    let steps = g.M.Machine.rules in
     went_same _ _ _ (on_activated-stays steps _ c.args.ballot (sym c.may_begin.ensures ∙ c.if-not-may_begin.true))
 
 pub returns-in_default-clause-went : goal.returns-in_default-clause-went
 returns-in_default-clause-went g c =
-    let steps = rules_by g.M.Machine.opening g.M.Machine.start_of g.M.Machine.after g.M.Machine.gives in
+    let steps = g.M.Machine.rules in
     activated_lost steps c.args.self.now _ c.args.ballot _ (sym c.may_begin.ensures ∙ c.if-not-may_begin.false)
     (ap (λ (z : CountedReplica _ _). z.state) (c.self-2.view_is ∙ c.in_default.ensures.err))
     (c.counted-self-inside.ensures ∙ ap (λ (z : CountedReplica _ _). one_more z.losses) (c.self-2.view_is ∙ c.in_default.ensures.err))
@@ -26,7 +25,7 @@ become_active-requires-clause-behind g c =
 
 pub begin-requires-clause-behind : goal.begin-requires-clause-behind
 begin-requires-clause-behind g c =
-    let steps = rules_by g.M.Machine.opening g.M.Machine.start_of g.M.Machine.after g.M.Machine.gives in
+    let steps = g.M.Machine.rules in
     let within : c.args.self.now.state.committed ≤ length c.args.self.now.state.log = rw (← c.self.view_is) c.self.invariant in
     start_behind_active steps c.args.self.now c.become_active.new.self c.args.ballot c.self.inside.committed
     (become_active_is steps c.args.self.now c.add_start.new.self c.become_active.new.self c.args.ballot c.in-Ok.progress.items
@@ -35,7 +34,7 @@ begin-requires-clause-behind g c =
 
 pub take_back_start-requires : goal.take_back_start-requires
 take_back_start-requires g c =
-    let steps = rules_by g.M.Machine.opening g.M.Machine.start_of g.M.Machine.after g.M.Machine.gives in
+    let steps = g.M.Machine.rules in
     let within : c.args.self.now.state.committed ≤ length c.args.self.now.state.log = rw (← c.self.view_is) c.self.invariant in
     record {
       behind = start_behind_stopped steps c.add_start.new.self c.become_active.new.self c.in-Err.ensures.stops
@@ -44,7 +43,7 @@ take_back_start-requires g c =
 
 pub returns-in-Ok-become_active-clause-went : goal.returns-in-Ok-become_active-clause-went
 returns-in-Ok-become_active-clause-went g c =
-    let steps = rules_by g.M.Machine.opening g.M.Machine.start_of g.M.Machine.after g.M.Machine.gives in
+    let steps = g.M.Machine.rules in
     activated_begun steps c.begin.result c.args.self.now c.become_active.new.self c.begin.new.self c.args.ballot c.self.inside.committed
     c.in-Ok-become_active.waiting.items _ _ (sym c.may_begin.ensures ∙ c.if-not-may_begin.false)
     (become_active_is steps c.args.self.now c.add_start.new.self c.become_active.new.self c.args.ballot c.in-Ok.progress.items
@@ -55,7 +54,7 @@ returns-in-Ok-become_active-clause-went g c =
 
 pub returns-in-Ok-become_active-clause-ok : goal.returns-in-Ok-become_active-clause-ok
 returns-in-Ok-become_active-clause-ok g c =
-    let steps = rules_by g.M.Machine.opening g.M.Machine.start_of g.M.Machine.after g.M.Machine.gives in
+    let steps = g.M.Machine.rules in
     (begun_runs steps c.begin.result c.args.self.now c.become_active.new.self c.begin.new.self c.args.ballot c.self.inside.committed
     c.in-Ok-become_active.waiting.items _ _
     (become_active_is steps c.args.self.now c.add_start.new.self c.become_active.new.self c.args.ballot c.in-Ok.progress.items
@@ -63,6 +62,6 @@ returns-in-Ok-become_active-clause-ok g c =
 
 pub returns-in-Err-clause-went : goal.returns-in-Err-clause-went
 returns-in-Err-clause-went g c =
-    let steps = rules_by g.M.Machine.opening g.M.Machine.start_of g.M.Machine.after g.M.Machine.gives in
+    let steps = g.M.Machine.rules in
     activated_halted steps c.args.self.now c.add_start.new.self c.become_active.new.self _ c.args.ballot _
     (sym c.may_begin.ensures ∙ c.if-not-may_begin.false) c.in-Ok.ensures.state c.in-Err.ensures.stops c.take_back_start.ensures

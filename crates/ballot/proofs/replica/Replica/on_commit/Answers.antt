@@ -1,5 +1,4 @@
 use Rattle.std.proofs.Common.{◌≡◌, false, cond, take, drop, ap, ◌≤◌, ◌<◌, length, refl, sym, ◌∙◌, arith}
-use Rattle.machine.specs.Machine.{rules_by}
 use Rattle.ballot_base.specs.Replica.{CountedReplica}
 use Rattle.ballot_base.proofs.MessageRows.{on_commit-elsewhere, on_commit-past}
 use Rattle.ballot.proofs.PlacesApplied.{shown_applied}
@@ -8,19 +7,19 @@ use Rattle.ballot.proofs.replica.Replica.on_commit.Goals as goal
 
 pub returns-then-not-follows-clause-went : goal.returns-then-not-follows-clause-went
 returns-then-not-follows-clause-went g c =
-    let steps = rules_by g.M.Machine.opening g.M.Machine.start_of g.M.Machine.after g.M.Machine.gives in
+    let steps = g.M.Machine.rules in
     went_same _ _ _ (on_commit-elsewhere steps _ c.args.ballot c.args.held (sym c.follows.ensures ∙ c.if-not-follows.true))
 
 pub returns-then-held-len-clause-went : goal.returns-then-held-len-clause-went
 returns-then-held-len-clause-went g c =
-    let steps = rules_by g.M.Machine.opening g.M.Machine.start_of g.M.Machine.after g.M.Machine.gives in
+    let steps = g.M.Machine.rules in
     let past : length c.args.self.now.state.log < c.args.held =
     rw (← c.self.view_is) (omega (arith, c.self.inside.log.ok.0)) in
     went_same _ _ _ (on_commit-past steps _ c.args.ballot c.args.held (sym c.follows.ensures ∙ c.if-not-follows.false) past)
 
 pub returns-then-held-self-clause-went : goal.returns-then-held-self-clause-went
 returns-then-held-self-clause-went g c =
-    let steps = rules_by g.M.Machine.opening g.M.Machine.start_of g.M.Machine.after g.M.Machine.gives in
+    let steps = g.M.Machine.rules in
     let within : c.args.held ≤ length c.args.self.now.state.log =
     rw (← c.self.view_is) (omega (arith, c.self.inside.log.ok.0)) in
     let known : c.args.held ≤ c.args.self.now.state.committed = rw (← c.self.view_is) c.if-held-self.true in
@@ -28,16 +27,16 @@ returns-then-held-self-clause-went g c =
 
 pub returns-in-Ok-clause-went : goal.returns-in-Ok-clause-went
 returns-in-Ok-clause-went g c =
-    let steps = rules_by g.M.Machine.opening g.M.Machine.start_of g.M.Machine.after g.M.Machine.gives in
+    let steps = g.M.Machine.rules in
     let within : c.args.held ≤ length c.args.self.now.state.log =
     rw (← c.self.view_is) (omega (arith, c.self.inside.log.ok.0)) in
     let above : c.args.self.now.state.committed < c.args.held = rw (← c.self.view_is) c.if-held-self.false in
     let running : c.self.inside.stopped ≡ false = ap (λ (z : CountedReplica _ _). z.state.stopped) c.self.view_is ∙ c.requires in
     commit_taken steps c.args.self.now _ c.args.ballot c.args.held
-    (cond c.self.inside.stopped g.M.Machine.opening c.apply_dropping.new.machine)
+    (cond c.self.inside.stopped g.M.Machine.rules.opening c.apply_dropping.new.machine)
     (sym c.follows.ensures ∙ c.if-not-follows.false) within above
     (rw (← c.self.view_is) refl)
-    (rw (← c.self.view_is) (shown_applied steps c.self.inside.stopped g.M.Machine.opening c.self.inside.machine
+    (rw (← c.self.view_is) (shown_applied steps c.self.inside.stopped g.M.Machine.rules.opening c.self.inside.machine
     c.apply_dropping.new.machine
     (drop c.self.inside.committed (take c.args.held c.self.inside.log.items)) running
     (rw c.deref.ensures.value at c.in-Ok.ensures)))
@@ -45,7 +44,7 @@ returns-in-Ok-clause-went g c =
 
 pub returns-in-Err-clause-went : goal.returns-in-Err-clause-went
 returns-in-Err-clause-went g c =
-    let steps = rules_by g.M.Machine.opening g.M.Machine.start_of g.M.Machine.after g.M.Machine.gives in
+    let steps = g.M.Machine.rules in
     let within : c.args.held ≤ length c.args.self.now.state.log =
     rw (← c.self.view_is) (omega (arith, c.self.inside.log.ok.0)) in
     let above : c.args.self.now.state.committed < c.args.held = rw (← c.self.view_is) c.if-held-self.false in

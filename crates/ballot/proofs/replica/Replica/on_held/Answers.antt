@@ -1,5 +1,4 @@
 use Rattle.std.proofs.Common.{◌≡◌, ◌≤◌, length, refl, ap, sym, ◌∙◌, arith}
-use Rattle.machine.specs.Machine.{rules_by}
 use Rattle.ballot_base.specs.Replica.{CountedReplica}
 use Rattle.ballot_base.specs.Serving.{least, raised}
 use Rattle.ballot_base.proofs.StepRows.{least-le, commit_at-stopped}
@@ -9,7 +8,7 @@ use Rattle.ballot.proofs.replica.Replica.on_held.Goals as goal
 
 pub returns-then-not-leads-clause-went : goal.returns-then-not-leads-clause-went
 returns-then-not-leads-clause-went g c =
-    let steps = rules_by g.M.Machine.opening g.M.Machine.start_of g.M.Machine.after g.M.Machine.gives in
+    let steps = g.M.Machine.rules in
     went_same _ _ _ (on_held-elsewhere steps _ c.args.from c.args.ballot c.args.held
     (sym c.leads.ensures ∙ c.if-not-leads.true))
 
@@ -21,7 +20,7 @@ commit_at-requires-clause-within g c =
 
 pub returns-in-Ok-clause-went : goal.returns-in-Ok-clause-went
 returns-in-Ok-clause-went g c =
-    let steps = rules_by g.M.Machine.opening g.M.Machine.start_of g.M.Machine.after g.M.Machine.gives in
+    let steps = g.M.Machine.rules in
     let long : c.len.result ≡ length c.args.self.now.state.log =
     rw (← c.self.view_is) (omega (arith, c.self.inside.log.ok.0, c.len.ensures)) in
     let written : length c.raise.new.progress ≡ c.self-2.inside.progress.len =
@@ -42,13 +41,13 @@ returns-in-Ok-clause-went g c =
 
 pub returns-in-Ok-clause-ok : goal.returns-in-Ok-clause-ok
 returns-in-Ok-clause-ok g c =
-    let steps = rules_by g.M.Machine.opening g.M.Machine.start_of g.M.Machine.after g.M.Machine.gives in
+    let steps = g.M.Machine.rules in
     ap (λ (z : CountedReplica _ _). z.state.stopped) (c.self-2.view_is ∙ c.in-Ok.ensures.state)
     ∙ commit_at-stopped steps c.args.self.now.state c.least_raised-least.result ∙ c.requires
 
 pub returns-in-Err-clause-went : goal.returns-in-Err-clause-went
 returns-in-Err-clause-went g c =
-    let steps = rules_by g.M.Machine.opening g.M.Machine.start_of g.M.Machine.after g.M.Machine.gives in
+    let steps = g.M.Machine.rules in
     let long : c.len.result ≡ length c.args.self.now.state.log =
     rw (← c.self.view_is) (omega (arith, c.self.inside.log.ok.0, c.len.ensures)) in
     held_halted steps c.args.self.now c.commit_at.new.self _ c.args.from c.args.ballot c.args.held c.least_raised-least.result

@@ -1,5 +1,4 @@
 use Rattle.std.proofs.Common.{◌≡◌, ◌≤◌, ◌<◌, true, false, length, sym, ◌∙◌, arith}
-use Rattle.machine.specs.Machine.{rules_by}
 use Rattle.ballot_base.specs.Replica.{is_active}
 use Rattle.ballot_base.specs.Serving.{most_places}
 use Rattle.ballot_base.proofs.StepRows.{proposed-not_active, proposed-full, added-stopped}
@@ -8,20 +7,20 @@ use Rattle.ballot.proofs.replica.Replica.propose.Goals as goal
 
 pub returns-then-not-is_active-clause-step : goal.returns-then-not-is_active-clause-step
 returns-then-not-is_active-clause-step g c =
-    let steps = rules_by g.M.Machine.opening g.M.Machine.start_of g.M.Machine.after g.M.Machine.gives in
+    let steps = g.M.Machine.rules in
     rw (← c.self.view_is) (λ running. stays_step steps _ _ _
     (proposed-not_active steps _ c.args.command (sym c.is_active.ensures ∙ c.if-not-is_active.true)))
 
 pub returns-then-len-ge-MOST_PLACES-clause-step : goal.returns-then-len-ge-MOST_PLACES-clause-step
 returns-then-len-ge-MOST_PLACES-clause-step g c =
-    let steps = rules_by g.M.Machine.opening g.M.Machine.start_of g.M.Machine.after g.M.Machine.gives in
+    let steps = g.M.Machine.rules in
     let full : most_places ≤ length c.self.inside.log.items = omega (arith, c.self.inside.log.ok.0) in
     rw (← c.self.view_is) (λ running. stays_step steps _ _ _
     (proposed-full steps _ c.args.command (sym c.is_active.ensures ∙ c.if-not-is_active.false) full))
 
 pub returns-clause-step : goal.returns-clause-step
 returns-clause-step g c =
-    let steps = rules_by g.M.Machine.opening g.M.Machine.start_of g.M.Machine.after g.M.Machine.gives in
+    let steps = g.M.Machine.rules in
     let active : is_active c.args.self.now.state.role ≡ true =
     rw (← c.self.view_is) (sym c.is_active.ensures ∙ c.if-not-is_active.false) in
     let room : length c.args.self.now.state.log < most_places =
@@ -31,7 +30,7 @@ returns-clause-step g c =
 
 pub returns-clause-halted : goal.returns-clause-halted
 returns-clause-halted g c =
-    let steps = rules_by g.M.Machine.opening g.M.Machine.start_of g.M.Machine.after g.M.Machine.gives in
+    let steps = g.M.Machine.rules in
     let running : c.args.self.now.state.stopped ≡ false = rw (← c.self.view_is) c.if-self.false in
     answered_halted steps c.add.result c.args.self.now _ c.add.new.self _ _ c.add.ensures.outcome running
     (added-stopped steps c.args.self.now.state c.args.command)

@@ -1,5 +1,4 @@
 use Rattle.std.proofs.Common.{◌≡◌, ◌≤◌, length, ap, ◌∙◌, arith}
-use Rattle.machine.specs.Machine.{rules_by}
 use Rattle.ballot_base.specs.Replica.{CountedReplica}
 use Rattle.ballot_base.specs.Serving.{least}
 use Rattle.ballot_base.proofs.StepRows.{least-le}
@@ -13,7 +12,7 @@ commit_at-requires-clause-within g c =
 
 pub returns-clause-state : goal.returns-clause-state
 returns-clause-state g c =
-    let steps = rules_by g.M.Machine.opening g.M.Machine.start_of g.M.Machine.after g.M.Machine.gives in
+    let steps = g.M.Machine.rules in
     let long : c.len.result ≡ length c.args.self.now.state.log =
     rw (← c.self.view_is) (omega (arith, c.self.inside.log.ok.0, c.len.ensures)) in
     c.in_ok-told.ensures.state
@@ -23,7 +22,7 @@ returns-clause-state g c =
 
 pub returns-clause-effects : goal.returns-clause-effects
 returns-clause-effects g c front last e =
-    let steps = rules_by g.M.Machine.opening g.M.Machine.start_of g.M.Machine.after g.M.Machine.gives in
+    let steps = g.M.Machine.rules in
     let long : c.len.result ≡ length c.args.self.now.state.log =
     rw (← c.self.view_is) (omega (arith, c.self.inside.log.ok.0, c.len.ensures)) in
     let place : c.len-last.result ≡ length c.args.self.now.state.log =

@@ -1,11 +1,10 @@
 use Rattle.std.proofs.Common.{refl}
-use Rattle.machine.specs.Machine.{rules_by}
 use Rattle.ballot.proofs.MessagesTaken.{went_stepped}
 use Rattle.ballot.proofs.TicksTaken.{tick_taken}
 use Rattle.ballot.proofs.replica.Replica.tick.Goals as goal
 
 pub returns-clause-step : goal.returns-clause-step
 returns-clause-step g c =
-    let steps = rules_by g.M.Machine.opening g.M.Machine.start_of g.M.Machine.after g.M.Machine.gives in
+    let steps = g.M.Machine.rules in
     λ running. went_stepped (tick_taken steps c.args.self.now _ _ _ c.say_again-whole.result c.say_again-whole.ensures
     (rw (← c.self.view_is) refl) (rw (← c.self.view_is) c.counted-self-inside.ensures))

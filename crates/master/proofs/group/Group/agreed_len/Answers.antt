@@ -1,5 +1,4 @@
 use Rattle.std.proofs.Common.{◌≡◌, ◌^◌, ◌-◌, ◌≤◌, ℕ, ap, sym, ◌∙◌, get_or, length, arith}
-use Rattle.machine.specs.Machine.{rules_by}
 use Rattle.master.specs.Group.{GroupState}
 use Rattle.master.specs.Inside.{least_but_one}
 use Rattle.master.proofs.Counted.{counted_length, sole_length}
@@ -9,19 +8,19 @@ use Rattle.master.proofs.group.Group.agreed_len.Goals as goal
 
 pub least_but_one-requires : goal.least_but_one-requires
 least_but_one-requires g c =
-    let rules = rules_by g.M.Machine.opening g.M.Machine.start_of g.M.Machine.after g.M.Machine.gives in
+    let rules = g.M.Machine.rules in
     let lawful = past_lawful rules _ _ _ c.self.invariant.1.came in
     λ m i. (rising_above 0 c.self.inside.master.members m lawful.active (rw c.active.ensures.members at i)).1
 
 pub returns-then-members-eq1 : goal.returns-then-members-eq1
 returns-then-members-eq1 g c =
-    let rules = rules_by g.M.Machine.opening g.M.Machine.start_of g.M.Machine.after g.M.Machine.gives in
+    let rules = g.M.Machine.rules in
     let members = sym (ap (λ (z : GroupState _ _ _). z.moment.master.members) c.self.view_is) ∙ sym c.active.ensures.members ∙ sole_is c.active.result.1.now c.if-members-eq1.true in
     λ config past agreed came is. ap length c.log_of.ensures ∙ sole_length rules config c.args.self.now.moment past agreed came is (get_or c.active.result.1.now 0 0) members
 
 pub returns : goal.returns
 returns g c =
-    let rules = rules_by g.M.Machine.opening g.M.Machine.start_of g.M.Machine.after g.M.Machine.gives in
+    let rules = g.M.Machine.rules in
     let bound : (m : ℕ) → get_or c.self.inside.told.held m 0 ≤ 2 ^ 64 - 1 = λ m. (let z = c.least_but_one.ensures.range m in omega (arith, z)) in
     let several = λ (e : length c.self.inside.master.members ≡ 1). c.if-members-eq1.false (ap length c.active.ensures.members ∙ e) in
     rw (← c.self.view_is) (λ config past agreed came is. c.least_but_one.ensures.least ∙ ap (least_but_one c.self.inside.told.held (2 ^ 64 - 1) (2 ^ 64 - 1)) c.active.ensures.members

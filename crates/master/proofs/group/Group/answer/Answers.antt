@@ -1,12 +1,11 @@
 use Rattle.std.proofs.Common.{sym, ◌∙◌}
-use Rattle.machine.specs.Machine.{rules_by}
 use Rattle.agreement.specs.MasterState.{activated, is_granted}
 use Rattle.master.proofs.Groups.{answer_is, group_answers, master_tells, took_as_seen, turned, world_is}
 use Rattle.master.proofs.group.Group.answer.Goals as goal
 
 pub invariant_of-self : goal.invariant_of-self
 invariant_of-self g c =
-    let rules = rules_by g.M.Machine.opening g.M.Machine.start_of g.M.Machine.after g.M.Machine.gives in
+    let rules = g.M.Machine.rules in
     let m = c.self.inside.master in
     let sent = rw (← c.self.view_is) at c.requires in
     let body = answer_is c.args.ballot (is_granted m c.args.ballot m.waiting) c.activate-activation.result c.answer_of.result
@@ -23,7 +22,7 @@ invariant_of-self g c =
 
 pub returns : goal.returns
 returns g c =
-    let rules = rules_by g.M.Machine.opening g.M.Machine.start_of g.M.Machine.after g.M.Machine.gives in
+    let rules = g.M.Machine.rules in
     let m = c.self.inside.master in
     let body = answer_is c.args.ballot (is_granted m c.args.ballot m.waiting) c.activate-activation.result c.answer_of.result
     c.activate-activation.ensures.answer c.answer_of.ensures.granted c.answer_of.ensures.refused in

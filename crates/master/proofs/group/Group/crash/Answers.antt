@@ -1,5 +1,4 @@
 use Rattle.std.proofs.Common.{◌-◌, ap, refl}
-use Rattle.machine.specs.Machine.{rules_by}
 use Rattle.ballot.specs.Replica.{CountedReplica}
 use Rattle.master.specs.declared.event.Event.TheVariants.{Crash}
 use Rattle.master.proofs.Counting.{stops_turn, steps_turn}
@@ -11,7 +10,7 @@ use Rattle.master.proofs.group.Group.crash.Goals as goal
 
 pub invariant_of-self : goal.invariant_of-self
 invariant_of-self g c =
-    let rules = rules_by g.M.Machine.opening g.M.Machine.start_of g.M.Machine.after g.M.Machine.gives in
+    let rules = g.M.Machine.rules in
     let x = rw (← c.self.view_is) at c.in-Some.ensures.some in
     let took = crash_turn rules c.self.inside.master c.self.inside.nodes.items c.self.inside.sent.items c.self.inside.left.items c.self.inside.losses c.in-Some.at
     c.index_mut-replica.result.now c.stop.new.self x.replica c.index_mut-replica.ensures.value x.stands
@@ -20,7 +19,7 @@ invariant_of-self g c =
 
 pub returns-clause-step : goal.returns-clause-step
 returns-clause-step g c =
-    let rules = rules_by g.M.Machine.opening g.M.Machine.start_of g.M.Machine.after g.M.Machine.gives in
+    let rules = g.M.Machine.rules in
     let x = rw (← c.self.view_is) at c.in-Some.ensures.some in
     rw (← c.self.view_is) (steps_turn rules _ _ (Crash c.args.node) _ (stops_turn rules _ c.args.node c.in-Some.at x)
     (crash_turn rules c.self.inside.master c.self.inside.nodes.items c.self.inside.sent.items c.self.inside.left.items c.self.inside.losses c.in-Some.at
@@ -29,12 +28,12 @@ returns-clause-step g c =
 
 pub returns-in_default-clause-quiet : goal.returns-in_default-clause-quiet
 returns-in_default-clause-quiet g c =
-    let rules = rules_by g.M.Machine.opening g.M.Machine.start_of g.M.Machine.after g.M.Machine.gives in
+    let rules = g.M.Machine.rules in
     λ q. exactly_none rules c.args.self.now (Crash c.args.node) (ap (stopping rules (c.args.node - 1)) (c.in_default.ensures.none refl))
 
 pub returns-clause-quiet : goal.returns-clause-quiet
 returns-clause-quiet g c =
-    let rules = rules_by g.M.Machine.opening g.M.Machine.start_of g.M.Machine.after g.M.Machine.gives in
+    let rules = g.M.Machine.rules in
     let x = rw (← c.self.view_is) at c.in-Some.ensures.some in
     rw (← c.self.view_is) (λ q. exactly_stopped rules _ _ c.args.node c.in-Some.at x
     (crash_group rules c.self.inside.master c.self.inside.nodes.items c.self.inside.sent.items c.self.inside.left.items c.self.inside.losses c.in-Some.at

@@ -1,7 +1,6 @@
 use Rattle.std.proofs.Common.{arith, ◌≡◌, length, Some, None, refl, ap, sym, ◌∙◌}
 use Rattle.std.specs.Prelude.{slice_get}
 use Rattle.std.proofs.lemmas.Bool.{ltb-true, ltb-false}
-use Rattle.machine.specs.Machine.{rules_by}
 use Rattle.master.specs.declared.event.Event.TheVariants.{Deliver}
 use Rattle.master.specs.Group.{GroupState}
 use Rattle.master.proofs.Counting.{asked_in, came_in, delivers_to_master, delivers_turn, delivers_nothing, hears_ballot, hears_nothing, not_sent, steps_master, steps_unheeded, get_there, get_past, some_idle, steps_turn, steps_lost, steps_idle}
@@ -10,7 +9,7 @@ use Rattle.master.proofs.group.Group.deliver.Goals as goal
 
 pub returns-in_default-clause-step : goal.returns-in_default-clause-step
 returns-in_default-clause-step g c =
-    let rules = rules_by g.M.Machine.opening g.M.Machine.start_of g.M.Machine.after g.M.Machine.gives in
+    let rules = g.M.Machine.rules in
     let sent : c.deref.result.now ≡ c.args.self.now.moment.world.sent = c.deref.ensures.value ∙ ap (λ (z : GroupState _ _ _). z.moment.world.sent) c.self.view_is in
     let none : slice_get c.args.self.now.moment.world.sent c.args.number ≡ None =
     ap (λ us. slice_get us c.args.number) (sym sent) ∙ get_past c.deref.result.now c.args.number (ltb-false c.args.number (length c.deref.result.now) (sym c.in_default.ensures.lookup.0)) in
@@ -18,7 +17,7 @@ returns-in_default-clause-step g c =
 
 pub returns-in_default-clause-idle : goal.returns-in_default-clause-idle
 returns-in_default-clause-idle g c =
-    let rules = rules_by g.M.Machine.opening g.M.Machine.start_of g.M.Machine.after g.M.Machine.gives in
+    let rules = g.M.Machine.rules in
     let sent : c.deref.result.now ≡ c.args.self.now.moment.world.sent = c.deref.ensures.value ∙ ap (λ (z : GroupState _ _ _). z.moment.world.sent) c.self.view_is in
     let none : slice_get c.args.self.now.moment.world.sent c.args.number ≡ None =
     ap (λ us. slice_get us c.args.number) (sym sent) ∙ get_past c.deref.result.now c.args.number (ltb-false c.args.number (length c.deref.result.now) (sym c.in_default.ensures.lookup.0)) in
@@ -26,7 +25,7 @@ returns-in_default-clause-idle g c =
 
 pub returns-in_default-running-clause-step : goal.returns-in_default-running-clause-step
 returns-in_default-running-clause-step g c =
-    let rules = rules_by g.M.Machine.opening g.M.Machine.start_of g.M.Machine.after g.M.Machine.gives in
+    let rules = g.M.Machine.rules in
     let sent : c.deref.result.now ≡ c.args.self.now.moment.world.sent = c.deref.ensures.value ∙ ap (λ (z : GroupState _ _ _). z.moment.world.sent) c.self.view_is in
     let found = ap (λ us. slice_get us c.args.number) (sym sent) ∙ get_there c.deref.result.now c.args.number c.in-Some.field-0.now
     (ltb-true c.args.number (length c.deref.result.now) (sym c.in-Some.ensures.lookup.0)) c.in-Some.ensures.lookup.1 in
@@ -35,7 +34,7 @@ returns-in_default-running-clause-step g c =
 
 pub returns-in_default-running-clause-idle : goal.returns-in_default-running-clause-idle
 returns-in_default-running-clause-idle g c =
-    let rules = rules_by g.M.Machine.opening g.M.Machine.start_of g.M.Machine.after g.M.Machine.gives in
+    let rules = g.M.Machine.rules in
     let sent : c.deref.result.now ≡ c.args.self.now.moment.world.sent = c.deref.ensures.value ∙ ap (λ (z : GroupState _ _ _). z.moment.world.sent) c.self.view_is in
     let found = ap (λ us. slice_get us c.args.number) (sym sent) ∙ get_there c.deref.result.now c.args.number c.in-Some.field-0.now
     (ltb-true c.args.number (length c.deref.result.now) (sym c.in-Some.ensures.lookup.0)) c.in-Some.ensures.lookup.1 in
@@ -44,7 +43,7 @@ returns-in_default-running-clause-idle g c =
 
 pub returns-in-Ok-clause-step : goal.returns-in-Ok-clause-step
 returns-in-Ok-clause-step g c =
-    let rules = rules_by g.M.Machine.opening g.M.Machine.start_of g.M.Machine.after g.M.Machine.gives in
+    let rules = g.M.Machine.rules in
     let sent : c.deref.result.now ≡ c.args.self.now.moment.world.sent = c.deref.ensures.value ∙ ap (λ (z : GroupState _ _ _). z.moment.world.sent) c.self.view_is in
     let found = ap (λ us. slice_get us c.args.number) (sym sent) ∙ get_there c.deref.result.now c.args.number c.in-Some.field-0.now
     (ltb-true c.args.number (length c.deref.result.now) (sym c.in-Some.ensures.lookup.0)) c.in-Some.ensures.lookup.1 in
@@ -55,7 +54,7 @@ returns-in-Ok-clause-step g c =
 
 pub returns-in-Ok-clause-idle : goal.returns-in-Ok-clause-idle
 returns-in-Ok-clause-idle g c =
-    let rules = rules_by g.M.Machine.opening g.M.Machine.start_of g.M.Machine.after g.M.Machine.gives in
+    let rules = g.M.Machine.rules in
     let sent : c.deref.result.now ≡ c.args.self.now.moment.world.sent = c.deref.ensures.value ∙ ap (λ (z : GroupState _ _ _). z.moment.world.sent) c.self.view_is in
     let found = ap (λ us. slice_get us c.args.number) (sym sent) ∙ get_there c.deref.result.now c.args.number c.in-Some.field-0.now
     (ltb-true c.args.number (length c.deref.result.now) (sym c.in-Some.ensures.lookup.0)) c.in-Some.ensures.lookup.1 in
@@ -64,12 +63,12 @@ returns-in-Ok-clause-idle g c =
 
 pub returns-in-Err-clause-step : goal.returns-in-Err-clause-step
 returns-in-Err-clause-step g c =
-    let rules = rules_by g.M.Machine.opening g.M.Machine.start_of g.M.Machine.after g.M.Machine.gives in
+    let rules = g.M.Machine.rules in
     steps_lost rules c.args.self.now _ (Deliver c.args.number) c.lose.ensures
 
 pub returns-in-Err-clause-idle : goal.returns-in-Err-clause-idle
 returns-in-Err-clause-idle g c =
-    let rules = rules_by g.M.Machine.opening g.M.Machine.start_of g.M.Machine.after g.M.Machine.gives in
+    let rules = g.M.Machine.rules in
     let sent : c.deref.result.now ≡ c.args.self.now.moment.world.sent = c.deref.ensures.value ∙ ap (λ (z : GroupState _ _ _). z.moment.world.sent) c.self.view_is in
     let found = ap (λ us. slice_get us c.args.number) (sym sent) ∙ get_there c.deref.result.now c.args.number c.in-Some.field-0.now
     (ltb-true c.args.number (length c.deref.result.now) (sym c.in-Some.ensures.lookup.0)) c.in-Some.ensures.lookup.1 in
@@ -78,7 +77,7 @@ returns-in-Err-clause-idle g c =
 
 pub answer-requires : goal.answer-requires
 answer-requires g c =
-    let rules = rules_by g.M.Machine.opening g.M.Machine.start_of g.M.Machine.after g.M.Machine.gives in
+    let rules = g.M.Machine.rules in
     let sent : c.deref.result.now ≡ c.args.self.now.moment.world.sent = c.deref.ensures.value ∙ ap (λ (z : GroupState _ _ _). z.moment.world.sent) c.self.view_is in
     let found = ap (λ us. slice_get us c.args.number) (sym sent) ∙ get_there c.deref.result.now c.args.number c.in-Some.field-0.now
     (ltb-true c.args.number (length c.deref.result.now) (sym c.in-Some.ensures.lookup.0)) c.in-Some.ensures.lookup.1 in
@@ -88,7 +87,7 @@ answer-requires g c =
 
 pub take_turn-requires-clause-may : goal.take_turn-requires-clause-may
 take_turn-requires-clause-may g c =
-    let rules = rules_by g.M.Machine.opening g.M.Machine.start_of g.M.Machine.after g.M.Machine.gives in
+    let rules = g.M.Machine.rules in
     let sent : c.deref.result.now ≡ c.args.self.now.moment.world.sent = c.deref.ensures.value ∙ ap (λ (z : GroupState _ _ _). z.moment.world.sent) c.self.view_is in
     let found = ap (λ us. slice_get us c.args.number) (sym sent) ∙ get_there c.deref.result.now c.args.number c.in-Some.field-0.now
     (ltb-true c.args.number (length c.deref.result.now) (sym c.in-Some.ensures.lookup.0)) c.in-Some.ensures.lookup.1 in
@@ -97,7 +96,7 @@ take_turn-requires-clause-may g c =
 
 pub returns-in-Some-asks_for-clause-step : goal.returns-in-Some-asks_for-clause-step
 returns-in-Some-asks_for-clause-step g c =
-    let rules = rules_by g.M.Machine.opening g.M.Machine.start_of g.M.Machine.after g.M.Machine.gives in
+    let rules = g.M.Machine.rules in
     let sent : c.deref.result.now ≡ c.args.self.now.moment.world.sent = c.deref.ensures.value ∙ ap (λ (z : GroupState _ _ _). z.moment.world.sent) c.self.view_is in
     let found = ap (λ us. slice_get us c.args.number) (sym sent) ∙ get_there c.deref.result.now c.args.number c.in-Some.field-0.now
     (ltb-true c.args.number (length c.deref.result.now) (sym c.in-Some.ensures.lookup.0)) c.in-Some.ensures.lookup.1 in
@@ -108,7 +107,7 @@ returns-in-Some-asks_for-clause-step g c =
 
 pub returns-in-Some-asks_for-clause-idle : goal.returns-in-Some-asks_for-clause-idle
 returns-in-Some-asks_for-clause-idle g c =
-    let rules = rules_by g.M.Machine.opening g.M.Machine.start_of g.M.Machine.after g.M.Machine.gives in
+    let rules = g.M.Machine.rules in
     let sent : c.deref.result.now ≡ c.args.self.now.moment.world.sent = c.deref.ensures.value ∙ ap (λ (z : GroupState _ _ _). z.moment.world.sent) c.self.view_is in
     let found = ap (λ us. slice_get us c.args.number) (sym sent) ∙ get_there c.deref.result.now c.args.number c.in-Some.field-0.now
     (ltb-true c.args.number (length c.deref.result.now) (sym c.in-Some.ensures.lookup.0)) c.in-Some.ensures.lookup.1 in
@@ -116,7 +115,7 @@ returns-in-Some-asks_for-clause-idle g c =
 
 pub returns-in-None-clause-step : goal.returns-in-None-clause-step
 returns-in-None-clause-step g c =
-    let rules = rules_by g.M.Machine.opening g.M.Machine.start_of g.M.Machine.after g.M.Machine.gives in
+    let rules = g.M.Machine.rules in
     let sent : c.deref.result.now ≡ c.args.self.now.moment.world.sent = c.deref.ensures.value ∙ ap (λ (z : GroupState _ _ _). z.moment.world.sent) c.self.view_is in
     let found = ap (λ us. slice_get us c.args.number) (sym sent) ∙ get_there c.deref.result.now c.args.number c.in-Some.field-0.now
     (ltb-true c.args.number (length c.deref.result.now) (sym c.in-Some.ensures.lookup.0)) c.in-Some.ensures.lookup.1 in
@@ -126,7 +125,7 @@ returns-in-None-clause-step g c =
 
 pub returns-in-None-clause-idle : goal.returns-in-None-clause-idle
 returns-in-None-clause-idle g c =
-    let rules = rules_by g.M.Machine.opening g.M.Machine.start_of g.M.Machine.after g.M.Machine.gives in
+    let rules = g.M.Machine.rules in
     let sent : c.deref.result.now ≡ c.args.self.now.moment.world.sent = c.deref.ensures.value ∙ ap (λ (z : GroupState _ _ _). z.moment.world.sent) c.self.view_is in
     let found = ap (λ us. slice_get us c.args.number) (sym sent) ∙ get_there c.deref.result.now c.args.number c.in-Some.field-0.now
     (ltb-true c.args.number (length c.deref.result.now) (sym c.in-Some.ensures.lookup.0)) c.in-Some.ensures.lookup.1 in
@@ -134,7 +133,7 @@ returns-in-None-clause-idle g c =
 
 pub returns-in_default-clause-quiet : goal.returns-in_default-clause-quiet
 returns-in_default-clause-quiet g c =
-    let rules = rules_by g.M.Machine.opening g.M.Machine.start_of g.M.Machine.after g.M.Machine.gives in
+    let rules = g.M.Machine.rules in
     let sent : c.deref.result.now ≡ c.args.self.now.moment.world.sent = c.deref.ensures.value ∙ ap (λ (z : GroupState _ _ _). z.moment.world.sent) c.self.view_is in
     let none : slice_get c.args.self.now.moment.world.sent c.args.number ≡ None =
     ap (λ us. slice_get us c.args.number) (sym sent) ∙ get_past c.deref.result.now c.args.number (ltb-false c.args.number (length c.deref.result.now) (sym c.in_default.ensures.lookup.0)) in
@@ -142,7 +141,7 @@ returns-in_default-clause-quiet g c =
 
 pub returns-in_default-running-clause-quiet : goal.returns-in_default-running-clause-quiet
 returns-in_default-running-clause-quiet g c =
-    let rules = rules_by g.M.Machine.opening g.M.Machine.start_of g.M.Machine.after g.M.Machine.gives in
+    let rules = g.M.Machine.rules in
     let sent : c.deref.result.now ≡ c.args.self.now.moment.world.sent = c.deref.ensures.value ∙ ap (λ (z : GroupState _ _ _). z.moment.world.sent) c.self.view_is in
     let found = ap (λ us. slice_get us c.args.number) (sym sent) ∙ get_there c.deref.result.now c.args.number c.in-Some.field-0.now
     (ltb-true c.args.number (length c.deref.result.now) (sym c.in-Some.ensures.lookup.0)) c.in-Some.ensures.lookup.1 in
@@ -151,7 +150,7 @@ returns-in_default-running-clause-quiet g c =
 
 pub returns-then-not-heeds-clause-step : goal.returns-then-not-heeds-clause-step
 returns-then-not-heeds-clause-step g c =
-    let rules = rules_by g.M.Machine.opening g.M.Machine.start_of g.M.Machine.after g.M.Machine.gives in
+    let rules = g.M.Machine.rules in
     let sent : c.deref.result.now ≡ c.args.self.now.moment.world.sent = c.deref.ensures.value ∙ ap (λ (z : GroupState _ _ _). z.moment.world.sent) c.self.view_is in
     let found = ap (λ us. slice_get us c.args.number) (sym sent) ∙ get_there c.deref.result.now c.args.number c.in-Some.field-0.now
     (ltb-true c.args.number (length c.deref.result.now) (sym c.in-Some.ensures.lookup.0)) c.in-Some.ensures.lookup.1 in
@@ -160,7 +159,7 @@ returns-then-not-heeds-clause-step g c =
 
 pub returns-then-not-heeds-clause-idle : goal.returns-then-not-heeds-clause-idle
 returns-then-not-heeds-clause-idle g c =
-    let rules = rules_by g.M.Machine.opening g.M.Machine.start_of g.M.Machine.after g.M.Machine.gives in
+    let rules = g.M.Machine.rules in
     let sent : c.deref.result.now ≡ c.args.self.now.moment.world.sent = c.deref.ensures.value ∙ ap (λ (z : GroupState _ _ _). z.moment.world.sent) c.self.view_is in
     let found = ap (λ us. slice_get us c.args.number) (sym sent) ∙ get_there c.deref.result.now c.args.number c.in-Some.field-0.now
     (ltb-true c.args.number (length c.deref.result.now) (sym c.in-Some.ensures.lookup.0)) c.in-Some.ensures.lookup.1 in
@@ -169,7 +168,7 @@ returns-then-not-heeds-clause-idle g c =
 
 pub returns-then-not-heeds-clause-quiet : goal.returns-then-not-heeds-clause-quiet
 returns-then-not-heeds-clause-quiet g c =
-    let rules = rules_by g.M.Machine.opening g.M.Machine.start_of g.M.Machine.after g.M.Machine.gives in
+    let rules = g.M.Machine.rules in
     let sent : c.deref.result.now ≡ c.args.self.now.moment.world.sent = c.deref.ensures.value ∙ ap (λ (z : GroupState _ _ _). z.moment.world.sent) c.self.view_is in
     let found = ap (λ us. slice_get us c.args.number) (sym sent) ∙ get_there c.deref.result.now c.args.number c.in-Some.field-0.now
     (ltb-true c.args.number (length c.deref.result.now) (sym c.in-Some.ensures.lookup.0)) c.in-Some.ensures.lookup.1 in
@@ -178,7 +177,7 @@ returns-then-not-heeds-clause-quiet g c =
 
 pub returns-in-Ok-clause-quiet : goal.returns-in-Ok-clause-quiet
 returns-in-Ok-clause-quiet g c =
-    let rules = rules_by g.M.Machine.opening g.M.Machine.start_of g.M.Machine.after g.M.Machine.gives in
+    let rules = g.M.Machine.rules in
     let sent : c.deref.result.now ≡ c.args.self.now.moment.world.sent = c.deref.ensures.value ∙ ap (λ (z : GroupState _ _ _). z.moment.world.sent) c.self.view_is in
     let found = ap (λ us. slice_get us c.args.number) (sym sent) ∙ get_there c.deref.result.now c.args.number c.in-Some.field-0.now
     (ltb-true c.args.number (length c.deref.result.now) (sym c.in-Some.ensures.lookup.0)) c.in-Some.ensures.lookup.1 in
@@ -187,7 +186,7 @@ returns-in-Ok-clause-quiet g c =
 
 pub returns-in-Err-clause-quiet : goal.returns-in-Err-clause-quiet
 returns-in-Err-clause-quiet g c =
-    let rules = rules_by g.M.Machine.opening g.M.Machine.start_of g.M.Machine.after g.M.Machine.gives in
+    let rules = g.M.Machine.rules in
     let sent : c.deref.result.now ≡ c.args.self.now.moment.world.sent = c.deref.ensures.value ∙ ap (λ (z : GroupState _ _ _). z.moment.world.sent) c.self.view_is in
     let found = ap (λ us. slice_get us c.args.number) (sym sent) ∙ get_there c.deref.result.now c.args.number c.in-Some.field-0.now
     (ltb-true c.args.number (length c.deref.result.now) (sym c.in-Some.ensures.lookup.0)) c.in-Some.ensures.lookup.1 in
@@ -196,7 +195,7 @@ returns-in-Err-clause-quiet g c =
 
 pub returns-in-Some-asks_for-clause-quiet : goal.returns-in-Some-asks_for-clause-quiet
 returns-in-Some-asks_for-clause-quiet g c =
-    let rules = rules_by g.M.Machine.opening g.M.Machine.start_of g.M.Machine.after g.M.Machine.gives in
+    let rules = g.M.Machine.rules in
     let sent : c.deref.result.now ≡ c.args.self.now.moment.world.sent = c.deref.ensures.value ∙ ap (λ (z : GroupState _ _ _). z.moment.world.sent) c.self.view_is in
     let found = ap (λ us. slice_get us c.args.number) (sym sent) ∙ get_there c.deref.result.now c.args.number c.in-Some.field-0.now
     (ltb-true c.args.number (length c.deref.result.now) (sym c.in-Some.ensures.lookup.0)) c.in-Some.ensures.lookup.1 in
@@ -207,7 +206,7 @@ returns-in-Some-asks_for-clause-quiet g c =
 
 pub returns-in-None-clause-quiet : goal.returns-in-None-clause-quiet
 returns-in-None-clause-quiet g c =
-    let rules = rules_by g.M.Machine.opening g.M.Machine.start_of g.M.Machine.after g.M.Machine.gives in
+    let rules = g.M.Machine.rules in
     let sent : c.deref.result.now ≡ c.args.self.now.moment.world.sent = c.deref.ensures.value ∙ ap (λ (z : GroupState _ _ _). z.moment.world.sent) c.self.view_is in
     let found = ap (λ us. slice_get us c.args.number) (sym sent) ∙ get_there c.deref.result.now c.args.number c.in-Some.field-0.now
     (ltb-true c.args.number (length c.deref.result.now) (sym c.in-Some.ensures.lookup.0)) c.in-Some.ensures.lookup.1 in

@@ -1,5 +1,4 @@
 use Rattle.std.proofs.Common.{◌≡◌, ap, ◌∙◌}
-use Rattle.machine.specs.Machine.{rules_by}
 use Rattle.agreement.specs.MasterState.{assigned, assigning, refusal}
 use Rattle.master.proofs.Groups.{group_gives, master_tells, new_ballot_is, took_given, world_is}
 use Rattle.master.proofs.group.Group.give.Goals as goal
@@ -11,7 +10,7 @@ give-ballot-requires g c =
 
 pub invariant_of-self : goal.invariant_of-self
 invariant_of-self g c =
-    let rules = rules_by g.M.Machine.opening g.M.Machine.start_of g.M.Machine.after g.M.Machine.gives in
+    let rules = g.M.Machine.rules in
     let m = c.self.inside.master in
     let granted = rw (← c.self.view_is) at c.requires in
     let state : c.give-ballot.new.self ≡ assigning m c.args.config.now = c.give-ballot.ensures.state ∙ ap (assigning m) c.in_ok-given.ensures in

@@ -1,6 +1,5 @@
 use Rattle.std.proofs.Common.{◌≡◌, false, subst, arith}
 use Rattle.std.proofs.lemmas.List.{length-map}
-use Rattle.machine.specs.Machine.{rules_by}
 use Rattle.ballot.specs.Protocol.{replica_step}
 use Rattle.ballot.specs.Protocol.Input.{Receives}
 use Rattle.ballot.specs.Replica.{ReplicaState, CountedReplica}
@@ -16,7 +15,7 @@ index-requires g c =
 
 pub returns : goal.returns
 returns g c =
-    let rules = rules_by g.M.Machine.opening g.M.Machine.start_of g.M.Machine.after g.M.Machine.gives in
+    let rules = g.M.Machine.rules in
     rw (← c.self.view_is) (λ r stands. subst (λ (s : ReplicaState g.row.M.Denot g.row.M-Command.Denot).
     (c.heeds.result ≡ false → replica_step rules s (Receives c.args.message.now) ≡ nothing_done g.row.M-Output.Denot s)
     × (replica_step rules s (Receives c.args.message.now) ≡ nothing_done g.row.M-Output.Denot s → c.heeds.result ≡ false))

@@ -1,5 +1,4 @@
 use Rattle.std.proofs.Common.{◌≡◌, [], ◌∷◌, ap, sym, ◌∙◌, subst, refl, arith}
-use Rattle.machine.specs.Machine.{rules_by}
 use Rattle.ballot.specs.Replica.{CountedReplica}
 use Rattle.agreement.specs.World.{messages}
 use Rattle.agreement.specs.Past.{Moment, Past}
@@ -11,13 +10,13 @@ use Rattle.master.proofs.group.Group.opening.Goals as goal
 
 pub loop-at-preserved : goal.loop-at-preserved
 loop-at-preserved g c =
-    let rules = rules_by g.M.Machine.opening g.M.Machine.start_of g.M.Machine.after g.M.Machine.gives in
+    let rules = g.M.Machine.rules in
     opened_more rules c.args.config c.loop-at.opened.items c.push.new.self.items c.in_ok-new.field-0 c.loop-at.at
     c.loop-at.invariant (ap (λ (z : CountedReplica _ _). z.state) c.in_ok-new.ensures.ok) c.in_ok-push.ensures.items
 
 pub invariant_of-result : goal.invariant_of-result
 invariant_of-result g c =
-    let rules = rules_by g.M.Machine.opening g.M.Machine.start_of g.M.Machine.after g.M.Machine.gives in
+    let rules = g.M.Machine.rules in
     let count : c.loop-at.at ≡ c.args.nodes = (let a = c.loop-at.auto.at-end in omega (arith, a, c.loop-at-test.false)) in
     let opened = opened_moment rules c.args.config c.args.nodes c.loop-at.at c.in-Ok.master c.loop-at.opened.items c.new-5.result.items c.new-6.result.items
     c.in-Ok.ensures.ok c.loop-at.invariant count c.new-5.ensures.items c.new-6.ensures.items in (
@@ -28,7 +27,7 @@ invariant_of-result g c =
 
 pub returns-clause-ok : goal.returns-clause-ok
 returns-clause-ok g c =
-    let rules = rules_by g.M.Machine.opening g.M.Machine.start_of g.M.Machine.after g.M.Machine.gives in
+    let rules = g.M.Machine.rules in
     let count : c.loop-at.at ≡ c.args.nodes = (let a = c.loop-at.auto.at-end in omega (arith, a, c.loop-at-test.false)) in
     let opened = opened_moment rules c.args.config c.args.nodes c.loop-at.at c.in-Ok.master c.loop-at.opened.items c.new-5.result.items c.new-6.result.items
     c.in-Ok.ensures.ok c.loop-at.invariant count c.new-5.ensures.items c.new-6.ensures.items in
@@ -37,7 +36,7 @@ returns-clause-ok g c =
 
 pub returns-clause-opens : goal.returns-clause-opens
 returns-clause-opens g c =
-    let rules = rules_by g.M.Machine.opening g.M.Machine.start_of g.M.Machine.after g.M.Machine.gives in
+    let rules = g.M.Machine.rules in
     let count : c.loop-at.at ≡ c.args.nodes = (let a = c.loop-at.auto.at-end in omega (arith, a, c.loop-at-test.false)) in
     let opened = opened_moment rules c.args.config c.args.nodes c.loop-at.at c.in-Ok.master c.loop-at.opened.items c.new-5.result.items c.new-6.result.items
     c.in-Ok.ensures.ok c.loop-at.invariant count c.new-5.ensures.items c.new-6.ensures.items in

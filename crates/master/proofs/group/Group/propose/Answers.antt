@@ -1,5 +1,4 @@
 use Rattle.std.proofs.Common.{◌≡◌, refl, ap, ◌∙◌}
-use Rattle.machine.specs.Machine.{rules_by}
 use Rattle.ballot.specs.Protocol.Input.{Proposes}
 use Rattle.ballot.specs.Replica.{status_of}
 use Rattle.master.specs.declared.event.Event.TheVariants.{Propose}
@@ -10,7 +9,7 @@ use Rattle.master.proofs.group.Group.propose.Goals as goal
 
 pub returns-then-not-is_active-clause-step : goal.returns-then-not-is_active-clause-step
 returns-then-not-is_active-clause-step g c =
-    let rules = rules_by g.M.Machine.opening g.M.Machine.start_of g.M.Machine.after g.M.Machine.gives in
+    let rules = g.M.Machine.rules in
     let x = c.in-Some.ensures.some in
     let inside = rw (← c.self.view_is) at x.stands in
     let same = same_replica c.self.inside.nodes.items c.in-Some.at c.index.result.now x.replica c.index.ensures inside in
@@ -21,7 +20,7 @@ returns-then-not-is_active-clause-step g c =
 
 pub returns-then-not-is_active-clause-idle : goal.returns-then-not-is_active-clause-idle
 returns-then-not-is_active-clause-idle g c =
-    let rules = rules_by g.M.Machine.opening g.M.Machine.start_of g.M.Machine.after g.M.Machine.gives in
+    let rules = g.M.Machine.rules in
     let x = c.in-Some.ensures.some in
     let inside = rw (← c.self.view_is) at x.stands in
     let same = same_replica c.self.inside.nodes.items c.in-Some.at c.index.result.now x.replica c.index.ensures inside in
@@ -32,7 +31,7 @@ returns-then-not-is_active-clause-idle g c =
 
 pub returns-in-Ok-clause-step : goal.returns-in-Ok-clause-step
 returns-in-Ok-clause-step g c =
-    let rules = rules_by g.M.Machine.opening g.M.Machine.start_of g.M.Machine.after g.M.Machine.gives in
+    let rules = g.M.Machine.rules in
     let x = c.in-Some.ensures.some in
     let inside = rw (← c.self.view_is) at x.stands in
     let same = same_replica c.self.inside.nodes.items c.in-Some.at c.index.result.now x.replica c.index.ensures inside in
@@ -45,7 +44,7 @@ returns-in-Ok-clause-step g c =
 
 pub returns-in-Ok-clause-idle : goal.returns-in-Ok-clause-idle
 returns-in-Ok-clause-idle g c =
-    let rules = rules_by g.M.Machine.opening g.M.Machine.start_of g.M.Machine.after g.M.Machine.gives in
+    let rules = g.M.Machine.rules in
     let x = c.in-Some.ensures.some in
     let inside = rw (← c.self.view_is) at x.stands in
     let same = same_replica c.self.inside.nodes.items c.in-Some.at c.index.result.now x.replica c.index.ensures inside in
@@ -56,12 +55,12 @@ returns-in-Ok-clause-idle g c =
 
 pub returns-in-Err-clause-step : goal.returns-in-Err-clause-step
 returns-in-Err-clause-step g c =
-    let rules = rules_by g.M.Machine.opening g.M.Machine.start_of g.M.Machine.after g.M.Machine.gives in
+    let rules = g.M.Machine.rules in
     steps_lost rules c.args.self.now _ (Propose c.args.node c.args.command.now) c.lose.ensures
 
 pub returns-in-Err-clause-idle : goal.returns-in-Err-clause-idle
 returns-in-Err-clause-idle g c =
-    let rules = rules_by g.M.Machine.opening g.M.Machine.start_of g.M.Machine.after g.M.Machine.gives in
+    let rules = g.M.Machine.rules in
     let x = c.in-Some.ensures.some in
     let inside = rw (← c.self.view_is) at x.stands in
     let same = same_replica c.self.inside.nodes.items c.in-Some.at c.index.result.now x.replica c.index.ensures inside in
@@ -72,12 +71,12 @@ returns-in-Err-clause-idle g c =
 
 pub returns-in_default-clause-quiet : goal.returns-in_default-clause-quiet
 returns-in_default-clause-quiet g c =
-    let rules = rules_by g.M.Machine.opening g.M.Machine.start_of g.M.Machine.after g.M.Machine.gives in
+    let rules = g.M.Machine.rules in
     λ q. exactly_none rules c.args.self.now (Propose c.args.node c.args.command.now) (takes_nothing rules c.args.self.now.moment.world c.args.node (Proposes c.args.command.now) (c.in_default.ensures.none refl))
 
 pub returns-then-not-is_active-clause-quiet : goal.returns-then-not-is_active-clause-quiet
 returns-then-not-is_active-clause-quiet g c =
-    let rules = rules_by g.M.Machine.opening g.M.Machine.start_of g.M.Machine.after g.M.Machine.gives in
+    let rules = g.M.Machine.rules in
     let x = c.in-Some.ensures.some in
     let inside = rw (← c.self.view_is) at x.stands in
     let same = same_replica c.self.inside.nodes.items c.in-Some.at c.index.result.now x.replica c.index.ensures inside in
@@ -88,7 +87,7 @@ returns-then-not-is_active-clause-quiet g c =
 
 pub returns-in-Ok-clause-quiet : goal.returns-in-Ok-clause-quiet
 returns-in-Ok-clause-quiet g c =
-    let rules = rules_by g.M.Machine.opening g.M.Machine.start_of g.M.Machine.after g.M.Machine.gives in
+    let rules = g.M.Machine.rules in
     let x = c.in-Some.ensures.some in
     let inside = rw (← c.self.view_is) at x.stands in
     let same = same_replica c.self.inside.nodes.items c.in-Some.at c.index.result.now x.replica c.index.ensures inside in
@@ -99,7 +98,7 @@ returns-in-Ok-clause-quiet g c =
 
 pub returns-in-Err-clause-quiet : goal.returns-in-Err-clause-quiet
 returns-in-Err-clause-quiet g c =
-    let rules = rules_by g.M.Machine.opening g.M.Machine.start_of g.M.Machine.after g.M.Machine.gives in
+    let rules = g.M.Machine.rules in
     let x = c.in-Some.ensures.some in
     let inside = rw (← c.self.view_is) at x.stands in
     let same = same_replica c.self.inside.nodes.items c.in-Some.at c.index.result.now x.replica c.index.ensures inside in

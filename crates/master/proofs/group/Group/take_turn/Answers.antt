@@ -1,5 +1,4 @@
 use Rattle.std.proofs.Common.{◌≡◌, length, ap, ◌∙◌, refl}
-use Rattle.machine.specs.Machine.{rules_by}
 use Rattle.ballot.specs.Protocol.{replica_step}
 use Rattle.master.specs.Inside.{input_of}
 use Rattle.agreement.specs.World.{messages}
@@ -24,7 +23,7 @@ hear_from-requires-2 g c =
 
 pub invariant_of-self : goal.invariant_of-self
 invariant_of-self g c =
-    let rules = rules_by g.M.Machine.opening g.M.Machine.start_of g.M.Machine.after g.M.Machine.gives in
+    let rules = g.M.Machine.rules in
     let there = rw (← c.self.view_is) at c.requires.runs in
     let may = rw (← c.self.view_is) at c.requires.may in
     let below = below_of c.self.inside.nodes.items c.args.at there.0 there.1 in
@@ -45,7 +44,7 @@ invariant_of-self g c =
 
 pub returns : goal.returns
 returns g c =
-    let rules = rules_by g.M.Machine.opening g.M.Machine.start_of g.M.Machine.after g.M.Machine.gives in
+    let rules = g.M.Machine.rules in
     let there = rw (← c.self.view_is) at c.requires.runs in
     let below = below_of c.self.inside.nodes.items c.args.at there.0 there.1 in
     let from : c.len-from.result ≡ length c.self.inside.left.items = c.len-from.ensures ∙ c.self.inside.left.ok.0 in

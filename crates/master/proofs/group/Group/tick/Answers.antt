@@ -1,5 +1,4 @@
 use Rattle.std.proofs.Common.{refl}
-use Rattle.machine.specs.Machine.{rules_by}
 use Rattle.ballot.specs.Protocol.Input.{Ticks}
 use Rattle.master.specs.declared.event.Event.TheVariants.{Tick}
 use Rattle.master.proofs.Counting.{some_idle, takes_nothing, takes_turn, steps_turn}
@@ -9,19 +8,19 @@ use Rattle.master.proofs.group.Group.tick.Goals as goal
 
 pub returns-clause-step : goal.returns-clause-step
 returns-clause-step g c =
-    let rules = rules_by g.M.Machine.opening g.M.Machine.start_of g.M.Machine.after g.M.Machine.gives in
+    let rules = g.M.Machine.rules in
     let x = c.in-Some.ensures.some in
     steps_turn rules c.args.self.now c.take_turn.new.self (Tick c.args.node) _
     (takes_turn rules c.args.self.now.moment.world c.args.node c.in-Some.at Ticks x refl) (c.take_turn.ensures x.replica x.stands)
 
 pub returns-in_default-clause-quiet : goal.returns-in_default-clause-quiet
 returns-in_default-clause-quiet g c =
-    let rules = rules_by g.M.Machine.opening g.M.Machine.start_of g.M.Machine.after g.M.Machine.gives in
+    let rules = g.M.Machine.rules in
     λ q. exactly_none rules c.args.self.now (Tick c.args.node) (takes_nothing rules c.args.self.now.moment.world c.args.node Ticks (c.in_default.ensures.none refl))
 
 pub returns-then-not-speaks-clause-step : goal.returns-then-not-speaks-clause-step
 returns-then-not-speaks-clause-step g c =
-    let rules = rules_by g.M.Machine.opening g.M.Machine.start_of g.M.Machine.after g.M.Machine.gives in
+    let rules = g.M.Machine.rules in
     let x = c.in-Some.ensures.some in
     let inside = rw (← c.self.view_is) at x.stands in
     let same = same_replica c.self.inside.nodes.items c.in-Some.at c.index.result.now x.replica c.index.ensures inside in
@@ -29,13 +28,13 @@ returns-then-not-speaks-clause-step g c =
 
 pub returns-then-not-speaks-clause-idle : goal.returns-then-not-speaks-clause-idle
 returns-then-not-speaks-clause-idle g c =
-    let rules = rules_by g.M.Machine.opening g.M.Machine.start_of g.M.Machine.after g.M.Machine.gives in
+    let rules = g.M.Machine.rules in
     let x = c.in-Some.ensures.some in
     (λ h. cc, λ e. some_idle (takes_turn rules c.args.self.now.moment.world c.args.node c.in-Some.at Ticks x refl) e)
 
 pub returns-then-not-speaks-clause-quiet : goal.returns-then-not-speaks-clause-quiet
 returns-then-not-speaks-clause-quiet g c =
-    let rules = rules_by g.M.Machine.opening g.M.Machine.start_of g.M.Machine.after g.M.Machine.gives in
+    let rules = g.M.Machine.rules in
     let x = c.in-Some.ensures.some in
     let inside = rw (← c.self.view_is) at x.stands in
     let same = same_replica c.self.inside.nodes.items c.in-Some.at c.index.result.now x.replica c.index.ensures inside in
@@ -43,7 +42,7 @@ returns-then-not-speaks-clause-quiet g c =
 
 pub returns-clause-quiet : goal.returns-clause-quiet
 returns-clause-quiet g c =
-    let rules = rules_by g.M.Machine.opening g.M.Machine.start_of g.M.Machine.after g.M.Machine.gives in
+    let rules = g.M.Machine.rules in
     let x = c.in-Some.ensures.some in
     let inside = rw (← c.self.view_is) at x.stands in
     let same = same_replica c.self.inside.nodes.items c.in-Some.at c.index.result.now x.replica c.index.ensures inside in
