@@ -172,8 +172,7 @@ impl<M: Machine> Replica<M> {
             Stepped M.rules self.old (proposed M.rules self.old.state command)
             self.new out.old.items out.new.items }
         ensures done { OnOk result
-            (Done self.old
-            (added M.rules self.old.state command)
+            (Done self.old (added M.rules self.old.state command)
             self.new out.old.items out.new.items) }
 
         // When each refusal comes; want of memory alone is free to come at any time.
@@ -214,9 +213,7 @@ impl<M: Machine> Replica<M> {
     ) -> Result<(), ProposeError>
         requires { self.old.state.stopped ≡ false }
         ensures outcome { MatchResult result
-            (λ _.
-            Done self.old
-            (added M.rules self.old.state command)
+            (λ _. Done self.old (added M.rules self.old.state command)
             self.new out.old.items out.new.items)
             (λ error. Lacks M.rules error self.old self.new) }
         ensures err { OnErr result (out.new.items ≡ out.old.items) }
@@ -264,8 +261,7 @@ impl<M: Machine> Replica<M> {
         requires within { held ≤ length self.old.state.log }
         ensures state { OnOk result
             (self.new ≡ record self.old {
-              state =
-                  (commit_at M.rules self.old.state held).state;
+              state = (commit_at M.rules self.old.state held).state;
             }) }
         ensures effects { IfOk result
             (Sends out.old.items out.new.items

@@ -61,8 +61,8 @@ impl<M: Machine> Model for Group<M> {
     // Some past led up to here.
     ghost invariant = { λ g.
         (messages g.left.items ≡ []) ×
-        IsGroup M.rules
-        (moment_of g.master g.nodes.items g.sent.items g.left.items) g.told g.next };
+        IsGroup M.rules (moment_of g.master g.nodes.items g.sent.items g.left.items)
+        g.told g.next };
 }
 
 impl<M: Machine> Group<M> {
@@ -203,8 +203,8 @@ impl<M: Machine> Group<M> {
 
     fn propose(&mut self, node: u8, command: &M::Command) -> Result<(), Idle>
         ensures step { StepsBy M.rules self.old (Event.Propose node command.now) self.new }
-        ensures idle { IsErr result ↔ (turn M.rules
-            self.old.moment (Event.Propose node command.now) ≡ None) }
+        ensures idle { IsErr result ↔
+            (turn M.rules self.old.moment (Event.Propose node command.now) ≡ None) }
         ensures same { OnErr result (self.new ≡ self.old) }
         ensures quiet { TakesNoMemory M.rules self.old.moment (Event.Propose node command.now) →
             self.new ≡ done_exactly M.rules self.old (Event.Propose node command.now) }
@@ -225,8 +225,8 @@ impl<M: Machine> Group<M> {
 
     fn assign(&mut self, config: &Config) -> Result<(), Idle>
         ensures step { StepsBy M.rules self.old (Event.Assign config.now) self.new }
-        ensures idle { IsErr result ↔ (turn M.rules
-            self.old.moment (Event.Assign config.now) ≡ None) }
+        ensures idle { IsErr result ↔
+            (turn M.rules self.old.moment (Event.Assign config.now) ≡ None) }
         ensures same { OnErr result (self.new ≡ self.old) }
         ensures quiet { TakesNoMemory M.rules self.old.moment (Event.Assign config.now) →
             self.new ≡ done_exactly M.rules self.old (Event.Assign config.now) }
@@ -358,8 +358,8 @@ impl<M: Machine> Group<M> {
         requires { at < length self.now.moment.world.nodes }
         ensures { (r : ReplicaState M M.Command) →
             slice_get self.now.moment.world.nodes at ≡ Some r →
-            ((result ≡ false) ↔ (replica_step M.rules
-            r (Receives message.now) ≡ nothing_done M.Output r)) }
+            ((result ≡ false) ↔
+            (replica_step M.rules r (Receives message.now) ≡ nothing_done M.Output r)) }
     {
         self.nodes[at].heeds(message)
     }

@@ -128,8 +128,7 @@ impl<M: Machine> Replica<M> {
         requires some { 0 < length self.old.state.log }
         requires behind { committed < length self.old.state.log }
         ensures outcome { MatchResult result
-            (λ _. Begins M.rules self.old self.new
-            out.old.items out.new.items)
+            (λ _. Begins M.rules self.old self.new out.old.items out.new.items)
             (λ _. (out.new.items ≡ out.old.items) × (self.new ≡ record {
               state = record self.old.state {
                 log = take (length self.old.state.log - 1) self.old.state.log;

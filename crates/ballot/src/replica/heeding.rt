@@ -16,8 +16,8 @@ impl<M: Machine> Replica<M> {
     /// Whether a message would do anything: change the replica, or send.
     pub fn heeds(&self, message: &Message<M::Command>) -> bool
         ensures { (result ≡ false) ↔
-            (replica_step M.rules self.now.state
-            (Receives message.now) ≡ nothing_done M.Output self.now.state) }
+            (replica_step M.rules self.now.state (Receives message.now)
+            ≡ nothing_done M.Output self.now.state) }
     {
         self.is_moved_by(message.from, &message.body)
     }
@@ -66,8 +66,7 @@ impl<M: Machine> Replica<M> {
     /// Whether a tick would say anything.
     pub fn speaks(&self) -> bool
         ensures { (result ≡ false) ↔
-            (replica_step M.rules self.now.state Ticks
-            ≡ nothing_done M.Output self.now.state) }
+            (replica_step M.rules self.now.state Ticks ≡ nothing_done M.Output self.now.state) }
     {
         self.would_say()
     }

@@ -167,8 +167,8 @@ impl<M: Machine> Replica<M> {
     // A backup applies what every member holds. The outputs are the primary's to give.
     fn on_commit(&mut self, ballot: u64, held: u64) -> Result<(), Halted>
         requires { self.old.state.stopped ≡ false }
-        ensures went { Went M.rules self.old (on_commit M.rules
-            self.old.state ballot held) self.new [] [] }
+        ensures went { Went M.rules self.old (on_commit M.rules self.old.state ballot held)
+            self.new [] [] }
         ensures ok { OnOk result (self.new.state.stopped ≡ false) }
         ensures err { OnErr result (self.new.state.stopped ≡ true) }
     {
