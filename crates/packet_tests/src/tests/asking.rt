@@ -1,7 +1,7 @@
 // Small questions that are asked of `decode` and `encode`.
 
 use packet::*;
-use std::alloc::{AllocError, Global};
+use std::alloc::Global;
 use topics::MalformedKind;
 
 /// Whether these bytes are less than a packet.
@@ -30,8 +30,8 @@ pub fn is_answered(alloc: Global, bytes: &[u8], code: RefusalCode) -> bool {
 
 /// Whether these bytes are read as the packet, all of them.
 pub fn is_read(alloc: Global, packet: &Packet, bytes: &[u8]) -> bool {
-    match decode(alloc, bytes) {
-        Ok(Step::Whole(read, len)) => read == *packet && len == bytes.len(),
+    match &decode(alloc, bytes) {
+        Ok(Step::Whole(read, len)) => *read == *packet && *len == bytes.len(),
         _ => false,
     }
 }
@@ -47,18 +47,19 @@ pub fn write(packet: &Packet, out: &mut Vec<u8>) -> Option<u8> {
     }
 }
 
-/// Whether these bytes are written for the packet, behind what the vector holds.
-fn is_written(alloc: Global, packet: &Packet, bytes: &[u8]) -> Result<bool, AllocError> {
-    let mut out = Vec::new(alloc);
-    out.push(9)?;
-    let refusal = write(packet, &mut out);
-    Ok(match (refusal, out.as_slice()) {
-        (None, [9, written @ ..]) => written == bytes,
+/// Whether these bytes are written for the packet, behind a byte that the vector is given.
+fn is_written(packet: &Packet, out: &mut Vec<u8>, bytes: &[u8]) -> bool {
+    if out.push(9).is_err() || write(packet, out).is_some() {
+        return false;
+    }
+    match out.as_slice() {
+        [9, written @ ..] => written == bytes,
         _ => false,
-    })
+    }
 }
 
 /// Whether these bytes are written for the packet and read as it.
-pub fn is_spelled(alloc: Global, packet: Packet, bytes: &[u8]) -> Result<bool, AllocError> {
-    Ok(is_written(alloc, &packet, bytes)? && is_read(alloc, &packet, bytes))
+pub fn is_spelled(alloc: Global, packet: &Packet, bytes: &[u8]) -> bool {
+    let mut out = Vec::new(alloc);
+    is_written(packet, &mut out, bytes) && is_read(alloc, packet, bytes)
 }

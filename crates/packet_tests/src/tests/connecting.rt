@@ -2,7 +2,7 @@
 
 use super::asking::*;
 use packet::*;
-use std::alloc::{AllocError, Global};
+use std::alloc::Global;
 use std::test::*;
 use topics::MalformedKind;
 
@@ -25,21 +25,26 @@ fn finished_front(alloc: Global, bytes: &[u8]) -> Option<usize> {
 }
 
 /// A CONNECT that goes on with a session.
-fn connect(alloc: Global, name: &str, keep_alive: u16) -> Result<Packet, MalformedKind> {
-    let client = ClientId::new(alloc, name)?;
-    Ok(Packet::Connect(Connect {
+fn connect(client: ClientId, keep_alive: u16) -> Packet {
+    Packet::Connect(Connect {
         client,
         clean: false,
         keep_alive,
-    }))
+    })
+}
+
+/// Whether these bytes spell that CONNECT of a client.
+fn is_connect(alloc: Global, name: &str, keep_alive: u16, bytes: &[u8]) -> bool {
+    match ClientId::new(alloc, name) {
+        Ok(client) => is_spelled(alloc, &connect(client, keep_alive), bytes),
+        Err(_) => false,
+    }
 }
 
 #[test]
-fn connect_is_read_and_written(rt: HostRuntime) -> Result<(), Fail> {
-    let packet = connect(rt.alloc(), "a", 60)?;
-    assert!(rt; is_spelled(rt.alloc(), packet, &CONNECT)?);
+fn connect_is_read_and_written(rt: HostRuntime) {
+    assert!(rt; is_connect(rt.alloc(), "a", 60, &CONNECT));
     assert_eq!(rt; finished_front(rt.alloc(), &CONNECT), None);
-    Ok(())
 }
 
 /// That CONNECT with another byte at a place.
@@ -88,20 +93,24 @@ fn connect_is_refused(rt: HostRuntime) {
     assert!(rt; is_answered(alloc, &no_client, RefusalCode::IdentifierRejected));
 }
 
+/// Whether a CONNACK is spelled by these two bytes.
+fn is_connack(alloc: Global, connack: Connack, flags: u8, code: u8) -> bool {
+    is_spelled(alloc, &Packet::Connack(connack), &[0x20, 0x02, flags, code])
+}
+
 /// The first row whose CONNACK is not spelled by its two bytes.
-fn other_connack(alloc: Global, rows: &[(Connack, u8, u8)]) -> Result<Option<usize>, AllocError> {
+fn other_connack(alloc: Global, rows: &[(Connack, u8, u8)]) -> Option<usize> {
     for (row, (connack, flags, code)) in rows.iter().enumerate() {
-        let bytes = [0x20, 0x02, *flags, *code];
-        if !is_spelled(alloc, Packet::Connack(*connack), &bytes)? {
-            return Ok(Some(row));
+        if !is_connack(alloc, *connack, *flags, *code) {
+            return Some(row);
         }
     }
-    Ok(None)
+    None
 }
 
 // MQTT 3.2.2: session present goes with code 0 alone.
 #[test]
-fn connack_in_both_directions(rt: HostRuntime) -> Result<(), Fail> {
+fn connack_in_both_directions(rt: HostRuntime) {
     let rows = [
         (Connack::Accepted(false), 0x00, 0x00),
         (Connack::Accepted(true), 0x01, 0x00),
@@ -119,8 +128,7 @@ fn connack_in_both_directions(rt: HostRuntime) -> Result<(), Fail> {
         ),
         (Connack::Refused(RefusalCode::NotAuthorized), 0x00, 0x05),
     ];
-    assert_eq!(rt; other_connack(rt.alloc(), &rows)?, None);
-    Ok(())
+    assert_eq!(rt; other_connack(rt.alloc(), &rows), None);
 }
 
 #[test]
@@ -136,29 +144,65 @@ fn client_fault(alloc: Global, text: &str) -> Option<MalformedKind> {
     ClientId::new(alloc, text).err()
 }
 
+fn is_client_printed(alloc: Global, client: &ClientId, wanted: &str) -> bool {
+    match format!(in alloc; "{client}") {
+        Ok(printed) => printed.as_str() == wanted,
+        Err(_) => false,
+    }
+}
+
+fn is_client_copied(client: &ClientId) -> bool {
+    match client.clone() {
+        Ok(copy) => *client == copy,
+        Err(_) => false,
+    }
+}
+
+/// Whether a later client has an equal copy and comes after this one, which is another.
+fn is_client_before(alloc: Global, client: &ClientId, later: &str) -> bool {
+    match ClientId::new(alloc, later) {
+        Ok(later) => *client < later && *client != later && is_client_copied(&later),
+        Err(_) => false,
+    }
+}
+
+/// Whether a text is a Client Identifier, is printed as it is, and comes before another.
+fn is_client(alloc: Global, text: &str, later: &str) -> bool {
+    match ClientId::new(alloc, text) {
+        Ok(client) => {
+            client.as_str() == text
+                && is_client_printed(alloc, &client, text)
+                && is_client_before(alloc, &client, later)
+        }
+        Err(_) => false,
+    }
+}
+
 #[test]
-fn client_identifiers(rt: HostRuntime) -> Result<(), Fail> {
+fn client_identifiers(rt: HostRuntime) {
     let longest = "0123456789012345678901234567890123456789012345678901234567890123";
-    let client = ClientId::new(rt.alloc(), longest)?;
-    assert_eq!(rt; client.as_str(), longest);
-    assert_eq!(rt; format!(in rt.alloc(); "{client}")?.as_str(), longest);
-    let other = ClientId::new(rt.alloc(), "b")?;
-    assert!(rt; client < other && client != other && other == other.clone()?);
-    Ok(())
+    assert!(rt; is_client(rt.alloc(), longest, "b"));
+}
+
+/// The first text that is not refused with its kind.
+fn first_client<'a>(alloc: Global, rows: &[(&'a str, MalformedKind)]) -> Option<&'a str> {
+    for (text, kind) in rows {
+        if client_fault(alloc, text) != Some(*kind) {
+            return Some(text);
+        }
+    }
+    None
 }
 
 #[test]
 fn no_client_identifiers(rt: HostRuntime) {
     let longer = "01234567890123456789012345678901234567890123456789012345678901234";
-    assert_eq!(rt;
-        client_fault(rt.alloc(), ""),
-        Some(MalformedKind::Identifier)
-    );
-    assert_eq!(rt;
-        client_fault(rt.alloc(), longer),
-        Some(MalformedKind::Identifier)
-    );
-    assert_eq!(rt; client_fault(rt.alloc(), "a\0"), Some(MalformedKind::Text));
+    let rows = [
+        ("", MalformedKind::Identifier),
+        (longer, MalformedKind::Identifier),
+        ("a\0", MalformedKind::Text),
+    ];
+    assert_eq!(rt; first_client(rt.alloc(), &rows), None);
 }
 
 #[test]
@@ -173,14 +217,29 @@ fn numbers_of_refusals(rt: HostRuntime) {
     assert!(rt; QoS::AtMostOnce < QoS::AtLeastOnce);
 }
 
+fn is_decode_fault_printed(alloc: Global, fault: DecodeFault, wanted: &str) -> bool {
+    match format!(in alloc; "{fault}") {
+        Ok(text) => text.as_str() == wanted,
+        Err(_) => false,
+    }
+}
+
+fn is_encode_fault_printed(alloc: Global, fault: EncodeFault, wanted: &str) -> bool {
+    match format!(in alloc; "{fault}") {
+        Ok(text) => text.as_str() == wanted,
+        Err(_) => false,
+    }
+}
+
 #[test]
-fn texts_of_refusals(rt: HostRuntime) -> Result<(), Fail> {
+fn texts_of_refusals(rt: HostRuntime) {
+    let alloc = rt.alloc();
     let malformed = DecodeFault::Malformed(MalformedKind::Shape);
     let refused = DecodeFault::Refused(RefusalCode::IdentifierRejected);
-    let text = format!(in rt.alloc(); "{malformed}; {refused}")?;
-    let want = "malformed packet: shape of the packet; connection refused: identifier rejected";
-    assert_eq!(rt; text.as_str(), want);
-    let text = format!(in rt.alloc(); "{}; {}", EncodeFault::TooLarge, EncodeFault::Memory)?;
-    assert_eq!(rt; text.as_str(), "packet too large; out of memory");
-    Ok(())
+    let shape = "malformed packet: shape of the packet";
+    assert!(rt; is_decode_fault_printed(alloc, malformed, shape));
+    let rejected = "connection refused: identifier rejected";
+    assert!(rt; is_decode_fault_printed(alloc, refused, rejected));
+    assert!(rt; is_encode_fault_printed(alloc, EncodeFault::TooLarge, "packet too large"));
+    assert!(rt; is_encode_fault_printed(alloc, EncodeFault::Memory, "out of memory"));
 }

@@ -2,7 +2,6 @@
 
 use packet_base::{PacketId, RefusalCode, length_size, put_length, take_length};
 use std::alloc::Global;
-use std::test::Fail;
 
 // MQTT 2.2.3, table 2.4: the least and the greatest Remaining Length of each number of bytes.
 const LENGTHS: &[(u32, &[u8])] = &[
@@ -16,22 +15,18 @@ const LENGTHS: &[(u32, &[u8])] = &[
     (268_435_455, &[0xFF, 0xFF, 0xFF, 0x7F]),
 ];
 
-// The bytes of a length; none where it is too great.
-fn spelled(alloc: Global, length: u32) -> Option<Vec<u8>> {
-    if length >= 268_435_456 {
-        return None;
+// Appends the bytes of a length, and tells whether there is room for them and it is not too great.
+fn is_put(out: &mut Vec<u8>, length: u32) -> bool {
+    if length >= 268_435_456 || out.reserve(length_size(length)).is_err() {
+        return false;
     }
-    let mut out = Vec::new(alloc);
-    out.reserve(length_size(length)).ok()?;
-    put_length(&mut out, length);
-    Some(out)
+    put_length(out, length);
+    true
 }
 
 fn is_spelled(alloc: Global, length: u32, bytes: &[u8]) -> bool {
-    match spelled(alloc, length) {
-        Some(out) => out.as_slice() == bytes,
-        None => false,
-    }
+    let mut out = Vec::new(alloc);
+    is_put(&mut out, length) && out.as_slice() == bytes
 }
 
 fn is_read(length: u32, bytes: &[u8]) -> bool {
@@ -55,11 +50,17 @@ fn lengths_of_the_standard(rt: HostRuntime) {
     assert!(rt; are_right(rt.alloc()));
 }
 
+fn are_printed(alloc: Global, code: RefusalCode, id: PacketId, wanted: &str) -> bool {
+    match format!(in alloc; "{code} {id}") {
+        Ok(text) => text.as_str() == wanted,
+        Err(_) => false,
+    }
+}
+
 // MQTT 3.2.2.3, table 3.1.
 #[test]
-fn codes_and_identifiers(rt: HostRuntime) -> Result<(), Fail> {
-    assert_eq!(rt; RefusalCode::NotAuthorized.number(), 5);
-    let text = format!(in rt.alloc(); "{} {}", RefusalCode::NotAuthorized, PacketId::new(7))?;
-    assert_eq!(rt; text.as_str(), "not authorized 7");
-    Ok(())
+fn codes_and_identifiers(rt: HostRuntime) {
+    let code = RefusalCode::NotAuthorized;
+    assert_eq!(rt; code.number(), 5);
+    assert!(rt; are_printed(rt.alloc(), code, PacketId::new(7), "not authorized 7"));
 }

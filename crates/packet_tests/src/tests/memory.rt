@@ -12,17 +12,21 @@ const SUBSCRIBE: [u8; 10] = [0x82, 0x08, 0x00, 0x0A, 0x00, 0x03, 0x61, 0x2F, 0x6
 /// PUBLISH of `hi` on topic `t`.
 const PUBLISH: [u8; 7] = [0x30, 0x05, 0x00, 0x01, 0x74, 0x68, 0x69];
 
+/// Copies a packet and writes the copy; the number with which one of these is refused.
+fn write_copy(packet: &Packet, out: &mut Vec<u8>) -> Option<u8> {
+    match packet.copy() {
+        Ok(copy) => write(&copy, out),
+        Err(_) => Some(12),
+    }
+}
+
 /// Reads a packet, copies it and writes the copy; the number with which one of these is refused.
 fn round(alloc: Global, bytes: &[u8], out: &mut Vec<u8>) -> Option<u8> {
-    let packet = match decode(alloc, bytes) {
-        Ok(Step::Whole(packet, _)) => packet,
-        Ok(Step::More) => return Some(0),
-        Err(fault) => return fault.number(),
-    };
-    let Ok(copy) = packet.copy() else {
-        return Some(12);
-    };
-    write(&copy, out)
+    match &decode(alloc, bytes) {
+        Ok(Step::Whole(packet, _)) => write_copy(packet, out),
+        Ok(Step::More) => Some(0),
+        Err(fault) => fault.number(),
+    }
 }
 
 /// Whether these bytes come back, or memory was wanting and none came.
