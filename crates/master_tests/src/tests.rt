@@ -4,4 +4,5 @@ mod changes;
 mod groups;
 mod idle;
 mod memory;
+mod stories;
 mod takeovers;

@@ -1,8 +1,8 @@
 use super::groups::*;
+use super::stories::{Story, goes};
 use ballot::{Body, Message};
 use machine::{Tally, TallyCommand};
 use master::{Event, Group};
-use std::test::Fail;
 
 // Whether a message is the command that node 1 appends at node 2.
 fn is_append(group: &Group<Tally>, at: usize) -> bool {
@@ -37,8 +37,8 @@ fn sent_all(group: &Group<Tally>) -> bool {
     is_append(group, 0) && is_held(group, 1) && is_held(group, 2) && is_commit(group, 3)
 }
 
-// Whether a command is answered once both members hold it.
-fn waits_for_all(group: &mut Group<Tally>) -> bool {
+/// Whether a command is answered once both members hold it.
+pub fn waits_for_all(group: &mut Group<Tally>) -> bool {
     adds(group, 1, 2)
         && counts(group) == (1, 0, 0)
         && come(group, ANSWERED)
@@ -50,10 +50,9 @@ fn waits_for_all(group: &mut Group<Tally>) -> bool {
 
 // A command is appended, held, answered and committed; a message may come twice.
 #[test]
-fn an_answer_waits_for_all_members(rt: HostRuntime) -> Result<(), Fail> {
-    let mut group = group(rt.alloc(), 2, &[1, 2])?;
-    assert!(rt; waits_for_all(&mut group));
-    Ok(())
+fn an_answer_waits_for_all_members(rt: HostRuntime) {
+    let told = goes(rt.alloc(), 2, &[1, 2], Story::WaitsForAll);
+    assert!(rt; told == Some(true));
 }
 
 const ALONE: &[TallyCommand] = &[
@@ -79,11 +78,15 @@ fn has_counted(group: &Group<Tally>) -> bool {
         && agrees(group, ALONE)
 }
 
+/// Whether a sole member answers at once.
+pub fn counts_alone(group: &mut Group<Tally>) -> bool {
+    run_alone(group);
+    has_counted(group)
+}
+
 // A sole member answers at once: 2, nothing at the start of a ballot, and 5.
 #[test]
-fn tally_counts(rt: HostRuntime) -> Result<(), Fail> {
-    let mut group = group(rt.alloc(), 1, &[1])?;
-    run_alone(&mut group);
-    assert!(rt; has_counted(&group));
-    Ok(())
+fn tally_counts(rt: HostRuntime) {
+    let told = goes(rt.alloc(), 1, &[1], Story::CountsAlone);
+    assert!(rt; told == Some(true));
 }

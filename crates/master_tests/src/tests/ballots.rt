@@ -1,23 +1,26 @@
 use super::groups::config;
 use master::{Activation, AssignError, Master};
 use std::alloc::Global;
-use std::test::Fail;
 
-// A master whose ballot 1 is active with node 1.
-fn opened(alloc: Global) -> Result<Master, Fail> {
-    let config = config(alloc, &[1], 1)?;
-    Ok(Master::new(config)?)
+// A master whose ballot 1 is active with node 1; none where there was no memory for it.
+fn opened(alloc: Global) -> Option<Master> {
+    match config(alloc, &[1], 1) {
+        Ok(config) => Master::new(config).ok(),
+        Err(_) => None,
+    }
 }
 
-// What the master answers to a configuration.
+// What the master answers to a configuration; none where there was no memory for that.
 fn assigned(
     master: &mut Master,
     alloc: Global,
     members: &[u8],
     primary: u8,
-) -> Result<Result<u64, AssignError>, Fail> {
-    let config = config(alloc, members, primary)?;
-    Ok(master.assign(config))
+) -> Option<Result<u64, AssignError>> {
+    match config(alloc, members, primary) {
+        Ok(config) => Some(master.assign(config)),
+        Err(_) => None,
+    }
 }
 
 // Whether a ballot is activated, and which is active behind that.
@@ -27,14 +30,11 @@ fn activates(master: &mut Master, ballot: u64) -> (bool, u64) {
 }
 
 // Whether the master gives this ballot.
-fn is_given(
-    master: &mut Master,
-    alloc: Global,
-    members: &[u8],
-    primary: u8,
-    ballot: u64,
-) -> Result<bool, Fail> {
-    Ok(assigned(master, alloc, members, primary)? == Ok(ballot))
+fn is_given(master: &mut Master, alloc: Global, members: &[u8], primary: u8, ballot: u64) -> bool {
+    match assigned(master, alloc, members, primary) {
+        Some(Ok(given)) => given == ballot,
+        _ => false,
+    }
 }
 
 const ACTIVATED: &[(u64, (bool, u64))] = &[
@@ -54,44 +54,77 @@ fn activates_all(master: &mut Master, rows: &[(u64, (bool, u64))]) -> bool {
     true
 }
 
+// Whether ballots 2 and 3 are given, and ballot 2 is put out.
+fn puts_out(master: &mut Master, alloc: Global) -> bool {
+    is_given(master, alloc, &[1, 2], 1, 2)
+        && is_given(master, alloc, &[2], 2, 3)
+        && activates_all(master, ACTIVATED)
+        && master.active().1 == [2].as_slice()
+}
+
+// What a master is to do.
+#[derive(Clone, Copy)]
+enum Task {
+    PutsOut,
+    RefusesAll,
+}
+
+// Whether a master that opens does so.
+fn is_done(alloc: Global, task: Task) -> bool {
+    match opened(alloc) {
+        Some(mut master) => does(&mut master, alloc, task),
+        None => false,
+    }
+}
+
+fn does(master: &mut Master, alloc: Global, task: Task) -> bool {
+    match task {
+        Task::PutsOut => puts_out(master, alloc),
+        Task::RefusesAll => refuses_bad_members(master, alloc),
+    }
+}
+
 // Ballots are given, put out and activated.
 #[test]
-fn a_ballot_put_out_never_comes_back(rt: HostRuntime) -> Result<(), Fail> {
-    let mut master = opened(rt.alloc())?;
-    assert!(rt; is_given(&mut master, rt.alloc(), &[1, 2], 1, 2)?);
-    assert!(rt; is_given(&mut master, rt.alloc(), &[2], 2, 3)?);
-    assert!(rt; activates_all(&mut master, ACTIVATED));
-    assert!(rt; master.active().1 == [2].as_slice());
-    Ok(())
+fn a_ballot_put_out_never_comes_back(rt: HostRuntime) {
+    assert!(rt; is_done(rt.alloc(), Task::PutsOut));
 }
 
 const BAD: &[(&[u8], u8)] = &[(&[2, 1], 1), (&[], 1), (&[1], 2), (&[1, 16], 1)];
 
 // Whether each of these is refused for its members.
-fn refuses_all(master: &mut Master, alloc: Global, rows: &[(&[u8], u8)]) -> Result<bool, Fail> {
+fn refuses_all(master: &mut Master, alloc: Global, rows: &[(&[u8], u8)]) -> bool {
     for (members, primary) in rows {
-        let refused = assigned(master, alloc, members, *primary)?;
-        if refused != Err(AssignError::BadMembers) {
-            return Ok(false);
+        match assigned(master, alloc, members, *primary) {
+            Some(Err(AssignError::BadMembers)) => {}
+            _ => return false,
         }
     }
-    Ok(true)
+    true
+}
+
+// Whether these are refused, and ballot 2 is given behind them.
+fn refuses_bad_members(master: &mut Master, alloc: Global) -> bool {
+    refuses_all(master, alloc, BAD) && is_given(master, alloc, &[1, 2], 2, 2)
 }
 
 // Bad members are refused, whatever waits.
 #[test]
-fn bad_members_are_given_no_ballot(rt: HostRuntime) -> Result<(), Fail> {
-    let mut master = opened(rt.alloc())?;
-    assert!(rt; refuses_all(&mut master, rt.alloc(), BAD)?);
-    assert!(rt; is_given(&mut master, rt.alloc(), &[1, 2], 2, 2)?);
-    Ok(())
+fn bad_members_are_given_no_ballot(rt: HostRuntime) {
+    assert!(rt; is_done(rt.alloc(), Task::RefusesAll));
+}
+
+// Whether no master opens with none of its members as primary.
+fn is_no_primary(alloc: Global) -> bool {
+    match config(alloc, &[2], 1) {
+        Ok(config) => Master::new(config).is_err(),
+        Err(_) => false,
+    }
 }
 
 // The numbers of the refusals, and a master that opens with none of its members as primary.
 #[test]
-fn refusals_have_numbers(rt: HostRuntime) -> Result<(), Fail> {
-    let config = config(rt.alloc(), &[2], 1)?;
-    assert!(rt; Master::new(config).is_err());
+fn refusals_have_numbers(rt: HostRuntime) {
+    assert!(rt; is_no_primary(rt.alloc()));
     assert!(rt; AssignError::BadMembers.number() == 20 && AssignError::BallotsSpent.number() == 21);
-    Ok(())
 }

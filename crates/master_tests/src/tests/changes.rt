@@ -1,8 +1,8 @@
 use super::groups::*;
-use ballot::Config;
+use super::stories::{Story, goes};
 use machine::{Tally, TallyCommand};
 use master::{Event, Group};
-use std::test::Fail;
+use std::alloc::Global;
 
 const STARTED: &[TallyCommand] = &[TallyCommand::Start(2)];
 
@@ -18,9 +18,10 @@ const CHANGED: &[Row] = &[
     (8, 10, 0, 1),
 ];
 
-// Whether the master gives the ballot, and its messages come as these rows say.
-fn is_changed(group: &mut Group<Tally>, change: Config) -> bool {
-    gives(group, change)
+/// Whether the master gives the ballot to members 1 and 2 and primary 2, and its messages come as
+/// these rows say.
+pub fn is_changed(group: &mut Group<Tally>, alloc: Global) -> bool {
+    gives_to(group, alloc, &[1, 2], 2)
         && counts(group) == (1, 0, 0)
         && come(group, CHANGED)
         && is_active(group, 2)
@@ -30,11 +31,9 @@ fn is_changed(group: &mut Group<Tally>, change: Config) -> bool {
 // The counts that are told of a change of configuration: [1] to [1, 2] with primary 2. The messages
 // are NewBallot, Join, State, Install, Installed, Activate, Activated, Append, Held, Commit.
 #[test]
-fn configuration_changes(rt: HostRuntime) -> Result<(), Fail> {
-    let mut group = group(rt.alloc(), 2, &[1])?;
-    let change = config(rt.alloc(), &[1, 2], 2)?;
-    assert!(rt; is_changed(&mut group, change));
-    Ok(())
+fn configuration_changes(rt: HostRuntime) {
+    let told = goes(rt.alloc(), 2, &[1], Story::Changes);
+    assert!(rt; told == Some(true));
 }
 
 const WAITING: &[Row] = &[
@@ -55,11 +54,12 @@ const PUT_OUT: &[Row] = &[
     (11, 12, 0, 1),
 ];
 
-// Whether one ballot is put out by another, and messages come as these rows say.
-fn is_put_out(group: &mut Group<Tally>, first: Config, second: Config) -> bool {
-    gives(group, first)
+/// Whether the ballot of members 1 and 2 is put out by that of member 3, and messages come as these
+/// rows say.
+pub fn is_put_out(group: &mut Group<Tally>, alloc: Global) -> bool {
+    gives_to(group, alloc, &[1, 2], 2)
         && come(group, WAITING)
-        && gives(group, second)
+        && gives_to(group, alloc, &[3], 3)
         && come(group, PUT_OUT)
         && is_active(group, 3)
 }
@@ -67,12 +67,9 @@ fn is_put_out(group: &mut Group<Tally>, first: Config, second: Config) -> bool {
 // The counts that are told of a ballot that is put out while it waits: message 5 is Activate(2), and
 // message 7 Superseded(2).
 #[test]
-fn a_ballot_is_put_out(rt: HostRuntime) -> Result<(), Fail> {
-    let mut group = group(rt.alloc(), 3, &[1])?;
-    let first = config(rt.alloc(), &[1, 2], 2)?;
-    let second = config(rt.alloc(), &[3], 3)?;
-    assert!(rt; is_put_out(&mut group, first, second));
-    Ok(())
+fn a_ballot_is_put_out(rt: HostRuntime) {
+    let told = goes(rt.alloc(), 3, &[1], Story::IsPutOut);
+    assert!(rt; told == Some(true));
 }
 
 // Whether a node takes a number to add. All messages come.
@@ -82,9 +79,9 @@ fn adds_and_settles(group: &mut Group<Tally>, node: u8, number: u64) -> bool {
     takes
 }
 
-// Whether node 1 stops, and ballot 2 is given and becomes active.
-fn goes_over(group: &mut Group<Tally>, change: Config) -> bool {
-    let goes = happens(group, &Event::Crash(1)) && gives(group, change);
+// Whether node 1 stops, and ballot 2 is given to members 2 and 3 and becomes active.
+fn goes_over(group: &mut Group<Tally>, alloc: Global) -> bool {
+    let goes = happens(group, &Event::Crash(1)) && gives_to(group, alloc, &[2, 3], 2);
     settle(group);
     goes && is_active(group, 2)
 }
@@ -103,10 +100,10 @@ fn has_gone_on(group: &Group<Tally>) -> bool {
         && agrees(group, TAKEN_OVER)
 }
 
-// Whether node 1 answers a command and stops, and node 2 answers the next one.
-fn takes_over(group: &mut Group<Tally>, change: Config) -> bool {
+/// Whether node 1 answers a command and stops, and node 2 answers the next one.
+pub fn takes_over(group: &mut Group<Tally>, alloc: Global) -> bool {
     adds_and_settles(group, 1, 2)
-        && goes_over(group, change)
+        && goes_over(group, alloc)
         && adds_and_settles(group, 2, 3)
         && has_gone_on(group)
 }
@@ -114,11 +111,9 @@ fn takes_over(group: &mut Group<Tally>, change: Config) -> bool {
 // Node 1 answers a command and stops. Node 2 is given the next ballot, has what was agreed, and
 // answers the next command from there on.
 #[test]
-fn a_new_primary_takes_over(rt: HostRuntime) -> Result<(), Fail> {
-    let mut group = group(rt.alloc(), 3, &[1, 2])?;
-    let change = config(rt.alloc(), &[2, 3], 2)?;
-    assert!(rt; takes_over(&mut group, change));
-    Ok(())
+fn a_new_primary_takes_over(rt: HostRuntime) {
+    let told = goes(rt.alloc(), 3, &[1, 2], Story::TakesOver);
+    assert!(rt; told == Some(true));
 }
 
 const LEFT_BEHIND: &[Row] = &[
@@ -135,11 +130,11 @@ const LEFT_BEHIND: &[Row] = &[
     (12, 13, 0, 1),
 ];
 
-// Whether the longer log of node 1 is gone behind the change.
-fn is_replaced(group: &mut Group<Tally>, change: Config) -> bool {
+/// Whether the longer log of node 1 is gone behind the change to primary 2.
+pub fn is_replaced(group: &mut Group<Tally>, alloc: Global) -> bool {
     adds(group, 1, 2)
         && adds(group, 1, 3)
-        && gives(group, change)
+        && gives_to(group, alloc, &[1, 2], 2)
         && come(group, LEFT_BEHIND)
         && is_active(group, 2)
         && agrees(group, STARTED)
@@ -148,9 +143,7 @@ fn is_replaced(group: &mut Group<Tally>, change: Config) -> bool {
 // Node 1 has two commands that node 2 never got. The log of ballot 2 takes the place of its longer
 // one, and what comes of them later changes nothing.
 #[test]
-fn a_stale_primary_has_a_longer_log(rt: HostRuntime) -> Result<(), Fail> {
-    let mut group = group(rt.alloc(), 2, &[1, 2])?;
-    let change = config(rt.alloc(), &[1, 2], 2)?;
-    assert!(rt; is_replaced(&mut group, change));
-    Ok(())
+fn a_stale_primary_has_a_longer_log(rt: HostRuntime) {
+    let told = goes(rt.alloc(), 2, &[1, 2], Story::IsReplaced);
+    assert!(rt; told == Some(true));
 }

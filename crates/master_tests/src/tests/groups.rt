@@ -39,6 +39,14 @@ pub fn gives(group: &mut Group<Tally>, config: Config) -> bool {
     happens(group, &Event::Assign(config))
 }
 
+/// Whether the master gives a ballot to these members and this primary.
+pub fn gives_to(group: &mut Group<Tally>, alloc: Global, members: &[u8], primary: u8) -> bool {
+    match config(alloc, members, primary) {
+        Ok(config) => gives(group, config),
+        Err(_) => false,
+    }
+}
+
 /// How many messages were sent, how many outputs left, and how many places are agreed.
 pub fn counts(group: &Group<Tally>) -> (usize, usize, u64) {
     (group.sent().len(), group.left().len(), group.agreed_len())

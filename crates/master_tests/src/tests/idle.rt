@@ -1,9 +1,9 @@
 use super::groups::*;
-use ballot::OpeningError;
+use super::stories::{Story, goes};
+use ballot::{Config, OpeningError};
 use machine::{Tally, TallyCommand};
 use master::{Event, Group, Idle};
 use std::alloc::Global;
-use std::test::Fail;
 
 // Whether an event is idle.
 fn is_idle(group: &mut Group<Tally>, event: &Event<TallyCommand>) -> bool {
@@ -28,24 +28,40 @@ fn idles_stopped(group: &mut Group<Tally>) -> bool {
         && is_idle(group, &Event::Deliver(0))
 }
 
+// Whether a run goes on behind what is idle in it.
+fn runs_on(group: &mut Group<Tally>) -> bool {
+    group.run(&[Event::Tick(2), Event::Tick(1)]);
+    counts(group) == (3, 0, 0) && is_active(group, 1)
+}
+
+/// Whether what cannot happen at first, and once node 2 has stopped, is idle.
+pub fn is_idle_where_nothing_can_happen(group: &mut Group<Tally>) -> bool {
+    idles_at_first(group)
+        && adds(group, 1, 2)
+        && happens(group, &Event::Crash(2))
+        && idles_stopped(group)
+        && runs_on(group)
+}
+
 // No node 0 or 3, no message, a backup that is proposed to, a node that has stopped. A run goes on
 // behind them.
 #[test]
-fn what_cannot_happen_is_idle(rt: HostRuntime) -> Result<(), Fail> {
-    let mut group = group(rt.alloc(), 2, &[1, 2])?;
-    assert!(rt; idles_at_first(&mut group) && Idle.number() == 24);
-    assert!(rt; adds(&mut group, 1, 2) && happens(&mut group, &Event::Crash(2)));
-    assert!(rt; idles_stopped(&mut group));
-    group.run(&[Event::Tick(2), Event::Tick(1)]);
-    assert!(rt; counts(&group) == (3, 0, 0) && is_active(&group, 1));
-    Ok(())
+fn what_cannot_happen_is_idle(rt: HostRuntime) {
+    let told = goes(rt.alloc(), 2, &[1, 2], Story::IsIdle);
+    assert!(rt; told == Some(true) && Idle.number() == 24);
 }
 
-// Whether a group is refused for its members.
-fn is_refused(alloc: Global, nodes: u8, members: &[u8], primary: u8) -> Result<bool, Fail> {
-    let config = config(alloc, members, primary)?;
+// Whether a group is refused for its members; none where there was no memory for the question.
+fn is_refused(alloc: Global, nodes: u8, members: &[u8], primary: u8) -> Option<bool> {
+    match config(alloc, members, primary) {
+        Ok(config) => Some(is_no_group(alloc, nodes, config)),
+        Err(_) => None,
+    }
+}
+
+fn is_no_group(alloc: Global, nodes: u8, config: Config) -> bool {
     let opened = Group::<Tally>::opening(alloc, nodes, config);
-    Ok(matches!(&opened, Err(OpeningError::BadMembers)))
+    matches!(&opened, Err(OpeningError::BadMembers))
 }
 
 const BAD: &[(u8, &[u8], u8)] = &[
@@ -58,18 +74,17 @@ const BAD: &[(u8, &[u8], u8)] = &[
 ];
 
 // The first row that is not refused.
-fn first_opened(alloc: Global, rows: &[(u8, &[u8], u8)]) -> Result<Option<usize>, Fail> {
+fn first_opened(alloc: Global, rows: &[(u8, &[u8], u8)]) -> Option<usize> {
     for (row, (nodes, members, primary)) in rows.iter().enumerate() {
-        if !is_refused(alloc, *nodes, members, *primary)? {
-            return Ok(Some(row));
+        if is_refused(alloc, *nodes, members, *primary) != Some(true) {
+            return Some(row);
         }
     }
-    Ok(None)
+    None
 }
 
 #[test]
-fn bad_members_are_refused(rt: HostRuntime) -> Result<(), Fail> {
-    assert_eq!(rt; first_opened(rt.alloc(), BAD)?, None);
-    assert!(rt; !is_refused(rt.alloc(), 15, &[1, 2, 15], 1)?);
-    Ok(())
+fn bad_members_are_refused(rt: HostRuntime) {
+    assert_eq!(rt; first_opened(rt.alloc(), BAD), None);
+    assert!(rt; is_refused(rt.alloc(), 15, &[1, 2, 15], 1) == Some(false));
 }

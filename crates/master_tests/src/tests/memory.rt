@@ -2,6 +2,7 @@
 // what was half done is taken back, and the group serves on.
 
 use super::groups::*;
+use super::stories::{Story, goes};
 use machine::{Tally, TallyCommand};
 use master::{Event, Group};
 use std::alloc::Global;
@@ -49,9 +50,9 @@ fn is_taken_over(group: &mut Group<Tally>, alloc: Global) -> bool {
     group.left().len() == left.saturating_add(1)
 }
 
-// Whether a command is answered or counted, and two nodes take over; at the second try where memory
-// was wanting at the first.
-fn serves_on(group: &mut Group<Tally>, alloc: Global) -> bool {
+/// Whether a command is answered or counted, and two nodes take over; at the second try where memory
+/// was wanting at the first.
+pub fn serves_on(group: &mut Group<Tally>, alloc: Global) -> bool {
     answers(group, 1, 2);
     is_whole_or_counted(group)
         && (is_taken_over(group, alloc) || is_taken_over(group, alloc))
@@ -60,8 +61,6 @@ fn serves_on(group: &mut Group<Tally>, alloc: Global) -> bool {
 
 #[test]
 fn a_refused_growth_is_counted(rt: HostRuntime) {
-    let Ok(mut group) = group(rt.alloc(), 3, &[1, 2, 3]) else {
-        return;
-    };
-    assert!(rt; serves_on(&mut group, rt.alloc()));
+    let told = goes(rt.alloc(), 3, &[1, 2, 3], Story::ServesOn);
+    assert!(rt; told != Some(false));
 }

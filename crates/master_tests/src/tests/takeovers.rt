@@ -1,9 +1,9 @@
 use super::groups::*;
-use ballot::{Config, Effect};
-use machine::{Memory, Tally, TallyCommand};
+use super::stories::{Story, goes};
+use ballot::Effect;
+use machine::{Tally, TallyCommand};
 use master::{Event, Group};
 use std::alloc::Global;
-use std::test::Fail;
 
 // How far a group has come: which message comes next, how many places are agreed, and whether these
 // have only grown.
@@ -22,20 +22,25 @@ fn goes_by(group: &mut Group<Tally>, course: &mut Course, event: &Event<TallyCom
     course.agreed = agreed;
 }
 
-// Stops a node if that is asked, and gives the next ballot to three members.
-fn take_over(
+// Stops a node if that is asked, and gives the next ballot to three members; false where there was no
+// memory for their configuration.
+fn is_taken_over(
     group: &mut Group<Tally>,
     course: &mut Course,
     alloc: Global,
     stops: Option<u8>,
     members: [u8; 3],
-) -> Result<(), Memory> {
+) -> bool {
     if let Some(node) = stops {
         goes_by(group, course, &Event::Crash(node));
     }
-    let config = config(alloc, &members, members[0])?;
-    goes_by(group, course, &Event::Assign(config));
-    Ok(())
+    match config(alloc, &members, members[0]) {
+        Ok(config) => {
+            goes_by(group, course, &Event::Assign(config));
+            true
+        }
+        Err(_) => false,
+    }
 }
 
 // Ten messages come in turn, as far as they were sent.
@@ -74,23 +79,18 @@ fn serve(group: &mut Group<Tally>, course: &mut Course, leader: u8, stale: u8) {
 
 // Whether another configuration takes over and agrees on commands with its members. Each second time
 // its former primary has stopped.
-fn serves_next(
-    group: &mut Group<Tally>,
-    course: &mut Course,
-    alloc: Global,
-    leader: u8,
-) -> Result<bool, Memory> {
+fn serves_next(group: &mut Group<Tally>, course: &mut Course, alloc: Global, leader: u8) -> bool {
     let before = course.agreed;
     let stale = leader.saturating_sub(1);
     let stops = if leader % 2 == 0 { Some(stale) } else { None };
     let members = [leader, leader.saturating_add(1), leader.saturating_add(2)];
-    take_over(group, course, alloc, stops, members)?;
+    let is_taken = is_taken_over(group, course, alloc, stops, members);
     serve(group, course, leader, stale);
-    Ok(is_active(group, u64::from(leader)) && course.agreed.saturating_sub(before) > 100)
+    is_taken && is_active(group, u64::from(leader)) && course.agreed.saturating_sub(before) > 100
 }
 
-// Whether twelve configurations do so, one after the other, and what is agreed only grows.
-fn serve_in_turn(group: &mut Group<Tally>, alloc: Global) -> Result<bool, Memory> {
+/// Whether twelve configurations do so, one after the other, and what is agreed only grows.
+pub fn serves_in_turn(group: &mut Group<Tally>, alloc: Global) -> bool {
     let mut course = Course {
         next: 0,
         agreed: 0,
@@ -98,21 +98,20 @@ fn serve_in_turn(group: &mut Group<Tally>, alloc: Global) -> Result<bool, Memory
     };
     serve(group, &mut course, 1, 1);
     for leader in 2..14 {
-        if !serves_next(group, &mut course, alloc, leader)? {
-            return Ok(false);
+        if !serves_next(group, &mut course, alloc, leader) {
+            return false;
         }
     }
-    Ok(course.only_grows)
+    course.only_grows
 }
 
 // More than 20,000 events, in which twelve times another configuration takes over: each second time
 // its former primary has stopped, and else goes on for itself. Nothing is lost, what is agreed, asked
 // behind each event, only grows, and each primary agrees on commands with its members.
 #[test]
-fn takeovers_lose_nothing(rt: HostRuntime) -> Result<(), Fail> {
-    let mut group = group(rt.alloc(), 15, &[1, 2, 3])?;
-    assert!(rt; serve_in_turn(&mut group, rt.alloc())?);
-    Ok(())
+fn takeovers_lose_nothing(rt: HostRuntime) {
+    let told = goes(rt.alloc(), 15, &[1, 2, 3], Story::ServesInTurn);
+    assert!(rt; told == Some(true));
 }
 
 // The place of the output at a place among those that left.
@@ -135,17 +134,17 @@ fn all_come(group: &mut Group<Tally>, numbers: &[u64]) -> bool {
 
 const CHANGE: &[u64] = &[2, 4, 5, 6, 7, 8, 9, 10, 11];
 
-// Whether node 1 adds a command, which node 2 holds, and ballot 2 becomes active.
-fn goes_over(group: &mut Group<Tally>, change: Config) -> bool {
+// Whether node 1 adds a command, which node 2 holds, and ballot 2 of members 2 and 3 becomes active.
+fn goes_over(group: &mut Group<Tally>, alloc: Global) -> bool {
     adds(group, 1, 2)
         && comes(group, 0)
-        && gives(group, change)
+        && gives_to(group, alloc, &[2, 3], 2)
         && all_come(group, CHANGE)
         && is_active(group, 2)
 }
 
 // Whether the output of place 2 leaves, and then that of place 0.
-fn leaves_late(group: &mut Group<Tally>) -> bool {
+fn leaves_behind(group: &mut Group<Tally>) -> bool {
     adds(group, 2, 3)
         && all_come(group, &[13, 14])
         && left_at(group, 0) == Some(2)
@@ -155,13 +154,15 @@ fn leaves_late(group: &mut Group<Tally>) -> bool {
         && gave(group, 1, 0, 2)
 }
 
+/// Whether both do so in turn.
+pub fn leaves_late(group: &mut Group<Tally>, alloc: Global) -> bool {
+    goes_over(group, alloc) && leaves_behind(group)
+}
+
 // A primary whose ballot has ended hears late that place 0 was held: message 1. The next primary has
 // given the output of place 2 by then.
 #[test]
-fn a_late_answer_leaves_behind_later_ones(rt: HostRuntime) -> Result<(), Fail> {
-    let mut group = group(rt.alloc(), 3, &[1, 2])?;
-    let change = config(rt.alloc(), &[2, 3], 2)?;
-    assert!(rt; goes_over(&mut group, change));
-    assert!(rt; leaves_late(&mut group));
-    Ok(())
+fn a_late_answer_leaves_behind_later_ones(rt: HostRuntime) {
+    let told = goes(rt.alloc(), 3, &[1, 2], Story::LeavesLate);
+    assert!(rt; told == Some(true));
 }

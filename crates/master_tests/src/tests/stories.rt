@@ -1,0 +1,47 @@
+// Which groups go through what. Each group is made in one place and lent from there.
+
+use super::groups::group;
+use super::{answers, changes, idle, memory, takeovers};
+use machine::Tally;
+use master::Group;
+use std::alloc::Global;
+
+/// What a group is to go through.
+#[derive(Clone, Copy)]
+pub enum Story {
+    WaitsForAll,
+    CountsAlone,
+    Changes,
+    IsPutOut,
+    TakesOver,
+    IsReplaced,
+    IsIdle,
+    ServesOn,
+    ServesInTurn,
+    LeavesLate,
+}
+
+// Whether a group goes through a story as it is told.
+fn is_told(alloc: Global, group: &mut Group<Tally>, story: Story) -> bool {
+    match story {
+        Story::WaitsForAll => answers::waits_for_all(group),
+        Story::CountsAlone => answers::counts_alone(group),
+        Story::Changes => changes::is_changed(group, alloc),
+        Story::IsPutOut => changes::is_put_out(group, alloc),
+        Story::TakesOver => changes::takes_over(group, alloc),
+        Story::IsReplaced => changes::is_replaced(group, alloc),
+        Story::IsIdle => idle::is_idle_where_nothing_can_happen(group),
+        Story::ServesOn => memory::serves_on(group, alloc),
+        Story::ServesInTurn => takeovers::serves_in_turn(group, alloc),
+        Story::LeavesLate => takeovers::leaves_late(group, alloc),
+    }
+}
+
+/// Whether so many nodes, these of them members and node 1 the primary, go through a story; none
+/// where there was no memory for them.
+pub fn goes(alloc: Global, nodes: u8, members: &[u8], story: Story) -> Option<bool> {
+    match group(alloc, nodes, members) {
+        Ok(mut group) => Some(is_told(alloc, &mut group, story)),
+        Err(_) => None,
+    }
+}
