@@ -4,70 +4,159 @@ use std::alloc::{AllocError, Global};
 use std::test::*;
 use topics::*;
 
+/// A text, and one that comes after it.
+type Order<'a> = (&'a str, &'a str);
+
+fn is_text_copied(text: &Text, wanted: &str) -> bool {
+    match text.clone() {
+        Ok(copy) => copy.as_str() == wanted,
+        Err(_) => false,
+    }
+}
+
+fn is_text_printed(alloc: Global, text: &Text, wanted: &str) -> bool {
+    match format!(in alloc; "{text}") {
+        Ok(printed) => printed.as_str() == wanted,
+        Err(_) => false,
+    }
+}
+
+fn is_text_before(alloc: Global, text: &Text, later: &str) -> bool {
+    match Text::new(alloc, later) {
+        Ok(later) => *text < later,
+        Err(_) => false,
+    }
+}
+
+/// Whether a text has an equal copy, is printed as it is, and comes before another.
+fn is_text(alloc: Global, row: Order<'_>) -> bool {
+    let (text, later) = row;
+    match Text::new(alloc, text) {
+        Ok(made) => {
+            is_text_copied(&made, text)
+                && is_text_printed(alloc, &made, text)
+                && is_text_before(alloc, &made, later)
+        }
+        Err(_) => false,
+    }
+}
+
 #[test]
-fn a_text_and_its_copy(rt: HostRuntime) -> Result<(), Fail> {
-    let text = Text::new(rt.alloc(), "a/B")?;
-    assert_eq!(rt; text.clone()?.as_str(), "a/B");
-    assert!(rt; text < Text::new(rt.alloc(), "b")?);
-    assert_eq!(rt; format!(in rt.alloc(); "{text}")?.as_str(), "a/B");
-    Ok(())
+fn a_text_and_its_copy(rt: HostRuntime) {
+    assert!(rt; is_text(rt.alloc(), ("a/B", "b")));
 }
 
-fn topic(alloc: Global, text: &str) -> Option<TopicName> {
-    TopicName::new(alloc, text).ok()
+fn is_name_copied(name: &TopicName) -> bool {
+    match name.clone() {
+        Ok(copy) => copy == *name,
+        Err(_) => false,
+    }
 }
 
-fn filter(alloc: Global, text: &str) -> Option<Filter> {
-    Filter::new(alloc, text).ok()
+fn is_name_printed(alloc: Global, name: &TopicName, wanted: &str) -> bool {
+    match format!(in alloc; "{name}") {
+        Ok(printed) => printed.as_str() == wanted,
+        Err(_) => false,
+    }
+}
+
+/// Whether a later name has an equal copy and comes after this one, which is another.
+fn is_name_before(alloc: Global, name: &TopicName, later: &str) -> bool {
+    match TopicName::new(alloc, later) {
+        Ok(later) => is_name_copied(&later) && *name < later && *name != later,
+        Err(_) => false,
+    }
+}
+
+fn are_names(alloc: Global, row: Order<'_>) -> bool {
+    let (first, later) = row;
+    match TopicName::new(alloc, first) {
+        Ok(name) => is_name_printed(alloc, &name, first) && is_name_before(alloc, &name, later),
+        Err(_) => false,
+    }
 }
 
 #[test]
-fn names_in_order(rt: HostRuntime) -> Result<(), Fail> {
-    let upper = topic(rt.alloc(), "B").expect(&rt, "memory is left");
-    let lower = topic(rt.alloc(), "a").expect(&rt, "memory is left");
-    assert_eq!(rt; lower.clone()?, lower);
-    assert!(rt; upper < lower && upper != lower);
-    assert_eq!(rt; format!(in rt.alloc(); "{upper}")?.as_str(), "B");
-    Ok(())
+fn names_in_order(rt: HostRuntime) {
+    assert!(rt; are_names(rt.alloc(), ("B", "a")));
+}
+
+fn is_filter_copied(filter: &Filter) -> bool {
+    match filter.clone() {
+        Ok(copy) => copy == *filter,
+        Err(_) => false,
+    }
+}
+
+fn is_filter_printed(alloc: Global, filter: &Filter, wanted: &str) -> bool {
+    match format!(in alloc; "{filter}") {
+        Ok(printed) => printed.as_str() == wanted,
+        Err(_) => false,
+    }
+}
+
+/// Whether a later filter has an equal copy, is printed as it is, and comes after this one, which is
+/// another.
+fn is_filter_before(alloc: Global, filter: &Filter, text: &str) -> bool {
+    match Filter::new(alloc, text) {
+        Ok(later) => {
+            is_filter_copied(&later)
+                && is_filter_printed(alloc, &later, text)
+                && *filter < later
+                && *filter != later
+        }
+        Err(_) => false,
+    }
+}
+
+fn are_filters(alloc: Global, row: Order<'_>) -> bool {
+    let (first, later) = row;
+    match Filter::new(alloc, first) {
+        Ok(filter) => is_filter_before(alloc, &filter, later),
+        Err(_) => false,
+    }
 }
 
 #[test]
-fn filters_in_order(rt: HostRuntime) -> Result<(), Fail> {
-    let all = filter(rt.alloc(), "#").expect(&rt, "memory is left");
-    let one = filter(rt.alloc(), "+").expect(&rt, "memory is left");
-    assert_eq!(rt; one.clone()?, one);
-    assert!(rt; all < one && all != one);
-    assert_eq!(rt; format!(in rt.alloc(); "{one}")?.as_str(), "+");
-    Ok(())
+fn filters_in_order(rt: HostRuntime) {
+    assert!(rt; are_filters(rt.alloc(), ("#", "+")));
 }
 
-/// Whether a filter is this topic.
-fn is_topic(filter: &Filter, text: &str) -> Result<bool, AllocError> {
-    match filter.as_topic()? {
-        Some(topic) => Ok(topic.as_str() == text),
-        None => Ok(false),
+/// Whether a filter is its own text as a topic, or none.
+fn is_topic(filter: &Filter, wanted: Option<&str>) -> bool {
+    match filter.as_topic() {
+        Ok(Some(topic)) => Some(topic.as_str()) == wanted,
+        Ok(None) => wanted.is_none(),
+        Err(_) => false,
+    }
+}
+
+fn is_topic_of(alloc: Global, text: &str, wanted: Option<&str>) -> bool {
+    match Filter::new(alloc, text) {
+        Ok(filter) => is_topic(&filter, wanted),
+        Err(_) => false,
     }
 }
 
 // A filter without wildcards is a Topic Name.
 #[test]
-fn bare_filters_are_topics(rt: HostRuntime) -> Result<(), Fail> {
-    let bare = filter(rt.alloc(), "sport/tennis").expect(&rt, "memory is left");
-    let all = filter(rt.alloc(), "sport/#").expect(&rt, "memory is left");
-    assert!(rt; is_topic(&bare, "sport/tennis")?);
-    assert!(rt; all.as_topic()?.is_none());
-    Ok(())
+fn bare_filters_are_topics(rt: HostRuntime) {
+    assert!(rt; is_topic_of(rt.alloc(), "sport/tennis", Some("sport/tennis")));
+    assert!(rt; is_topic_of(rt.alloc(), "sport/#", None));
+}
+
+fn is_kind_printed(alloc: Global, kind: MalformedKind, wanted: &str) -> bool {
+    match format!(in alloc; "{kind}") {
+        Ok(printed) => printed.as_str() == wanted,
+        Err(_) => false,
+    }
 }
 
 #[test]
-fn kinds_and_their_texts(rt: HostRuntime) -> Result<(), Fail> {
+fn kinds_and_their_texts(rt: HostRuntime) {
     assert_eq!(rt; MalformedKind::TooDeep.number(), 14);
-    assert_eq!(rt;
-        format!(in rt.alloc(); "{}", MalformedKind::Topic)?.as_str(),
-        "topic name"
-    );
+    assert!(rt; is_kind_printed(rt.alloc(), MalformedKind::Topic, "topic name"));
     assert_eq!(rt; MalformedKind::from(AllocError), MalformedKind::Memory);
-    Ok(())
 }
 
 #[test]

@@ -24,11 +24,19 @@ fn is_filter(alloc: Global, text: &str) -> bool {
     }
 }
 
+/// The first text that is no Topic Filter.
+fn first_no_filter<'a>(alloc: Global, texts: &[&'a str]) -> Option<&'a str> {
+    for text in texts {
+        if !is_filter(alloc, text) {
+            return Some(text);
+        }
+    }
+    None
+}
+
 #[test]
 fn filters_of_the_standard(rt: HostRuntime) {
-    for text in FILTERS {
-        assert!(rt; is_filter(rt.alloc(), text), "{text}");
-    }
+    assert_eq!(rt; first_no_filter(rt.alloc(), FILTERS), None);
 }
 
 const NO_FILTERS: &[&str] = &[
@@ -42,28 +50,36 @@ const NO_FILTERS: &[&str] = &[
     "+a",
 ];
 
+/// The first text that is not refused as a Topic Filter for its shape.
+fn first_filter<'a>(alloc: Global, texts: &[&'a str]) -> Option<&'a str> {
+    for text in texts {
+        if filter_fault(alloc, text) != Some(MalformedKind::Filter) {
+            return Some(text);
+        }
+    }
+    None
+}
+
 #[test]
 fn no_filters(rt: HostRuntime) {
-    for text in NO_FILTERS {
-        assert_eq!(rt;
-            filter_fault(rt.alloc(), text),
-            Some(MalformedKind::Filter),
-            "{text}"
-        );
-    }
+    assert_eq!(rt; first_filter(rt.alloc(), NO_FILTERS), None);
 }
 
 const NO_TOPICS: &[&str] = &["", "a/+", "#", "a+b"];
 
+/// The first text that is not refused as a Topic Name for its shape.
+fn first_topic<'a>(alloc: Global, texts: &[&'a str]) -> Option<&'a str> {
+    for text in texts {
+        if topic_fault(alloc, text) != Some(MalformedKind::Topic) {
+            return Some(text);
+        }
+    }
+    None
+}
+
 #[test]
 fn no_topics(rt: HostRuntime) {
-    for text in NO_TOPICS {
-        assert_eq!(rt;
-            topic_fault(rt.alloc(), text),
-            Some(MalformedKind::Topic),
-            "{text}"
-        );
-    }
+    assert_eq!(rt; first_topic(rt.alloc(), NO_TOPICS), None);
 }
 
 // MQTT 1.5.3.

@@ -1,39 +1,53 @@
 // At most 65,535 bytes (MQTT 4.7.3), and at most 32 levels in this broker.
 
 use super::asking::{answer, filter_fault, topic_fault};
-use std::alloc::{AllocError, Global};
+use std::alloc::Global;
 use std::test::*;
 use topics::MalformedKind;
 
-/// The fault of a Topic Filter that is a part so many times.
-fn repeated_filter(
-    alloc: Global,
-    part: &str,
-    count: usize,
-) -> Result<Option<MalformedKind>, AllocError> {
-    let text = part.repeat(alloc, count)?;
-    Ok(filter_fault(alloc, &text))
+/// A text that is a part so many times, and the fault of it.
+type Row<'a> = (&'a str, usize, Option<MalformedKind>);
+
+fn is_filter_fault(alloc: Global, row: Row<'_>) -> bool {
+    let (part, count, fault) = row;
+    match part.repeat(alloc, count) {
+        Ok(text) => filter_fault(alloc, &text) == fault,
+        Err(_) => false,
+    }
 }
 
-/// The fault of a Topic Name that is a part so many times.
-fn repeated_topic(
-    alloc: Global,
-    part: &str,
-    count: usize,
-) -> Result<Option<MalformedKind>, AllocError> {
-    let text = part.repeat(alloc, count)?;
-    Ok(topic_fault(alloc, &text))
+fn is_topic_fault(alloc: Global, row: Row<'_>) -> bool {
+    let (part, count, fault) = row;
+    match part.repeat(alloc, count) {
+        Ok(text) => topic_fault(alloc, &text) == fault,
+        Err(_) => false,
+    }
 }
+
+/// The first row that is another fault as a Topic Filter.
+fn other_filter(alloc: Global, rows: &[Row<'_>]) -> Option<usize> {
+    rows.iter().position(|row| !is_filter_fault(alloc, *row))
+}
+
+/// The first row that is another fault as a Topic Name.
+fn other_topic(alloc: Global, rows: &[Row<'_>]) -> Option<usize> {
+    rows.iter().position(|row| !is_topic_fault(alloc, *row))
+}
+
+const LONG_TOPICS: &[Row<'static>] = &[
+    ("a", 65_535, None),
+    ("a", 65_536, Some(MalformedKind::Topic)),
+];
+
+const LONG_FILTERS: &[Row<'static>] = &[
+    ("a", 65_535, None),
+    ("a", 65_536, Some(MalformedKind::Filter)),
+];
 
 #[test]
 fn lengths(rt: HostRuntime) {
-    let alloc = rt.alloc();
-    let topic = Some(MalformedKind::Topic);
-    let filter = Some(MalformedKind::Filter);
-    assert_eq!(rt; repeated_topic(alloc, "a", 65_535), Ok(None));
-    assert_eq!(rt; repeated_topic(alloc, "a", 65_536), Ok(topic));
-    assert_eq!(rt; repeated_filter(alloc, "a", 65_535), Ok(None));
-    assert_eq!(rt; repeated_filter(alloc, "a", 65_536), Ok(filter));
+    assert_eq!(rt; other_topic(rt.alloc(), LONG_TOPICS), None);
+    assert_eq!(rt; other_filter(rt.alloc(), LONG_FILTERS), None);
 }
 
 /// A filter of 32 levels, and one of 33.
@@ -44,14 +58,17 @@ const DEEPER: &str = "+/+/+/+/+/+/+/+/+/+/+/+/+/+/+/+/+/+/+/+/+/+/+/+/+/+/+/+/+/
 /// A topic of 32 levels, all of them empty.
 const SLASHES: &str = "///////////////////////////////";
 
+const DEEP_FILTERS: &[Row<'static>] = &[
+    (DEEPEST, 1, None),
+    (DEEPER, 1, Some(MalformedKind::TooDeep)),
+];
+
+const DEEP_TOPICS: &[Row<'static>] = &[("/", 31, None), ("/", 32, Some(MalformedKind::TooDeep))];
+
 #[test]
 fn levels(rt: HostRuntime) {
-    let alloc = rt.alloc();
-    let too_deep = Some(MalformedKind::TooDeep);
-    assert_eq!(rt; filter_fault(alloc, DEEPEST), None);
-    assert_eq!(rt; filter_fault(alloc, DEEPER), too_deep);
-    assert_eq!(rt; repeated_topic(alloc, "/", 31), Ok(None));
-    assert_eq!(rt; repeated_topic(alloc, "/", 32), Ok(too_deep));
+    assert_eq!(rt; other_filter(rt.alloc(), DEEP_FILTERS), None);
+    assert_eq!(rt; other_topic(rt.alloc(), DEEP_TOPICS), None);
 }
 
 #[test]
