@@ -3,3 +3,4 @@ mod commands;
 mod opening;
 mod pairs;
 mod replicas;
+mod stories;

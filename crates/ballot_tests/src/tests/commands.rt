@@ -1,10 +1,9 @@
 // Commands inside ballot 1, on worked rows of one, two and three members.
 
 use super::replicas::*;
-use ballot::{Body, Effect, OpeningError, ProposeError, Replica, Role};
+use super::stories::{Story, goes};
+use ballot::{Body, Effect, ProposeError, Replica, Role};
 use machine::{Tally, TallyCommand};
-use std::alloc::Global;
-use std::test::Fail;
 
 // Whether a replica takes these commands.
 fn take(
@@ -26,8 +25,11 @@ const THREE: &[TallyCommand] = &[
     TallyCommand::Add(3),
 ];
 
-// Whether a sole member answers these commands at once.
-fn answers_at_once(replica: &mut Replica<Tally>, out: &mut Vec<Effect<TallyCommand, u64>>) -> bool {
+/// Whether a sole member answers these commands at once.
+pub fn answers_at_once(
+    replica: &mut Replica<Tally>,
+    out: &mut Vec<Effect<TallyCommand, u64>>,
+) -> bool {
     take(replica, THREE, out)
         && out.len() == 2
         && gives(out, 0, 0, 2)
@@ -39,28 +41,12 @@ fn answers_at_once(replica: &mut Replica<Tally>, out: &mut Vec<Effect<TallyComma
 
 // A sole member gives 2, nothing at the start of a ballot, and 5.
 #[test]
-fn a_sole_member_answers_at_once(rt: HostRuntime) -> Result<(), Fail> {
-    let mut replica = one(rt.alloc(), &[1], 1)?;
-    let mut out = Vec::new(rt.alloc());
-    assert!(rt; answers_at_once(&mut replica, &mut out));
-    Ok(())
-}
-
-// Node 1 of two members, which was told to add 2.
-fn primary_of_two(
-    alloc: Global,
-    out: &mut Vec<Effect<TallyCommand, u64>>,
-) -> Result<Replica<Tally>, OpeningError> {
-    let mut primary = one(alloc, &[1, 2], 1)?;
-    let _ = takes(&mut primary, TallyCommand::Add(2), out);
-    Ok(primary)
+fn a_sole_member_answers_at_once(rt: HostRuntime) {
+    assert!(rt; goes(rt.alloc(), 1, &[1], 1, Story::AnswersAtOnce));
 }
 
 // Whether the output leaves once node 2 holds the place, and node 2 is told.
-fn leaves_once_held(
-    primary: &mut Replica<Tally>,
-    out: &mut Vec<Effect<TallyCommand, u64>>,
-) -> bool {
+fn leaves(primary: &mut Replica<Tally>, out: &mut Vec<Effect<TallyCommand, u64>>) -> bool {
     out.clear();
     hears(primary, 2, Body::Held(1, 1), out)
         && out.len() == 2
@@ -68,32 +54,48 @@ fn leaves_once_held(
         && commits(out, 1, (1, 2), 1)
 }
 
+/// Whether node 1 of two members, told to add 2, appends it, and the output leaves once it is held.
+pub fn leaves_once_held(
+    primary: &mut Replica<Tally>,
+    out: &mut Vec<Effect<TallyCommand, u64>>,
+) -> bool {
+    takes(primary, TallyCommand::Add(2), out)
+        && out.len() == 1
+        && appends(out, 0, (1, 2), 0, 2)
+        && leaves(primary, out)
+}
+
 // What is proposed to one of two members leaves once the other holds it.
 #[test]
-fn append_held_commit(rt: HostRuntime) -> Result<(), Fail> {
-    let mut out = Vec::new(rt.alloc());
-    let mut primary = primary_of_two(rt.alloc(), &mut out)?;
-    assert!(rt; out.len() == 1 && appends(&out, 0, (1, 2), 0, 2));
-    assert!(rt; leaves_once_held(&mut primary, &mut out));
-    Ok(())
+fn append_held_commit(rt: HostRuntime) {
+    assert!(rt; goes(rt.alloc(), 1, &[1, 2], 1, Story::LeavesOnceHeld));
 }
 
 // Whether a Held that comes again does nothing, and a tick tells what is committed.
-fn hears_it_again(primary: &mut Replica<Tally>, out: &mut Vec<Effect<TallyCommand, u64>>) -> bool {
+fn hears_nothing_new(
+    primary: &mut Replica<Tally>,
+    out: &mut Vec<Effect<TallyCommand, u64>>,
+) -> bool {
     out.clear();
     let is_silent = hears(primary, 2, Body::Held(1, 1), out) && out.is_empty();
     primary.tick(out);
     is_silent && out.len() == 1 && commits(out, 0, (1, 2), 1) && primary.losses() == 0
 }
 
+/// Whether node 1 of two members, told to add 2, hears Held twice.
+pub fn hears_it_again(
+    primary: &mut Replica<Tally>,
+    out: &mut Vec<Effect<TallyCommand, u64>>,
+) -> bool {
+    takes(primary, TallyCommand::Add(2), out)
+        && hears(primary, 2, Body::Held(1, 1), out)
+        && hears_nothing_new(primary, out)
+}
+
 // What is heard twice changes nothing more; a tick says again what is committed.
 #[test]
-fn held_comes_twice(rt: HostRuntime) -> Result<(), Fail> {
-    let mut out = Vec::new(rt.alloc());
-    let mut primary = primary_of_two(rt.alloc(), &mut out)?;
-    assert!(rt; hears(&mut primary, 2, Body::Held(1, 1), &mut out));
-    assert!(rt; hears_it_again(&mut primary, &mut out));
-    Ok(())
+fn held_comes_twice(rt: HostRuntime) {
+    assert!(rt; goes(rt.alloc(), 1, &[1, 2], 1, Story::HearsItAgain));
 }
 
 // Whether node 1 appends a number at a place, and the backup goes on.
@@ -107,8 +109,8 @@ fn is_appended(
     hears(backup, 1, body, out)
 }
 
-// Whether place 1 waits for place 0.
-fn waits_for_the_first(
+/// Whether place 1 waits for place 0.
+pub fn waits_for_the_first(
     backup: &mut Replica<Tally>,
     out: &mut Vec<Effect<TallyCommand, u64>>,
 ) -> bool {
@@ -122,11 +124,8 @@ fn waits_for_the_first(
 }
 
 #[test]
-fn a_backup_takes_places_in_order(rt: HostRuntime) -> Result<(), Fail> {
-    let mut backup = two(rt.alloc(), &[1, 2], 1)?;
-    let mut out = Vec::new(rt.alloc());
-    assert!(rt; waits_for_the_first(&mut backup, &mut out));
-    Ok(())
+fn a_backup_takes_places_in_order(rt: HostRuntime) {
+    assert!(rt; goes(rt.alloc(), 2, &[1, 2], 1, Story::WaitsForTheFirst));
 }
 
 // Whether a replica takes no command, because it is no active primary.
@@ -138,38 +137,31 @@ fn is_not_active(replica: &mut Replica<Tally>, out: &mut Vec<Effect<TallyCommand
 }
 
 // Whether a backup that holds a place says nothing to its Commit, nor at a tick.
-fn is_silent(backup: &mut Replica<Tally>, out: &mut Vec<Effect<TallyCommand, u64>>) -> bool {
+fn says_nothing(backup: &mut Replica<Tally>, out: &mut Vec<Effect<TallyCommand, u64>>) -> bool {
     out.clear();
     let goes_on = hears(backup, 1, Body::Commit(1, 1), out);
     backup.tick(out);
     goes_on && out.is_empty() && shows(backup, 1, Role::Backup, 1, 1)
 }
 
+/// Whether a backup that is sent a place is silent, and takes no proposal.
+pub fn is_silent(backup: &mut Replica<Tally>, out: &mut Vec<Effect<TallyCommand, u64>>) -> bool {
+    is_appended(backup, 0, 2, out)
+        && says_nothing(backup, out)
+        && is_not_active(backup, out)
+        && backup.losses() == 0
+}
+
 // A backup that is told what is committed says nothing, also at a tick, and takes no proposal.
 #[test]
-fn a_backup_is_silent(rt: HostRuntime) -> Result<(), Fail> {
-    let mut backup = two(rt.alloc(), &[1, 2], 1)?;
-    let mut out = Vec::new(rt.alloc());
-    assert!(rt; is_appended(&mut backup, 0, 2, &mut out));
-    assert!(rt; is_silent(&mut backup, &mut out));
-    assert!(rt; is_not_active(&mut backup, &mut out) && backup.losses() == 0);
-    Ok(())
+fn a_backup_is_silent(rt: HostRuntime) {
+    assert!(rt; goes(rt.alloc(), 2, &[1, 2], 1, Story::IsSilent));
 }
 
 const TWO_NUMBERS: &[TallyCommand] = &[TallyCommand::Add(2), TallyCommand::Add(3)];
 
-// Node 2 of three members, which was told to add 2 and 3; node 1 holds the first.
-fn primary_of_three(
-    alloc: Global,
-    out: &mut Vec<Effect<TallyCommand, u64>>,
-) -> Result<Replica<Tally>, OpeningError> {
-    let mut primary = two(alloc, &[1, 2, 3], 2)?;
-    let _ = take(&mut primary, TWO_NUMBERS, out) && hears(&mut primary, 1, Body::Held(1, 1), out);
-    Ok(primary)
-}
-
 // Whether a tick says these four things.
-fn says_what_is_lacking(
+fn says_four_things(
     primary: &mut Replica<Tally>,
     out: &mut Vec<Effect<TallyCommand, u64>>,
 ) -> bool {
@@ -182,12 +174,20 @@ fn says_what_is_lacking(
         && commits(out, 3, (2, 3), 0)
 }
 
+/// Whether node 2 of three members, told to add 2 and 3, of which node 1 holds the first, says at a
+/// tick what is lacking.
+pub fn says_what_is_lacking(
+    primary: &mut Replica<Tally>,
+    out: &mut Vec<Effect<TallyCommand, u64>>,
+) -> bool {
+    take(primary, TWO_NUMBERS, out)
+        && hears(primary, 1, Body::Held(1, 1), out)
+        && out.len() == 4
+        && says_four_things(primary, out)
+}
+
 // A tick sends the place at a progress, to each member that lacks one, and what is committed to each.
 #[test]
-fn a_tick_sends_what_is_lacking(rt: HostRuntime) -> Result<(), Fail> {
-    let mut out = Vec::new(rt.alloc());
-    let mut primary = primary_of_three(rt.alloc(), &mut out)?;
-    assert_eq!(rt; out.len(), 4);
-    assert!(rt; says_what_is_lacking(&mut primary, &mut out));
-    Ok(())
+fn a_tick_sends_what_is_lacking(rt: HostRuntime) {
+    assert!(rt; goes(rt.alloc(), 2, &[1, 2, 3], 2, Story::SaysWhatIsLacking));
 }

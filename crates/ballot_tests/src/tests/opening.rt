@@ -1,26 +1,25 @@
-use super::replicas::{config, shows};
+use super::replicas::{made, shows};
+use super::stories::{Story, goes};
 use ballot::{OpeningError, Replica, Role};
-use machine::{Memory, Tally};
+use machine::Tally;
 use std::alloc::Global;
-use std::test::Fail;
 
 // Whether node 1 does not open, for its members.
-fn is_refused(alloc: Global, members: &[u8], primary: u8) -> Result<bool, Memory> {
-    let config = config(alloc, members, primary)?;
-    Ok(match Replica::<Tally>::new(alloc, 1, &config) {
-        Err(OpeningError::BadMembers) => true,
-        _ => false,
-    })
+fn is_refused(alloc: Global, members: &[u8], primary: u8) -> bool {
+    matches!(
+        &made(alloc, 1, members, primary),
+        Err(OpeningError::BadMembers)
+    )
 }
 
 // The first row that is not refused.
-fn first_opened(alloc: Global, rows: &[(&[u8], u8)]) -> Result<Option<usize>, Memory> {
+fn first_opened(alloc: Global, rows: &[(&[u8], u8)]) -> Option<usize> {
     for (row, (members, primary)) in rows.iter().enumerate() {
-        if !is_refused(alloc, members, *primary)? {
-            return Ok(Some(row));
+        if !is_refused(alloc, members, *primary) {
+            return Some(row);
         }
     }
-    Ok(None)
+    None
 }
 
 const BAD: &[(&[u8], u8)] = &[
@@ -35,16 +34,18 @@ const BAD: &[(&[u8], u8)] = &[
 ];
 
 #[test]
-fn bad_members_are_refused(rt: HostRuntime) -> Result<(), Fail> {
-    assert_eq!(rt; first_opened(rt.alloc(), BAD)?, None);
-    Ok(())
+fn bad_members_are_refused(rt: HostRuntime) {
+    assert_eq!(rt; first_opened(rt.alloc(), BAD), None);
+}
+
+/// Whether a replica is the backup that one of no ballot is.
+pub fn is_no_member(replica: &Replica<Tally>) -> bool {
+    shows(replica, 0, Role::Backup, 0, 0)
 }
 
 // Node 7 is none of seven members.
 #[test]
-fn no_member_is_a_backup(rt: HostRuntime) -> Result<(), Fail> {
-    let config = config(rt.alloc(), &[1, 2, 3, 4, 5, 6, 15], 15)?;
-    let replica = Replica::<Tally>::new(rt.alloc(), 7, &config)?;
-    assert!(rt; shows(&replica, 0, Role::Backup, 0, 0));
-    Ok(())
+fn no_member_is_a_backup(rt: HostRuntime) {
+    let members = [1, 2, 3, 4, 5, 6, 15];
+    assert!(rt; goes(rt.alloc(), 7, &members, 15, Story::IsNoMember));
 }

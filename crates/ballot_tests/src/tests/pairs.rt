@@ -1,6 +1,6 @@
 // Two nodes, and what came out of them.
 
-use super::replicas::{hears, one, two};
+use super::replicas::{hears, made};
 use ballot::{Body, Effect, Members, Message, OpeningError, Replica};
 use machine::{Memory, Tally, TallyCommand};
 use std::alloc::Global;
@@ -16,14 +16,14 @@ pub struct Pair {
 /// Two nodes open in ballot 1 with these members, of which node 1 is the primary.
 pub fn open(alloc: Global, members: &[u8]) -> Result<Pair, OpeningError> {
     Ok(Pair {
-        one: one(alloc, members, 1)?,
-        two: two(alloc, members, 1)?,
+        one: made(alloc, 1, members, 1)?,
+        two: made(alloc, 2, members, 1)?,
         out: Vec::new(alloc),
     })
 }
 
-/// What the master says as it gives ballot 2 to nodes 1 and 2, behind the members of ballot 1.
-pub fn ballot_two(alloc: Global, previous: &[u8]) -> Result<Body<TallyCommand>, Memory> {
+// What the master says as it gives ballot 2 to nodes 1 and 2, behind the members of ballot 1.
+fn ballot_two(alloc: Global, previous: &[u8]) -> Result<Body<TallyCommand>, Memory> {
     let members = Members::from_slice(alloc, &[1, 2])?;
     let previous = Members::from_slice(alloc, previous)?;
     Ok(Body::NewBallot(2, members, 1, previous))
@@ -35,12 +35,12 @@ pub fn master_says(pair: &mut Pair, body: Body<TallyCommand>) -> bool {
     hears(&mut pair.two, 0, body, &mut pair.out)
 }
 
-/// Two nodes, of which the second is given ballot 2 with both for its members.
-pub fn assigned(alloc: Global, previous: &[u8]) -> Result<Pair, OpeningError> {
-    let mut pair = open(alloc, previous)?;
-    let body = ballot_two(alloc, previous)?;
-    let _ = master_says(&mut pair, body);
-    Ok(pair)
+/// Whether node 2 is given ballot 2 with both nodes for its members, behind these members of ballot 1.
+pub fn is_assigned(pair: &mut Pair, alloc: Global, previous: &[u8]) -> bool {
+    match ballot_two(alloc, previous) {
+        Ok(body) => master_says(pair, body),
+        Err(_) => false,
+    }
 }
 
 /// What kind a message is.

@@ -12,16 +12,18 @@ pub fn config(alloc: Global, members: &[u8], primary: u8) -> Result<Config, Memo
     })
 }
 
-/// Node 1, open in ballot 1 with these members and this primary.
-pub fn one(alloc: Global, members: &[u8], primary: u8) -> Result<Replica<Tally>, OpeningError> {
+/// A node, one of 1 to 15, open in ballot 1 with these members and this primary.
+pub fn made(
+    alloc: Global,
+    node: u8,
+    members: &[u8],
+    primary: u8,
+) -> Result<Replica<Tally>, OpeningError> {
+    if node == 0 || node > 15 {
+        return Err(OpeningError::BadMembers);
+    }
     let config = config(alloc, members, primary)?;
-    Replica::new(alloc, 1, &config)
-}
-
-/// Node 2, open in ballot 1 with these members and this primary.
-pub fn two(alloc: Global, members: &[u8], primary: u8) -> Result<Replica<Tally>, OpeningError> {
-    let config = config(alloc, members, primary)?;
-    Replica::new(alloc, 2, &config)
+    Replica::new(alloc, node, &config)
 }
 
 /// Whether a replica takes a command.

@@ -1,0 +1,75 @@
+// Which replicas and pairs go through what. Each is made in one place and lent from there.
+
+use super::pairs::{Pair, open};
+use super::replicas::made;
+use super::{changes, commands, opening};
+use ballot::{Effect, Replica};
+use machine::{Tally, TallyCommand};
+use std::alloc::Global;
+
+/// What a replica is to go through.
+#[derive(Clone, Copy)]
+pub enum Story {
+    AnswersAtOnce,
+    LeavesOnceHeld,
+    HearsItAgain,
+    WaitsForTheFirst,
+    IsSilent,
+    SaysWhatIsLacking,
+    IsNoMember,
+}
+
+// Whether a replica goes through a story as it is told.
+fn is_told(
+    replica: &mut Replica<Tally>,
+    out: &mut Vec<Effect<TallyCommand, u64>>,
+    story: Story,
+) -> bool {
+    match story {
+        Story::AnswersAtOnce => commands::answers_at_once(replica, out),
+        Story::LeavesOnceHeld => commands::leaves_once_held(replica, out),
+        Story::HearsItAgain => commands::hears_it_again(replica, out),
+        Story::WaitsForTheFirst => commands::waits_for_the_first(replica, out),
+        Story::IsSilent => commands::is_silent(replica, out),
+        Story::SaysWhatIsLacking => commands::says_what_is_lacking(replica, out),
+        Story::IsNoMember => opening::is_no_member(replica),
+    }
+}
+
+/// Whether a node that opens with these members and this primary goes through a story.
+pub fn goes(alloc: Global, node: u8, members: &[u8], primary: u8, story: Story) -> bool {
+    let mut out = Vec::new(alloc);
+    match made(alloc, node, members, primary) {
+        Ok(mut replica) => is_told(&mut replica, &mut out, story),
+        Err(_) => false,
+    }
+}
+
+/// What two nodes are to go through.
+#[derive(Clone, Copy)]
+pub enum Change {
+    GoesOver,
+    Begins,
+    IsPutOut,
+    IsReplaced,
+    AsksAgain,
+}
+
+// Whether two nodes go through a change as it is told.
+fn is_changed(alloc: Global, pair: &mut Pair, change: Change) -> bool {
+    match change {
+        Change::GoesOver => changes::goes_over(pair, alloc),
+        Change::Begins => changes::begins(pair, alloc),
+        Change::IsPutOut => changes::is_put_out(pair, alloc),
+        Change::IsReplaced => changes::is_replaced(pair, alloc),
+        Change::AsksAgain => changes::asks_twice(pair, alloc),
+    }
+}
+
+/// Whether two nodes that open with these members and node 1 as primary go through a change.
+pub fn go(alloc: Global, members: &[u8], change: Change) -> bool {
+    match open(alloc, members) {
+        Ok(mut pair) => is_changed(alloc, &mut pair, change),
+        Err(_) => false,
+    }
+}
