@@ -4,8 +4,6 @@
 mod cutting;
 mod error;
 mod laws;
-#[cfg(test)]
-mod tests;
 
 pub use cutting::Cutter;
 pub use error::CutError;

@@ -3,6 +3,7 @@
 
 mod asking;
 mod connecting;
+mod cutting;
 mod faults;
 mod fields;
 mod listing;

@@ -1,0 +1,137 @@
+// A stream that comes in pieces (MQTT 2.2, 4.8).
+
+use cutter::{CutError, Cutter};
+use packet::{DecodeFault, Packet, encode};
+use std::alloc::Global;
+use topics::MalformedKind;
+
+// CONNECT of client `a`, PUBLISH of `x` at QoS 2 on `t/1`, PINGREQ (MQTT 3.1, 3.3, 3.12).
+const STREAM: [u8; 27] = [
+    0x10, 0x0D, 0x00, 0x04, 0x4D, 0x51, 0x54, 0x54, 0x04, 0x00, 0x00, 0x3C, 0x00, 0x01, 0x61, 0x34,
+    0x08, 0x00, 0x03, 0x74, 0x2F, 0x31, 0x00, 0x01, 0x78, 0xC0, 0x00,
+];
+
+// Appends the spelling of a packet, and tells whether there was memory for it.
+fn is_spelled(packet: &Packet, out: &mut Vec<u8>) -> bool {
+    packet.has_no_empty_list() && encode(packet, out).is_ok()
+}
+
+// What became of one try to take a packet.
+#[derive(Clone, Copy, PartialEq)]
+enum Taken {
+    One,
+    NoMore,
+    Fault(CutError),
+    Unspelled,
+}
+
+// Takes the next packet, if it is there, and appends its spelling.
+fn take(cutter: &mut Cutter, out: &mut Vec<u8>) -> Taken {
+    match &cutter.next() {
+        Ok(Some(packet)) => {
+            if is_spelled(packet, out) {
+                Taken::One
+            } else {
+                Taken::Unspelled
+            }
+        }
+        Ok(None) => Taken::NoMore,
+        Err(fault) => Taken::Fault(*fault),
+    }
+}
+
+// Takes all packets that are there, at most three, and appends their spellings.
+fn drain(cutter: &mut Cutter, out: &mut Vec<u8>) -> bool {
+    for _ in 0..4 {
+        match take(cutter, out) {
+            Taken::One => {}
+            Taken::NoMore => return true,
+            Taken::Fault(_) | Taken::Unspelled => return false,
+        }
+    }
+    true
+}
+
+// Feeds a piece and takes what is there.
+fn is_cut(cutter: &mut Cutter, piece: &[u8], out: &mut Vec<u8>) -> bool {
+    cutter.feed(piece).is_ok() && drain(cutter, out)
+}
+
+fn are_cut(cutter: &mut Cutter, pieces: &[&[u8]], out: &mut Vec<u8>) -> bool {
+    for piece in pieces {
+        if !is_cut(cutter, piece, out) {
+            return false;
+        }
+    }
+    true
+}
+
+// Whether the stream in these pieces is cut into its packets.
+fn is_stream(alloc: Global, pieces: &[&[u8]]) -> bool {
+    let mut cutter = Cutter::new(alloc);
+    let mut out = Vec::new(alloc);
+    are_cut(&mut cutter, pieces, &mut out) && out.as_slice() == STREAM.as_slice()
+}
+
+// The first place at which the stream may not be cut in two.
+fn first_cut(alloc: Global, stream: &[u8]) -> Option<usize> {
+    for at in 0..=stream.len() {
+        if !is_stream(alloc, &[&stream[..at], &stream[at..]]) {
+            return Some(at);
+        }
+    }
+    None
+}
+
+#[test]
+fn cut_in_two_at_every_byte(rt: HostRuntime) {
+    assert_eq!(rt; first_cut(rt.alloc(), &STREAM), None);
+}
+
+fn are_bytes_cut(cutter: &mut Cutter, stream: &[u8], out: &mut Vec<u8>) -> bool {
+    for byte in stream {
+        if !is_cut(cutter, &[*byte], out) {
+            return false;
+        }
+    }
+    true
+}
+
+// Whether the stream is cut into its packets where it comes byte by byte.
+fn is_stream_of_bytes(alloc: Global) -> bool {
+    let mut cutter = Cutter::new(alloc);
+    let mut out = Vec::new(alloc);
+    are_bytes_cut(&mut cutter, &STREAM, &mut out) && out.as_slice() == STREAM.as_slice()
+}
+
+#[test]
+fn byte_by_byte(rt: HostRuntime) {
+    assert!(rt; is_stream_of_bytes(rt.alloc()));
+}
+
+// Packet type 15 is reserved (MQTT 2.2.1).
+const FAULT: CutError = CutError::Decode(DecodeFault::Malformed(MalformedKind::PacketType));
+
+// Whether three packets, the fault and that there is one already are answered in turn.
+fn is_faulty(cutter: &mut Cutter, out: &mut Vec<u8>) -> bool {
+    cutter.feed(&STREAM).is_ok()
+        && cutter.feed(&[0xF0, 0x00]).is_ok()
+        && take(cutter, out) == Taken::One
+        && take(cutter, out) == Taken::One
+        && take(cutter, out) == Taken::One
+        && take(cutter, out) == Taken::Fault(FAULT)
+        && take(cutter, out) == Taken::Fault(CutError::Failed)
+        && cutter.feed(&[0xC0]).err() == Some(CutError::Failed)
+}
+
+fn stops_at_a_fault(alloc: Global) -> bool {
+    let mut cutter = Cutter::new(alloc);
+    let mut out = Vec::new(alloc);
+    is_faulty(&mut cutter, &mut out)
+}
+
+#[test]
+fn a_fault_behind_good_packets(rt: HostRuntime) {
+    assert!(rt; stops_at_a_fault(rt.alloc()));
+    assert_eq!(rt; FAULT.number(), Some(1));
+}
