@@ -9,7 +9,7 @@ use std::marker::Brand;
 use std::sync::Wait;
 use std::thread;
 use std::thread::Threads;
-use std::time::{Clock, CpuClock, Instant};
+use std::time::{Clock, CpuClock, Duration, Instant};
 
 /// How many items are sent, by all lanes together.
 const ITEMS: u64 = 3_000_000;
@@ -33,26 +33,51 @@ fn measure<J: Naming + Send, R: Threads + Wait + Sync + Clock + CpuClock + Print
     requires lanes { (1 ≤ lanes) × (lanes ≤ MOST_LANES) }
 {
     let (mut receiver, senders) = inbox.named::<J>(1, lanes)?;
+    measure_over(rt, &mut receiver, senders, lanes)
+}
+
+fn measure_over<J: Naming + Send, R: Threads + Wait + Sync + Clock + CpuClock + Print>(
+    rt: &R,
+    receiver: &mut Receiver<u64, J>,
+    senders: Vec<Lane<u64, J>>,
+    lanes: u8,
+) -> Result<()>
+    requires { 1 ≤ lanes }
+{
     let each = ITEMS / u64::from(lanes);
     let busy_before = rt.process_cpu_time()?;
     let start = Instant::now(rt)?;
-    let in_order = thread::scope(thread::scope_env(), rt, |scope| {
-        for lane in senders {
-            if scope.spawn(move || pour(rt, lane, each)).is_err() {
-                return false;
-            }
-        }
-        come_in_order(rt, &mut receiver, each)
-    });
+    let in_order = pour_all(rt, receiver, senders, each);
     let elapsed = start.elapsed(rt)?;
     let busy = rt.process_cpu_time()?.saturating_sub(busy_before);
     if !in_order {
         bail!("an item was lost or came out of order");
     }
+    print(rt, lanes, elapsed, busy)
+}
+
+fn print<R: Print>(rt: &R, lanes: u8, elapsed: Duration, busy: Duration) -> Result<()> {
     let nanos = elapsed.as_nanos() / u128::from(ITEMS);
     let busy_nanos = busy.as_nanos() / u128::from(ITEMS);
     println!(rt; "{lanes} lanes: {nanos} ns an item, {busy_nanos} ns of all processors")?;
     Ok(())
+}
+
+// All lanes send at once, each from a thread of its own: whether all came, in order.
+fn pour_all<J: Naming + Send, R: Threads + Wait + Sync>(
+    rt: &R,
+    receiver: &mut Receiver<u64, J>,
+    senders: Vec<Lane<u64, J>>,
+    each: u64,
+) -> bool {
+    thread::scope(thread::scope_env(), rt, |scope| {
+        for lane in senders {
+            if scope.spawn(move || pour(rt, lane, each)).is_err() {
+                return false;
+            }
+        }
+        come_in_order(rt, receiver, each)
+    })
 }
 
 // Sends the numbers from 0 on, each again until there is room for it.

@@ -34,22 +34,36 @@ fn repeated(alloc: Global, level: &str, count: u32) -> Result<String> {
 }
 
 fn measure(rt: &HostRuntime, name: &str, filter_text: &str, topic_text: &str) -> Result<()> {
+    let nanos = match_nanos(rt, filter_text, topic_text)?;
+    let bytes = filter_text.len() + topic_text.len();
+    println!(rt; "{name}: {bytes} bytes, {nanos} ns a match")?;
+    Ok(())
+}
+
+fn match_nanos(rt: &HostRuntime, filter_text: &str, topic_text: &str) -> Result<u128> {
     let filter = Filter::new(rt.alloc(), filter_text)?;
-    let mut topics = Vec::new(rt.alloc());
-    for _ in 0..COPIES {
-        topics.push(TopicName::new(rt.alloc(), topic_text)?)?;
-    }
+    let topics = copies(rt.alloc(), topic_text)?;
     let start = Instant::now(rt)?;
-    let mut all_match = true;
-    for _ in 0..ROUNDS {
-        all_match &= topics.iter().all(|topic| matches(&filter, topic));
-    }
+    let all_match = match_all(&filter, &topics);
     let elapsed = start.elapsed(rt)?;
     if !all_match {
         bail!("{filter_text} does not match {topic_text}");
     }
-    let bytes = filter_text.len() + topic_text.len();
-    let nanos = elapsed.as_nanos() / u128::from(ROUNDS * COPIES);
-    println!(rt; "{name}: {bytes} bytes, {nanos} ns a match")?;
-    Ok(())
+    Ok(elapsed.as_nanos() / u128::from(ROUNDS * COPIES))
+}
+
+fn copies(alloc: Global, topic_text: &str) -> Result<Vec<TopicName>> {
+    let mut topics = Vec::new(alloc);
+    for _ in 0..COPIES {
+        topics.push(TopicName::new(alloc, topic_text)?)?;
+    }
+    Ok(topics)
+}
+
+fn match_all(filter: &Filter, topics: &[TopicName]) -> bool {
+    let mut all_match = true;
+    for _ in 0..ROUNDS {
+        all_match &= topics.iter().all(|topic| matches(filter, topic));
+    }
+    all_match
 }

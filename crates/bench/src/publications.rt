@@ -15,15 +15,20 @@ pub fn append(alloc: Global, count: u32, payload_len: usize, out: &mut Vec<u8>) 
 
 /// A PUBLISH at QoS 0, whose topic has 13 bytes.
 pub fn publication(alloc: Global, payload_len: usize) -> Result<Publish> {
+    let payload = payload(alloc, payload_len)?;
     let topic = TopicName::new(alloc, "house/kitchen")?;
-    let mut bytes = Vec::new(alloc);
-    bytes.resize(payload_len, 0x78)?;
     Ok(Publish {
         topic,
         delivery: Delivery::AtMostOnce,
         retain: false,
-        payload: Payload::new(alloc, &bytes)?,
+        payload,
     })
+}
+
+fn payload(alloc: Global, len: usize) -> Result<Payload> {
+    let mut bytes = Vec::new(alloc);
+    bytes.resize(len, 0x78)?;
+    Ok(Payload::new(alloc, &bytes)?)
 }
 
 /// Appends as many copies of the packet's bytes.

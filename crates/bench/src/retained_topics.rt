@@ -3,6 +3,7 @@
 use anyhow::{Result, bail};
 use packet::{Payload, QoS};
 use retained::RetainedStore;
+use std::alloc::Global;
 use std::time::Instant;
 use topics::{Filter, TopicName};
 
@@ -18,16 +19,37 @@ pub fn run(rt: &HostRuntime) -> Result<()> {
 
 fn measure(rt: &HostRuntime, topics: u32) -> Result<()> {
     let mut store = RetainedStore::new(rt.alloc());
+    measure_over(rt, &mut store, topics)
+}
+
+fn measure_over(rt: &HostRuntime, store: &mut RetainedStore, topics: u32) -> Result<()> {
+    let put = put_micros(rt, store, topics)?;
+    let matched = matched_micros(rt, store, topics)?;
+    let named = named_nanos(rt, store)?;
+    println!(rt;
+        "{topics} topics: put in {put} us, all found in {matched} us, one by its name in {named} ns"
+    )?;
+    Ok(())
+}
+
+fn put_micros(rt: &HostRuntime, store: &mut RetainedStore, topics: u32) -> Result<u128> {
     let start = Instant::now(rt)?;
     for number in 0..topics {
-        // The order of the numbers is not that of the texts.
-        let text = format!(in rt.alloc(); "house/{number}/light")?;
-        let topic = TopicName::new(rt.alloc(), text.as_str())?;
-        let payload = Payload::new(rt.alloc(), text.as_bytes())?;
-        store.put(topic, QoS::AtLeastOnce, payload)?;
+        put(rt.alloc(), store, number)?;
     }
-    let put = start.elapsed(rt)?.as_micros();
+    Ok(start.elapsed(rt)?.as_micros())
+}
 
+fn put(alloc: Global, store: &mut RetainedStore, number: u32) -> Result<()> {
+    // The order of the numbers is not that of the texts.
+    let text = format!(in alloc; "house/{number}/light")?;
+    let topic = TopicName::new(alloc, text.as_str())?;
+    let payload = Payload::new(alloc, text.as_bytes())?;
+    store.put(topic, QoS::AtLeastOnce, payload)?;
+    Ok(())
+}
+
+fn matched_micros(rt: &HostRuntime, store: &RetainedStore, topics: u32) -> Result<u128> {
     let filter = Filter::new(rt.alloc(), "#")?;
     let mut found = Vec::new(rt.alloc());
     let start = Instant::now(rt)?;
@@ -36,14 +58,10 @@ fn measure(rt: &HostRuntime, topics: u32) -> Result<()> {
     if u64::try_from(found.len()) != Ok(u64::from(topics)) {
         bail!("{} of {topics} topics found", found.len());
     }
-    let named = named_time(rt, &store)?;
-    println!(rt;
-        "{topics} topics: put in {put} us, all found in {matched} us, one by its name in {named} ns"
-    )?;
-    Ok(())
+    Ok(matched)
 }
 
-fn named_time(rt: &HostRuntime, store: &RetainedStore) -> Result<u128> {
+fn named_nanos(rt: &HostRuntime, store: &RetainedStore) -> Result<u128> {
     let filter = Filter::new(rt.alloc(), "house/77/light")?;
     let mut found = Vec::new(rt.alloc());
     let start = Instant::now(rt)?;

@@ -23,9 +23,13 @@ pub fn run(rt: &HostRuntime) -> Result<()> {
 fn measure(rt: &HostRuntime, count: u32, payload_len: usize, most: usize) -> Result<()> {
     let mut stream = Vec::new(rt.alloc());
     append(rt.alloc(), count, payload_len, &mut stream)?;
+    measure_over(rt, count, &stream, most)
+}
+
+fn measure_over(rt: &HostRuntime, count: u32, stream: &[u8], most: usize) -> Result<()> {
     let piece = most.min(stream.len());
     let start = Instant::now(rt)?;
-    let taken = pour(rt.alloc(), &stream, piece)?;
+    let taken = pour(rt.alloc(), stream, piece)?;
     let micros = start.elapsed(rt)?.as_micros();
     if taken != count {
         bail!("{taken} of {count} packets were taken");
@@ -35,13 +39,17 @@ fn measure(rt: &HostRuntime, count: u32, payload_len: usize, most: usize) -> Res
     Ok(())
 }
 
-// Feeds the stream piece by piece, takes all that is whole behind each, and counts the packets.
 fn pour(alloc: Global, stream: &[u8], piece: usize) -> Result<u32> {
     let mut cutter = Cutter::new(alloc);
+    pour_into(&mut cutter, stream, piece)
+}
+
+// Feeds the stream piece by piece, takes all that is whole behind each, and counts the packets.
+fn pour_into(cutter: &mut Cutter, stream: &[u8], piece: usize) -> Result<u32> {
     let mut taken = 0u32;
     for part in stream.chunks(piece.max(1)) {
         cutter.feed(part)?;
-        taken = taken.saturating_add(take_all(&mut cutter)?);
+        taken = taken.saturating_add(take_all(cutter)?);
     }
     Ok(taken)
 }

@@ -48,22 +48,40 @@ fn measure<I: SubIndex>(
 ) -> Result<()>
     requires { 0 < rounds }
 {
-    let mut index = index_of::<I>(rt.alloc(), shape, clients)?;
-    println!(rt; "{name} {shape:?}, {clients} clients of {FILTERS} filters")?;
-    print_grant(rt, &index, rounds)?;
-    print_changes(rt, &mut index, clients)
+    let mut index = I::new(rt.alloc());
+    measure_over(rt, name, shape, &mut index, clients, rounds)
 }
 
-fn index_of<I: SubIndex>(alloc: Global, shape: Shape, clients: u32) -> Result<I> {
-    let mut index = I::new(alloc);
+fn measure_over<I: SubIndex>(
+    rt: &HostRuntime,
+    name: &str,
+    shape: Shape,
+    index: &mut I,
+    clients: u32,
+    rounds: u32,
+) -> Result<()>
+    requires { 0 < rounds }
+{
+    fill(rt.alloc(), index, shape, clients)?;
+    println!(rt; "{name} {shape:?}, {clients} clients of {FILTERS} filters")?;
+    print_grant(rt, index, rounds)?;
+    print_changes(rt, index, clients)
+}
+
+fn fill<I: SubIndex>(alloc: Global, index: &mut I, shape: Shape, clients: u32) -> Result<()> {
     for number in 0..clients {
-        let client = client_of(alloc, number)?;
-        for which in 0..FILTERS {
-            let filter = filter_of(alloc, shape, number, which)?;
-            index.set(&client, &filter, QoS::AtLeastOnce)?;
-        }
+        set_filters(alloc, index, shape, number)?;
     }
-    Ok(index)
+    Ok(())
+}
+
+fn set_filters<I: SubIndex>(alloc: Global, index: &mut I, shape: Shape, number: u32) -> Result<()> {
+    let client = client_of(alloc, number)?;
+    for which in 0..FILTERS {
+        let filter = filter_of(alloc, shape, number, which)?;
+        index.set(&client, &filter, QoS::AtLeastOnce)?;
+    }
+    Ok(())
 }
 
 fn client_of(alloc: Global, number: u32) -> Result<ClientId> {
@@ -85,6 +103,15 @@ fn filter_of(alloc: Global, shape: Shape, number: u32, which: u32) -> Result<Fil
 fn print_grant<I: SubIndex>(rt: &HostRuntime, index: &I, rounds: u32) -> Result<()>
     requires { 0 < rounds }
 {
+    let (rows, nanos) = time_grants(rt, index, rounds)?;
+    println!(rt; "    {rows} rows granted in {nanos} ns")?;
+    Ok(())
+}
+
+// The rows of a grant, and the nanoseconds that one took.
+fn time_grants<I: SubIndex>(rt: &HostRuntime, index: &I, rounds: u32) -> Result<(usize, u128)>
+    requires { 0 < rounds }
+{
     let topic = TopicName::new(rt.alloc(), "house/63/kitchen/light")?;
     let mut rows = Vec::new(rt.alloc());
     let start = rt.process_cpu_time()?;
@@ -93,27 +120,54 @@ fn print_grant<I: SubIndex>(rt: &HostRuntime, index: &I, rounds: u32) -> Result<
         index.granted(&topic, &mut rows)?;
     }
     let nanos = nanos_since(rt, start)? / u128::from(rounds);
-    println!(rt; "    {} rows granted in {nanos} ns", rows.len())?;
-    Ok(())
+    Ok((rows.len(), nanos))
 }
 
 /// One filter of some clients is cleared, and set again.
 fn print_changes<I: SubIndex>(rt: &HostRuntime, index: &mut I, clients: u32) -> Result<()> {
     let filter = Filter::new(rt.alloc(), "house/7/+/light")?;
     let some = some_clients(rt.alloc(), clients)?;
+    print_changes_of(rt, index, &filter, &some)
+}
+
+fn print_changes_of<I: SubIndex>(
+    rt: &HostRuntime,
+    index: &mut I,
+    filter: &Filter,
+    some: &[ClientId],
+) -> Result<()> {
+    let clear = clear_nanos(rt, index, filter, some)?;
+    let set = set_nanos(rt, index, filter, some)?;
+    println!(rt; "    one cleared in {clear} ns, set in {set} ns")?;
+    Ok(())
+}
+
+fn clear_nanos<I: SubIndex>(
+    rt: &HostRuntime,
+    index: &mut I,
+    filter: &Filter,
+    some: &[ClientId],
+) -> Result<u128> {
     let start = rt.process_cpu_time()?;
-    let all = some.iter().all(|client| index.clear(client, &filter));
+    let all = some.iter().all(|client| index.clear(client, filter));
     let clear = nanos_since(rt, start)? / u128::from(CHANGES);
     if !all {
         bail!("a client has not its filter");
     }
+    Ok(clear)
+}
+
+fn set_nanos<I: SubIndex>(
+    rt: &HostRuntime,
+    index: &mut I,
+    filter: &Filter,
+    some: &[ClientId],
+) -> Result<u128> {
     let start = rt.process_cpu_time()?;
-    for client in &some {
-        index.set(client, &filter, QoS::AtLeastOnce)?;
+    for client in some {
+        index.set(client, filter, QoS::AtLeastOnce)?;
     }
-    let set = nanos_since(rt, start)? / u128::from(CHANGES);
-    println!(rt; "    one cleared in {clear} ns, set in {set} ns")?;
-    Ok(())
+    Ok(nanos_since(rt, start)? / u128::from(CHANGES))
 }
 
 /// Clients at equal distances.
