@@ -11,8 +11,6 @@ mod matching;
 mod node_table;
 mod parsing;
 mod reading;
-#[cfg(test)]
-mod tests;
 
 pub use fault::{LineFault, TableFault};
 pub use job::{Job, Play, Publish, Serve, Subscribe};

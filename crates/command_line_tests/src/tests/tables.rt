@@ -1,6 +1,7 @@
 // Tables of nodes.
 
-use crate::{TableFault, table};
+use command_line::{NodeTable, TableFault, table};
+use std::alloc::{AllocError, Global};
 use std::test::Fail;
 
 // The head of a table of one node.
@@ -8,20 +9,30 @@ const ONE: &str = "members = [1]\nprimary = 1\n";
 
 const NODE_1: &str = "[[node]]\nid = 1\nlisten = \"h:1\"\n";
 
-#[test]
-fn a_table_is_read(rt: HostRuntime) -> Result<(), Fail> {
-    let text = "primary = 2 # keys in any order\nmembers = [1, 2]\n\
-        [[node]]\nlisten = \"h:2\"\nid = 2\n[[node]]\nid = 1\nlisten = \"h:1\"\n";
-    let read = table(rt.alloc(), text).map_err(|_| Fail::from("refused"))?;
-    assert_eq!(rt; read.config.members.as_slice(), [1, 2].as_slice());
-    assert_eq!(rt; (read.config.primary, read.nodes.len()), (2, 2));
-    let first = read.nodes.first().ok_or("no node")?;
-    assert_eq!(rt; (first.id, first.listen.as_str()), (2, "h:2"));
-    Ok(())
+// Two nodes, with the keys in any order.
+const TWO: &str = "primary = 2 # keys in any order\nmembers = [1, 2]\n\
+    [[node]]\nlisten = \"h:2\"\nid = 2\n[[node]]\nid = 1\nlisten = \"h:1\"\n";
+
+fn is_two(read: &NodeTable) -> bool {
+    let Some(first) = read.nodes.first() else {
+        return false;
+    };
+    read.config.members.as_slice() == [1, 2].as_slice()
+        && (read.config.primary, read.nodes.len()) == (2, 2)
+        && (first.id, first.listen.as_str()) == (2, "h:2")
 }
 
 #[test]
-fn other_tables_are_refused(rt: HostRuntime) -> Result<(), Fail> {
+fn a_table_is_read(rt: HostRuntime) {
+    let is_read = match table(rt.alloc(), TWO) {
+        Ok(read) => is_two(&read),
+        Err(_) => false,
+    };
+    assert!(rt; is_read);
+}
+
+#[test]
+fn other_tables_are_refused(rt: HostRuntime) {
     let rows = [
         "",
         "members",
@@ -44,32 +55,46 @@ fn other_tables_are_refused(rt: HostRuntime) -> Result<(), Fail> {
         "members = [257]\nprimary = 257\n[[node]]\nid = 257\nlisten = \"h:1\"\n",
     ];
     for text in rows {
-        let Err(fault) = table(rt.alloc(), text) else {
-            return Err(Fail::from(text));
-        };
-        assert_eq!(rt; fault, TableFault::Shape);
+        assert!(rt; is_refused(rt.alloc(), text), "{text}");
     }
-    Ok(())
 }
 
-// A table of nodes 1 to `last`, in which node `twice` stands a second time.
-fn nodes(rt: &HostRuntime, last: u32, twice: u32) -> Result<bool, Fail> {
-    let mut text = String::from_str(rt.alloc(), ONE)?;
+fn is_refused(alloc: Global, text: &str) -> bool {
+    match table(alloc, text) {
+        Ok(_) => false,
+        Err(fault) => fault == TableFault::Shape,
+    }
+}
+
+// A table of nodes 1 to `last`, behind this head, in which node `twice` stands a second time.
+fn nodes(alloc: Global, head: &str, last: u32, twice: u32) -> Result<String, AllocError> {
+    let mut text = String::from_str(alloc, head)?;
     for id in 1..=last {
-        text.push_str(format!(in rt.alloc(); "[[node]]\nid = {id}\nlisten = \"h:1\"\n")?.as_str())?;
+        text.push_str(node(alloc, id)?.as_str())?;
         if id == twice {
             text.push_str(NODE_1)?;
         }
     }
-    Ok(table(rt.alloc(), text.as_str()).is_ok())
+    Ok(text)
+}
+
+fn node(alloc: Global, id: u32) -> Result<String, AllocError> {
+    format!(in alloc; "[[node]]\nid = {id}\nlisten = \"h:1\"\n")
+}
+
+fn is_lawful(alloc: Global, text: &str) -> bool {
+    table(alloc, text).is_ok()
 }
 
 #[test]
 fn at_most_15_nodes_and_none_twice(rt: HostRuntime) -> Result<(), Fail> {
-    assert!(rt; nodes(&rt, 15, 0)?);
-    assert!(rt; !nodes(&rt, 16, 0)?);
-    assert!(rt; !nodes(&rt, 3, 1)?);
-    assert!(rt; !nodes(&rt, 3, 3)?);
+    for (last, twice, wanted) in [(15, 0, true), (16, 0, false), (3, 1, false), (3, 3, false)] {
+        let text = nodes(rt.alloc(), ONE, last, twice)?;
+        assert!(rt;
+            is_lawful(rt.alloc(), text.as_str()) == wanted,
+            "{last}, {twice}"
+        );
+    }
     Ok(())
 }
 
@@ -85,14 +110,10 @@ fn at_most_7_members_in_rising_order(rt: HostRuntime) -> Result<(), Fail> {
         ("[1, 2, 2]", false),
         ("[1, 9]", false),
     ];
-    for (members, is_lawful) in rows {
-        let mut text = format!(in rt.alloc(); "members = {members}\nprimary = 1\n")?;
-        for id in 1..=8 {
-            text.push_str(format!(in rt.alloc();
-                "[[node]]\nid = {id}\nlisten = \"h:1\"\n"
-            )?.as_str())?;
-        }
-        assert_eq!(rt; table(rt.alloc(), text.as_str()).is_ok(), is_lawful);
+    for (members, wanted) in rows {
+        let head = format!(in rt.alloc(); "members = {members}\nprimary = 1\n")?;
+        let text = nodes(rt.alloc(), head.as_str(), 8, 0)?;
+        assert!(rt; is_lawful(rt.alloc(), text.as_str()) == wanted, "{members}");
     }
     Ok(())
 }
