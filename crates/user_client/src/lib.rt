@@ -8,8 +8,6 @@ mod printing;
 mod publisher;
 mod servers;
 mod subscriber;
-#[cfg(test)]
-mod tests;
 mod visiting;
 
 pub use fault::ClientFault;

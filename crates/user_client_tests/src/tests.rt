@@ -1,0 +1,268 @@
+// Two clients over servers in memory, which send what they are told to send.
+
+use packet::QoS;
+use std::alloc::Global;
+use std::cell::RefCell;
+use std::io;
+use std::io::{Read, Write};
+use std::test::Fail;
+use user_client::{ClientFault, Publisher, Servers, Subscriber, print_text};
+
+// The pieces that a server sends on a connection, one a read. Then it closes.
+type Pieces = &'static [&'static [u8]];
+
+// Servers, and all that was written to them.
+#[derive(Drop)]
+struct Told<'a> {
+    connections: &'a [Pieces],
+    opened: usize,
+    rests: u32,
+    log: &'a RefCell<Vec<u8>>,
+}
+
+#[derive(Drop)]
+struct Pipe<'a> {
+    pieces: Pieces,
+    sent: usize,
+    log: &'a RefCell<Vec<u8>>,
+}
+
+impl<'a> Servers for Told<'a> {
+    type Stream = Pipe<'a>;
+
+    fn open(&mut self) -> Option<Pipe<'a>> {
+        let pieces = *self.connections.get(self.opened)?;
+        self.opened = self.opened.saturating_add(1);
+        Some(Pipe {
+            pieces,
+            sent: 0,
+            log: self.log,
+        })
+    }
+
+    fn rest(&mut self) {
+        self.rests = self.rests.saturating_add(1);
+    }
+}
+
+impl<'a> Read for Pipe<'a> {
+    fn read(&mut self, buf: &mut [u8]) -> io::Result<usize> {
+        let Some(piece) = self.pieces.get(self.sent) else {
+            return Ok(0);
+        };
+        self.sent = self.sent.saturating_add(1);
+        let count = piece.len().min(buf.len());
+        buf[..count].copy_from_slice(&piece[..count]);
+        Ok(count)
+    }
+}
+
+impl<'a> Write for Pipe<'a> {
+    fn write(&mut self, buf: &[u8]) -> io::Result<usize> {
+        self.log.try_borrow_mut()?.extend_from_slice(buf)?;
+        Ok(buf.len())
+    }
+
+    fn flush(&mut self) -> io::Result<()> {
+        Ok(())
+    }
+}
+
+const CONNACK: &[u8] = &[0x20, 2, 0, 0];
+
+const SESSION_PRESENT: &[u8] = &[0x20, 2, 1, 0];
+
+const PUBREC: &[u8] = &[0x50, 2, 0, 1];
+
+const PUBCOMP: &[u8] = &[0x70, 2, 0, 1];
+
+const SUBACK: &[u8] = &[0x90, 3, 0, 1, 2];
+
+// CONNECT of client `a` with keep alive 0.
+const CONNECT: &[u8] = &[
+    0x10, 13, 0, 4, b'M', b'Q', b'T', b'T', 4, 0, 0, 0, 0, 1, b'a',
+];
+
+// PUBLISH of `x` on `t/1` at QoS 2, the same again, and at QoS 0.
+const PUBLISH: &[u8] = &[0x34, 8, 0, 3, b't', b'/', b'1', 0, 1, b'x'];
+
+const PUBLISH_AGAIN: &[u8] = &[0x3C, 8, 0, 3, b't', b'/', b'1', 0, 1, b'x'];
+
+const PUBLISH_ONCE: &[u8] = &[0x30, 6, 0, 3, b't', b'/', b'1', b'x'];
+
+const PUBREL: &[u8] = &[0x62, 2, 0, 1];
+
+const DISCONNECT: &[u8] = &[0xE0, 0];
+
+// SUBSCRIBE to `t/#` at QoS 2.
+const SUBSCRIBE: &[u8] = &[0x82, 8, 0, 1, 0, 3, b't', b'/', b'#', 2];
+
+// Whether these bytes are the packets, one behind the other.
+fn is_written(bytes: &[u8], packets: &[&[u8]]) -> bool {
+    let mut rest = bytes;
+    for packet in packets {
+        match rest.strip_prefix(*packet) {
+            Some(behind) => rest = behind,
+            None => return false,
+        }
+    }
+    rest.is_empty()
+}
+
+fn publish(alloc: Global, qos: QoS, servers: &mut Told<'_>) -> Result<(), ClientFault> {
+    let mut publisher = Publisher::new(alloc, "a", "t/1", qos, false, "x")?;
+    publisher.run(servers, 3)
+}
+
+// Whether a publication at this QoS over these connections comes to this: what is written, its end,
+// and how often it rested.
+fn publishes(
+    alloc: Global,
+    qos: QoS,
+    connections: &[Pieces],
+    written: &[&[u8]],
+    ended: Result<(), ClientFault>,
+    rests: u32,
+) -> bool {
+    let log = RefCell::new(Vec::new(alloc));
+    let mut servers = Told {
+        connections,
+        opened: 0,
+        rests: 0,
+        log: &log,
+    };
+    let is_ended = publish(alloc, qos, &mut servers) == ended;
+    let rested = servers.rests == rests;
+    is_ended && rested && is_written(log.into_inner().as_slice(), written)
+}
+
+#[test]
+fn a_publication_is_answered(rt: HostRuntime) {
+    let pieces: &[Pieces] = &[&[CONNACK, PUBREC, PUBCOMP]];
+    let written: &[&[u8]] = &[CONNECT, PUBLISH, PUBREL, DISCONNECT];
+    assert!(rt; publishes(rt.alloc(), QoS::ExactlyOnce, pieces, written, Ok(()), 0));
+    let pieces: &[Pieces] = &[&[CONNACK]];
+    let written: &[&[u8]] = &[CONNECT, PUBLISH_ONCE, DISCONNECT];
+    assert!(rt; publishes(rt.alloc(), QoS::AtMostOnce, pieces, written, Ok(()), 0));
+}
+
+// A connection that is lost before PUBREC, and one on which the server goes on.
+#[test]
+fn a_publication_is_sent_again(rt: HostRuntime) {
+    let pieces: &[Pieces] = &[&[CONNACK], &[SESSION_PRESENT, PUBREC, PUBCOMP]];
+    let written: &[&[u8]] = &[CONNECT, PUBLISH, CONNECT, PUBLISH_AGAIN, PUBREL, DISCONNECT];
+    assert!(rt; publishes(rt.alloc(), QoS::ExactlyOnce, pieces, written, Ok(()), 1));
+}
+
+#[test]
+fn a_publication_is_given_up(rt: HostRuntime) {
+    let lost = Err(ClientFault::Lost);
+    assert!(rt; publishes(rt.alloc(), QoS::AtLeastOnce, &[], &[], lost, 2));
+    let present = Err(ClientFault::SessionPresent);
+    let pieces: &[Pieces] = &[&[SESSION_PRESENT]];
+    assert!(rt; publishes(rt.alloc(), QoS::ExactlyOnce, pieces, &[CONNECT], present, 0));
+    let pieces: &[Pieces] = &[&[CONNACK], &[CONNACK]];
+    let written: &[&[u8]] = &[CONNECT, PUBLISH, CONNECT];
+    assert!(rt; publishes(rt.alloc(), QoS::ExactlyOnce, pieces, written, lost, 1));
+}
+
+fn subscribe(
+    alloc: Global,
+    count: u32,
+    servers: &mut Told<'_>,
+    output: &mut Vec<u8>,
+) -> Result<(), ClientFault> {
+    let mut subscriber = Subscriber::new(alloc, "a", "t/#", QoS::ExactlyOnce, count)?;
+    subscriber.run(servers, output, 2)
+}
+
+// Whether a client that wants so many publications ends well over these connections, and prints and
+// writes this.
+fn hears(
+    alloc: Global,
+    count: u32,
+    connections: &[Pieces],
+    printed: &[u8],
+    written: &[&[u8]],
+) -> bool {
+    let log = RefCell::new(Vec::new(alloc));
+    let mut servers = Told {
+        connections,
+        opened: 0,
+        rests: 0,
+        log: &log,
+    };
+    let mut output = Vec::new(alloc);
+    let ended = subscribe(alloc, count, &mut servers, &mut output);
+    ended == Ok(())
+        && output.as_slice() == printed
+        && is_written(log.into_inner().as_slice(), written)
+}
+
+#[test]
+fn publications_are_printed(rt: HostRuntime) {
+    let pieces: &[Pieces] = &[&[CONNACK, SUBACK, PUBLISH, PUBLISH_ONCE]];
+    let written: &[&[u8]] = &[CONNECT, SUBSCRIBE, PUBREC, DISCONNECT];
+    assert!(rt; hears(rt.alloc(), 2, pieces, b"2 0 t/1 x\n0 0 t/1 x\n", written));
+}
+
+// A subscription may be lost with its connection; one that has brought something is there.
+#[test]
+fn a_subscription_is_asked_for_again(rt: HostRuntime) {
+    let pieces: &[Pieces] = &[&[CONNACK], &[SESSION_PRESENT, PUBLISH_ONCE]];
+    let written: &[&[u8]] = &[CONNECT, SUBSCRIBE, CONNECT, SUBSCRIBE, DISCONNECT];
+    assert!(rt; hears(rt.alloc(), 1, pieces, b"0 0 t/1 x\n", written));
+    let pieces: &[Pieces] = &[&[CONNACK, PUBLISH_ONCE], &[SESSION_PRESENT, PUBLISH_ONCE]];
+    let written: &[&[u8]] = &[CONNECT, SUBSCRIBE, CONNECT, DISCONNECT];
+    assert!(rt; hears(rt.alloc(), 2, pieces, b"0 0 t/1 x\n0 0 t/1 x\n", written));
+}
+
+fn refuses_to_publish(alloc: Global, id: &str, topic: &str, number: u8) -> bool {
+    let refused = Publisher::new(alloc, id, topic, QoS::AtMostOnce, false, "x").err();
+    refused == Some(ClientFault::Refused(number))
+}
+
+fn refuses_to_subscribe(alloc: Global, id: &str, filter: &str, number: u8) -> bool {
+    let refused = Subscriber::new(alloc, id, filter, QoS::AtMostOnce, 1).err();
+    refused == Some(ClientFault::Refused(number))
+}
+
+#[test]
+fn words_are_refused(rt: HostRuntime) {
+    for (id, topic, number) in [("", "t", 6), ("a", "", 8), ("a", "#", 8), ("", "#", 6)] {
+        assert!(rt;
+            refuses_to_publish(rt.alloc(), id, topic, number),
+            "{id}, {topic}"
+        );
+    }
+    for (id, filter, number) in [("", "t", 6), ("a", "", 9), ("a", "#/t", 9)] {
+        assert!(rt;
+            refuses_to_subscribe(rt.alloc(), id, filter, number),
+            "{id}, {filter}"
+        );
+    }
+}
+
+fn is_too_long(alloc: Global, message: &str, qos: QoS) -> bool {
+    let refused = Publisher::new(alloc, "a", "t", qos, false, message).err();
+    refused == Some(ClientFault::Refused(4))
+}
+
+// Two bytes of length, the topic's one byte, and one byte too many.
+#[test]
+fn a_long_message_is_refused(rt: HostRuntime) -> Result<(), Fail> {
+    let bytes = Vec::from_elem(rt.alloc(), b'x', 1_048_570)?;
+    let message = std::str::from_utf8(bytes.as_slice()).map_err(|_| Fail::from("no text"))?;
+    for qos in [QoS::AtMostOnce, QoS::AtLeastOnce] {
+        assert!(rt; is_too_long(rt.alloc(), message, qos));
+    }
+    Ok(())
+}
+
+#[test]
+fn other_bytes_are_printed_by_their_digits(rt: HostRuntime) -> Result<(), Fail> {
+    let mut line = Vec::new(rt.alloc());
+    print_text(&[0x20, 0x21, b'\\', 0x7E, 0x7F, 0xAF, 0], &mut line)?;
+    assert_eq!(rt; line.as_slice(), b"\\x20!\\x5c~\\x7f\\xaf\\x00".as_slice());
+    Ok(())
+}
