@@ -12,6 +12,3 @@ pub use laws::{
     other_answers_change_nothing, resend_keeps_the_order, sessions_keep_their_form,
 };
 pub use publication::Publication;
-
-#[cfg(test)]
-mod tests;

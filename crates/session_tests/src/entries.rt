@@ -1,0 +1,71 @@
+// Entries in flight: their copies, and the laws of a queue.
+
+use packet::{Payload, QoS};
+use session_base::*;
+use std::alloc::Global;
+use topics::TopicName;
+
+fn publication(alloc: Global, payload: &str) -> Option<Publication> {
+    let topic = TopicName::new(alloc, "t/1").ok()?;
+    let payload = Payload::new(alloc, payload.as_bytes()).ok()?;
+    Some(Publication {
+        retain: false,
+        qos: QoS::ExactlyOnce,
+        topic,
+        payload,
+    })
+}
+
+fn has_equal_copy(sent: &Awaits) -> bool {
+    match sent.clone() {
+        Ok(copy) => copy == *sent,
+        Err(_) => false,
+    }
+}
+
+// Whether an entry that waits for PUBREC with a payload is another.
+fn is_no_pubrec(alloc: Global, payload: &str, sent: &Awaits) -> bool {
+    match publication(alloc, payload) {
+        Some(other) => !(Awaits::Pubrec(other) == *sent),
+        None => false,
+    }
+}
+
+// Whether one that waits for PUBACK with a payload is another.
+fn is_no_puback(alloc: Global, payload: &str, sent: &Awaits) -> bool {
+    match publication(alloc, payload) {
+        Some(other) => !(Awaits::Puback(other) == *sent),
+        None => false,
+    }
+}
+
+fn equals_its_copy_alone(alloc: Global, sent: &Awaits) -> bool {
+    has_equal_copy(sent)
+        && is_no_pubrec(alloc, "y", sent)
+        && is_no_puback(alloc, "x", sent)
+        && !(Awaits::Pubcomp == *sent)
+}
+
+fn copies(alloc: Global) -> bool {
+    match publication(alloc, "x") {
+        Some(sent) => equals_its_copy_alone(alloc, &Awaits::Pubrec(sent)),
+        None => false,
+    }
+}
+
+// A copy equals what it was made of, and nothing that differs in a part.
+#[test]
+fn copies_are_equal(rt: HostRuntime) {
+    assert!(rt; copies(rt.alloc()));
+}
+
+// The laws are calls that do nothing.
+#[test]
+fn laws_are_called() {
+    fill_takes_what_waits();
+    fills_join();
+    answers_keep_identifiers_apart();
+    other_answers_change_nothing();
+    resend_keeps_the_order();
+    sessions_keep_their_form();
+}
