@@ -33,17 +33,26 @@ pub(crate) fn fresh(alloc: Global) -> Option<BrokerMachine> {
     BrokerMachine::fresh(alloc).ok()
 }
 
-/// Which event of a row a broker that begins does not answer as wanted, if there is one.
-pub(crate) fn first_fault(alloc: Global, row: &[(Event<'_>, &[Answer<'_>])]) -> Option<usize> {
-    let Some(mut broker) = fresh(alloc) else {
-        return Some(0);
-    };
+/// Which event of a row a broker does not answer as wanted, if there is one.
+pub(crate) fn other_answer(
+    alloc: Global,
+    broker: &mut BrokerMachine,
+    row: &[(Event<'_>, &[Answer<'_>])],
+) -> Option<usize> {
     for (place, (event, wanted)) in row.iter().enumerate() {
-        if !is_answered(alloc, &mut broker, *event, wanted) {
+        if !is_answered(alloc, broker, *event, wanted) {
             return Some(place);
         }
     }
     None
+}
+
+/// Which event of a row a broker that begins does not answer as wanted, if there is one.
+pub(crate) fn first_fault(alloc: Global, row: &[(Event<'_>, &[Answer<'_>])]) -> Option<usize> {
+    match fresh(alloc) {
+        Some(mut broker) => other_answer(alloc, &mut broker, row),
+        None => Some(0),
+    }
 }
 
 /// Whether a broker answers an event as wanted.
@@ -53,24 +62,20 @@ pub(crate) fn is_answered(
     event: Event<'_>,
     wanted: &[Answer<'_>],
 ) -> bool {
-    match answers(alloc, broker, event) {
-        Some(given) => are_wanted(alloc, &given, wanted),
-        None => false,
-    }
+    let mut given = Vec::new(alloc);
+    is_given(alloc, broker, event, &mut given) && are_wanted(alloc, &given, wanted)
 }
 
-/// The answers to an event.
-pub(crate) fn answers(
+/// Appends the answers to an event, and tells whether memory was found.
+pub(crate) fn is_given(
     alloc: Global,
     broker: &mut BrokerMachine,
     event: Event<'_>,
-) -> Option<Vec<Output>> {
-    let command = command_of(alloc, event)?;
-    let mut given = Vec::new(alloc);
-    if is_done(broker, &command, &mut given) {
-        Some(given)
-    } else {
-        None
+    given: &mut Vec<Output>,
+) -> bool {
+    match &command_of(alloc, event) {
+        Some(command) => is_done(broker, command, given),
+        None => false,
     }
 }
 
@@ -87,12 +92,14 @@ pub(crate) fn is_done(
 pub(crate) fn command_of(alloc: Global, event: Event<'_>) -> Option<Command> {
     match event {
         Event::Connect(count, client, clean) => {
+            let name = ConnectionId::new(1, count)?;
             let client = ClientId::new(alloc, client).ok()?;
-            Some(Command::Connect(ConnectionId::new(1, count)?, client, clean))
+            Some(Command::Connect(name, client, clean))
         }
         Event::Bytes(count, bytes) => {
+            let name = ConnectionId::new(1, count)?;
             let packet = packet_of(alloc, bytes)?;
-            Some(Command::Packet(ConnectionId::new(1, count)?, packet))
+            Some(Command::Packet(name, packet))
         }
         Event::Lost(count) => Some(Command::Lost(ConnectionId::new(1, count)?)),
         Event::Start(ballot) => Some(Command::Start(ballot)),

@@ -1,7 +1,7 @@
 // Frozen brokers: each expected byte is written by hand from the description of form 1.
 
 use super::handshakes::{PUBLISH, SUBSCRIBE};
-use crate::row::{Event, fresh, is_answered};
+use crate::row::{Answer, CLOSED, Event, fresh, is_answered, other_answer};
 use broker::BrokerMachine;
 use machine::{Machine, ThawFault};
 use std::alloc::Global;
@@ -48,37 +48,89 @@ fn is_thawed_again(alloc: Global, bytes: &[u8]) -> bool {
     }
 }
 
-#[test]
-fn frozen_forms(rt: HostRuntime) {
-    let alloc = rt.alloc();
-    let mut broker = fresh(alloc).expect(&rt, "memory is left");
-    assert!(rt; has_bytes(alloc, &broker, FRESH));
-    let connect = Event::Connect(1, "a", false);
-    assert!(rt; is_answered(alloc, &mut broker, connect, &[(1, &[0x20, 2, 0, 0])]));
-    assert!(rt; has_bytes(alloc, &broker, ONE_SESSION));
-    let subscribe = Event::Bytes(1, SUBSCRIBE);
-    assert!(rt; is_answered(alloc, &mut broker, subscribe, &[(1, &[0x90, 3, 0, 1, 2])]));
-    let publish = Event::Bytes(1, RETAINED);
-    let wanted = [(1, [0x50, 2, 0, 1].as_slice()), (1, PUBLISH)];
-    assert!(rt; is_answered(alloc, &mut broker, publish, &wanted));
-    assert!(rt; has_bytes(alloc, &broker, ONE_ENTRY));
-    for bytes in [FRESH, ONE_SESSION, ONE_ENTRY] {
-        assert!(rt; is_thawed_again(alloc, bytes));
+/// What comes to a broker, what goes out for it, and the bytes that the broker has then, if they are
+/// asked.
+type Step<'a> = (Event<'a>, &'a [Answer<'a>], Option<&'a [u8]>);
+
+const STEPS: &[Step<'static>] = &[
+    (
+        Event::Connect(1, "a", false),
+        &[(1, &[0x20, 2, 0, 0])],
+        Some(ONE_SESSION),
+    ),
+    (
+        Event::Bytes(1, SUBSCRIBE),
+        &[(1, &[0x90, 3, 0, 1, 2])],
+        None,
+    ),
+    (
+        Event::Bytes(1, RETAINED),
+        &[(1, &[0x50, 2, 0, 1]), (1, PUBLISH)],
+        Some(ONE_ENTRY),
+    ),
+];
+
+fn is_form(alloc: Global, broker: &BrokerMachine, wanted: Option<&[u8]>) -> bool {
+    match wanted {
+        Some(bytes) => has_bytes(alloc, broker, bytes),
+        None => true,
     }
 }
 
-// A thawed broker goes on where the frozen one was: the repeat is known, and the client that comes
-// back is sent its entry again.
+/// Which step leaves a broker with other answers or bytes, if there is one.
+fn other_bytes(alloc: Global, broker: &mut BrokerMachine, steps: &[Step<'_>]) -> Option<usize> {
+    for (place, (event, wanted, bytes)) in steps.iter().enumerate() {
+        if !is_answered(alloc, broker, *event, wanted) || !is_form(alloc, broker, *bytes) {
+            return Some(place);
+        }
+    }
+    None
+}
+
+/// Whether a broker begins with its bytes, and has those of each step behind it.
+fn has_forms(alloc: Global) -> bool {
+    match fresh(alloc) {
+        Some(mut broker) => {
+            has_bytes(alloc, &broker, FRESH) && other_bytes(alloc, &mut broker, STEPS).is_none()
+        }
+        None => false,
+    }
+}
+
+#[test]
+fn frozen_forms(rt: HostRuntime) {
+    assert!(rt; has_forms(rt.alloc()));
+    assert!(rt; is_thawed_again(rt.alloc(), FRESH));
+    assert!(rt; is_thawed_again(rt.alloc(), ONE_SESSION));
+    assert!(rt; is_thawed_again(rt.alloc(), ONE_ENTRY));
+}
+
+// The repeat is known, and the client that comes back is sent its entry again.
+const GOES_ON: &[(Event<'static>, &[Answer<'static>])] = &[
+    (
+        Event::Bytes(1, &[0x3D, 8, 0, 3, 0x74, 0x2F, 0x31, 0, 1, 0x78]),
+        &[(1, &[0x50, 2, 0, 1])],
+    ),
+    (
+        Event::Connect(2, "a", false),
+        &[
+            (1, CLOSED),
+            (2, &[0x20, 2, 1, 0]),
+            (2, &[0x3C, 8, 0, 3, 0x74, 0x2F, 0x31, 0, 1, 0x78]),
+        ],
+    ),
+];
+
+/// Which event of a row the broker that these bytes stand for does not answer as wanted.
+fn thawed_fault(alloc: Global, bytes: &[u8]) -> Option<usize> {
+    match thawed(alloc, bytes) {
+        Ok(mut broker) => other_answer(alloc, &mut broker, GOES_ON),
+        Err(_) => Some(0),
+    }
+}
+
+// A thawed broker goes on where the frozen one was.
 #[test]
 fn a_thawed_broker_goes_on(rt: HostRuntime) {
-    let alloc = rt.alloc();
-    let thawed = thawed(alloc, ONE_ENTRY).ok();
-    let mut broker = thawed.expect(&rt, "memory is left");
-    let again = [0x3D, 8, 0, 3, 0x74, 0x2F, 0x31, 0, 1, 0x78];
-    let repeat = Event::Bytes(1, &again);
-    assert!(rt; is_answered(alloc, &mut broker, repeat, &[(1, &[0x50, 2, 0, 1])]));
-    let entry = [0x3C, 8, 0, 3, 0x74, 0x2F, 0x31, 0, 1, 0x78];
-    let wanted = [(1, [].as_slice()), (2, &[0x20, 2, 1, 0]), (2, &entry)];
-    let connect = Event::Connect(2, "a", false);
-    assert!(rt; is_answered(alloc, &mut broker, connect, &wanted));
+    assert_eq!(rt; thawed_fault(rt.alloc(), ONE_ENTRY), None);
 }

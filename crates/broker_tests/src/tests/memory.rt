@@ -3,7 +3,7 @@
 
 use super::forms::{ONE_ENTRY, ONE_SESSION, RETAINED, is_frozen, thawed};
 use super::handshakes::SUBSCRIBE;
-use crate::row::{Event, answers, command_of, is_done};
+use crate::row::{Event, is_given};
 use broker::BrokerMachine;
 use machine::ThawFault;
 use std::alloc::Global;
@@ -19,13 +19,11 @@ enum Outcome {
 
 /// The client's packet, done behind one output; with memory as many stand there as wanted.
 fn outcome_of(alloc: Global, broker: &mut BrokerMachine, packet: &[u8], wanted: usize) -> Outcome {
-    let Some(command) = command_of(alloc, Event::Bytes(1, packet)) else {
+    let mut out = Vec::new(alloc);
+    if !is_given(alloc, broker, Event::Bytes(1, &[0xC0, 0]), &mut out) {
         return Outcome::NoMemory;
-    };
-    let Some(mut out) = answers(alloc, broker, Event::Bytes(1, &[0xC0, 0])) else {
-        return Outcome::NoMemory;
-    };
-    let is_done = is_done(broker, &command, &mut out);
+    }
+    let is_done = is_given(alloc, broker, Event::Bytes(1, packet), &mut out);
     made_of(is_done, out.len() == if is_done { wanted } else { 1 })
 }
 
@@ -37,28 +35,36 @@ fn made_of(is_done: bool, is_right: bool) -> Outcome {
     }
 }
 
-/// A broker that is thawed, does two commands, and is frozen.
-fn outcome_of_all(alloc: Global, bytes: &mut Vec<u8>) -> Outcome {
-    let mut broker = match thawed(alloc, ONE_SESSION) {
-        Ok(broker) => broker,
-        Err(ThawFault::Memory) => return Outcome::NoMemory,
-        Err(ThawFault::Shape) => return Outcome::Wrong,
-    };
+/// A broker that does two commands and is frozen.
+fn outcome_of_two(alloc: Global, broker: &mut BrokerMachine, bytes: &mut Vec<u8>) -> Outcome {
     for (packet, wanted) in [(SUBSCRIBE, 2), (RETAINED, 3)] {
-        let outcome = outcome_of(alloc, &mut broker, packet, wanted);
+        let outcome = outcome_of(alloc, broker, packet, wanted);
         if outcome != Outcome::Done {
             return outcome;
         }
     }
-    made_of(is_frozen(&broker, bytes), true)
+    made_of(is_frozen(broker, bytes), true)
+}
+
+/// A broker that is thawed, does two commands, and is frozen.
+fn outcome_of_all(alloc: Global, bytes: &mut Vec<u8>) -> Outcome {
+    match thawed(alloc, ONE_SESSION) {
+        Ok(mut broker) => outcome_of_two(alloc, &mut broker, bytes),
+        Err(ThawFault::Memory) => Outcome::NoMemory,
+        Err(ThawFault::Shape) => Outcome::Wrong,
+    }
+}
+
+fn is_whole_or_free(alloc: Global) -> bool {
+    let mut bytes = Vec::new(alloc);
+    match outcome_of_all(alloc, &mut bytes) {
+        Outcome::Done => bytes.as_slice() == ONE_ENTRY,
+        Outcome::NoMemory => bytes.is_empty(),
+        Outcome::Wrong => false,
+    }
 }
 
 #[test]
 fn memory_is_the_one_free_answer(rt: HostRuntime) {
-    let mut bytes = Vec::new(rt.alloc());
-    match outcome_of_all(rt.alloc(), &mut bytes) {
-        Outcome::Done => assert_eq!(rt; bytes.as_slice(), ONE_ENTRY),
-        Outcome::NoMemory => assert_eq!(rt; bytes.as_slice(), [].as_slice()),
-        Outcome::Wrong => assert!(rt; false),
-    }
+    assert!(rt; is_whole_or_free(rt.alloc()));
 }

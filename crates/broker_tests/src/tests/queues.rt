@@ -4,7 +4,6 @@ use super::handshakes::{AGAIN, BEGINS, PUBLISH, SUBSCRIBE};
 use crate::row::{CLOSED, Event, fresh, is_answered};
 use broker::BrokerMachine;
 use std::alloc::Global;
-use std::test::*;
 
 /// CONNACK of a session that goes on.
 pub(crate) const GOES_ON: &[u8] = &[0x20, 2, 1, 0];
@@ -43,16 +42,50 @@ pub(crate) fn is_connected(alloc: Global, broker: &mut BrokerMachine, qos: u8) -
 // order.
 #[test]
 fn a_full_queue_keeps_the_order(rt: HostRuntime) {
-    let alloc = rt.alloc();
-    let mut broker = fresh(alloc).expect(&rt, "memory is left");
-    assert!(rt; is_connected(alloc, &mut broker, 2));
-    assert!(rt; is_answered(alloc, &mut broker, Event::Lost(2), &[]));
-    for _ in 0..4095 {
-        assert!(rt; is_routed(alloc, &mut broker, 9, false));
+    assert!(rt; goes(rt.alloc(), Story::IsFull));
+}
+
+/// What a broker that begins is to go through.
+#[derive(Clone, Copy)]
+pub(crate) enum Story {
+    /// A queue is full, and keeps the order.
+    IsFull,
+    /// A PUBACK frees its identifier.
+    FreesItsIdentifier,
+}
+
+/// Whether a broker that begins goes through a story. It is made here and lent from here.
+pub(crate) fn goes(alloc: Global, story: Story) -> bool {
+    match fresh(alloc) {
+        Some(mut broker) => is_told(alloc, &mut broker, story),
+        None => false,
     }
-    assert!(rt; is_refused_when_full(alloc, &mut broker));
-    assert!(rt; takes_up_again(alloc, &mut broker));
-    assert!(rt; ends_in_order(alloc, &mut broker));
+}
+
+fn is_told(alloc: Global, broker: &mut BrokerMachine, story: Story) -> bool {
+    match story {
+        Story::IsFull => keeps_the_order(alloc, broker),
+        Story::FreesItsIdentifier => super::windows::frees_its_identifier(alloc, broker),
+    }
+}
+
+fn keeps_the_order(alloc: Global, broker: &mut BrokerMachine) -> bool {
+    is_connected(alloc, broker, 2)
+        && is_answered(alloc, broker, Event::Lost(2), &[])
+        && is_filled(alloc, broker)
+        && is_refused_when_full(alloc, broker)
+        && takes_up_again(alloc, broker)
+        && ends_in_order(alloc, broker)
+}
+
+// All places but one are taken.
+fn is_filled(alloc: Global, broker: &mut BrokerMachine) -> bool {
+    for _ in 0..4095 {
+        if !is_routed(alloc, broker, 9, false) {
+            return false;
+        }
+    }
+    true
 }
 
 // The last place is taken, and then there is none.

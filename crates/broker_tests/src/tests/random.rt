@@ -1,6 +1,6 @@
 // A long list of commands by a fixed rule.
 
-use crate::row::{Event, answers, fresh};
+use crate::row::{Event, fresh, is_given};
 use broker::BrokerMachine;
 use machine::Machine;
 use std::alloc::Global;
@@ -56,24 +56,35 @@ fn answer_alike(
     other: &mut BrokerMachine,
     event: Event<'_>,
 ) -> bool {
-    match (answers(alloc, one, event), answers(alloc, other, event)) {
-        (Some(here), Some(there)) => here.as_slice() == there.as_slice(),
-        _ => false,
+    let mut here = Vec::new(alloc);
+    let mut there = Vec::new(alloc);
+    is_given(alloc, one, event, &mut here)
+        && is_given(alloc, other, event, &mut there)
+        && here.as_slice() == there.as_slice()
+}
+
+/// Whether a broker is frozen to these bytes.
+fn has_bytes(alloc: Global, broker: &BrokerMachine, wanted: &[u8]) -> bool {
+    let mut bytes = Vec::new(alloc);
+    broker.freeze(&mut bytes).is_ok() && bytes.as_slice() == wanted
+}
+
+/// Puts the broker that the bytes stand for in the place of one, and tells whether there is such a
+/// broker, which is frozen to the same bytes again.
+fn is_thawed_from(alloc: Global, broker: &mut BrokerMachine, bytes: &[u8]) -> bool {
+    match BrokerMachine::thaw(alloc, bytes) {
+        Ok(thawed) => {
+            *broker = thawed;
+            has_bytes(alloc, broker, bytes)
+        }
+        Err(_) => false,
     }
 }
 
-/// The broker that the frozen one stands for, if it is frozen to the same bytes again.
-fn thawed_again(alloc: Global, broker: &BrokerMachine) -> Option<BrokerMachine> {
+/// Puts the broker that the frozen one stands for in its place, and tells whether there is one.
+fn is_thawed_again(alloc: Global, broker: &mut BrokerMachine) -> bool {
     let mut bytes = Vec::new(alloc);
-    broker.freeze(&mut bytes).ok()?;
-    let thawed = BrokerMachine::thaw(alloc, &bytes).ok()?;
-    let mut again = Vec::new(alloc);
-    thawed.freeze(&mut again).ok()?;
-    if again.as_slice() == bytes.as_slice() {
-        Some(thawed)
-    } else {
-        None
-    }
+    broker.freeze(&mut bytes).is_ok() && is_thawed_from(alloc, broker, bytes.as_slice())
 }
 
 /// What comes as number `count`: mostly a packet of a client on the connection that it opened last.
@@ -95,23 +106,54 @@ fn event_of<'a>(
     }
 }
 
+/// Whether two brokers answer the next command alike, and the second is the one that its form stands
+/// for, if it is frozen then.
+fn is_next_alike(
+    alloc: Global,
+    whole: &mut BrokerMachine,
+    thawed: &mut BrokerMachine,
+    numbers: &mut Numbers,
+    count: u64,
+    last: &mut [u64; 4],
+) -> bool {
+    let packet = packet_of(numbers);
+    let event = event_of(numbers, count, last, &packet);
+    answer_alike(alloc, whole, thawed, event) && (count > FROZEN || is_thawed_again(alloc, thawed))
+}
+
+/// The first command that two brokers answer otherwise.
+fn other_answer(
+    alloc: Global,
+    whole: &mut BrokerMachine,
+    thawed: &mut BrokerMachine,
+) -> Option<u64> {
+    let mut numbers = Numbers { state: 17 };
+    let mut last = [1; 4];
+    for count in 1..=COMMANDS {
+        if !is_next_alike(alloc, whole, thawed, &mut numbers, count, &mut last) {
+            return Some(count);
+        }
+    }
+    None
+}
+
+/// The first command that a broker and one that is frozen and thawed answer otherwise.
+fn first_fault(alloc: Global, whole: &mut BrokerMachine) -> Option<u64> {
+    match fresh(alloc) {
+        Some(mut thawed) => other_answer(alloc, whole, &mut thawed),
+        None => Some(0),
+    }
+}
+
+fn first_difference(alloc: Global) -> Option<u64> {
+    match fresh(alloc) {
+        Some(mut whole) => first_fault(alloc, &mut whole),
+        None => Some(0),
+    }
+}
+
 // A broker that is frozen and thawed behind each of the first commands answers as one that is not.
 #[test]
 fn a_long_list_of_commands(rt: HostRuntime) {
-    let alloc = rt.alloc();
-    let mut numbers = Numbers { state: 17 };
-    let mut last = [1; 4];
-    let mut whole = fresh(alloc).expect(&rt, "memory is left");
-    let mut thawed = fresh(alloc).expect(&rt, "memory is left");
-    for count in 1..=COMMANDS {
-        let packet = packet_of(&mut numbers);
-        let event = event_of(&mut numbers, count, &mut last, &packet);
-        assert!(rt;
-            answer_alike(alloc, &mut whole, &mut thawed, event),
-            "at {count}"
-        );
-        if count <= FROZEN {
-            thawed = thawed_again(alloc, &thawed).expect(&rt, "the form stands for the broker");
-        }
-    }
+    assert_eq!(rt; first_difference(rt.alloc()), None);
 }

@@ -48,31 +48,60 @@ fn is_refused(alloc: Global, bytes: &[u8]) -> bool {
     }
 }
 
-/// The bytes of [`ONE_ENTRY`] with one changed.
-fn changed(alloc: Global, place: usize, byte: u8) -> Option<Vec<u8>> {
+/// Puts another byte at a place of bytes, and tells whether there is such a place.
+fn is_changed(bytes: &mut [u8], place: usize, byte: u8) -> bool {
+    match bytes.get_mut(place) {
+        Some(changed) => {
+            *changed = byte;
+            true
+        }
+        None => false,
+    }
+}
+
+/// Whether the bytes of [`ONE_ENTRY`] with one changed are refused.
+fn is_refused_when_changed(alloc: Global, place: usize, byte: u8) -> bool {
     let mut bytes = Vec::new(alloc);
-    bytes.extend_from_slice(ONE_ENTRY).ok()?;
-    let changed = bytes.get_mut(place)?;
-    *changed = byte;
-    Some(bytes)
+    bytes.extend_from_slice(ONE_ENTRY).is_ok()
+        && is_changed(bytes.as_mut_slice(), place, byte)
+        && is_refused(alloc, bytes.as_slice())
+}
+
+/// The first change, by its place in the list, with which the bytes are not refused.
+fn first_change(alloc: Global, changes: &[(usize, u8)]) -> Option<usize> {
+    for (row, (place, byte)) in changes.iter().enumerate() {
+        if !is_refused_when_changed(alloc, *place, *byte) {
+            return Some(row);
+        }
+    }
+    None
+}
+
+const OTHER_FORMS: &[&[u8]] = &[
+    CLEAN_ALONE,
+    OUT_OF_ORDER,
+    ONE_CONNECTION,
+    &[1, 0, 0, 0, 0, 0],
+];
+
+/// The first of these bytes, by its place in the list, that are not refused.
+fn first_form(alloc: Global, forms: &[&[u8]]) -> Option<usize> {
+    forms.iter().position(|bytes| !is_refused(alloc, bytes))
+}
+
+/// The first length of a front of these bytes that is not refused.
+fn first_front(alloc: Global, bytes: &[u8]) -> Option<usize> {
+    for end in 0..bytes.len() {
+        if !is_refused(alloc, &bytes[..end]) {
+            return Some(end);
+        }
+    }
+    None
 }
 
 #[test]
 fn other_bytes_are_refused(rt: HostRuntime) {
-    let alloc = rt.alloc();
-    for (place, byte) in CHANGES {
-        let bytes = changed(alloc, place, byte).expect(&rt, "memory is left");
-        assert!(rt; is_refused(alloc, &bytes), "at {place}");
-    }
-    for bytes in [
-        CLEAN_ALONE,
-        OUT_OF_ORDER,
-        ONE_CONNECTION,
-        &[1, 0, 0, 0, 0, 0],
-    ] {
-        assert!(rt; is_refused(alloc, bytes));
-    }
-    for end in 0..ONE_ENTRY.len() {
-        assert!(rt; is_refused(alloc, &ONE_ENTRY[..end]), "at {end}");
-    }
+    assert_eq!(rt; first_change(rt.alloc(), &CHANGES), None);
+    assert_eq!(rt; first_form(rt.alloc(), OTHER_FORMS), None);
+    assert_eq!(rt; first_front(rt.alloc(), ONE_ENTRY), None);
 }

@@ -1,25 +1,34 @@
 // The window of sixteen entries (MQTT 4.4, 4.6).
 
-use super::queues::{GOES_ON, is_connected, is_routed, publish};
-use crate::row::{CLOSED, Event, fresh, is_answered};
+use super::queues::{GOES_ON, Story, goes, is_connected, is_routed, publish};
+use crate::row::{CLOSED, Event, is_answered};
 use broker::BrokerMachine;
 use std::alloc::Global;
-use std::test::*;
 
 // Sixteen entries are under way at once. A PUBACK frees its identifier for the entry that waits, and
 // the client that comes back is sent them in the order in which they were sent first, with DUP 1.
 #[test]
 fn puback_frees_its_identifier(rt: HostRuntime) {
-    let alloc = rt.alloc();
-    let mut broker = fresh(alloc).expect(&rt, "memory is left");
-    assert!(rt; is_connected(alloc, &mut broker, 1));
+    assert!(rt; goes(rt.alloc(), Story::FreesItsIdentifier));
+}
+
+// Sixteen of seventeen publications are sent.
+fn are_routed(alloc: Global, broker: &mut BrokerMachine) -> bool {
     for id in 1..=17 {
-        assert!(rt; is_routed(alloc, &mut broker, id, id <= 16), "at {id}");
+        if !is_routed(alloc, broker, id, id <= 16) {
+            return false;
+        }
     }
+    true
+}
+
+pub(crate) fn frees_its_identifier(alloc: Global, broker: &mut BrokerMachine) -> bool {
     let next = publish(0x32, 5, 0x78);
     let puback = Event::Bytes(2, &[0x40, 2, 0, 5]);
-    assert!(rt; is_answered(alloc, &mut broker, puback, &[(2, &next)]));
-    assert!(rt; is_sent_again(alloc, &mut broker));
+    is_connected(alloc, broker, 1)
+        && are_routed(alloc, broker)
+        && is_answered(alloc, broker, puback, &[(2, &next)])
+        && is_sent_again(alloc, broker)
 }
 
 fn is_sent_again(alloc: Global, broker: &mut BrokerMachine) -> bool {
