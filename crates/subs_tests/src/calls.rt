@@ -21,15 +21,20 @@ pub(crate) enum Call<'a> {
     Granted(&'a str, &'a [Grant<'a>]),
 }
 
-/// Which call of a row an index that begins does not answer as wanted, if there is one.
-pub(crate) fn first_fault<I: SubIndex>(alloc: Global, row: &[Call<'_>]) -> Option<usize> {
-    let mut index = I::new(alloc);
+/// Which call of a row an index does not answer as wanted, if there is one.
+fn other_answer<I: SubIndex>(alloc: Global, index: &mut I, row: &[Call<'_>]) -> Option<usize> {
     for (place, call) in row.iter().enumerate() {
-        if !is_answered(alloc, &mut index, *call) {
+        if !is_answered(alloc, index, *call) {
             return Some(place);
         }
     }
     None
+}
+
+/// Which call of a row an index that begins does not answer as wanted, if there is one.
+pub(crate) fn first_fault<I: SubIndex>(alloc: Global, row: &[Call<'_>]) -> Option<usize> {
+    let mut index = I::new(alloc);
+    other_answer(alloc, &mut index, row)
 }
 
 /// Whether the index answers as wanted, and with memory.
@@ -38,10 +43,7 @@ fn is_answered<I: SubIndex>(alloc: Global, index: &mut I, call: Call<'_>) -> boo
         Call::Set(client, filter, qos) => set(alloc, index, client, filter, qos).is_some(),
         Call::Clear(client, filter, found) => clear(alloc, index, client, filter) == Some(found),
         Call::DropClient(client) => drop_client(alloc, index, client).is_some(),
-        Call::Granted(topic, grants) => match granted(alloc, index, topic) {
-            Some(rows) => are_wanted(&rows, grants),
-            None => false,
-        },
+        Call::Granted(topic, grants) => is_granted(alloc, index, topic, grants),
     }
 }
 
@@ -74,15 +76,14 @@ pub(crate) fn drop_client<I: SubIndex>(alloc: Global, index: &mut I, client: &st
     Some(())
 }
 
-pub(crate) fn granted<I: SubIndex>(
-    alloc: Global,
-    index: &I,
-    topic: &str,
-) -> Option<Vec<(ClientId, QoS)>> {
-    let topic = TopicName::new(alloc, topic).ok()?;
+fn is_granted<I: SubIndex>(alloc: Global, index: &I, topic: &str, wanted: &[Grant<'_>]) -> bool {
     let mut rows = Vec::new(alloc);
-    index.granted(&topic, &mut rows).ok()?;
-    Some(rows)
+    match TopicName::new(alloc, topic) {
+        Ok(topic) => {
+            index.granted(&topic, &mut rows).is_ok() && are_wanted(rows.as_slice(), wanted)
+        }
+        Err(_) => false,
+    }
 }
 
 pub(crate) fn are_wanted(rows: &[(ClientId, QoS)], wanted: &[Grant<'_>]) -> bool {

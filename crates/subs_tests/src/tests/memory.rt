@@ -60,16 +60,39 @@ fn is_appended<I: SubIndex>(index: &I, topic: &TopicName, rows: &mut Vec<(Client
         || (rows.len() == before && index.granted(topic, rows).is_ok())
 }
 
-/// What is granted at the topics, one behind the other.
-fn shown<I: SubIndex>(alloc: Global, index: &I) -> Option<Vec<(ClientId, QoS)>> {
-    let mut rows = Vec::new(alloc);
+/// The same of the topic that is spelled so.
+fn is_shown<I: SubIndex>(
+    alloc: Global,
+    index: &I,
+    text: &str,
+    rows: &mut Vec<(ClientId, QoS)>,
+) -> bool {
+    match topic_of(alloc, text) {
+        Some(topic) => is_appended(index, &topic, rows),
+        None => false,
+    }
+}
+
+/// Appends what is granted at the topics, one behind the other.
+fn show<I: SubIndex>(alloc: Global, index: &I, rows: &mut Vec<(ClientId, QoS)>) -> bool {
     for text in &TOPICS {
-        let topic = topic_of(alloc, text)?;
-        if !is_appended(index, &topic, &mut rows) {
-            return None;
+        if !is_shown(alloc, index, text, rows) {
+            return false;
         }
     }
-    Some(rows)
+    true
+}
+
+/// Whether these are granted at the topics.
+fn shows<I: SubIndex>(alloc: Global, index: &I, wanted: &[Grant<'_>]) -> bool {
+    let mut rows = Vec::new(alloc);
+    show(alloc, index, &mut rows) && are_wanted(rows.as_slice(), wanted)
+}
+
+/// Whether as much is granted at the topics as before.
+fn shows_still<I: SubIndex>(alloc: Global, index: &I, before: &[(ClientId, QoS)]) -> bool {
+    let mut rows = Vec::new(alloc);
+    show(alloc, index, &mut rows) && rows.as_slice() == before
 }
 
 /// Sets it. Whether a try without memory left the index as it was, and the next found it.
@@ -80,50 +103,58 @@ fn is_set<I: SubIndex>(
     filter: &Filter,
     qos: QoS,
 ) -> bool {
-    let Some(before) = shown(alloc, index) else {
-        return false;
-    };
-    if index.set(client, filter, qos).is_ok() {
-        return true;
-    }
-    match shown(alloc, index) {
-        Some(after) => after.as_slice() == before.as_slice()
-            && index.set(client, filter, qos).is_ok(),
-        None => false,
+    let mut before = Vec::new(alloc);
+    show(alloc, index, &mut before)
+        && (index.set(client, filter, qos).is_ok()
+            || (shows_still(alloc, index, before.as_slice())
+                && index.set(client, filter, qos).is_ok()))
+}
+
+/// The same of the client and the filter that are spelled so.
+fn is_row_set<I: SubIndex>(
+    alloc: Global,
+    index: &mut I,
+    client: &str,
+    filter: &str,
+    qos: QoS,
+) -> bool {
+    match (&client_of(alloc, client), &filter_of(alloc, filter)) {
+        (Some(client), Some(filter)) => is_set(alloc, index, client, filter, qos),
+        _ => false,
     }
 }
 
 fn all_are_set<I: SubIndex>(alloc: Global, index: &mut I) -> bool {
     for (client, filter, qos) in &SUBSCRIPTIONS {
-        let is_set = match (client_of(alloc, client), filter_of(alloc, filter)) {
-            (Some(client), Some(filter)) => is_set(alloc, index, &client, &filter, *qos),
-            _ => false,
-        };
-        if !is_set {
+        if !is_row_set(alloc, index, client, filter, *qos) {
             return false;
         }
     }
     true
 }
 
-/// What is granted when all is set, and how many rows when both clients are dropped.
-fn shown_in_turn<I: SubIndex>(alloc: Global) -> Option<(Vec<(ClientId, QoS)>, usize)> {
-    let mut index = I::new(alloc);
-    if !all_are_set(alloc, &mut index) {
-        return None;
+fn is_dropped<I: SubIndex>(alloc: Global, index: &mut I, text: &str) -> bool {
+    match client_of(alloc, text) {
+        Some(client) => {
+            index.drop_client(&client);
+            true
+        }
+        None => false,
     }
-    let rows = shown(alloc, &index)?;
-    index.drop_client(&client_of(alloc, "a")?);
-    index.drop_client(&client_of(alloc, "b")?);
-    let left = shown(alloc, &index)?.len();
-    Some((rows, left))
+}
+
+/// Whether it grants what it is to when all is set, and nothing when both clients are dropped.
+fn goes_through<I: SubIndex>(alloc: Global, index: &mut I) -> bool {
+    all_are_set(alloc, index)
+        && shows(alloc, index, &GRANTS)
+        && is_dropped(alloc, index, "a")
+        && is_dropped(alloc, index, "b")
+        && shows(alloc, index, &[])
 }
 
 fn comes_through<I: SubIndex>(alloc: Global) -> bool {
-    match shown_in_turn::<I>(alloc) {
-        Some((rows, left)) => are_wanted(&rows, &GRANTS) && left == 0,
-        None => false,
-    }
+    let mut index = I::new(alloc);
+    goes_through(alloc, &mut index)
 }
 
 #[test]

@@ -56,15 +56,50 @@ fn set_alike(both: &mut Both, client: &ClientId, filter: &Filter, level: u64) ->
 
 /// How many rows both grant alike; none where they differ.
 fn granted_alike(alloc: Global, both: &Both, topic: &str) -> Option<usize> {
-    let topic = TopicName::new(alloc, topic).ok()?;
     let mut list = Vec::new(alloc);
     let mut tree = Vec::new(alloc);
-    both.list.granted(&topic, &mut list).ok()?;
-    both.tree.granted(&topic, &mut tree).ok()?;
-    if list.as_slice() == tree.as_slice() {
-        Some(list.len())
-    } else {
-        None
+    let is_alike = match TopicName::new(alloc, topic) {
+        Ok(topic) => {
+            both.list.granted(&topic, &mut list).is_ok()
+                && both.tree.granted(&topic, &mut tree).is_ok()
+                && list.as_slice() == tree.as_slice()
+        }
+        Err(_) => false,
+    };
+    if is_alike { Some(list.len()) } else { None }
+}
+
+fn drop_alike(both: &mut Both, client: &ClientId) {
+    both.list.drop_client(client);
+    both.tree.drop_client(client);
+}
+
+fn clear_alike(both: &mut Both, client: &ClientId, filter: &Filter) -> bool {
+    both.list.clear(client, filter) == both.tree.clear(client, filter)
+}
+
+fn none_granted(is_alike: bool) -> Option<usize> {
+    if is_alike { Some(0) } else { None }
+}
+
+/// Makes the call of the next number for this client, filter and topic: how many rows were granted,
+/// none where the answers differ.
+fn called_with(
+    alloc: Global,
+    both: &mut Both,
+    numbers: &mut Numbers,
+    client: &ClientId,
+    filter: &Filter,
+    topic: &str,
+) -> Option<usize> {
+    match numbers.next() % 64 {
+        0 => {
+            drop_alike(both, client);
+            Some(0)
+        }
+        1..=23 => none_granted(clear_alike(both, client, filter)),
+        24..=31 => granted_alike(alloc, both, topic),
+        _ => none_granted(set_alike(both, client, filter, numbers.next())),
     }
 }
 
@@ -73,31 +108,35 @@ fn called_alike(alloc: Global, both: &mut Both, numbers: &mut Numbers) -> Option
     let client = ClientId::new(alloc, CLIENTS[(numbers.next() % 8) as usize]).ok()?;
     let filter = Filter::new(alloc, FILTERS[(numbers.next() % 32) as usize]).ok()?;
     let topic = TOPICS[(numbers.next() % 16) as usize];
-    let is_alike = match numbers.next() % 64 {
-        0 => {
-            both.list.drop_client(&client);
-            both.tree.drop_client(&client);
-            true
+    called_with(alloc, both, numbers, &client, &filter, topic)
+}
+
+/// The first call that both do not answer alike. How many rows were granted is added up.
+fn first_difference(alloc: Global, both: &mut Both, rows: &mut usize) -> Option<u32> {
+    let mut numbers = Numbers { state: 23 };
+    for number in 0..CALLS {
+        match called_alike(alloc, both, &mut numbers) {
+            Some(found) => *rows = rows.saturating_add(found),
+            None => return Some(number),
         }
-        1..=23 => both.list.clear(&client, &filter) == both.tree.clear(&client, &filter),
-        24..=31 => return granted_alike(alloc, both, topic),
-        _ => set_alike(both, &client, &filter, numbers.next()),
+    }
+    None
+}
+
+/// The first call that the two indexes do not answer alike, and how many rows were granted.
+fn called_in_turn(alloc: Global) -> (Option<u32>, usize) {
+    let mut rows: usize = 0;
+    let mut both = Both {
+        list: ListIndex::new(alloc),
+        tree: TreeIndex::new(alloc),
     };
-    if is_alike { Some(0) } else { None }
+    let difference = first_difference(alloc, &mut both, &mut rows);
+    (difference, rows)
 }
 
 #[test]
 fn a_long_list_of_calls(rt: HostRuntime) {
-    let mut numbers = Numbers { state: 23 };
-    let mut both = Both {
-        list: ListIndex::new(rt.alloc()),
-        tree: TreeIndex::new(rt.alloc()),
-    };
-    let mut rows: usize = 0;
-    for number in 0..CALLS {
-        let found = called_alike(rt.alloc(), &mut both, &mut numbers);
-        assert!(rt; found.is_some(), "call {number}");
-        rows = rows.saturating_add(found.unwrap_or(0));
-    }
+    let (difference, rows) = called_in_turn(rt.alloc());
+    assert_eq!(rt; difference, None);
     assert!(rt; rows > 5_000);
 }
