@@ -7,8 +7,6 @@ mod naming;
 mod node_state;
 mod running;
 mod service;
-#[cfg(test)]
-mod tests;
 
 pub use ending::Ending;
 pub use naming::NodeNaming;

@@ -3,16 +3,17 @@
 
 ghost use Rattle.std.specs.Prelude.{◌≡◌};
 
-use crate::{Ending, Handed, Item, NodeNaming, NodeState, Piece, Port, run_connection};
-use mailbox::Inbox;
-use node_base::Counted;
+use mailbox::{Inbox, Lane};
+use node::{
+    Config, Counted, Ending, Handed, Item, Members, NodeCore, NodeNaming, NodeState, Piece, Port,
+    run_connection,
+};
 use std::alloc::Global;
 use std::io;
 use std::io::{Read, Write};
 use std::marker::Brand;
 use std::sync::Wait;
 use std::test::Fail;
-use world_base::{Config, Members, NodeCore};
 
 // Client `a`, keep alive 60, CleanSession 0.
 const CONNECT: [u8; 15] = [
@@ -81,50 +82,91 @@ fn sole(alloc: Global) -> Result<NodeCore, Fail> {
     Ok(NodeCore::new(alloc, 1, &config)?)
 }
 
-// Takes what a lane sent, one item at a time: what went out, if nothing is wrong.
-fn answer<J: NodeNaming, R: Wait>(
+// Whether what a lane sends is taken, one item at a time, and the answer goes out.
+fn is_answered<J: NodeNaming, R: Wait>(
     rt: &R,
     alloc: Global,
     inbox: Inbox<Item>,
     core: NodeCore,
-) -> Result<Option<Vec<u8>>, Fail>
+) -> Result<bool, Fail>
     requires inbox { inbox ≡ J.inbox_of 1 }
     requires first { core ≡ J.first_of 1 }
 {
     let (receiver, mut lanes) = inbox.named::<J>(1, 1)?;
     let mut state = NodeState::new(receiver, core);
-    let mut effects = Vec::new(alloc);
-    let mut out = Vec::new(alloc);
-    let Some(mut lane) = lanes.pop() else {
-        return Ok(None);
+    let sent = sends(rt, alloc, lanes.as_mut_slice());
+    Ok(sent && takes_two(rt, alloc, &mut state) && accepts(alloc, &mut state))
+}
+
+// Whether a lane sends that the connection is opened, and its CONNECT.
+fn sends<J: NodeNaming, R: Wait>(rt: &R, alloc: Global, lanes: &mut [Lane<Item, J>]) -> bool {
+    let Some(lane) = lanes.first_mut() else {
+        return false;
     };
-    let piece = Piece::from_slice(alloc, &CONNECT)?;
-    let sent = lane.send(rt, Item::Opened(Port(1), 0)).is_ok()
-        && lane.send(rt, Item::Bytes(Port(1), piece, 0)).is_ok();
+    let Ok(piece) = Piece::from_slice(alloc, &CONNECT) else {
+        return false;
+    };
+    lane.send(rt, Item::Opened(Port(1), 0)).is_ok()
+        && lane.send(rt, Item::Bytes(Port(1), piece, 0)).is_ok()
+}
+
+// Whether two items are taken and no third, and they have no effect on others.
+fn takes_two<J: NodeNaming, R: Wait>(rt: &R, alloc: Global, state: &mut NodeState<J>) -> bool {
+    let mut effects = Vec::new(alloc);
     let taken = state.take_one(rt, &mut effects) && state.take_one(rt, &mut effects);
-    if !sent || !taken || state.take_one(rt, &mut effects) || !effects.is_empty() {
-        return Ok(None);
-    }
-    if state.outgoing(Port(1), &mut out)? != Handed::Open || state.status().held != 1 {
-        return Ok(None);
-    }
-    Ok(Some(out))
+    taken && !state.take_one(rt, &mut effects) && effects.is_empty()
+}
+
+// Whether the connection is open, and is told so.
+fn accepts<J: NodeNaming>(alloc: Global, state: &mut NodeState<J>) -> bool {
+    let mut out = Vec::new(alloc);
+    let is_open = matches!(state.outgoing(Port(1), &mut out), Ok(Handed::Open));
+    is_open && state.status().held == 1 && out.as_slice() == ACCEPTED.as_slice()
 }
 
 #[test]
 fn items_are_taken_in_their_order(rt: HostRuntime) -> Result<(), Fail> {
     let inbox = Inbox::new(rt.alloc())?;
     let core = sole(rt.alloc())?;
-    let out = answer::<Brand, HostRuntime>(&rt, rt.alloc(), inbox, core)?;
-    assert!(rt; out.is_some_and(|bytes| bytes.as_slice() == ACCEPTED.as_slice()));
+    let answered = is_answered::<Brand, HostRuntime>(&rt, rt.alloc(), inbox, core)?;
+    assert!(rt; answered);
     Ok(())
+}
+
+// Which calls of the devices fail, how the connection ends, and how many bytes of the answer are
+// written.
+type Row = (u64, u64, Ending, usize);
+
+// Whether a connection of a node whose devices fail so ends so.
+fn ends_so<R: Wait>(rt: &R, alloc: Global, node: &mut NodeCore, row: &Row) -> bool {
+    let (bad_read, bad_write, ending, count) = *row;
+    let mut input = Counted::new(Source {
+        bytes: &CONNECT,
+        calls: 0,
+        bad_call: bad_read,
+    });
+    let mut output = Counted::new(Sink {
+        bytes: Vec::new(alloc),
+        calls: 0,
+        bad_call: bad_write,
+    });
+    let ended = run_connection(rt, alloc, node, &mut input, &mut output);
+    ended == Ok(ending)
+        && input.faults() == u64::from(ending == Ending::ReadFault)
+        && output.faults() == u64::from(ending == Ending::WriteFault)
+        && begins(output.into_device().bytes.as_slice(), count)
+}
+
+// Whether so many bytes of the answer stand there, from its beginning.
+fn begins(written: &[u8], count: usize) -> bool {
+    written.len() == count && ACCEPTED.starts_with(written)
 }
 
 // Four reads bring the CONNECT and the fifth finds the end; nothing is written but the answer, in
 // two writes. Each turn flushes: the answer's calls are the fifth to the seventh.
 #[test]
 fn each_device_fails_in_turn(rt: HostRuntime) -> Result<(), Fail> {
-    let rows = [
+    let rows: [Row; 8] = [
         (0, 0, Ending::Ended, 4),
         (1, 0, Ending::ReadFault, 0),
         (4, 0, Ending::ReadFault, 0),
@@ -134,25 +176,9 @@ fn each_device_fails_in_turn(rt: HostRuntime) -> Result<(), Fail> {
         (0, 6, Ending::WriteFault, 3),
         (0, 7, Ending::WriteFault, 4),
     ];
-    for (bad_read, bad_write, ending, count) in rows {
+    for row in &rows {
         let mut node = sole(rt.alloc())?;
-        let mut input = Counted::new(Source {
-            bytes: &CONNECT,
-            calls: 0,
-            bad_call: bad_read,
-        });
-        let mut output = Counted::new(Sink {
-            bytes: Vec::new(rt.alloc()),
-            calls: 0,
-            bad_call: bad_write,
-        });
-        let ended = run_connection(&rt, rt.alloc(), &mut node, &mut input, &mut output)?;
-        assert_eq!(rt; ended, ending);
-        assert_eq!(rt; input.faults(), u64::from(ending == Ending::ReadFault));
-        assert_eq!(rt; output.faults(), u64::from(ending == Ending::WriteFault));
-        let written = output.into_device().bytes;
-        assert_eq!(rt; written.len(), count);
-        assert!(rt; ACCEPTED.starts_with(written.as_slice()));
+        assert!(rt; ends_so(&rt, rt.alloc(), &mut node, row), "{row:?}");
         assert_eq!(rt; node.losses(), 0);
     }
     Ok(())
