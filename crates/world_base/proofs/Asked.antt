@@ -27,7 +27,7 @@ right_false true true t = absurd cc
 right_false false b t = absurd cc
 
 -- a proposal stops no replica
-proposed-stopped : (r : ReplicaState State Command) (command : Command) → is_active r.role ≡ true →
+pub proposed-stopped : (r : ReplicaState State Command) (command : Command) → is_active r.role ≡ true →
     (proposed rules r command).state.stopped ≡ r.stopped
 proposed-stopped r command active = by_order (cases_lt (length r.log) most_places)
   where

@@ -1,11 +1,12 @@
 -- Changes.antt: a change of a connection is done at its place, and where there is none nothing changes.
-use Rattle.std.proofs.Common.{◌≡◌, ℕ, Bool, true, Option, Some, None, Result, Ok, Err, List, get_or, set, sym, ap, ◌∙◌}
+use Rattle.std.proofs.Common.{◌≡◌, ℕ, Bool, true, false, Option, Some, None, Result, Ok, Err, List, get_or, set, sym, ap, ◌∙◌}
 use Rattle.std.specs.List.{position}
 use Rattle.std.specs.Result.{is_ok, OnOk}
 use Rattle.broker_model.specs.Connection.{ConnectionName}
 use Rattle.world_base.specs.declared.item.Port.{Port}
 use Rattle.world_base.specs.declared.connection.Connection.{Connection}
 use Rattle.world_base.specs.Connections.{changed, is_open_at, is_open_named}
+use Rattle.world_base.specs.Core.{CoreState}
 use Rattle.world_base.specs.Inside.{Running}
 use Rattle.world_base.specs.Reading.{changes}
 use Rattle.world_base.specs.Turns.{changes_named}
@@ -55,6 +56,41 @@ pub named_nowhere : (name : ConnectionName) (change : Connection → Connection)
     r ≡ record r { core = changes_named name change r.core }
 unfolding changes_named
 named_nowhere name change = nowhere (is_open_named name) change
+
+-- the same of the node alone
+abbrev as_running : CoreState → Running
+as_running core = record { core = core; wanting = false }
+
+pub core_there : (test : Connection → Bool) (change : Connection → Connection) (core : CoreState) (place : Option ℕ) (i : ℕ)
+    (c new : Connection) → place ≡ position test core.connections → place ≡ Some i →
+    c ≡ get_or core.connections i c → new ≡ change c →
+    record core { connections = set core.connections i new } ≡ record core { connections = changed test change core.connections }
+core_there test change core place i c new at is found e =
+    ap (λ (r : Running). r.core) (there test change (as_running core) place i c new at is found e)
+
+pub core_changed : (port : Port) (change : Connection → Connection) (core : CoreState) (place : Option ℕ) (i : ℕ)
+    (c new : Connection) → place ≡ position (is_open_at port) core.connections → place ≡ Some i →
+    c ≡ get_or core.connections i c → new ≡ change c →
+    record core { connections = set core.connections i new } ≡ changes port change core
+core_changed port change core place i c new at is found e =
+    ap (λ (r : Running). r.core) (changed_there port change (as_running core) place i c new at is found e)
+
+pub core_unchanged : (port : Port) (change : Connection → Connection) (core : CoreState) (place : Option ℕ) →
+    place ≡ position (is_open_at port) core.connections → place ≡ None → core ≡ changes port change core
+core_unchanged port change core place at is =
+    ap (λ (r : Running). r.core) (changed_nowhere port change (as_running core) place at is)
+
+pub core_named : (name : ConnectionName) (change : Connection → Connection) (core : CoreState) (place : Option ℕ) (i : ℕ)
+    (c new : Connection) → place ≡ position (is_open_named name) core.connections → place ≡ Some i →
+    c ≡ get_or core.connections i c → new ≡ change c →
+    record core { connections = set core.connections i new } ≡ changes_named name change core
+core_named name change core place i c new at is found e =
+    ap (λ (r : Running). r.core) (named_there name change (as_running core) place i c new at is found e)
+
+pub core_unnamed : (name : ConnectionName) (change : Connection → Connection) (core : CoreState) (place : Option ℕ) →
+    place ≡ position (is_open_named name) core.connections → place ≡ None → core ≡ changes_named name change core
+core_unnamed name change core place at is =
+    ap (λ (r : Running). r.core) (named_nowhere name change (as_running core) place at is)
 
 -- what an answer that is Ok says
 pub ok_holds : {E P : Type 0} (result : Result (Unit {0}) E) → is_ok result ≡ true → OnOk result P → P

@@ -5,7 +5,10 @@ use Rattle.packet.specs.Stop.{Stop}
 use Rattle.packet.specs.Stop.TheVariants as stops
 use Rattle.packet.specs.RefusalCode.{RefusalCode}
 use Rattle.packet.specs.declared.packet.Packet.{Packet}
+use Rattle.packet.specs.declared.packet.Packet.TheVariants as packets
+use Rattle.packet.specs.declared.connect.Connect.{Connect}
 use Rattle.packet.specs.Verdict.{verdict}
+use Rattle.broker_model.specs.Connection.{ConnectionName}
 use Rattle.broker_model.specs.declared.command.Command.{Command}
 use Rattle.broker_model.specs.declared.command.Command.TheVariants as commands
 use Rattle.broker_model.specs.declared.command.Output.{Output}
@@ -51,14 +54,14 @@ changed_not test (d ∷ cs) = by_test (test d) refl (changed_not test cs)
     by_test true e rest = rw e refl
     by_test false e rest = rw e (ap (λ l. d ∷ l) rest)
 
-becomes_same : (port : Port) (core : CoreState) (c new : Connection) (change : Connection → Connection) →
+pub becomes_same : (port : Port) (core : CoreState) (c new : Connection) (change : Connection → Connection) →
     open_at port core ≡ Some c → new ≡ change c → changes port (λ _. new) core ≡ changes port change core
 unfolding changes
 becomes_same port core c new change found is =
     ap (λ (l : List Connection). record core { connections = l })
     (changed_same (is_open_at port) (λ _. new) change core.connections c found is)
 
-becomes_itself : (port : Port) (core : CoreState) (c new : Connection) →
+pub becomes_itself : (port : Port) (core : CoreState) (c new : Connection) →
     open_at port core ≡ Some c → new ≡ c → changes port (λ _. new) core ≡ core
 unfolding changes
 becomes_itself port core c new found is =
@@ -116,6 +119,20 @@ packet_there now port c new packet a b r x y found did is turns =
     (turns_behind a b r x y (changes port (left_with now rest) a.core)
     (λ core. if is_first c.stage then begins port c.name packet core else says port c.name packet core)
     (is ∙ ap (λ (k : CoreState). record a { core = k }) (becomes_same port a.core c new (left_with now rest) found did.3)) turns)
+
+-- a first packet that is no CONNECT
+other_turns : (port : Port) (name : ConnectionName) (packet : Packet) (a b : Running) (x : List (Effect Command Output)) →
+    ((connect : Connect) → packet ≡ packets.Connect connect → ⊥) → b ≡ record a { core = changes port closed a.core } →
+    Turns a b x x (begins port name packet a.core)
+other_turns port name (packets.Connect connect) a b x other shut = absurd (other connect refl)
+other_turns port name _ a b x other shut = turns_quiet a b x (changes port closed a.core) (λ _. shut)
+
+pub turns_other : (awaits : Bool) (port : Port) (name : ConnectionName) (packet : Packet) (a b : Running) (x : List (Effect Command Output)) →
+    awaits ≡ true → ((connect : Connect) → packet ≡ packets.Connect connect → ⊥) → b ≡ record a { core = changes port closed a.core } →
+    Turns a b x x (if awaits then begins port name packet a.core else says port name packet a.core)
+turns_other awaits port name packet a b x is other shut =
+    subst (λ (f : Bool). Turns a b x x (if f then begins port name packet a.core else says port name packet a.core)) (sym is)
+    (other_turns port name packet a b x other shut)
 
 -- a connection that is closed behind a change, and the broker hears that it is lost where it heard of its CONNECT
 abbrev pub Told : Connection → CoreState → Turn

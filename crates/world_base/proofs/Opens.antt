@@ -49,3 +49,17 @@ opened port r name ballot count c all serving free named is b n new added =
     ∙ ap (λ (x : ConnectionName). record r { core = record r.core { last_name = x; connections = r.core.connections ++ fresh port name ∷ [] } })
     (as_name name ballot count b n)
     ∙ ap (λ (x : ConnectionName). record r { core = record r.core { last_name = x; connections = r.core.connections ++ fresh port x ∷ [] } }) is)
+
+-- the same of the node alone
+pub opened_core : (port : Port) (core : CoreState) (name : ConnectionName) (ballot count : ℕ) (c : Connection) (all : List Connection) →
+    serves core ≡ true → list_any (is_at port) core.connections ≡ false →
+    is_connection_name (next_name core) ≡ true → name ≡ next_name core → ballot ≡ name.ballot → count ≡ name.count →
+    c ≡ fresh port name → all ≡ core.connections ++ c ∷ [] →
+    record core { last_name = record { ballot = ballot; count = count }; connections = all } ≡ opens port core
+opened_core port core name ballot count c all serving free named is b n new added =
+    ap (λ (r : Running). r.core)
+    (opened port (record { core = core; wanting = false }) name ballot count c all serving free named is b n new added)
+
+-- there was no memory for it
+pub opened_not : (core : CoreState) (all : List Connection) → all ≡ core.connections → record core { connections = all } ≡ core
+opened_not core all same = ap (λ (l : List Connection). record core { connections = l }) same

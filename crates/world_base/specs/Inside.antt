@@ -1,10 +1,15 @@
 -- What the helpers of a step say of it.
-use Rattle.std.specs.Prelude.{◌≡◌, ℕ, Bool, false, if◌then◌else◌, List, ◌++◌, Result, Ok, Err}
+use Rattle.std.specs.Prelude.{◌≡◌, ℕ, Bool, true, false, if◌then◌else◌, List, [], ◌++◌, Result, Ok, Err}
 use Rattle.broker_base.specs.State.{State}
+use Rattle.broker_model.specs.Connection.{ConnectionName}
 use Rattle.broker_model.specs.declared.command.Command.{Command}
+use Rattle.broker_model.specs.declared.command.Command.TheVariants as commands
 use Rattle.broker_model.specs.declared.command.Output.{Output}
 use Rattle.ballot.specs.Effect.{Effect}
+use Rattle.ballot.specs.Losses.{Done, Steps}
+use Rattle.ballot.specs.Replica.{CountedReplica}
 use Rattle.ballot.specs.Sending.{Outcome}
+use Rattle.ballot.specs.Serving.{added}
 use Rattle.packet.specs.Stop.{Stop}
 use Rattle.packet.specs.Stop.TheVariants as stops
 use Rattle.packet.specs.declared.packet.Packet.{Packet}
@@ -15,7 +20,11 @@ use Rattle.world_base.specs.declared.front.Front.{Front}
 use Rattle.world_base.specs.declared.front.Front.TheVariants as fronts
 use Rattle.world_base.specs.Connections.{is_first, left_with, closed}
 use Rattle.world_base.specs.Reading.{refused}
-use Rattle.world_base.specs.Core.{CoreState, Turn}
+use Rattle.world_base.specs.Core.{CoreState, Turn, rules}
+use Rattle.world_base.specs.declared.item.Port.{Port}
+use Rattle.world_base.specs.LossyStep.{Begins, Says}
+use Rattle.world_base.specs.Lossy.{Account, Declines, Delivers, Proposes, Takes, quietly}
+use Rattle.world_base.specs.Turns.{has_room}
 
 -- a node during a step, and whether memory was wanting in it
 pub record Running : Type 0 where
@@ -43,6 +52,54 @@ Hears old new outcome given = new.wanting ≡ false →
       };
     })
     × (given ≡ outcome.effects)
+
+-- what was done where memory may have been wanting; the messages that were handed out stand behind what was there
+pub record Ran (Did : CoreState → Account → Type 0) (old new : CoreState)
+    (before behind : List (Effect Command Output)) : Type 0 where
+  pub did : Account
+  pub runs : Did old did
+  pub core : new ≡ did.core
+  pub appended : behind ≡ before ++ did.messages
+
+-- the same of what the replica gave
+pub record Delivered (given : List (Effect Command Output)) (old new : CoreState)
+    (before behind : List (Effect Command Output)) : Type 0 where
+  pub messages : List (Effect Command Output)
+  pub delivers : Delivers given old new messages
+  pub appended : behind ≡ before ++ messages
+
+-- a step of the replica alone, or one with losses
+pub record Acts (outcome : Outcome State Command Output) (old new : CoreState)
+    (given : List (Effect Command Output)) : Type 0 where
+  pub replica : CountedReplica State Command
+  pub core : new ≡ record old { replica = replica }
+  pub steps : Steps rules old.replica outcome replica given
+
+-- a command that was put to the replica alone, by its answer
+pub record Took (command : Command) (old new : CoreState) (given : List (Effect Command Output)) : Type 0 where
+  pub room : has_room old ≡ true
+  pub replica : CountedReplica State Command
+  pub core : new ≡ record old { replica = replica }
+  pub done : Done old.replica (added rules old.replica.state command) replica [] given
+
+abbrev pub Answered : Bool → Command → CoreState → CoreState → List (Effect Command Output) → Type 0
+Answered true command old new given = Took command old new given
+Answered false command old new given = Declines old (quietly new) × (given ≡ [])
+
+-- so it is with what it gave
+abbrev pub ProposedBy : Bool → Command → CoreState → Account → Type 0
+ProposedBy true command core did = Takes command core did
+ProposedBy false command core did = Declines core did
+
+-- a packet that was read is the first of its connection, or a later one
+abbrev pub BeginsOrSays : Bool → Port → ConnectionName → Packet → CoreState → Account → Type 0
+BeginsOrSays true port name packet core did = Begins port name packet core did
+BeginsOrSays false port name packet core did = Says port name packet core did
+
+-- a connection that was closed, of which the broker hears where it heard of its CONNECT
+abbrev pub TellsLost : Bool → ConnectionName → CoreState → Account → Type 0
+TellsLost true name core did = Proposes (commands.Lost name) core did
+TellsLost false name core did = did ≡ quietly core
 
 -- a fault of the bytes
 abbrev pub IsFault : Result (Packet × List ℕ) Stop → Type 0

@@ -1,10 +1,13 @@
 pub mod Connections
 pub mod Core
 pub mod Failing
+pub mod Going
 pub mod Handing
 pub mod Inside
 pub mod KeepAlive
 pub mod Losses
+pub mod Lossy
+pub mod LossyStep
 pub mod Reading
 pub mod Step
 pub mod Turns

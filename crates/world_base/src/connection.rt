@@ -33,6 +33,22 @@ pub enum Stage {
     Failed,
 }
 
+impl Stage {
+    /// Whether the first packet of the connection is awaited.
+    pub fn is_first(self) -> bool
+        ensures { result ≡ is_first self }
+    {
+        self == Stage::Awaits
+    }
+
+    /// Whether the CONNECT of the connection became a command, and it is open.
+    pub fn is_proposed(self) -> bool
+        ensures { result ≡ is_proposed self }
+    {
+        self == Stage::Proposed
+    }
+}
+
 /// A connection of a node. It stays listed until all that was put out for it was handed over.
 #[derive(Drop)]
 pub struct Connection {
@@ -102,14 +118,14 @@ impl Connection {
     pub fn is_first(&self) -> bool
         ensures { result ≡ is_first self.now.stage }
     {
-        self.stage == Stage::Awaits
+        self.stage.is_first()
     }
 
     /// Whether its CONNECT became a command, and it is open.
     pub fn is_proposed(&self) -> bool
         ensures { result ≡ is_proposed self.now.stage }
     {
-        self.stage == Stage::Proposed
+        self.stage.is_proposed()
     }
 
     /// Whether it is open, and no packet came whole for more than one and a half times of its keep alive

@@ -4,7 +4,8 @@ ghost use Rattle.std.specs.Prelude.{◌≡◌, ◌<◌, ◌-◌, ◌^◌, false,
 ghost use Rattle.ballot.specs.Protocol.Input.{Receives, Ticks};
 ghost use Rattle.ballot.specs.Serving.{proposed};
 ghost use Rattle.world_base.specs.Core.{rules, serves};
-ghost use Rattle.world_base.specs.Inside.{Does, Hears, Turns};
+ghost use Rattle.world_base.specs.Inside.{Acts, Answered, Delivered, Does, Hears, ProposedBy, Ran, Turns};
+ghost use Rattle.world_base.specs.Lossy.{Drives, Serves};
 ghost use Rattle.world_base.specs.Turns.{delivered, drives, has_room, heard, proposes, served_by};
 
 use crate::serving::Serving;
@@ -16,6 +17,8 @@ impl Serving {
     pub fn propose(&mut self, command: Command, effects: &mut Vec<Effect<Command, Output>>) -> bool
         ensures turns { Turns self.old self.new effects.old.items effects.new.items
             (proposes command self.old.core) }
+        ensures run { Ran (ProposedBy result command) self.old.core self.new.core
+            effects.old.items effects.new.items }
         ensures taken { self.new.wanting ≡ false → result ≡ has_room self.old.core }
     {
         if !self.serves() {
@@ -33,6 +36,7 @@ impl Serving {
         requires empty { given.old.items ≡ [] }
         ensures hears { Hears self.old self.new
             (proposed rules self.old.core.replica.state command) given.new.items }
+        ensures answered { Answered result command self.old.core self.new.core given.new.items }
         ensures taken { self.new.wanting ≡ false → result ≡ has_room self.old.core }
     {
         let before = self.replica.losses();
@@ -43,8 +47,10 @@ impl Serving {
 
     /// Takes a message of another node and does what it gives at once.
     pub fn receive(&mut self, message: Message<Command>, effects: &mut Vec<Effect<Command, Output>>)
-        ensures { Turns self.old self.new effects.old.items effects.new.items
+        ensures turns { Turns self.old self.new effects.old.items effects.new.items
             (drives (Receives message) self.old.core) }
+        ensures run { Ran (Drives (Receives message)) self.old.core self.new.core
+            effects.old.items effects.new.items }
     {
         let mut given = Vec::new(self.alloc);
         self.hear(message, &mut given);
@@ -54,8 +60,10 @@ impl Serving {
     // The replica alone takes a message.
     fn hear(&mut self, message: Message<Command>, given: &mut Vec<Effect<Command, Output>>)
         requires { given.old.items ≡ [] }
-        ensures { Hears self.old self.new
+        ensures hears { Hears self.old self.new
             (heard (Receives message) self.old.core.replica.state) given.new.items }
+        ensures acts { Acts (heard (Receives message) self.old.core.replica.state)
+            self.old.core self.new.core given.new.items }
     {
         let before = self.replica.losses();
         // A replica that stops counts a loss, and one that has stopped does nothing.
@@ -65,8 +73,9 @@ impl Serving {
 
     /// The replica says again what others may have missed.
     pub fn tick(&mut self, effects: &mut Vec<Effect<Command, Output>>)
-        ensures { Turns self.old self.new effects.old.items effects.new.items
+        ensures turns { Turns self.old self.new effects.old.items effects.new.items
             (drives Ticks self.old.core) }
+        ensures run { Ran (Drives Ticks) self.old.core self.new.core effects.old.items effects.new.items }
     {
         let mut given = Vec::new(self.alloc);
         self.say_again(&mut given);
@@ -76,8 +85,10 @@ impl Serving {
     // The replica alone has a tick.
     fn say_again(&mut self, given: &mut Vec<Effect<Command, Output>>)
         requires { given.old.items ≡ [] }
-        ensures { Hears self.old self.new
+        ensures hears { Hears self.old self.new
             (heard Ticks self.old.core.replica.state) given.new.items }
+        ensures acts { Acts (heard Ticks self.old.core.replica.state)
+            self.old.core self.new.core given.new.items }
     {
         let before = self.replica.losses();
         self.replica.tick(given);
@@ -104,8 +115,10 @@ impl Serving {
         given: Vec<Effect<Command, Output>>,
         effects: &mut Vec<Effect<Command, Output>>,
     )
-        ensures { Turns self.old self.new effects.old.items effects.new.items
+        ensures turns { Turns self.old self.new effects.old.items effects.new.items
             (delivered given.items self.old.core) }
+        ensures run { Delivered given.items self.old.core self.new.core
+            effects.old.items effects.new.items }
     {
         for effect in given {
             self.handle(effect, effects);
@@ -118,8 +131,10 @@ impl Serving {
         effect: Effect<Command, Output>,
         effects: &mut Vec<Effect<Command, Output>>,
     )
-        ensures { Turns self.old self.new effects.old.items effects.new.items
+        ensures turns { Turns self.old self.new effects.old.items effects.new.items
             (delivered (effect ∷ []) self.old.core) }
+        ensures run { Delivered (effect ∷ []) self.old.core self.new.core
+            effects.old.items effects.new.items }
     {
         match effect {
             Effect::Out(_, output) => self.serve(&output),
@@ -133,7 +148,8 @@ impl Serving {
 
     // Does an output on its connection.
     fn serve(&mut self, output: &Output)
-        ensures { Does self.old self.new (served_by output.now self.old.core) }
+        ensures does { Does self.old self.new (served_by output.now self.old.core) }
+        ensures run { Serves output.now self.old.core self.new.core }
     {
         match output {
             Output::Send(name, packet) => self.put(*name, packet),

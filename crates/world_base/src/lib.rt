@@ -8,6 +8,7 @@ mod front;
 mod handed;
 mod handing;
 mod item;
+mod laws;
 mod listing;
 mod node_core;
 mod piece;
@@ -19,5 +20,6 @@ pub use ballot::{Body, Config, Effect, Members, Memory, Message, OpeningError, S
 pub use broker_model::{Command, ConnectionId, Output};
 pub use handed::Handed;
 pub use item::{Item, Port};
+pub use laws::{a_gap_is_closed, proposals_are_steps};
 pub use node_core::NodeCore;
 pub use piece::Piece;

@@ -1,6 +1,6 @@
 // The list of a node's connections as a whole.
 
-ghost use Rattle.std.specs.Prelude.{◌≡◌, true, [], ◌∷◌, ◌++◌, map, filter, OnErr, OnOk};
+ghost use Rattle.std.specs.Prelude.{◌≡◌, false, true, [], ◌∷◌, ◌++◌, map, filter, OnErr, OnOk};
 ghost use Rattle.std.specs.List.{list_any};
 ghost use Rattle.world_base.specs.Connections.{closed, is_at, is_listed};
 ghost use Rattle.lists.specs.Lists.{IsPrefixOf};
@@ -59,7 +59,8 @@ pub fn push_idle(connections: &[Connection], ports: &mut Vec<Port>) -> Result<()
 
 /// Adds a connection at the end: whether there was memory.
 pub fn push(connections: &mut Vec<Connection>, connection: Connection) -> bool
-    ensures { result ≡ true → connections.new.items ≡ connections.old.items ++ connection ∷ [] }
+    ensures ok { result ≡ true → connections.new.items ≡ connections.old.items ++ connection ∷ [] }
+    ensures same { result ≡ false → connections.new.items ≡ connections.old.items }
 {
     connections.push(connection).is_ok()
 }

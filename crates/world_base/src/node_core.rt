@@ -1,7 +1,8 @@
 // A replica with its connections.
 
-ghost use Rattle.std.specs.Prelude.{◌≡◌, ◌≤◌, ◌↔◌, ◌++◌, false, IfOk, IsErrOf, OnErr, OnOk};
+ghost use Rattle.std.specs.Prelude.{◌≡◌, ◌≤◌, ◌↔◌, ◌++◌, false, if◌then◌else◌, IfOk, IsErrOf, OnErr, OnOk};
 ghost use Rattle.ballot.specs.LawfulConfig.{is_lawful};
+ghost use Rattle.ballot.specs.Losses.{one_more};
 ghost use Rattle.ballot.specs.Replica.{status_of};
 ghost use Rattle.world_base.specs.Core.{opening_core};
 ghost use Rattle.lists.specs.Lists.{IsPrefixOf};
@@ -64,15 +65,13 @@ impl NodeCore {
 
     /// Takes an item in and appends the messages to other nodes that follow from it. Where memory
     /// is wanting a connection is closed or not accepted, or a message is lost, and the step is
-    /// counted.
+    /// counted; each connection that stays open has all that was put out for it.
     pub fn step(&mut self, item: Item, effects: &mut Vec<Effect<Command, Output>>)
         ensures { Stepped self.old item self.new effects.old.items effects.new.items }
     {
         self.serving.begin_step();
         self.serving.act_on(item, effects);
-        if self.serving.is_wanting() {
-            self.losses = self.losses.saturating_add(1);
-        }
+        self.losses = counted(self.losses, self.serving.is_wanting());
         self.serving.settle();
     }
 
@@ -103,5 +102,16 @@ impl NodeCore {
         ensures err { OnErr result (IsPrefixOf ports.old.items ports.new.items) }
     {
         self.serving.idle_ports(ports)
+    }
+}
+
+// The count of steps in which memory was wanting, behind one more step.
+fn counted(losses: u64, wanting: bool) -> u64
+    ensures { result ≡ (if wanting then one_more losses else losses) }
+{
+    if wanting {
+        losses.saturating_add(1)
+    } else {
+        losses
     }
 }

@@ -1,11 +1,11 @@
 // A node during a step.
 
-ghost use Rattle.std.specs.Prelude.{◌≡◌, ◌≤◌, ◌^◌, ◌↔◌, false, true, length, IfOk, IfSome, OnSome, IfNone, IsErrOf};
+ghost use Rattle.std.specs.Prelude.{◌≡◌, ◌⊎◌, ◌≤◌, ◌^◌, ◌↔◌, false, true, length, IfOk, IfSome, OnSome, IfNone, IsErrOf};
 ghost use Rattle.std.specs.List.{position};
 ghost use Rattle.broker_model.specs.Connection.{is_connection_name};
 ghost use Rattle.ballot.specs.LawfulConfig.{is_lawful};
 ghost use Rattle.ballot.specs.Replica.{status_of};
-ghost use Rattle.world_base.specs.Connections.{asked, closed, has_failed, holding, is_open_at, is_open_named, put_out};
+ghost use Rattle.world_base.specs.Connections.{asked, closed, failing, has_failed, holding, is_open_at, is_open_named, put_out};
 ghost use Rattle.world_base.specs.Core.{opening_core, serves};
 ghost use Rattle.world_base.specs.Inside.{Does};
 ghost use Rattle.world_base.specs.KeepAlive.{lowest_silent};
@@ -163,7 +163,9 @@ impl Serving {
     /// Closes the open connection of a port, whose proposal was refused: where memory was wanting the
     /// broker is still to hear that it is lost.
     pub fn give_up(&mut self, port: Port)
-        ensures { Does self.old self.new (changes port closed self.old.core) }
+        ensures does { Does self.old self.new (changes port closed self.old.core) }
+        ensures run { (self.new.core ≡ changes port closed self.old.core)
+            ⊎ (self.new.core ≡ changes port failing self.old.core) }
     {
         if !self.wanting {
             return self.close(port);
@@ -209,8 +211,10 @@ impl Serving {
     /// Puts a packet out on the open connection of a name, which is closed as lost where there is no room or no
     /// memory for it.
     pub fn put(&mut self, name: ConnectionId, packet: &Packet)
-        ensures { Does self.old self.new
+        ensures does { Does self.old self.new
             (changes_named name (put_out (spelling packet.now)) self.old.core) }
+        ensures run { (self.new.core ≡ changes_named name (put_out (spelling packet.now)) self.old.core)
+            ⊎ (self.new.core ≡ changes_named name failing self.old.core) }
     {
         if let Some(index) = self.place_of(name) {
             let whole = self.connections[index].put_or_fail(packet);
@@ -243,7 +247,9 @@ impl Serving {
 
     /// Accepts a connection.
     pub fn open(&mut self, port: Port)
-        ensures { Does self.old self.new (opens port self.old.core) }
+        ensures does { Does self.old self.new (opens port self.old.core) }
+        ensures run { (self.new.core ≡ opens port self.old.core)
+            ⊎ (self.new.core ≡ self.old.core) }
     {
         if !self.serves() {
             return;

@@ -4,7 +4,9 @@ ghost use Rattle.std.specs.Prelude.{◌≡◌, false, if◌then◌else◌};
 ghost use Rattle.broker_model.specs.declared.command.Command.TheVariants as commands;
 ghost use Rattle.broker_model.specs.Sized.{IsSized};
 ghost use Rattle.world_base.specs.Connections.{holding, is_first, is_proposed};
-ghost use Rattle.world_base.specs.Inside.{Turns};
+ghost use Rattle.world_base.specs.Inside.{BeginsOrSays, Ran, TellsLost, Turns};
+ghost use Rattle.world_base.specs.Lossy.{quietly};
+ghost use Rattle.world_base.specs.LossyStep.{ActsOn, Connects, Ends, EndsAllSilent, Holds, LosesAllFailed, LosesFailed, ReadsAll, ReadsNext, Says, TakesIn};
 ghost use Rattle.world_base.specs.Failing.{loses_all_failed, loses_failed};
 ghost use Rattle.world_base.specs.KeepAlive.{ends_all_silent};
 ghost use Rattle.world_base.specs.Reading.{asks, begins, changes, ends, reads_all, reads_next, says};
@@ -24,8 +26,9 @@ impl Serving {
     /// Takes an item in, and has the broker hear of each connection that fails in it. Whether memory was
     /// wanting is told by `is_wanting`.
     pub fn act_on(&mut self, item: Item, effects: &mut Vec<Effect<Command, Output>>)
-        ensures { Turns self.old self.new effects.old.items effects.new.items
+        ensures turns { Turns self.old self.new effects.old.items effects.new.items
             (acts_on item self.old.core) }
+        ensures run { Ran (ActsOn item) self.old.core self.new.core effects.old.items effects.new.items }
     {
         self.take_in(item, effects);
         self.lose_failed(effects);
@@ -33,8 +36,9 @@ impl Serving {
 
     // Takes an item in.
     fn take_in(&mut self, item: Item, effects: &mut Vec<Effect<Command, Output>>)
-        ensures { Turns self.old self.new effects.old.items effects.new.items
+        ensures turns { Turns self.old self.new effects.old.items effects.new.items
             (takes_in item self.old.core) }
+        ensures run { Ran (TakesIn item) self.old.core self.new.core effects.old.items effects.new.items }
     {
         match item {
             Item::Peer(message) => self.receive(message, effects),
@@ -54,8 +58,9 @@ impl Serving {
 
     // Closes the silent connections as lost, in rising order of ports.
     fn end_silent(&mut self, now: u64, effects: &mut Vec<Effect<Command, Output>>)
-        ensures { Turns self.old self.new effects.old.items effects.new.items
+        ensures turns { Turns self.old self.new effects.old.items effects.new.items
             (ends_all_silent now self.old.core) }
+        ensures run { Ran (EndsAllSilent now) self.old.core self.new.core effects.old.items effects.new.items }
     {
         for _connection in 0..self.listed() {
             let Some(port) = self.lowest_silent(now) else {
@@ -67,8 +72,9 @@ impl Serving {
 
     // Holds bytes that came on a port. A connection that finds no memory for them is lost.
     fn hold(&mut self, port: Port, piece: Piece, effects: &mut Vec<Effect<Command, Output>>)
-        ensures { Turns self.old self.new effects.old.items effects.new.items
+        ensures turns { Turns self.old self.new effects.old.items effects.new.items
             (quiet (changes port (holding piece) self.old.core)) }
+        ensures run { Ran (Holds port piece) self.old.core self.new.core effects.old.items effects.new.items }
     {
         if !self.add(port, &piece) {
             self.wanting = true;
@@ -78,8 +84,9 @@ impl Serving {
 
     // Takes all packets of a port in turn that are whole at this time.
     fn read(&mut self, port: Port, now: u64, effects: &mut Vec<Effect<Command, Output>>)
-        ensures { Turns self.old self.new effects.old.items effects.new.items
+        ensures turns { Turns self.old self.new effects.old.items effects.new.items
             (reads_all now port self.old.core) }
+        ensures run { Ran (ReadsAll now port) self.old.core self.new.core effects.old.items effects.new.items }
     {
         for _packet in 0..self.held(port) {
             if !self.read_next(port, now, effects) {
@@ -97,8 +104,10 @@ impl Serving {
     ) -> bool
         ensures turns { Turns self.old self.new effects.old.items effects.new.items
             (reads_next now port self.old.core) }
+        ensures run { Ran (ReadsNext now port) self.old.core self.new.core effects.old.items effects.new.items }
         ensures done { result ≡ false → self.new.wanting ≡ false →
             reads_next now port self.new.core ≡ quiet self.new.core }
+        ensures idle { result ≡ false → ReadsNext now port self.new.core (quietly self.new.core) }
     {
         let Some(index) = self.place_at(port) else {
             return false;
@@ -128,12 +137,14 @@ impl Serving {
         effects: &mut Vec<Effect<Command, Output>>,
     )
         requires sized { IsSized packet }
-        ensures { Turns self.old self.new effects.old.items effects.new.items
+        ensures turns { Turns self.old self.new effects.old.items effects.new.items
             (if is_first stage
             then begins port name packet self.old.core
             else says port name packet self.old.core) }
+        ensures run { Ran (BeginsOrSays (is_first stage) port name packet)
+            self.old.core self.new.core effects.old.items effects.new.items }
     {
-        if stage != Stage::Awaits {
+        if !stage.is_first() {
             return self.say(port, name, packet, effects);
         }
         match packet {
@@ -153,8 +164,9 @@ impl Serving {
         connect: Connect,
         effects: &mut Vec<Effect<Command, Output>>,
     )
-        ensures { Turns self.old self.new effects.old.items effects.new.items
+        ensures turns { Turns self.old self.new effects.old.items effects.new.items
             (asks port name connect self.old.core) }
+        ensures run { Ran (Connects port name connect) self.old.core self.new.core effects.old.items effects.new.items }
     {
         let command = Command::Connect(name, connect.client, connect.clean);
         if !self.propose(command, effects) {
@@ -171,8 +183,9 @@ impl Serving {
         effects: &mut Vec<Effect<Command, Output>>,
     )
         requires sized { IsSized packet }
-        ensures { Turns self.old self.new effects.old.items effects.new.items
+        ensures turns { Turns self.old self.new effects.old.items effects.new.items
             (says port name packet self.old.core) }
+        ensures run { Ran (Says port name packet) self.old.core self.new.core effects.old.items effects.new.items }
     {
         let Ok(packet) = SizedPacket::new(packet) else {
             unreachable!()
@@ -184,20 +197,23 @@ impl Serving {
 
     // The broker hears that a connection is lost, where it heard of its CONNECT.
     fn lose(&mut self, name: ConnectionId, stage: Stage, effects: &mut Vec<Effect<Command, Output>>)
-        ensures { Turns self.old self.new effects.old.items effects.new.items
+        ensures turns { Turns self.old self.new effects.old.items effects.new.items
             (if is_proposed stage
             then proposes (commands.Lost name) self.old.core
             else quiet self.old.core) }
+        ensures run { Ran (TellsLost (is_proposed stage) name) self.old.core self.new.core
+            effects.old.items effects.new.items }
     {
-        if stage == Stage::Proposed {
+        if stage.is_proposed() {
             self.propose(Command::Lost(name), effects);
         }
     }
 
     // Closes the connection of a port as lost.
     fn end(&mut self, port: Port, effects: &mut Vec<Effect<Command, Output>>)
-        ensures { Turns self.old self.new effects.old.items effects.new.items
+        ensures turns { Turns self.old self.new effects.old.items effects.new.items
             (ends port self.old.core) }
+        ensures run { Ran (Ends port) self.old.core self.new.core effects.old.items effects.new.items }
     {
         let Some(index) = self.place_at(port) else {
             return;
@@ -214,8 +230,9 @@ impl Serving {
     // Has the broker hear of each connection that failed. What it then puts out may close others, of which it
     // hears too.
     fn lose_failed(&mut self, effects: &mut Vec<Effect<Command, Output>>)
-        ensures { Turns self.old self.new effects.old.items effects.new.items
+        ensures turns { Turns self.old self.new effects.old.items effects.new.items
             (loses_all_failed self.old.core) }
+        ensures run { Ran LosesAllFailed self.old.core self.new.core effects.old.items effects.new.items }
     {
         for _connection in 0..self.listed() {
             if !self.lose_one_failed(effects) {
@@ -228,7 +245,9 @@ impl Serving {
     fn lose_one_failed(&mut self, effects: &mut Vec<Effect<Command, Output>>) -> bool
         ensures turns { Turns self.old self.new effects.old.items effects.new.items
             (loses_failed self.old.core) }
+        ensures run { Ran LosesFailed self.old.core self.new.core effects.old.items effects.new.items }
         ensures done { result ≡ false → loses_failed self.new.core ≡ quiet self.new.core }
+        ensures idle { result ≡ false → LosesFailed self.new.core (quietly self.new.core) }
     {
         let Some(index) = self.place_failed() else {
             return false;

@@ -1,0 +1,54 @@
+-- Delivering.antt: what the replica gave was done one by one, where memory may have been wanting.
+use Rattle.std.proofs.Common.{◌≡◌, ℕ, Bool, true, false, if◌then◌else◌, List, [], ◌∷◌, ◌++◌, append_assoc, refl, sym, ap, ◌∙◌}
+use Rattle.std.proofs.lemmas.List.{append-nil}
+use Rattle.broker_model.specs.declared.command.Command.{Command}
+use Rattle.broker_model.specs.declared.command.Output.{Output}
+use Rattle.ballot.specs.Effect.{Effect}
+use Rattle.ballot.specs.Effect.TheVariants.{To, Out}
+use Rattle.ballot.specs.Message.{Message}
+use Rattle.world_base.specs.Core.{CoreState}
+use Rattle.world_base.specs.Inside.{Delivered}
+use Rattle.world_base.specs.Lossy.{Delivers, Serves}
+use Rattle.world_base.specs.Lossy.Delivers.{nothing, does, tells, loses}
+
+delivers_both : (xs ys : List (Effect Command Output)) (a b c : CoreState) (m n : List (Effect Command Output)) →
+    Delivers xs a b m → Delivers ys b c n → Delivers (xs ++ ys) a c (m ++ n)
+delivers_both _ ys _ _ c _ n nothing behind = behind
+delivers_both _ ys _ _ c _ n (does served more) behind = does served (delivers_both _ ys _ _ c _ n more behind)
+delivers_both _ ys _ _ c _ n (tells more) behind = tells (delivers_both _ ys _ _ c _ n more behind)
+delivers_both _ ys _ _ c _ n (loses more) behind = loses (delivers_both _ ys _ _ c _ n more behind)
+
+-- where nothing was given nothing is done
+pub delivers_nothing : (given : List (Effect Command Output)) (a b : CoreState) (messages : List (Effect Command Output)) →
+    Delivers given a b messages → given ≡ [] → (b ≡ a) × (messages ≡ [])
+delivers_nothing _ _ _ _ nothing none = (refl, refl)
+delivers_nothing _ _ _ _ (does served more) none = absurd cc
+delivers_nothing _ _ _ _ (tells more) none = absurd cc
+delivers_nothing _ _ _ _ (loses more) none = absurd cc
+
+-- ---- what the code did
+
+pub delivered_none : (core : CoreState) (x : List (Effect Command Output)) → Delivered [] core core x x
+delivered_none core x = record { messages = []; delivers = nothing; appended = sym (append-nil x) }
+
+pub delivered_push : (a b c : CoreState) (x y z given : List (Effect Command Output)) (e : Effect Command Output) →
+    Delivered given a b x y → Delivered (e ∷ []) b c y z → Delivered (given ++ e ∷ []) a c x z
+delivered_push a b c x y z given e one two =
+    record {
+      messages = one.messages ++ two.messages;
+      delivers = delivers_both given (e ∷ []) a b c one.messages two.messages one.delivers two.delivers;
+      appended = two.appended ∙ ap (λ (l : List (Effect Command Output)). l ++ two.messages) one.appended
+          ∙ append_assoc x one.messages two.messages;
+    }
+
+pub delivered_output : (place : ℕ) (output : Output) (a b : CoreState) (x : List (Effect Command Output)) → Serves output a b →
+    Delivered (Out place output ∷ []) a b x x
+delivered_output place output a b x served =
+    record { messages = []; delivers = does served nothing; appended = sym (append-nil x) }
+
+pub delivered_message : (receiver : ℕ) (message : Message Command) (sent : Bool) (a : CoreState) (x y : List (Effect Command Output)) →
+    y ≡ (if sent then x ++ To receiver message ∷ [] else x) → Delivered (To receiver message ∷ []) a a x y
+delivered_message receiver message true a x y pushed =
+    record { messages = To receiver message ∷ []; delivers = tells nothing; appended = pushed }
+delivered_message receiver message false a x y same =
+    record { messages = []; delivers = loses nothing; appended = same ∙ sym (append-nil x) }

@@ -1,0 +1,123 @@
+-- EndsRun.antt: how connections end and what is asked for them, where memory may have been wanting.
+use Rattle.std.proofs.Common.{◌≡◌, ◌⊎◌, inl, inr, ℕ, Bool, true, false, List, Some, None, refl, sym, ap, subst, ◌∙◌}
+use Rattle.std.specs.List.{find}
+use Rattle.broker_model.specs.Connection.{ConnectionName}
+use Rattle.broker_model.specs.declared.command.Command.{Command}
+use Rattle.broker_model.specs.declared.command.Command.TheVariants as commands
+use Rattle.broker_model.specs.declared.command.Output.{Output}
+use Rattle.ballot.specs.Effect.{Effect}
+use Rattle.world_base.specs.declared.item.Port.{Port}
+use Rattle.world_base.specs.declared.connection.Connection.{Connection}
+use Rattle.world_base.specs.Connections.{closed, failing, has_failed, holding, is_proposed}
+use Rattle.world_base.specs.Core.{CoreState}
+use Rattle.world_base.specs.Failing.{closes_failed}
+use Rattle.world_base.specs.Inside.{ProposedBy, Ran, Running, TellsLost}
+use Rattle.world_base.specs.KeepAlive.{lowest_silent}
+use Rattle.world_base.specs.Lossy.{Account, Declines, Then, quietly}
+use Rattle.world_base.specs.LossyStep.{Asks, Ends, EndsSilent, Holds, LosesFailed, Shuts}
+use Rattle.world_base.specs.LossyStep.Ends.{none_open, untold, told}
+use Rattle.world_base.specs.LossyStep.EndsSilent.{none_silent, ends_one}
+use Rattle.world_base.specs.LossyStep.LosesFailed.{none_failed, tells_one}
+use Rattle.world_base.specs.Reading.{changes, open_at}
+use Rattle.world_base.proofs.Accounts.{ran_as, ran_quietly, ran_then}
+use Rattle.world_base.proofs.Answering.{as_proposes}
+
+-- the core of a node that became another
+pub core_of : (a b : Running) → a ≡ b → a.core ≡ b.core
+core_of a b e = ap (λ (r : Running). r.core) e
+
+-- ---- a connection of a port ends
+
+pub ran_none_open : (port : Port) (core : CoreState) (x : List (Effect Command Output)) → open_at port core ≡ None → Ran (Ends port) core core x x
+ran_none_open port core x e = ran_quietly (Ends port) core core x (none_open e refl)
+
+pub ran_untold : (port : Port) (c : Connection) (a b : CoreState) (x : List (Effect Command Output)) → open_at port a ≡ Some c →
+    is_proposed c.stage ≡ false → b ≡ changes port closed a → Ran (Ends port) a b x x
+ran_untold port c a b x found other shut = ran_quietly (Ends port) a b x (untold c found other (ap quietly shut))
+
+pub ran_told : (port : Port) (c : Connection) (a b r : CoreState) (taken : Bool) (x y : List (Effect Command Output)) →
+    open_at port a ≡ Some c → is_proposed c.stage ≡ true → b ≡ changes port closed a →
+    Ran (ProposedBy taken (commands.Lost c.name)) b r x y → Ran (Ends port) a r x y
+ran_told port c a b r taken x y found heard shut ran =
+    ran_as (ProposedBy taken (commands.Lost c.name)) (Ends port) a b r x y
+    (λ did runs. told c found heard (as_proposes taken (commands.Lost c.name) (changes port closed a) did
+    (subst (λ (k : CoreState). ProposedBy taken (commands.Lost c.name) k did) shut runs))) ran
+
+-- the broker hears of it where it heard of its CONNECT
+pub ran_tells : (heard taken : Bool) (name : ConnectionName) (a b : CoreState) (x y : List (Effect Command Output)) → heard ≡ true →
+    Ran (ProposedBy taken (commands.Lost name)) a b x y → Ran (TellsLost heard name) a b x y
+ran_tells heard taken name a b x y is ran =
+    subst (λ (t : Bool). Ran (TellsLost t name) a b x y) (sym is)
+    (ran_as (ProposedBy taken (commands.Lost name)) (TellsLost true name) a a b x y (as_proposes taken (commands.Lost name) a) ran)
+
+pub ran_tells_not : (heard : Bool) (name : ConnectionName) (a : CoreState) (x : List (Effect Command Output)) → heard ≡ false →
+    Ran (TellsLost heard name) a a x x
+ran_tells_not heard name a x is =
+    subst (λ (t : Bool). Ran (TellsLost t name) a a x x) (sym is) (ran_quietly (TellsLost false name) a a x refl)
+
+pub ran_lost : (port : Port) (c : Connection) (a b r : CoreState) (x y : List (Effect Command Output)) → open_at port a ≡ Some c →
+    b ≡ changes port closed a → Ran (TellsLost (is_proposed c.stage) c.name) b r x y → Ran (Ends port) a r x y
+ran_lost port c a b r x y found shut ran = by (is_proposed c.stage) refl ran
+  where
+    by : (p : Bool) → is_proposed c.stage ≡ p → Ran (TellsLost p c.name) b r x y → Ran (Ends port) a r x y
+    by true e tells =
+        ran_as (TellsLost true c.name) (Ends port) a b r x y
+        (λ did runs. told c found e (subst (λ (k : CoreState). TellsLost true c.name k did) shut runs)) tells
+    by false e tells =
+        ran_as (TellsLost false c.name) (Ends port) a b r x y (λ did runs. untold c found e (runs ∙ ap quietly shut)) tells
+
+-- ---- silent and failed ones
+
+pub ran_silent : (now : ℕ) (port : Port) (a b : CoreState) (x y : List (Effect Command Output)) →
+    lowest_silent now a.connections ≡ Some port → Ran (Ends port) a b x y → Ran (EndsSilent now) a b x y
+ran_silent now port a b x y found ran = ran_as (Ends port) (EndsSilent now) a a b x y (λ did runs. ends_one port found runs) ran
+
+pub ran_none_failed : (core : CoreState) (x : List (Effect Command Output)) → find has_failed core.connections ≡ None →
+    Ran LosesFailed core core x x
+ran_none_failed core x e = ran_quietly LosesFailed core core x (none_failed e refl)
+
+pub idle_failed : (core : CoreState) → find has_failed core.connections ≡ None → LosesFailed core (quietly core)
+idle_failed core e = none_failed e refl
+
+pub idle_silent : (now : ℕ) (core : CoreState) → lowest_silent now core.connections ≡ None → EndsSilent now core (quietly core)
+idle_silent now core e = none_silent e refl
+
+pub ran_failed : (c : Connection) (a b r : CoreState) (taken : Bool) (x y : List (Effect Command Output)) →
+    find has_failed a.connections ≡ Some c → b ≡ closes_failed a → Ran (ProposedBy taken (commands.Lost c.name)) b r x y →
+    Ran LosesFailed a r x y
+ran_failed c a b r taken x y found shut ran =
+    ran_as (ProposedBy taken (commands.Lost c.name)) LosesFailed a b r x y
+    (λ did runs. tells_one c found (as_proposes taken (commands.Lost c.name) (closes_failed a) did
+    (subst (λ (k : CoreState). ProposedBy taken (commands.Lost c.name) k did) shut runs))) ran
+
+-- ---- a command is taken, or else something is done
+
+pub ran_asked : (taken : Bool) (command : Command) (Otherwise : CoreState → Account → Type 0) (a b : CoreState)
+    (x y : List (Effect Command Output)) → taken ≡ true → Ran (ProposedBy taken command) a b x y → Ran (Asks command Otherwise) a b x y
+ran_asked taken command Otherwise a b x y is ran =
+    ran_as (ProposedBy true command) (Asks command Otherwise) a a b x y (λ did runs. inl runs)
+    (subst (λ (t : Bool). Ran (ProposedBy t command) a b x y) is ran)
+
+pub ran_otherwise : (taken : Bool) (command : Command) (Otherwise : CoreState → Account → Type 0) (a b c : CoreState)
+    (x y : List (Effect Command Output)) → taken ≡ false → Ran (ProposedBy taken command) a b x y → Otherwise b (quietly c) →
+    Ran (Asks command Otherwise) a c x y
+ran_otherwise taken command Otherwise a b c x y is ran other =
+    ran_as (Then Declines Otherwise) (Asks command Otherwise) a a c x y (λ did runs. inr runs)
+    (ran_then Declines Otherwise a b c x y y (subst (λ (t : Bool). Ran (ProposedBy t command) a b x y) is ran)
+    (ran_quietly Otherwise b c y other))
+
+-- a connection was closed, or closed as lost
+pub shuts_by : (port : Port) (a b : CoreState) → (b ≡ changes port closed a) ⊎ (b ≡ changes port failing a) → Shuts port a (quietly b)
+shuts_by port a b (inl e) = inl (ap quietly e)
+shuts_by port a b (inr e) = inr (ap quietly e)
+
+-- ---- bytes that came
+
+pub ran_held : (port : Port) (piece : List ℕ) (a b : CoreState) (x : List (Effect Command Output)) → b ≡ changes port (holding piece) a →
+    Ran (Holds port piece) a b x x
+ran_held port piece a b x e = ran_quietly (Holds port piece) a b x (inl (ap quietly e))
+
+pub ran_not_held : (port : Port) (piece : List ℕ) (a b r : CoreState) (x y : List (Effect Command Output)) → b ≡ a →
+    Ran (Ends port) b r x y → Ran (Holds port piece) a r x y
+ran_not_held port piece a b r x y same ran =
+    ran_as (Ends port) (Holds port piece) a b r x y (λ did runs. inr (subst (λ (k : CoreState). Ends port k did) same runs)) ran

@@ -1,0 +1,142 @@
+-- FrontsRun.antt: what is done by what the unread bytes of a connection begin with, where memory may have been wanting.
+use Rattle.std.proofs.Common.{◌≡◌, ℕ, Bool, true, false, if◌then◌else◌, List, Some, None, ◌⊎◌, inl, inr, refl, sym, ap, subst, ◌∙◌}
+use Rattle.packet.specs.RefusalCode.{RefusalCode}
+use Rattle.packet.specs.declared.packet.Packet.{Packet}
+use Rattle.packet.specs.declared.packet.Packet.TheVariants as packets
+use Rattle.packet.specs.declared.connect.Connect.{Connect}
+use Rattle.broker_model.specs.Connection.{ConnectionName}
+use Rattle.broker_model.specs.declared.command.Command.{Command}
+use Rattle.broker_model.specs.declared.command.Output.{Output}
+use Rattle.ballot.specs.Effect.{Effect}
+use Rattle.world_base.specs.declared.item.Port.{Port}
+use Rattle.world_base.specs.declared.front.Front.{Front}
+use Rattle.world_base.specs.declared.front.Front.TheVariants as fronts
+use Rattle.world_base.specs.declared.connection.Stage.{Stage}
+use Rattle.world_base.specs.declared.connection.Stage.TheVariants.{Awaits, Proposed, Over, Failed}
+use Rattle.world_base.specs.declared.connection.Connection.{Connection}
+use Rattle.world_base.specs.Connections.{asked, closed, is_first, is_proposed, left_with}
+use Rattle.world_base.specs.Core.{CoreState}
+use Rattle.world_base.specs.Inside.{BeginsOrSays, Ran, TakesFront, TellsLost}
+use Rattle.world_base.specs.Lossy.{quietly}
+use Rattle.world_base.specs.LossyStep.{Begins, Connects, Ends, ReadsNext, Says}
+use Rattle.world_base.specs.LossyStep.Ends.{none_open}
+use Rattle.world_base.specs.LossyStep.ReadsNext.{waits, first, later, refuses, ends}
+use Rattle.world_base.specs.Reading.{changes, open_at, refused}
+use Rattle.world_base.proofs.Accounts.{ran_as, ran_quietly}
+use Rattle.world_base.proofs.EndsRun.{ran_lost, ran_none_open}
+use Rattle.world_base.proofs.Fronts.{becomes_itself, becomes_same}
+
+-- a connection ends
+ends_there : (now : ℕ) (port : Port) (a r : CoreState) (x y : List (Effect Command Output)) → Ran (Ends port) a r x y →
+    Ran (ReadsNext now port) a r x y
+ends_there now port a r x y ran = ran_as (Ends port) (ReadsNext now port) a a r x y (λ did runs. ends runs) ran
+
+pub ran_nothing_open : (now : ℕ) (port : Port) (core : CoreState) (x : List (Effect Command Output)) → open_at port core ≡ None →
+    Ran (ReadsNext now port) core core x x
+ran_nothing_open now port core x e = ends_there now port core core x x (ran_none_open port core x e)
+
+-- less than a packet
+pub ran_waits : (now : ℕ) (port : Port) (c new : Connection) (a b : CoreState) (x : List (Effect Command Output)) →
+    open_at port a ≡ Some c → TakesFront now c fronts.More new → b ≡ changes port (λ _. new) a → Ran (ReadsNext now port) a b x x
+ran_waits now port c new a b x found did is =
+    ran_quietly (ReadsNext now port) a b x (waits c found did.0 (ap quietly (is ∙ becomes_itself port a c new found did.1)))
+
+-- a packet
+pub ran_packet : (now : ℕ) (port : Port) (c new : Connection) (packet : Packet) (a b r : CoreState) (x y : List (Effect Command Output)) →
+    open_at port a ≡ Some c → TakesFront now c (fronts.Packet packet) new → b ≡ changes port (λ _. new) a →
+    Ran (BeginsOrSays (is_first c.stage) port c.name packet) b r x y → Ran (ReadsNext now port) a r x y
+ran_packet now port c new packet a b r x y found did is ran = by (is_first c.stage) refl ran
+  where
+    left : b ≡ changes port (left_with now did.0) a
+    left = is ∙ becomes_same port a c new (left_with now did.0) found did.3
+
+    by : (f : Bool) → is_first c.stage ≡ f → Ran (BeginsOrSays f port c.name packet) b r x y →
+        Ran (ReadsNext now port) a r x y
+    by true e begun =
+        ran_as (BeginsOrSays true port c.name packet) (ReadsNext now port) a b r x y
+        (λ done runs. first c packet did.0 found e did.1 (subst (λ (k : CoreState). Begins port c.name packet k done) left runs)) begun
+    by false e said =
+        ran_as (BeginsOrSays false port c.name packet) (ReadsNext now port) a b r x y
+        (λ done runs. later c packet did.0 found e did.1 (subst (λ (k : CoreState). Says port c.name packet k done) left runs)) said
+
+-- it is the first of its connection
+pub ran_later : (awaits : Bool) (port : Port) (name : ConnectionName) (packet : Packet) (a b : CoreState) (x y : List (Effect Command Output)) →
+    awaits ≡ false → Ran (Says port name packet) a b x y → Ran (BeginsOrSays awaits port name packet) a b x y
+ran_later awaits port name packet a b x y is ran =
+    subst (λ (f : Bool). Ran (BeginsOrSays f port name packet) a b x y) (sym is)
+    (ran_as (Says port name packet) (BeginsOrSays false port name packet) a a b x y (λ did runs. runs) ran)
+
+pub ran_connects : (awaits : Bool) (port : Port) (name : ConnectionName) (connect : Connect) (packet : Packet) (a b r : CoreState)
+    (x y : List (Effect Command Output)) → awaits ≡ true → packet ≡ packets.Connect connect →
+    b ≡ changes port (asked connect.keep_alive) a → Ran (Connects port name connect) b r x y →
+    Ran (BeginsOrSays awaits port name packet) a r x y
+ran_connects awaits port name connect packet a b r x y is connects left ran =
+    subst (λ (f : Bool). Ran (BeginsOrSays f port name packet) a r x y) (sym is)
+    (subst (λ (p : Packet). Ran (BeginsOrSays true port name p) a r x y) (sym connects)
+    (ran_as (Connects port name connect) (BeginsOrSays true port name (packets.Connect connect)) a b r x y
+    (λ did runs. subst (λ (k : CoreState). Connects port name connect k did) left runs) ran))
+
+other_begins : (port : Port) (name : ConnectionName) (packet : Packet) (a b : CoreState) →
+    ((connect : Connect) → packet ≡ packets.Connect connect → ⊥) → b ≡ changes port closed a → Begins port name packet a (quietly b)
+other_begins port name (packets.Connect connect) a b other shut = absurd (other connect refl)
+other_begins port name _ a b other shut = ap quietly shut
+
+pub ran_other : (awaits : Bool) (port : Port) (name : ConnectionName) (packet : Packet) (a b : CoreState)
+    (x : List (Effect Command Output)) → awaits ≡ true → ((connect : Connect) → packet ≡ packets.Connect connect → ⊥) →
+    b ≡ changes port closed a → Ran (BeginsOrSays awaits port name packet) a b x x
+ran_other awaits port name packet a b x is other shut =
+    subst (λ (f : Bool). Ran (BeginsOrSays f port name packet) a b x x) (sym is)
+    (ran_quietly (BeginsOrSays true port name packet) a b x (other_begins port name packet a b other shut))
+
+-- ---- no packet, or no memory
+
+closed_there : (now : ℕ) (port : Port) (c new : Connection) (a b r : CoreState) (x y : List (Effect Command Output)) →
+    open_at port a ≡ Some c → new ≡ closed c → b ≡ changes port (λ _. new) a →
+    Ran (TellsLost (is_proposed c.stage) c.name) b r x y → Ran (ReadsNext now port) a r x y
+closed_there now port c new a b r x y found shut is ran =
+    ends_there now port a r x y (ran_lost port c a b r x y found (is ∙ becomes_same port a c new closed found shut) ran)
+
+first_not_proposed : (stage : Stage) → is_first stage ≡ true → is_proposed stage ≡ false
+first_not_proposed Awaits e = refl
+first_not_proposed Proposed e = absurd cc
+first_not_proposed Over e = absurd cc
+first_not_proposed Failed e = absurd cc
+
+refused_there : (now : ℕ) (port : Port) (c new : Connection) (code : RefusalCode) (a b r : CoreState) (x y : List (Effect Command Output)) →
+    open_at port a ≡ Some c → TakesFront now c (fronts.Refused code) new → b ≡ changes port (λ _. new) a →
+    Ran (TellsLost (is_proposed c.stage) c.name) b r x y → Ran (ReadsNext now port) a r x y
+refused_there now port c new code a b r x y found did is ran = by (is_first c.stage) refl did.1
+  where
+    by : (f : Bool) → is_first c.stage ≡ f → new ≡ (if f then refused code c else closed c) → Ran (ReadsNext now port) a r x y
+    by true e answered =
+        ran_as (TellsLost false c.name) (ReadsNext now port) a b r x y
+        (λ done runs. refuses c code found e did.0 (runs ∙ ap quietly (is ∙ becomes_same port a c new (refused code) found answered)))
+        (subst (λ (p : Bool). Ran (TellsLost p c.name) b r x y) (first_not_proposed c.stage e) ran)
+    by false e shut = closed_there now port c new a b r x y found shut is ran
+
+pub ran_gone : (now : ℕ) (port : Port) (c new : Connection) (front : Front) (a b r : CoreState) (x y : List (Effect Command Output)) →
+    open_at port a ≡ Some c → TakesFront now c front new →
+    ((code : RefusalCode) × (front ≡ fronts.Refused code)) ⊎ (front ≡ fronts.Fault) → b ≡ changes port (λ _. new) a →
+    Ran (TellsLost (is_proposed c.stage) c.name) b r x y → Ran (ReadsNext now port) a r x y
+ran_gone now port c new front a b r x y found did (inl (code, e)) is ran =
+    refused_there now port c new code a b r x y found (subst (λ (f : Front). TakesFront now c f new) e did) is ran
+ran_gone now port c new front a b r x y found did (inr e) is ran =
+    closed_there now port c new a b r x y found (subst (λ (f : Front). TakesFront now c f new) e did).1 is ran
+
+pub ran_wanting : (now : ℕ) (port : Port) (c new : Connection) (a b r : CoreState) (x y : List (Effect Command Output)) →
+    open_at port a ≡ Some c → TakesFront now c fronts.Wanting new → b ≡ changes port (λ _. new) a →
+    Ran (TellsLost (is_proposed c.stage) c.name) b r x y → Ran (ReadsNext now port) a r x y
+ran_wanting now port c new a b r x y found did is ran = closed_there now port c new a b r x y found did is ran
+
+-- where no whole packet stands at the front, the next time nothing is done either
+pub idle_open : (now : ℕ) (port : Port) (core : CoreState) → open_at port core ≡ None → ReadsNext now port core (quietly core)
+idle_open now port core e = ends (ends_none e)
+  where
+    ends_none : open_at port core ≡ None → Ends port core (quietly core)
+    ends_none none = none_open none refl
+
+pub idle_waits : (now : ℕ) (port : Port) (c new : Connection) (a b : CoreState) → open_at port a ≡ Some c →
+    TakesFront now c fronts.More new → b ≡ changes port (λ _. new) a → ReadsNext now port b (quietly b)
+idle_waits now port c new a b found did is =
+    subst (λ (k : CoreState). ReadsNext now port k (quietly k)) (sym (is ∙ becomes_itself port a c new found did.1))
+    (waits c found did.0 refl)

@@ -1,0 +1,267 @@
+-- GapsClosed.antt: in a step where memory may be wanting each connection goes on, and one with a gap is closed.
+use Rattle.std.proofs.Common.{◌≡◌, ◌⊎◌, inl, inr, ℕ, zero, suc, Bool, true, false, not, ◌&&◌, if◌then◌else◌, List, [], ◌∷◌, ◌++◌, length, refl, sym, ap, subst, ◌∙◌}
+use Rattle.std.proofs.lemmas.List.{append-nil}
+use Rattle.std.specs.List.{list_any}
+use Rattle.packet.specs.declared.packet.Packet.{Packet}
+use Rattle.packet.specs.declared.packet.Packet.TheVariants as packets
+use Rattle.packet.specs.RefusalCode.{RefusalCode}
+use Rattle.packet.specs.declared.connack.Connack.TheVariants as connacks
+use Rattle.packet.specs.Spelling.{spelling}
+use Rattle.broker_base.specs.State.{State}
+use Rattle.broker_model.specs.Connection.{ConnectionName, is_connection_name}
+use Rattle.broker_model.specs.declared.command.Command.{Command}
+use Rattle.broker_model.specs.declared.command.Command.TheVariants as commands
+use Rattle.broker_model.specs.declared.command.Output.{Output}
+use Rattle.ballot.specs.Protocol.{Input}
+use Rattle.ballot.specs.Protocol.Input.{Receives, Ticks}
+use Rattle.ballot.specs.Sending.{Outcome}
+use Rattle.world_base.specs.declared.item.Port.{Port}
+use Rattle.world_base.specs.declared.item.Item.{Item}
+use Rattle.world_base.specs.declared.item.Item.TheVariants.{Peer, Tick, Opened, Bytes, Ended, Crash}
+use Rattle.world_base.specs.declared.connection.Connection.{Connection}
+use Rattle.world_base.specs.Connections.{asked, closed, failing, fresh, has_failed, holding, is_at, is_open_at, is_over, left_with}
+use Rattle.world_base.specs.Core.{CoreState, serves}
+use Rattle.world_base.specs.Failing.{closes_failed}
+use Rattle.world_base.specs.Going.{AGapIsClosed, AreNamedApart, EachGoesOn, GoOn, GoesOn, IsNew}
+use Rattle.world_base.specs.Lossy.{Account, Declines, Drives, Moves, Proposes, Repeated, Takes, Then, quietly}
+use Rattle.world_base.specs.Lossy.Declines.{no_room, forgets, stops}
+use Rattle.world_base.specs.LossyStep.{ActsOn, Asks, Begins, Closes, Ends, EndsSilent, Holds, LosesFailed, Opens, ReadsNext, Shuts, TakesIn}
+use Rattle.world_base.specs.LossyStep.Ends.{none_open, untold, told}
+use Rattle.world_base.specs.LossyStep.EndsSilent.{none_silent, ends_one}
+use Rattle.world_base.specs.LossyStep.LosesFailed.{none_failed, tells_one}
+use Rattle.world_base.specs.LossyStep.ReadsNext.{waits, first, later, refuses, ends}
+use Rattle.world_base.specs.Reading.{changes, open_at, refused, unread_of}
+use Rattle.world_base.specs.Step.{next_name, opens}
+use Rattle.world_base.proofs.ConnectionsGoOn.{apart_on, changed_on, delivers_on, each_both, each_itself, goes_closed, goes_failing, goes_over, goes_still}
+
+-- each connection goes on in what was done
+abbrev Goes : CoreState → Account → Type 0
+Goes core did = AreNamedApart core.connections → EachGoesOn did.given core.connections did.core.connections
+
+quietly_on : (core new : CoreState) (did : Account) → did ≡ quietly new → EachGoesOn [] core.connections new.connections → Goes core did
+quietly_on core new did is on apart =
+    subst (λ (d : Account). EachGoesOn d.given core.connections d.core.connections) (sym is) on
+
+-- behind a change in which the replica gave nothing
+behind_on : (core mid : CoreState) (did : Account) → EachGoesOn [] core.connections mid.connections → Goes mid did → Goes core did
+behind_on core mid did on more apart =
+    each_both [] did.given core.connections mid.connections did.core.connections on
+    (more (apart_on [] core.connections mid.connections on apart))
+
+then_on : (P Q : CoreState → Account → Type 0) → ((k : CoreState) (d : Account) → P k d → Goes k d) →
+    ((k : CoreState) (d : Account) → Q k d → Goes k d) → (core : CoreState) (did : Account) → Then P Q core did → Goes core did
+then_on P Q p q core did t apart =
+    let one = p core t.one t.first apart in
+    subst (λ (d : Account). EachGoesOn d.given core.connections d.core.connections) (sym t.is)
+    (each_both t.one.given t.two.given core.connections t.one.core.connections t.two.core.connections one
+    (q t.one.core t.two t.next (apart_on t.one.given core.connections t.one.core.connections one apart)))
+
+repeated_on : (n : ℕ) (Next : CoreState → Account → Type 0) → ((k : CoreState) (d : Account) → Next k d → Goes k d) →
+    (core : CoreState) (did : Account) → Repeated n Next core did → Goes core did
+repeated_on zero Next on core did none = quietly_on core core did none (each_itself core.connections)
+repeated_on (suc n) Next on core did done = then_on Next (Repeated n Next) on (repeated_on n Next on) core did done
+
+-- ---- changes of the open connection of a port
+
+was_open : (over at : Bool) → (not over && at) ≡ true → over ≡ false
+was_open true at e = absurd cc
+was_open false at e = refl
+
+changes_on : (port : Port) (f : Connection → Connection) (core : CoreState) → ((c : Connection) → is_over c.stage ≡ false → GoesOn [] c (f c)) →
+    EachGoesOn [] core.connections (changes port f core).connections
+unfolding changes
+changes_on port f core on =
+    changed_on (is_open_at port) f (λ c at. on c (was_open (is_over c.stage) (is_at port c) at)) core.connections
+
+closes_on : (port : Port) (core : CoreState) → EachGoesOn [] core.connections (changes port closed core).connections
+closes_on port core = changes_on port closed core (λ c stays. goes_closed [] c)
+
+refused_on : (code : RefusalCode) (c : Connection) → GoesOn [] c (refused code c)
+refused_on code c =
+    goes_over [] c (refused code c) refl refl refl
+    (record { rest = spelling (packets.Connack (connacks.Refused code)); is = refl })
+
+asked_on : (keep_alive : ℕ) (c : Connection) → is_over c.stage ≡ false → GoesOn [] c (asked keep_alive c)
+asked_on keep_alive c stays = goes_still c (asked keep_alive c) refl refl refl (λ over. absurd (both over))
+  where
+    both : is_over c.stage ≡ true → ⊥
+    both over = absurd cc
+
+-- ---- what comes to the replica
+
+moves_on : (outcome : Outcome State Command Output) (core : CoreState) (did : Account) → Moves outcome core did → Goes core did
+moves_on outcome core did m apart = delivers_on did.given (record core { replica = m.replica }) did.core did.messages m.delivers apart
+
+takes_on : (command : Command) (core : CoreState) (did : Account) → Takes command core did → Goes core did
+takes_on command core did t apart = delivers_on did.given (record core { replica = t.replica }) did.core did.messages t.delivers apart
+
+declines_on : (core : CoreState) (did : Account) → Declines core did → Goes core did
+declines_on core did (no_room full is) = quietly_on core _ did is (each_itself core.connections)
+declines_on core did (forgets room is) = quietly_on core _ did is (each_itself core.connections)
+declines_on core did (stops room is) = quietly_on core _ did is (each_itself core.connections)
+
+proposes_on : (command : Command) (core : CoreState) (did : Account) → Proposes command core did → Goes core did
+proposes_on command core did (inl takes) = takes_on command core did takes
+proposes_on command core did (inr declines) = declines_on core did declines
+
+asks_on : (command : Command) (Otherwise : CoreState → Account → Type 0) → ((k : CoreState) (d : Account) → Otherwise k d → Goes k d) →
+    (core : CoreState) (did : Account) → Asks command Otherwise core did → Goes core did
+asks_on command Otherwise on core did (inl takes) = takes_on command core did takes
+asks_on command Otherwise on core did (inr other) = then_on Declines Otherwise declines_on on core did other
+
+-- ---- ends
+
+ends_on : (port : Port) (core : CoreState) (did : Account) → Ends port core did → Goes core did
+ends_on port core did (none_open none is) = quietly_on core core did is (each_itself core.connections)
+ends_on port core did (untold c found other is) = quietly_on core (changes port closed core) did is (closes_on port core)
+ends_on port core did (told c found heard proposes) =
+    behind_on core (changes port closed core) did (closes_on port core)
+    (proposes_on (commands.Lost c.name) (changes port closed core) did proposes)
+
+silent_on : (now : ℕ) (core : CoreState) (did : Account) → EndsSilent now core did → Goes core did
+silent_on now core did (none_silent none is) = quietly_on core core did is (each_itself core.connections)
+silent_on now core did (ends_one port found runs) = ends_on port core did runs
+
+failed_on : (core : CoreState) (did : Account) → LosesFailed core did → Goes core did
+failed_on core did (none_failed none is) = quietly_on core core did is (each_itself core.connections)
+failed_on core did (tells_one c found proposes) =
+    behind_on core (closes_failed core) did (changed_on has_failed closed (λ d fails. goes_closed [] d) core.connections)
+    (proposes_on (commands.Lost c.name) (closes_failed core) did proposes)
+
+-- ---- reads
+
+shut_on : (port : Port) (core : CoreState) (did : Account) → Closes port core did → Goes core did
+shut_on port core did is = quietly_on core (changes port closed core) did is (closes_on port core)
+
+shuts_on : (port : Port) (core : CoreState) (did : Account) → Shuts port core did → Goes core did
+shuts_on port core did (inl is) = shut_on port core did is
+shuts_on port core did (inr is) =
+    quietly_on core (changes port failing core) did is (changes_on port failing core (λ c stays. goes_failing [] c))
+
+begins_on : (port : Port) (name : ConnectionName) (packet : Packet) (core : CoreState) (did : Account) →
+    Begins port name packet core did → Goes core did
+begins_on port name (packets.Connect connect) core did runs =
+    behind_on core (changes port (asked connect.keep_alive) core) did
+    (changes_on port (asked connect.keep_alive) core (asked_on connect.keep_alive))
+    (asks_on (commands.Connect name connect.client connect.clean) (Closes port) (shut_on port)
+    (changes port (asked connect.keep_alive) core) did runs)
+begins_on port name _ core did runs = shut_on port core did runs
+
+left_on : (port : Port) (now : ℕ) (rest : List ℕ) (core : CoreState) →
+    EachGoesOn [] core.connections (changes port (left_with now rest) core).connections
+left_on port now rest core =
+    changes_on port (left_with now rest) core (λ c stays. goes_still c (left_with now rest c) refl refl refl (λ e. e))
+
+reads_on : (now : ℕ) (port : Port) (core : CoreState) (did : Account) → ReadsNext now port core did → Goes core did
+reads_on now port core did (waits c found more is) = quietly_on core core did is (each_itself core.connections)
+reads_on now port core did (first c packet rest found awaits is runs) =
+    behind_on core (changes port (left_with now rest) core) did (left_on port now rest core)
+    (begins_on port c.name packet (changes port (left_with now rest) core) did runs)
+reads_on now port core did (later c packet rest found proposed is runs) =
+    behind_on core (changes port (left_with now rest) core) did (left_on port now rest core)
+    (asks_on (commands.Packet c.name packet) (Shuts port) (shuts_on port) (changes port (left_with now rest) core) did runs)
+reads_on now port core did (refuses c code found awaits is runs) =
+    quietly_on core (changes port (refused code) core) did runs (changes_on port (refused code) core (λ d stays. refused_on code d))
+reads_on now port core did (ends runs) = ends_on port core did runs
+
+-- ---- an item
+
+holds_on : (port : Port) (piece : List ℕ) (core : CoreState) (did : Account) → Holds port piece core did → Goes core did
+holds_on port piece core did (inl is) =
+    quietly_on core (changes port (holding piece) core) did is
+    (changes_on port (holding piece) core (λ c stays. goes_still c (holding piece c) refl refl refl (λ e. e)))
+holds_on port piece core did (inr runs) = ends_on port core did runs
+
+all_failed_on : (core : CoreState) (did : Account) → Repeated (length core.connections) LosesFailed core did → Goes core did
+all_failed_on core did runs = repeated_on (length core.connections) LosesFailed failed_on core did runs
+
+all_silent_on : (now : ℕ) (core : CoreState) (did : Account) → Repeated (length core.connections) (EndsSilent now) core did → Goes core did
+all_silent_on now core did runs = repeated_on (length core.connections) (EndsSilent now) (silent_on now) core did runs
+
+all_read_on : (now : ℕ) (port : Port) (core : CoreState) (did : Account) →
+    Repeated (unread_of (open_at port core)) (ReadsNext now port) core did → Goes core did
+all_read_on now port core did runs = repeated_on (unread_of (open_at port core)) (ReadsNext now port) (reads_on now port) core did runs
+
+drives_on : (input : Input Command) (core : CoreState) (did : Account) → Drives input core did → Goes core did
+drives_on input core did runs = moves_on _ core did runs
+
+-- where no connection is opened
+with_none_new : (item : Item) (core : CoreState) (did : Account) → IsNew item core [] → Goes core did → GoOn item core did
+with_none_new item core did is on =
+    record {
+      new = [];
+      is_new = is;
+      each = λ apart. subst (λ (l : List Connection). EachGoesOn did.given l did.core.connections) (sym (append-nil core.connections))
+          (on (subst (λ (l : List Connection). AreNamedApart l) (append-nil core.connections) apart));
+    }
+
+-- a connection is opened, or not
+opens_one : (port : Port) (core : CoreState) → (opens port core ≡ core)
+    ⊎ ((opens port core).connections ≡ core.connections ++ fresh port (next_name core) ∷ [])
+unfolding opens
+opens_one port core =
+    by ((serves core && not (list_any (is_at port) core.connections)) && is_connection_name (next_name core))
+  where
+    by : (b : Bool) → ((if b then record core {
+      last_name = next_name core;
+      connections = core.connections ++ fresh port (next_name core) ∷ [];
+    } else core) ≡ core)
+        ⊎ ((if b then record core {
+          last_name = next_name core;
+          connections = core.connections ++ fresh port (next_name core) ∷ [];
+        } else core).connections ≡ core.connections ++ fresh port (next_name core) ∷ [])
+    by true = inr refl
+    by false = inl refl
+
+opened_on : (port : Port) (now : ℕ) (core : CoreState) (did : Account) → ActsOn (Opened port now) core did → GoOn (Opened port now) core did
+opened_on port now core did acts = by acts.first (opens_one port core)
+  where
+    none : acts.one ≡ quietly core → GoOn (Opened port now) core did
+    none is =
+        with_none_new (Opened port now) core did (inl refl)
+        (then_on (λ k d. d ≡ quietly k) (λ k d. Repeated (length k.connections) LosesFailed k d)
+        (λ k d same. quietly_on k k d same (each_itself k.connections)) all_failed_on core did
+        (record { one = acts.one; two = acts.two; first = is; next = acts.next; is = acts.is }))
+
+    one : acts.one ≡ quietly (opens port core) → (opens port core).connections ≡ core.connections ++ fresh port (next_name core) ∷ [] →
+        GoOn (Opened port now) core did
+    one is more =
+        record {
+          new = fresh port (next_name core) ∷ [];
+          is_new = inr refl;
+          each = λ apart. subst (λ (l : List Connection). EachGoesOn did.given l did.core.connections) more
+              (then_on (λ k d. d ≡ quietly k) (λ k d. Repeated (length k.connections) LosesFailed k d)
+              (λ k d same. quietly_on k k d same (each_itself k.connections)) all_failed_on (opens port core) did
+              (record { one = acts.one; two = acts.two; first = is; next = acts.next; is = acts.is })
+              (subst (λ (l : List Connection). AreNamedApart l) (sym more) apart));
+        }
+
+    by : Opens port core acts.one → (opens port core ≡ core)
+        ⊎ ((opens port core).connections ≡ core.connections ++ fresh port (next_name core) ∷ []) → GoOn (Opened port now) core did
+    by (inl is) (inl same) = none (is ∙ ap quietly same)
+    by (inl is) (inr more) = one is more
+    by (inr is) any = none is
+
+-- behind each item the broker hears of the failed ones
+acts_by : (item : Item) (core : CoreState) (did : Account) → IsNew item core [] →
+    ((k : CoreState) (d : Account) → TakesIn item k d → Goes k d) → ActsOn item core did → GoOn item core did
+acts_by item core did is on acts =
+    with_none_new item core did is
+    (then_on (TakesIn item) (λ k d. Repeated (length k.connections) LosesFailed k d) on all_failed_on core did
+    (record { one = acts.one; two = acts.two; first = acts.first; next = acts.next; is = acts.is }))
+
+pub a_gap_is_closed : AGapIsClosed
+a_gap_is_closed (Peer message) core did acts = acts_by (Peer message) core did refl (drives_on (Receives message)) acts
+a_gap_is_closed (Tick now) core did acts =
+    acts_by (Tick now) core did refl
+    (λ k d t. then_on (Drives Ticks) (λ j e. Repeated (length j.connections) (EndsSilent now) j e) (drives_on Ticks) (all_silent_on now) k d
+    (record { one = t.one; two = t.two; first = t.first; next = t.next; is = t.is })) acts
+a_gap_is_closed (Opened port now) core did acts = opened_on port now core did acts
+a_gap_is_closed (Bytes port piece now) core did acts =
+    acts_by (Bytes port piece now) core did refl
+    (λ k d t. then_on (Holds port piece) (λ j e. Repeated (unread_of (open_at port j)) (ReadsNext now port) j e) (holds_on port piece)
+    (all_read_on now port) k d
+    (record { one = t.one; two = t.two; first = t.first; next = t.next; is = t.is })) acts
+a_gap_is_closed (Ended port) core did acts = acts_by (Ended port) core did refl (ends_on port) acts
+a_gap_is_closed Crash core did acts =
+    acts_by Crash core did refl (λ k d is. quietly_on k _ d is (each_itself k.connections)) acts

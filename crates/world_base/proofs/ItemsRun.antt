@@ -1,0 +1,67 @@
+-- ItemsRun.antt: what an item does where memory may have been wanting, and the step around it.
+use Rattle.std.proofs.Common.{◌≡◌, ◌⊎◌, inl, inr, ℕ, Bool, true, false, if◌then◌else◌, List, refl, sym, ap, subst, ◌∙◌}
+use Rattle.std.proofs.lemmas.List.{append_cancel_left}
+use Rattle.broker_model.specs.declared.command.Command.{Command}
+use Rattle.broker_model.specs.declared.command.Output.{Output}
+use Rattle.broker_base.specs.State.{State}
+use Rattle.ballot.specs.Effect.{Effect}
+use Rattle.ballot.specs.Losses.{halted, one_more}
+use Rattle.ballot.specs.Replica.{CountedReplica}
+use Rattle.world_base.specs.declared.item.Port.{Port}
+use Rattle.world_base.specs.declared.item.Item.{Item}
+use Rattle.world_base.specs.declared.item.Item.TheVariants.{Opened, Crash}
+use Rattle.world_base.specs.Core.{CoreState, CountedCore, Turn, rules}
+use Rattle.world_base.specs.Inside.{Ran, Running, Turns}
+use Rattle.world_base.specs.Losses.{Stepped, Steps}
+use Rattle.world_base.specs.Lossy.{quietly}
+use Rattle.world_base.specs.LossyStep.{ActsOn, Opens, RunsOn, TakesIn}
+use Rattle.world_base.specs.Step.{acts_on, node_step, opens, settled}
+use Rattle.world_base.proofs.Accounts.{ran_quietly}
+
+pub ran_item : (item same : Item) (a b : CoreState) (x y : List (Effect Command Output)) → item ≡ same → Ran (TakesIn same) a b x y →
+    Ran (TakesIn item) a b x y
+ran_item item same a b x y is ran = subst (λ (i : Item). Ran (TakesIn i) a b x y) (sym is) ran
+
+opens_by : (port : Port) (a b : CoreState) → (b ≡ opens port a) ⊎ (b ≡ a) → Opens port a (quietly b)
+opens_by port a b (inl e) = inl (ap quietly e)
+opens_by port a b (inr e) = inr (ap quietly e)
+
+pub ran_opened : (port : Port) (now : ℕ) (a b : CoreState) (x : List (Effect Command Output)) → (b ≡ opens port a) ⊎ (b ≡ a) →
+    Ran (TakesIn (Opened port now)) a b x x
+ran_opened port now a b x did = ran_quietly (TakesIn (Opened port now)) a b x (opens_by port a b did)
+
+pub ran_crashed : (a : CoreState) (replica : CountedReplica State Command) (x : List (Effect Command Output)) →
+    replica ≡ record a.replica { state = halted rules a.replica.state } → Ran (TakesIn Crash) a (record a { replica = replica }) x x
+ran_crashed a replica x is =
+    ran_quietly (TakesIn Crash) a (record a { replica = replica }) x
+    (ap (λ (r : CountedReplica State Command). quietly (record a { replica = r })) is)
+
+-- ---- the step
+
+steps_by : (old : CountedCore) (a b : Running) (turn : Turn) (new : CoreState) (losses : ℕ) (x y : List (Effect Command Output))
+    (turns : Turns a b x y turn) → new ≡ settled b.core → (wanting : Bool) → b.wanting ≡ wanting →
+    losses ≡ (if wanting then one_more old.losses else old.losses) →
+    Steps old (record { core = settled turn.core; messages = turn.messages }) (record { core = new; losses = losses }) turns.given
+steps_by old a b turn new losses x y turns settles true e counted = inr counted
+steps_by old a b turn new losses x y turns settles false e counted =
+    let did = turns.exact e in
+    inl (settles ∙ ap (λ (r : Running). settled r.core) did.0, did.1, counted)
+
+pub stepped_by : (old : CountedCore) (item : Item) (a b : Running) (new : CoreState) (losses : ℕ) (x y : List (Effect Command Output)) →
+    a.core ≡ old.core → Turns a b x y (acts_on item a.core) → Ran (ActsOn item) a.core b.core x y → new ≡ settled b.core →
+    losses ≡ (if b.wanting then one_more old.losses else old.losses) →
+    Stepped old item (record { core = new; losses = losses }) x y
+stepped_by old item a b new losses x y same turns ran settles counted =
+    record {
+      given = turns.given;
+      appended = turns.appended;
+      steps = subst (λ (k : CoreState). Steps old (node_step item k) (record { core = new; losses = losses }) turns.given) same
+          (steps_by old a b (acts_on item a.core) new losses x y turns settles b.wanting refl counted);
+      run = subst (λ (k : CoreState). RunsOn item k new turns.given) same
+          (record {
+            did = ran.did;
+            acts = ran.runs;
+            settles = settles ∙ ap settled ran.core;
+            handed = append_cancel_left x turns.given ran.did.messages (sym turns.appended ∙ ran.appended);
+          });
+    }

@@ -1,0 +1,30 @@
+use Rattle.ballot.specs.Protocol.Input.{Ticks}
+use Rattle.world_base.specs.declared.item.Item.TheVariants.{Peer, Tick, Opened, Bytes, Ended}
+use Rattle.world_base.specs.Lossy.{Drives}
+use Rattle.world_base.specs.LossyStep.{EndsAllSilent, Holds, ReadsAll}
+use Rattle.world_base.proofs.Accounts.{ran_then}
+use Rattle.world_base.proofs.ItemsRun.{ran_crashed, ran_item, ran_opened}
+use Rattle.world_base.proofs.serving.Serving.take_in.Goals as goal
+
+pub returns-in-Peer-clause-run : goal.returns-in-Peer-clause-run
+returns-in-Peer-clause-run c = ran_item c.args.item (Peer c.in-Peer.message) _ _ _ _ c.in-Peer.is c.receive.ensures.run
+
+pub returns-in-Tick-clause-run : goal.returns-in-Tick-clause-run
+returns-in-Tick-clause-run c =
+    ran_item c.args.item (Tick c.in-Tick.now) _ _ _ _ c.in-Tick.is
+    (ran_then (Drives Ticks) (EndsAllSilent c.in-Tick.now) _ _ _ _ _ _ c.tick.ensures.run c.end_silent.ensures.run)
+
+pub returns-in-Opened-clause-run : goal.returns-in-Opened-clause-run
+returns-in-Opened-clause-run c =
+    ran_item c.args.item (Opened c.in-Opened.port c.in-Opened.field-1) _ _ _ _ c.in-Opened.is (ran_opened c.in-Opened.port c.in-Opened.field-1 _ _ _ c.open.ensures.run)
+
+pub returns-in-Bytes-clause-run : goal.returns-in-Bytes-clause-run
+returns-in-Bytes-clause-run c =
+    ran_item c.args.item (Bytes c.in-Bytes.port c.in-Bytes.piece c.in-Bytes.now) _ _ _ _ c.in-Bytes.is
+    (ran_then (Holds c.in-Bytes.port c.in-Bytes.piece) (ReadsAll c.in-Bytes.now c.in-Bytes.port) _ _ _ _ _ _ c.hold.ensures.run c.read.ensures.run)
+
+pub returns-in-Ended-clause-run : goal.returns-in-Ended-clause-run
+returns-in-Ended-clause-run c = ran_item c.args.item (Ended c.in-Ended.port) _ _ _ _ c.in-Ended.is c.end.ensures.run
+
+pub returns-in-Crash-clause-run : goal.returns-in-Crash-clause-run
+returns-in-Crash-clause-run c = rw (c.in-Crash.is, ← c.self.view_is) (ran_crashed _ c.stop.new.self _ c.stop.ensures)

@@ -1,0 +1,63 @@
+-- What becomes of each connection in a step of a node in which memory may be wanting: one with a gap is closed.
+use Rattle.std.specs.Prelude.{◌≡◌, ◌⊎◌, ℕ, true, false, if◌then◌else◌, List, [], ◌∷◌, ◌++◌}
+use Rattle.broker_model.specs.Connection.{ConnectionName, same_connection}
+use Rattle.broker_model.specs.declared.command.Command.{Command}
+use Rattle.broker_model.specs.declared.command.Output.{Output}
+use Rattle.broker_model.specs.declared.command.Output.TheVariants as outputs
+use Rattle.packet.specs.Spelling.{spelling}
+use Rattle.lists.specs.Lists.{Each, IsPrefixOf}
+use Rattle.ballot.specs.Effect.{Effect}
+use Rattle.ballot.specs.Effect.TheVariants.{To, Out}
+use Rattle.world_base.specs.declared.item.Item.{Item}
+use Rattle.world_base.specs.declared.item.Item.TheVariants.{Opened}
+use Rattle.world_base.specs.declared.connection.Connection.{Connection}
+use Rattle.world_base.specs.Connections.{fresh, is_over}
+use Rattle.world_base.specs.Core.{CoreState}
+use Rattle.world_base.specs.Lossy.{Account}
+use Rattle.world_base.specs.LossyStep.{ActsOn}
+use Rattle.world_base.specs.Step.{next_name}
+
+-- the bytes of all that the replica gave for a connection, in order
+abbrev pub bytes_by : Output → ConnectionName → List ℕ
+bytes_by (outputs.Send to packet) name = if same_connection name to then spelling packet else []
+bytes_by (outputs.Close to) name = []
+
+abbrev pub bytes_for : List (Effect Command Output) → ConnectionName → List ℕ
+bytes_for [] name = []
+bytes_for (Out place output ∷ given) name = bytes_by output name ++ bytes_for given name
+bytes_for (To receiver message ∷ given) name = bytes_for given name
+
+-- A connection further on has its port and its name. Where it is open it was open, and behind what was to be handed over
+-- for it stand these bytes, whole; else it is closed, and what was to be handed over still is.
+pub record GoesOn (bytes : List ℕ) (c d : Connection) : Type 0 where
+  pub port : d.port ≡ c.port
+  pub name : d.name ≡ c.name
+  pub closed : is_over c.stage ≡ true → is_over d.stage ≡ true
+  pub whole : is_over d.stage ≡ false → d.pending ≡ c.pending ++ bytes
+  pub kept : IsPrefixOf c.pending d.pending
+
+-- each of a list does, in its order, and none comes or goes
+abbrev pub EachGoesOn : List (Effect Command Output) → List Connection → List Connection → Type 0
+EachGoesOn given [] [] = Unit {0}
+EachGoesOn given [] (d ∷ ds) = ⊥
+EachGoesOn given (c ∷ cs) [] = ⊥
+EachGoesOn given (c ∷ cs) (d ∷ ds) = GoesOn (bytes_for given c.name) c d × EachGoesOn given cs ds
+
+-- no two have one name
+abbrev pub AreNamedApart : List Connection → Type 0
+AreNamedApart [] = Unit {0}
+AreNamedApart (c ∷ cs) = Each (λ (d : Connection). same_connection d.name c.name ≡ false) cs × AreNamedApart cs
+
+-- an item opens a connection, if any, of its port, which has the next name
+abbrev pub IsNew : Item → CoreState → List Connection → Type 0
+IsNew (Opened port now) core new = (new ≡ []) ⊎ (new ≡ fresh port (next_name core) ∷ [])
+IsNew _ core new = new ≡ []
+
+-- what a step does before connections are settled, where no two have one name, or get one
+pub record GoOn (item : Item) (core : CoreState) (did : Account) : Type 0 where
+  pub new : List Connection
+  pub is_new : IsNew item core new
+  pub each : AreNamedApart (core.connections ++ new) → EachGoesOn did.given (core.connections ++ new) did.core.connections
+
+abbrev pub AGapIsClosed : Type 0
+AGapIsClosed = (item : Item) (core : CoreState) (did : Account) → ActsOn item core did → GoOn item core did

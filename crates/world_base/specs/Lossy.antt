@@ -1,0 +1,111 @@
+-- What comes to the replica where memory may be wanting, and what becomes of what it gives.
+use Rattle.std.specs.Prelude.{◌≡◌, ◌⊎◌, ℕ, zero, suc, true, false, List, [], ◌∷◌, ◌++◌}
+use Rattle.broker_base.specs.State.{State}
+use Rattle.broker_model.specs.declared.command.Command.{Command}
+use Rattle.broker_model.specs.declared.command.Output.{Output}
+use Rattle.broker_model.specs.declared.command.Output.TheVariants as outputs
+use Rattle.ballot.specs.Effect.{Effect}
+use Rattle.ballot.specs.Effect.TheVariants.{To, Out}
+use Rattle.ballot.specs.Message.{Message}
+use Rattle.ballot.specs.Losses.{Done, Steps, halted, one_more}
+use Rattle.ballot.specs.Protocol.{Input}
+use Rattle.ballot.specs.Replica.{CountedReplica}
+use Rattle.ballot.specs.Sending.{Outcome}
+use Rattle.ballot.specs.Serving.{added, proposed}
+use Rattle.world_base.specs.Connections.{failing}
+use Rattle.world_base.specs.Core.{CoreState, rules, serves}
+use Rattle.world_base.specs.Turns.{changes_named, has_room, heard, served_by}
+
+-- ---- what was done
+
+-- what became of a node, all that its replica gave meanwhile, and the messages of it that were handed out
+pub record Account : Type 0 where
+  pub core : CoreState
+  pub given : List (Effect Command Output)
+  pub messages : List (Effect Command Output)
+
+-- the replica gave nothing
+abbrev pub quietly : CoreState → Account
+quietly core = record { core = core; given = []; messages = [] }
+
+-- one thing, and another behind it
+abbrev pub joined : Account → Account → Account
+joined one two = record { core = two.core; given = one.given ++ two.given; messages = one.messages ++ two.messages }
+
+-- one thing was done, and then another
+pub record Then (First Next : CoreState → Account → Type 0) (core : CoreState) (did : Account) : Type 0 where
+  pub one : Account
+  pub two : Account
+  pub first : First core one
+  pub next : Next one.core two
+  pub is : did ≡ joined one two
+
+-- the same so many times, each behind what the last one left
+abbrev pub Repeated : ℕ → (CoreState → Account → Type 0) → CoreState → Account → Type 0
+Repeated zero Next core did = did ≡ quietly core
+Repeated (suc more) Next core did = Then Next (Repeated more Next) core did
+
+-- ---- outputs
+
+-- an output is done on its connection; where there is no memory for its bytes that connection is closed as lost
+abbrev pub Serves : Output → CoreState → CoreState → Type 0
+Serves (outputs.Send name packet) core new =
+    (new ≡ served_by (outputs.Send name packet) core) ⊎ (new ≡ changes_named name failing core)
+Serves (outputs.Close name) core new = new ≡ served_by (outputs.Close name) core
+
+-- what the replica gives is handled at once, in its order: outputs are done, messages are handed out or,
+-- where there is no memory for one, lost
+pub data Delivers : List (Effect Command Output) → CoreState → CoreState → List (Effect Command Output) → Type 0 where
+  nothing : {core : CoreState} → Delivers [] core core []
+  does : {place : ℕ} {output : Output} {core next new : CoreState} {given messages : List (Effect Command Output)} →
+      Serves output core next → Delivers given next new messages → Delivers (Out place output ∷ given) core new messages
+  tells : {receiver : ℕ} {message : Message Command} {core new : CoreState} {given messages : List (Effect Command Output)} →
+      Delivers given core new messages → Delivers (To receiver message ∷ given) core new (To receiver message ∷ messages)
+  loses : {receiver : ℕ} {message : Message Command} {core new : CoreState} {given messages : List (Effect Command Output)} →
+      Delivers given core new messages → Delivers (To receiver message ∷ given) core new messages
+
+-- ---- what comes to the replica
+
+-- the replica does its step, or one with losses, which it counts
+pub record Moves (outcome : Outcome State Command Output) (core : CoreState) (did : Account) : Type 0 where
+  pub replica : CountedReplica State Command
+  pub steps : Steps rules core.replica outcome replica did.given
+  pub delivers : Delivers did.given (record core { replica = replica }) did.core did.messages
+
+-- a message of another node, or a tick
+abbrev pub Drives : Input Command → CoreState → Account → Type 0
+Drives input core did = Moves (heard input core.replica.state) core did
+
+-- a command that the replica takes into its log; of the messages of which it then hands out some may be missing,
+-- which it counts
+pub record Takes (command : Command) (core : CoreState) (did : Account) : Type 0 where
+  pub room : has_room core ≡ true
+  pub replica : CountedReplica State Command
+  pub done : Done core.replica (added rules core.replica.state command) replica [] did.given
+  pub delivers : Delivers did.given (record core { replica = replica }) did.core did.messages
+
+-- one that it does not take, since it does not serve clients or its log is full, or since there is no memory: then it
+-- counts a loss, and may stop
+pub data Declines (core : CoreState) (did : Account) : Type 0 where
+  no_room : has_room core ≡ false → did ≡ quietly core → Declines core did
+  forgets : has_room core ≡ true →
+      did ≡ quietly (record core { replica = record core.replica { losses = one_more core.replica.losses } }) →
+      Declines core did
+  stops : has_room core ≡ true →
+      did ≡ quietly (record core {
+        replica = record {
+          state = halted rules core.replica.state;
+          losses = one_more core.replica.losses;
+        };
+      }) →
+      Declines core did
+
+-- a command is put to the replica
+abbrev pub Proposes : Command → CoreState → Account → Type 0
+Proposes command core did = Takes command core did ⊎ Declines core did
+
+-- in any case that is a step of the replica's own, exact or with losses; where the node does not serve clients, none
+abbrev pub ProposalsAreSteps : Type 0
+ProposalsAreSteps = (command : Command) (core : CoreState) (did : Account) → Proposes command core did →
+    (serves core ≡ true → Moves (proposed rules core.replica.state command) core did)
+    × (serves core ≡ false → did ≡ quietly core)
