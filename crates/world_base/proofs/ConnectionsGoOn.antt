@@ -2,13 +2,16 @@
 use Rattle.std.proofs.Common.{◌≡◌, ◌⊎◌, inl, inr, ℕ, Bool, true, false, if◌then◌else◌, not, ◌&&◌, nat_le, ◌+◌, List, [], ◌∷◌, ◌++◌, length, append_assoc, refl, sym, ap, subst, ◌∙◌}
 use Rattle.std.proofs.lemmas.List.{append-nil}
 use Rattle.packet.specs.declared.packet.Packet.{Packet}
+use Rattle.packet.specs.RefusalCode.{RefusalCode}
+use Rattle.packet.specs.declared.packet.Packet.TheVariants as packets
+use Rattle.packet.specs.declared.connack.Connack.TheVariants as connacks
 use Rattle.packet.specs.Spelling.{spelling}
 use Rattle.broker_model.specs.Connection.{ConnectionName, same_connection}
 use Rattle.broker_model.specs.declared.command.Command.{Command}
 use Rattle.broker_model.specs.declared.command.Output.{Output}
 use Rattle.broker_model.specs.declared.command.Output.TheVariants as outputs
 use Rattle.broker_model.proofs.ConnectionNames.{same_name}
-use Rattle.lists.specs.Lists.{Each, IsPrefixOf}
+use Rattle.lists.specs.Lists.{Each}
 use Rattle.ballot.specs.Effect.{Effect}
 use Rattle.ballot.specs.Effect.TheVariants.{To, Out}
 use Rattle.ballot.specs.Message.{Message}
@@ -19,12 +22,10 @@ use Rattle.world_base.specs.Core.{CoreState}
 use Rattle.world_base.specs.Going.{AreNamedApart, EachGoesOn, GoesOn, bytes_by, bytes_for}
 use Rattle.world_base.specs.Lossy.{Delivers, Serves}
 use Rattle.world_base.specs.Lossy.Delivers.{nothing, does, tells, loses}
+use Rattle.world_base.specs.Reading.{refused}
 use Rattle.world_base.specs.Turns.{changes_named}
 
 -- ---- one connection
-
-front_of : (xs : List ℕ) → IsPrefixOf xs xs
-front_of xs = record { rest = []; is = sym (append-nil xs) }
 
 -- what stays open keeps what is to be handed over
 pub goes_still : (c d : Connection) → d.port ≡ c.port → d.name ≡ c.name → d.pending ≡ c.pending →
@@ -33,61 +34,124 @@ goes_still c d port name same shut =
     record {
       port = port;
       name = name;
-      closed = shut;
+      closed = λ over. (shut over, same);
       whole = λ _. same ∙ sym (append-nil c.pending);
-      kept = record { rest = []; is = same ∙ sym (append-nil c.pending) };
+      front = [];
+      answer = [];
+      begins = record { rest = []; is = refl };
+      refusal = inl refl;
+      put = same ∙ sym (append-nil c.pending);
     }
 
 pub goes_itself : (c : Connection) → GoesOn [] c c
 goes_itself c = goes_still c c refl refl refl (λ e. e)
 
+not_both : (over : Bool) → over ≡ true → over ≡ false → ⊥
+not_both over e f = absurd cc
+
 -- of a closed one nothing is asked
 pub goes_over : (bytes : List ℕ) (c d : Connection) → d.port ≡ c.port → d.name ≡ c.name → is_over d.stage ≡ true →
-    IsPrefixOf c.pending d.pending → GoesOn bytes c d
-goes_over bytes c d port name over kept =
-    record { port = port; name = name; closed = λ _. over; whole = λ stays. absurd (both stays); kept = kept }
-  where
-    both : is_over d.stage ≡ false → ⊥
-    both stays = absurd cc
+    d.pending ≡ c.pending → GoesOn bytes c d
+goes_over bytes c d port name over same =
+    record {
+      port = port;
+      name = name;
+      closed = λ _. (over, same);
+      whole = λ stays. absurd (not_both (is_over d.stage) over stays);
+      front = [];
+      answer = [];
+      begins = record { rest = bytes; is = refl };
+      refusal = inl refl;
+      put = same ∙ sym (append-nil c.pending);
+    }
 
 pub goes_closed : (bytes : List ℕ) (c : Connection) → GoesOn bytes c (closed c)
-goes_closed bytes c = goes_over bytes c (closed c) refl refl refl (front_of c.pending)
+goes_closed bytes c = goes_over bytes c (closed c) refl refl refl refl
 
 over_failing : (proposed : Bool) → is_over (if proposed then Failed else Over) ≡ true
 over_failing true = refl
 over_failing false = refl
 
 pub goes_failing : (bytes : List ℕ) (c : Connection) → GoesOn bytes c (failing c)
-goes_failing bytes c = goes_over bytes c (failing c) refl refl (over_failing (is_proposed c.stage)) (front_of c.pending)
+goes_failing bytes c = goes_over bytes c (failing c) refl refl (over_failing (is_proposed c.stage)) refl
+
+-- it is closed with the node's refusal
+pub goes_refused : (code : RefusalCode) (c : Connection) → is_over c.stage ≡ false → GoesOn [] c (refused code c)
+goes_refused code c stays =
+    record {
+      port = refl;
+      name = refl;
+      closed = λ over. absurd (not_both (is_over c.stage) over stays);
+      whole = λ again. absurd (not_both true refl again);
+      front = [];
+      answer = spelling (packets.Connack (connacks.Refused code));
+      begins = record { rest = []; is = refl };
+      refusal = inr (code, refl);
+      put = refl;
+    }
 
 -- bytes that are put out stand behind all others, or the connection is closed
-goes_put : (bytes : List ℕ) (c : Connection) → GoesOn bytes c (put_out bytes c)
-goes_put bytes c = by (nat_le (length c.pending + length bytes) most_pending)
+goes_put : (bytes : List ℕ) (c : Connection) → is_over c.stage ≡ false → GoesOn bytes c (put_out bytes c)
+goes_put bytes c stays = by (nat_le (length c.pending + length bytes) most_pending)
   where
     by : (fits : Bool) → GoesOn bytes c (if fits then putting bytes c else failing c)
     by true =
-        record { port = refl; name = refl; closed = λ e. e; whole = λ _. refl; kept = record { rest = bytes; is = refl } }
+        record {
+          port = refl;
+          name = refl;
+          closed = λ over. absurd (not_both (is_over c.stage) over stays);
+          whole = λ _. refl;
+          front = bytes;
+          answer = [];
+          begins = record { rest = []; is = sym (append-nil bytes) };
+          refusal = inl refl;
+          put = ap (λ (l : List ℕ). c.pending ++ l) (sym (append-nil bytes));
+        }
     by false = goes_failing bytes c
 
--- one thing and then another
-goes_both : (xs ys : List ℕ) (c d e : Connection) → GoesOn xs c d → GoesOn ys d e → GoesOn (xs ++ ys) c e
-goes_both xs ys c d e one two =
+-- one thing and then another: behind the first it was closed, or is open
+closed_between : (xs ys : List ℕ) (c d e : Connection) → is_over d.stage ≡ true → GoesOn xs c d → GoesOn ys d e → GoesOn (xs ++ ys) c e
+closed_between xs ys c d e over one two =
     record {
       port = two.port ∙ one.port;
       name = two.name ∙ one.name;
-      closed = λ over. two.closed (one.closed over);
-      whole = λ stays. two.whole stays ∙ ap (λ (l : List ℕ). l ++ ys) (one.whole (was_open (is_over d.stage) refl stays))
-          ∙ append_assoc c.pending xs ys;
-      kept = record {
-        rest = one.kept.rest ++ two.kept.rest;
-        is = two.kept.is ∙ ap (λ (l : List ℕ). l ++ two.kept.rest) one.kept.is
-            ∙ append_assoc c.pending one.kept.rest two.kept.rest;
+      closed = λ was. ((two.closed over).0, (two.closed over).1 ∙ (one.closed was).1);
+      whole = λ stays. absurd (not_both (is_over e.stage) (two.closed over).0 stays);
+      front = one.front;
+      answer = one.answer;
+      begins = record {
+        rest = one.begins.rest ++ ys;
+        is = ap (λ (l : List ℕ). l ++ ys) one.begins.is ∙ append_assoc one.front one.begins.rest ys;
       };
+      refusal = one.refusal;
+      put = (two.closed over).1 ∙ one.put;
     }
+
+open_between : (xs ys : List ℕ) (c d e : Connection) → is_over d.stage ≡ false → GoesOn xs c d → GoesOn ys d e → GoesOn (xs ++ ys) c e
+open_between xs ys c d e stays one two =
+    record {
+      port = two.port ∙ one.port;
+      name = two.name ∙ one.name;
+      closed = λ was. absurd (not_both (is_over d.stage) (one.closed was).0 stays);
+      whole = λ again. two.whole again ∙ ap (λ (l : List ℕ). l ++ ys) (one.whole stays) ∙ append_assoc c.pending xs ys;
+      front = xs ++ two.front;
+      answer = two.answer;
+      begins = record {
+        rest = two.begins.rest;
+        is = ap (λ (l : List ℕ). xs ++ l) two.begins.is ∙ sym (append_assoc xs two.front two.begins.rest);
+      };
+      refusal = two.refusal;
+      put = two.put ∙ ap (λ (l : List ℕ). l ++ (two.front ++ two.answer)) (one.whole stays)
+          ∙ append_assoc c.pending xs (two.front ++ two.answer)
+          ∙ ap (λ (l : List ℕ). c.pending ++ l) (sym (append_assoc xs two.front two.answer));
+    }
+
+goes_both : (xs ys : List ℕ) (c d e : Connection) → GoesOn xs c d → GoesOn ys d e → GoesOn (xs ++ ys) c e
+goes_both xs ys c d e one two = by (is_over d.stage) refl
   where
-    was_open : (over : Bool) → is_over d.stage ≡ over → is_over e.stage ≡ false → is_over d.stage ≡ false
-    was_open false is stays = is
-    was_open true is stays = let shut = two.closed is in absurd cc
+    by : (over : Bool) → is_over d.stage ≡ over → GoesOn (xs ++ ys) c e
+    by true is = closed_between xs ys c d e is one two
+    by false is = open_between xs ys c d e is one two
 
 -- ---- all of them
 
@@ -169,6 +233,10 @@ not_open true same e = inl refl
 not_open false false e = inr refl
 not_open false true e = absurd cc
 
+open_so : (over same : Bool) → (not over && same) ≡ true → over ≡ false
+open_so true same e = absurd cc
+open_so false same e = refl
+
 named_so : (over same : Bool) → (not over && same) ≡ true → same ≡ true
 named_so true same e = absurd cc
 named_so false same e = e
@@ -176,7 +244,7 @@ named_so false same e = e
 -- an output for a name is done on the first open connection that has it
 module _ (place : ℕ) (output : Output) (name : ConnectionName) (f : Connection → Connection)
     (others : (n : ConnectionName) → same_connection n name ≡ false → bytes_by output n ≡ [])
-    (done : (c : Connection) → same_connection c.name name ≡ true → GoesOn (bytes_by output c.name) c (f c)) where
+    (done : (c : Connection) → is_over c.stage ≡ false → same_connection c.name name ≡ true → GoesOn (bytes_by output c.name) c (f c)) where
   not_for : (cs : List Connection) → Each (λ (d : Connection). same_connection d.name name ≡ false) cs → EachGoesOn (Out place output ∷ []) cs cs
   not_for [] apart = tt
   not_for (c ∷ cs) apart =
@@ -186,7 +254,7 @@ module _ (place : ℕ) (output : Output) (name : ConnectionName) (f : Connection
   unchanged c fails = by (not_open (is_over c.stage) (same_connection c.name name) fails)
     where
       by : (is_over c.stage ≡ true) ⊎ (same_connection c.name name ≡ false) → GoesOn (bytes_by output c.name) c c
-      by (inl over) = goes_over (bytes_by output c.name) c c refl refl over (front_of c.pending)
+      by (inl over) = goes_over (bytes_by output c.name) c c refl refl over refl
       by (inr other) = other_on output c (others c.name other)
 
   pub named_on : (cs : List Connection) → AreNamedApart cs → EachGoesOn (Out place output ∷ []) cs (changed (is_open_named name) f cs)
@@ -197,7 +265,7 @@ module _ (place : ℕ) (output : Output) (name : ConnectionName) (f : Connection
           EachGoesOn (Out place output ∷ []) (c ∷ cs) (if b then f c ∷ cs else c ∷ changed (is_open_named name) f cs)
       by true e more =
           let named = named_so (is_over c.stage) (same_connection c.name name) e in (
-            with_none (bytes_by output c.name) c (f c) (done c named),
+            with_none (bytes_by output c.name) c (f c) (done c (open_so (is_over c.stage) (same_connection c.name name) e) named),
             not_for cs (subst (λ (n : ConnectionName). Each (λ (d : Connection). same_connection d.name n ≡ false) cs)
                 (same_name c.name name named) apart.0),
           )
@@ -207,11 +275,11 @@ for_other : (name : ConnectionName) (packet : Packet) (n : ConnectionName) → s
     bytes_by (outputs.Send name packet) n ≡ []
 for_other name packet n e = ap (λ (b : Bool). if b then spelling packet else []) e
 
-sent_on : (name : ConnectionName) (packet : Packet) (c : Connection) → same_connection c.name name ≡ true →
+sent_on : (name : ConnectionName) (packet : Packet) (c : Connection) → is_over c.stage ≡ false → same_connection c.name name ≡ true →
     GoesOn (bytes_by (outputs.Send name packet) c.name) c (put_out (spelling packet) c)
-sent_on name packet c e =
+sent_on name packet c stays e =
     subst (λ (b : List ℕ). GoesOn b c (put_out (spelling packet) c))
-    (ap (λ (b : Bool). if b then spelling packet else []) (sym e)) (goes_put (spelling packet) c)
+    (ap (λ (b : Bool). if b then spelling packet else []) (sym e)) (goes_put (spelling packet) c stays)
 
 pub serves_on : (place : ℕ) (output : Output) (core new : CoreState) → Serves output core new → AreNamedApart core.connections →
     EachGoesOn (Out place output ∷ []) core.connections new.connections
@@ -223,10 +291,10 @@ serves_on place (outputs.Send name packet) core new (inl is) apart =
 serves_on place (outputs.Send name packet) core new (inr is) apart =
     subst (λ (k : CoreState). EachGoesOn (Out place (outputs.Send name packet) ∷ []) core.connections k.connections) (sym is)
     (named_on place (outputs.Send name packet) name failing (for_other name packet)
-    (λ c e. goes_failing (bytes_by (outputs.Send name packet) c.name) c) core.connections apart)
+    (λ c stays e. goes_failing (bytes_by (outputs.Send name packet) c.name) c) core.connections apart)
 serves_on place (outputs.Close name) core new is apart =
     subst (λ (k : CoreState). EachGoesOn (Out place (outputs.Close name) ∷ []) core.connections k.connections) (sym is)
-    (named_on place (outputs.Close name) name closed (λ n e. refl) (λ c e. goes_closed [] c) core.connections apart)
+    (named_on place (outputs.Close name) name closed (λ n e. refl) (λ c stays e. goes_closed [] c) core.connections apart)
 
 pub delivers_on : (given : List (Effect Command Output)) (core new : CoreState) (messages : List (Effect Command Output)) →
     Delivers given core new messages → AreNamedApart core.connections → EachGoesOn given core.connections new.connections

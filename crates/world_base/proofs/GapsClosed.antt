@@ -4,9 +4,6 @@ use Rattle.std.proofs.lemmas.List.{append-nil}
 use Rattle.std.specs.List.{list_any}
 use Rattle.packet.specs.declared.packet.Packet.{Packet}
 use Rattle.packet.specs.declared.packet.Packet.TheVariants as packets
-use Rattle.packet.specs.RefusalCode.{RefusalCode}
-use Rattle.packet.specs.declared.connack.Connack.TheVariants as connacks
-use Rattle.packet.specs.Spelling.{spelling}
 use Rattle.broker_base.specs.State.{State}
 use Rattle.broker_model.specs.Connection.{ConnectionName, is_connection_name}
 use Rattle.broker_model.specs.declared.command.Command.{Command}
@@ -32,7 +29,7 @@ use Rattle.world_base.specs.LossyStep.LosesFailed.{none_failed, tells_one}
 use Rattle.world_base.specs.LossyStep.ReadsNext.{waits, first, later, refuses, ends}
 use Rattle.world_base.specs.Reading.{changes, open_at, refused, unread_of}
 use Rattle.world_base.specs.Step.{next_name, opens}
-use Rattle.world_base.proofs.ConnectionsGoOn.{apart_on, changed_on, delivers_on, each_both, each_itself, goes_closed, goes_failing, goes_over, goes_still}
+use Rattle.world_base.proofs.ConnectionsGoOn.{apart_on, changed_on, delivers_on, each_both, each_itself, goes_closed, goes_failing, goes_refused, goes_still}
 
 -- each connection goes on in what was done
 abbrev Goes : CoreState → Account → Type 0
@@ -75,11 +72,6 @@ changes_on port f core on =
 
 closes_on : (port : Port) (core : CoreState) → EachGoesOn [] core.connections (changes port closed core).connections
 closes_on port core = changes_on port closed core (λ c stays. goes_closed [] c)
-
-refused_on : (code : RefusalCode) (c : Connection) → GoesOn [] c (refused code c)
-refused_on code c =
-    goes_over [] c (refused code c) refl refl refl
-    (record { rest = spelling (packets.Connack (connacks.Refused code)); is = refl })
 
 asked_on : (keep_alive : ℕ) (c : Connection) → is_over c.stage ≡ false → GoesOn [] c (asked keep_alive c)
 asked_on keep_alive c stays = goes_still c (asked keep_alive c) refl refl refl (λ over. absurd (both over))
@@ -161,7 +153,7 @@ reads_on now port core did (later c packet rest found proposed is runs) =
     behind_on core (changes port (left_with now rest) core) did (left_on port now rest core)
     (asks_on (commands.Packet c.name packet) (Shuts port) (shuts_on port) (changes port (left_with now rest) core) did runs)
 reads_on now port core did (refuses c code found awaits is runs) =
-    quietly_on core (changes port (refused code) core) did runs (changes_on port (refused code) core (λ d stays. refused_on code d))
+    quietly_on core (changes port (refused code) core) did runs (changes_on port (refused code) core (goes_refused code))
 reads_on now port core did (ends runs) = ends_on port core did runs
 
 -- ---- an item

@@ -4,6 +4,9 @@ use Rattle.broker_model.specs.Connection.{ConnectionName, same_connection}
 use Rattle.broker_model.specs.declared.command.Command.{Command}
 use Rattle.broker_model.specs.declared.command.Output.{Output}
 use Rattle.broker_model.specs.declared.command.Output.TheVariants as outputs
+use Rattle.packet.specs.RefusalCode.{RefusalCode}
+use Rattle.packet.specs.declared.packet.Packet.TheVariants as packets
+use Rattle.packet.specs.declared.connack.Connack.TheVariants as connacks
 use Rattle.packet.specs.Spelling.{spelling}
 use Rattle.lists.specs.Lists.{Each, IsPrefixOf}
 use Rattle.ballot.specs.Effect.{Effect}
@@ -27,14 +30,23 @@ bytes_for [] name = []
 bytes_for (Out place output ∷ given) name = bytes_by output name ++ bytes_for given name
 bytes_for (To receiver message ∷ given) name = bytes_for given name
 
--- A connection further on has its port and its name. Where it is open it was open, and behind what was to be handed over
--- for it stand these bytes, whole; else it is closed, and what was to be handed over still is.
+-- the answer of the node itself to a CONNECT that is refused with a code (MQTT 3.2.2.3)
+abbrev pub IsRefusal : List ℕ → Type 0
+IsRefusal bytes = (code : RefusalCode) × (bytes ≡ spelling (packets.Connack (connacks.Refused code)))
+
+-- A connection further on has its port and its name. One that was closed is, with the same bytes to be handed over. Where
+-- it is open, it was, and these bytes stand behind what was to be handed over, whole. Of one that was closed meanwhile a
+-- beginning of them does, and perhaps the node's refusal.
 pub record GoesOn (bytes : List ℕ) (c d : Connection) : Type 0 where
   pub port : d.port ≡ c.port
   pub name : d.name ≡ c.name
-  pub closed : is_over c.stage ≡ true → is_over d.stage ≡ true
+  pub closed : is_over c.stage ≡ true → (is_over d.stage ≡ true) × (d.pending ≡ c.pending)
   pub whole : is_over d.stage ≡ false → d.pending ≡ c.pending ++ bytes
-  pub kept : IsPrefixOf c.pending d.pending
+  pub front : List ℕ
+  pub answer : List ℕ
+  pub begins : IsPrefixOf front bytes
+  pub refusal : (answer ≡ []) ⊎ IsRefusal answer
+  pub put : d.pending ≡ c.pending ++ (front ++ answer)
 
 -- each of a list does, in its order, and none comes or goes
 abbrev pub EachGoesOn : List (Effect Command Output) → List Connection → List Connection → Type 0
