@@ -8,10 +8,10 @@ ghost use Rattle.client.specs.Core.{Opens, Leaves, AppendsAll};
 ghost use Rattle.client.specs.Inside.Turns.{Tries, with_state, all_sent};
 
 use crate::client_core::ClientCore;
-use crate::writing::{write, write_publishes, write_pubrels};
+use crate::writing::{write, write_connect, write_publishes, write_pubrels};
 use client_base::{ClientError, Stage};
 use cutter::Cutter;
-use packet::{Connect, Packet};
+use packet::Packet;
 
 impl ClientCore {
     /// Opens a connection: CONNECT is written, and it is all that is written until the server has
@@ -20,13 +20,8 @@ impl ClientCore {
     pub fn open(&mut self) -> Result<(), ClientError>
         ensures { Opens (keeper_step Call.Opens self.old.state) self.old result self.new }
     {
-        let connect = Packet::Connect(Connect {
-            client: self.client.clone()?,
-            clean: false,
-            keep_alive: self.keep_alive,
-        });
         let mut out = Vec::new(self.alloc);
-        write(&connect, &mut out)?;
+        write_connect(&self.client, self.keep_alive, &mut out)?;
         self.lost();
         self.stage = Stage::Opened;
         self.out = out;

@@ -1,6 +1,7 @@
 // What a packet of a handshake makes of a client (MQTT 4.3).
 
 ghost use Rattle.std.specs.Prelude.{◌≡◌, false};
+ghost use Rattle.lists.specs.Lists.{has_id};
 ghost use Rattle.packet.specs.declared.delivery.Delivery.TheVariants as deliveries;
 ghost use Rattle.client_base.specs.Answered.{on_publish, on_puback, on_pubrec, on_pubcomp, on_pubrel, answered, accepted_of, is_subscribe, is_unsubscribe};
 ghost use Rattle.client.specs.Inside.Turns.{Tries, changed};
@@ -10,9 +11,9 @@ use crate::identifiers::{
     end_acknowledged, end_subscribes, end_unsubscribes, forget, has_id, has_unreleased,
     take_released,
 };
-use crate::writing::write;
+use crate::writing::{write_puback, write_pubcomp, write_pubrec, write_pubrel};
 use client_base::{Accepted, ClientError};
-use packet::{Delivery, Packet, PacketId, Publish};
+use packet::{Delivery, PacketId, Publish};
 
 impl ClientCore {
     // PUBLISH: accepted each time at QoS 0 and 1, and at QoS 2 once while its identifier is kept.
@@ -43,25 +44,34 @@ impl ClientCore {
             self.old result self.new }
     {
         self.accepted.reserve(1)?;
-        write(&Packet::Puback(id), &mut self.out)?;
+        write_puback(id, &mut self.out)?;
         self.accepted
             .push_reserved(accepted_of(self.session, publish));
         Ok(())
     }
 
-    // PUBLISH at QoS 2. Room for all that it leaves is made before, so that nothing is accepted
-    // whose identifier is not kept.
+    // PUBLISH at QoS 2: a repeat is answered, and not accepted again.
     fn on_exactly_once(&mut self, id: PacketId, publish: Publish) -> Result<(), ClientError>
         ensures { Tries (on_publish publish (deliveries.ExactlyOnce false id) self.old.state)
             self.old result self.new }
     {
         if has_id(&self.received, id) {
-            write(&Packet::Pubrec(id), &mut self.out)?;
+            write_pubrec(id, &mut self.out)?;
             return Ok(());
         }
+        self.accept_once(id, publish)
+    }
+
+    // What is new at QoS 2 is accepted, and its identifier kept. Room for all that it leaves is made
+    // before, so that nothing is accepted whose identifier is not kept.
+    fn accept_once(&mut self, id: PacketId, publish: Publish) -> Result<(), ClientError>
+        requires { has_id id self.old.state.received ≡ false }
+        ensures { Tries (on_publish publish (deliveries.ExactlyOnce false id) self.old.state)
+            self.old result self.new }
+    {
         self.accepted.reserve(1)?;
         self.received.reserve(1)?;
-        write(&Packet::Pubrec(id), &mut self.out)?;
+        write_pubrec(id, &mut self.out)?;
         self.accepted
             .push_reserved(accepted_of(self.session, publish));
         self.received.push_reserved(id);
@@ -72,7 +82,7 @@ impl ClientCore {
     pub(crate) fn on_pubrel(&mut self, id: PacketId) -> Result<(), ClientError>
         ensures { Tries (on_pubrel id self.old.state) self.old result self.new }
     {
-        write(&Packet::Pubcomp(id), &mut self.out)?;
+        write_pubcomp(id, &mut self.out)?;
         forget(&mut self.received, id);
         Ok(())
     }
@@ -90,11 +100,11 @@ impl ClientCore {
     {
         if has_unreleased(&self.sent, id) {
             self.released.reserve(1)?;
-            write(&Packet::Pubrel(id), &mut self.out)?;
+            write_pubrel(id, &mut self.out)?;
             self.released.push_reserved(id);
             take_released(&mut self.sent, id);
         } else if has_id(&self.released, id) {
-            write(&Packet::Pubrel(id), &mut self.out)?;
+            write_pubrel(id, &mut self.out)?;
         }
         Ok(())
     }

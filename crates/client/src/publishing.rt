@@ -1,17 +1,23 @@
 // Publications of a client (MQTT 3.3, 4.3).
 
-ghost use Rattle.std.specs.Prelude.{◌≡◌, true};
+ghost use Rattle.std.specs.Prelude.{◌≡◌, false, true, IfOk};
+ghost use Rattle.packet.specs.declared.delivery.Delivery.TheVariants as deliveries;
+ghost use Rattle.packet.specs.declared.packet.Packet.TheVariants as packets;
 ghost use Rattle.packet.specs.declared.qos.QoS.TheVariants as levels;
 ghost use Rattle.session_base.specs.Publication.{is_answered};
+ghost use Rattle.client_base.specs.State.{publish_kept};
+ghost use Rattle.client_base.specs.Calls.{is_over_limit};
 ghost use Rattle.client_base.specs.Steps.{Call, keeper_step};
 ghost use Rattle.client.specs.Core.{Does, publication_with};
 ghost use Rattle.client.specs.Inside.Ids.{PublicationId};
+ghost use Rattle.client.specs.Inside.Turns.{keeping, sending};
 
 use crate::client_core::ClientCore;
-use crate::writing::{publish_again, write};
+use crate::writing::{publish_again, write, write_publish};
 use client_base::{ClientError, KeptPublication, Stage};
 use packet::{Delivery, Packet, PacketId, Payload, Publish, QoS};
 use session_base::Publication;
+use std::alloc::AllocError;
 use topics::TopicName;
 
 /// How many publications are kept at most.
@@ -54,12 +60,7 @@ impl ClientCore {
         if self.stage != Stage::Online {
             return Err(ClientError::NotActive);
         }
-        let packet = Packet::Publish(Publish {
-            topic: publication.topic,
-            delivery: Delivery::AtMostOnce,
-            retain: publication.retain,
-            payload: publication.payload,
-        });
+        let packet = packet_once(publication);
         if packet.is_too_large() {
             return Err(ClientError::TooLarge);
         }
@@ -74,18 +75,30 @@ impl ClientCore {
             self.old result self.new }
     {
         let id = self.publication_id()?;
-        let kept = KeptPublication { id, publication };
-        let packet = publish_again(&kept, false)?;
-        if packet.is_too_large() {
+        self.keep(KeptPublication { id, publication })
+    }
+
+    // Keeps a publication, and sends it where the client is online.
+    fn keep(&mut self, kept: KeptPublication) -> Result<(), ClientError>
+        ensures { Does (keeping kept self.old.state) self.old result self.new }
+    {
+        if is_too_large(&kept)? {
             return Err(ClientError::TooLarge);
         }
         if self.stage == Stage::Online {
-            self.sent.reserve(1)?;
-            write(&packet, &mut self.out)?;
-            self.sent.push_reserved(kept);
-        } else {
-            self.unsent.push(kept)?;
+            return self.send(kept);
         }
+        self.unsent.push(kept)?;
+        Ok(())
+    }
+
+    // Sends a publication, and keeps it as sent.
+    fn send(&mut self, kept: KeptPublication) -> Result<(), ClientError>
+        ensures { Does (sending kept self.old.state) self.old result self.new }
+    {
+        self.sent.reserve(1)?;
+        write_publish(&kept, false, &mut self.out)?;
+        self.sent.push_reserved(kept);
         Ok(())
     }
 
@@ -98,4 +111,29 @@ impl ClientCore {
         }
         self.free_id().ok_or(ClientError::WindowFull)
     }
+}
+
+// The PUBLISH of a publication at QoS 0.
+fn packet_once(publication: Publication) -> Packet
+    ensures { result ≡ packets.Publish (record {
+      topic = publication.topic;
+      delivery = deliveries.AtMostOnce;
+      retain = publication.retain;
+      payload = publication.payload;
+    }) }
+{
+    Packet::Publish(Publish {
+        topic: publication.topic,
+        delivery: Delivery::AtMostOnce,
+        retain: publication.retain,
+        payload: publication.payload,
+    })
+}
+
+// Whether the PUBLISH of a publication is over the size limit.
+fn is_too_large(kept: &KeptPublication) -> Result<bool, AllocError>
+    ensures { IfOk result (λ large. large ≡ is_over_limit (publish_kept false kept.now)) }
+{
+    let packet = publish_again(kept, false)?;
+    Ok(packet.is_too_large())
 }

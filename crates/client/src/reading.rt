@@ -2,7 +2,7 @@
 
 ghost use Rattle.std.specs.Prelude.{◌≡◌, ◌<◌, length, true, Ok};
 ghost use Rattle.client_base.specs.Calls.{on_first, on_later};
-ghost use Rattle.client.specs.Reading.{turn_of, OnBytes};
+ghost use Rattle.client.specs.Reading.{turn_of, cause_of, OnBytes};
 ghost use Rattle.client.specs.Inside.Turns.{Tries, ReadsOne, TakesIn, TakesNext, Feeds, ReadsAll, cut_cause, is_fatal};
 
 use crate::client_core::ClientCore;
@@ -81,7 +81,7 @@ impl ClientCore {
         match self.cutter.next() {
             Ok(Some(packet)) => Ok(Some(packet)),
             Ok(None) => Ok(None),
-            Err(error) => Err(cause_of(error)),
+            Err(error) => Err(cut_cause(error)),
         }
     }
 
@@ -131,15 +131,23 @@ impl ClientCore {
     }
 }
 
-// Why the reading stops at what is no packet. A CONNECT that a server would refuse with a code is a
-// packet that only a client sends.
-fn cause_of(error: CutError) -> ClientError
+// Why the reading stops at what is no packet.
+fn cut_cause(error: CutError) -> ClientError
     ensures { result ≡ cut_cause error }
 {
     match error {
-        CutError::Decode(DecodeFault::Malformed(kind)) => ClientError::Malformed(kind),
-        CutError::Decode(DecodeFault::Refused(_)) => ClientError::Protocol,
+        CutError::Decode(fault) => cause_of(fault),
         CutError::Memory | CutError::Failed => ClientError::Memory,
+    }
+}
+
+// A CONNECT that a server would refuse with a code is a packet that only a client sends.
+fn cause_of(fault: DecodeFault) -> ClientError
+    ensures { result ≡ cause_of fault }
+{
+    match fault {
+        DecodeFault::Malformed(kind) => ClientError::Malformed(kind),
+        DecodeFault::Refused(_) => ClientError::Protocol,
     }
 }
 

@@ -1,6 +1,6 @@
 // Packets that a client writes.
 
-ghost use Rattle.std.specs.Prelude.{◌≡◌, map, IfOk, OnOk, OnErr, IsErrOf};
+ghost use Rattle.std.specs.Prelude.{◌≡◌, false, map, IfOk, OnOk, OnErr, IsErrOf};
 ghost use Rattle.packet.specs.Spelling.{IsListed, AppendsSpelling};
 ghost use Rattle.packet.specs.declared.packet.Packet.TheVariants as packets;
 ghost use Rattle.session_base.specs.Publication.{delivery_at};
@@ -8,7 +8,7 @@ ghost use Rattle.client_base.specs.State.{publish_kept};
 ghost use Rattle.client.specs.Core.{AppendsAll};
 
 use client_base::{ClientError, KeptPublication};
-use packet::{Delivery, Packet, PacketId, Publish, QoS, encode};
+use packet::{ClientId, Connect, Delivery, Packet, PacketId, Publish, QoS, encode};
 use std::alloc::AllocError;
 
 // Writes a packet behind what is written. It is not over the size limit, which its makers see to.
@@ -22,6 +22,25 @@ pub(crate) fn write(packet: &Packet, out: &mut Vec<u8>) -> Result<(), ClientErro
         Ok(()) => Ok(()),
         Err(_) => Err(ClientError::Memory),
     }
+}
+
+// Writes the CONNECT of a client, whose sessions are never clean.
+pub(crate) fn write_connect(
+    client: &ClientId,
+    keep_alive: u16,
+    out: &mut Vec<u8>,
+) -> Result<(), ClientError>
+    ensures ok { OnOk result (AppendsSpelling out.old.items out.new.items
+        (packets.Connect
+        (record { client = client.now; clean = false; keep_alive = keep_alive }))) }
+    ensures memory { OnErr result (IsErrOf result ClientError.Memory) }
+{
+    let connect = Packet::Connect(Connect {
+        client: client.clone()?,
+        clean: false,
+        keep_alive,
+    });
+    write(&connect, out)
 }
 
 // QoS, DUP and identifier of a PUBLISH.
@@ -48,15 +67,66 @@ pub(crate) fn publish_again(kept: &KeptPublication, dup: bool) -> Result<Packet,
     }))
 }
 
+// Writes PUBACK.
+pub(crate) fn write_puback(id: PacketId, out: &mut Vec<u8>) -> Result<(), ClientError>
+    ensures ok { OnOk result (AppendsSpelling out.old.items out.new.items (packets.Puback id)) }
+    ensures memory { OnErr result (IsErrOf result ClientError.Memory) }
+    ensures err { OnErr result (out.new.items ≡ out.old.items) }
+{
+    write(&Packet::Puback(id), out)
+}
+
+// Writes PUBREC.
+pub(crate) fn write_pubrec(id: PacketId, out: &mut Vec<u8>) -> Result<(), ClientError>
+    ensures ok { OnOk result (AppendsSpelling out.old.items out.new.items (packets.Pubrec id)) }
+    ensures memory { OnErr result (IsErrOf result ClientError.Memory) }
+    ensures err { OnErr result (out.new.items ≡ out.old.items) }
+{
+    write(&Packet::Pubrec(id), out)
+}
+
+// Writes PUBREL.
+pub(crate) fn write_pubrel(id: PacketId, out: &mut Vec<u8>) -> Result<(), ClientError>
+    ensures ok { OnOk result (AppendsSpelling out.old.items out.new.items (packets.Pubrel id)) }
+    ensures memory { OnErr result (IsErrOf result ClientError.Memory) }
+    ensures err { OnErr result (out.new.items ≡ out.old.items) }
+{
+    write(&Packet::Pubrel(id), out)
+}
+
+// Writes PUBCOMP.
+pub(crate) fn write_pubcomp(id: PacketId, out: &mut Vec<u8>) -> Result<(), ClientError>
+    ensures ok { OnOk result (AppendsSpelling out.old.items out.new.items (packets.Pubcomp id)) }
+    ensures memory { OnErr result (IsErrOf result ClientError.Memory) }
+    ensures err { OnErr result (out.new.items ≡ out.old.items) }
+{
+    write(&Packet::Pubcomp(id), out)
+}
+
 // Writes PUBREL for each of these, in order.
 pub(crate) fn write_pubrels(ids: &[PacketId], out: &mut Vec<u8>) -> Result<(), ClientError>
     ensures ok { OnOk result (AppendsAll out.old.items out.new.items (map packets.Pubrel ids.now)) }
     ensures memory { OnErr result (IsErrOf result ClientError.Memory) }
 {
     for id in ids {
-        write(&Packet::Pubrel(*id), out)?;
+        write_pubrel(*id, out)?;
     }
     Ok(())
+}
+
+// Writes the PUBLISH of a kept publication.
+pub(crate) fn write_publish(
+    kept: &KeptPublication,
+    dup: bool,
+    out: &mut Vec<u8>,
+) -> Result<(), ClientError>
+    ensures ok { OnOk result
+        (AppendsSpelling out.old.items out.new.items (publish_kept dup kept.now)) }
+    ensures memory { OnErr result (IsErrOf result ClientError.Memory) }
+    ensures err { OnErr result (out.new.items ≡ out.old.items) }
+{
+    let packet = publish_again(kept, dup)?;
+    write(&packet, out)
 }
 
 // Writes PUBLISH for each of these, in order, with this DUP.
@@ -70,7 +140,7 @@ pub(crate) fn write_publishes(
     ensures memory { OnErr result (IsErrOf result ClientError.Memory) }
 {
     for one in kept {
-        write(&publish_again(one, dup)?, out)?;
+        write_publish(one, dup, out)?;
     }
     Ok(())
 }

@@ -1,5 +1,5 @@
 -- What the handling of one packet makes of a client, before its connection is given up.
-use Rattle.std.specs.Prelude.{◌≡◌, ℕ, Bool, true, false, List, [], ◌++◌, Option, Some, None, Result, Ok, Err}
+use Rattle.std.specs.Prelude.{◌≡◌, ℕ, Bool, true, false, if◌then◌else◌, List, [], ◌∷◌, ◌++◌, Option, Some, None, Result, Ok, Err}
 use Rattle.packet.specs.declared.packet.Packet.{Packet}
 use Rattle.packet.specs.declared.error.DecodeFault.{DecodeFault}
 use Rattle.cutter.specs.declared.error.CutError.{CutError}
@@ -7,8 +7,10 @@ use Rattle.cutter.specs.declared.error.CutError.TheVariants as cuts
 use Rattle.cutter.specs.Stream.{Stream, Takes}
 use Rattle.client_base.specs.declared.error.ClientError.{ClientError}
 use Rattle.client_base.specs.declared.error.ClientError.TheVariants as errors
-use Rattle.client_base.specs.State.{ClientState}
-use Rattle.client_base.specs.Answered.{Turn}
+use Rattle.client_base.specs.declared.kept_publication.KeptPublication.{KeptPublication}
+use Rattle.client_base.specs.State.{ClientState, is_online, publish_kept}
+use Rattle.client_base.specs.Answered.{Turn, going_on}
+use Rattle.client_base.specs.Calls.{is_over_limit, refused}
 use Rattle.client.specs.Core.{Core, IsDone}
 use Rattle.client.specs.Reading.{Reads, turn_of, StopsFor, Handles, cause_of, fed}
 
@@ -94,3 +96,15 @@ TakesNext old (Err cause) new =
     ((fault : DecodeFault) × (rest : Stream) × Takes old.unread (Err (cuts.Decode fault)) rest
     × (cause ≡ cause_of fault))
     × (new.state ≡ old.state) × (new.out ≡ old.out)
+
+-- a publication is sent, and kept as sent
+abbrev pub sending : KeptPublication → ClientState → Turn
+sending kept state =
+    going_on (record state { sent = state.sent ++ kept ∷ [] }) (publish_kept false kept ∷ [])
+
+-- one that is not too large is kept, and sent at once where the client is online
+abbrev pub keeping : KeptPublication → ClientState → Turn
+keeping kept state =
+    if is_over_limit (publish_kept false kept) then refused errors.TooLarge state else
+    if is_online state.stage then sending kept state
+    else going_on (record state { unsent = state.unsent ++ kept ∷ [] }) []
