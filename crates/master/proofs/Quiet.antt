@@ -4,6 +4,7 @@ use Rattle.std.specs.Prelude.{slice_get, nat_lt, ◌&&◌}
 use Rattle.std.proofs.lemmas.Bool.{and_parts, both_ways, ltb-true}
 use Rattle.std.proofs.lemmas.List.{append-nil, length-append}
 use Rattle.machine.specs.Machine.{Rules}
+use Rattle.ballot.specs.Config.{Config}
 use Rattle.ballot.specs.Effect.{Effect}
 use Rattle.ballot.specs.Message.{Message}
 use Rattle.ballot.specs.Losses.{halted}
@@ -13,13 +14,13 @@ use Rattle.ballot.specs.Replica.{ReplicaState, is_active}
 use Rattle.ballot.specs.Sending.{Outcome, nothing_done}
 use Rattle.ballot.specs.Serving.{added, most_places}
 use Rattle.ballot.proofs.StepRows.{added-log, proposed-adds}
-use Rattle.agreement.specs.MasterState.{MasterOutcome}
+use Rattle.agreement.specs.MasterState.{AssignRefusal, MasterOutcome, refusal}
 use Rattle.agreement.specs.Past.{Moment}
 use Rattle.agreement.specs.World.{World, moved}
 use Rattle.master.specs.declared.event.Event.{Event}
-use Rattle.master.specs.declared.event.Event.TheVariants.{Deliver, Tick, Crash}
+use Rattle.master.specs.declared.event.Event.TheVariants.{Assign, Deliver, Tick, Crash}
 use Rattle.master.specs.Group.{GroupState}
-use Rattle.master.specs.Exact.{NodeTurn, Turn, behind, can_take, turn}
+use Rattle.master.specs.Exact.{NodeTurn, Turn, behind, can_take, gives, turn}
 use Rattle.master.specs.Exact.Turn.{by_node, by_master, unheeded}
 use Rattle.master.specs.Inside.{RunsAt}
 use Rattle.master.specs.Steps.{StepsBy, TakesNoMemory, done_exactly}
@@ -146,3 +147,13 @@ pub quiet_as : {S C O : Type 0} (rules : Rules S C O) (old new : GroupState S C 
     (TakesNoMemory rules old.moment e → new ≡ done_exactly rules old e) → TakesNoMemory rules old.moment event → new ≡ done_exactly rules old event
 quiet_as {C = C} rules old new e event same quiet =
     subst (λ (x : Event C). TakesNoMemory rules old.moment x → new ≡ done_exactly rules old x) (sym same) quiet
+
+-- a configuration that the master refuses
+pub refused_turn : {S C O : Type 0} (rules : Rules S C O) (a : Moment S C O) (config : Config) (can : Bool) →
+    (can ≡ true → refusal a.master config ≡ None) × (refusal a.master config ≡ None → can ≡ true) → can ≡ false →
+    turn rules a (Assign config) ≡ None
+refused_turn {S = S} {C = C} {O = O} rules a config can exactly off = by_refusal (refusal a.master config) refl
+  where
+    by_refusal : (why : Option AssignRefusal) → refusal a.master config ≡ why → turn rules a (Assign config) ≡ None
+    by_refusal (Some why) e = ap (gives rules a.master config) e
+    by_refusal None e = absurd (both_ways can off (exactly.1 e))

@@ -16,9 +16,7 @@ pub fn copy_of<M: Machine>(
     let from = message.from;
     let body = match &message.body {
         Body::NewBallot(ballot, members, previous, previous_members) => {
-            let members = Members::from_slice(alloc, members.as_slice())?;
-            let previous_members = Members::from_slice(alloc, previous_members.as_slice())?;
-            Body::NewBallot(*ballot, members, *previous, previous_members)
+            new_ballot_of(alloc, *ballot, members, *previous, previous_members)?
         }
         Body::Join(ballot, previous) => Body::Join(*ballot, *previous),
         Body::State(ballot, log) => Body::State(*ballot, copy_log::<M>(alloc, log.as_slice())?),
@@ -34,6 +32,22 @@ pub fn copy_of<M: Machine>(
         Body::Commit(ballot, committed) => Body::Commit(*ballot, *committed),
     };
     Ok(Message { from, body })
+}
+
+// A copy of a NewBallot.
+fn new_ballot_of<C>(
+    alloc: Global,
+    ballot: u64,
+    members: &Members,
+    previous: u64,
+    previous_members: &Members,
+) -> Result<Body<C>, Memory>
+    ensures { IfOk result (λ body. body
+        ≡ Body.NewBallot ballot members.now previous previous_members.now) }
+{
+    let members = Members::from_slice(alloc, members.as_slice())?;
+    let previous_members = Members::from_slice(alloc, previous_members.as_slice())?;
+    Ok(Body::NewBallot(ballot, members, previous, previous_members))
 }
 
 /// A copy of a configuration. The only error is want of memory.

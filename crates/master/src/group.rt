@@ -6,7 +6,7 @@ ghost use Rattle.ballot.specs.Protocol.{replica_step};
 ghost use Rattle.ballot.specs.Protocol.Input.{Receives};
 ghost use Rattle.ballot.specs.Sending.{nothing_done};
 ghost use Rattle.ballot.specs.Losses.{one_more};
-ghost use Rattle.ballot.specs.Replica.{ReplicaState};
+ghost use Rattle.ballot.specs.Replica.{CountedReplica, ReplicaState};
 ghost use Rattle.lists.specs.Lists.{In};
 ghost use Rattle.agreement.specs.MasterState.{activated, assigned, refusal};
 ghost use Rattle.agreement.specs.Past.{IsAgreed, Moment, Past, opening_moment};
@@ -392,10 +392,7 @@ impl<M: Machine> Group<M> {
     fn log_of(&self, node: u8) -> &[M::Command]
         ensures { result.now ≡ log_of (slice_get self.now.moment.world.nodes (node - 1)) }
     {
-        match self.nodes.get(node.saturating_sub(1) as usize) {
-            Some(replica) => replica.log(),
-            None => &[],
-        }
+        log_among(&self.nodes, node)
     }
 
     // The log of a member of the active ballot that has so many places.
@@ -422,5 +419,16 @@ impl<M: Machine> Group<M> {
         ensures { self.new ≡ record self.old { losses = one_more self.old.losses } }
     {
         self.losses = counted(self.losses, false, true);
+    }
+}
+
+// The log of a node among these; empty where it is not there.
+fn log_among<M: Machine>(nodes: &[Replica<M>], node: u8) -> &[M::Command]
+    ensures { result.now ≡ log_of (slice_get
+        (map (λ (replica : CountedReplica M M.Command). replica.state) nodes.now) (node - 1)) }
+{
+    match nodes.get(node.saturating_sub(1) as usize) {
+        Some(replica) => replica.log(),
+        None => &[],
     }
 }

@@ -1,7 +1,7 @@
-use Rattle.std.proofs.Common.{◌-◌, ap, refl}
+use Rattle.std.proofs.Common.{◌-◌, ap, refl, rules as rules_of}
 use Rattle.ballot.specs.Replica.{CountedReplica}
 use Rattle.master.specs.declared.event.Event.TheVariants.{Crash}
-use Rattle.master.proofs.Counting.{stops_turn, steps_turn}
+use Rattle.master.proofs.Counting.{some_idle, steps_idle, stops_turn, steps_turn}
 use Rattle.master.proofs.Groups.{group_stops}
 use Rattle.master.proofs.Turns.{crash_group, crash_turn}
 use Rattle.master.proofs.Quiet.{exactly_none, exactly_stopped}
@@ -39,3 +39,20 @@ returns-clause-quiet g c =
     (crash_group rules c.self.inside.master c.self.inside.nodes.items c.self.inside.sent.items c.self.inside.left.items c.self.inside.losses c.in-Some.at
     c.index_mut-replica.result.now c.stop.new.self x.replica c.index_mut-replica.ensures.value x.stands
     (ap (λ (z : CountedReplica g.row.M.Denot g.row.M-Command.Denot). z.state) c.stop.ensures)))
+
+pub returns-in_default-clause-step : goal.returns-in_default-clause-step
+returns-in_default-clause-step g c =
+    let rules = g.M.Machine.rules in
+    let none = ap (stopping rules (c.args.node - 1)) (c.in_default.ensures.none refl) in
+    steps_idle rules c.args.self.now (Crash c.args.node) none
+
+pub returns-in_default-clause-idle : goal.returns-in_default-clause-idle
+returns-in_default-clause-idle g c =
+    let rules = g.M.Machine.rules in
+    let none = ap (stopping rules (c.args.node - 1)) (c.in_default.ensures.none refl) in
+    (λ h. none, λ e. search rules_of)
+
+pub returns-clause-idle : goal.returns-clause-idle
+returns-clause-idle g c =
+    let rules = g.M.Machine.rules in
+    (λ h. cc, λ e. some_idle (stops_turn rules c.args.self.now.moment.world.nodes c.args.node c.in-Some.at c.in-Some.ensures.some) e)
