@@ -1,6 +1,6 @@
 // The packets of entries, and what an entry waits for.
 
-ghost use Rattle.std.specs.Prelude.{◌≡◌, IfOk};
+ghost use Rattle.std.specs.Prelude.{◌≡◌, false, [], ◌∷◌, ◌++◌, IfOk, OnOk, OnErr};
 ghost use Rattle.packet.specs.declared.packet.Packet.TheVariants as packets;
 ghost use Rattle.session_base.specs.Publication.{publish_of, delivery_at};
 ghost use Rattle.session_base.specs.Queue.{is_puback, is_pubrec, is_pubcomp, awaited};
@@ -42,11 +42,7 @@ pub(crate) fn awaits_of(publication: Publication) -> Awaits
 }
 
 /// The PUBLISH that carries a publication.
-pub(crate) fn publish_packet(
-    publication: &Publication,
-    dup: bool,
-    id: PacketId,
-) -> Result<Packet, AllocError>
+fn publish_packet(publication: &Publication, dup: bool, id: PacketId) -> Result<Packet, AllocError>
     ensures { IfOk result (λ packet. packet ≡ packets.Publish (publish_of dup id publication.now)) }
 {
     Ok(Packet::Publish(Publish {
@@ -55,6 +51,21 @@ pub(crate) fn publish_packet(
         retain: publication.retain,
         payload: publication.payload.clone()?,
     }))
+}
+
+/// Appends the PUBLISH that sends a publication for the first time.
+pub(crate) fn send_publish(
+    publication: &Publication,
+    id: PacketId,
+    out: &mut Vec<Packet>,
+) -> Result<(), AllocError>
+    ensures ok { OnOk result (out.new.items
+        ≡ out.old.items ++ packets.Publish (publish_of false id publication.now) ∷ []) }
+    ensures err { OnErr result (out.new.items ≡ out.old.items) }
+{
+    let packet = publish_packet(publication, false, id)?;
+    out.push(packet)?;
+    Ok(())
 }
 
 /// What a client that comes back is sent of an entry: PUBLISH with DUP 1, or PUBREL for a released

@@ -11,7 +11,7 @@ ghost use Rattle.session.specs.Inside.{started, start_sends, IsAwaited, with_rel
 ghost use Rattle.session_base.specs.Queue.{empty_queue, is_released, awaits_pubrec, awaits_pubcomp, on_puback, on_pubrec, on_pubcomp, released_with, enqueue, room, filled, ids_of};
 
 use crate::sending::{
-    awaits_of, packet_anew, publish_packet, waits_for_puback, waits_for_pubcomp, waits_for_pubrec,
+    awaits_of, packet_anew, send_publish, waits_for_puback, waits_for_pubcomp, waits_for_pubrec,
 };
 use indexmap::IndexMap;
 use packet::{Packet, PacketId};
@@ -95,7 +95,7 @@ impl SessionQueue {
             let id = free_id(&self.in_flight);
             fill_takes_what_waits();
             resend_keeps_the_order();
-            out.push(publish_packet(&publication, false, id)?)?;
+            send_publish(&publication, id, out)?;
             put_last(&mut self.in_flight, id, awaits_of(publication))?;
         }
         Ok(())
