@@ -1,6 +1,7 @@
 // Requests of a client (MQTT 3.8, 3.10).
 
-ghost use Rattle.std.specs.Prelude.{◌≡◌, [], ◌∷◌, IfOk, OnErr, IsErrOf};
+ghost use Rattle.std.specs.Prelude.{◌≡◌, [], ◌∷◌, IfOk, OnOk, OnErr, IsErrOf};
+ghost use Rattle.packet.specs.Spelling.{AppendsSpelling};
 ghost use Rattle.packet.specs.declared.packet.Packet.TheVariants as packets;
 ghost use Rattle.client_base.specs.Steps.{Call, keeper_step};
 ghost use Rattle.client.specs.Core.{Does};
@@ -22,9 +23,8 @@ impl ClientCore {
             self.old result self.new }
     {
         let id = self.request_id()?;
-        let packet = subscribe_packet(self.alloc, id, filter, qos)?;
         self.requests.reserve(1)?;
-        write(&packet, &mut self.out)?;
+        write_subscribe(self.alloc, id, filter, qos, &mut self.out)?;
         self.requests.push_reserved(Request::Subscribes(id));
         Ok(())
     }
@@ -35,9 +35,8 @@ impl ClientCore {
             self.old result self.new }
     {
         let id = self.request_id()?;
-        let packet = unsubscribe_packet(self.alloc, id, filter)?;
         self.requests.reserve(1)?;
-        write(&packet, &mut self.out)?;
+        write_unsubscribe(self.alloc, id, filter, &mut self.out)?;
         self.requests.push_reserved(Request::Unsubscribes(id));
         Ok(())
     }
@@ -51,6 +50,40 @@ impl ClientCore {
         }
         self.free_id().ok_or(ClientError::WindowFull)
     }
+}
+
+// Writes SUBSCRIBE with one filter.
+fn write_subscribe(
+    alloc: Global,
+    id: PacketId,
+    filter: Filter,
+    qos: QoS,
+    out: &mut Vec<u8>,
+) -> Result<(), ClientError>
+    ensures ok { OnOk result (AppendsSpelling out.old.items out.new.items
+        (packets.Subscribe
+        (record { id = id; filters = record { filter = filter; qos = qos } ∷ [] }))) }
+    ensures memory { OnErr result (IsErrOf result ClientError.Memory) }
+    ensures err { OnErr result (out.new.items ≡ out.old.items) }
+{
+    let packet = subscribe_packet(alloc, id, filter, qos)?;
+    write(&packet, out)
+}
+
+// Writes UNSUBSCRIBE with one filter.
+fn write_unsubscribe(
+    alloc: Global,
+    id: PacketId,
+    filter: Filter,
+    out: &mut Vec<u8>,
+) -> Result<(), ClientError>
+    ensures ok { OnOk result (AppendsSpelling out.old.items out.new.items
+        (packets.Unsubscribe (record { id = id; filters = filter ∷ [] }))) }
+    ensures memory { OnErr result (IsErrOf result ClientError.Memory) }
+    ensures err { OnErr result (out.new.items ≡ out.old.items) }
+{
+    let packet = unsubscribe_packet(alloc, id, filter)?;
+    write(&packet, out)
 }
 
 // SUBSCRIBE with one filter.
