@@ -12,7 +12,7 @@ pub use ending::Ending;
 pub use naming::NodeNaming;
 pub use node_base::{Counted, PIECE_BYTES, Written};
 pub use node_state::NodeState;
-pub use running::run_connection;
+pub use running::{run_alone, run_connection};
 pub use service::Service;
 pub use world_base::{
     Body, Command, Config, ConnectionId, Effect, Handed, Item, Members, Memory, Message, NodeCore,

@@ -10,7 +10,7 @@ use node_base::{Counted, PIECE_BYTES, Written};
 use std::alloc::Global;
 use std::io::{Read, Write};
 use std::sync::Wait;
-use world_base::{Handed, Item, Memory, Piece, Port};
+use world_base::{Config, Handed, Item, Members, Memory, NodeCore, Piece, Port};
 
 /// The port of the one connection.
 const PORT: Port = Port(1);
@@ -41,6 +41,29 @@ pub fn run_connection<R: Wait, S: Service, I: Read, O: Write>(
         }
     }
     unreachable!()
+}
+
+/// Runs one connection of a node by itself, the only member of ballot 1, as [`run_connection`] does.
+///
+/// The only error is want of memory: for the node, or outside its steps.
+pub fn run_alone<R: Wait, I: Read, O: Write>(
+    rt: &R,
+    alloc: Global,
+    input: &mut Counted<I>,
+    output: &mut Counted<O>,
+) -> Result<Ending, Memory>
+    // A fault is told exactly where one more call of a device failed.
+    ensures { IfOk result (λ ending. TellsFaults (Some ending)
+        input.old.faults input.new.faults output.old.faults output.new.faults) }
+{
+    let config = Config {
+        members: Members::from_slice(alloc, &[1])?,
+        primary: 1,
+    };
+    let Ok(mut node) = NodeCore::new(alloc, 1, &config) else {
+        return Err(Memory);
+    };
+    run_connection(rt, alloc, &mut node, input, output)
 }
 
 // Writes what the service has put out, reads one piece and has the service take it: how the

@@ -1,6 +1,7 @@
 // The thread of one connection.
 
 use crate::link::Link;
+use crate::served::Served;
 use crate::shared::Shared;
 use crate::turns::send;
 use mailbox::Lane;
@@ -9,19 +10,18 @@ use std::alloc::Global;
 use std::io::Read;
 use std::net::TcpStream;
 use std::sync::{Arc, Wait};
-use std::time::{Clock, Duration, Instant};
+use std::time::{Clock, Duration};
 
 /// How long a write may wait before the rest is left to the node's own thread, in milliseconds.
 const WRITE_MILLIS: u64 = 1;
 
 /// Serves a stream until its client or the node ends it. Where all lanes are taken, or there is no memory
 /// for it, the stream is closed at once.
-pub(crate) fn serve_stream<J: NodeNaming, R: Wait + Clock>(
+pub(crate) fn serve_stream<J: NodeNaming, S: Served<J>, R: Wait + Clock>(
     rt: &R,
     alloc: Global,
-    shared: &Shared<J>,
+    shared: &Shared<J, S>,
     stream: TcpStream,
-    start: Instant,
 ) {
     if stream.set_nodelay(true).is_err()
         || stream
@@ -30,12 +30,12 @@ pub(crate) fn serve_stream<J: NodeNaming, R: Wait + Clock>(
     {
         return;
     }
-    let Some(mut lane) = shared.lanes.lock(rt).pop() else {
+    let Some(mut lane) = shared.lane(rt) else {
         return;
     };
     let port = shared.new_port(rt);
     if let Ok(link) = Arc::new(alloc, Link::new(alloc, port, stream)) {
-        listed(rt, alloc, shared, &mut lane, link, start);
+        listed(rt, alloc, shared, &mut lane, link);
     }
     // There was room for it when it was taken.
     let _ = shared.lanes.lock(rt).push(lane);
@@ -43,36 +43,34 @@ pub(crate) fn serve_stream<J: NodeNaming, R: Wait + Clock>(
 
 // Tells the node of the connection, and lists it while it is served. A port of which the node has not heard yet
 // is one that it closed, so it is listed behind that.
-fn listed<J: NodeNaming, R: Wait + Clock>(
+fn listed<J: NodeNaming, S: Served<J>, R: Wait + Clock>(
     rt: &R,
     alloc: Global,
-    shared: &Shared<J>,
+    shared: &Shared<J, S>,
     lane: &mut Lane<Item, J>,
     link: Arc<Link, Global>,
-    start: Instant,
 ) {
     let Ok(other) = Arc::try_clone(&link) else {
         return;
     };
-    let opened = Item::Opened(link.port, millis_since(rt, start));
+    let opened = Item::Opened(link.port, shared.seat.now(rt));
     send(rt, alloc, shared, lane, opened);
-    if shared.door.enter(rt, other) {
-        talk(rt, alloc, shared, lane, &link, start);
+    if shared.seat.place.door.enter(rt, other) {
+        talk(rt, alloc, shared, lane, &link);
     }
     send(rt, alloc, shared, lane, Item::Ended(link.port));
     link.shut();
-    shared.door.leave(rt, link.port);
+    shared.seat.place.door.leave(rt, link.port);
     forget(rt, alloc, shared, link.port);
 }
 
 // Tells the node of each piece that comes on the connection, until its end.
-fn talk<J: NodeNaming, R: Wait + Clock>(
+fn talk<J: NodeNaming, S: Served<J>, R: Wait + Clock>(
     rt: &R,
     alloc: Global,
-    shared: &Shared<J>,
+    shared: &Shared<J, S>,
     lane: &mut Lane<Item, J>,
     link: &Arc<Link, Global>,
-    start: Instant,
 ) {
     let Ok(mut room) = Vec::from_elem(alloc, 0u8, PIECE_BYTES) else {
         return;
@@ -81,7 +79,7 @@ fn talk<J: NodeNaming, R: Wait + Clock>(
         let Some(piece) = read_piece(alloc, &link.stream, room.as_mut_slice()) else {
             break;
         };
-        let item = Item::Bytes(link.port, piece, millis_since(rt, start));
+        let item = Item::Bytes(link.port, piece, shared.seat.now(rt));
         send(rt, alloc, shared, lane, item);
     }
 }
@@ -97,16 +95,13 @@ fn read_piece(alloc: Global, stream: &TcpStream, room: &mut [u8]) -> Option<Piec
 }
 
 // Takes what the node still holds for a connection that has ended, so that it holds no more.
-fn forget<J: NodeNaming, R: Wait>(rt: &R, alloc: Global, shared: &Shared<J>, port: Port) {
+fn forget<J: NodeNaming, S: Served<J>, R: Wait>(
+    rt: &R,
+    alloc: Global,
+    shared: &Shared<J, S>,
+    port: Port,
+) {
     let mut left = Vec::new(alloc);
     // Where there is no memory for it the node keeps it.
-    let _ = shared.node.lock(rt).outgoing(port, &mut left);
-}
-
-/// Milliseconds since the node was opened.
-pub(crate) fn millis_since<R: Clock>(rt: &R, start: Instant) -> u64 {
-    match start.elapsed(rt) {
-        Ok(time) => u64::try_from(time.as_millis()).unwrap_or(u64::MAX),
-        Err(_) => 0,
-    }
+    let _ = shared.node.lock(rt).state().outgoing(port, &mut left);
 }

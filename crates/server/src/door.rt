@@ -3,39 +3,30 @@
 use crate::link::Link;
 use node::Port;
 use std::alloc::{AllocError, Global};
-use std::io;
-use std::net::{Net, TcpListener, TcpStream};
 use std::sync::{Arc, Mutex, Wait};
 
 /// The connections that a node serves, and whether it is to serve any.
 #[derive(Drop)]
-pub struct Door {
+pub(crate) struct Door {
     closed: Mutex<bool>,
     links: Mutex<Vec<Arc<Link, Global>>>,
 }
 
 impl Door {
     /// A door that is open, with room for as many connections. The only error is want of memory.
-    pub fn new(alloc: Global, connections: u8) -> Result<Door, AllocError> {
+    pub(crate) fn new(alloc: Global, connections: u8) -> Result<Door, AllocError> {
         Ok(Door {
             closed: Mutex::new(false),
             links: Mutex::new(Vec::with_capacity(alloc, usize::from(connections))?),
         })
     }
 
-    /// Ends all connections, and lets nobody in any more: the call that serves the listener returns. The
-    /// error is that of the connection by which the listener is woken.
-    pub fn close<R: Wait + Net<Stream = TcpStream>>(
-        &self,
-        rt: &R,
-        listener: &TcpListener,
-    ) -> io::Result<()> {
+    /// Ends all connections, and lets nobody in any more.
+    pub(crate) fn close<R: Wait>(&self, rt: &R) {
         *self.closed.lock(rt) = true;
         for link in self.links.lock(rt).iter() {
             link.shut();
         }
-        TcpStream::connect(rt, listener.local_addr()?)?;
-        Ok(())
     }
 
     pub(crate) fn is_closed<R: Wait>(&self, rt: &R) -> bool {

@@ -1,16 +1,26 @@
-//! A node that serves clients over TCP. A thread for each connection reads its bytes, sends them to
-//! the node's inbox by a lane of its own, and then takes what waits there itself, so that no bytes are
-//! handed from thread to thread before they are answered.
+//! Nodes that serve clients over TCP, and the master beside them. A thread for each connection reads its bytes,
+//! sends them to the node's inbox by a lane of its own, and then takes what waits there itself, so that no bytes
+//! are handed from thread to thread before they are answered. A thread of each node's own takes what other nodes
+//! and the master have for it.
 #![tactic(auto)]
 
+mod bell;
 mod connection;
 mod door;
 mod link;
 mod listening;
 mod own_thread;
+mod peer;
+mod peers;
+mod place;
+mod seat;
+mod serve_error;
+mod served;
 mod shared;
 mod turns;
 mod writing;
 
-pub use door::Door;
-pub use listening::{CONNECTIONS, serve};
+pub use listening::serve_while;
+pub use peers::{OrderError, Peers};
+pub use place::{CONNECTIONS, Place};
+pub use serve_error::ServeError;

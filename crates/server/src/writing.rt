@@ -1,6 +1,7 @@
 // What the node put out for a connection, onto its stream.
 
 use crate::link::Link;
+use crate::served::Served;
 use crate::shared::Shared;
 use node::{Handed, NodeNaming};
 use std::alloc::Global;
@@ -22,10 +23,10 @@ enum Wrote {
 
 /// Writes what the node put out for a connection, unless another thread writes there: that one is told
 /// to look again. What a full socket does not take is left to the node's own thread.
-pub(crate) fn flush<J: NodeNaming, R: Wait>(
+pub(crate) fn flush<J: NodeNaming, S: Served<J>, R: Wait>(
     rt: &R,
     alloc: Global,
-    shared: &Shared<J>,
+    shared: &Shared<J, S>,
     link: &Arc<Link, Global>,
 ) {
     if link.begin(rt) {
@@ -34,10 +35,10 @@ pub(crate) fn flush<J: NodeNaming, R: Wait>(
 }
 
 // Writes what was put out, as the one that writes, until nothing more was.
-fn go_on<J: NodeNaming, R: Wait>(
+fn go_on<J: NodeNaming, S: Served<J>, R: Wait>(
     rt: &R,
     alloc: Global,
-    shared: &Shared<J>,
+    shared: &Shared<J, S>,
     link: &Arc<Link, Global>,
 ) {
     let mut out = Vec::new(alloc);
@@ -49,15 +50,15 @@ fn go_on<J: NodeNaming, R: Wait>(
 }
 
 // Takes what the node put out and writes it: whether the stream may take more at once.
-fn write_out<J: NodeNaming, R: Wait>(
+fn write_out<J: NodeNaming, S: Served<J>, R: Wait>(
     rt: &R,
     alloc: Global,
-    shared: &Shared<J>,
+    shared: &Shared<J, S>,
     link: &Arc<Link, Global>,
     out: &mut Vec<u8>,
 ) -> bool {
     out.clear();
-    let handed = shared.node.lock(rt).outgoing(link.port, out);
+    let handed = shared.node.lock(rt).state().outgoing(link.port, out);
     match write_some(alloc, &link.stream, out.as_slice()) {
         Wrote::Whole => {
             if handed == Ok(Handed::Open) {
@@ -79,9 +80,9 @@ fn write_out<J: NodeNaming, R: Wait>(
 }
 
 /// Leaves a connection to the node's own thread.
-pub(crate) fn leave_late<J: NodeNaming, R: Wait>(
+pub(crate) fn leave_late<J: NodeNaming, S: Served<J>, R: Wait>(
     rt: &R,
-    shared: &Shared<J>,
+    shared: &Shared<J, S>,
     link: &Arc<Link, Global>,
 ) {
     let kept = match Arc::try_clone(link) {
@@ -89,17 +90,17 @@ pub(crate) fn leave_late<J: NodeNaming, R: Wait>(
         Err(_) => false,
     };
     if kept {
-        shared.own_thread.unpark();
+        shared.seat.node.bell.ring(rt);
     } else {
         link.shut();
     }
 }
 
 /// Writes more of what a full socket did not take: whether there is still some of it.
-pub(crate) fn is_still_late<J: NodeNaming, R: Wait>(
+pub(crate) fn is_still_late<J: NodeNaming, S: Served<J>, R: Wait>(
     rt: &R,
     alloc: Global,
-    shared: &Shared<J>,
+    shared: &Shared<J, S>,
     link: &Arc<Link, Global>,
 ) -> bool {
     let rest = mem::replace(&mut *link.rest.lock(rt), Vec::new(alloc));

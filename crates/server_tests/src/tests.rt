@@ -1,7 +1,8 @@
-// What no clause says: that bytes come in and go out over a socket.
+// What no clause says: that bytes come in and go out over a socket, by one node and by several, and that a
+// client finds its session at another node.
 
-use node::{Config, Members, NodeCore};
-use server::{CONNECTIONS, Door, serve};
+use node::{Config, Members, Memory};
+use server::{Peers, Place, serve_while};
 use std::alloc::Global;
 use std::io::{Read, Write};
 use std::net::{Net, TcpListener, TcpStream};
@@ -20,96 +21,150 @@ const SENT: [u8; 35] = [
 // CONNACK, SUBACK, and PUBREC with the PUBLISH in either order.
 const ANSWERED: usize = 4 + 5 + 4 + 10;
 
-fn sole(alloc: Global) -> Result<NodeCore, Fail> {
-    let config = Config {
-        members: Members::from_slice(alloc, &[1])?,
+/// Ballot 1 of these members, the first of whom is the primary.
+fn config(alloc: Global, members: &[u8]) -> Result<Config, Memory> {
+    Ok(Config {
+        members: Members::from_slice(alloc, members)?,
         primary: 1,
-    };
-    Ok(NodeCore::new(alloc, 1, &config)?)
+    })
 }
 
-// The answers that a client gets, of which there are as many bytes.
-fn answers<R>(rt: &R, listener: &TcpListener, room: &mut [u8]) -> io::Result<()>
+// The place of a node on a free port.
+fn place<R>(rt: &R, number: u8) -> Result<Place, Fail>
+where
+    R: AllocGlobal + Net<Listener = TcpListener, Stream = TcpStream>,
+{
+    let listener = TcpListener::bind(rt, "127.0.0.1:0")?;
+    Ok(Place::new(rt.alloc(), number, listener)?)
+}
+
+// The answers to these bytes, of which there are as many as there is room.
+fn answers<R>(rt: &R, place: &Place, sent: &[u8], room: &mut [u8]) -> io::Result<()>
 where
     R: Net<Stream = TcpStream>,
 {
-    let mut stream = TcpStream::connect(rt, listener.local_addr()?)?;
-    stream.write_all(&SENT)?;
+    let mut stream = TcpStream::connect(rt, place.address()?)?;
+    stream.write_all(sent)?;
     stream.read_exact(room)
 }
 
-// Asks as a client, and closes the door behind it.
-fn visit<R>(rt: &R, listener: &TcpListener, door: &Door) -> [u8; ANSWERED]
+// Asks a node as client `a`.
+fn visit<R>(rt: &R, place: &Place) -> [u8; ANSWERED]
 where
-    R: Wait + Net<Stream = TcpStream>,
+    R: Net<Stream = TcpStream>,
 {
     let mut room = [0; ANSWERED];
-    let _ = answers(rt, listener, &mut room);
-    let _ = door.close(rt, listener);
+    let _ = answers(rt, place, &SENT, &mut room);
     room
+}
+
+/// Whether these are the CONNACK, the SUBACK, and a PUBREC with the PUBLISH.
+fn are_answers(got: &[u8; ANSWERED]) -> bool {
+    got.starts_with([0x20, 2, 0, 0, 0x90, 3, 0, 1, 2].as_slice())
+        && got.contains(&0x50)
+        && got.contains(&0x34)
 }
 
 #[test]
 fn a_client_is_answered(rt: HostRuntime) -> Result<(), Fail> {
-    let start = Instant::now(&rt)?;
-    let core = sole(rt.alloc())?;
-    let door = Door::new(rt.alloc(), CONNECTIONS)?;
-    let listener = TcpListener::bind(&rt, "127.0.0.1:0")?;
-    let (served, got) = thread::join(
+    let config = config(rt.alloc(), &[1])?;
+    let places = [place(&rt, 1)?];
+    let got = serve_while(
         &rt,
-        || serve(&rt, rt.alloc(), &listener, core, &door, start),
-        || visit(&rt, &listener, &door),
+        rt.alloc(),
+        &places,
+        &config,
+        |_peers| visit(&rt, &places[0]),
+    )?;
+    assert!(rt; are_answers(&got));
+    Ok(())
+}
+
+// Ballot 2, of node 2 alone, is assigned while client `a` has not finished a handshake with node 1. It
+// finds its session at node 2, and is sent the publication again. What it gets at node 1, and at node 2.
+fn moves<R>(rt: &R, peers: &Peers, one: &Place, two: &Place) -> ([u8; ANSWERED], [u8; 14])
+where
+    R: AllocGlobal + Wait + Clock + Net<Stream = TcpStream>,
+{
+    let first = visit(rt, one);
+    let mut second = [0; 14];
+    if let Ok(members) = Members::from_slice(rt.alloc(), &[2]) {
+        let _ = peers.assign(
+            rt,
+            Config {
+                members,
+                primary: 2,
+            },
+        );
+    }
+    if is_primary(rt, peers, 2) && peers.crash(rt, 1) {
+        let _ = answers(rt, two, &SENT[..15], &mut second);
+    }
+    (first, second)
+}
+
+// Whether a node becomes the active primary within two seconds.
+fn is_primary<R: Wait + Clock>(rt: &R, peers: &Peers, number: u8) -> bool {
+    for _ in 0..200 {
+        if peers
+            .status(rt, number)
+            .is_some_and(|status| status.role.is_active())
+        {
+            return true;
+        }
+        thread::sleep(rt, Duration::from_millis(10));
+    }
+    false
+}
+
+#[test]
+fn a_session_outlives_its_node(rt: HostRuntime) -> Result<(), Fail> {
+    let config = config(rt.alloc(), &[1, 2])?;
+    let places = [place(&rt, 1)?, place(&rt, 2)?];
+    let (first, second) = serve_while(&rt, rt.alloc(), &places, &config, |peers| {
+        moves(&rt, peers, &places[0], &places[1])
+    })?;
+    assert!(rt; are_answers(&first));
+    assert_eq!(rt;
+        second,
+        [0x20, 2, 1, 0, 0x3C, 8, 0, 3, 0x74, 0x2F, 0x31, 0, 1, 0x78]
     );
-    served?;
-    assert_eq!(rt; &got[..9], [0x20, 2, 0, 0, 0x90, 3, 0, 1, 2].as_slice());
-    assert!(rt; got.contains(&0x50) && got.contains(&0x34));
     Ok(())
 }
 
 // CONNECT of client `a` with keep alive 1.
-const CONNECT: [u8; 15] = [
+const BRIEF: [u8; 15] = [
     0x10, 0x0D, 0x00, 0x04, 0x4D, 0x51, 0x54, 0x54, 0x04, 0x00, 0x00, 0x01, 0x00, 0x01, 0x61,
 ];
 
 // How many bytes come behind the answer to a CONNECT whose client then falls silent, none at the end of the
 // stream; and after how many milliseconds.
-fn silence<R>(rt: &R, listener: &TcpListener) -> io::Result<(usize, u128)>
+fn silence<R>(rt: &R, place: &Place) -> io::Result<(usize, u128)>
 where
     R: Clock + Net<Stream = TcpStream>,
 {
     let start = Instant::now(rt)?;
-    let mut stream = TcpStream::connect(rt, listener.local_addr()?)?;
+    let mut stream = TcpStream::connect(rt, place.address()?)?;
     stream.set_read_timeout(Some(Duration::from_secs(10)))?;
-    stream.write_all(&CONNECT)?;
+    stream.write_all(&BRIEF)?;
     let mut room = [0; 4];
     stream.read_exact(&mut room)?;
     let count = stream.read(&mut room)?;
     Ok((count, start.elapsed(rt)?.as_millis()))
 }
 
-// Falls silent as a client, and closes the door behind it.
-fn fall_silent<R>(rt: &R, listener: &TcpListener, door: &Door) -> io::Result<(usize, u128)>
-where
-    R: Wait + Clock + Net<Stream = TcpStream>,
-{
-    let came = silence(rt, listener);
-    let _ = door.close(rt, listener);
-    came
-}
-
 // A keep alive of a second ends behind one and a half (MQTT 3.1.2.10).
 #[test]
 fn a_silent_client_is_closed(rt: HostRuntime) -> Result<(), Fail> {
-    let start = Instant::now(&rt)?;
-    let core = sole(rt.alloc())?;
-    let door = Door::new(rt.alloc(), CONNECTIONS)?;
-    let listener = TcpListener::bind(&rt, "127.0.0.1:0")?;
-    let (served, came) = thread::join(
+    let config = config(rt.alloc(), &[1])?;
+    let places = [place(&rt, 1)?];
+    let came = serve_while(
         &rt,
-        || serve(&rt, rt.alloc(), &listener, core, &door, start),
-        || fall_silent(&rt, &listener, &door),
-    );
-    served?;
+        rt.alloc(),
+        &places,
+        &config,
+        |_peers| silence(&rt, &places[0]),
+    )?;
     let (count, took) = came?;
     assert_eq!(rt; count, 0);
     assert!(rt; took > 1_500 && took < 5_000);

@@ -2,17 +2,11 @@
 //! without a word takes all of standard input for one connection of node 1.
 #![tactic(auto)]
 
-mod fault;
-mod performing;
-mod piped;
-mod serving;
 mod standard_error;
-mod talking;
 
 use clap::error::ErrorKind;
 use command_line::{Job, LineFault, line};
-use fault::Fault;
-use performing::{perform, tell};
+use jobs::{Fault, perform, pipe, tell};
 use standard_error::StandardError;
 use std::net::{Net, TcpListener, TcpStream};
 use std::process::ExitCode;
@@ -37,12 +31,15 @@ where
         Ok(words) => words,
         Err(fault) => return tell(&mut faults, &fault),
     };
-    if let Some(ended) = piped::run(rt, words.as_slice()) {
-        return ended.map_or_else(|fault| tell(&mut faults, &fault), |()| 0);
-    }
-    match line(rt.alloc(), words.as_slice()) {
-        Ok(job) => do_job(rt, &job),
-        Err(fault) => refuse(rt, fault),
+    match words.as_slice() {
+        [] | [_] => match pipe(rt, rt.reader(), io::writer(rt)) {
+            Ok(()) => 0,
+            Err(fault) => tell(&mut faults, &fault),
+        },
+        words => match line(rt.alloc(), words) {
+            Ok(job) => do_job(rt, &job),
+            Err(fault) => refuse(rt, fault),
+        },
     }
 }
 

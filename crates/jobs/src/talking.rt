@@ -39,7 +39,7 @@ impl<'a, R: Net<Stream = TcpStream> + Clock> Servers for TcpServers<'a, R> {
 }
 
 /// Publishes once. It writes nothing where all went well.
-pub fn publish<R>(rt: &R, job: &Publish<'_>) -> Result<(), Fault>
+pub(crate) fn publish<R>(rt: &R, job: &Publish<'_>) -> Result<(), Fault>
 where
     R: Clock + AllocGlobal + Net<Stream = TcpStream>,
 {
@@ -60,7 +60,7 @@ where
 }
 
 /// Prints what is published, a line each.
-pub fn subscribe<R, O>(rt: &R, job: &Subscribe<'_>, output: &mut O) -> Result<(), Fault>
+pub(crate) fn subscribe<R, O>(rt: &R, job: &Subscribe<'_>, output: &mut O) -> Result<(), Fault>
 where
     R: Clock + AllocGlobal + Net<Stream = TcpStream>,
     O: Write + Drop,

@@ -1,11 +1,12 @@
 // Why the program ends with another status than 0.
 
 ghost use Rattle.std.specs.Prelude.{◌≡◌};
-ghost use Rattle.vbroker.specs.Faults.{status_of};
+ghost use Rattle.jobs.specs.Faults.{status_of};
 
 use command_line::TableFault;
-use node::{Memory, OpeningError};
-use std::alloc::AllocError;
+use node::Memory;
+use server::ServeError;
+use std::alloc::{AllocError, AllocFailed};
 use std::io::ErrorKind;
 use thiserror::Error;
 use user_client::ClientFault;
@@ -37,9 +38,6 @@ pub enum Fault {
     /// The file is no table of nodes.
     #[error("config")]
     Config,
-    /// The table has more nodes than one.
-    #[error("this version serves one node, and the table has {0}; leave one [[node]] in it")]
-    SeveralNodes(usize),
     /// A script was to be played.
     #[error("this version plays no scripts")]
     Script,
@@ -70,7 +68,7 @@ impl Fault {
             | Fault::SessionPresent
             | Fault::Lost => 1,
             Fault::Words | Fault::Script => 2,
-            Fault::Config | Fault::SeveralNodes(_) | Fault::Refused(_) => 3,
+            Fault::Config | Fault::Refused(_) => 3,
         }
     }
 }
@@ -81,16 +79,25 @@ impl From<AllocError> for Fault {
     }
 }
 
+impl<T: Drop> From<AllocFailed<T>> for Fault {
+    fn from(_error: AllocFailed<T>) -> Fault {
+        Fault::Memory
+    }
+}
+
 impl From<Memory> for Fault {
     fn from(_error: Memory) -> Fault {
         Fault::Memory
     }
 }
 
-impl From<OpeningError> for Fault {
-    // The members are lawful, so that memory was wanting.
-    fn from(_error: OpeningError) -> Fault {
-        Fault::Memory
+impl From<ServeError> for Fault {
+    fn from(error: ServeError) -> Fault {
+        match error {
+            ServeError::BadMembers => Fault::Config,
+            ServeError::Memory => Fault::Memory,
+            ServeError::Clock => Fault::Clock,
+        }
     }
 }
 

@@ -1,7 +1,7 @@
 -- The exit status of a program that ends with a fault.
 use Rattle.std.specs.Prelude.{ℕ}
-use Rattle.vbroker.specs.declared.fault.Fault.{Fault}
-use Rattle.vbroker.specs.declared.fault.Fault.TheVariants as faults
+use Rattle.jobs.specs.declared.fault.Fault.{Fault}
+use Rattle.jobs.specs.declared.fault.Fault.TheVariants as faults
 
 -- 1 for file, network and memory, 2 for the command line, 3 for a table or another argument
 abbrev pub status_of : Fault → ℕ
@@ -13,7 +13,6 @@ status_of (faults.File file kind) = 1
 status_of (faults.Address address kind) = 1
 status_of faults.Words = 2
 status_of faults.Config = 3
-status_of (faults.SeveralNodes count) = 3
 status_of faults.Script = 2
 status_of (faults.Refused number) = 3
 status_of faults.SessionPresent = 1

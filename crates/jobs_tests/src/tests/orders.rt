@@ -1,0 +1,157 @@
+// Orders to the nodes of a server, and its two clients beside them.
+
+use command_line::line;
+use jobs::{perform, serve_table, tell};
+use std::alloc::AllocError;
+use std::io::{BufReader, PipeReader, PipeWriter, Write};
+use std::net::{Net, TcpListener, TcpStream};
+use std::rt::Files;
+use std::sync::Wait;
+use std::test::Fail;
+use std::thread::Threads;
+use std::time::{Clock, Duration};
+use std::{io, thread};
+
+// Before the clients come.
+const FIRST: &str = "nonsense\nstatus\n";
+
+// Behind them: node 2 takes over, and node 1 crashes, once.
+const THEN: &str = "assign 2,1 2\nassign 2 2\ncrash 1\ncrash 1\ncrash 3\nquit\n";
+
+const ANSWERS: &str = "refused 24\n\
+    node 1 ballot 1 primary held 0 committed 0\n\
+    node 2 ballot 1 backup held 0 committed 0\n\
+    refused 20\n\
+    ballot 2\n\
+    crashed 1\n\
+    refused 24\n\
+    refused 24\n\
+    bye\n";
+
+// What the subscriber prints of what the publisher publishes.
+const PRINTED: &str = "2 0 t/1 x\n";
+
+// A table of two nodes, of which the first serves on this port.
+fn table_of<R: AllocGlobal>(rt: &R, port: u16) -> Result<String, AllocError> {
+    format!(in rt.alloc();
+        "members = [1, 2]\nprimary = 1\n\
+         [[node]]\nid = 1\nlisten = \"127.0.0.1:{port}\"\n\
+         [[node]]\nid = 2\nlisten = \"127.0.0.1:0\"\n"
+    )
+}
+
+// A port on which nobody listens.
+fn free_port<R>(rt: &R) -> io::Result<u16>
+where
+    R: Net<Listener = TcpListener, Stream = TcpStream>,
+{
+    Ok(TcpListener::bind(rt, "127.0.0.1:0")?.local_addr()?.port())
+}
+
+// What the nodes of a table answer to the orders that come by a pipe.
+fn serve<R>(rt: &R, table: &str, orders: PipeReader) -> Vec<u8>
+where
+    R: Threads + Wait + Clock + Sync + AllocGlobal,
+    R: Net<Listener = TcpListener, Stream = TcpStream>,
+{
+    let mut output = Vec::new(rt.alloc());
+    let mut faults = Vec::new(rt.alloc());
+    if let Ok(mut input) = BufReader::new(rt.alloc(), orders) {
+        if let Err(fault) = serve_table(rt, table, &mut input, &mut output, &mut faults) {
+            tell(&mut output, &fault);
+        }
+    }
+    output
+}
+
+// What a client writes, where it ends with 0.
+fn talk<R>(rt: &R, words: &[&str]) -> Result<Vec<u8>, AllocError>
+where
+    R: Files + Threads + Wait + Clock + Sync + AllocGlobal,
+    R: Net<Listener = TcpListener, Stream = TcpStream>,
+{
+    let mut owned = Vec::new(rt.alloc());
+    for word in words {
+        owned.push(String::from_str(rt.alloc(), word)?)?;
+    }
+    let mut output = Vec::new(rt.alloc());
+    let mut faults = Vec::new(rt.alloc());
+    let mut input = b"".as_slice();
+    match line(rt.alloc(), owned.as_slice()) {
+        Ok(job) if perform(rt, &job, &mut input, &mut output, &mut faults) == 0 => Ok(output),
+        _ => Ok(faults),
+    }
+}
+
+// What the subscriber prints, which comes first, and what the publisher writes.
+fn clients<R>(rt: &R, address: &str) -> (Result<Vec<u8>, AllocError>, Result<Vec<u8>, AllocError>)
+where
+    R: Files + Threads + Wait + Clock + Sync + AllocGlobal,
+    R: Net<Listener = TcpListener, Stream = TcpStream>,
+{
+    let sub = [
+        "vbroker", "sub", "--id", "meter", "--filter", "t/#", "--qos", "2", "--count", "1", address,
+    ];
+    let publish = [
+        "vbroker",
+        "pub",
+        "--id",
+        "switch",
+        "--topic",
+        "t/1",
+        "--qos",
+        "2",
+        "--message",
+        "x",
+        address,
+    ];
+    thread::join(
+        rt,
+        || talk(rt, &sub),
+        || {
+            thread::sleep(rt, Duration::from_millis(500));
+            talk(rt, &publish)
+        },
+    )
+}
+
+// Gives the orders, and has the clients talk between them: whether each wrote what it has to.
+fn order<R>(rt: &R, orders: PipeWriter, address: &str) -> io::Result<bool>
+where
+    R: Files + Threads + Wait + Clock + Sync + AllocGlobal,
+    R: Net<Listener = TcpListener, Stream = TcpStream>,
+{
+    let mut orders = orders;
+    orders.write_all(FIRST.as_bytes())?;
+    thread::sleep(rt, Duration::from_millis(500));
+    let (printed, published) = clients(rt, address);
+    orders.write_all(THEN.as_bytes())?;
+    Ok(
+        printed.is_ok_and(|it| it.as_slice() == PRINTED.as_bytes())
+            && published.is_ok_and(|it| it.is_empty()),
+    )
+}
+
+// Whether nodes, orders and clients write what they have to.
+fn goes_well<R>(rt: &R) -> Result<bool, Fail>
+where
+    R: Files + Threads + Wait + Clock + Sync + AllocGlobal,
+    R: Net<Listener = TcpListener, Stream = TcpStream>,
+{
+    let port = free_port(rt)?;
+    let table = table_of(rt, port)?;
+    let address = format!(in rt.alloc(); "127.0.0.1:{port}")?;
+    let (input, orders) = io::pipe(rt)?;
+    let (answers, talked) = thread::join(
+        rt,
+        || serve(rt, table.as_str(), input),
+        || order(rt, orders, address.as_str()),
+    );
+    Ok(talked? && answers.as_slice() == ANSWERS.as_bytes())
+}
+
+#[test]
+fn orders_are_answered(rt: HostRuntime) -> Result<(), Fail> {
+    assert!(rt; goes_well(&rt)?);
+    Ok(())
+}

@@ -1,0 +1,41 @@
+// On this a thread sleeps until somebody has something for it.
+
+use std::sync::{Mutex, Wait};
+use std::thread::Parker;
+use std::time::Duration;
+
+/// Wakes a thread, at the cost of a wake-up only where it sleeps.
+#[derive(Drop)]
+pub(crate) struct Bell {
+    asleep: Mutex<bool>,
+    parker: Parker,
+}
+
+impl Bell {
+    pub(crate) fn new() -> Bell {
+        Bell {
+            asleep: Mutex::new(false),
+            parker: Parker::new(),
+        }
+    }
+
+    /// Wakes the thread, if it sleeps or is about to.
+    pub(crate) fn ring<R: Wait>(&self, rt: &R) {
+        let mut asleep = self.asleep.lock(rt);
+        if *asleep {
+            *asleep = false;
+            self.parker.unpark();
+        }
+    }
+
+    /// The thread is about to sleep: it looks once more for what there is behind this call.
+    pub(crate) fn doze<R: Wait>(&self, rt: &R) {
+        *self.asleep.lock(rt) = true;
+    }
+
+    /// Sleeps until the bell rings, at most so long.
+    pub(crate) fn sleep<R: Wait>(&self, rt: &R, time: Duration) {
+        self.parker.park_timeout(rt, time);
+        *self.asleep.lock(rt) = false;
+    }
+}

@@ -1,0 +1,170 @@
+// The nodes of a server, and the master beside them.
+
+use crate::peer::Peer;
+use crate::place::Place;
+use crate::serve_error::ServeError;
+use master::{Activation, AssignError, Master};
+use node::{Body, Command, Config, Effect, Item, Members, Memory, Message, Output, Status};
+use std::alloc::Global;
+use std::error::Error;
+use std::sync::{Mutex, Wait};
+use std::time::{Clock, Duration};
+use std::{fmt, thread};
+
+/// The number by which nodes name the master.
+const MASTER: u8 = 0;
+
+/// How often a node is asked again how it stands, in milliseconds, and how many times.
+const ASK_MILLIS: u64 = 1;
+
+const ASKS: u32 = 1_000;
+
+/// The nodes that serve in one program, with what they send each other, and the master that gives
+/// ballots their configurations.
+#[derive(Drop)]
+pub struct Peers {
+    nodes: Vec<Peer>,
+    master: Mutex<Master>,
+    alloc: Global,
+}
+
+/// Why an order was not done.
+#[derive(Clone, Copy, Debug, PartialEq, Eq)]
+pub enum OrderError {
+    /// The master refuses the configuration.
+    Refused(AssignError),
+    /// A growth was refused. Nothing was changed.
+    Memory,
+}
+
+impl fmt::Display for OrderError {
+    fn fmt<W: fmt::Write>(&self, f: &mut fmt::Formatter<W>) -> fmt::Result {
+        match self {
+            OrderError::Refused(error) => error.fmt(f),
+            OrderError::Memory => Memory.fmt(f),
+        }
+    }
+}
+
+impl Error for OrderError {}
+
+impl From<Memory> for OrderError {
+    fn from(_error: Memory) -> OrderError {
+        OrderError::Memory
+    }
+}
+
+impl Peers {
+    /// The nodes of these places, and a master whose ballot 1 has this configuration.
+    pub(crate) fn new(
+        alloc: Global,
+        places: &[Place],
+        config: &Config,
+    ) -> Result<Peers, ServeError> {
+        let mut nodes = Vec::new(alloc);
+        for place in places {
+            if nodes.push(Peer::new(alloc, place.number)).is_err() {
+                return Err(ServeError::Memory);
+            }
+        }
+        let master = Master::new(Config {
+            members: Members::from_slice(alloc, config.members.as_slice())?,
+            primary: config.primary,
+        })?;
+        Ok(Peers {
+            nodes,
+            master: Mutex::new(master),
+            alloc,
+        })
+    }
+
+    /// Gives the next ballot to a configuration, and tells its primary: the ballot. It becomes active
+    /// once each of its members holds all that was agreed.
+    pub fn assign<R: Wait>(&self, rt: &R, config: Config) -> Result<u64, OrderError> {
+        let primary = config.primary;
+        let members = Members::from_slice(self.alloc, config.members.as_slice())?;
+        let mut master = self.master.lock(rt);
+        let (previous, of_previous) = master.active();
+        let previous_members = Members::from_slice(self.alloc, of_previous)?;
+        let ballot = master.assign(config).map_err(OrderError::Refused)?;
+        let body = Body::NewBallot(ballot, members, previous, previous_members);
+        self.tell_as_master(rt, primary, body);
+        Ok(ballot)
+    }
+
+    /// Crashes a node, for good: whether there is one of this number that has not stopped.
+    pub fn crash<R: Wait + Clock>(&self, rt: &R, number: u8) -> bool {
+        let is_running = match self.status(rt, number) {
+            Some(status) => !status.stopped,
+            None => false,
+        };
+        match self.node(number) {
+            Some(node) if is_running => {
+                node.leave(rt, Item::Crash);
+                true
+            }
+            _ => false,
+        }
+    }
+
+    /// How a node stands, as it tells at the next look of its own thread; none where there is no node of
+    /// this number, or none that is served.
+    pub fn status<R: Wait + Clock>(&self, rt: &R, number: u8) -> Option<Status> {
+        let node = self.node(number)?;
+        node.ask(rt);
+        for _ in 0..ASKS {
+            let told = node.told(rt);
+            if told.is_some() {
+                return told;
+            }
+            thread::sleep(rt, Duration::from_millis(ASK_MILLIS));
+        }
+        None
+    }
+
+    /// The node of a number.
+    pub(crate) fn node(&self, number: u8) -> Option<&Peer> {
+        self.nodes.iter().find(|node| node.number == number)
+    }
+
+    /// Hands on what a node has for others, in its order. What goes to nobody is lost.
+    pub(crate) fn hand_on<R: Wait>(&self, rt: &R, effects: Vec<Effect<Command, Output>>) {
+        for effect in effects {
+            self.carry(rt, effect);
+        }
+    }
+
+    fn carry<R: Wait>(&self, rt: &R, effect: Effect<Command, Output>) {
+        let Effect::To(number, message) = effect else {
+            return;
+        };
+        if number == MASTER {
+            self.ask_master(rt, message);
+        } else {
+            self.leave(rt, number, message);
+        }
+    }
+
+    // Leaves a message for a node.
+    fn leave<R: Wait>(&self, rt: &R, number: u8, message: Message<Command>) {
+        if let Some(node) = self.node(number) {
+            node.leave(rt, Item::Peer(message));
+        }
+    }
+
+    // A primary asks for its ballot to become the active one.
+    fn ask_master<R: Wait>(&self, rt: &R, message: Message<Command>) {
+        let Body::Activate(ballot) = message.body else {
+            return;
+        };
+        let body = match self.master.lock(rt).activate(ballot) {
+            Activation::Activated => Body::Activated(ballot),
+            Activation::Superseded => Body::Superseded(ballot),
+        };
+        self.tell_as_master(rt, message.from, body);
+    }
+
+    fn tell_as_master<R: Wait>(&self, rt: &R, number: u8, body: Body<Command>) {
+        self.leave(rt, number, Message { from: MASTER, body });
+    }
+}

@@ -1,0 +1,36 @@
+// A place with its node among the others.
+
+use crate::peer::Peer;
+use crate::peers::Peers;
+use crate::place::Place;
+use std::time::{Clock, Instant};
+
+/// A place with its node among the others.
+#[derive(Clone, Copy)]
+pub(crate) struct Seat<'a> {
+    pub(crate) peers: &'a Peers,
+    pub(crate) node: &'a Peer,
+    pub(crate) place: &'a Place,
+    start: Instant,
+}
+
+impl<'a> Seat<'a> {
+    /// Its times are counted from `start`. There is none where no node has the place's number.
+    pub(crate) fn new(peers: &'a Peers, place: &'a Place, start: Instant) -> Option<Seat<'a>> {
+        let node = peers.node(place.number)?;
+        Some(Seat {
+            peers,
+            node,
+            place,
+            start,
+        })
+    }
+
+    /// Milliseconds since its times began.
+    pub(crate) fn now<R: Clock>(&self, rt: &R) -> u64 {
+        match self.start.elapsed(rt) {
+            Ok(time) => u64::try_from(time.as_millis()).unwrap_or(u64::MAX),
+            Err(_) => 0,
+        }
+    }
+}

@@ -1,0 +1,52 @@
+// Why nodes are not served.
+
+use master::AssignError;
+use node::{Memory, OpeningError};
+use std::error::Error;
+use std::fmt;
+
+/// Why nodes are not served.
+#[derive(Clone, Copy, Debug, PartialEq, Eq)]
+pub enum ServeError {
+    /// No ballot may have the configuration: no member, more than 7, not strictly rising, one outside 1 to
+    /// 15, or a primary that is no member; or a node has a number outside 1 to 15.
+    BadMembers,
+    /// A growth was refused.
+    Memory,
+    /// The clock cannot be read.
+    Clock,
+}
+
+impl fmt::Display for ServeError {
+    fn fmt<W: fmt::Write>(&self, f: &mut fmt::Formatter<W>) -> fmt::Result {
+        match self {
+            ServeError::BadMembers => OpeningError::BadMembers.fmt(f),
+            ServeError::Memory => Memory.fmt(f),
+            ServeError::Clock => f.write_str("the clock could not be read"),
+        }
+    }
+}
+
+impl Error for ServeError {}
+
+impl From<Memory> for ServeError {
+    fn from(_error: Memory) -> ServeError {
+        ServeError::Memory
+    }
+}
+
+impl From<OpeningError> for ServeError {
+    fn from(error: OpeningError) -> ServeError {
+        match error {
+            OpeningError::BadMembers => ServeError::BadMembers,
+            OpeningError::Memory => ServeError::Memory,
+        }
+    }
+}
+
+impl From<AssignError> for ServeError {
+    // A new master gives no ballot but the first.
+    fn from(_error: AssignError) -> ServeError {
+        ServeError::BadMembers
+    }
+}
