@@ -1,7 +1,7 @@
 // Worked rows: who is granted what (MQTT 3.3.5, 3.8.4, 3.10.4, 4.7).
 
-use crate::calls::Call::{self, Clear, DropClient, Granted, Set};
-use crate::calls::first_fault;
+use crate::indexes::calls::Call::{self, Clear, DropClient, Granted, Set};
+use crate::indexes::calls::first_fault;
 use packet::QoS::{AtLeastOnce, AtMostOnce, ExactlyOnce};
 use std::alloc::Global;
 use subs::{ListIndex, SubIndex, TreeIndex, grants_one_list};

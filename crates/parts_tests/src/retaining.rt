@@ -1,7 +1,9 @@
 // What a store of retained publications keeps, worked by hand (MQTT 3.3.1.3).
 
-use crate::row::Row::{Finds, Has, IsFull, Put};
-use crate::row::{Row, is_right, put};
+mod row;
+
+use crate::retaining::row::Row::{Finds, Has, IsFull, Put};
+use crate::retaining::row::{Row, is_right, put};
 use packet::QoS;
 use retained::{RetainedError, RetainedStore};
 use std::alloc::Global;

@@ -1,11 +1,13 @@
 // A session, worked by hand from MQTT 3.1.1.
 
-use crate::row::Row::{
+mod row;
+
+use crate::sessions::row::Row::{
     Enqueue, Fill, Granted, Inbound, IsFull, Puback, Pubcomp, Pubrec, Received, Resend, Room,
     Subscribe, Unsubscribe,
 };
-use crate::row::Sent::{Again, New};
-use crate::row::{Row, Sent, first_fault, granted, is_received};
+use crate::sessions::row::Sent::{Again, New};
+use crate::sessions::row::{Row, Sent, first_fault, granted, is_received};
 use packet::QoS;
 use packet_base::Reader;
 use session::{Arrival, EnqueueError, MAX_ENTRIES, Session};

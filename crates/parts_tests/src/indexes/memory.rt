@@ -1,7 +1,7 @@
 // Memory that is refused. Run with each allocation failing in turn: a call that finds no memory
 // leaves the index, and the rows, as they were, and does its work when it is made again.
 
-use crate::calls::{Grant, are_wanted};
+use crate::indexes::calls::{Grant, are_wanted};
 use packet::QoS::{AtLeastOnce, AtMostOnce, ExactlyOnce};
 use packet::{ClientId, QoS};
 use std::alloc::Global;
