@@ -1,3 +1,4 @@
+pub mod Crossing
 pub mod LastRows
 pub mod OwnersOfLast
 pub mod Writing

@@ -23,7 +23,7 @@ use retained::{RetainedPublication, RetainedStore};
 use session_form::keep;
 use std::alloc::{AllocError, Global};
 use std::collections::BTreeMap;
-use subs::{ListIndex, SubIndex};
+use subs::{SubIndex, TreeIndex};
 use topics::{Filter, TopicName};
 
 /// The most topics of which a publication is retained.
@@ -120,10 +120,10 @@ fn is_behind(retained: &RetainedStore, topic: &TopicName) -> bool
 fn index_of(
     alloc: Global,
     sessions: &BTreeMap<ClientId, ClientRow>,
-) -> Result<ListIndex, AllocError>
+) -> Result<TreeIndex, AllocError>
     ensures { IfOk result (λ index. content_of index ≡ all_told sessions.now.entries no_subscriptions) }
 {
-    let mut index = ListIndex::new(alloc);
+    let mut index = TreeIndex::new(alloc);
     for (client, row) in sessions {
         set_all(&mut index, client, row.state.subscriptions())?;
     }
@@ -132,7 +132,7 @@ fn index_of(
 
 // The index is told of one client's subscriptions.
 fn set_all(
-    index: &mut ListIndex,
+    index: &mut TreeIndex,
     client: &ClientId,
     held: &[(Filter, QoS)],
 ) -> Result<(), AllocError>

@@ -12,7 +12,7 @@ use crate::client_row::ClientRow;
 use crate::tables::Tables;
 use packet::ClientId;
 use std::collections::BTreeMap;
-use subs::{ListIndex, SubIndex};
+use subs::{SubIndex, TreeIndex};
 
 impl Tables {
     /// Does a Start: nobody is served any more, and the clean sessions are over.
@@ -28,7 +28,7 @@ impl Tables {
 }
 
 // The index loses the clients of the clean sessions.
-fn drop_clean(index: &mut ListIndex, sessions: &BTreeMap<ClientId, ClientRow>)
+fn drop_clean(index: &mut TreeIndex, sessions: &BTreeMap<ClientId, ClientRow>)
     ensures { content_of index.new
         ≡ all_dropped (clean_clients sessions.now.entries) (content_of index.old) }
 {

@@ -23,7 +23,7 @@ use packet::{ClientId, Packet, PacketList, Suback, SubackCode, Subscribe, Subscr
 use retained::RetainedStore;
 use session::Session;
 use std::alloc::{AllocError, Global};
-use subs::{ListIndex, SubIndex};
+use subs::{SubIndex, TreeIndex};
 
 impl Tables {
     /// Does a SUBSCRIBE of the client that is served on this connection: each filter is granted or
@@ -119,7 +119,7 @@ fn is_one_too_many(session: &Session, subscription: &Subscription) -> bool
 
 // The index learns of the filters that are granted.
 fn set_all(
-    index: &mut ListIndex,
+    index: &mut TreeIndex,
     client: &ClientId,
     filters: &[Subscription],
     which: &[bool],

@@ -10,7 +10,7 @@ use packet::ClientId;
 use retained::RetainedStore;
 use std::alloc::Global;
 use std::collections::BTreeMap;
-use subs::{ListIndex, SubIndex};
+use subs::{SubIndex, TreeIndex};
 
 /// The sessions by client, and the retained publications. The map of connections and the index of
 /// subscriptions say of them nothing new: they find a row without a walk over all.
@@ -21,7 +21,7 @@ pub struct Tables {
     /// The client of each current connection.
     pub owners: BTreeMap<ConnectionId, ClientId>,
     /// All clients' subscriptions.
-    pub index: ListIndex,
+    pub index: TreeIndex,
     /// By topic.
     pub retained: RetainedStore,
     /// Where what is made for a command comes from.
@@ -37,7 +37,7 @@ impl Tables {
         Tables {
             sessions: BTreeMap::new(alloc),
             owners: BTreeMap::new(alloc),
-            index: ListIndex::new(alloc),
+            index: TreeIndex::new(alloc),
             retained: RetainedStore::new(alloc),
             alloc,
         }

@@ -15,7 +15,7 @@ use broker_model::{ConnectionId, Output};
 use machine::Halted;
 use packet::{ClientId, Packet, Unsubscribe};
 use session::Session;
-use subs::{ListIndex, SubIndex};
+use subs::{SubIndex, TreeIndex};
 use topics::Filter;
 
 impl Tables {
@@ -57,7 +57,7 @@ fn give_up(session: &mut Session, filters: &[Filter])
 }
 
 // And so does the index of the client.
-fn clear_all(index: &mut ListIndex, client: &ClientId, filters: &[Filter])
+fn clear_all(index: &mut TreeIndex, client: &ClientId, filters: &[Filter])
     ensures { content_of index.new ≡ all_cleared client.now filters.now (content_of index.old) }
 {
     for filter in filters {

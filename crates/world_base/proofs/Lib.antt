@@ -1,3 +1,4 @@
+pub mod Crossing
 mod Accounts
 mod Answering
 mod Asked
