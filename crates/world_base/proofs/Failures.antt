@@ -1,5 +1,5 @@
 -- Failures.antt: the first connection that failed, and that the broker hears of it.
-use Rattle.std.proofs.Common.{◌≡◌, List, Some, None, refl, subst}
+use Rattle.std.proofs.Common.{◌≡◌, List, Some, None, refl, ap, subst, ◌∙◌}
 use Rattle.std.specs.List.{find}
 use Rattle.broker_model.specs.declared.command.Command.{Command}
 use Rattle.broker_model.specs.declared.command.Command.TheVariants as commands
@@ -31,3 +31,14 @@ unfolding loses_failed
 failed_one c a b r x y found shut turns =
     subst (λ (t : Turn). Turns a r x y t) (rw found refl)
     (turns_behind a b r x y (closes_failed a.core) (proposes (commands.Lost c.name)) shut turns)
+
+-- where none failed nothing is done, and then nothing more
+pub none_again : (a b c : Running) → (find has_failed a.core.connections ≡ None → b ≡ a) →
+    (find has_failed b.core.connections ≡ None → c ≡ b) → find has_failed a.core.connections ≡ None → c ≡ a
+none_again a b c first next none =
+    let same = first none in
+    next (ap (λ (r : Running). find has_failed r.core.connections) same ∙ none) ∙ same
+
+pub none_some : (c : Connection) (a b : Running) → find has_failed a.core.connections ≡ Some c →
+    find has_failed a.core.connections ≡ None → b ≡ a
+none_some c a b some none = absurd cc

@@ -1,5 +1,6 @@
 -- ItemsRun.antt: what an item does where memory may have been wanting, and the step around it.
-use Rattle.std.proofs.Common.{◌≡◌, ◌⊎◌, inl, inr, ℕ, Bool, true, false, if◌then◌else◌, List, refl, sym, ap, subst, ◌∙◌}
+use Rattle.std.proofs.Common.{◌≡◌, ◌⊎◌, inl, inr, ℕ, Bool, true, false, if◌then◌else◌, List, None, refl, sym, ap, subst, ◌∙◌}
+use Rattle.std.specs.List.{find}
 use Rattle.std.proofs.lemmas.List.{append_cancel_left}
 use Rattle.broker_model.specs.declared.command.Command.{Command}
 use Rattle.broker_model.specs.declared.command.Output.{Output}
@@ -10,9 +11,10 @@ use Rattle.ballot.specs.Replica.{CountedReplica}
 use Rattle.world_base.specs.declared.item.Port.{Port}
 use Rattle.world_base.specs.declared.item.Item.{Item}
 use Rattle.world_base.specs.declared.item.Item.TheVariants.{Opened, Crash}
+use Rattle.world_base.specs.Connections.{has_failed}
 use Rattle.world_base.specs.Core.{CoreState, CountedCore, Turn, rules}
 use Rattle.world_base.specs.Inside.{Ran, Running, Turns}
-use Rattle.world_base.specs.Losses.{Stepped, Steps}
+use Rattle.world_base.specs.Losses.{DoesNothing, IsExactly, Stepped, Steps}
 use Rattle.world_base.specs.Lossy.{quietly}
 use Rattle.world_base.specs.LossyStep.{ActsOn, Opens, RunsOn, TakesIn}
 use Rattle.world_base.specs.Step.{acts_on, node_step, opens, settled}
@@ -38,25 +40,36 @@ ran_crashed a replica x is =
 
 -- ---- the step
 
+exactly_by : (old : CountedCore) (a b : Running) (turn : Turn) (new : CoreState) (losses : ℕ) (x y : List (Effect Command Output))
+    (turns : Turns a b x y turn) → new ≡ settled b.core → b.wanting ≡ false → losses ≡ old.losses →
+    IsExactly old (record { core = settled turn.core; messages = turn.messages }) (record { core = new; losses = losses }) turns.given
+exactly_by old a b turn new losses x y turns settles e counted =
+    let did = turns.exact e in
+    (settles ∙ ap (λ (r : Running). settled r.core) did.0, did.1, counted)
+
 steps_by : (old : CountedCore) (a b : Running) (turn : Turn) (new : CoreState) (losses : ℕ) (x y : List (Effect Command Output))
     (turns : Turns a b x y turn) → new ≡ settled b.core → (wanting : Bool) → b.wanting ≡ wanting →
     losses ≡ (if wanting then one_more old.losses else old.losses) →
     Steps old (record { core = settled turn.core; messages = turn.messages }) (record { core = new; losses = losses }) turns.given
 steps_by old a b turn new losses x y turns settles true e counted = inr counted
-steps_by old a b turn new losses x y turns settles false e counted =
-    let did = turns.exact e in
-    inl (settles ∙ ap (λ (r : Running). settled r.core) did.0, did.1, counted)
+steps_by old a b turn new losses x y turns settles false e counted = inl (exactly_by old a b turn new losses x y turns settles e counted)
 
 pub stepped_by : (old : CountedCore) (item : Item) (a b : Running) (new : CoreState) (losses : ℕ) (x y : List (Effect Command Output)) →
     a.core ≡ old.core → Turns a b x y (acts_on item a.core) → Ran (ActsOn item) a.core b.core x y → new ≡ settled b.core →
-    losses ≡ (if b.wanting then one_more old.losses else old.losses) →
+    losses ≡ (if b.wanting then one_more old.losses else old.losses) → a.wanting ≡ false →
+    (DoesNothing item a.core ⊎ (item ≡ Crash) → find has_failed a.core.connections ≡ None → b.wanting ≡ a.wanting) →
     Stepped old item (record { core = new; losses = losses }) x y
-stepped_by old item a b new losses x y same turns ran settles counted =
+stepped_by old item a b new losses x y same turns ran settles counted calm quiet =
     record {
       given = turns.given;
       appended = turns.appended;
       steps = subst (λ (k : CoreState). Steps old (node_step item k) (record { core = new; losses = losses }) turns.given) same
           (steps_by old a b (acts_on item a.core) new losses x y turns settles b.wanting refl counted);
+      uncounted = subst (λ (k : CoreState). DoesNothing item k ⊎ (item ≡ Crash) → find has_failed k.connections ≡ None →
+          IsExactly old (node_step item k) (record { core = new; losses = losses }) turns.given) same
+          (λ idle failed. let whole = quiet idle failed ∙ calm in
+          exactly_by old a b (acts_on item a.core) new losses x y turns settles whole
+          (subst (λ (w : Bool). losses ≡ (if w then one_more old.losses else old.losses)) whole counted));
       run = subst (λ (k : CoreState). RunsOn item k new turns.given) same
           (record {
             did = ran.did;

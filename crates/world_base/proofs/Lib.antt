@@ -12,6 +12,7 @@ mod Fronts
 mod FrontsRun
 mod GapsClosed
 mod HandsOver
+mod Idle
 mod ItemsRun
 mod Opens
 mod Places

@@ -84,3 +84,11 @@ found_there test cs place i c at is here = place_found test cs i c (sym is ∙ a
 pub same_found : (test : Connection → Bool) (cs : List Connection) (c d : Connection) → find test cs ≡ Some c →
     find test cs ≡ Some d → d ≡ c
 same_found test cs c d found again = cc
+
+-- who stands at a place is found
+pub none_placed : (test : Connection → Bool) (cs : List Connection) (i : ℕ) → Some i ≡ position test cs → find test cs ≡ None → ⊥
+none_placed test [] i e none = absurd cc
+none_placed test (c ∷ cs) i e none =
+    let at = position-Some test (c ∷ cs) i c (sym e) in
+    let found = passes_found test (c ∷ cs) i c at.0 at.1 at.2 in
+    absurd cc

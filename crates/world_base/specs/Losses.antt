@@ -1,25 +1,56 @@
--- A step of a node in which memory was wanting, and how such steps are counted.
-use Rattle.std.specs.Prelude.{◌≡◌, ◌⊎◌, List, ◌++◌}
+-- How the steps of a node are counted in which memory was wanting, and which never are.
+use Rattle.std.specs.Prelude.{◌≡◌, ◌⊎◌, false, List, ◌++◌, None}
+use Rattle.std.specs.List.{find}
 use Rattle.broker_model.specs.declared.command.Command.{Command}
 use Rattle.broker_model.specs.declared.command.Output.{Output}
 use Rattle.ballot.specs.Effect.{Effect}
 use Rattle.ballot.specs.Losses.{one_more}
+use Rattle.ballot.specs.Protocol.{Input}
+use Rattle.ballot.specs.Protocol.Input.{Receives, Ticks}
+use Rattle.ballot.specs.Sending.{nothing_done}
 use Rattle.world_base.specs.declared.item.Item.{Item}
-use Rattle.world_base.specs.Core.{CountedCore, Turn}
+use Rattle.world_base.specs.declared.item.Item.TheVariants.{Peer, Tick, Opened, Bytes, Ended, Crash}
+use Rattle.world_base.specs.Connections.{has_failed}
+use Rattle.world_base.specs.Core.{CoreState, CountedCore, Turn}
+use Rattle.world_base.specs.KeepAlive.{lowest_silent}
 use Rattle.world_base.specs.LossyStep.{RunsOn}
-use Rattle.world_base.specs.Step.{node_step}
+use Rattle.world_base.specs.Reading.{open_at}
+use Rattle.world_base.specs.Step.{accepts, node_step}
+use Rattle.world_base.specs.Turns.{heard}
+
+-- ---- what does nothing
+
+-- by the protocol the replica does nothing with what comes to it, as where it has stopped
+abbrev pub IsIgnored : Input Command → CoreState → Type 0
+IsIgnored input core = heard input core.replica.state ≡ nothing_done Output core.replica.state
+
+-- by the definitions an item does nothing: the replica ignores it, no connection is silent, none is accepted, or none is
+-- open by that port
+abbrev pub DoesNothing : Item → CoreState → Type 0
+DoesNothing (Peer message) core = IsIgnored (Receives message) core
+DoesNothing (Tick now) core = IsIgnored Ticks core × (lowest_silent now core.connections ≡ None)
+DoesNothing (Opened port now) core = accepts port core ≡ false
+DoesNothing (Bytes port piece now) core = open_at port core ≡ None
+DoesNothing (Ended port) core = open_at port core ≡ None
+DoesNothing Crash core = ⊥
+
+-- ---- what is counted
+
+abbrev pub IsExactly : CountedCore → Turn → CountedCore → List (Effect Command Output) → Type 0
+IsExactly old turn new given = (new.core ≡ turn.core) × (given ≡ turn.messages) × (new.losses ≡ old.losses)
 
 -- exactly the step, or one in which memory was wanting, and which was counted
 abbrev pub Steps : CountedCore → Turn → CountedCore → List (Effect Command Output) → Type 0
-Steps old turn new given =
-    ((new.core ≡ turn.core) × (given ≡ turn.messages) × (new.losses ≡ old.losses))
-    ⊎ (new.losses ≡ one_more old.losses)
+Steps old turn new given = IsExactly old turn new given ⊎ (new.losses ≡ one_more old.losses)
 
--- What a step hands out was appended behind what was there. It is exactly the step, or counted; and in any case it did no
--- more than the step may where memory is wanting.
+-- What a step hands out was appended behind what was there. It is exactly the step, or counted; one on an item that does
+-- nothing, or on a crash, is never counted, while there is no connection of whose failing the broker is still to hear. In
+-- any case it did no more than the step may where memory is wanting.
 pub record Stepped (old : CountedCore) (item : Item) (new : CountedCore)
     (before behind : List (Effect Command Output)) : Type 0 where
   pub given : List (Effect Command Output)
   pub appended : behind ≡ before ++ given
   pub steps : Steps old (node_step item old.core) new given
+  pub uncounted : DoesNothing item old.core ⊎ (item ≡ Crash) → find has_failed old.core.connections ≡ None →
+      IsExactly old (node_step item old.core) new given
   pub run : RunsOn item old.core new.core given

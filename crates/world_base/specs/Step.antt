@@ -1,5 +1,5 @@
 -- What one item makes of a node.
-use Rattle.std.specs.Prelude.{ℕ, ◌+◌, not, ◌&&◌, ◌==◌, if◌then◌else◌, [], ◌∷◌, ◌++◌, map, filter}
+use Rattle.std.specs.Prelude.{ℕ, ◌+◌, Bool, not, ◌&&◌, ◌==◌, if◌then◌else◌, [], ◌∷◌, ◌++◌, map, filter}
 use Rattle.std.specs.List.{list_any}
 use Rattle.broker_model.specs.Connection.{ConnectionName, is_connection_name}
 use Rattle.ballot.specs.Losses.{halted}
@@ -22,12 +22,17 @@ accepted core = if core.last_name.ballot == core.replica.state.joined then core.
 abbrev pub next_name : CoreState → ConnectionName
 next_name core = record { ballot = core.replica.state.joined; count = accepted core + 1 }
 
--- a connection is accepted while the node serves clients, and gets the next name of the ballot;
--- a port may be used again once nothing of it is listed
+-- a connection is accepted while the node serves clients and has a name for it; a port may be used again once nothing of it
+-- is listed
+abbrev pub accepts : Port → CoreState → Bool
+accepts port core =
+    (serves core && not (list_any (is_at port) core.connections))
+    && is_connection_name (next_name core)
+
+-- it gets the next name of the ballot
 unfoldable pub opens : Port → CoreState → CoreState
 opens port core =
-    if (serves core && not (list_any (is_at port) core.connections))
-    && is_connection_name (next_name core)
+    if accepts port core
     then record core {
       last_name = next_name core;
       connections = core.connections ++ fresh port (next_name core) ∷ [];

@@ -7,6 +7,7 @@ mod driving;
 mod front;
 mod handed;
 mod handing;
+mod ignoring;
 mod item;
 mod laws;
 mod listing;

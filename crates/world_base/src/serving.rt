@@ -11,7 +11,7 @@ ghost use Rattle.world_base.specs.Inside.{Does};
 ghost use Rattle.world_base.specs.KeepAlive.{lowest_silent};
 ghost use Rattle.packet.specs.Spelling.{spelling};
 ghost use Rattle.world_base.specs.Reading.{changes, open_at, refused, unread_of};
-ghost use Rattle.world_base.specs.Step.{accepted, next_name, opens, settled};
+ghost use Rattle.world_base.specs.Step.{accepted, accepts, next_name, opens, settled};
 ghost use Rattle.world_base.specs.Turns.{changes_named};
 
 use crate::connection::Connection;
@@ -245,19 +245,28 @@ impl Serving {
         ConnectionId::new(self.replica.status().ballot, self.accepted() + 1)
     }
 
+    /// The name that a new connection of a port gets, or none where it is not accepted.
+    pub fn name_for(&self, port: Port) -> Option<ConnectionId>
+        ensures named { IfSome result (λ name. name ≡ next_name self.now.core) }
+        ensures some { OnSome result (accepts port self.now.core ≡ true) }
+        ensures none { IfNone result (accepts port self.now.core ≡ false) }
+    {
+        if !self.serves() {
+            return None;
+        }
+        if has_port(&self.connections, port) {
+            return None;
+        }
+        self.next_name()
+    }
+
     /// Accepts a connection.
     pub fn open(&mut self, port: Port)
         ensures does { Does self.old self.new (opens port self.old.core) }
         ensures run { (self.new.core ≡ opens port self.old.core)
             ⊎ (self.new.core ≡ self.old.core) }
     {
-        if !self.serves() {
-            return;
-        }
-        if has_port(&self.connections, port) {
-            return;
-        }
-        let Some(name) = self.next_name() else {
+        let Some(name) = self.name_for(port) else {
             return;
         };
         let connection = Connection::new(self.alloc, port, name);

@@ -1,10 +1,13 @@
 // What an item does to a node.
 
-ghost use Rattle.std.specs.Prelude.{◌≡◌, false, if◌then◌else◌};
+ghost use Rattle.std.specs.Prelude.{◌≡◌, ◌⊎◌, false, if◌then◌else◌, None};
+ghost use Rattle.std.specs.List.{find};
 ghost use Rattle.broker_model.specs.declared.command.Command.TheVariants as commands;
 ghost use Rattle.broker_model.specs.Sized.{IsSized};
-ghost use Rattle.world_base.specs.Connections.{holding, is_first, is_proposed};
+ghost use Rattle.world_base.specs.Connections.{has_failed, holding, is_first, is_proposed};
 ghost use Rattle.world_base.specs.Inside.{BeginsOrSays, Ran, TellsLost, Turns};
+ghost use Rattle.world_base.specs.declared.item.Item.TheVariants as items;
+ghost use Rattle.world_base.specs.Losses.{DoesNothing};
 ghost use Rattle.world_base.specs.Lossy.{quietly};
 ghost use Rattle.world_base.specs.LossyStep.{ActsOn, Connects, Ends, EndsAllSilent, Holds, LosesAllFailed, LosesFailed, ReadsAll, ReadsNext, Says, TakesIn};
 ghost use Rattle.world_base.specs.Failing.{loses_all_failed, loses_failed};
@@ -29,7 +32,12 @@ impl Serving {
         ensures turns { Turns self.old self.new effects.old.items effects.new.items
             (acts_on item self.old.core) }
         ensures run { Ran (ActsOn item) self.old.core self.new.core effects.old.items effects.new.items }
+        ensures quiet { DoesNothing item self.old.core ⊎ (item ≡ items.Crash) →
+            find has_failed self.old.core.connections ≡ None → self.new.wanting ≡ self.old.wanting }
     {
+        if self.ignores(&item) {
+            return self.lose_failed(effects);
+        }
         self.take_in(item, effects);
         self.lose_failed(effects);
     }
@@ -39,6 +47,8 @@ impl Serving {
         ensures turns { Turns self.old self.new effects.old.items effects.new.items
             (takes_in item self.old.core) }
         ensures run { Ran (TakesIn item) self.old.core self.new.core effects.old.items effects.new.items }
+        ensures crash { item ≡ items.Crash → (self.new.wanting ≡ self.old.wanting)
+            × (self.new.core.connections ≡ self.old.core.connections) }
     {
         match item {
             Item::Peer(message) => self.receive(message, effects),
@@ -233,6 +243,7 @@ impl Serving {
         ensures turns { Turns self.old self.new effects.old.items effects.new.items
             (loses_all_failed self.old.core) }
         ensures run { Ran LosesAllFailed self.old.core self.new.core effects.old.items effects.new.items }
+        ensures none { find has_failed self.old.core.connections ≡ None → self.new ≡ self.old }
     {
         for _connection in 0..self.listed() {
             if !self.lose_one_failed(effects) {
@@ -246,6 +257,7 @@ impl Serving {
         ensures turns { Turns self.old self.new effects.old.items effects.new.items
             (loses_failed self.old.core) }
         ensures run { Ran LosesFailed self.old.core self.new.core effects.old.items effects.new.items }
+        ensures none { find has_failed self.old.core.connections ≡ None → self.new ≡ self.old }
         ensures done { result ≡ false → loses_failed self.new.core ≡ quiet self.new.core }
         ensures idle { result ≡ false → LosesFailed self.new.core (quietly self.new.core) }
     {

@@ -1,10 +1,11 @@
-use Rattle.std.proofs.Common.{◌≡◌, ◌≤◌, ℕ, suc, ◌+◌, length, subst, arith}
+use Rattle.std.proofs.Common.{◌≡◌, ◌≤◌, ℕ, suc, ◌+◌, length, refl, subst, arith}
 use Rattle.world_base.specs.Failing.{loses_failed}
 use Rattle.world_base.specs.Inside.{Ran, Turns}
 use Rattle.world_base.specs.Lossy.{Repeated}
 use Rattle.world_base.specs.LossyStep.{LosesAllFailed, LosesFailed}
 use Rattle.world_base.specs.Turns.{repeated}
 use Rattle.world_base.proofs.Accounts.{ran_as, ran_enough, ran_more, ran_none}
+use Rattle.world_base.proofs.Failures.{none_again}
 use Rattle.world_base.proofs.Repeats.{repeats_none, repeats_more, repeats_enough}
 use Rattle.world_base.proofs.serving.Serving.lose_failed.Goals as goal
 
@@ -12,6 +13,7 @@ pub loop-connection-init : goal.loop-connection-init
 loop-connection-init c = record {
   turns = repeats_none loses_failed c.args.self.now c.args.effects.now.items;
   run = ran_none LosesFailed c.args.self.now.core c.args.effects.now.items;
+  none = λ _. refl;
 }
 
 -- none is left that failed
@@ -53,4 +55,11 @@ loop-connection-preserved c =
           (ran_more LosesFailed c.loop-connection._connection c.args.self.now.core c.loop-connection.self.core c.lose_one_failed.new.self.core
           c.args.effects.now.items c.loop-connection.effects.items c.lose_one_failed.new.effects.items
           c.loop-connection.invariant.run c.lose_one_failed.ensures.run);
+      none = none_again c.args.self.now c.loop-connection.self c.lose_one_failed.new.self c.loop-connection.invariant.none
+          c.lose_one_failed.ensures.none;
     }
+
+pub returns-then-not-lose_one_failed-clause-none : goal.returns-then-not-lose_one_failed-clause-none
+returns-then-not-lose_one_failed-clause-none c =
+    none_again c.args.self.now c.loop-connection.self c.lose_one_failed.new.self c.loop-connection.invariant.none
+    c.lose_one_failed.ensures.none

@@ -2,7 +2,7 @@ use Rattle.std.proofs.Common.{sym, ◌∙◌}
 use Rattle.world_base.specs.Connections.{closed, has_failed}
 use Rattle.world_base.proofs.Changes.{there, core_there}
 use Rattle.world_base.proofs.EndsRun.{idle_failed, ran_failed, ran_none_failed}
-use Rattle.world_base.proofs.Failures.{failed_none, failed_next, failed_one}
+use Rattle.world_base.proofs.Failures.{failed_none, failed_next, failed_one, none_some}
 use Rattle.world_base.proofs.Places.{none_found, found_there}
 use Rattle.world_base.proofs.serving.Serving.lose_one_failed.Goals as goal
 
@@ -45,3 +45,9 @@ returns-clause-run c =
     c.index_mut-connection.result.now c.close.new.self (rw (← c.self.view_is) at c.place_failed.ensures) c.in-Some.is
     c.index_mut-connection.ensures.value c.close.ensures))
     c.propose.ensures.run
+
+pub returns-clause-none : goal.returns-clause-none
+returns-clause-none c =
+    none_some c.index_mut-connection.result.now _ _
+    (rw (← c.self.view_is) (found_there has_failed _ c.place_failed.result c.in-Some.index _
+    (rw (← c.self.view_is) at c.place_failed.ensures) c.in-Some.is c.index_mut-connection.ensures.value))

@@ -1,0 +1,167 @@
+-- Idle.antt: an item that does nothing is a step that does nothing, exact or not.
+use Rattle.std.proofs.Common.{◌≡◌, ◌⊎◌, inl, inr, ◌↔◌, ℕ, zero, suc, Bool, true, false, if◌then◌else◌, Option, Some, None, is_some, not, List, [], ◌∷◌, ◌++◌, refl, sym, ap, subst, ◌∙◌}
+use Rattle.std.specs.List.{find, position}
+use Rattle.broker_base.specs.State.{State}
+use Rattle.broker_model.specs.declared.command.Command.{Command}
+use Rattle.broker_model.specs.declared.command.Output.{Output}
+use Rattle.ballot.specs.Effect.{Effect}
+use Rattle.ballot.specs.Protocol.{Input}
+use Rattle.ballot.specs.Protocol.Input.{Receives, Ticks}
+use Rattle.ballot.specs.Sending.{Outcome}
+use Rattle.world_base.specs.declared.item.Port.{Port}
+use Rattle.world_base.specs.declared.item.Item.{Item}
+use Rattle.world_base.specs.declared.item.Item.TheVariants.{Peer, Tick, Opened, Bytes, Ended, Crash}
+use Rattle.world_base.specs.declared.connection.Connection.{Connection}
+use Rattle.world_base.specs.Connections.{changed, has_failed, holding, is_open_at}
+use Rattle.world_base.specs.Core.{CoreState, Turn}
+use Rattle.world_base.specs.Failing.{loses_all_failed}
+use Rattle.world_base.specs.Inside.{Ran, Running, Turns}
+use Rattle.world_base.specs.KeepAlive.{ends_all_silent, ends_silent, lowest_silent}
+use Rattle.world_base.specs.Losses.{DoesNothing, IsIgnored}
+use Rattle.world_base.specs.Lossy.{Account, Drives, Repeated, Then, quietly}
+use Rattle.world_base.specs.Lossy.Delivers.{nothing}
+use Rattle.world_base.specs.LossyStep.{ActsOn, EndsAllSilent, EndsSilent, Holds, LosesAllFailed, ReadsAll, ReadsNext, TakesIn}
+use Rattle.world_base.specs.LossyStep.Ends.{none_open}
+use Rattle.world_base.specs.LossyStep.EndsSilent.{none_silent}
+use Rattle.world_base.specs.Reading.{changes, ends, open_at, reads_all, reads_next, unread_of}
+use Rattle.world_base.specs.Step.{accepts, acts_on, opens, takes_in}
+use Rattle.world_base.specs.Turns.{drives, moved, quiet, repeated, then_also}
+use Rattle.world_base.proofs.Accounts.{ran_quietly, ran_then}
+use Rattle.world_base.proofs.Places.{none_found, none_placed}
+use Rattle.world_base.proofs.Silences.{silent_none}
+
+-- ---- nothing, several times
+
+quiet_repeated : (next : CoreState → Turn) (n : ℕ) (core : CoreState) → next core ≡ quiet core → repeated n next core ≡ quiet core
+unfolding repeated
+quiet_repeated next zero core e = refl
+quiet_repeated next (suc n) core e = ap (λ (t : Turn). then_also t (repeated n next)) e ∙ quiet_repeated next n core e
+
+idle_repeated : (Next : CoreState → Account → Type 0) (n : ℕ) (core : CoreState) → Next core (quietly core) →
+    Repeated n Next core (quietly core)
+idle_repeated Next zero core idle = refl
+idle_repeated Next (suc n) core idle =
+    record { one = quietly core; two = quietly core; first = idle; next = idle_repeated Next n core idle; is = refl }
+
+-- ---- the replica
+
+drives_nothing : (input : Input Command) (core : CoreState) → IsIgnored input core → drives input core ≡ quiet core
+unfolding drives
+drives_nothing input core ignored = ap (λ (o : Outcome State Command Output). moved o core) ignored
+
+drives_idle : (input : Input Command) (core : CoreState) → IsIgnored input core → Drives input core (quietly core)
+drives_idle input core ignored =
+    record {
+      replica = core.replica;
+      steps = inl (
+        sym (ap (λ (o : Outcome State Command Output). o.state) ignored),
+        sym (ap (λ (o : Outcome State Command Output). o.effects) ignored),
+        refl,
+      );
+      delivers = nothing;
+    }
+
+-- ---- connections
+
+unchanged : (test : Connection → Bool) (change : Connection → Connection) (cs : List Connection) → find test cs ≡ None →
+    changed test change cs ≡ cs
+unchanged test change [] e = refl
+unchanged test change (c ∷ cs) e = by (test c) (unchanged test change cs) e
+  where
+    by : (b : Bool) → (find test cs ≡ None → changed test change cs ≡ cs) → (if b then Some c else find test cs) ≡ None →
+        (if b then change c ∷ cs else c ∷ changed test change cs) ≡ c ∷ cs
+    by true ih f = absurd cc
+    by false ih f = ap (λ (l : List Connection). c ∷ l) (ih f)
+
+nothing_changes : (port : Port) (change : Connection → Connection) (core : CoreState) → open_at port core ≡ None →
+    changes port change core ≡ core
+unfolding changes
+nothing_changes port change core none =
+    ap (λ (l : List Connection). record core { connections = l }) (unchanged (is_open_at port) change core.connections none)
+
+nothing_is_read : (now : ℕ) (port : Port) (core : CoreState) → open_at port core ≡ None → reads_all now port core ≡ quiet core
+unfolding repeated
+nothing_is_read now port core none =
+    ap (λ (o : Option Connection). repeated (unread_of o) (reads_next now port) core) none
+
+reads_nothing : (now : ℕ) (port : Port) (core : CoreState) → open_at port core ≡ None → ReadsAll now port core (quietly core)
+reads_nothing now port core none =
+    subst (λ (o : Option Connection). Repeated (unread_of o) (ReadsNext now port) core (quietly core)) (sym none) refl
+
+ends_nothing : (port : Port) (core : CoreState) → open_at port core ≡ None → ends port core ≡ quiet core
+unfolding ends
+ends_nothing port core none = rw none refl
+
+opens_nothing : (port : Port) (core : CoreState) → accepts port core ≡ false → opens port core ≡ core
+unfolding opens
+opens_nothing port core none = rw none refl
+
+-- ---- an item
+
+takes_nothing : (item : Item) (core : CoreState) → DoesNothing item core → takes_in item core ≡ quiet core
+takes_nothing (Peer message) core ignored = drives_nothing (Receives message) core ignored
+takes_nothing (Tick now) core ignored =
+    ap (λ (t : Turn). then_also t (ends_all_silent now)) (drives_nothing Ticks core ignored.0)
+    ∙ quiet_repeated (ends_silent now) _ core (silent_none now core ignored.1)
+takes_nothing (Opened port now) core none = ap quiet (opens_nothing port core none)
+takes_nothing (Bytes port piece now) core none =
+    ap (λ (k : CoreState). then_also (quiet k) (reads_all now port)) (nothing_changes port (holding piece) core none)
+    ∙ nothing_is_read now port core none
+takes_nothing (Ended port) core none = ends_nothing port core none
+takes_nothing Crash core none = elim none [ ]
+
+takes_idle : (item : Item) (core : CoreState) → DoesNothing item core → TakesIn item core (quietly core)
+takes_idle (Peer message) core ignored = drives_idle (Receives message) core ignored
+takes_idle (Tick now) core ignored =
+    record {
+      one = quietly core;
+      two = quietly core;
+      first = drives_idle Ticks core ignored.0;
+      next = idle_repeated (EndsSilent now) _ core (none_silent ignored.1 refl);
+      is = refl;
+    }
+takes_idle (Opened port now) core none = inr refl
+takes_idle (Bytes port piece now) core none =
+    record {
+      one = quietly core;
+      two = quietly core;
+      first = inr (none_open none refl);
+      next = reads_nothing now port core none;
+      is = refl;
+    }
+takes_idle (Ended port) core none = none_open none refl
+takes_idle Crash core none = elim none [ ]
+
+-- no connection of a port is open where none is found
+pub none_open_at : (port : Port) (core : CoreState) (place : Option ℕ) (none : Bool) →
+    place ≡ position (is_open_at port) core.connections → is_some place ≡ not none → (none ≡ true) ↔ (open_at port core ≡ None)
+none_open_at port core None true at is = ((λ _. none_found (is_open_at port) core.connections at), (λ _. refl))
+none_open_at port core None false at is = absurd cc
+none_open_at port core (Some i) true at is = absurd cc
+none_open_at port core (Some i) false at is =
+    ((λ e. absurd cc), (λ found. absurd (none_placed (is_open_at port) core.connections i at found)))
+
+-- the losses that follow from it, if any, are all that is done
+pub turns_ignored : (item : Item) (a b : Running) (x y : List (Effect Command Output)) → DoesNothing item a.core →
+    Turns a b x y (loses_all_failed a.core) → Turns a b x y (acts_on item a.core)
+turns_ignored item a b x y idle turns =
+    subst (λ (t : Turn). Turns a b x y t) (sym (ap (λ (t : Turn). then_also t loses_all_failed) (takes_nothing item a.core idle))) turns
+
+pub ran_ignored : (item : Item) (a b : CoreState) (x y : List (Effect Command Output)) → DoesNothing item a →
+    Ran LosesAllFailed a b x y → Ran (ActsOn item) a b x y
+ran_ignored item a b x y idle ran =
+    ran_then (TakesIn item) LosesAllFailed a a b x x y (ran_quietly (TakesIn item) a a x (takes_idle item a idle)) ran
+
+-- where nothing failed there are none
+pub quiet_ignored : (a b : Running) → (find has_failed a.core.connections ≡ None → b ≡ a) → find has_failed a.core.connections ≡ None →
+    b.wanting ≡ a.wanting
+quiet_ignored a b none failed = ap (λ (r : Running). r.wanting) (none failed)
+
+pub quiet_crashed : (item : Item) (a b c : Running) (ignored : Bool) → ignored ≡ false → (ignored ≡ true) ↔ DoesNothing item a.core →
+    (item ≡ Crash → (b.wanting ≡ a.wanting) × (b.core.connections ≡ a.core.connections)) →
+    (find has_failed b.core.connections ≡ None → c ≡ b) → DoesNothing item a.core ⊎ (item ≡ Crash) →
+    find has_failed a.core.connections ≡ None → c.wanting ≡ a.wanting
+quiet_crashed item a b c ignored is decides crash none (inl idle) failed = (let e = decides.1 idle in absurd cc)
+quiet_crashed item a b c ignored is decides crash none (inr crashed) failed =
+    let kept = crash crashed in
+    ap (λ (r : Running). r.wanting) (none (ap (λ (l : List Connection). find has_failed l) kept.1 ∙ failed)) ∙ kept.0

@@ -1,0 +1,40 @@
+// Items that do nothing at a node: for these no memory is asked.
+
+ghost use Rattle.std.specs.Prelude.{◌≡◌, ◌↔◌, false, true};
+ghost use Rattle.ballot.specs.Protocol.Input.{Receives, Ticks};
+ghost use Rattle.world_base.specs.Losses.{DoesNothing, IsIgnored};
+
+use crate::item::Item;
+use crate::serving::Serving;
+use ballot::Message;
+use broker_model::Command;
+
+impl Serving {
+    /// Whether an item does nothing.
+    pub fn ignores(&self, item: &Item) -> bool
+        ensures { (result ≡ true) ↔ DoesNothing item.now self.now.core }
+    {
+        match item {
+            Item::Peer(message) => !self.heeds(message),
+            Item::Tick(now) => !self.speaks() && self.lowest_silent(*now).is_none(),
+            Item::Opened(port, _) => self.name_for(*port).is_none(),
+            Item::Bytes(port, _, _) => self.place_at(*port).is_none(),
+            Item::Ended(port) => self.place_at(*port).is_none(),
+            Item::Crash => false,
+        }
+    }
+
+    // Whether the replica does anything with a message of another node.
+    fn heeds(&self, message: &Message<Command>) -> bool
+        ensures { (result ≡ false) ↔ IsIgnored (Receives message.now) self.now.core }
+    {
+        !self.replica.status().stopped && self.replica.heeds(message)
+    }
+
+    // Whether the replica does anything at a tick.
+    fn speaks(&self) -> bool
+        ensures { (result ≡ false) ↔ IsIgnored Ticks self.now.core }
+    {
+        !self.replica.status().stopped && self.replica.speaks()
+    }
+}
