@@ -24,3 +24,4 @@ pub mod MovesOfReplica
 pub mod OpenBehind
 pub mod NamesInMoves
 pub mod NamesKeepTheirBallot
+pub mod NamesStayApart

@@ -48,7 +48,7 @@ opened_new x port core d none there = by ((serves core && not (list_any (is_at p
         (left_true (serves core && not (list_any (is_at port) core.connections)) (is_connection_name (next_name core)) serving))
     by false serving f = absurd (some_none d (sym f ∙ none))
 
-settled_away : (x : ConnectionName) (core : CoreState) (d : Connection) → IsOrderly core → listed_named x core ≡ None → listed_named x (settled core) ≡ Some d → ⊥
+pub settled_away : (x : ConnectionName) (core : CoreState) (d : Connection) → IsOrderly core → listed_named x core ≡ None → listed_named x (settled core) ≡ Some d → ⊥
 unfolding settled
 settled_away x core d o none there = by (serves core) there
   where
@@ -59,7 +59,7 @@ settled_away x core d o none there = by (serves core) there
         let h = found_mapped x core.connections d g.0 in
         some_none h.0 (sym h.1 ∙ none)
 
-handed_away : (x : ConnectionName) (port : Port) (core : CoreState) (d : Connection) → IsOrderly core → listed_named x core ≡ None
+pub handed_away : (x : ConnectionName) (port : Port) (core : CoreState) (d : Connection) → IsOrderly core → listed_named x core ≡ None
     → listed_named x (hands_over port core) ≡ Some d → ⊥
 unfolding hands_over
 handed_away x port core d o none there = by (find (is_at port) core.connections) refl there

@@ -3,6 +3,7 @@ pub mod Ends
 pub mod Puts
 pub mod Closed
 pub mod Names
+pub mod Apart
 pub mod Behind
 pub mod Keeping
 pub mod Hearing

@@ -1,5 +1,6 @@
 // Laws of what a node does. The calls do nothing; their contracts are the laws.
 
+ghost use Rattle.node_model.specs.Apart.{NamesStayApart};
 ghost use Rattle.node_model.specs.Behind.{EachLossIsTold, NoneIsSilent};
 ghost use Rattle.node_model.specs.Closed.{NothingOnClosed};
 ghost use Rattle.node_model.specs.Ends.{NodesProposeInOrder, NodesReadInOrder, ReadsAreTaken};
@@ -73,4 +74,10 @@ pub fn each_loss_is_told()
 /// and the settling behind it; so it proposes under a name in the ballot of that name alone.
 pub fn names_keep_their_ballot()
     ensures { NamesKeepTheirBallot }
+{}
+
+/// No two connections of a node have one name, and a name that was given and that no connection has is never had by one again: from
+/// the opening on, in each step, also in one in which memory was wanting, and where bytes are handed over.
+pub fn names_stay_apart()
+    ensures { NamesStayApart }
 {}

@@ -1,0 +1,27 @@
+-- Names where memory may be wanting: no two connections of a node have one, and none comes twice.
+use Rattle.std.specs.Prelude.{◌≡◌, ℕ, List, None}
+use Rattle.ballot.specs.Config.{Config}
+use Rattle.ballot.specs.Effect.{Effect}
+use Rattle.broker_base.specs.Command.{Command}
+use Rattle.broker_base.specs.Connection.{ConnectionName}
+use Rattle.broker_base.specs.Output.{Output}
+use Rattle.world_base.specs.declared.item.Item.{Item}
+use Rattle.world_base.specs.declared.item.Port.{Port}
+use Rattle.world_base.specs.Core.{CoreState, opening_core}
+use Rattle.world_base.specs.Handing.{hands_over}
+use Rattle.world_base.specs.LossyStep.{RunsOn}
+use Rattle.node_model.specs.Closed.{listed_named}
+use Rattle.node_model.specs.Ends.{IsGiven, IsOrderly}
+
+-- No two connections have one name. One that was given stays so, and if no connection has it, none gets it any more.
+pub record KeepsNames (core later : CoreState) : Type 0 where
+  pub orderly : IsOrderly later
+  pub given : (x : ConnectionName) → IsGiven core.last_name x → IsGiven later.last_name x
+  pub gone : (x : ConnectionName) → IsGiven core.last_name x → listed_named x core ≡ None → listed_named x later ≡ None
+
+-- so it is from the opening on, in each step, whatever memory does, and where bytes are handed over
+pub record NamesStayApart : Type 0 where
+  pub opens : (id : ℕ) (config : Config) → IsOrderly (opening_core id config)
+  pub steps : (item : Item) (core later : CoreState) (messages : List (Effect Command Output)) →
+      RunsOn item core later messages → IsOrderly core → KeepsNames core later
+  pub hands : (port : Port) (core : CoreState) → IsOrderly core → KeepsNames core (hands_over port core)
