@@ -1,15 +1,14 @@
 -- The replicas of a group went through a past.
 use Rattle.std.proofs.Common.{◌≡◌, ℕ, List, [], ◌∷◌, ◌++◌, Option, Some, None, refl, sym, ap, ◌∙◌, subst}
 use Rattle.lists.specs.Lists.{Each, In}
-use Rattle.lists.specs.Lists.In.{here, there}
+use Rattle.lists.specs.Lists.In.{here}
 use Rattle.ballot.specs.Config.{Config}
 use Rattle.broker_base.specs.State.{State}
 use Rattle.broker_base.specs.Command.{Command}
 use Rattle.broker_base.specs.Output.{Output}
 use Rattle.agreement.specs.MasterState.{AssignRefusal, MasterState, master_behind, opening_master, refusal}
 use Rattle.agreement.specs.Past.{Moment, Past, opening_moment}
-use Rattle.agreement.specs.Past.Past.{began, went_on}
-use Rattle.agreement.specs.Proposals.{taken_of}
+use Rattle.agreement.specs.Past.Past.{began}
 use Rattle.agreement.specs.Steps.{world_behind}
 use Rattle.agreement.specs.Steps.MayHappen.{master_assigns, master_hears}
 use Rattle.agreement.specs.World.{World}
@@ -19,7 +18,7 @@ use Rattle.group_model.specs.Goes.{MayGo, all_put, behind_assign, groups_of, put
 use Rattle.group_model.specs.Goes.MayGo.{node_acts, master_assigns as assigns, master_hears as hears_master}
 use Rattle.group_model.specs.Goes.Went.{opened, then_went}
 use Rattle.group_model.specs.Pasts.{GroupsArePasts, packets_in}
-use Rattle.group_model.proofs.MovesHappen.{Further}
+use Rattle.group_model.proofs.MovesHappen.{Further, by_event}
 use Rattle.group_model.proofs.RunsHappen.{runs_happen}
 use Rattle.group_model.proofs.Packets.{packets_join}
 use Rattle.group_model.proofs.Placed.{opened_replicas}
@@ -37,16 +36,16 @@ assigned_as : (g : Group) (config : Config) (why : Option AssignRefusal)
 assigned_as g config (Some why) = refl
 assigned_as g config None = refl
 
-goes_on : (config : Config) (g h : Group) (step : MayGo g h) (earlier : List (Moment State Command Output)) (came : Past rules config (moment_of g ∷ earlier))
+pub goes_on : (config : Config) (g h : Group) (step : MayGo g h) (earlier : List (Moment State Command Output)) (came : Past rules config (moment_of g ∷ earlier))
     → Further came (moment_of h) (put_in_step step)
 goes_on config g h (node_acts n core deed turn run at is first sent) earlier came = runs_happen g n core turn run at sent config earlier came
 goes_on config g h (assigns wanted) earlier came =
     subst (λ z. Further came z []) (assigned_as g wanted (refusal g.master wanted))
-    (record { before = moment_of g ∷ earlier; past = went_on came (master_assigns wanted); proposed = refl; taken = λ x. packets_join x (taken_of came) []; kept = λ z i. there i })
+    (by_event came _ (master_assigns wanted) [] 0 [] refl (λ x. refl) refl).further
 goes_on config g h (hears_master from ballot sent) earlier came =
-    record { before = moment_of g ∷ earlier; past = went_on came (master_hears from ballot sent); proposed = refl; taken = λ x. packets_join x (taken_of came) []; kept = λ z i. there i }
+    (by_event came _ (master_hears from ballot sent) [] 0 [] refl (λ x. refl) refl).further
 
-seen_still : {old new : List (Moment State Command Output)} (groups : List Group) → ((z : Moment State Command Output) → In z old → In z new)
+pub seen_still : {old new : List (Moment State Command Output)} (groups : List Group) → ((z : Moment State Command Output) → In z old → In z new)
     → Each (λ h. In (moment_of h) old) groups → Each (λ h. In (moment_of h) new) groups
 seen_still [] kept all = tt
 seen_still (h ∷ groups) kept all = (kept (moment_of h) all.0, seen_still groups kept all.1)

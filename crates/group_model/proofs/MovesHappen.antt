@@ -1,7 +1,10 @@
 -- Each move of a node is one event among replicas, or none.
-use Rattle.std.proofs.Common.{inl, ◌≡◌, ℕ, Bool, true, false, ◌&&◌, if◌then◌else◌, nat_lt, List, [], ◌∷◌, ◌++◌, length, Some, slice_get, slice_set, map, refl, sym, ap, ◌∙◌, subst}
-use Rattle.std.proofs.lemmas.List.{append-nil}
-use Rattle.lists.specs.Lists.{In}
+use Rattle.std.proofs.Common.{inl, inr, ◌⊎◌, ◌≡◌, ℕ, Bool, true, false, ◌&&◌, if◌then◌else◌, nat_lt, List, [], ◌∷◌, ◌++◌, length, Option, Some, slice_get, slice_set, map, refl, sym, ap, ◌∙◌, subst, arith}
+use Rattle.std.proofs.lemmas.List.{append-nil, length-take-le}
+use Rattle.lists.specs.Lists.{In, IsPrefixOf}
+use Rattle.lists.proofs.Beginnings.{prefix_length}
+use Rattle.lists.proofs.Tests.{eq_same}
+use Rattle.ballot.specs.Applying.{outputs_between}
 use Rattle.lists.specs.Lists.In.{there}
 use Rattle.ballot.specs.Config.{Config}
 use Rattle.ballot.specs.Effect.{Effect}
@@ -20,13 +23,20 @@ use Rattle.broker_base.specs.Output.{Output}
 use Rattle.broker_base.specs.Connection.{ConnectionName}
 use Rattle.story.specs.Story.{is_packet_of}
 use Rattle.agreement.specs.MasterState.{MasterState}
-use Rattle.agreement.specs.Past.{Moment, Past}
+use Rattle.agreement.specs.Giving.{GivesNext, given_in as gives_in}
+use Rattle.agreement.specs.Past.{Moment, Past, IsAgreed, IsChosen, WasActive}
 use Rattle.agreement.specs.Past.Past.{went_on}
-use Rattle.agreement.specs.Proposals.{proposal_by, proposals_of, taken_by, taken_of}
+use Rattle.agreement.specs.Proposals.{proposal_by, proposal_of, proposals_of, taken_in, taken_of}
 use Rattle.agreement.specs.Steps.{MayHappen, MayTake}
 use Rattle.agreement.specs.Steps.MayHappen.{node_takes, node_stops}
 use Rattle.agreement.specs.World.{World, messages, outputs}
 use Rattle.agreement.specs.World.{moved as moved_world}
+use Rattle.agreement.proofs.Agreed.PastAgrees.{nodes_agree}
+use Rattle.agreement.proofs.Agreed.PastGrows.{agreed_grows}
+use Rattle.agreement.proofs.Agreed.PastKnown.{past_known}
+use Rattle.agreement.proofs.Given.NextPlaces.{answers_at_the_next_places}
+use Rattle.agreement.proofs.Given.Places.{none_between}
+use Rattle.agreement.proofs.Given.StepGives.{from_active}
 use Rattle.world_base.specs.Core.{CoreState, Turn, rules, serves}
 use Rattle.world_base.specs.Failing.{closes_failed}
 use Rattle.world_base.specs.Reading.{changes}
@@ -46,7 +56,7 @@ use Rattle.group_model.proofs.Replicas.{changes_keep, hands_keeps, moved_replica
 abbrev Given : Type 0
 Given = List (Effect Command Output)
 
--- A past goes on to this moment, by no event or by one, in which these commands were proposed.
+-- A past goes on to this moment, by events in which these commands were proposed; what is agreed grows.
 pub record Further {config : Config} {a : Moment State Command Output} {earlier : List (Moment State Command Output)} (came : Past rules config (a ∷ earlier))
     (b : Moment State Command Output) (put : List (ℕ × Command)) : Type 0 where
   pub before : List (Moment State Command Output)
@@ -54,6 +64,32 @@ pub record Further {config : Config} {a : Moment State Command Output} {earlier 
   pub proposed : proposals_of past ≡ proposals_of came ++ put
   pub taken : (x : ConnectionName) → packets_in x (taken_of past) ≡ packets_in x (taken_of came) ++ packets_in x put
   pub kept : (z : Moment State Command Output) → In z (a ∷ earlier) → In z (b ∷ before)
+  pub grows : (xs ys : List Command) → IsAgreed config (a ∷ earlier) xs → IsAgreed config (b ∷ before) ys → IsPrefixOf xs ys
+
+-- By no event or by one, in which the node at this place gave these outputs, each with its place in the list.
+pub record Once {config : Config} {a : Moment State Command Output} {earlier : List (Moment State Command Output)} (came : Past rules config (a ∷ earlier))
+    (b : Moment State Command Output) (put : List (ℕ × Command)) (n : ℕ) (given : List (ℕ × Output)) : Type 0 where
+  pub further : Further came b put
+  pub gives : (xs : List Command) → IsAgreed config (b ∷ further.before) xs → (old new : ReplicaState State Command) → slice_get a.world.nodes n ≡ Some old
+      → slice_get b.world.nodes n ≡ Some new → GivesNext rules old new xs given
+
+-- one more event, in which the node at a place gave this
+pub by_event : {config : Config} {a : Moment State Command Output} {earlier : List (Moment State Command Output)} (came : Past rules config (a ∷ earlier))
+    (b : Moment State Command Output) (step : MayHappen rules a.master a.world b.master b.world) (put : List (ℕ × Command)) (n : ℕ) (given : List (ℕ × Output))
+    → proposal_of step ≡ put → ((x : ConnectionName) → packets_in x (taken_in step) ≡ packets_in x put) → gives_in n step ≡ given → Once came b put n given
+by_event {config = config} {a = a} {earlier = earlier} came b step put n given proposed taken is =
+    record {
+      further = record {
+        before = a ∷ earlier;
+        past = went_on came step;
+        proposed = ap (λ l. proposals_of came ++ l) proposed;
+        taken = λ x. packets_join x (taken_of came) (taken_in step) ∙ ap (λ l. packets_in x (taken_of came) ++ l) (taken x);
+        kept = λ z i. there i;
+        grows = λ xs ys before behind. agreed_grows rules config b (a ∷ earlier) xs ys before behind;
+      };
+      gives = λ xs behind old new stood stands.
+          subst (GivesNext rules old new xs) is (answers_at_the_next_places rules config a b earlier xs came behind step n old new stood stands);
+    }
 
 -- ---- moments of groups
 
@@ -88,16 +124,51 @@ stays_as_it_is g n core turn at same none_sent =
     ∙ set_same (map replica_of g.nodes) n (replica_of core) (get_mapped replica_of g.nodes n core at)))
     (sym (ap (λ l. g.sent ++ messages l) none_sent ∙ append-nil g.sent)) (sym (append-nil g.left)))
 
-no_event : (config : Config) (a b : Moment State Command Output) (earlier : List (Moment State Command Output)) (came : Past rules config (a ∷ earlier)) → a ≡ b
-    → Further came b []
-no_event config a b earlier came same =
-    subst (λ z. Further came z []) same (record {
+-- what is agreed at one moment is one list
+pub one_agreed : (config : Config) (past : List (Moment State Command Output)) (xs ys : List Command) → IsAgreed config past xs → IsAgreed config past ys → IsPrefixOf xs ys
+one_agreed config past xs ys first other = by first.chosen
+  where
+    by : (xs ≡ []) ⊎ ((b : ℕ) × WasActive past b × IsChosen config past b xs) → IsPrefixOf xs ys
+    by (inl empty) = record { rest = ys; is = ap (λ l. l ++ ys) (sym empty) }
+    by (inr (b, active, chosen)) = other.longest b xs active chosen
+
+-- a node that does nothing gives nothing
+gives_none : (config : Config) (a : Moment State Command Output) (earlier : List (Moment State Command Output)) → Past rules config (a ∷ earlier) → (xs : List Command)
+    → IsAgreed config (a ∷ earlier) xs → (n : ℕ) (r : ReplicaState State Command) → slice_get a.world.nodes n ≡ Some r → GivesNext rules r r xs []
+gives_none config a earlier came xs is n r stands =
+    let within = ((past_known rules config a earlier came).serves.sound.nodes n r stands).within in
+    let short = prefix_length ((nodes_agree rules config a earlier xs came is).0.applied n r stands) in
+    let long = length-take-le r.committed r.log within in
+    record {
+      idle = λ other. refl;
+      rising = λ active. let from = from_active r active in omega (arith, from);
+      inside = omega (arith, short, long);
+      next = λ active. sym (ap (λ k. outputs (outputs_between rules xs k r.committed)) (from_active r active) ∙ none_between rules xs r.committed);
+    }
+
+-- nothing happens
+abbrev pub unchanged : {config : Config} {a : Moment State Command Output} {earlier : List (Moment State Command Output)} (came : Past rules config (a ∷ earlier)) → Further came a []
+unchanged {config = config} {a = a} {earlier = earlier} came =
+    record {
       before = earlier;
       past = came;
       proposed = sym (append-nil (proposals_of came));
       taken = λ x. sym (append-nil (packets_in x (taken_of came)));
       kept = λ z i. i;
+      grows = one_agreed config (a ∷ earlier);
+    }
+
+no_event : (config : Config) (a b : Moment State Command Output) (earlier : List (Moment State Command Output)) (came : Past rules config (a ∷ earlier)) (n : ℕ) → a ≡ b
+    → Once came b [] n []
+no_event config a b earlier came n same =
+    subst (λ z. Once came z [] n []) same (record {
+      further = unchanged came;
+      gives = λ xs is old new stood stands.
+          subst (λ (r : ReplicaState State Command). GivesNext rules old r xs []) (one_replica old new (sym stood ∙ stands)) (gives_none config a earlier came xs is n old stood);
     })
+  where
+    one_replica : (r s : ReplicaState State Command) → (let o : Option (ReplicaState State Command) = Some r in o) ≡ Some s → r ≡ s
+    one_replica r s e = cc
 
 -- ---- one step of a replica
 
@@ -115,16 +186,11 @@ one_step : (g : Group) (n : ℕ) (core : CoreState) (turn : Turn) (input : Input
     → messages turn.messages ≡ messages (replica_step rules (replica_of core) input).effects
     → outputs given ≡ outputs (replica_step rules (replica_of core) input).effects
     → AreTaken (replica_of core) (replica_step rules (replica_of core) input).state input
-    → Further came (moment_of (behind_turn g n turn given)) (proposal_by (replica_of core) input)
+    → Once came (moment_of (behind_turn g n turn given)) (proposal_by (replica_of core) input) n (outputs given)
 one_step g n core turn input given config earlier came at runs may replica sent left took =
-    subst (λ z. Further came z (proposal_by (replica_of core) input)) (behind_is g n turn given outcome.effects outcome.state replica sent left)
-    (record {
-      before = moment_of g ∷ earlier;
-      past = went_on came step;
-      proposed = refl;
-      taken = λ x. packets_join x (taken_of came) (taken_by (replica_of core) outcome.state input) ∙ ap (λ l. packets_in x (taken_of came) ++ l) (took x);
-      kept = λ z i. there i;
-    })
+    subst (λ z. Once came z (proposal_by (replica_of core) input) n (outputs given)) (behind_is g n turn given outcome.effects outcome.state replica sent left)
+    (by_event came _ step (proposal_by (replica_of core) input) n (outputs given) refl took
+    (ap (λ b. if b then outputs outcome.effects else []) (eq_same n) ∙ sym left))
   where
     outcome : Outcome State Command Output
     outcome = replica_step rules (replica_of core) input
@@ -135,10 +201,10 @@ one_step g n core turn input given config earlier came at runs may replica sent 
 -- a crash
 one_stop : (g : Group) (n : ℕ) (core : CoreState) (turn : Turn) (config : Config) (earlier : List (Moment State Command Output))
     (came : Past rules config (moment_of g ∷ earlier)) → slice_get g.nodes n ≡ Some core → replica_of turn.core ≡ halted rules (replica_of core)
-    → turn.messages ≡ [] → Further came (moment_of (behind_turn g n turn [])) []
+    → turn.messages ≡ [] → Once came (moment_of (behind_turn g n turn [])) [] n []
 one_stop g n core turn config earlier came at replica none_sent =
-    subst (λ z. Further came z []) (behind_is g n turn [] [] (halted rules (replica_of core)) replica (ap messages none_sent) refl)
-    (record { before = moment_of g ∷ earlier; past = went_on came step; proposed = refl; taken = λ x. packets_join x (taken_of came) []; kept = λ z i. there i })
+    subst (λ z. Once came z [] n []) (behind_is g n turn [] [] (halted rules (replica_of core)) replica (ap messages none_sent) refl)
+    (by_event came _ step [] n [] refl (λ x. refl) refl)
   where
     step : MayHappen rules g.master (moment_of g).world g.master (moved_world (moment_of g).world n (halted rules (replica_of core)) [])
     step = node_stops n (replica_of core) (get_mapped replica_of g.nodes n core at)
@@ -148,19 +214,20 @@ one_stop g n core turn config earlier came at replica none_sent =
 -- what is asked of each move
 abbrev Happens : Group → ℕ → (core : CoreState) (turn : Turn) → Moves core turn → Type 0
 Happens g n core turn m = (config : Config) (earlier : List (Moment State Command Output)) (came : Past rules config (moment_of g ∷ earlier))
-    → Further came (moment_of (behind_turn g n turn (given_in m))) (put_in_move m)
+    → Once came (moment_of (behind_turn g n turn (given_in m))) (put_in_move m) n (outputs (given_in m))
 
 pub quietly : (g : Group) (n : ℕ) (core later : CoreState) → slice_get g.nodes n ≡ Some core → later.replica ≡ core.replica → (config : Config)
-    (earlier : List (Moment State Command Output)) (came : Past rules config (moment_of g ∷ earlier)) → Further came (moment_of (behind_turn g n (quiet later) [])) []
+    (earlier : List (Moment State Command Output)) (came : Past rules config (moment_of g ∷ earlier)) → Once came (moment_of (behind_turn g n (quiet later) [])) [] n []
 quietly g n core later at same config earlier came =
-    no_event config (moment_of g) _ earlier came
+    no_event config (moment_of g) _ earlier came n
     (stays_as_it_is g n core (quiet later) at (ap (λ (r : CountedReplica State Command). r.state) same) refl)
 
 -- a command is put to the replica of a node that serves
 put_happens : (g : Group) (n : ℕ) (core between : CoreState) (command : Command) → slice_get g.nodes n ≡ Some core → between.replica ≡ core.replica
     → serves core ≡ true → HasRoomFor core command → (config : Config) (earlier : List (Moment State Command Output))
     (came : Past rules config (moment_of g ∷ earlier))
-    → Further came (moment_of (behind_turn g n (proposes command between) (proposed rules (replica_of core) command).effects)) (((replica_of core).joined, command) ∷ [])
+    → Once came (moment_of (behind_turn g n (proposes command between) (proposed rules (replica_of core) command).effects)) (((replica_of core).joined, command) ∷ []) n
+    (outputs (proposed rules (replica_of core) command).effects)
 unfolding proposes
 put_happens g n core between command at same serving room config earlier came =
     rw (serving_between)
@@ -189,7 +256,7 @@ heard_running false r input e = refl
 
 heard_happens : (g : Group) (n : ℕ) (core : CoreState) (input : Input Command) → slice_get g.nodes n ≡ Some core → is_proposal input ≡ false
     → InputWasSent g n input → (config : Config) (earlier : List (Moment State Command Output)) (came : Past rules config (moment_of g ∷ earlier))
-    → Further came (moment_of (behind_turn g n (drives input core) (heard input (replica_of core)).effects)) []
+    → Once came (moment_of (behind_turn g n (drives input core) (heard input (replica_of core)).effects)) [] n (outputs (heard input (replica_of core)).effects)
 unfolding drives
 heard_happens g n core input at other sent config earlier came = by (replica_of core).stopped refl
   where
@@ -204,16 +271,17 @@ heard_happens g n core input at other sent config earlier came = by (replica_of 
     none_put Ticks e = refl
 
     behind : Outcome State Command Output → Type 0
-    behind o = Further came (moment_of (behind_turn g n (moved o core) o.effects)) []
+    behind o = Once came (moment_of (behind_turn g n (moved o core) o.effects)) [] n (outputs o.effects)
 
     by : (b : Bool) → (replica_of core).stopped ≡ b → behind (heard input (replica_of core))
     by true e =
         subst behind (sym (heard_stopped (replica_of core).stopped (replica_of core) input e))
-        (no_event config (moment_of g) _ earlier came
+        (no_event config (moment_of g) _ earlier came n
         (stays_as_it_is g n core (moved (nothing_done Output (replica_of core)) core) at (moved_replica (nothing_done Output (replica_of core)) core) refl))
     by false e =
         subst behind (sym (heard_running (replica_of core).stopped (replica_of core) input e))
-        (subst (λ l. Further came (moment_of (behind_turn g n (moved (replica_step rules (replica_of core) input) core) (replica_step rules (replica_of core) input).effects)) l)
+        (subst (λ l. Once came (moment_of (behind_turn g n (moved (replica_step rules (replica_of core) input) core) (replica_step rules (replica_of core) input).effects)) l n
+        (outputs (replica_step rules (replica_of core) input).effects))
         (none_put input other)
         (one_step g n core (moved (replica_step rules (replica_of core) input) core) input (replica_step rules (replica_of core) input).effects config earlier came at e
         (may input other sent) (moved_replica (replica_step rules (replica_of core) input) core)
@@ -222,7 +290,7 @@ heard_happens g n core input at other sent config earlier came = by (replica_of 
 -- where the node does not serve, nobody hears that a connection is lost
 lost_unheard : (g : Group) (n : ℕ) (core between : CoreState) (command : Command) → slice_get g.nodes n ≡ Some core → between.replica ≡ core.replica
     → serves core ≡ false → (config : Config) (earlier : List (Moment State Command Output)) (came : Past rules config (moment_of g ∷ earlier))
-    → Further came (moment_of (behind_turn g n (proposes command between) [])) []
+    → Once came (moment_of (behind_turn g n (proposes command between) [])) [] n []
 unfolding proposes
 lost_unheard g n core between command at same none_served config earlier came =
     rw (ap (λ (r : CountedReplica State Command). serves (let k : CoreState = record { replica = r; last_name = record { ballot = 0; count = 0 }; connections = [] } in k)) same ∙ none_served)
@@ -232,8 +300,8 @@ lost_unheard g n core between command at same none_served config earlier came =
 lost_happens : (g : Group) (n : ℕ) (core between : CoreState) (command : Command) → slice_get g.nodes n ≡ Some core → between.replica ≡ core.replica
     → HasRoomFor core command → (b : Bool) → serves core ≡ b → (config : Config) (earlier : List (Moment State Command Output))
     (came : Past rules config (moment_of g ∷ earlier))
-    → Further came (moment_of (behind_turn g n (proposes command between) (if b then (proposed rules (replica_of core) command).effects else [])))
-    (map (λ put. ((replica_of core).joined, put)) (if b then command ∷ [] else []))
+    → Once came (moment_of (behind_turn g n (proposes command between) (if b then (proposed rules (replica_of core) command).effects else [])))
+    (map (λ put. ((replica_of core).joined, put)) (if b then command ∷ [] else [])) n (outputs (if b then (proposed rules (replica_of core) command).effects else []))
 lost_happens g n core between command at same room true e = put_happens g n core between command at same e room
 lost_happens g n core between command at same room false e = lost_unheard g n core between command at same e
 

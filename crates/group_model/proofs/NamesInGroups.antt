@@ -1,13 +1,12 @@
 -- In a group the names of each node's open connections are of the ballot that it leads, between its steps.
-use Rattle.std.proofs.Common.{◌≡◌, ℕ, zero, suc, ◌+◌, Bool, true, false, if◌then◌else◌, List, [], ◌∷◌, ◌++◌, Option, Some, None, slice_get, slice_set, filter, map, refl, sym, ap, ◌∙◌, subst}
+use Rattle.std.proofs.Common.{◌≡◌, ℕ, zero, suc, ◌+◌, Bool, true, false, if◌then◌else◌, List, [], ◌∷◌, Option, Some, None, slice_get, slice_set, filter, map, refl, sym, subst}
 use Rattle.std.proofs.lemmas.Bool.{both_ways}
 use Rattle.std.proofs.lemmas.Option.{same_Some, none-some}
 use Rattle.lists.specs.Lists.{Each}
 use Rattle.lists.proofs.OfEach.{each_append}
 use Rattle.ballot.specs.Config.{Config}
 use Rattle.agreement.specs.MasterState.{AssignRefusal, master_behind, refusal}
-use Rattle.broker_base.specs.Connection.{ConnectionName, same_connection}
-use Rattle.world_base.specs.declared.item.Port.{Port}
+use Rattle.broker_base.specs.Connection.{ConnectionName}
 use Rattle.world_base.specs.declared.connection.Connection.{Connection}
 use Rattle.world_base.specs.Connections.{closed, is_listed, is_over}
 use Rattle.world_base.specs.Core.{CoreState, Turn, opening_core, serves}
@@ -19,17 +18,16 @@ use Rattle.node_model.specs.Moves.{Deed, done}
 use Rattle.node_model.specs.Moves.Deed.{takes, gives}
 use Rattle.node_model.specs.Moves.Moves.{hands}
 use Rattle.node_model.proofs.Kept.{named}
-use Rattle.node_model.proofs.MovesOfReplica.{settled_replica}
 use Rattle.node_model.proofs.NamesKeepTheirBallot.{names_keep_their_ballot}
 use Rattle.node_model.proofs.ProposesInOrder.{opening_orderly}
 use Rattle.node_model.proofs.Shut.{all}
 use Rattle.node_model.proofs.Views.{each_filtered, found_each, view}
 use Rattle.group_model.specs.Ballots.{IsInItsBallot, PutsInTheBallotOfTheName}
 use Rattle.group_model.specs.Group.{Group, opening_cores, with_master}
-use Rattle.group_model.specs.Goes.{MayGo, Went, all_put, behind_assign, put_in_run, put_in_step}
+use Rattle.group_model.specs.Goes.{MayGo, Went, all_put, behind_assign, put_in_step}
 use Rattle.group_model.specs.Goes.MayGo.{node_acts, master_assigns as assigns, master_hears as hears_master}
 use Rattle.group_model.specs.Goes.Went.{opened, then_went}
-use Rattle.group_model.proofs.PutsInBallot.{AreWhereItServes, RunsWell, runs_well}
+use Rattle.group_model.proofs.PutsInBallot.{AreWhereItServes, runs_well}
 
 -- ---- the end of a step
 
@@ -74,7 +72,7 @@ well_behind deed core turn is well orderly of =
 
 -- ---- groups
 
-each_got : (P : CoreState → Type 0) (cores : List CoreState) (n : ℕ) (core : CoreState) → Each P cores → slice_get cores n ≡ Some core → P core
+pub each_got : (P : CoreState → Type 0) (cores : List CoreState) (n : ℕ) (core : CoreState) → Each P cores → slice_get cores n ≡ Some core → P core
 each_got P [] n core each e = absurd (none-some core e)
 each_got P (c ∷ cores) zero core each e = subst P (same_Some c core e) each.0
 each_got P (c ∷ cores) (suc n) core each e = each_got P cores n core each.1 e
@@ -108,7 +106,7 @@ steps_well g h (node_acts n core deed turn run at is first sent) well =
 steps_well g h (assigns config) well = record { nodes = assigned_well g config (refusal g.master config) well; puts = tt }
 steps_well g h (hears_master from ballot sent) well = record { nodes = well; puts = tt }
 
-all_well : (nodes : ℕ) (config : Config) (g : Group) (went : Went nodes config g) → Each IsWell g.nodes × Each IsInItsBallot (all_put went)
+pub all_well : (nodes : ℕ) (config : Config) (g : Group) (went : Went nodes config g) → Each IsWell g.nodes × Each IsInItsBallot (all_put went)
 all_well nodes config g (opened can) = (opening_well nodes config, tt)
 all_well nodes config h (then_went {g = g} went step) =
     let before = all_well nodes config g went in

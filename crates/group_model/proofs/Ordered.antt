@@ -1,5 +1,5 @@
 -- The packets of a connection stand in each log, and in the agreed list, in the order in which they were put.
-use Rattle.std.proofs.Common.{◌≡◌, ℕ, Bool, true, false, if◌then◌else◌, List, [], ◌∷◌, Some, slice_get, filter, refl, sym, ap, ◌∙◌, subst}
+use Rattle.std.proofs.Common.{◌≡◌, ℕ, Bool, true, false, if◌then◌else◌, List, [], ◌∷◌, Some, slice_get, refl, sym, ap, ◌∙◌, subst}
 use Rattle.lists.specs.Lists.{Each, In, IsPrefixOf}
 use Rattle.lists.specs.Lists.In.{here, there}
 use Rattle.lists.proofs.Beginnings.{prefix_then}
@@ -15,11 +15,11 @@ use Rattle.agreement.specs.Proposals.IsPartOf.{nothing_left, with_one, without_o
 use Rattle.agreement.proofs.Agreed.PastAgrees.{nodes_agree}
 use Rattle.agreement.proofs.Agreed.PastOrder.{keeps_the_order}
 use Rattle.agreement.proofs.Orders.NamesInLists.{filter_prefix}
-use Rattle.world_base.specs.Core.{CoreState, rules}
+use Rattle.world_base.specs.Core.{rules}
 use Rattle.group_model.specs.Ballots.{IsInItsBallot}
 use Rattle.group_model.specs.Group.{Group, moment_of, replica_of}
-use Rattle.group_model.specs.Goes.{Went, all_put, groups_of}
-use Rattle.group_model.specs.Order.{GroupsKeepTheOrder, KeepsOrder, packets_of}
+use Rattle.group_model.specs.Goes.{all_put, groups_of}
+use Rattle.group_model.specs.Order.{GroupsKeepTheOrder, packets_of}
 use Rattle.group_model.specs.Pasts.{HasPast, packets_in}
 use Rattle.group_model.proofs.GroupsArePasts.{groups_are_pasts}
 use Rattle.group_model.proofs.NamesInGroups.{puts_in_the_ballot_of_the_name}
@@ -47,15 +47,17 @@ packets_of_rows x (row ∷ rows) = by (is_packet_of row.1 x) (packets_of_rows x 
     by true same = ap (λ l. row.1 ∷ l) same
     by false same = same
 
-keeps : (config : Config) (g : Group) (groups : List Group) (put : List (ℕ × Command)) → HasPast config g groups put → Each IsInItsBallot put
-    → KeepsOrder config g groups put
-keeps config g groups put of each = record { of = of; logs = λ x n core at. in_log x n (replica_of core) (get_mapped replica_of g.nodes n core at); agreed = in_agreed }
+in_log : (config : Config) (g : Group) (groups : List Group) (put : List (ℕ × Command)) → HasPast config g groups put → Each IsInItsBallot put → (x : ConnectionName) (n : ℕ)
+    (r : ReplicaState State Command) → slice_get (moment_of g).world.nodes n ≡ Some r → IsPrefixOf (packets_of x r.log) (packets_of x (commands_of put))
+in_log config g groups put of each x n r stands =
+    subst (IsPrefixOf (packets_of x r.log)) ordered
+    ((keeps_the_order rules config (moment_of g) of.earlier of.past).1 (λ (command : Command). is_packet_of command x) x.ballot own n r stands)
   where
-    ordered : (x : ConnectionName) → packets_of x (commands_of (taken_of of.past)) ≡ packets_of x (commands_of put)
-    ordered x = packets_of_rows x (taken_of of.past) ∙ ap commands_of (of.taken x) ∙ sym (packets_of_rows x put)
+    ordered : packets_of x (commands_of (taken_of of.past)) ≡ packets_of x (commands_of put)
+    ordered = packets_of_rows x (taken_of of.past) ∙ ap commands_of (of.taken x) ∙ sym (packets_of_rows x put)
 
-    own : (x : ConnectionName) → IsOfBallot rules.start_of (λ (command : Command). is_packet_of command x) x.ballot (taken_of of.past)
-    own x =
+    own : IsOfBallot rules.start_of (λ (command : Command). is_packet_of command x) x.ballot (taken_of of.past)
+    own =
         record {
           starts = λ b. refl;
           only = λ row i named.
@@ -63,16 +65,19 @@ keeps config g groups put of each = record { of = of; logs = λ x n core at. in_
               (subst (In row) of.proposed (part_in row (taken_of of.past) (proposals_of of.past) (keeps_the_order rules config (moment_of g) of.earlier of.past).0 i)) x named);
         }
 
-    in_log : (x : ConnectionName) (n : ℕ) (r : ReplicaState State Command) → slice_get (moment_of g).world.nodes n ≡ Some r → IsPrefixOf (packets_of x r.log) (packets_of x (commands_of put))
-    in_log x n r stands =
-        subst (IsPrefixOf (packets_of x r.log)) (ordered x)
-        ((keeps_the_order rules config (moment_of g) of.earlier of.past).1 (λ (command : Command). is_packet_of command x) x.ballot (own x) n r stands)
-
-    in_agreed : (x : ConnectionName) (xs : List Command) → IsAgreed config (moment_of g ∷ of.earlier) xs → IsPrefixOf (packets_of x xs) (packets_of x (commands_of put))
-    in_agreed x xs is =
-        let holds = (nodes_agree rules config (moment_of g) of.earlier xs of.past is).1 in
-        prefix_then (filter_prefix (λ (command : Command). is_packet_of command x) xs holds.replica.log holds.held) (in_log x holds.node holds.replica holds.stands)
+pub in_agreed : (config : Config) (g : Group) (groups : List Group) (put : List (ℕ × Command)) (of : HasPast config g groups put) → Each IsInItsBallot put → (x : ConnectionName)
+    (xs : List Command) → IsAgreed config (moment_of g ∷ of.earlier) xs → IsPrefixOf (packets_of x xs) (packets_of x (commands_of put))
+in_agreed config g groups put of each x xs is =
+    let holds = (nodes_agree rules config (moment_of g) of.earlier xs of.past is).1 in
+    prefix_then (filter_prefix (λ (command : Command). is_packet_of command x) xs holds.replica.log holds.held)
+    (in_log config g groups put of each x holds.node holds.replica holds.stands)
 
 pub groups_keep_the_order : GroupsKeepTheOrder
 groups_keep_the_order nodes config g went =
-    keeps config g (groups_of went) (all_put went) (groups_are_pasts nodes config g went) (puts_in_the_ballot_of_the_name nodes config g went)
+    let of = groups_are_pasts nodes config g went in
+    let each = puts_in_the_ballot_of_the_name nodes config g went in
+    record {
+      of = of;
+      logs = λ x n core at. in_log config g (groups_of went) (all_put went) of each x n (replica_of core) (get_mapped replica_of g.nodes n core at);
+      agreed = λ x xs is. in_agreed config g (groups_of went) (all_put went) of each x xs is;
+    }

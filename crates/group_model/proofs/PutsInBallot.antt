@@ -1,5 +1,5 @@
 -- What a move puts to its replica is put in the ballot of its name, where the names of open connections are of the ballot.
-use Rattle.std.proofs.Common.{◌≡◌, inl, inr, ℕ, Bool, true, false, not, ◌&&◌, nat_lt, if◌then◌else◌, List, [], ◌∷◌, ◌++◌, length, Some, map, refl, sym, ap, ◌∙◌}
+use Rattle.std.proofs.Common.{◌≡◌, inl, inr, Bool, true, false, not, nat_lt, if◌then◌else◌, [], ◌∷◌, length, Some, map, refl, sym, ap, ◌∙◌}
 use Rattle.std.proofs.lemmas.Bool.{both_ways}
 use Rattle.lists.specs.Lists.{Each}
 use Rattle.lists.specs.Lists.In.{here}

@@ -1,5 +1,5 @@
 -- What moves do to a node's replica: one step of it at most.
-use Rattle.std.proofs.Common.{◌≡◌, ℕ, Bool, true, false, not, ◌&&◌, if◌then◌else◌, List, [], ◌∷◌, Option, Some, None, refl, ap, ◌∙◌}
+use Rattle.std.proofs.Common.{◌≡◌, Bool, true, false, not, ◌&&◌, if◌then◌else◌, List, [], ◌∷◌, Option, Some, None, refl, ap, ◌∙◌}
 use Rattle.std.specs.List.{fold}
 use Rattle.packet.specs.Spelling.{spelling}
 use Rattle.ballot.specs.Effect.{Effect}

@@ -22,7 +22,9 @@ use Rattle.group_model.proofs.MovesHappen.{Further, moves_happen, quietly}
 use Rattle.group_model.specs.Pasts.{packets_in}
 use Rattle.group_model.proofs.Packets.{packets_join}
 use Rattle.group_model.proofs.Placed.{get_of_set, set_twice}
+use Rattle.lists.proofs.Beginnings.{prefix_then}
 use Rattle.lists.proofs.Members.{in_left}
+use Rattle.agreement.proofs.Agreed.PastAgrees.{has_agreed}
 use Rattle.agreement.proofs.Effects.{messages-append, outputs-append}
 
 -- ---- what was sent stays sent
@@ -48,7 +50,7 @@ sent_still g n turn given crashes i = tt
 sent_still g n turn given settles i = tt
 sent_still g n turn given (hands port) i = tt
 
-all_sent_still : (g : Group) (n : ℕ) (turn : Turn) (given : List (Effect Command Output)) {core : CoreState} {later : Turn} (run : Runs core later) → AllWasSent g n run
+pub all_sent_still : (g : Group) (n : ℕ) (turn : Turn) (given : List (Effect Command Output)) {core : CoreState} {later : Turn} (run : Runs core later) → AllWasSent g n run
     → AllWasSent (behind_turn g n turn given) n run
 all_sent_still g n turn given rests sent = tt
 all_sent_still g n turn given (goes_on m run) sent = (sent_still g n turn given m sent.0, all_sent_still g n turn given run sent.1)
@@ -60,7 +62,7 @@ same_group : (g : Group) {nodes later_nodes : List CoreState} {sent later_sent :
     → (let a : Group = record g { nodes = nodes; sent = sent; left = left } in a) ≡ (let b : Group = record g { nodes = later_nodes; sent = later_sent; left = later_left } in b)
 same_group g a b c = rw (a, b, c) refl
 
-two_turns : (g : Group) (n : ℕ) (first next : Turn) (given more : List (Effect Command Output))
+pub two_turns : (g : Group) (n : ℕ) (first next : Turn) (given more : List (Effect Command Output))
     → behind_turn (behind_turn g n first given) n next more ≡ behind_turn g n (and_then first next) (given ++ more)
 two_turns g n first next given more =
     same_group g (set_twice g.nodes n first.core next.core)
@@ -69,9 +71,9 @@ two_turns g n first next given more =
 
 -- ---- runs
 
-both : {config : Config} {a b c : Moment State Command Output} {earlier : List (Moment State Command Output)} (came : Past rules config (a ∷ earlier)) (put more : List (ℕ × Command))
+abbrev pub both : {config : Config} {a b c : Moment State Command Output} {earlier : List (Moment State Command Output)} (came : Past rules config (a ∷ earlier)) (put more : List (ℕ × Command))
     → (first : Further came b put) → Further first.past c more → Further came c (put ++ more)
-both came put more first next =
+both {config = config} {b = b} came put more first next =
     record {
       before = next.before;
       past = next.past;
@@ -80,14 +82,17 @@ both came put more first next =
           next.taken x ∙ ap (λ l. l ++ packets_in x more) (first.taken x) ∙ append_assoc (packets_in x (taken_of came)) (packets_in x put) (packets_in x more)
           ∙ ap (λ l. packets_in x (taken_of came) ++ l) (sym (packets_join x put more));
       kept = λ z i. next.kept z (first.kept z i);
+      grows = λ xs ys before behind.
+          let mid = has_agreed rules config b first.before first.past in
+          prefix_then (first.grows xs mid.0 before mid.1) (next.grows mid.0 ys mid.1 behind);
     }
 
 pub runs_happen : (g : Group) (n : ℕ) (core : CoreState) (turn : Turn) (run : Runs core turn) → slice_get g.nodes n ≡ Some core → AllWasSent g n run → (config : Config)
     (earlier : List (Moment State Command Output)) (came : Past rules config (moment_of g ∷ earlier))
     → Further came (moment_of (behind_turn g n turn (all_given run))) (put_in_run run)
-runs_happen g n core turn rests at sent config earlier came = quietly g n core core at refl config earlier came
+runs_happen g n core turn rests at sent config earlier came = (quietly g n core core at refl config earlier came).further
 runs_happen g n core turn (goes_on {first = first} {next = next} m run) at sent config earlier came =
-    let step = moves_happen g n core first m at sent.0 config earlier came in
+    let step = (moves_happen g n core first m at sent.0 config earlier came).further in
     let behind : Group = behind_turn g n first (given_in m) in
     let rest = runs_happen behind n first.core next run (get_of_set g.nodes n core first.core at) (all_sent_still g n first (given_in m) run sent.1) config step.before step.past in
     both came (put_in_move m) (put_in_run run) step

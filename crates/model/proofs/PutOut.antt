@@ -49,7 +49,7 @@ one_place (y ∷ xs) (suc n) x e = one_place xs n x e
 -- ---- what is given
 
 -- what the machine gives at the places of the list from one up to another
-abbrev between : List Command → ℕ → ℕ → List (ℕ × Output)
+abbrev pub between : List Command → ℕ → ℕ → List (ℕ × Output)
 between agreed first past = outputs (outputs_between broker_rules agreed first past)
 
 outs_of : (place : ℕ) (os : List Output) → answered (outputs {C = Command} (map (Out place) os)) ≡ os
@@ -67,7 +67,7 @@ place_gives agreed place command e =
     ∙ outs_of place os
     ∙ gives_answers (take place agreed) command
 
-given_more : (agreed : List Command) (first place : ℕ) (command : Command) → first ≤ place → place ≤ length agreed → slice_get agreed place ≡ Some command
+pub given_more : (agreed : List Command) (first place : ℕ) (command : Command) → first ≤ place → place ≤ length agreed → slice_get agreed place ≡ Some command
     → answered (between agreed first (suc place)) ≡ answered (between agreed first place) ++ answers_of usual_limits (past_of usual_limits (take place agreed)) command
 given_more agreed first place command low within e =
     ap answered (sym (between_joins broker_rules agreed first place (suc place) low (omega arith) within))

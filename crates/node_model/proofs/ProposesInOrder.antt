@@ -16,7 +16,7 @@ use Rattle.node_model.specs.Ends.{Precedes, IsOrderly, IsEnd, ReadsOn, NodesProp
 use Rattle.node_model.specs.Ends.IsEnd.{not_yet, is_open, is_over}
 use Rattle.node_model.proofs.ReadsInOrder.{nodes_read_in_order}
 
-commands_join : (x : ConnectionName) (n : ℕ) (ps qs : List Packet) → commands_of x n (ps ++ qs) ≡ commands_of x n ps ++ commands_of x (n + length ps) qs
+pub commands_join : (x : ConnectionName) (n : ℕ) (ps qs : List Packet) → commands_of x n (ps ++ qs) ≡ commands_of x n ps ++ commands_of x (n + length ps) qs
 commands_join x n [] qs = ap (λ (k : ℕ). commands_of x k qs) (plus_none n)
   where
     plus_none : (n : ℕ) → n ≡ n + 0
@@ -62,7 +62,7 @@ opening_orderly id config = record { names = λ x. tt; given = tt; within = noth
     nothing_above : (n : ℕ) → 0 ≤ n
     nothing_above n = omega arith
 
-front_of : (x : ConnectionName) (core : CoreState) (written read : List Packet) (later : List ℕ) → IsEnd x core written read later → IsPrefixOf read written
+pub front_of : (x : ConnectionName) (core : CoreState) (written read : List Packet) (later : List ℕ) → IsEnd x core written read later → IsPrefixOf read written
 front_of x core written read later (not_yet below none piped) = record { rest = written; is = ap (λ (ps : List Packet). ps ++ written) (sym none) }
 front_of x core written read later (is_open c given is first piped) = record { rest = piped.rest; is = piped.is }
 front_of x core written read later (is_over given is front) = front

@@ -83,11 +83,11 @@ stays_reads {core = core} {turn = turn} m s no_bytes none = (
 -- ---- one connection is changed
 
 -- the connection that is found is the open one of its name
-found_open : (x : ConnectionName) (core : CoreState) (port : Port) (c : Connection) → IsOrderly core → open_at port core ≡ Some c → named x c ≡ true → open_named x core ≡ Some c
+pub found_open : (x : ConnectionName) (core : CoreState) (port : Port) (c : Connection) → IsOrderly core → open_at port core ≡ Some c → named x c ≡ true → open_named x core ≡ Some c
 found_open x core port c o at is =
     (view_of_changed live (named x) (is_open_at port) (λ d. d) core.connections c (o.names x) (λ d e. left_true (live d) (is_at port d) e) (λ d. refl) at is).0
 
-found_given : (core : CoreState) (port : Port) (c : Connection) → IsOrderly core → open_at port core ≡ Some c → IsGiven core.last_name c.name
+pub found_given : (core : CoreState) (port : Port) (c : Connection) → IsOrderly core → open_at port core ≡ Some c → IsGiven core.last_name c.name
 found_given core port c o at = found_each (λ (d : Connection). IsGiven core.last_name d.name) (is_open_at port) core.connections c o.given at
 
 record IsChange (core later : CoreState) (port : Port) (c : Connection) (f : Connection → Connection) : Type 0 where
