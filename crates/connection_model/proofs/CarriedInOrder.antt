@@ -1,0 +1,157 @@
+-- A group carries the packets of each connection in order, both ways.
+use Rattle.std.proofs.Common.{◌≡◌, ◌+◌, inl, inr, ℕ, zero, suc, List, [], ◌∷◌, ◌++◌, length, Option, Some, None, slice_get, refl, sym, ap, ◌∙◌, subst, append_assoc}
+use Rattle.std.specs.List.{find}
+use Rattle.std.proofs.lemmas.List.{append-nil}
+use Rattle.packet.specs.declared.packet.Packet.{Packet}
+use Rattle.ballot.specs.Config.{Config}
+use Rattle.broker_base.specs.Command.{Command}
+use Rattle.broker_base.specs.Connection.{ConnectionName}
+use Rattle.broker_base.specs.Output.{Output}
+use Rattle.broker_base.specs.State.{State}
+use Rattle.lists.specs.Lists.{Each, In, IsPrefixOf}
+use Rattle.lists.specs.Lists.In.{here}
+use Rattle.lists.proofs.Beginnings.{prefix_then}
+use Rattle.lists.proofs.OfEach.{each_append}
+use Rattle.pipes.specs.Pipe.{Joins}
+use Rattle.agreement.specs.MasterState.{AssignRefusal, master_behind, refusal}
+use Rattle.agreement.specs.Past.{Moment, Past}
+use Rattle.agreement.specs.Proposals.{commands_of as commands_in}
+use Rattle.agreement.proofs.Agreed.PastAgrees.{has_agreed}
+use Rattle.world_base.specs.Core.{CoreState, opening_core, rules}
+use Rattle.node_model.specs.Ends.{commands_of}
+use Rattle.node_model.proofs.Kept.{named}
+use Rattle.node_model.proofs.ProposesInOrder.{commands_join, front_of}
+use Rattle.group_model.specs.Group.{Group, moment_of, opening_cores, with_master}
+use Rattle.group_model.specs.Goes.{MayGo, Went, all_put, behind_assign, groups_of, put_in_step}
+use Rattle.group_model.specs.Goes.MayGo.{node_acts, master_assigns, master_hears}
+use Rattle.group_model.specs.Goes.Went.{opened, then_went}
+use Rattle.group_model.specs.Order.{packets_of}
+use Rattle.group_model.specs.Pasts.{HasPast}
+use Rattle.group_model.proofs.GroupsArePasts.{goes_on, groups_are_pasts, seen_still}
+use Rattle.group_model.proofs.MovesHappen.{Further}
+use Rattle.group_model.proofs.NamesInGroups.{IsWell, all_well, each_got}
+use Rattle.group_model.proofs.Ordered.{in_agreed}
+use Rattle.connection_model.specs.Carried.{GroupsCarryInOrder, IsCarried, answers_to}
+use Rattle.connection_model.specs.Streams.{came_up, comes_up, goes_down, went_down}
+use Rattle.connection_model.proofs.Downward.{down_front, down_later}
+use Rattle.connection_model.proofs.RunsKeep.{Good, IsPut, Steps, put_further, run_steps}
+use Rattle.connection_model.proofs.States.{Stands}
+
+-- ---- the master
+
+-- where the nodes stay as they are
+nodes_stay : {x : ConnectionName} {written : List Packet} {later : List ℕ} (g h : Group) (moments more : List (Moment State Command Output)) {put : List (ℕ × Command)} {sent : List ℕ}
+    (xs ys : List Command) → h.nodes ≡ g.nodes → ((z : Moment State Command Output) → In z moments → In z more) → IsPrefixOf xs ys
+    → Stands x written later g moments put sent xs → Stands x written later h more put sent ys
+nodes_stay g h moments more xs ys same kept grown (inl u) =
+    inl (record { nowhere = λ n core at. u.nowhere n core (ap (λ l. slice_get l n) (sym same) ∙ at); unsaid = u.unsaid; piped = u.piped; unsent = u.unsent })
+nodes_stay g h moments more xs ys same kept grown (inr held) =
+    inr (record {
+      n = held.n;
+      core = held.core;
+      stands = ap (λ l. slice_get l held.n) same ∙ held.stands;
+      led = record { moment = held.led.moment; among = kept held.led.moment held.led.among; primary = held.led.primary };
+      given = held.given;
+      read = held.read;
+      end = held.end;
+      said = held.said;
+      others = λ m other at. held.others m other (ap (λ l. slice_get l m) (sym same) ∙ at);
+      sent = down_later xs ys grown held.sent;
+    })
+
+master_steps : {config : Config} (g h : Group) {earlier : List (Moment State Command Output)} (came : Past rules config (moment_of g ∷ earlier)) → h.nodes ≡ g.nodes
+    → Further came (moment_of h) [] → Steps g came h [] (λ x. []) (λ x. [])
+master_steps {config = config} g h {earlier = earlier} came same f =
+    let xs = has_agreed rules config (moment_of g) earlier came in
+    record {
+      further = f;
+      keeps_each = λ x written later put sent is each good ys behind.
+          subst (λ (l : List (ℕ × Command)). Stands x written later h (moment_of h ∷ f.before) l (sent ++ []) ys) (sym (append-nil put))
+          (subst (λ (l : List ℕ). Stands x written later h (moment_of h ∷ f.before) put l ys) (sym (append-nil sent))
+          (nodes_stay g h (moment_of g ∷ earlier) (moment_of h ∷ f.before) xs.0 ys same f.kept (f.grows xs.0 ys xs.1 behind) (good xs.0 xs.1)));
+    }
+
+assigned_nodes : (g : Group) (config : Config) (why : Option AssignRefusal) → (with_master (behind_assign g config why) (master_behind g.master config why)).nodes ≡ g.nodes
+assigned_nodes g config None = refl
+assigned_nodes g config (Some why) = refl
+
+-- ---- each step
+
+group_steps : {config : Config} (g h : Group) (step : MayGo g h) {earlier : List (Moment State Command Output)} (came : Past rules config (moment_of g ∷ earlier)) → Each IsWell g.nodes
+    → Steps g came h (put_in_step step) (λ x. comes_up x step) (λ x. goes_down x step)
+group_steps g h (node_acts n core deed turn run at is first sent) came well =
+    let mine = each_got IsWell g.nodes n core well at in run_steps g n core turn run first mine.orderly mine.names at sent came
+group_steps {config = config} g h (master_assigns wanted) {earlier = earlier} came well =
+    master_steps g h came (assigned_nodes g wanted (refusal g.master wanted)) (goes_on config g h (master_assigns wanted) earlier came)
+group_steps {config = config} g h (master_hears from ballot sent) {earlier = earlier} came well =
+    master_steps g h came refl (goes_on config g h (master_hears from ballot sent) earlier came)
+
+-- ---- all that went on
+
+no_connections : (nodes : ℕ) (config : Config) → Each (λ (core : CoreState). core.connections ≡ []) (opening_cores nodes config)
+no_connections zero config = tt
+no_connections (suc n) config =
+    each_append (λ (core : CoreState). core.connections ≡ []) (opening_cores n config) (opening_core (n + 1) config ∷ []) (no_connections n config) (refl, tt)
+
+record SoFar {nodes : ℕ} {config : Config} {g : Group} (went : Went nodes config g) : Type 0 where
+  of : HasPast config g (groups_of went) (all_put went)
+  good : (x : ConnectionName) (written : List Packet) (later : List ℕ) → Joins written (came_up x went ++ later)
+      → Good config x written later g (moment_of g ∷ of.earlier) (all_put went) (went_down x went)
+
+so_far : {nodes : ℕ} {config : Config} {g : Group} (went : Went nodes config g) → SoFar went
+so_far {nodes = nodes} {config = config} {g = g} (opened can) =
+    record {
+      of = groups_are_pasts nodes config g (opened can);
+      good = λ x written later joined agreed is.
+          inl (record {
+            nowhere = λ n core at. ap (find (named x)) (each_got (λ (c : CoreState). c.connections ≡ []) (opening_cores nodes config) n core (no_connections nodes config) at);
+            unsaid = refl;
+            piped = record { rest = written; is = refl; joined = joined; sound = refl };
+            unsent = refl;
+          });
+    }
+so_far {nodes = nodes} {config = config} {g = h} (then_went {g = g} went step) =
+    let before = so_far went in
+    let is : IsPut before.of.past (all_put went) = record { proposed = before.of.proposed; taken = before.of.taken } in
+    let s = group_steps g h step before.of.past (all_well nodes config g went).0 in
+    let now = put_further (all_put went) s.further is in
+    record {
+      of = record {
+        earlier = s.further.before;
+        past = s.further.past;
+        proposed = now.proposed;
+        taken = now.taken;
+        seen = (here, seen_still (groups_of went) s.further.kept before.of.seen);
+      };
+      good = λ x written later joined.
+          s.keeps_each x written later (all_put went) (went_down x went) is (all_well nodes config h (then_went went step)).1
+          (before.good x written (comes_up x step ++ later) (subst (Joins written) (append_assoc (came_up x went) (comes_up x step) later) joined));
+    }
+
+-- ---- the law
+
+carried : (x : ConnectionName) (written : List Packet) (later : List ℕ) (g : Group) (moments : List (Moment State Command Output)) (put : List (ℕ × Command)) (sent : List ℕ)
+    (agreed : List Command) → IsPrefixOf (packets_of x agreed) (packets_of x (commands_in put)) → Stands x written later g moments put sent agreed
+    → IsCarried x written sent agreed
+carried x written later g moments put sent agreed said (inl u) =
+    record {
+      up = prefix_then (subst (IsPrefixOf (packets_of x agreed)) u.unsaid said) (record { rest = commands_of x 0 written; is = refl });
+      down = record { rest = answers_to x agreed; is = ap (λ l. l ++ answers_to x agreed) (sym u.unsent) };
+    }
+carried x written later g moments put sent agreed said (inr held) =
+    let front = front_of x held.core written held.read later held.end in
+    record {
+      up = prefix_then (subst (IsPrefixOf (packets_of x agreed)) held.said said)
+          (record { rest = commands_of x (0 + length held.read) front.rest; is = ap (commands_of x 0) front.is ∙ commands_join x 0 held.read front.rest });
+      down = down_front held.sent;
+    }
+
+pub groups_carry_in_order : GroupsCarryInOrder
+groups_carry_in_order nodes config g went =
+    let s = so_far went in
+    record {
+      of = s.of;
+      each = λ agreed is x written later joined.
+          carried x written later g (moment_of g ∷ s.of.earlier) (all_put went) (went_down x went) agreed
+          (in_agreed config g (groups_of went) (all_put went) s.of (all_well nodes config g went).1 x agreed is) (s.good x written later joined agreed is);
+    }

@@ -1,0 +1,9 @@
+pub mod Flows
+pub mod Shown
+pub mod Downward
+pub mod Elsewhere
+pub mod Given
+pub mod States
+pub mod MovesKeep
+pub mod RunsKeep
+pub mod CarriedInOrder

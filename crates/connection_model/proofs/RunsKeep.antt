@@ -1,0 +1,157 @@
+-- What a node does in a run of moves keeps where the group is with each connection.
+use Rattle.std.proofs.Common.{◌≡◌, ℕ, false, List, [], ◌∷◌, ◌++◌, Some, slice_get, refl, sym, ap, ◌∙◌, subst, append_assoc}
+use Rattle.std.proofs.lemmas.List.{append-nil}
+use Rattle.packet.specs.declared.packet.Packet.{Packet}
+use Rattle.ballot.specs.Config.{Config}
+use Rattle.ballot.specs.Replica.{is_active}
+use Rattle.broker_base.specs.Command.{Command}
+use Rattle.broker_base.specs.Connection.{ConnectionName}
+use Rattle.broker_base.specs.Output.{Output}
+use Rattle.broker_base.specs.State.{State}
+use Rattle.lists.specs.Lists.{Each, IsPrefixOf}
+use Rattle.lists.proofs.OfEach.{each_left}
+use Rattle.agreement.specs.Past.{Moment, Past, IsAgreed}
+use Rattle.agreement.specs.Proposals.{commands_of as commands_in, proposals_of, taken_of}
+use Rattle.agreement.proofs.Agreed.PastAgrees.{has_agreed}
+use Rattle.world_base.specs.Connections.{is_over}
+use Rattle.world_base.specs.Core.{CoreState, Turn, rules}
+use Rattle.world_base.specs.Turns.{quiet}
+use Rattle.node_model.specs.Ends.{IsOrderly, bytes_on, came_on}
+use Rattle.node_model.specs.Hearing.{HearsAtFirst, IsCalm}
+use Rattle.node_model.specs.Keeping.{AreOfTheBallot, moves_replica}
+use Rattle.node_model.specs.Moves.{Moves, Runs}
+use Rattle.node_model.specs.Moves.Runs.{rests, goes_on}
+use Rattle.node_model.specs.Puts.{given_in}
+use Rattle.node_model.proofs.Kept.{left_true}
+use Rattle.node_model.proofs.MovesOfReplica.{move_same}
+use Rattle.node_model.proofs.OpenBehind.{open_if}
+use Rattle.node_model.proofs.ReadsInOrder.{nodes_read_in_order}
+use Rattle.group_model.specs.Ballots.{IsInItsBallot}
+use Rattle.group_model.specs.Group.{Group, behind_turn, moment_of, replica_of}
+use Rattle.group_model.specs.Goes.{AllWasSent, WasSent, all_given, put_in_move, put_in_run}
+use Rattle.group_model.specs.Order.{packets_of}
+use Rattle.group_model.specs.Pasts.{packets_in}
+use Rattle.group_model.proofs.MovesHappen.{Further, moves_happen, unchanged}
+use Rattle.group_model.proofs.Ordered.{in_agreed}
+use Rattle.group_model.proofs.Packets.{packets_join}
+use Rattle.group_model.proofs.Placed.{get_of_set, set_same}
+use Rattle.group_model.proofs.RunsHappen.{all_sent_still, both, two_turns}
+use Rattle.connection_model.specs.Streams.{handed_in_run, handed_on}
+use Rattle.connection_model.proofs.MovesKeep.{Known, LeadsStill, move_keeps}
+use Rattle.connection_model.proofs.States.{Stands}
+
+-- where a group is with a connection, by each list that is agreed there
+abbrev pub Good : Config → ConnectionName → List Packet → List ℕ → Group → List (Moment State Command Output) → List (ℕ × Command) → List ℕ → Type 0
+Good config x written later g moments put sent = (agreed : List Command) → IsAgreed config moments agreed → Stands x written later g moments put sent agreed
+
+-- what was put in a past
+pub record IsPut {config : Config} {past : List (Moment State Command Output)} (came : Past rules config past) (put : List (ℕ × Command)) : Type 0 where
+  pub proposed : proposals_of came ≡ put
+  pub taken : (x : ConnectionName) → packets_in x (taken_of came) ≡ packets_in x put
+
+-- A past goes on to a group, while these commands were put, and of each connection these bytes came up and these went down.
+pub record Steps {config : Config} (g : Group) {earlier : List (Moment State Command Output)} (came : Past rules config (moment_of g ∷ earlier)) (h : Group)
+    (more : List (ℕ × Command)) (up down : ConnectionName → List ℕ) : Type 0 where
+  pub further : Further came (moment_of h) more
+  pub keeps_each : (x : ConnectionName) (written : List Packet) (later : List ℕ) (put : List (ℕ × Command)) (sent : List ℕ) → IsPut came put → Each IsInItsBallot (put ++ more)
+      → Good config x written (up x ++ later) g (moment_of g ∷ earlier) put sent
+      → Good config x written later h (moment_of h ∷ further.before) (put ++ more) (sent ++ down x)
+
+pub put_further : {config : Config} {a b : Moment State Command Output} {earlier : List (Moment State Command Output)} {came : Past rules config (a ∷ earlier)} {more : List (ℕ × Command)}
+    (put : List (ℕ × Command)) (f : Further came b more) → IsPut came put → IsPut f.past (put ++ more)
+put_further {more = more} put f is =
+    record {
+      proposed = f.proposed ∙ ap (λ l. l ++ more) is.proposed;
+      taken = λ x. f.taken x ∙ ap (λ l. l ++ packets_in x more) (is.taken x) ∙ sym (packets_join x put more);
+    }
+
+-- ---- no move
+
+nothing_steps : {config : Config} (g : Group) {earlier : List (Moment State Command Output)} (came : Past rules config (moment_of g ∷ earlier))
+    → Steps g came g [] (λ x. []) (λ x. [])
+nothing_steps {config = config} g {earlier = earlier} came =
+    record {
+      further = unchanged came;
+      keeps_each = λ x written later put sent is each good.
+          subst (λ (l : List (ℕ × Command)). Good config x written later g (moment_of g ∷ earlier) l (sent ++ [])) (sym (append-nil put))
+          (subst (λ (l : List ℕ). Good config x written later g (moment_of g ∷ earlier) put l) (sym (append-nil sent)) good);
+    }
+
+same_group : (g : Group) (n : ℕ) (core : CoreState) → slice_get g.nodes n ≡ Some core → g ≡ behind_turn g n (quiet core) []
+same_group g n core at = sym (rw (set_same g.nodes n core at, append-nil g.sent, append-nil g.left) refl)
+
+-- ---- one move
+
+-- the agreed list has a beginning of what was put
+said_first : {config : Config} {a : Moment State Command Output} {earlier : List (Moment State Command Output)} {came : Past rules config (a ∷ earlier)} (h : Group) {more : List (ℕ × Command)}
+    (f : Further came (moment_of h) more) (x : ConnectionName) (put : List (ℕ × Command)) → IsPut came put → Each IsInItsBallot (put ++ more) → (ys : List Command)
+    → IsAgreed config (moment_of h ∷ f.before) ys → IsPrefixOf (packets_of x ys) (packets_of x (commands_in (put ++ more)))
+said_first {config = config} h {more = more} f x put is each ys behind =
+    let now = put_further put f is in
+    in_agreed config h [] (put ++ more) (record { earlier = f.before; past = f.past; proposed = now.proposed; taken = now.taken; seen = tt }) each x ys behind
+
+move_steps : {config : Config} (g : Group) (n : ℕ) (core : CoreState) (turn : Turn) (m : Moves core turn) → slice_get g.nodes n ≡ Some core → WasSent g n m → IsOrderly core
+    → LeadsStill core turn → {earlier : List (Moment State Command Output)} (came : Past rules config (moment_of g ∷ earlier))
+    → Steps g came (behind_turn g n turn (given_in m)) (put_in_move m) (λ x. came_on x m) (λ x. handed_on x m)
+move_steps {config = config} g n core turn m at sent_so o leads {earlier = earlier} came =
+    let known : Known g came n m = record { at = at; orderly = o; leads = leads; once = moves_happen g n core turn m at sent_so config earlier came } in
+    let xs = has_agreed rules config (moment_of g) earlier came in
+    record {
+      further = known.once.further;
+      keeps_each = λ x written later put sent is each good ys behind.
+          move_keeps known x written later put sent xs.0 ys xs.1 behind
+          (said_first (behind_turn g n turn (given_in m)) known.once.further x put is each ys behind) (good xs.0 xs.1);
+    }
+
+-- ---- one behind the other
+
+both_steps : {config : Config} {g h k : Group} {earlier : List (Moment State Command Output)} (came : Past rules config (moment_of g ∷ earlier)) (put more : List (ℕ × Command))
+    (up next_up down next_down : ConnectionName → List ℕ) → (first : Steps g came h put up down) → Steps h first.further.past k more next_up next_down
+    → Steps g came k (put ++ more) (λ x. up x ++ next_up x) (λ x. down x ++ next_down x)
+both_steps {config = config} {g = g} {h = h} {k = k} {earlier = earlier} came put more up next_up down next_down first next =
+    record {
+      further = both came put more first.further next.further;
+      keeps_each = λ x written later said sent is each good.
+          let all = subst (λ (l : List (ℕ × Command)). Each IsInItsBallot l) (sym (append_assoc said put more)) each in
+          subst (λ (l : List (ℕ × Command)). Good config x written later k (moment_of k ∷ next.further.before) l (sent ++ (down x ++ next_down x))) (append_assoc said put more)
+          (subst (λ (l : List ℕ). Good config x written later k (moment_of k ∷ next.further.before) ((said ++ put) ++ more) l) (append_assoc sent (down x) (next_down x))
+          (next.keeps_each x written later (said ++ put) (sent ++ down x) (put_further said first.further is) all
+          (first.keeps_each x written (next_up x ++ later) said sent is (each_left IsInItsBallot (said ++ put) more all)
+          (subst (λ (l : List ℕ). Good config x written l g (moment_of g ∷ earlier) said sent) (append_assoc (up x) (next_up x) later) good))));
+    }
+
+-- ---- runs
+
+-- a calm move leaves the replica in its role
+calm_leads : (core : CoreState) (turn : Turn) (m : Moves core turn) → moves_replica m ≡ false → LeadsStill core turn
+calm_leads core turn m calm x c there lives e = ap is_active (sym (move_same core turn m calm).role) ∙ e
+
+-- at the beginning of a step who has open connections leads
+first_leads : (core : CoreState) (turn : Turn) → AreOfTheBallot core → LeadsStill core turn
+first_leads core turn of x c there lives e = left_true (is_active (replica_of core).role) _ (of.each x c there (open_if (is_over c.stage) lives)).0
+
+calm_steps : {config : Config} (g : Group) (n : ℕ) (core : CoreState) (turn : Turn) (run : Runs core turn) → IsCalm run → IsOrderly core → slice_get g.nodes n ≡ Some core
+    → AllWasSent g n run → {earlier : List (Moment State Command Output)} (came : Past rules config (moment_of g ∷ earlier))
+    → Steps g came (behind_turn g n turn (all_given run)) (put_in_run run) (λ x. bytes_on x run) (λ x. handed_in_run x run)
+calm_steps g n core turn rests calm o at sent came =
+    subst (λ (h : Group). Steps g came h [] (λ x. []) (λ x. [])) (same_group g n core at) (nothing_steps g came)
+calm_steps g n core turn (goes_on {first = first} {next = next} m run) calm o at sent came =
+    let step = move_steps g n core first m at sent.0 o (calm_leads core first m calm.0) came in
+    let behind : Group = behind_turn g n first (given_in m) in
+    let rest = calm_steps behind n first.core next run calm.1 (nodes_read_in_order core first m o).0 (get_of_set g.nodes n core first.core at)
+    (all_sent_still g n first (given_in m) run sent.1) step.further.past in
+    both_steps came (put_in_move m) (put_in_run run) (λ x. came_on x m) (λ x. bytes_on x run) (λ x. handed_on x m) (λ x. handed_in_run x run) step
+    (subst (λ (h : Group). Steps behind step.further.past h (put_in_run run) (λ x. bytes_on x run) (λ x. handed_in_run x run)) (two_turns g n first next (given_in m) (all_given run)) rest)
+
+pub run_steps : {config : Config} (g : Group) (n : ℕ) (core : CoreState) (turn : Turn) (run : Runs core turn) → HearsAtFirst run → IsOrderly core → AreOfTheBallot core
+    → slice_get g.nodes n ≡ Some core → AllWasSent g n run → {earlier : List (Moment State Command Output)} (came : Past rules config (moment_of g ∷ earlier))
+    → Steps g came (behind_turn g n turn (all_given run)) (put_in_run run) (λ x. bytes_on x run) (λ x. handed_in_run x run)
+run_steps g n core turn rests first_so o of at sent came =
+    subst (λ (h : Group). Steps g came h [] (λ x. []) (λ x. [])) (same_group g n core at) (nothing_steps g came)
+run_steps g n core turn (goes_on {first = first} {next = next} m run) calm o of at sent came =
+    let step = move_steps g n core first m at sent.0 o (first_leads core first of) came in
+    let behind : Group = behind_turn g n first (given_in m) in
+    let rest = calm_steps behind n first.core next run calm (nodes_read_in_order core first m o).0 (get_of_set g.nodes n core first.core at)
+    (all_sent_still g n first (given_in m) run sent.1) step.further.past in
+    both_steps came (put_in_move m) (put_in_run run) (λ x. came_on x m) (λ x. bytes_on x run) (λ x. handed_on x m) (λ x. handed_in_run x run) step
+    (subst (λ (h : Group). Steps behind step.further.past h (put_in_run run) (λ x. bytes_on x run) (λ x. handed_in_run x run)) (two_turns g n first next (given_in m) (all_given run)) rest)

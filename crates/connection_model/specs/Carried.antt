@@ -1,0 +1,38 @@
+-- What the nodes of a group make of a connection's bytes, by the list of commands on which they agree.
+use Rattle.std.specs.Prelude.{ℕ, List, ◌∷◌, ◌++◌}
+use Rattle.packet.specs.declared.packet.Packet.{Packet}
+use Rattle.ballot.specs.Config.{Config}
+use Rattle.broker_base.specs.Command.{Command}
+use Rattle.broker_base.specs.Commands.{past_of, usual_limits}
+use Rattle.broker_base.specs.Connection.{ConnectionName}
+use Rattle.lists.specs.Lists.{IsPrefixOf}
+use Rattle.pipes.specs.Pipe.{Joins}
+use Rattle.story.specs.Sends.{put_to}
+use Rattle.agreement.specs.Past.{IsAgreed}
+use Rattle.node_model.specs.Ends.{commands_of}
+use Rattle.node_model.specs.Puts.{spelled}
+use Rattle.group_model.specs.Group.{Group, moment_of}
+use Rattle.group_model.specs.Goes.{Went, all_put, groups_of}
+use Rattle.group_model.specs.Order.{packets_of}
+use Rattle.group_model.specs.Pasts.{HasPast}
+use Rattle.connection_model.specs.Streams.{came_up, went_down}
+
+-- the answers to a list of commands that name a connection, spelled
+abbrev pub answers_to : ConnectionName → List Command → List ℕ
+answers_to x agreed = spelled (put_to usual_limits (past_of usual_limits agreed) x)
+
+-- A connection's commands in the list are a beginning of the packets that were written on it, in order; and what went down on
+-- it is a beginning of the spellings of the answers that name it.
+pub record IsCarried (x : ConnectionName) (written : List Packet) (handed : List ℕ) (agreed : List Command) : Type 0 where
+  pub up : IsPrefixOf (packets_of x agreed) (commands_of x 0 written)
+  pub down : IsPrefixOf handed (answers_to x agreed)
+
+-- So it is of each connection on which packets are written, of whose bytes these came up, and of the list on which the
+-- nodes agree.
+pub record Carries {nodes : ℕ} {config : Config} {g : Group} (went : Went nodes config g) : Type 0 where
+  pub of : HasPast config g (groups_of went) (all_put went)
+  pub each : (agreed : List Command) → IsAgreed config (moment_of g ∷ of.earlier) agreed → (x : ConnectionName)
+      → (written : List Packet) (later : List ℕ) → Joins written (came_up x went ++ later) → IsCarried x written (went_down x went) agreed
+
+abbrev pub GroupsCarryInOrder : Type 0
+GroupsCarryInOrder = (nodes : ℕ) (config : Config) (g : Group) (went : Went nodes config g) → Carries went

@@ -1,0 +1,51 @@
+-- The bytes of a connection in a group of nodes: what came up on it, and what was handed over to go down.
+use Rattle.std.specs.Prelude.{ℕ, if◌then◌else◌, List, [], ◌++◌, Option, Some, None}
+use Rattle.ballot.specs.Config.{Config}
+use Rattle.broker_base.specs.Connection.{ConnectionName, same_connection}
+use Rattle.world_base.specs.declared.connection.Connection.{Connection}
+use Rattle.world_base.specs.Core.{CoreState, Turn}
+use Rattle.world_base.specs.Handing.{listed_at}
+use Rattle.node_model.specs.Ends.{bytes_on}
+use Rattle.node_model.specs.Moves.{Moves, Runs}
+use Rattle.node_model.specs.Moves.Moves.{hands}
+use Rattle.node_model.specs.Moves.Runs.{rests, goes_on}
+use Rattle.group_model.specs.Group.{Group}
+use Rattle.group_model.specs.Goes.{MayGo, Went}
+use Rattle.group_model.specs.Goes.MayGo.{node_acts, master_assigns, master_hears}
+use Rattle.group_model.specs.Goes.Went.{opened, then_went}
+
+-- ---- up
+
+-- what comes on the connection of a name, at whatever node
+abbrev pub comes_up : ConnectionName → {g h : Group} → MayGo g h → List ℕ
+comes_up x (node_acts n core deed turn run at is first sent) = bytes_on x run
+comes_up x (master_assigns config) = []
+comes_up x (master_hears from ballot sent) = []
+
+abbrev pub came_up : ConnectionName → {nodes : ℕ} {config : Config} {g : Group} → Went nodes config g → List ℕ
+came_up x (opened can) = []
+came_up x (then_went went step) = came_up x went ++ comes_up x step
+
+-- ---- down
+
+abbrev pub bytes_named : ConnectionName → Option Connection → List ℕ
+bytes_named x None = []
+bytes_named x (Some c) = if same_connection c.name x then c.pending else []
+
+-- what is handed over on it
+abbrev pub handed_on : ConnectionName → {core : CoreState} {turn : Turn} → Moves core turn → List ℕ
+handed_on x {core = core} (hands port) = bytes_named x (listed_at port core)
+handed_on x _ = []
+
+abbrev pub handed_in_run : ConnectionName → {core : CoreState} {turn : Turn} → Runs core turn → List ℕ
+handed_in_run x rests = []
+handed_in_run x (goes_on m run) = handed_on x m ++ handed_in_run x run
+
+abbrev pub goes_down : ConnectionName → {g h : Group} → MayGo g h → List ℕ
+goes_down x (node_acts n core deed turn run at is first sent) = handed_in_run x run
+goes_down x (master_assigns config) = []
+goes_down x (master_hears from ballot sent) = []
+
+abbrev pub went_down : ConnectionName → {nodes : ℕ} {config : Config} {g : Group} → Went nodes config g → List ℕ
+went_down x (opened can) = []
+went_down x (then_went went step) = went_down x went ++ goes_down x step

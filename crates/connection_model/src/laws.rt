@@ -1,0 +1,10 @@
+// Laws of the connections of a group. The calls do nothing; their contracts are the laws.
+
+ghost use Rattle.connection_model.specs.Carried.{GroupsCarryInOrder};
+
+/// Whatever the nodes of a group, its master and its clients do, the commands of a connection in the list on which the nodes agree
+/// are a beginning of the packets whose bytes came up on it, in order; and what goes down on it is a beginning of the
+/// spellings of the broker's answers that name it (MQTT 4.6).
+pub fn groups_carry_in_order()
+    ensures { GroupsCarryInOrder }
+{}
