@@ -1,0 +1,148 @@
+-- What may happen in a world of clients and a group of nodes.
+use Rattle.std.specs.Prelude.{◌≡◌, ℕ, Bool, true, false, List, [], ◌∷◌, ◌++◌, Option, Some, None, Ok, slice_get}
+use Rattle.packet.specs.Spelling.{IsPacket}
+use Rattle.packet.specs.declared.packet.Packet.{Packet}
+use Rattle.packet.specs.declared.packet.Packet.TheVariants as packets
+use Rattle.cutter.specs.Stream.{Stream, Takes}
+use Rattle.ballot.specs.Config.{Config}
+use Rattle.agreement.specs.World.{can_open}
+use Rattle.broker_base.specs.Commands.{usual_limits}
+use Rattle.broker_base.specs.Connection.{ConnectionName}
+use Rattle.broker_base.specs.Place.{Client}
+use Rattle.client_base.specs.Called.{new_connection}
+use Rattle.client_base.specs.Handled.{handled, lost}
+use Rattle.lists.specs.Lists.{Each}
+use Rattle.story.specs.Sides.{Connection, Side}
+use Rattle.story.specs.Story.{Story, Happens}
+use Rattle.model.specs.Goes.{is_call}
+use Rattle.world_base.specs.declared.connection.Connection.{Connection as NodesEnd}
+use Rattle.world_base.specs.declared.item.Port.{Port}
+use Rattle.world_base.specs.declared.item.Item.TheVariants.{Peer, Tick, Opened, Bytes, Ended, Crash}
+use Rattle.world_base.specs.Core.{CoreState, Turn}
+use Rattle.world_base.specs.Handing.{listed_at}
+use Rattle.world_base.specs.Reading.{open_at}
+use Rattle.node_model.specs.Ends.{bytes_on, piece_on}
+use Rattle.node_model.specs.Moves.{Deed, Runs}
+use Rattle.node_model.specs.Moves.Deed.{takes, gives}
+use Rattle.node_model.specs.Puts.{spelled}
+use Rattle.group_model.specs.Group.{Group}
+use Rattle.group_model.specs.Goes.{MayGo}
+use Rattle.group_model.specs.Goes.MayGo.{node_acts, master_assigns, master_hears}
+use Rattle.connection_model.specs.Streams.{bytes_named, handed_in_run}
+use Rattle.connection_model.specs.Streams.{goes_down as goes_down_in}
+use Rattle.world_model.specs.World.{ClientPipes, HasPipe, Pipe, World, after_writing, is_used, newly_written, opening, packets_of, sent_up, with_client, with_pipe}
+
+-- ---- what a node does for a connection
+
+-- the bytes that come on the connection of a name with a deed, and those that are handed over on it
+abbrev pub coming_with : ConnectionName → Deed → CoreState → List ℕ
+coming_with x (takes (Bytes port piece now)) core = piece_on x piece (open_at port core)
+coming_with x _ core = []
+
+abbrev pub going_with : ConnectionName → Deed → CoreState → List ℕ
+going_with x (gives port) core = bytes_named x (listed_at port core)
+going_with x _ core = []
+
+-- the moves of a node carry just the bytes of its deed
+abbrev pub CarriesItsBytes : {core : CoreState} {turn : Turn} → Deed → Runs core turn → Type 0
+CarriesItsBytes {core = core} deed run = (x : ConnectionName) → (bytes_on x run ≡ coming_with x deed core) × (handed_in_run x run ≡ going_with x deed core)
+
+abbrev pub IsFaithful : {g h : Group} → MayGo g h → Type 0
+IsFaithful (node_acts n core deed turn run at is first sent) = CarriesItsBytes deed run
+IsFaithful (master_assigns config) = Unit {0}
+IsFaithful (master_hears from ballot sent) = Unit {0}
+
+-- the deed of a step, at a node
+abbrev pub deed_of : {g h : Group} → MayGo g h → Option (ℕ × Deed)
+deed_of (node_acts n core deed turn run at is first sent) = Some (n, deed)
+deed_of (master_assigns config) = None
+deed_of (master_hears from ballot sent) = None
+
+-- a deed that a client's connection has no part in, but that it may end
+abbrev pub is_apart : Option (ℕ × Deed) → Bool
+is_apart None = true
+is_apart (Some (n, takes (Peer message))) = true
+is_apart (Some (n, takes (Tick now))) = true
+is_apart (Some (n, takes (Ended port))) = true
+is_apart (Some (n, takes Crash)) = true
+is_apart (Some (n, takes (Opened port now))) = false
+is_apart (Some (n, takes (Bytes port piece now))) = false
+is_apart (Some (n, gives port)) = false
+
+-- ---- what a client does
+
+-- what may happen to a client where it calls does not depend on the list of commands
+abbrev pub story_alone : ClientPipes → Story
+story_alone c = record { past = []; connections = c.connections; keeper = c.keeper }
+
+-- a client opens a connection of this name, to a port of a node: its CONNECT is on its way
+abbrev pub after_connecting : ConnectionName → ℕ → Port → ClientPipes → ClientPipes
+after_connecting x n port c =
+    record {
+      keeper = record (lost c.keeper) { is_open = true };
+      connections = new_connection c.keeper.client x ∷ c.connections;
+      pipes = record {
+        node = n;
+        port = port;
+        up = spelled (packets_of (new_connection c.keeper.client x).written);
+        down = [];
+        came = record { held = []; failed = false };
+      } ∷ c.pipes;
+    }
+
+-- the client behind a packet that its newest connection's cutter gave
+abbrev pub after_packet : List Connection → List Pipe → Pipe → Stream → Side → ClientPipes → ClientPipes
+after_packet others pipes p left side c =
+    record {
+      keeper = side.keeper;
+      connections = side.connection ∷ others;
+      pipes = sent_up (newly_written c.connections (side.connection ∷ others)) (record p { came = left } ∷ pipes);
+    }
+
+-- ---- the step
+
+-- a step of the group with this deed, in which just the bytes of the deed are carried
+pub record Does (g : Group) (deed : Option (ℕ × Deed)) : Type 0 where
+  pub behind : Group
+  pub step : MayGo g behind
+  pub is : deed_of step ≡ deed
+  pub faithful : IsFaithful step
+
+-- of what clients write all can be spelled
+abbrev pub CanBeSpelled : List Connection → List Connection → Type 0
+CanBeSpelled before after = Each IsPacket (newly_written before after)
+
+-- Any of these may happen, or not, at any time: so bytes, messages and connections may come late, or never. Bytes on one
+-- connection do not overtake each other.
+pub data WorldStep (w : World) : World → Type 0 where
+  -- the nodes and the master go on by themselves: messages come late, again or never, a node ticks or crashes, a stream
+  -- ends at its node, an administrator asks for a configuration
+  goes_on : (deed : Option (ℕ × Deed)) (d : Does w.group deed) → is_apart deed ≡ true → WorldStep w (record w { group = d.behind })
+  -- a client calls, or loses its connection
+  calls : (i : ℕ) (c : ClientPipes) (t : Story) (h : Happens usual_limits (story_alone c) t) → slice_get w.clients i ≡ Some c → is_call h ≡ true →
+      CanBeSpelled c.connections t.connections → WorldStep w (with_client i (after_writing t.keeper t.connections c) w)
+  -- a client opens a connection to a node, at a port that was never used there, and the node takes it
+  connects : (i n : ℕ) (c : ClientPipes) (port : Port) (now : ℕ) (d : Does w.group (Some (n, takes (Opened port now)))) (core : CoreState) (end : NodesEnd) →
+      slice_get w.clients i ≡ Some c → is_used n port w.clients ≡ false → slice_get d.behind.nodes n ≡ Some core → open_at port core ≡ Some end →
+      IsPacket (packets.Connect (record { client = c.keeper.client; clean = false; keep_alive = 0 })) →
+      WorldStep w (with_client i (after_connecting end.name n port c) (record w { group = d.behind }))
+  -- a beginning of the bytes on their way comes to the node
+  comes_up : (i j : ℕ) (c : ClientPipes) (κ : Connection) (p : Pipe) (piece rest : List ℕ) (now : ℕ) (d : Does w.group (Some (p.node, takes (Bytes p.port piece now)))) →
+      HasPipe w i c j κ p → p.up ≡ piece ++ rest →
+      WorldStep w (with_client i (with_pipe j (record p { up = rest }) c) (record w { group = d.behind }))
+  -- a node hands over what it put out
+  goes_down : (i j : ℕ) (c : ClientPipes) (κ : Connection) (p : Pipe) (d : Does w.group (Some (p.node, gives p.port))) → HasPipe w i c j κ p →
+      WorldStep w (with_client i (with_pipe j (record p { down = p.down ++ goes_down_in κ.name d.step }) c) (record w { group = d.behind }))
+  -- a beginning of the bytes on their way comes to the client
+  arrives : (i j : ℕ) (c : ClientPipes) (κ : Connection) (p : Pipe) (piece rest : List ℕ) → HasPipe w i c j κ p → p.down ≡ piece ++ rest →
+      WorldStep w (with_client i (with_pipe j (record p { down = rest; came = record p.came { held = p.came.held ++ piece } }) c) w)
+  -- a client handles the next packet that came whole on the connection that it holds
+  handles : (i : ℕ) (c : ClientPipes) (κ : Connection) (others : List Connection) (p : Pipe) (pipes : List Pipe) (packet : Packet) (left : Stream) →
+      slice_get w.clients i ≡ Some c → c.connections ≡ κ ∷ others → c.pipes ≡ p ∷ pipes → c.keeper.is_open ≡ true → Takes p.came (Ok (Some packet)) left →
+      CanBeSpelled c.connections ((handled packet (record { keeper = c.keeper; connection = κ })).connection ∷ others) →
+      WorldStep w (with_client i (after_packet others pipes p left (handled packet (record { keeper = c.keeper; connection = κ })) c) w)
+
+-- the worlds that are reached with so many nodes, a configuration at first, and these clients
+pub data Reached (nodes : ℕ) (config : Config) (cs : List Client) : World → Type 0 where
+  begins : can_open nodes config ≡ true → Reached nodes config cs (opening nodes config cs)
+  goes_on : {v w : World} → Reached nodes config cs v → WorldStep v w → Reached nodes config cs w

@@ -1,0 +1,4 @@
+pub mod World
+pub mod Goes
+pub mod Carried
+pub mod Exact

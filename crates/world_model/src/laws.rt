@@ -1,0 +1,10 @@
+// Laws of worlds of clients and a group of nodes. The calls do nothing; their contracts are the laws.
+
+ghost use Rattle.world_model.specs.Carried.{WorldsCarryInOrder};
+
+/// Whatever happens in a world of clients and nodes, its nodes and master go through what may happen in a group: so each
+/// connection's commands in the list on which the nodes agree are a beginning of the packets whose bytes came up on it,
+/// and what went down on it is a beginning of the spelled answers to it (MQTT 4.6).
+pub fn worlds_carry_in_order()
+    ensures { WorldsCarryInOrder }
+{}

@@ -1,0 +1,7 @@
+//! Clients beside a group of nodes, with a pipe of bytes each way on every connection: what may happen, as definitions, and what
+//! is known of it so far.
+#![tactic(auto)]
+
+mod laws;
+
+pub use laws::worlds_carry_in_order;
