@@ -1,7 +1,7 @@
 // Orders to the nodes of a server, and its two clients beside them.
 
-use command_line::line;
-use jobs::{perform, serve_table, tell};
+use super::run;
+use jobs::{serve_table, tell};
 use std::alloc::AllocError;
 use std::io::{BufReader, PipeReader, PipeWriter, Write};
 use std::net::{Net, TcpListener, TcpStream};
@@ -64,36 +64,28 @@ where
     output
 }
 
-// What a client writes, where it ends with 0.
-fn talk<R>(rt: &R, words: &[&str]) -> Result<Vec<u8>, AllocError>
+// Whether a client ends with 0, and prints this.
+fn talks<R>(rt: &R, words: &[&str], printed: &str) -> bool
 where
     R: Files + Threads + Wait + Clock + Sync + AllocGlobal,
     R: Net<Listener = TcpListener, Stream = TcpStream>,
 {
-    let mut owned = Vec::new(rt.alloc());
-    for word in words {
-        owned.push(String::from_str(rt.alloc(), word)?)?;
-    }
-    let mut output = Vec::new(rt.alloc());
-    let mut faults = Vec::new(rt.alloc());
-    let mut input = b"".as_slice();
-    match line(rt.alloc(), owned.as_slice()) {
-        Ok(job) if perform(rt, &job, &mut input, &mut output, &mut faults) == 0 => Ok(output),
-        _ => Ok(faults),
+    match run(rt, words) {
+        Ok((ended, output, _faults)) => ended == 0 && output.as_slice() == printed.as_bytes(),
+        Err(_) => false,
     }
 }
 
-// What the subscriber prints, which comes first, and what the publisher writes.
-fn clients<R>(rt: &R, address: &str) -> (Result<Vec<u8>, AllocError>, Result<Vec<u8>, AllocError>)
+// Whether the subscriber, which comes first, prints what the publisher publishes.
+fn talk<R>(rt: &R, address: &str) -> bool
 where
     R: Files + Threads + Wait + Clock + Sync + AllocGlobal,
     R: Net<Listener = TcpListener, Stream = TcpStream>,
 {
     let sub = [
-        "vbroker", "sub", "--id", "meter", "--filter", "t/#", "--qos", "2", "--count", "1", address,
+        "sub", "--id", "meter", "--filter", "t/#", "--qos", "2", "--count", "1", address,
     ];
     let publish = [
-        "vbroker",
         "pub",
         "--id",
         "switch",
@@ -105,17 +97,18 @@ where
         "x",
         address,
     ];
-    thread::join(
+    let (printed, published) = thread::join(
         rt,
-        || talk(rt, &sub),
+        || talks(rt, &sub, PRINTED),
         || {
             thread::sleep(rt, Duration::from_millis(500));
-            talk(rt, &publish)
+            talks(rt, &publish, "")
         },
-    )
+    );
+    printed && published
 }
 
-// Gives the orders, and has the clients talk between them: whether each wrote what it has to.
+// Gives the orders, and has the clients talk between them: whether they did as they have to.
 fn order<R>(rt: &R, orders: PipeWriter, address: &str) -> io::Result<bool>
 where
     R: Files + Threads + Wait + Clock + Sync + AllocGlobal,
