@@ -117,12 +117,9 @@ where
     let mut orders = orders;
     orders.write_all(FIRST.as_bytes())?;
     thread::sleep(rt, Duration::from_millis(500));
-    let (printed, published) = clients(rt, address);
+    let talked = talk(rt, address);
     orders.write_all(THEN.as_bytes())?;
-    Ok(
-        printed.is_ok_and(|it| it.as_slice() == PRINTED.as_bytes())
-            && published.is_ok_and(|it| it.is_empty()),
-    )
+    Ok(talked)
 }
 
 // Whether nodes, orders and clients write what they have to.
