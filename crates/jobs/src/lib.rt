@@ -12,3 +12,4 @@ pub use fault::Fault;
 pub use performing::{perform, tell};
 pub use piped::pipe;
 pub use serving::serve_table;
+pub use talking::{publish, subscribe};

@@ -38,8 +38,8 @@ impl<'a, R: Net<Stream = TcpStream> + Clock> Servers for TcpServers<'a, R> {
     }
 }
 
-/// Publishes once. It writes nothing where all went well.
-pub(crate) fn publish<R>(rt: &R, job: &Publish<'_>) -> Result<(), Fault>
+/// Publishes once, and waits until it is acknowledged. The addresses are tried in turn.
+pub fn publish<R>(rt: &R, job: &Publish<'_>) -> Result<(), Fault>
 where
     R: Clock + AllocGlobal + Net<Stream = TcpStream>,
 {
@@ -59,8 +59,8 @@ where
     Ok(publisher.run(&mut servers, job.tries)?)
 }
 
-/// Prints what is published, a line each.
-pub(crate) fn subscribe<R, O>(rt: &R, job: &Subscribe<'_>, output: &mut O) -> Result<(), Fault>
+/// Prints what is published, a line each, until as many came as were asked for. The addresses are tried in turn.
+pub fn subscribe<R, O>(rt: &R, job: &Subscribe<'_>, output: &mut O) -> Result<(), Fault>
 where
     R: Clock + AllocGlobal + Net<Stream = TcpStream>,
     O: Write + Drop,

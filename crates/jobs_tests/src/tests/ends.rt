@@ -1,7 +1,7 @@
 // How each job ends: its exit status, and what it writes.
 
-use super::run;
-use jobs::{Fault, serve_table, tell};
+use command_line::line;
+use jobs::{Fault, perform, serve_table, tell};
 use std::alloc::AllocError;
 use std::net::{Net, TcpListener, TcpStream};
 use std::rt::Files;
@@ -71,13 +71,24 @@ const ENDS: &[(&[&str], u8, &str)] = &[
     (&["play"], 2, "vbroker: this version plays no scripts\n"),
 ];
 
-// Whether a command line ends so.
+// Whether a command line of these words behind the program's name ends so, and prints nothing.
 fn ends<R>(rt: &R, words: &[&str], status: u8, told: &str) -> Result<bool, AllocError>
 where
     R: Files + Threads + Wait + Clock + Sync + AllocGlobal,
     R: Net<Listener = TcpListener, Stream = TcpStream>,
 {
-    let (ended, output, faults) = run(rt, words)?;
+    let mut line_words = Vec::new(rt.alloc());
+    line_words.push(String::from_str(rt.alloc(), "vbroker")?)?;
+    for word in words {
+        line_words.push(String::from_str(rt.alloc(), word)?)?;
+    }
+    let Ok(job) = line(rt.alloc(), line_words.as_slice()) else {
+        return Ok(false);
+    };
+    let mut output = Vec::new(rt.alloc());
+    let mut faults = Vec::new(rt.alloc());
+    let mut input = b"".as_slice();
+    let ended = perform(rt, &job, &mut input, &mut output, &mut faults);
     Ok(ended == status && output.is_empty() && faults.as_slice() == told.as_bytes())
 }
 

@@ -1,11 +1,11 @@
 // Orders to the nodes of a server, and its two clients beside them.
 
-use super::run;
-use jobs::{serve_table, tell};
+use command_line::{Publish, Subscribe};
+use jobs::{publish, serve_table, subscribe, tell};
+use packet::QoS;
 use std::alloc::AllocError;
 use std::io::{BufReader, PipeReader, PipeWriter, Write};
 use std::net::{Net, TcpListener, TcpStream};
-use std::rt::Files;
 use std::sync::Wait;
 use std::test::Fail;
 use std::thread::Threads;
@@ -64,84 +64,91 @@ where
     output
 }
 
-// Whether a client ends with 0, and prints this.
-fn talks<R>(rt: &R, words: &[&str], printed: &str) -> bool
+// Whether `sub` prints what it has to.
+fn prints<R>(rt: &R, address: &str) -> Result<bool, AllocError>
 where
-    R: Files + Threads + Wait + Clock + Sync + AllocGlobal,
-    R: Net<Listener = TcpListener, Stream = TcpStream>,
+    R: Clock + AllocGlobal + Net<Stream = TcpStream>,
 {
-    match run(rt, words) {
-        Ok((ended, output, _faults)) => ended == 0 && output.as_slice() == printed.as_bytes(),
-        Err(_) => false,
-    }
+    let mut addresses = Vec::new(rt.alloc());
+    addresses.push(address)?;
+    let job = Subscribe {
+        id: "meter",
+        filter: "t/#",
+        qos: QoS::ExactlyOnce,
+        count: 1,
+        tries: 10,
+        addresses,
+    };
+    let mut output = Vec::new(rt.alloc());
+    let ended = subscribe(rt, &job, &mut output).is_ok();
+    Ok(ended && output.as_slice() == PRINTED.as_bytes())
 }
 
-// Whether the subscriber, which comes first, prints what the publisher publishes.
-fn talk<R>(rt: &R, address: &str) -> bool
+// Whether `pub` publishes, once the subscriber may have come.
+fn publishes<R>(rt: &R, address: &str) -> Result<bool, AllocError>
 where
-    R: Files + Threads + Wait + Clock + Sync + AllocGlobal,
-    R: Net<Listener = TcpListener, Stream = TcpStream>,
+    R: Clock + AllocGlobal + Net<Stream = TcpStream>,
 {
-    let sub = [
-        "sub", "--id", "meter", "--filter", "t/#", "--qos", "2", "--count", "1", address,
-    ];
-    let publish = [
-        "pub",
-        "--id",
-        "switch",
-        "--topic",
-        "t/1",
-        "--qos",
-        "2",
-        "--message",
-        "x",
-        address,
-    ];
-    let (printed, published) = thread::join(
-        rt,
-        || talks(rt, &sub, PRINTED),
-        || {
-            thread::sleep(rt, Duration::from_millis(500));
-            talks(rt, &publish, "")
-        },
-    );
-    printed && published
+    let mut addresses = Vec::new(rt.alloc());
+    addresses.push(address)?;
+    let job = Publish {
+        id: "switch",
+        topic: "t/1",
+        qos: QoS::ExactlyOnce,
+        message: "x",
+        retain: false,
+        tries: 10,
+        addresses,
+    };
+    thread::sleep(rt, Duration::from_millis(500));
+    Ok(publish(rt, &job).is_ok())
 }
 
 // Gives the orders, and has the clients talk between them: whether they did as they have to.
 fn order<R>(rt: &R, orders: PipeWriter, address: &str) -> io::Result<bool>
 where
-    R: Files + Threads + Wait + Clock + Sync + AllocGlobal,
+    R: Threads + Clock + Sync + AllocGlobal,
     R: Net<Listener = TcpListener, Stream = TcpStream>,
 {
     let mut orders = orders;
     orders.write_all(FIRST.as_bytes())?;
     thread::sleep(rt, Duration::from_millis(500));
-    let talked = talk(rt, address);
+    let (printed, published) = thread::join(
+        rt,
+        || prints(rt, address).unwrap_or(false),
+        || publishes(rt, address).unwrap_or(false),
+    );
     orders.write_all(THEN.as_bytes())?;
-    Ok(talked)
+    Ok(printed && published)
 }
 
-// Whether nodes, orders and clients write what they have to.
-fn goes_well<R>(rt: &R) -> Result<bool, Fail>
+// Whether the nodes of this table answer the orders, and the clients do as they have to.
+fn goes_well<R>(
+    rt: &R,
+    table: &str,
+    address: &str,
+    input: PipeReader,
+    orders: PipeWriter,
+) -> io::Result<bool>
 where
-    R: Files + Threads + Wait + Clock + Sync + AllocGlobal,
+    R: Threads + Wait + Clock + Sync + AllocGlobal,
     R: Net<Listener = TcpListener, Stream = TcpStream>,
 {
-    let port = free_port(rt)?;
-    let table = table_of(rt, port)?;
-    let address = format!(in rt.alloc(); "127.0.0.1:{port}")?;
-    let (input, orders) = io::pipe(rt)?;
     let (answers, talked) = thread::join(
         rt,
-        || serve(rt, table.as_str(), input),
-        || order(rt, orders, address.as_str()),
+        || serve(rt, table, input),
+        || order(rt, orders, address),
     );
     Ok(talked? && answers.as_slice() == ANSWERS.as_bytes())
 }
 
 #[test]
 fn orders_are_answered(rt: HostRuntime) -> Result<(), Fail> {
-    assert!(rt; goes_well(&rt)?);
+    let port = free_port(&rt)?;
+    let table = table_of(&rt, port)?;
+    let address = format!(in rt.alloc(); "127.0.0.1:{port}")?;
+    let (input, orders) = io::pipe(&rt)?;
+    let well = goes_well(&rt, table.as_str(), address.as_str(), input, orders)?;
+    assert!(rt; well);
     Ok(())
 }
