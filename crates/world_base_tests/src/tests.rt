@@ -1,6 +1,10 @@
 // A node on worked rows.
 
 mod clients;
+mod full_queue;
 mod keep_alive;
+mod memory;
 mod names;
 mod row;
+mod streams;
+mod two_nodes;

@@ -1,6 +1,6 @@
 // Names: the connections of a ballot are numbered from 1.
 
-use super::row::{CONNECT_A, CONNECT_B, bring, connecting, primary, send_back, take, tell};
+use super::row::{CONNECT_A, CONNECT_B, bring, connecting, give, primary, take, tell};
 use std::alloc::Global;
 use world_base::{Body, Item, Members, NodeCore, Port};
 
@@ -17,8 +17,8 @@ fn changed(alloc: Global, node: &mut NodeCore) -> Option<()> {
     let members = Members::from_slice(alloc, &[1, 2]).ok()?;
     let before = Members::from_slice(alloc, &[1]).ok()?;
     let joins = tell(alloc, node, 0, Body::NewBallot(2, members, 1, before));
-    let states = send_back(alloc, node, joins);
-    send_back(alloc, node, states);
+    let states = give(alloc, node, 1, joins);
+    give(alloc, node, 1, states);
     tell(alloc, node, 2, Body::Installed(2, 1));
     tell(alloc, node, 0, Body::Activated(2));
     Some(())

@@ -49,13 +49,21 @@ pub const NOTHING: &[u8] = &[];
 /// No piece of the rows is longer.
 const LONGEST: usize = 16;
 
-/// Node 1, the primary of ballot 1 with these members.
-pub fn primary(alloc: Global, members: &[u8]) -> Option<NodeCore> {
+/// This node in ballot 1 with these members, whose primary is node 1.
+pub fn node_of(alloc: Global, number: u8, members: &[u8]) -> Option<NodeCore> {
     let config = Config {
         members: Members::from_slice(alloc, members).ok()?,
         primary: 1,
     };
-    NodeCore::new(alloc, 1, &config).ok()
+    match number {
+        1..=15 => NodeCore::new(alloc, number, &config).ok(),
+        _ => None,
+    }
+}
+
+/// Node 1, the primary of ballot 1 with these members.
+pub fn primary(alloc: Global, members: &[u8]) -> Option<NodeCore> {
+    node_of(alloc, 1, members)
 }
 
 /// Takes an item: what is handed out to other nodes.
@@ -82,12 +90,15 @@ pub fn tell(alloc: Global, node: &mut NodeCore, from: u8, body: Body<Command>) -
     take(alloc, node, Item::Peer(Message { from, body }))
 }
 
-/// Gives a node what it sent to itself.
-pub fn send_back(alloc: Global, node: &mut NodeCore, effects: Effects) -> Effects {
+/// Gives a node what was sent to its number: what it hands out then.
+pub fn give(alloc: Global, node: &mut NodeCore, number: u8, effects: Effects) -> Effects {
     let mut answers = Vec::new(alloc);
     for effect in effects {
-        if let Effect::To(1, message) = effect {
-            node.step(Item::Peer(message), &mut answers);
+        match effect {
+            Effect::To(receiver, message) if receiver == number => {
+                node.step(Item::Peer(message), &mut answers);
+            }
+            _ => {}
         }
     }
     answers
@@ -172,6 +183,11 @@ fn first_fault_cut(alloc: Global, rows: &[Row<'_>], cut: usize) -> Option<usize>
     };
     rows.iter()
         .position(|row| !comes_out(alloc, &mut node, row, cut))
+}
+
+/// The same with the pieces whole.
+pub fn first_fault_whole(alloc: Global, rows: &[Row<'_>]) -> Option<usize> {
+    first_fault_cut(alloc, rows, 0)
 }
 
 /// The same with every cut, of which the first leaves the pieces whole.

@@ -1,0 +1,66 @@
+// Two nodes by hand: the answer to a CONNECT waits until both hold it.
+
+use super::row::{ACCEPTED, CONNECT_A, Effects, NOTHING, bring, give, hands_over, node_of, take};
+use std::alloc::Global;
+use world_base::{Body, Command, Effect, Item, Message, NodeCore, Port};
+
+// The one message that is handed out, and to whom.
+fn only(effects: &Effects) -> Option<(u8, &Message<Command>)> {
+    match effects.as_slice() {
+        [Effect::To(receiver, message)] => Some((*receiver, message)),
+        _ => None,
+    }
+}
+
+// The primary's one message is the first place of its log.
+fn appends(effects: &Effects) -> bool {
+    match only(effects) {
+        Some((2, message)) => matches!(
+            &message.body,
+            Body::Append(1, 0, Command::Connect(_, _, _))
+        ),
+        _ => false,
+    }
+}
+
+// The backup's one message tells that it holds one place.
+fn holds(effects: &Effects) -> bool {
+    match only(effects) {
+        Some((1, message)) => matches!(&message.body, Body::Held(1, 1)),
+        _ => false,
+    }
+}
+
+// Then one place is committed.
+fn commits(effects: &Effects) -> bool {
+    match only(effects) {
+        Some((2, message)) => matches!(&message.body, Body::Commit(1, 1)),
+        _ => false,
+    }
+}
+
+// Whether the messages and bytes of a CONNECT are these.
+fn waits_for_both(alloc: Global, primary: &mut NodeCore, backup: &mut NodeCore) -> Option<bool> {
+    let opened = take(alloc, primary, Item::Opened(Port(1), 0));
+    let appended = bring(alloc, primary, 1, CONNECT_A, 0)?;
+    let first = opened.is_empty()
+        && appends(&appended)
+        && hands_over(alloc, primary, 1, NOTHING, true);
+    let held = give(alloc, backup, 2, appended);
+    let second = holds(&held);
+    let committed = give(alloc, primary, 1, held);
+    let third = commits(&committed) && hands_over(alloc, primary, 1, ACCEPTED, true);
+    let last = give(alloc, backup, 2, committed).is_empty();
+    Some(first && second && third && last && primary.losses() == 0 && backup.losses() == 0)
+}
+
+fn is_told(alloc: Global) -> Option<bool> {
+    let mut primary = node_of(alloc, 1, &[1, 2])?;
+    let mut backup = node_of(alloc, 2, &[1, 2])?;
+    waits_for_both(alloc, &mut primary, &mut backup)
+}
+
+#[test]
+fn the_answer_waits_for_the_backup(rt: HostRuntime) {
+    assert_eq!(rt; is_told(rt.alloc()), Some(true));
+}
