@@ -71,7 +71,7 @@ master_steps {config = config} g h {earlier = earlier} came same f =
           (nodes_stay g h (moment_of g ∷ earlier) (moment_of h ∷ f.before) xs.0 ys same f.kept (f.grows xs.0 ys xs.1 behind) (good xs.0 xs.1)));
     }
 
-assigned_nodes : (g : Group) (config : Config) (why : Option AssignRefusal) → (with_master (behind_assign g config why) (master_behind g.master config why)).nodes ≡ g.nodes
+pub assigned_nodes : (g : Group) (config : Config) (why : Option AssignRefusal) → (with_master (behind_assign g config why) (master_behind g.master config why)).nodes ≡ g.nodes
 assigned_nodes g config None = refl
 assigned_nodes g config (Some why) = refl
 
@@ -88,7 +88,7 @@ group_steps {config = config} g h (master_hears from ballot sent) {earlier = ear
 
 -- ---- all that went on
 
-no_connections : (nodes : ℕ) (config : Config) → Each (λ (core : CoreState). core.connections ≡ []) (opening_cores nodes config)
+pub no_connections : (nodes : ℕ) (config : Config) → Each (λ (core : CoreState). core.connections ≡ []) (opening_cores nodes config)
 no_connections zero config = tt
 no_connections (suc n) config =
     each_append (λ (core : CoreState). core.connections ≡ []) (opening_cores n config) (opening_core (n + 1) config ∷ []) (no_connections n config) (refl, tt)

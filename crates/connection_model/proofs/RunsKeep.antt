@@ -77,7 +77,7 @@ nothing_steps {config = config} g {earlier = earlier} came =
           (subst (λ (l : List ℕ). Good config x written later g (moment_of g ∷ earlier) put l) (sym (append-nil sent)) good);
     }
 
-same_group : (g : Group) (n : ℕ) (core : CoreState) → slice_get g.nodes n ≡ Some core → g ≡ behind_turn g n (quiet core) []
+pub same_group : (g : Group) (n : ℕ) (core : CoreState) → slice_get g.nodes n ≡ Some core → g ≡ behind_turn g n (quiet core) []
 same_group g n core at = sym (rw (set_same g.nodes n core at, append-nil g.sent, append-nil g.left) refl)
 
 -- ---- one move

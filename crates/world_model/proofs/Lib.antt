@@ -1,1 +1,2 @@
 pub mod WorldsGo
+pub mod NamesApart

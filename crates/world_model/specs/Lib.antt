@@ -1,4 +1,5 @@
 pub mod World
 pub mod Goes
 pub mod Carried
+pub mod Apart
 pub mod Exact

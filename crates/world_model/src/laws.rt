@@ -1,5 +1,6 @@
 // Laws of worlds of clients and a group of nodes. The calls do nothing; their contracts are the laws.
 
+ghost use Rattle.world_model.specs.Apart.{NamesStayApart};
 ghost use Rattle.world_model.specs.Carried.{WorldsCarryInOrder};
 
 /// Whatever happens in a world of clients and nodes, its nodes and master go through what may happen in a group: so each
@@ -7,4 +8,10 @@ ghost use Rattle.world_model.specs.Carried.{WorldsCarryInOrder};
 /// and what went down on it is a beginning of the spelled answers to it (MQTT 4.6).
 pub fn worlds_carry_in_order()
     ensures { WorldsCarryInOrder }
+{}
+
+/// At whatever times nodes of a group have connections of one name, they are one node: for who gives a name is the active
+/// primary of its ballot, and a ballot has one.
+pub fn names_stay_apart()
+    ensures { NamesStayApart }
 {}

@@ -1,0 +1,22 @@
+-- That no two nodes of a group give one name.
+use Rattle.std.specs.Prelude.{◌≡◌, ℕ, slice_get, Some}
+use Rattle.lists.specs.Lists.{In}
+use Rattle.ballot.specs.Config.{Config}
+use Rattle.broker_base.specs.Connection.{ConnectionName}
+use Rattle.world_base.specs.declared.connection.Connection.{Connection}
+use Rattle.world_base.specs.Core.{CoreState}
+use Rattle.node_model.specs.Closed.{listed_named}
+use Rattle.group_model.specs.Group.{Group}
+use Rattle.group_model.specs.Goes.{Went, groups_of}
+
+-- a node has a connection of this name, open or with bytes to hand over
+pub record HasName (x : ConnectionName) (g : Group) (n : ℕ) : Type 0 where
+  pub core : CoreState
+  pub stands : slice_get g.nodes n ≡ Some core
+  pub connection : Connection
+  pub listed : listed_named x core ≡ Some connection
+
+-- at whatever times nodes have connections of one name, they are one node
+abbrev pub NamesStayApart : Type 0
+NamesStayApart = (nodes : ℕ) (config : Config) (g : Group) (went : Went nodes config g) (x : ConnectionName) (e h : Group) (m n : ℕ) →
+    In e (groups_of went) → In h (groups_of went) → HasName x e m → HasName x h n → m ≡ n
