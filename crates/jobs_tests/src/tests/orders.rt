@@ -100,7 +100,7 @@ where
         tries: 10,
         addresses,
     };
-    thread::sleep(rt, Duration::from_millis(500));
+    thread::sleep(rt, Duration::from_millis(1_500));
     Ok(publish(rt, &job).is_ok())
 }
 
