@@ -79,8 +79,12 @@ impl Peers {
     }
 
     /// Gives the next ballot to a configuration, and tells its primary: the ballot. It becomes active
-    /// once each of its members holds all that was agreed.
+    /// once each of its members holds all that was agreed. `BadMembers` comes for members that no ballot
+    /// may have, and for one that is no node here.
     pub fn assign<R: Wait>(&self, rt: &R, config: Config) -> Result<u64, OrderError> {
+        if !self.has_all(config.members.as_slice()) {
+            return Err(OrderError::Refused(AssignError::BadMembers));
+        }
         let primary = config.primary;
         let members = Members::from_slice(self.alloc, config.members.as_slice())?;
         let mut master = self.master.lock(rt);
@@ -120,6 +124,11 @@ impl Peers {
             thread::sleep(rt, Duration::from_millis(ASK_MILLIS));
         }
         None
+    }
+
+    // Whether each of these numbers is that of a node.
+    fn has_all(&self, numbers: &[u8]) -> bool {
+        numbers.iter().all(|number| self.node(*number).is_some())
     }
 
     /// The node of a number.

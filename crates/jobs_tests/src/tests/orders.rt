@@ -16,11 +16,12 @@ use std::{io, thread};
 const FIRST: &str = "nonsense\nstatus\n";
 
 // Behind them: node 2 takes over, and node 1 crashes, once.
-const THEN: &str = "assign 2,1 2\nassign 2 2\ncrash 1\ncrash 1\ncrash 3\nquit\n";
+const THEN: &str = "assign 2,1 2\nassign 2,3 2\nassign 2 2\ncrash 1\ncrash 1\ncrash 3\nquit\n";
 
 const ANSWERS: &str = "refused 24\n\
     node 1 ballot 1 primary held 0 committed 0\n\
     node 2 ballot 1 backup held 0 committed 0\n\
+    refused 20\n\
     refused 20\n\
     ballot 2\n\
     crashed 1\n\
