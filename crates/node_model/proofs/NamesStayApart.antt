@@ -161,7 +161,7 @@ keep_driven input core did m = keep_moved _ core did (heard_up input core) m
 keep_taken : (command : Command) (core : CoreState) (did : Account) → Takes command core did → Keep core did.core
 keep_taken command core did t =
     let same : t.replica.state.joined ≡ core.replica.state.joined =
-        ap (λ (r : ReplicaState State Command). r.joined) t.done.state ∙ (added_same rules core.replica.state command).joined in
+    ap (λ (r : ReplicaState State Command). r.joined) t.done.state ∙ (added_same rules core.replica.state command).joined in
     keep_both core (record core { replica = t.replica }) did.core
     (keep_replica core t.replica (subst (λ (n : ℕ). core.replica.state.joined ≤ n) (sym same) (same_le core.replica.state.joined)))
     (keep_delivered did.given (record core { replica = t.replica }) did.core did.messages t.delivers)

@@ -5,7 +5,7 @@
 mod laws;
 
 pub use laws::{
-    deeds_are_moves, deeds_hear_at_first, each_loss_is_told, names_keep_their_ballot, names_stay_apart,
-    new_names_are_of_the_ballot, nodes_propose_in_order, nodes_read_in_order, none_is_silent,
-    nothing_on_closed, puts_in_order, reads_are_taken,
+    deeds_are_moves, deeds_hear_at_first, each_loss_is_told, names_keep_their_ballot,
+    names_stay_apart, new_names_are_of_the_ballot, nodes_propose_in_order, nodes_read_in_order,
+    none_is_silent, nothing_on_closed, puts_in_order, reads_are_taken,
 };
