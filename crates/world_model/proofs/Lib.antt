@@ -1,2 +1,6 @@
 pub mod WorldsGo
 pub mod NamesApart
+pub mod PortsKept
+pub mod NodesGoOn
+pub mod OnTheWay
+pub mod PipesHold
