@@ -4,3 +4,5 @@ pub mod PortsKept
 pub mod NodesGoOn
 pub mod OnTheWay
 pub mod PipesHold
+pub mod WorldsHold
+pub mod WorldsKeep
