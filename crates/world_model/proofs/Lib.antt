@@ -6,3 +6,5 @@ pub mod OnTheWay
 pub mod PipesHold
 pub mod WorldsHold
 pub mod WorldsKeep
+pub mod WorldsOpen
+pub mod PipesInOrder

@@ -1,5 +1,5 @@
 -- What a step of a group makes of its nodes and of each connection's bytes: the deed of the step says it.
-use Rattle.std.proofs.Common.{◌≡◌, ◌⊎◌, inl, inr, ℕ, zero, suc, Bool, true, false, List, [], ◌∷◌, Option, Some, None, slice_get, slice_set, refl, sym, ap, ◌∙◌, subst}
+use Rattle.std.proofs.Common.{◌≡◌, ◌⊎◌, inl, inr, ℕ, zero, suc, true, false, List, [], ◌∷◌, Option, Some, None, slice_get, slice_set, refl, sym, ap, ◌∙◌, subst}
 use Rattle.std.proofs.lemmas.Bool.{both_ways}
 use Rattle.ballot.specs.Config.{Config}
 use Rattle.broker_base.specs.Connection.{ConnectionName}
@@ -26,7 +26,7 @@ use Rattle.connection_model.specs.Streams.{comes_up, goes_down}
 use Rattle.connection_model.proofs.CarriedInOrder.{assigned_nodes}
 use Rattle.connection_model.proofs.Given.{stays_given}
 use Rattle.connection_model.proofs.States.{set_back}
-use Rattle.world_model.specs.Goes.{Does, IsFaithful, coming_with, deed_of, going_with, is_apart}
+use Rattle.world_model.specs.Goes.{IsFaithful, coming_with, deed_of, going_with, is_apart}
 use Rattle.world_model.proofs.PortsKept.{IsNew, IsOfOld, each_was, each_was_or_new, is_still}
 
 -- ---- one node

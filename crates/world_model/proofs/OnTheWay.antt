@@ -1,7 +1,7 @@
 -- The bytes of a connection on their way: packets that are written, and packets that are handled.
-use Rattle.std.proofs.Common.{◌≡◌, ℕ, zero, suc, ◌+◌, false, List, [], ◌∷◌, ◌++◌, length, map, drop, refl, sym, ap, ◌∙◌, subst, append_assoc, length-append, arith}
+use Rattle.std.proofs.Common.{◌≡◌, ℕ, suc, false, List, [], ◌∷◌, ◌++◌, length, drop, refl, sym, ap, ◌∙◌, subst, append_assoc, length-append, arith}
 use Rattle.std.proofs.lemmas.List.{append-nil}
-use Rattle.packet.specs.Spelling.{IsPacket, Spells, spelling}
+use Rattle.packet.specs.Spelling.{IsPacket, spelling}
 use Rattle.packet.specs.declared.packet.Packet.{Packet}
 use Rattle.packet.proofs.OneSpelling.{spelling_is}
 use Rattle.client_base.specs.Keeper.{Written}

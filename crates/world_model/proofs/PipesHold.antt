@@ -1,5 +1,5 @@
 -- What holds of each connection with its pipe, and that a step of the group keeps it.
-use Rattle.std.proofs.Common.{◌≡◌, ◌⊎◌, inl, inr, ℕ, Bool, true, false, not, ◌&&◌, ◌==◌, if◌then◌else◌, List, [], ◌∷◌, ◌++◌, Option, Some, None, slice_get, refl, sym, ap, ◌∙◌, subst}
+use Rattle.std.proofs.Common.{◌≡◌, ◌⊎◌, inl, inr, ℕ, Bool, true, false, ◌&&◌, ◌==◌, if◌then◌else◌, List, [], ◌∷◌, ◌++◌, Option, Some, None, slice_get, refl, sym, ap, ◌∙◌, subst}
 use Rattle.std.specs.List.{find}
 use Rattle.std.proofs.lemmas.Bool.{both_ways}
 use Rattle.std.proofs.lemmas.List.{append-nil}
@@ -127,7 +127,7 @@ up_written g written qs came n port up whole u =
 
 -- ---- a connection in a list
 
-none_found : (test : NodesEnd → Bool) (cs : List NodesEnd) → find test cs ≡ None → Each (λ (c : NodesEnd). test c ≡ false) cs
+pub none_found : (test : NodesEnd → Bool) (cs : List NodesEnd) → find test cs ≡ None → Each (λ (c : NodesEnd). test c ≡ false) cs
 none_found test [] e = tt
 none_found test (c ∷ cs) e = by (test c) refl (none_found test cs) e
   where
@@ -157,12 +157,12 @@ pub is_the_port : (port : Port) (d : NodesEnd) → d.port.0 ≡ port.0 → is_at
 is_the_port port d e = ap (λ k. d.port.0 == k) (sym e) ∙ eq_same d.port.0
 
 -- where an open connection is found at a port
-record IsThere (port : Port) (core : CoreState) (d : NodesEnd) : Type 0 where
-  among : In d core.connections
-  at : d.port.0 ≡ port.0
-  lives : live d ≡ true
+pub record IsThere (port : Port) (core : CoreState) (d : NodesEnd) : Type 0 where
+  pub among : In d core.connections
+  pub at : d.port.0 ≡ port.0
+  pub lives : live d ≡ true
 
-found_there : (port : Port) (core : CoreState) (d : NodesEnd) → open_at port core ≡ Some d → IsThere port core d
+pub found_there : (port : Port) (core : CoreState) (d : NodesEnd) → open_at port core ≡ Some d → IsThere port core d
 found_there port core d e =
     let passes = found_passes (is_open_at port) core.connections d e in
     record {

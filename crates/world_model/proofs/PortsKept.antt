@@ -1,14 +1,12 @@
 -- In a step of a node each connection keeps its port and its name, and none that was closed is open again.
-use Rattle.std.proofs.Common.{◌≡◌, ◌⊎◌, inl, inr, ℕ, zero, suc, Bool, true, false, not, ◌&&◌, ◌+◌, nat_le, length, if◌then◌else◌, List, [], ◌∷◌, ◌++◌, Option, Some, None, Result, Ok, Err, refl, sym, ap, ◌∙◌, filter, map}
-use Rattle.std.specs.List.{find, fold, list_any}
+use Rattle.std.proofs.Common.{◌≡◌, ◌⊎◌, inl, inr, ℕ, zero, suc, Bool, true, false, not, ◌&&◌, ◌+◌, nat_le, length, if◌then◌else◌, List, [], ◌∷◌, ◌++◌, Option, Some, None, Result, Ok, Err, refl, ap, ◌∙◌}
+use Rattle.std.specs.List.{fold, list_any}
 use Rattle.std.proofs.lemmas.Bool.{both_ways}
 use Rattle.packet.specs.Stop.{Stop}
 use Rattle.packet.specs.Stop.TheVariants as stops
 use Rattle.packet.specs.RefusalCode.{RefusalCode}
 use Rattle.packet.specs.Spelling.{spelling}
 use Rattle.packet.specs.Verdict.{verdict}
-use Rattle.packet.specs.declared.connack.Connack.TheVariants as connacks
-use Rattle.packet.specs.declared.connect.Connect.{Connect}
 use Rattle.packet.specs.declared.packet.Packet.{Packet}
 use Rattle.packet.specs.declared.packet.Packet.TheVariants as packets
 use Rattle.ballot.specs.Effect.{Effect}
@@ -27,7 +25,7 @@ use Rattle.world_base.specs.declared.connection.Connection.{Connection}
 use Rattle.world_base.specs.declared.item.Item.{Item}
 use Rattle.world_base.specs.declared.item.Item.TheVariants.{Peer, Tick, Opened, Bytes, Ended, Crash}
 use Rattle.world_base.specs.declared.item.Port.{Port}
-use Rattle.world_base.specs.Connections.{asked, changed, closed, failing, fresh, handed, has_failed, holding, is_at, is_first, is_listed, is_open_at, is_open_named, is_proposed, left_with, most_pending, put_out, putting}
+use Rattle.world_base.specs.Connections.{asked, changed, closed, failing, fresh, handed, holding, is_at, is_first, is_listed, is_open_at, is_open_named, is_proposed, left_with, most_pending, put_out, putting}
 use Rattle.world_base.specs.Core.{CoreState, Turn, serves}
 use Rattle.world_base.specs.Handing.{hands_over, left_by, listed_at}
 use Rattle.world_base.specs.KeepAlive.{ends_if, ends_silent, lowest_silent}

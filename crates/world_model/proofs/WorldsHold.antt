@@ -1,13 +1,11 @@
 -- What holds of all connections of a world with their pipes, and that what its clients do alone keeps it.
-use Rattle.std.proofs.Common.{◌≡◌, ◌⊎◌, inl, inr, ℕ, zero, suc, List, [], ◌∷◌, ◌++◌, Option, Some, None, Ok, set, slice_get, refl, sym, ap, ◌∙◌, subst}
-use Rattle.std.proofs.lemmas.Bool.{both_ways}
-use Rattle.std.proofs.lemmas.List.{append-nil}
+use Rattle.std.proofs.Common.{◌≡◌, ◌⊎◌, inl, inr, ℕ, zero, suc, List, [], ◌∷◌, ◌++◌, Option, Some, set, slice_get, refl, sym, ap, ◌∙◌, subst}
 use Rattle.packet.specs.Spelling.{IsPacket}
 use Rattle.packet.specs.declared.packet.Packet.{Packet}
 use Rattle.ballot.specs.Config.{Config}
 use Rattle.broker_base.specs.Connection.{ConnectionName}
-use Rattle.client_base.specs.Keeper.{Keeper, Written}
-use Rattle.cutter.specs.Stream.{Stream, Takes}
+use Rattle.client_base.specs.Keeper.{Written}
+use Rattle.cutter.specs.Stream.{Stream}
 use Rattle.lists.specs.Lists.{Each, In}
 use Rattle.lists.proofs.Places.{get_set, get_set_other}
 use Rattle.model.proofs.Lists.{same_or_other, set_get}
@@ -20,7 +18,7 @@ use Rattle.group_model.specs.Group.{Group}
 use Rattle.group_model.specs.Goes.{Went}
 use Rattle.connection_model.specs.Streams.{came_up, went_down}
 use Rattle.world_model.specs.World.{ClientPipes, HasPipe, Pipe, World, packets_of, with_client, with_pipe}
-use Rattle.world_model.proofs.OnTheWay.{IsHandled, one_handled, packets_behind, piece_down}
+use Rattle.world_model.proofs.OnTheWay.{IsHandled, packets_behind, piece_down}
 use Rattle.world_model.proofs.PipesHold.{IsPlaced, IsUp, PipeHolds, up_written}
 
 -- a pipe leads to this port of the node

@@ -1,12 +1,11 @@
 -- Each step of a world but an opening keeps what holds of its connections.
-use Rattle.std.proofs.Common.{◌≡◌, ◌⊎◌, inl, inr, ℕ, suc, Bool, true, false, if◌then◌else◌, List, [], ◌∷◌, ◌++◌, Option, Some, None, Ok, slice_get, refl, sym, ap, ◌∙◌, subst}
+use Rattle.std.proofs.Common.{◌≡◌, ◌⊎◌, inl, inr, ℕ, Bool, true, false, if◌then◌else◌, List, [], ◌∷◌, ◌++◌, Option, Some, None, Ok, slice_get, refl, sym, ap, ◌∙◌, subst}
 use Rattle.std.proofs.lemmas.Bool.{both_ways}
 use Rattle.std.proofs.lemmas.List.{append-nil}
 use Rattle.packet.specs.Spelling.{IsPacket}
 use Rattle.packet.specs.declared.packet.Packet.{Packet}
 use Rattle.packet.specs.declared.packet.Packet.TheVariants as packets
 use Rattle.ballot.specs.Config.{Config}
-use Rattle.broker_base.specs.Commands.{usual_limits}
 use Rattle.broker_base.specs.Connection.{ConnectionName, same_connection}
 use Rattle.broker_base.specs.Place.{Limits}
 use Rattle.broker_model.proofs.ConnectionNames.{same_name}
@@ -37,11 +36,11 @@ use Rattle.group_model.specs.Goes.Went.{then_went}
 use Rattle.connection_model.specs.Streams.{comes_up, goes_down, went_down}
 use Rattle.world_model.specs.Goes.{CanBeSpelled, Does, after_packet, deed_of, is_apart}
 use Rattle.world_model.specs.World.{ClientPipes, HasPipe, Pipe, World, after_writing, newly_written, packets_of, sent_up, with_client, with_pipe}
-use Rattle.world_model.proofs.NodesGoOn.{CarriesWith, IsOpened, carries_with, is_quiet, stood_as}
+use Rattle.world_model.proofs.NodesGoOn.{IsOpened, carries_with, is_quiet, stood_as}
 use Rattle.world_model.proofs.OnTheWay.{IsHandled, more_down, newly_is, one_handled}
-use Rattle.world_model.proofs.PipesHold.{OpensNone, PipeHolds, apart_on, none_opens, opens_in, others_down, others_up, placed_on, up_on, up_piece}
+use Rattle.world_model.proofs.PipesHold.{PipeHolds, apart_on, none_opens, opens_in, others_down, others_up, placed_on, up_on, up_piece}
 use Rattle.world_model.proofs.PortsKept.{IsOfOld}
-use Rattle.world_model.proofs.WorldsHold.{Came, ChangedAt, Holds, IsKnown, IsUnheard, Leads, Place, Stays, arrives_holds, client_holds, does_holds, first_at, holds_on, place_back, place_forth, set_at}
+use Rattle.world_model.proofs.WorldsHold.{Came, ChangedAt, Holds, IsKnown, IsUnheard, Leads, Place, Stays, client_holds, does_holds, first_at, holds_on, place_back, place_forth, set_at}
 use Rattle.world_model.proofs.WorldsHold.Place.{mine, another}
 
 -- ---- a client calls
@@ -51,7 +50,7 @@ writes_none [] = refl
 writes_none (κ ∷ others) = ap (λ (l : List Written). record κ { written = l } ∷ others) (sym (append-nil κ.written))
 
 -- it writes on the newest connection alone
-call_writes : {limits : Limits} {s t : Story} (h : Happens limits s t) → is_call h ≡ true → (new : List Written) × (t.connections ≡ writes_first new s.connections)
+pub call_writes : {limits : Limits} {s t : Story} (h : Happens limits s t) → is_call h ≡ true → (new : List Written) × (t.connections ≡ writes_first new s.connections)
 call_writes (takes_next i κ w stands next) e = absurd (both_ways false refl e)
 call_writes (others_take command other none) e = absurd (both_ways false refl e)
 call_writes (receives κ others packet are opened next) e = absurd (both_ways false refl e)
@@ -190,17 +189,17 @@ group_holds v went deed d apart h =
     let none = apart_opens_none (deed_of d.step) (ap is_apart d.is ∙ apart) in
     holds_on v (record v { group = d.behind }) went (then_went went d.step) h
     (λ k c l κ p has.
-        let old : HasPipe v k c l κ p = record { client = has.client; connection = has.connection; pipe = has.pipe } in
-        record {
-          c = c;
-          κ = κ;
-          p = p;
-          has = old;
-          name = refl;
-          holds = apart_on went d.step κ p (none_opens d.step p.node p.port none) (quiet κ.name).0 (quiet κ.name).1 (h.each k c l κ p old);
-        })
+    let old : HasPipe v k c l κ p = record { client = has.client; connection = has.connection; pipe = has.pipe } in
+    record {
+      c = c;
+      κ = κ;
+      p = p;
+      has = old;
+      name = refl;
+      holds = apart_on went d.step κ p (none_opens d.step p.node p.port none) (quiet κ.name).0 (quiet κ.name).1 (h.each k c l κ p old);
+    })
     (λ k c l κ p has.
-        record { c = c; later = κ; q = p; has = record { client = has.client; connection = has.connection; pipe = has.pipe }; name = refl; node = refl; port = refl })
+    record { c = c; later = κ; q = p; has = record { client = has.client; connection = has.connection; pipe = has.pipe }; name = refl; node = refl; port = refl })
     (still_used v d.behind went d.step none h) (λ x. by x (quiet x) (h.known x))
   where
     by : (x : ConnectionName) → (comes_up x d.step ≡ []) × (goes_down x d.step ≡ []) → IsUnheard went x ⊎ IsKnown v x → IsUnheard (then_went went d.step) x ⊎ IsKnown v x

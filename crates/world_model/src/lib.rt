@@ -4,4 +4,4 @@
 
 mod laws;
 
-pub use laws::{names_stay_apart, worlds_carry_in_order};
+pub use laws::{names_stay_apart, pipes_carry_in_order, worlds_carry_in_order};

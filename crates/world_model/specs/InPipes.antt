@@ -1,0 +1,40 @@
+-- That the pipes of a world carry in order: what comes out at one end of a connection is a beginning of what goes in at the other.
+use Rattle.std.specs.Prelude.{◌≡◌, ℕ, false, List, ◌∷◌, ◌++◌, length}
+use Rattle.packet.specs.declared.packet.Packet.{Packet}
+use Rattle.packet.specs.Spelling.{IsPacket}
+use Rattle.ballot.specs.Config.{Config}
+use Rattle.broker_base.specs.Command.{Command}
+use Rattle.broker_base.specs.Place.{Client}
+use Rattle.lists.specs.Lists.{Each, IsPrefixOf}
+use Rattle.story.specs.Sides.{Connection}
+use Rattle.agreement.specs.Past.{IsAgreed}
+use Rattle.node_model.specs.Ends.{commands_of}
+use Rattle.node_model.specs.Puts.{spelled}
+use Rattle.group_model.specs.Group.{moment_of}
+use Rattle.group_model.specs.Goes.{Went, all_put, groups_of}
+use Rattle.group_model.specs.Order.{packets_of as packets_in_list}
+use Rattle.group_model.specs.Pasts.{HasPast}
+use Rattle.connection_model.specs.Carried.{answers_to}
+use Rattle.world_model.specs.World.{ClientPipes, HasPipe, Pipe, World, packets_of}
+use Rattle.world_model.specs.Goes.{Reached}
+
+-- A connection's commands in the list are a beginning of the packets that its client wrote, in order. The packets that its
+-- client handled, spelled, with the bytes that came to it behind them and those on their way to it, are a beginning of the
+-- spelled answers to it, and no fault was met in them.
+pub record IsInOrder (agreed : List Command) (κ : Connection) (p : Pipe) : Type 0 where
+  pub up : IsPrefixOf (packets_in_list κ.name agreed) (commands_of κ.name 0 (packets_of κ.written))
+  pub handled : List Packet
+  pub counted : length handled ≡ κ.handled
+  pub whole : Each IsPacket handled
+  pub down : IsPrefixOf (spelled handled ++ (p.came.held ++ p.down)) (answers_to κ.name agreed)
+  pub sound : p.came.failed ≡ false
+
+-- so it is of each connection of each client, by the list on which the nodes agree
+pub record PipesAreInOrder (nodes : ℕ) (config : Config) (w : World) : Type 0 where
+  pub went : Went nodes config w.group
+  pub of : HasPast config w.group (groups_of went) (all_put went)
+  pub each : (agreed : List Command) → IsAgreed config (moment_of w.group ∷ of.earlier) agreed → (i : ℕ) (c : ClientPipes) (j : ℕ) (κ : Connection) (p : Pipe) →
+      HasPipe w i c j κ p → IsInOrder agreed κ p
+
+abbrev pub PipesCarryInOrder : Type 0
+PipesCarryInOrder = (nodes : ℕ) (config : Config) (cs : List Client) (w : World) → Reached nodes config cs w → PipesAreInOrder nodes config w
