@@ -13,7 +13,10 @@ mod told;
 mod turning;
 
 pub use activation::Activation;
+pub use copying::{config_of, copy_of};
 pub use error::AssignError;
 pub use event::{Event, Idle};
 pub use group::Group;
 pub use master::{LAST_BALLOT, Master};
+pub use telling::{answer_of, asks_for, tell};
+pub use told::{Told, turn_over};
