@@ -51,3 +51,10 @@ fn laws_of_retained_publications() {
     retained::last_is_retained();
     retained::stays_in_bounds();
 }
+
+#[test]
+fn laws_of_readings() {
+    crate::readings::live_connections_are_current();
+    crate::readings::released_entries_are_read();
+    crate::readings::removing_needs_no_room();
+}

@@ -8,7 +8,12 @@ mod entries;
 mod indexes;
 #[cfg(test)]
 mod laws;
+mod readings;
 #[cfg(test)]
 mod retaining;
 #[cfg(test)]
 mod sessions;
+
+pub use readings::{
+    live_connections_are_current, released_entries_are_read, removing_needs_no_room,
+};

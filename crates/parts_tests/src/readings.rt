@@ -1,0 +1,30 @@
+// What entries and limits say at places that no worked row of the broker reaches. The calls do nothing; their
+// contracts are the rows.
+
+ghost use Rattle.std.specs.Prelude.{◌≡◌, false, [], ◌∷◌, Some};
+ghost use Rattle.broker_model.specs.Connection.{ConnectionName};
+ghost use Rattle.broker_model.specs.Entries.{Entry};
+ghost use Rattle.broker_model.specs.Owner.{IsLive};
+ghost use Rattle.broker_model.specs.Past.{current_connection};
+ghost use Rattle.broker_model.specs.Place.{Client, Limits, Past};
+ghost use Rattle.broker_model.specs.Readings.{sent_entries, start_place};
+ghost use Rattle.broker_model.specs.Retained.{is_retained_over};
+ghost use Rattle.session_base.specs.declared.publication.Publication.{Publication};
+
+/// A released entry keeps the place at which it started, and is no longer one that is sent again (MQTT 4.3.3).
+pub fn released_entries_are_read()
+    ensures start { (p : Publication) → start_place (Entry.Released 1 p 2 3 4) ≡ Some 3 }
+    ensures sent { (p : Publication) → sent_entries (Entry.Released 1 p 2 3 4 ∷ []) ≡ [] }
+{}
+
+/// A publication that removes what is retained needs no room, however much is retained (MQTT 3.3.1.3).
+pub fn removing_needs_no_room()
+    ensures { (limits : Limits) (past : Past) (p : Publication) → p.payload ≡ [] →
+        is_retained_over limits past p ≡ false }
+{}
+
+/// A connection is live only as the current one of a client, so one that is over is not (MQTT 3.1.4, 3.14.4).
+pub fn live_connections_are_current()
+    ensures { (past : Past) (x : ConnectionName) → IsLive past x →
+        (c : Client) × (current_connection past c ≡ Some x) }
+{}
