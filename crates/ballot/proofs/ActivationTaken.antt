@@ -18,9 +18,10 @@ use Rattle.ballot_base.specs.Serving.{commit, commit_at, least, most_places, add
 use Rattle.ballot_base.specs.Changing.{on_activated}
 use Rattle.ballot_base.proofs.ChangeRows.{on_activated-adds}
 use Rattle.ballot_base.proofs.StepRows.{added-commits, added-log, commit-stopped}
-use Rattle.ballot.specs.Inside.{Sends, Begins, Went}
+use Rattle.ballot_base.specs.Sends.{Sends}
+use Rattle.ballot.specs.Inside.{Begins, Went}
 use Rattle.ballot.proofs.MessagesTaken.{went_sent, went_ignored, went_halted}
-use Rattle.ballot.proofs.SendsJoin.{Sends-then}
+use Rattle.ballot_base.proofs.SendsJoin.{Sends-then}
 
 -- a ballot may begin at a replica
 abbrev pub may_begin : {S C : Type 0} → ReplicaState S C → ℕ → Bool

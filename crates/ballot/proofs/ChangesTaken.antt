@@ -14,7 +14,8 @@ use Rattle.ballot_base.specs.Losses.{one_more}
 use Rattle.ballot_base.specs.Sending.{Outcome, message_to, message_to_each, master}
 use Rattle.ballot_base.specs.Changing.{on_new_ballot, on_join, installs, on_state, on_install, activates, on_installed, on_superseded}
 use Rattle.ballot_base.proofs.ChangeRows.{on_new_ballot-joins, on_join-answers, on_state-takes, on_install-takes, on_install-answers, on_installed-counts, on_superseded-leaves}
-use Rattle.ballot.specs.Inside.{Sends, Says, Went}
+use Rattle.ballot_base.specs.Sends.{Sends}
+use Rattle.ballot.specs.Inside.{Says, Went}
 use Rattle.ballot.proofs.MessagesTaken.{went_sent, went_ignored}
 
 -- a replica that took a row's state and then sent its messages did the row

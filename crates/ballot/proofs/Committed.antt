@@ -12,8 +12,8 @@ use Rattle.ballot_base.specs.Applying.{outputs_from, outputs_to}
 use Rattle.ballot_base.specs.Serving.{least, commit_at, added}
 use Rattle.ballot_base.proofs.StepRows.{commit_at-stays, commit_at-goes, added-is}
 use Rattle.ballot_base.proofs.ThinnedEffects.{Thinned-same}
-use Rattle.ballot.specs.Inside.{Sends}
-use Rattle.ballot.proofs.SendsJoin.{Sends-nothing, Sends-then}
+use Rattle.ballot_base.specs.Sends.{Sends}
+use Rattle.ballot_base.proofs.SendsJoin.{Sends-nothing, Sends-then}
 
 -- what was appended whole
 Sends-whole : {C O : Type 0} (old new xs : List (Effect C O)) → new ≡ old ++ xs → Sends old new xs true

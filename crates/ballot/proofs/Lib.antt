@@ -5,7 +5,6 @@ pub mod Heeding
 pub mod MessagesTaken
 pub mod PlacesApplied
 pub mod ProposalAnswered
-pub mod SendsJoin
 pub mod TicksTaken
 pub use Rattle.ballot_base.proofs.AppliesInOrder
 pub use Rattle.ballot_base.proofs.ChangeRows

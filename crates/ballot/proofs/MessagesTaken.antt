@@ -14,7 +14,8 @@ use Rattle.ballot_base.specs.Serving.{least, raised, follows, leads, extended, c
 use Rattle.ballot_base.proofs.AppliesInOrder.{part_none}
 use Rattle.ballot_base.proofs.StepRows.{commit_at-goes}
 use Rattle.ballot_base.proofs.MessageRows.{commit_at-raised, progress_raised, on_append-takes, on_held-raises, on_commit-takes}
-use Rattle.ballot.specs.Inside.{Sends, Went}
+use Rattle.ballot_base.specs.Sends.{Sends}
+use Rattle.ballot.specs.Inside.{Went}
 use Rattle.lists.specs.Lists.{IsPrefixOf}
 
 -- such a step is one with losses that was counted

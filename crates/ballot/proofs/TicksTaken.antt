@@ -13,8 +13,9 @@ use Rattle.ballot_base.specs.Serving.{appends_behind}
 use Rattle.ballot_base.specs.Protocol.{replica_step, ticked}
 use Rattle.ballot_base.specs.Protocol.Input.{Ticks}
 use Rattle.ballot_base.proofs.MessageRows.{on_tick_active-is}
-use Rattle.ballot.specs.Inside.{Sends, Went}
-use Rattle.ballot.proofs.SendsJoin.{Sends-nothing, Sends-then}
+use Rattle.ballot_base.specs.Sends.{Sends}
+use Rattle.ballot.specs.Inside.{Went}
+use Rattle.ballot_base.proofs.SendsJoin.{Sends-nothing, Sends-then}
 use Rattle.ballot.proofs.MessagesTaken.{went_sent, went_quiet}
 
 -- a tick is no step of the replica's own

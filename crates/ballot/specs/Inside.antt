@@ -1,23 +1,15 @@
 -- Inside.antt: what the helpers of a replica say of the list of effects.
-use Rattle.std.specs.Prelude.{◌≡◌, ◌⊎◌, Bool, true, List, [], ◌∷◌, ◌++◌, length, if◌then◌else◌}
+use Rattle.std.specs.Prelude.{◌≡◌, ◌⊎◌, Bool, List, [], ◌∷◌, ◌++◌, length, if◌then◌else◌}
 use Rattle.machine.specs.Machine.{Rules}
 use Rattle.ballot_base.specs.declared.message.Effect.{Effect}
-use Rattle.ballot_base.specs.Losses.{Thinned, Loses, IsQuiet, halted, one_more}
+use Rattle.ballot_base.specs.Losses.{Loses, IsQuiet, halted, one_more}
 use Rattle.ballot_base.specs.Replica.{CountedReplica}
 use Rattle.ballot_base.specs.Sending.{Outcome, message_to_followed}
+use Rattle.ballot_base.specs.Sends.{Sends}
 use Rattle.ballot_base.specs.Serving.{commit}
 use Rattle.ballot_base.specs.declared.message.Body.TheVariants.{Append}
 use Rattle.ballot.specs.declared.error.ProposeError.{ProposeError}
 use Rattle.ballot.specs.declared.error.ProposeError.TheVariants.{NotActive, LogFull, Memory, Halted}
-
--- the wanted messages were appended, save some that were lost; none was where the send was whole
-pub record Sends {C O : Type 0} (old new wanted : List (Effect C O)) (whole : Bool) : Type 0 where
-  pub given : List (Effect C O)
-  pub appended : new ≡ old ++ given
-  pub thinned : Thinned given wanted
-  pub exact : whole ≡ true → given ≡ wanted
-  -- nothing is lost where nothing is sent
-  pub idle : wanted ≡ [] → whole ≡ true
 
 -- a replica sent messages, and counted it where some were lost
 pub record Says {S C O : Type 0} (old : CountedReplica S C) (wanted : List (Effect C O))

@@ -3,15 +3,12 @@
 #![tactic(auto)]
 
 mod applying;
-mod copying;
 mod error;
 mod progress;
 mod replica;
-mod sending;
 mod taking;
 
-pub use ballot_base::{Body, Config, Effect, Log, Members, Message, Role, Status};
-pub use copying::copy_log;
+pub use ballot_base::{Body, Config, Effect, Log, Members, Message, Role, Status, copy_log};
 pub use error::{OpeningError, ProposeError};
 pub use machine::{Halted, Machine, Memory, ThawFault};
 pub use replica::{MOST_PLACES, Replica};

@@ -1,7 +1,8 @@
 // One replica.
 
 ghost use Rattle.std.specs.Prelude.{◌≡◌, ◌≤◌, ◌<◌, ◌↔◌, ◌⊎◌, true, false, length, IfOk, OnOk, OnErr, IsErrOf, MatchResult, if◌then◌else◌};
-ghost use Rattle.ballot.specs.Inside.{Sends, Lacks};
+ghost use Rattle.ballot_base.specs.Sends.{Sends};
+ghost use Rattle.ballot.specs.Inside.{Lacks};
 ghost use Rattle.lists.specs.Lists.{IsPrefixOf};
 ghost use Rattle.ballot_base.specs.LawfulConfig.{is_lawful};
 ghost use Rattle.ballot_base.specs.Losses.{Stepped, Done, halted, one_more};
@@ -11,8 +12,7 @@ ghost use Rattle.ballot_base.specs.Serving.{added, commit_at, most_places, propo
 use crate::applying::apply_places;
 use crate::error::{OpeningError, ProposeError};
 use crate::progress::{least_held, progress_of_others};
-use crate::sending::{send_appends, send_commits};
-use ballot_base::{Config, Effect, Members, Progress, Role, Status};
+use ballot_base::{Config, Effect, Members, Progress, Role, Status, send_appends, send_commits};
 use machine::{Halted, Machine};
 use std::alloc::Global;
 use std::marker::Model;

@@ -5,4 +5,5 @@ pub mod Losses
 pub mod Protocol
 pub mod Replica
 pub mod Sending
+pub mod Sends
 pub mod Serving

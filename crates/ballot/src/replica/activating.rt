@@ -1,7 +1,8 @@
 // What a replica does when its ballot becomes active.
 
 ghost use Rattle.std.specs.Prelude.{◌≡◌, ◌++◌, ◌&&◌, ◌==◌, nat_lt, nat_le, true, false, [], ◌∷◌, ◌-◌, ◌<◌, List, length, take, IfOk, OnOk, OnErr, MatchResult};
-ghost use Rattle.ballot.specs.Inside.{Begins, Sends, Went};
+ghost use Rattle.ballot_base.specs.Sends.{Sends};
+ghost use Rattle.ballot.specs.Inside.{Begins, Went};
 ghost use Rattle.ballot_base.specs.Changing.{on_activated};
 ghost use Rattle.ballot_base.specs.Replica.{is_installing, others, progress_at};
 ghost use Rattle.ballot_base.specs.Serving.{commit, most_places};
@@ -13,9 +14,8 @@ ghost use Rattle.lists.specs.Lists.{IsPrefixOf};
 use super::{MOST_PLACES, Replica};
 use crate::applying::apply_dropping;
 use crate::progress::{least_held, progress_of_others};
-use crate::sending::send_appends;
 use crate::taking::counted;
-use ballot_base::{Body, Effect, Progress, Role};
+use ballot_base::{Body, Effect, Progress, Role, send_appends};
 use machine::{Halted, Machine, Memory};
 use std::mem;
 

@@ -7,9 +7,8 @@ ghost use Rattle.ballot_base.specs.Replica.{is_fetching};
 
 use super::Replica;
 use crate::progress::others_of;
-use crate::sending::{send_joins, send_state};
 use crate::taking::counted;
-use ballot_base::{Body, Effect, Log, Members, Role};
+use ballot_base::{Body, Effect, Log, Members, Role, send_joins, send_state};
 use machine::Machine;
 
 impl<M: Machine> Replica<M> {

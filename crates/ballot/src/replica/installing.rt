@@ -8,8 +8,7 @@ ghost use Rattle.ballot_base.specs.Replica.{is_installing};
 
 use super::Replica;
 use crate::progress::forget;
-use crate::sending::MASTER;
-use ballot_base::{Body, Effect, Role};
+use ballot_base::{Body, Effect, MASTER, Role};
 use machine::Machine;
 
 impl<M: Machine> Replica<M> {

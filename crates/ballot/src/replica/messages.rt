@@ -11,9 +11,8 @@ ghost use Rattle.ballot_base.specs.Serving.{follows, leads, on_append, on_commit
 use super::Replica;
 use crate::applying::apply_dropping;
 use crate::progress::{least_raised, raise};
-use crate::sending::send;
 use crate::taking::{counted, take_in};
-use ballot_base::{Body, Effect, Message};
+use ballot_base::{Body, Effect, Message, send};
 use machine::{Halted, Machine};
 
 impl<M: Machine> Replica<M> {

@@ -1,7 +1,7 @@
 // What a replica does as time passes.
 
 ghost use Rattle.std.specs.Prelude.{◌≡◌, ◌++◌, true, false};
-ghost use Rattle.ballot.specs.Inside.{Sends};
+ghost use Rattle.ballot_base.specs.Sends.{Sends};
 ghost use Rattle.ballot_base.specs.Losses.{Stepped, IsQuiet};
 ghost use Rattle.ballot_base.specs.Protocol.{replica_step, ticked};
 ghost use Rattle.ballot_base.specs.Protocol.Input.{Ticks};
@@ -10,9 +10,10 @@ ghost use Rattle.ballot_base.specs.Sending.{message_to_followed};
 ghost use Rattle.ballot_base.specs.Changing.{installs};
 
 use super::Replica;
-use crate::sending::{MASTER, send, send_behind, send_commits, send_installs, send_joins};
 use crate::taking::counted;
-use ballot_base::{Body, Effect, Message, Role};
+use ballot_base::{
+    Body, Effect, MASTER, Message, Role, send, send_behind, send_commits, send_installs, send_joins,
+};
 use machine::Machine;
 
 impl<M: Machine> Replica<M> {

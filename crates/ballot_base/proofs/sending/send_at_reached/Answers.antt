@@ -1,6 +1,6 @@
 use Rattle.std.proofs.lemmas.Option.{slice_get_past}
-use Rattle.ballot.proofs.SendsJoin.{Sends-nothing}
-use Rattle.ballot.proofs.sending.send_at_reached.Goals as goal
+use Rattle.ballot_base.proofs.SendsJoin.{Sends-nothing}
+use Rattle.ballot_base.proofs.sending.send_at_reached.Goals as goal
 
 pub returns-in-None : goal.returns-in-None
 returns-in-None g c =

@@ -1,12 +1,12 @@
 // Messages that a call hands out. One that finds no memory is lost.
 
 ghost use Rattle.std.specs.Prelude.{◌≡◌, [], ◌∷◌, slice_get, IfOk};
-ghost use Rattle.ballot.specs.Inside.{Sends};
+ghost use Rattle.ballot_base.specs.Sends.{Sends};
 ghost use Rattle.ballot_base.specs.Serving.{append_at, appends_behind};
 ghost use Rattle.ballot_base.specs.Sending.{message_to, message_to_each, message_to_followed};
 
 use crate::copying::copy_log;
-use ballot_base::{Body, Effect, Message, Progress};
+use crate::{Body, Effect, Message, Progress};
 use machine::{Machine, Memory};
 use std::alloc::Global;
 

@@ -1,7 +1,7 @@
 use Rattle.std.proofs.Common.{◌≡◌, ◌&&◌, rules, arith}
-use Rattle.ballot.proofs.SendsJoin.{Sends-nothing, Sends-more_of}
-use Rattle.ballot.proofs.sending.send_behind.Goals as goal
-use Rattle.ballot.proofs.sending.send_behind.Goals.{then-whole, else-whole}
+use Rattle.ballot_base.proofs.SendsJoin.{Sends-nothing, Sends-more_of}
+use Rattle.ballot_base.proofs.sending.send_behind.Goals as goal
+use Rattle.ballot_base.proofs.sending.send_behind.Goals.{then-whole, else-whole}
 
 pub loop-reached-init : goal.loop-reached-init
 loop-reached-init g c = Sends-nothing _

@@ -1,8 +1,8 @@
 use Rattle.std.proofs.Common.{take}
 use Rattle.ballot_base.specs.declared.message.Body.TheVariants.{Install}
 use Rattle.ballot_base.specs.Sending.{message_to_each}
-use Rattle.ballot.specs.Inside.{Sends}
-use Rattle.ballot.proofs.sending.send_installs.Given as goal
+use Rattle.ballot_base.specs.Sends.{Sends}
+use Rattle.ballot_base.proofs.sending.send_installs.Given as goal
 
 abbrev pub invariant-loop-receiver : goal.invariant-loop-receiver
 invariant-loop-receiver g l =

@@ -2,7 +2,7 @@
 
 ghost use Rattle.std.specs.Prelude.{◌≡◌, IfOk};
 
-use ballot_base::Log;
+use crate::Log;
 use machine::{Machine, Memory};
 use std::alloc::Global;
 

@@ -1,8 +1,8 @@
 use Rattle.std.proofs.Common.{take}
 use Rattle.ballot_base.specs.declared.message.Body.TheVariants.{Append}
 use Rattle.ballot_base.specs.Sending.{message_to_followed}
-use Rattle.ballot.specs.Inside.{Sends}
-use Rattle.ballot.proofs.sending.send_appends.Given as goal
+use Rattle.ballot_base.specs.Sends.{Sends}
+use Rattle.ballot_base.proofs.sending.send_appends.Given as goal
 
 abbrev pub invariant-loop-reached : goal.invariant-loop-reached
 invariant-loop-reached g l =

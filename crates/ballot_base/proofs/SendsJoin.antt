@@ -9,7 +9,7 @@ use Rattle.ballot_base.specs.declared.message.Effect.{Effect}
 use Rattle.ballot_base.specs.declared.message.Effect.TheVariants.{To}
 use Rattle.ballot_base.specs.Losses.Thinned.{none, keeps, loses}
 use Rattle.ballot_base.proofs.ThinnedEffects.{Thinned-append}
-use Rattle.ballot.specs.Inside.{Sends}
+use Rattle.ballot_base.specs.Sends.{Sends}
 use Rattle.lists.specs.Lists.{IsPrefixOf}
 
 -- one message, by what `push` answered

@@ -1,7 +1,7 @@
 use Rattle.std.proofs.Common.{take}
 use Rattle.ballot_base.specs.Serving.{appends_behind}
-use Rattle.ballot.specs.Inside.{Sends}
-use Rattle.ballot.proofs.sending.send_behind.Given as goal
+use Rattle.ballot_base.specs.Sends.{Sends}
+use Rattle.ballot_base.proofs.sending.send_behind.Given as goal
 
 abbrev pub invariant-loop-reached : goal.invariant-loop-reached
 invariant-loop-reached g l =
