@@ -1,20 +1,22 @@
-//! Measurements of the broker by itself, one a run: the first word names it, and without a word the
+//! Measurements of the broker, by itself and in a node, one a run: the first word names it, and without a word the
 //! names are listed. The figures are in `docs/PERFORMANCE.md`.
 #![tactic(auto)]
 
 mod clients;
 mod crowd;
 mod freezing;
+mod node;
 mod publications;
 mod queue;
 mod retained_topics;
+mod traffic;
 
 use anyhow::{Result, bail};
 use std::env;
 use std::time::{CpuClock, Duration};
 
 /// The benchmarks, each named like its file.
-const NAMES: [&str; 4] = ["freezing", "publications", "queue", "retained"];
+const NAMES: [&str; 5] = ["freezing", "node", "publications", "queue", "retained"];
 
 fn main(rt: HostRuntime) -> Result<()> {
     let mut words = env::args(&rt)?;
@@ -35,6 +37,7 @@ fn list(rt: &impl Print) -> Result<()> {
 fn run(rt: &HostRuntime, name: &str) -> Result<()> {
     match name {
         "freezing" => freezing::run(rt),
+        "node" => node::run(rt),
         "publications" => publications::run(rt),
         "queue" => queue::run(rt),
         "retained" => retained_topics::run(rt),

@@ -1,0 +1,124 @@
+// Publications through one node, each with all handshakes, as bytes: items by themselves, and with what is handed over.
+
+use crate::nanos_since;
+use crate::traffic::{Part, Traffic, connect, packets_of, subscribe};
+use anyhow::{Result, anyhow, ensure};
+use ballot::{Config, Members};
+use packet::QoS;
+use std::alloc::Global;
+use std::time::CpuClock;
+use world_base::{Item, NodeCore, Piece, Port};
+
+/// How many publications a figure rests on.
+const PUBLICATIONS: usize = 61_440;
+
+/// Prints the time of a publication at each QoS, with 12 and 60 connections of which every other one publishes to the one
+/// behind it, in pieces of one packet and of 64.
+pub fn run(rt: &HostRuntime) -> Result<()> {
+    for connections in &[12, 60] {
+        for qos in &[QoS::AtMostOnce, QoS::AtLeastOnce, QoS::ExactlyOnce] {
+            for packets in &[1, 64] {
+                compare(rt, *connections, *qos, *packets)?;
+            }
+        }
+    }
+    Ok(())
+}
+
+// The same traffic with nothing handed over, and with all.
+fn compare(rt: &HostRuntime, connections: u64, qos: QoS, packets: u8) -> Result<()> {
+    let traffic = Traffic::new(rt.alloc(), connections, qos, packets)?;
+    // Each packet becomes a place of the log: the CONNECTs, the SUBSCRIBEs, and those of all publications.
+    let places = (PUBLICATIONS as u64)
+        .saturating_mul(packets_of(qos))
+        .saturating_add(connections)
+        .saturating_add(connections / 2);
+    let alone = measure(rt, connections, &traffic, places, false)?;
+    let with = measure(rt, connections, &traffic, places, true)?;
+    let number = qos.number();
+    println!(rt;
+        "{connections} connections, QoS {number}, pieces of {packets}: {alone} ns a publication, handed over {with} ns"
+    )?;
+    Ok(())
+}
+
+// The time of a publication with a node of its own.
+fn measure(
+    rt: &HostRuntime,
+    connections: u64,
+    traffic: &Traffic,
+    places: u64,
+    looks: bool,
+) -> Result<u128> {
+    let config = Config {
+        members: Members::from_slice(rt.alloc(), &[1])?,
+        primary: 1,
+    };
+    let mut node = NodeCore::new(rt.alloc(), 1, &config)?;
+    let nanos = time(rt, &mut node, connections, traffic, looks)?;
+    ensure!(node.losses() == 0, "a step found no memory");
+    ensure!(node.status().committed == places, "packets are missing");
+    Ok(nanos)
+}
+
+fn time(
+    rt: &HostRuntime,
+    node: &mut NodeCore,
+    connections: u64,
+    traffic: &Traffic,
+    looks: bool,
+) -> Result<u128> {
+    gather(rt.alloc(), node, connections)?;
+    let rounds = PUBLICATIONS / traffic.publications().max(1);
+    let mut out = Vec::new(rt.alloc());
+    let start = rt.process_cpu_time()?;
+    for _round in 0..rounds {
+        for part in &traffic.parts {
+            take(rt.alloc(), node, part, looks, &mut out)?;
+        }
+    }
+    Ok(nanos_since(rt, start)? / PUBLICATIONS as u128)
+}
+
+// All clients connect, and each second one subscribes to what the one before it publishes.
+fn gather(alloc: Global, node: &mut NodeCore, connections: u64) -> Result<()> {
+    let mut out = Vec::new(alloc);
+    for port in 0..connections {
+        step(alloc, node, Item::Opened(Port(port), 0));
+        take(alloc, node, &connect(alloc, port)?, true, &mut out)?;
+        if port % 2 == 1 {
+            take(alloc, node, &subscribe(alloc, port)?, true, &mut out)?;
+        }
+    }
+    Ok(())
+}
+
+fn step(alloc: Global, node: &mut NodeCore, item: Item) {
+    let mut effects = Vec::new(alloc);
+    node.step(item, &mut effects);
+}
+
+// Brings the bytes of a part, and takes what is put out for its client and for the one beside it.
+fn take(
+    alloc: Global,
+    node: &mut NodeCore,
+    part: &Part,
+    looks: bool,
+    out: &mut Vec<u8>,
+) -> Result<()> {
+    let piece = Piece::from_slice(alloc, part.bytes.as_slice())?;
+    step(alloc, node, Item::Bytes(Port(part.port), piece, 0));
+    if looks {
+        look(node, part.port, out)?;
+        look(node, part.other, out)?;
+    }
+    Ok(())
+}
+
+fn look(node: &mut NodeCore, port: u64, out: &mut Vec<u8>) -> Result<()> {
+    out.clear();
+    match node.outgoing(Port(port), out) {
+        Ok(_) => Ok(()),
+        Err(_) => Err(anyhow!("no memory for what is handed over")),
+    }
+}

@@ -1,0 +1,159 @@
+// The bytes of clients that publish to each other.
+
+use anyhow::Result;
+use packet::QoS;
+use std::alloc::Global;
+
+/// How many bytes a publication carries.
+const PAYLOAD: [u8; 64] = [7; 64];
+
+/// What every CONNECT holds behind its length: protocol, level, no flags, no keep alive.
+const PROTOCOL: [u8; 10] = [0x00, 0x04, 0x4D, 0x51, 0x54, 0x54, 0x04, 0x00, 0x00, 0x00];
+
+/// Bytes that come on a port, whose client talks with that of another port.
+#[derive(Drop)]
+pub struct Part {
+    pub port: u64,
+    pub other: u64,
+    pub bytes: Vec<u8>,
+}
+
+/// What all clients send in one round, handshakes included.
+#[derive(Drop)]
+pub struct Traffic {
+    pub parts: Vec<Part>,
+    publications: usize,
+}
+
+impl Traffic {
+    /// Each second of so many clients gets a piece of so many publications.
+    pub fn new(alloc: Global, connections: u64, qos: QoS, packets: u8) -> Result<Traffic> {
+        let mut parts = Vec::new(alloc);
+        for pair in 0..connections / 2 {
+            round(alloc, pair.saturating_mul(2), qos, packets, &mut parts)?;
+        }
+        let pairs = usize::try_from(connections / 2)?;
+        Ok(Traffic {
+            parts,
+            publications: pairs.saturating_mul(usize::from(packets)),
+        })
+    }
+
+    /// How many publications a round has.
+    pub fn publications(&self) -> usize {
+        self.publications
+    }
+}
+
+/// How many publications of a session a broker that has led one ballot sends before it waits for an answer.
+const WINDOW: u8 = 16;
+
+/// What a subscriber answers to a PUBLISH in turn, and what its publisher says behind its own: the first bytes (MQTT 4.3).
+fn answers(qos: QoS) -> (&'static [u8], &'static [u8]) {
+    match qos {
+        QoS::AtMostOnce => (&[], &[]),
+        QoS::AtLeastOnce => (&[0x40], &[]),
+        QoS::ExactlyOnce => (&[0x50, 0x70], &[0x62]),
+    }
+}
+
+/// How many packets come in for a publication, from its publisher and its subscriber.
+pub fn packets_of(qos: QoS) -> u64 {
+    let (subscriber, publisher) = answers(qos);
+    let answers = subscriber.len().saturating_add(publisher.len());
+    (answers as u64).saturating_add(1)
+}
+
+// What a publisher and its subscriber, whose port follows, send for one piece of publications.
+fn round(alloc: Global, port: u64, qos: QoS, packets: u8, parts: &mut Vec<Part>) -> Result<()> {
+    let other = port.saturating_add(1);
+    let mut bytes = Vec::new(alloc);
+    for id in 1..=packets {
+        publish(alloc, port, qos, id, &mut bytes)?;
+    }
+    parts.push(Part { port, other, bytes })?;
+    let (subscriber, publisher) = answers(qos);
+    say(alloc, (port, other), publisher, packets, packets, parts)?;
+    say(alloc, (other, port), subscriber, packets, WINDOW, parts)
+}
+
+// Packets with an identifier and no more, in pieces: so many times each of these kinds in turn, with identifiers that
+// begin anew behind the greatest.
+fn say(
+    alloc: Global,
+    ports: (u64, u64),
+    kinds: &[u8],
+    packets: u8,
+    greatest: u8,
+    parts: &mut Vec<Part>,
+) -> Result<()> {
+    let (port, other) = ports;
+    let mut bytes = Vec::new(alloc);
+    for at in 0..packets {
+        let id = at.checked_rem(greatest).unwrap_or(0).saturating_add(1);
+        for first in kinds {
+            bytes.extend_from_slice(&[*first, 0x02, 0x00, id])?;
+            if bytes.len() >= usize::from(packets).saturating_mul(4) {
+                parts.push(Part { port, other, bytes })?;
+                bytes = Vec::new(alloc);
+            }
+        }
+    }
+    Ok(())
+}
+
+// A text of fewer than 100 bytes, behind its length.
+fn put_text(text: &str, bytes: &mut Vec<u8>) -> Result<()> {
+    bytes.push(0)?;
+    bytes.push(u8::try_from(text.len())?)?;
+    bytes.extend_from_slice(text.as_bytes())?;
+    Ok(())
+}
+
+// A packet of fewer than 128 bytes.
+fn put_packet(first: u8, body: &[u8], bytes: &mut Vec<u8>) -> Result<()> {
+    bytes.push(first)?;
+    bytes.push(u8::try_from(body.len())?)?;
+    bytes.extend_from_slice(body)?;
+    Ok(())
+}
+
+fn publish(alloc: Global, port: u64, qos: QoS, id: u8, bytes: &mut Vec<u8>) -> Result<()> {
+    let mut body = Vec::new(alloc);
+    put_text(
+        format!(in alloc; "plant/{port}/pump/speed")?.as_str(),
+        &mut body,
+    )?;
+    if qos != QoS::AtMostOnce {
+        body.extend_from_slice(&[0x00, id])?;
+    }
+    body.extend_from_slice(&PAYLOAD)?;
+    put_packet(0x30 | (qos.number() << 1), body.as_slice(), bytes)
+}
+
+/// The CONNECT of the client by a port.
+pub fn connect(alloc: Global, port: u64) -> Result<Part> {
+    let mut body = Vec::from_slice(alloc, &PROTOCOL)?;
+    put_text(format!(in alloc; "client-{port}")?.as_str(), &mut body)?;
+    let mut bytes = Vec::new(alloc);
+    put_packet(0x10, body.as_slice(), &mut bytes)?;
+    Ok(Part {
+        port,
+        other: port,
+        bytes,
+    })
+}
+
+/// A SUBSCRIBE at QoS 2 to what the client by the port before publishes.
+pub fn subscribe(alloc: Global, port: u64) -> Result<Part> {
+    let other = port.saturating_sub(1);
+    let mut body = Vec::from_slice(alloc, &[0x00, 0x01])?;
+    put_text(
+        format!(in alloc; "plant/{other}/pump/speed")?.as_str(),
+        &mut body,
+    )?;
+    body.push(2)?;
+    let mut bytes = Vec::new(alloc);
+    put_packet(0x82, body.as_slice(), &mut bytes)?;
+    Ok(Part { port, other, bytes })
+}
