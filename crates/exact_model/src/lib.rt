@@ -1,0 +1,2 @@
+//! What is proved of every world of clients and a group of nodes: it is exact, by the list on which the nodes agree.
+#![tactic(auto)]
