@@ -1,0 +1,2 @@
+pub mod ExactUntaken
+pub mod CallsUntaken
