@@ -1,2 +1,4 @@
 pub mod ExactUntaken
 pub mod CallsUntaken
+pub mod HandledUntaken
+pub mod Fresh
