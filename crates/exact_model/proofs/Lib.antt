@@ -5,3 +5,4 @@ pub mod Fresh
 pub mod Places
 pub mod AllPutOut
 pub mod Beside
+pub mod ClientsBeside
