@@ -2,6 +2,7 @@ pub mod ExactUntaken
 pub mod CallsUntaken
 pub mod HandledUntaken
 pub mod Fresh
+pub mod NextAnswer
 pub mod Places
 pub mod AllPutOut
 pub mod Beside
