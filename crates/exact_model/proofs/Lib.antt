@@ -7,3 +7,4 @@ pub mod Places
 pub mod AllPutOut
 pub mod Beside
 pub mod ClientsBeside
+pub mod Growth

@@ -1,0 +1,157 @@
+-- All that a group went through, step by step: the agreed list only grows, and has of each connection what was written, in order.
+use Rattle.std.proofs.Common.{◌≡◌, ◌+◌, inl, inr, ℕ, true, List, [], ◌∷◌, ◌++◌, length, slice_get, refl, sym, ap, ◌∙◌, subst, append_assoc}
+use Rattle.std.specs.List.{find}
+use Rattle.std.proofs.lemmas.List.{append-nil}
+use Rattle.packet.specs.declared.packet.Packet.{Packet}
+use Rattle.ballot.specs.Config.{Config}
+use Rattle.broker_base.specs.Command.{Command}
+use Rattle.broker_base.specs.Connection.{ConnectionName}
+use Rattle.broker_base.specs.Output.{Output}
+use Rattle.broker_base.specs.State.{State}
+use Rattle.lists.specs.Lists.{Each, In, IsPrefixOf}
+use Rattle.lists.specs.Lists.In.{here}
+use Rattle.lists.proofs.Beginnings.{prefix_then}
+use Rattle.pipes.specs.Pipe.{Joins}
+use Rattle.agreement.specs.MasterState.{refusal}
+use Rattle.agreement.specs.Past.{IsAgreed, Moment, Past}
+use Rattle.agreement.specs.Proposals.{commands_of as commands_in}
+use Rattle.agreement.specs.World.{can_open}
+use Rattle.agreement.proofs.Agreed.PastAgrees.{has_agreed}
+use Rattle.world_base.specs.Core.{CoreState, rules}
+use Rattle.node_model.specs.Ends.{commands_of}
+use Rattle.node_model.proofs.Kept.{named}
+use Rattle.node_model.proofs.ProposesInOrder.{commands_join, front_of}
+use Rattle.group_model.specs.Group.{Group, moment_of, opening_cores, opening_group}
+use Rattle.group_model.specs.Goes.{MayGo, Went, all_put, groups_of, put_in_step}
+use Rattle.group_model.specs.Goes.MayGo.{node_acts, master_assigns, master_hears}
+use Rattle.group_model.specs.Goes.Went.{opened, then_went}
+use Rattle.group_model.specs.Order.{packets_of}
+use Rattle.group_model.specs.Pasts.{HasPast}
+use Rattle.group_model.proofs.GroupsArePasts.{goes_on, groups_are_pasts, seen_still}
+use Rattle.group_model.proofs.MovesHappen.{Further}
+use Rattle.group_model.proofs.NamesInGroups.{IsWell, all_well, each_got}
+use Rattle.group_model.proofs.Ordered.{in_agreed}
+use Rattle.connection_model.specs.Carried.{IsCarried, answers_to}
+use Rattle.connection_model.specs.Streams.{came_up, comes_up, goes_down, went_down}
+use Rattle.connection_model.proofs.CarriedInOrder.{assigned_nodes, no_connections}
+use Rattle.connection_model.proofs.Downward.{down_front, down_later}
+use Rattle.connection_model.proofs.RunsKeep.{Good, IsPut, Steps, put_further, run_steps}
+use Rattle.connection_model.proofs.States.{Stands}
+
+-- ---- each step
+
+-- where the nodes stay as they are
+nodes_stay : {x : ConnectionName} {written : List Packet} {later : List ℕ} (g h : Group) (moments more : List (Moment State Command Output)) {put : List (ℕ × Command)} {sent : List ℕ}
+    (xs ys : List Command) → h.nodes ≡ g.nodes → ((z : Moment State Command Output) → In z moments → In z more) → IsPrefixOf xs ys
+    → Stands x written later g moments put sent xs → Stands x written later h more put sent ys
+nodes_stay g h moments more xs ys same kept grown (inl u) =
+    inl (record { nowhere = λ n core at. u.nowhere n core (ap (λ l. slice_get l n) (sym same) ∙ at); unsaid = u.unsaid; piped = u.piped; unsent = u.unsent })
+nodes_stay g h moments more xs ys same kept grown (inr held) =
+    inr (record {
+      n = held.n;
+      core = held.core;
+      stands = ap (λ l. slice_get l held.n) same ∙ held.stands;
+      led = record { moment = held.led.moment; among = kept held.led.moment held.led.among; primary = held.led.primary };
+      given = held.given;
+      read = held.read;
+      end = held.end;
+      said = held.said;
+      others = λ m other at. held.others m other (ap (λ l. slice_get l m) (sym same) ∙ at);
+      sent = down_later xs ys grown held.sent;
+    })
+
+master_steps : {config : Config} (g h : Group) {earlier : List (Moment State Command Output)} (came : Past rules config (moment_of g ∷ earlier)) → h.nodes ≡ g.nodes
+    → Further came (moment_of h) [] → Steps g came h [] (λ x. []) (λ x. [])
+master_steps {config = config} g h {earlier = earlier} came same f =
+    let xs = has_agreed rules config (moment_of g) earlier came in
+    record {
+      further = f;
+      keeps_each = λ x written later put sent is each good ys behind.
+          subst (λ (l : List (ℕ × Command)). Stands x written later h (moment_of h ∷ f.before) l (sent ++ []) ys) (sym (append-nil put))
+          (subst (λ (l : List ℕ). Stands x written later h (moment_of h ∷ f.before) put l ys) (sym (append-nil sent))
+          (nodes_stay g h (moment_of g ∷ earlier) (moment_of h ∷ f.before) xs.0 ys same f.kept (f.grows xs.0 ys xs.1 behind) (good xs.0 xs.1)));
+    }
+
+group_steps : {config : Config} (g h : Group) (step : MayGo g h) {earlier : List (Moment State Command Output)} (came : Past rules config (moment_of g ∷ earlier)) → Each IsWell g.nodes
+    → Steps g came h (put_in_step step) (λ x. comes_up x step) (λ x. goes_down x step)
+group_steps g h (node_acts n core deed turn run at is first sent) came well =
+    let mine = each_got IsWell g.nodes n core well at in run_steps g n core turn run first mine.orderly mine.names at sent came
+group_steps {config = config} g h (master_assigns wanted) {earlier = earlier} came well =
+    master_steps g h came (assigned_nodes g wanted (refusal g.master wanted)) (goes_on config g h (master_assigns wanted) earlier came)
+group_steps {config = config} g h (master_hears from ballot sent) {earlier = earlier} came well =
+    master_steps g h came refl (goes_on config g h (master_hears from ballot sent) earlier came)
+
+-- ---- all that went on
+
+-- a past of the group, and where it is with each connection by what is agreed at its end
+pub record CarriedSo {nodes : ℕ} {config : Config} {g : Group} (went : Went nodes config g) : Type 0 where
+  pub of : HasPast config g (groups_of went) (all_put went)
+  pub good : (x : ConnectionName) (written : List Packet) (later : List ℕ) → Joins written (came_up x went ++ later)
+      → Good config x written later g (moment_of g ∷ of.earlier) (all_put went) (went_down x went)
+
+-- what is agreed in it
+abbrev pub IsAgreedSo : {nodes : ℕ} {config : Config} {g : Group} {went : Went nodes config g} → CarriedSo went → List Command → Type 0
+IsAgreedSo {config = config} {g = g} so agreed = IsAgreed config (moment_of g ∷ so.of.earlier) agreed
+
+-- it goes on by a step, and what is agreed grows
+pub record CarriedOn {nodes : ℕ} {config : Config} {g h : Group} {went : Went nodes config g} (before : CarriedSo went) (step : MayGo g h) : Type 0 where
+  pub now : CarriedSo (then_went went step)
+  pub grows : (xs ys : List Command) → IsAgreedSo before xs → IsAgreedSo now ys → IsPrefixOf xs ys
+
+pub carried_at_first : (nodes : ℕ) (config : Config) (can : can_open nodes config ≡ true) → CarriedSo (let went : Went nodes config (opening_group nodes config) = opened can in went)
+carried_at_first nodes config can =
+    record {
+      of = groups_are_pasts nodes config (opening_group nodes config) (opened can);
+      good = λ x written later joined agreed is.
+          inl (record {
+            nowhere = λ n core at. ap (find (named x)) (each_got (λ (c : CoreState). c.connections ≡ []) (opening_cores nodes config) n core (no_connections nodes config) at);
+            unsaid = refl;
+            piped = record { rest = written; is = refl; joined = joined; sound = refl };
+            unsent = refl;
+          });
+    }
+
+pub carried_on : {nodes : ℕ} {config : Config} (g h : Group) (went : Went nodes config g) (before : CarriedSo went) (step : MayGo g h) → CarriedOn before step
+carried_on {nodes = nodes} {config = config} g h went before step =
+    let is : IsPut before.of.past (all_put went) = record { proposed = before.of.proposed; taken = before.of.taken } in
+    let s = group_steps g h step before.of.past (all_well nodes config g went).0 in
+    let now = put_further (all_put went) s.further is in
+    record {
+      now = record {
+        of = record {
+          earlier = s.further.before;
+          past = s.further.past;
+          proposed = now.proposed;
+          taken = now.taken;
+          seen = (here, seen_still (groups_of went) s.further.kept before.of.seen);
+        };
+        good = λ x written later joined.
+            s.keeps_each x written later (all_put went) (went_down x went) is (all_well nodes config h (then_went went step)).1
+            (before.good x written (comes_up x step ++ later) (subst (Joins written) (append_assoc (came_up x went) (comes_up x step) later) joined));
+      };
+      grows = s.further.grows;
+    }
+
+-- ---- what it says
+
+carried : (x : ConnectionName) (written : List Packet) (later : List ℕ) (g : Group) (moments : List (Moment State Command Output)) (put : List (ℕ × Command)) (sent : List ℕ)
+    (agreed : List Command) → IsPrefixOf (packets_of x agreed) (packets_of x (commands_in put)) → Stands x written later g moments put sent agreed
+    → IsCarried x written sent agreed
+carried x written later g moments put sent agreed said (inl u) =
+    record {
+      up = prefix_then (subst (IsPrefixOf (packets_of x agreed)) u.unsaid said) (record { rest = commands_of x 0 written; is = refl });
+      down = record { rest = answers_to x agreed; is = ap (λ l. l ++ answers_to x agreed) (sym u.unsent) };
+    }
+carried x written later g moments put sent agreed said (inr held) =
+    let front = front_of x held.core written held.read later held.end in
+    record {
+      up = prefix_then (subst (IsPrefixOf (packets_of x agreed)) held.said said)
+          (record { rest = commands_of x (0 + length held.read) front.rest; is = ap (commands_of x 0) front.is ∙ commands_join x 0 held.read front.rest });
+      down = down_front held.sent;
+    }
+
+pub carries_each : {nodes : ℕ} {config : Config} (g : Group) (went : Went nodes config g) (so : CarriedSo went) (agreed : List Command) → IsAgreedSo so agreed → (x : ConnectionName)
+    (written : List Packet) (later : List ℕ) → Joins written (came_up x went ++ later) → IsCarried x written (went_down x went) agreed
+carries_each {nodes = nodes} {config = config} g went so agreed is x written later joined =
+    carried x written later g (moment_of g ∷ so.of.earlier) (all_put went) (went_down x went) agreed
+    (in_agreed config g (groups_of went) (all_put went) so.of (all_well nodes config g went).1 x agreed is) (so.good x written later joined agreed is)
