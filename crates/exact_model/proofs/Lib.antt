@@ -8,3 +8,4 @@ pub mod AllPutOut
 pub mod Beside
 pub mod ClientsBeside
 pub mod Growth
+pub mod WorldsWrite
