@@ -9,3 +9,5 @@ pub mod Beside
 pub mod ClientsBeside
 pub mod Growth
 pub mod WorldsWrite
+pub mod LostNowhere
+pub mod AnswersFit

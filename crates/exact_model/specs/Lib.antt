@@ -1,1 +1,2 @@
 pub mod Untaken
+pub mod Fitting

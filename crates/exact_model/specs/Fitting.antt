@@ -1,0 +1,11 @@
+-- Commands whose answers can all be spelled.
+use Rattle.broker_base.specs.Command.{Command}
+use Rattle.broker_base.specs.Command.TheVariants as commands
+use Rattle.broker_model.specs.Logged.{IsBrokerCommand}
+
+-- a command that a log may hold; one that says which connection is lost may name any
+abbrev pub IsFitting : Command → Type 0
+IsFitting (commands.Connect x c clean) = IsBrokerCommand (commands.Connect x c clean)
+IsFitting (commands.Packet x packet) = IsBrokerCommand (commands.Packet x packet)
+IsFitting (commands.Lost x) = Unit {0}
+IsFitting (commands.Start ballot) = Unit {0}
