@@ -11,3 +11,4 @@ pub mod Growth
 pub mod WorldsWrite
 pub mod LostNowhere
 pub mod AnswersFit
+pub mod CommandsFit
