@@ -12,3 +12,4 @@ pub mod WorldsWrite
 pub mod LostNowhere
 pub mod AnswersFit
 pub mod CommandsFit
+pub mod NamesGiven

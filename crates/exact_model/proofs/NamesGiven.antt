@@ -1,0 +1,90 @@
+-- Each name that a node of a group gives is one that a connection may have.
+use Rattle.std.proofs.Common.{◌≡◌, Bool, true, false, not, ◌&&◌, if◌then◌else◌, ℕ, List, [], ◌∷◌, ◌++◌, Some, length, slice_get, refl, sym, ap, subst}
+use Rattle.std.specs.List.{list_any}
+use Rattle.ballot.specs.Config.{Config}
+use Rattle.broker_base.specs.Connection.{ConnectionName, IsConnectionName, is_connection_name}
+use Rattle.broker_model.proofs.ConnectionNames.{same_name}
+use Rattle.lists.specs.Lists.{Each, In}
+use Rattle.lists.specs.Lists.In.{here, there}
+use Rattle.lists.proofs.OfEach.{each_append, each_then}
+use Rattle.agreement.specs.MasterState.{refusal}
+use Rattle.model.proofs.Lists.{each_set}
+use Rattle.world_base.specs.declared.connection.Connection.{Connection}
+use Rattle.world_base.specs.declared.item.Item.TheVariants.{Peer, Tick, Opened, Bytes, Ended, Crash}
+use Rattle.world_base.specs.declared.item.Port.{Port}
+use Rattle.world_base.specs.Connections.{closed, fresh, is_at}
+use Rattle.world_base.specs.Core.{CoreState, Turn, serves}
+use Rattle.world_base.specs.Step.{acts_on, next_name, opens, takes_in}
+use Rattle.node_model.specs.Moves.{Deed, done}
+use Rattle.node_model.specs.Moves.Deed.{takes, gives}
+use Rattle.node_model.proofs.EachKept.{IsKept, each_repeated, each_settled}
+use Rattle.node_model.proofs.Kept.{named, put_out_name}
+use Rattle.node_model.proofs.Views.{found_each, found_passes}
+use Rattle.group_model.specs.Group.{Group, opening_cores}
+use Rattle.group_model.specs.Goes.{MayGo, Went, groups_of}
+use Rattle.group_model.specs.Goes.MayGo.{node_acts, master_assigns, master_hears}
+use Rattle.group_model.specs.Goes.Went.{opened, then_went}
+use Rattle.group_model.proofs.NamesInGroups.{each_got}
+use Rattle.connection_model.proofs.CarriedInOrder.{assigned_nodes, no_connections}
+use Rattle.world_model.specs.Apart.{HasName}
+use Rattle.world_model.proofs.PortsKept.{IsLater, each_done}
+
+abbrev IsNamed : Connection → Type 0
+IsNamed c = IsConnectionName c.name
+
+abbrev AreNamed : CoreState → Type 0
+AreNamed core = Each IsNamed core.connections
+
+later_named : (c d : Connection) → IsLater c d → IsNamed c → IsNamed d
+later_named c d later fits = subst IsConnectionName (sym later.name) fits
+
+kept_named : IsKept IsNamed
+kept_named = record { shut = λ c fits. fits; put = λ bytes c fits. subst IsConnectionName (sym (put_out_name bytes c)) fits }
+
+-- ---- a node
+
+opens_named : (port : Port) (core : CoreState) → AreNamed core → AreNamed (opens port core)
+unfolding opens
+opens_named port core all = by (serves core && not (list_any (is_at port) core.connections)) (is_connection_name (next_name core)) refl
+  where
+    by : (a b : Bool) → is_connection_name (next_name core) ≡ b
+        → AreNamed (let k : CoreState = if a && b then record core { last_name = next_name core; connections = core.connections ++ fresh port (next_name core) ∷ [] } else core in k)
+    by true true fits = each_append IsNamed core.connections (fresh port (next_name core) ∷ []) all (fits, tt)
+    by true false other = all
+    by false b other = all
+
+done_named : (deed : Deed) (core : CoreState) → AreNamed core → AreNamed (done deed core).core
+done_named (takes (Opened port now)) core all =
+    each_settled IsNamed kept_named.shut (acts_on (Opened port now) core).core
+    (each_repeated IsNamed kept_named (length (takes_in (Opened port now) core).core.connections) (takes_in (Opened port now) core).core (opens_named port core all))
+done_named (takes (Peer message)) core all = each_done IsNamed later_named (takes (Peer message)) core tt all
+done_named (takes (Tick now)) core all = each_done IsNamed later_named (takes (Tick now)) core tt all
+done_named (takes (Bytes port piece now)) core all = each_done IsNamed later_named (takes (Bytes port piece now)) core tt all
+done_named (takes (Ended port)) core all = each_done IsNamed later_named (takes (Ended port)) core tt all
+done_named (takes Crash) core all = each_done IsNamed later_named (takes Crash) core tt all
+done_named (gives port) core all = each_done IsNamed later_named (gives port) core tt all
+
+-- ---- a group
+
+step_named : (g h : Group) → MayGo g h → Each AreNamed g.nodes → Each AreNamed h.nodes
+step_named g h (node_acts n core deed turn run at is first sent) all =
+    each_set AreNamed g.nodes n turn.core all (subst (λ (t : Turn). AreNamed t.core) (sym is) (done_named deed core (each_got AreNamed g.nodes n core all at)))
+step_named g h (master_assigns wanted) all = subst (Each AreNamed) (sym (assigned_nodes g wanted (refusal g.master wanted))) all
+step_named g h (master_hears from ballot sent) all = all
+
+all_named : {nodes : ℕ} {config : Config} (g : Group) → Went nodes config g → Each AreNamed g.nodes
+all_named {nodes = nodes} {config = config} g (opened can) =
+    each_then (λ (core : CoreState). core.connections ≡ []) AreNamed (opening_cores nodes config) (λ core none. subst (Each IsNamed) (sym none) tt) (no_connections nodes config)
+all_named h (then_went {g = g} went step) = step_named g h step (all_named g went)
+
+name_fits : (e : Group) (x : ConnectionName) (n : ℕ) → HasName x e n → Each AreNamed e.nodes → IsConnectionName x
+name_fits e x n has all =
+    subst IsConnectionName (same_name has.connection.name x (found_passes (named x) has.core.connections has.connection has.listed))
+    (found_each IsNamed (named x) has.core.connections has.connection (each_got AreNamed e.nodes n has.core all has.stands) has.listed)
+
+-- a name that a node had at any time
+pub names_fit : {nodes : ℕ} {config : Config} {g : Group} (went : Went nodes config g) (x : ConnectionName) (e : Group) (n : ℕ) → In e (groups_of went) → HasName x e n → IsConnectionName x
+names_fit {g = g} (opened can) x e n here has = name_fits g x n has (all_named g (opened can))
+names_fit (opened can) x e n (there i) has = elim i [ ]
+names_fit {g = h} (then_went went step) x e n here has = name_fits h x n has (all_named h (then_went went step))
+names_fit (then_went went step) x e n (there i) has = names_fit went x e n i has
