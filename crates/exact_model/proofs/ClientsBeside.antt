@@ -147,7 +147,7 @@ handles_beside {cs = cs} {agreed = agreed} {clients = clients} b i keeper κ oth
 abbrev pub IsFreshAlone : ConnectionName → List Alone → Type 0
 IsFreshAlone x = Each (λ (a : Alone). any_named (same_connection x) a.connections ≡ false)
 
-named_untaken : (test : ConnectionName → Bool) (connections : List Connection) → any_named test (map untaken_connection connections) ≡ any_named test connections
+pub named_untaken : (test : ConnectionName → Bool) (connections : List Connection) → any_named test (map untaken_connection connections) ≡ any_named test connections
 named_untaken test [] = refl
 named_untaken test (κ ∷ connections) = ap (λ b. test κ.name || b) (named_untaken test connections)
 

@@ -13,3 +13,6 @@ pub mod LostNowhere
 pub mod AnswersFit
 pub mod CommandsFit
 pub mod NamesGiven
+pub mod GoesBeside
+pub mod ClientsGo
+pub mod WorldsExact

@@ -1,5 +1,5 @@
 -- Each name that a node of a group gives is one that a connection may have.
-use Rattle.std.proofs.Common.{◌≡◌, Bool, true, false, not, ◌&&◌, if◌then◌else◌, ℕ, List, [], ◌∷◌, ◌++◌, Some, length, slice_get, refl, sym, ap, subst}
+use Rattle.std.proofs.Common.{◌≡◌, Bool, true, false, not, ◌&&◌, if◌then◌else◌, ℕ, [], ◌∷◌, ◌++◌, length, refl, sym, subst}
 use Rattle.std.specs.List.{list_any}
 use Rattle.ballot.specs.Config.{Config}
 use Rattle.broker_base.specs.Connection.{ConnectionName, IsConnectionName, is_connection_name}
@@ -12,7 +12,7 @@ use Rattle.model.proofs.Lists.{each_set}
 use Rattle.world_base.specs.declared.connection.Connection.{Connection}
 use Rattle.world_base.specs.declared.item.Item.TheVariants.{Peer, Tick, Opened, Bytes, Ended, Crash}
 use Rattle.world_base.specs.declared.item.Port.{Port}
-use Rattle.world_base.specs.Connections.{closed, fresh, is_at}
+use Rattle.world_base.specs.Connections.{fresh, is_at}
 use Rattle.world_base.specs.Core.{CoreState, Turn, serves}
 use Rattle.world_base.specs.Step.{acts_on, next_name, opens, takes_in}
 use Rattle.node_model.specs.Moves.{Deed, done}

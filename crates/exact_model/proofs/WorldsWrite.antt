@@ -1,9 +1,7 @@
 -- What the nodes of a world agree on is of what its clients wrote: of each connection a beginning, in order, and of no other.
-use Rattle.std.proofs.Common.{◌≡◌, ◌≤◌, ◌⊎◌, inl, inr, ℕ, suc, Bool, true, false, if◌then◌else◌, List, [], ◌∷◌, ◌++◌, filter, length, map, Some, refl, sym, ap, ap₂, ◌∙◌, subst}
+use Rattle.std.proofs.Common.{◌≡◌, ◌≤◌, ◌⊎◌, inl, inr, ℕ, suc, Bool, true, false, if◌then◌else◌, List, [], ◌∷◌, ◌++◌, filter, length, map, Some, refl, sym, ap, ◌∙◌, subst}
 use Rattle.std.specs.Prelude.{slice_get}
 use Rattle.std.proofs.lemmas.Bool.{both_ways}
-use Rattle.packet.specs.Spelling.{IsPacket}
-use Rattle.packet.specs.declared.packet.Packet.{Packet}
 use Rattle.ballot.specs.Config.{Config}
 use Rattle.broker_base.specs.Command.{Command}
 use Rattle.broker_base.specs.Command.TheVariants as commands
@@ -11,7 +9,6 @@ use Rattle.broker_base.specs.Connection.{ConnectionName}
 use Rattle.client_base.specs.Keeper.{Written}
 use Rattle.lists.specs.Lists.{Each, In, IsPrefixOf}
 use Rattle.lists.specs.Lists.In.{here, there}
-use Rattle.pipes.specs.Pipe.{Joins}
 use Rattle.story.specs.Sides.{Connection}
 use Rattle.story.specs.Story.{command_of, is_packet_of}
 use Rattle.story.proofs.Takes.{same_name_self}
@@ -23,11 +20,10 @@ use Rattle.node_model.specs.Ends.{commands_of}
 use Rattle.group_model.specs.Goes.{Went}
 use Rattle.group_model.specs.Order.{packets_of as packets_in_list}
 use Rattle.group_model.proofs.Placed.{get_mapped}
-use Rattle.connection_model.specs.Streams.{came_up}
 use Rattle.world_model.specs.World.{ClientPipes, HasPipe, Pipe, World, packets_of}
 use Rattle.world_model.proofs.WorldsHold.{Holds, IsKnown, IsUnheard}
 use Rattle.exact_model.specs.Untaken.{untaken_connection}
-use Rattle.exact_model.proofs.Beside.{Alone, IsOfAlone, IsOfWritten, alone}
+use Rattle.exact_model.proofs.Beside.{Alone, IsOfWritten, alone}
 use Rattle.exact_model.proofs.Growth.{CarriedSo, IsAgreedSo, carries_each}
 use Rattle.exact_model.proofs.Places.{map_back}
 
