@@ -11,7 +11,7 @@ use Rattle.story.specs.Sides.{Connection}
 use Rattle.story.specs.Story.{Happens, Story}
 use Rattle.story.specs.Story.Happens.{takes, others_take, receives, opens_anew, loses, disconnects, publishes_one, subscribes, unsubscribes}
 use Rattle.model.specs.Goes.{is_call}
-use Rattle.exact_model.specs.Untaken.{AreSameUntaken, untaken_connection}
+use Rattle.exact_model.proofs.Untaken.{AreSameUntaken, untaken_connection}
 
 -- ---- what is written on the newest connection
 

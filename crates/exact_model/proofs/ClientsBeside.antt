@@ -26,7 +26,7 @@ use Rattle.model.proofs.Holds.{HasPipes}
 use Rattle.model.proofs.Lists.{each_get, each_set}
 use Rattle.model.proofs.WorldsExact.{reached_holds}
 use Rattle.world_model.proofs.WorldsKeep.{call_writes}
-use Rattle.exact_model.specs.Untaken.{untaken_connection}
+use Rattle.exact_model.proofs.Untaken.{untaken_connection}
 use Rattle.exact_model.proofs.AllPutOut.{IsFull, all_read, end_of, ends_of}
 use Rattle.exact_model.proofs.Beside.{Alone, Beside, alone, ends_alone}
 use Rattle.exact_model.proofs.CallsUntaken.{same_call}

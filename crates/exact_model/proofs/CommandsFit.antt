@@ -13,7 +13,7 @@ use Rattle.story.specs.Story.{command_of, is_packet_of}
 use Rattle.model.specs.Goes.{is_of_connection}
 use Rattle.node_model.specs.Ends.{commands_of}
 use Rattle.group_model.specs.Order.{packets_of}
-use Rattle.exact_model.specs.Fitting.{IsFitting}
+use Rattle.exact_model.proofs.Fitting.{IsFitting}
 
 -- ---- of one connection
 

@@ -15,7 +15,7 @@ use Rattle.story.specs.Carried.{carries, connection_named, more_by, new_numbers,
 use Rattle.story.specs.Headline.{AcceptedInOrder, ExactlyOnce, IsTakenAt, PublishedOnce, accepted_on, is_this, made_by}
 use Rattle.story.specs.Sides.{Connection}
 use Rattle.story.specs.Story.{Story, count_of}
-use Rattle.exact_model.specs.Untaken.{AreSameUntaken, untaken_connection}
+use Rattle.exact_model.proofs.Untaken.{AreSameUntaken, untaken_connection}
 
 -- ---- what is read of connections
 

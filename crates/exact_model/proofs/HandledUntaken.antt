@@ -12,7 +12,7 @@ use Rattle.client_base.specs.Handled.{at_pubrec, confirmed, discarded, handled, 
 use Rattle.client_base.specs.Keeper.{Keeper}
 use Rattle.client_base.specs.Written.{plain, resent, sent_all, writing}
 use Rattle.story.specs.Sides.{Connection, Side}
-use Rattle.exact_model.specs.Untaken.{untaken_connection}
+use Rattle.exact_model.proofs.Untaken.{untaken_connection}
 
 abbrev pub untaken_side : Side → Side
 untaken_side side = record side { connection = untaken_connection side.connection }

@@ -6,36 +6,39 @@ use Rattle.broker_base.specs.Command.{Command}
 use Rattle.broker_base.specs.Commands.{past_of, usual_limits}
 use Rattle.broker_base.specs.EndingLaws.{EndsWithTheSession, connects_of}
 use Rattle.broker_base.specs.Place.{Client}
-use Rattle.lists.specs.Lists.{Each, In}
+use Rattle.lists.specs.Lists.{Each, In, IsPrefixOf}
 use Rattle.story.specs.Headline.{ExactlyOnce}
 use Rattle.story.specs.Sides.{Connection}
 use Rattle.agreement.specs.World.{can_open}
+use Rattle.agreement.proofs.Agreed.PastAgrees.{has_agreed}
 use Rattle.model.specs.World.{AreApart, ClientEnds, opening as opening_beside, story_of as story_beside}
 use Rattle.model.specs.World as model
 use Rattle.model.specs.Goes.Reached.{begins as begins_beside}
 use Rattle.model.proofs.Lists.{each_by, each_get}
 use Rattle.model.proofs.WorldsExact.{worlds_are_exact as worlds_beside_are_exact}
 use Rattle.world_base.specs.declared.connection.Connection.{Connection as NodesEnd}
-use Rattle.world_base.specs.Core.{CoreState}
-use Rattle.group_model.specs.Group.{opening_cores}
+use Rattle.world_base.specs.Core.{CoreState, rules}
+use Rattle.group_model.specs.Group.{moment_of, opening_cores}
 use Rattle.group_model.specs.Goes.Went.{opened}
 use Rattle.group_model.proofs.NamesInGroups.{each_got}
 use Rattle.group_model.proofs.Placed.{get_mapped}
+use Rattle.connection_model.specs.Carried.{answers_to}
 use Rattle.connection_model.proofs.CarriedInOrder.{no_connections}
-use Rattle.world_model.specs.Exact.{IsExactBy, WorldsAreExact, story_of}
 use Rattle.world_model.specs.Goes.{Reached, WorldStep}
 use Rattle.world_model.specs.Goes.Reached.{begins, goes_on}
 use Rattle.world_model.specs.Goes.WorldStep.{goes_on as group_goes, calls, connects, comes_up, goes_down, arrives, handles}
-use Rattle.world_model.specs.World.{ClientPipes, Pipe, World, new_client, opening}
+use Rattle.world_model.specs.InPipes.{IsInOrder}
+use Rattle.world_model.specs.World.{ClientPipes, HasPipe, Pipe, World, new_client, opening, packets_of}
 use Rattle.world_model.proofs.WorldsHold.{Holds, arrives_holds, client_holds, set_at}
 use Rattle.world_model.proofs.WorldsKeep.{call_writes, calls_hold, comes_holds, goes_holds, group_holds, handles_hold}
 use Rattle.world_model.proofs.WorldsOpen.{connects_holds}
+use Rattle.exact_model.specs.Exact.{IsExactBy, WorldsAreExact, story_of}
 use Rattle.exact_model.proofs.AllPutOut.{IsFull}
 use Rattle.exact_model.proofs.Beside.{Alone, Beside, ends_alone, grows_beside}
 use Rattle.exact_model.proofs.ClientsGo.{calls_so, connects_so, handles_so}
 use Rattle.exact_model.proofs.ExactUntaken.{exactly_once_untaken}
 use Rattle.exact_model.proofs.GoesBeside.{GoesBeside, group_beside, pipe_beside, pipe_rests}
-use Rattle.exact_model.proofs.Growth.{carried_at_first}
+use Rattle.exact_model.proofs.Growth.{IsAgreedSo, carried_at_first, carries_each}
 use Rattle.exact_model.proofs.Places.{each_of_made, map_back, map_twice}
 use Rattle.exact_model.proofs.WorldsWrite.{HasAllPipes, clients_alone, is_of_written, pipes_alone}
 
@@ -114,15 +117,35 @@ goes_beside apart w (goes_on {v = v} before step) = step_goes apart v w (goes_be
 
 -- ---- the law
 
-exact_by : (cs : List Client) (w : World) (agreed : List Command) → AreApart cs → Beside cs agreed (clients_alone w) → IsExactBy agreed w
-exact_by cs w agreed apart b =
+-- what is carried on each connection, by each list that is agreed
+in_order : {nodes : ℕ} {config : Config} {cs : List Client} (w : World) (s : GoesBeside nodes config cs w) (agreed : List Command) → IsAgreedSo s.so agreed
+    → (i : ℕ) (c : ClientPipes) (j : ℕ) (κ : Connection) (p : Pipe) → HasPipe w i c j κ p → IsInOrder agreed κ p
+in_order w s agreed is i c j κ p has =
+    let h = s.holds.each i c j κ p has in
+    let both = carries_each w.group s.went s.so agreed is κ.name (packets_of κ.written) h.up.later h.up.joined in
+    record {
+      up = both.up;
+      handled = h.down.handled;
+      counted = h.down.counted;
+      whole = h.down.whole;
+      down = subst (λ (l : List ℕ). IsPrefixOf l (answers_to κ.name agreed)) (sym h.down.is) both.down;
+      sound = h.down.sound;
+    }
+
+exact_by : {nodes : ℕ} {config : Config} {cs : List Client} → AreApart cs → (w : World) (s : GoesBeside nodes config cs w) (agreed : List Command) → IsAgreedSo s.so agreed
+    → IsExactBy agreed w
+exact_by {cs = cs} apart w s agreed is =
     let exact = worlds_beside_are_exact cs b.world apart b.reached in
     record {
       clients = each_by (λ c. ExactlyOnce usual_limits (story_of agreed c)) w.clients (λ i c at. client i c at (λ d there. each_get _ b.world.clients i d exact.clients there));
       names = λ x. subst (λ (l : List Command). connects_of x (past_of usual_limits l) ≤ 1) b.is (exact.names x);
       sessions = subst (λ (l : List Command). EndsWithTheSession usual_limits (past_of usual_limits l)) b.is exact.sessions;
+      pipes = in_order w s agreed is;
     }
   where
+    b : Beside cs agreed (clients_alone w)
+    b = s.beside agreed is
+
     client : (i : ℕ) (c : ClientPipes) → slice_get w.clients i ≡ Some c
         → ((d : ClientEnds) → slice_get b.world.clients i ≡ Some d → ExactlyOnce usual_limits (story_beside b.world.agreed d)) → ExactlyOnce usual_limits (story_of agreed c)
     client i c at each =
@@ -133,9 +156,5 @@ exact_by cs w agreed apart b =
 pub worlds_are_exact : WorldsAreExact
 worlds_are_exact nodes config cs w apart reached =
     let s = goes_beside apart w reached in
-    record {
-      nodes = nodes;
-      went = s.went;
-      of = s.so.of;
-      exact = λ agreed is. exact_by cs w agreed apart (s.beside agreed is);
-    }
+    let list = has_agreed rules config (moment_of w.group) s.so.of.earlier s.so.of.past in
+    record { went = s.went; of = s.so.of; agreed = list.0; is_agreed = list.1; exact = λ agreed is. exact_by apart w s agreed is }

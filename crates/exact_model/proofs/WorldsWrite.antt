@@ -22,7 +22,7 @@ use Rattle.group_model.specs.Order.{packets_of as packets_in_list}
 use Rattle.group_model.proofs.Placed.{get_mapped}
 use Rattle.world_model.specs.World.{ClientPipes, HasPipe, Pipe, World, packets_of}
 use Rattle.world_model.proofs.WorldsHold.{Holds, IsKnown, IsUnheard}
-use Rattle.exact_model.specs.Untaken.{untaken_connection}
+use Rattle.exact_model.proofs.Untaken.{untaken_connection}
 use Rattle.exact_model.proofs.Beside.{Alone, IsOfWritten, alone}
 use Rattle.exact_model.proofs.Growth.{CarriedSo, IsAgreedSo, carries_each}
 use Rattle.exact_model.proofs.Places.{map_back}

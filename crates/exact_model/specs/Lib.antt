@@ -1,2 +1,1 @@
-pub mod Untaken
-pub mod Fitting
+pub mod Exact

@@ -3,4 +3,3 @@ pub mod Goes
 pub mod Carried
 pub mod InPipes
 pub mod Apart
-pub mod Exact
