@@ -2,9 +2,10 @@
 
 ghost use Rattle.exact_model.specs.Exact.{WorldsAreExact};
 
-/// Whatever happens in a world of clients with identifiers of their own and of nodes, by the list on which the nodes agree each
-/// client's publications are published exactly once and each client accepts exactly once and in order (MQTT 4.3.3, 4.4, 4.6):
-/// messages may come late, again or never, and nodes and connections may be lost.
+/// Whatever happens in a world of clients with identifiers of their own, pipes of bytes and nodes: by the list on which the nodes
+/// agree each client's QoS 2 publications are new there in the order of its calls, each at most once, and once where it was
+/// answered; each client accepts a beginning of what its session has at QoS 2, in order, each once; and an ended session
+/// gets nothing more (MQTT 4.3.3, 4.4, 4.6).
 pub fn worlds_are_exact()
     ensures { WorldsAreExact }
 {}
