@@ -1,0 +1,134 @@
+-- What a node does in a step is what a group that stands for the nodes may do.
+use Rattle.std.proofs.Common.{◌≡◌, inl, inr, ◌<◌, ◌^◌, ℕ, zero, suc, ◌-◌, ◌+◌, Bool, true, false, ◌&&◌, if◌then◌else◌, List, ◌++◌, Some, refl, sym, ap, ◌∙◌, subst, arith}
+use Rattle.std.specs.Prelude.{slice_get, slice_set, get_or}
+use Rattle.std.proofs.lemmas.Option.{get_or_from_slice_get}
+use Rattle.ballot.specs.Effect.{Effect}
+use Rattle.ballot.specs.Losses.{one_more}
+use Rattle.ballot.specs.Message.{Message}
+use Rattle.lists.specs.Lists.{In}
+use Rattle.agreement.specs.World.{messages}
+use Rattle.broker_base.specs.Command.{Command}
+use Rattle.broker_base.specs.Output.{Output}
+use Rattle.world_base.specs.declared.item.Item.{Item}
+use Rattle.world_base.specs.declared.item.Item.TheVariants.{Peer, Tick, Opened, Bytes, Ended, Crash}
+use Rattle.world_base.specs.Core.{CoreState, CountedCore}
+use Rattle.world_base.specs.Step.{node_step}
+use Rattle.node_model.specs.Moves.{Deed, done}
+use Rattle.node_model.specs.Moves.Deed.{takes}
+use Rattle.group_model.specs.Group.{Group, behind_turn}
+use Rattle.group_model.specs.Goes.{all_given}
+use Rattle.group_model.specs.Goes.MayGo.{node_acts}
+use Rattle.group_model.proofs.Placed.{get_mapped, set_mapped}
+use Rattle.world_nodes.specs.Nodes.{NodesState, StandsFor}
+use Rattle.world_nodes.specs.Goes.{Acts, behind_deed}
+use Rattle.world_nodes.specs.Steps.{LosesNothing, TakesIn}
+use Rattle.world_nodes.specs.Inside.{RunsAt, TookItem, WasSent}
+use Rattle.world_nodes.proofs.DeedsRun.{DeedWasSent, deeds_run}
+
+abbrev core_in : CountedCore → CoreState
+core_in c = c.core
+
+-- ---- a deed
+
+pub acts : (old : NodesState) (at : ℕ) (node : CountedCore) (deed : Deed) → slice_get old.nodes at ≡ Some node
+    → ((g : Group) → StandsFor g old → DeedWasSent g at deed) → Acts at deed old (behind_deed at node deed old)
+acts old at node deed there sent g s =
+    let r = deeds_run g at deed node.core (sent g s) in
+    let turn = done deed node.core in
+    let found : slice_get g.nodes at ≡ Some node.core = ap (λ (l : List CoreState). slice_get l at) s.nodes ∙ get_mapped core_in old.nodes at node there in
+    record {
+      does = record {
+        behind = behind_turn g at turn (all_given r.run);
+        step = node_acts at node.core deed turn r.run found refl r.first r.sent;
+        is = refl;
+        faithful = r.bytes;
+      };
+      stands = record {
+        master = s.master;
+        nodes = ap (λ (l : List CoreState). slice_set l at turn.core) s.nodes
+            ∙ sym (set_mapped core_in old.nodes at (let c : CountedCore = record node { core = turn.core } in c));
+        sent = ap (λ (l : List (ℕ × Message Command)). l ++ messages turn.messages) s.sent;
+      };
+    }
+
+-- ---- counts
+
+pub not_one_more : (losses : ℕ) → losses < 2 ^ 64 - 1 → one_more losses ≡ losses → ⊥
+not_one_more losses low e = omega (arith, low, e)
+
+-- ---- an item
+
+-- what was sent to the node of a number was sent to the one at its place
+deed_sent : (old : NodesState) (node at : ℕ) (item : Item) → at ≡ node - 1 → 0 < node → WasSent node item old.sent
+    → (g : Group) → StandsFor g old → DeedWasSent g at (takes item)
+deed_sent old zero at item place positive sent g s = absurd (omega (arith, positive))
+deed_sent old (suc n) at (Peer message) place positive sent g s =
+    subst (λ (l : List (ℕ × Message Command)). In (at + 1, message) l) (sym s.sent)
+    (subst (λ (k : ℕ). In (k, message) old.sent) (let e : suc n ≡ at + 1 = omega (arith, place) in e) sent)
+deed_sent old (suc n) at (Tick now) place positive sent g s = tt
+deed_sent old (suc n) at (Opened port now) place positive sent g s = tt
+deed_sent old (suc n) at (Bytes port piece now) place positive sent g s = tt
+deed_sent old (suc n) at (Ended port) place positive sent g s = tt
+deed_sent old (suc n) at Crash place positive sent g s = tt
+
+-- the nodes behind the turn of one
+abbrev pub behind_turn_of : ℕ → CountedCore → List (ℕ × Message Command) → ℕ → NodesState → NodesState
+behind_turn_of at new more losses old = record old { nodes = slice_set old.nodes at new; sent = more; losses = losses }
+
+whole_turn : (old : NodesState) (at : ℕ) (core new : CountedCore) (item : Item) (more : List (ℕ × Message Command))
+    → TookItem core item new old.sent more true → behind_turn_of at new more old.losses old ≡ behind_deed at core (takes item) old
+whole_turn old at core new item more t =
+    let e = t.exact refl in
+    ap (λ (c : CountedCore). behind_turn_of at c more old.losses old) e.0
+    ∙ ap (λ (l : List (ℕ × Message Command)). behind_turn_of at (record core { core = (node_step item core.core).core }) l old.losses old)
+    (t.is ∙ ap (λ (l : List (Effect Command Output)). old.sent ++ messages l) e.1)
+
+pub turn_takes : (old : NodesState) (node at : ℕ) (x : RunsAt old.nodes node at) (new : CountedCore) (item : Item) (more : List (ℕ × Message Command))
+    (whole : Bool) (losses : ℕ) → TookItem x.core item new old.sent more whole → losses ≡ (if whole && true then old.losses else one_more old.losses)
+    → TakesIn node item old (behind_turn_of at new more losses old)
+turn_takes old node at x new item more true losses t count =
+    record {
+      core = x.core;
+      runs = x.runs;
+      way = inl (
+          ap (λ (k : ℕ). behind_turn_of at new more k old) count ∙ whole_turn old at x.core new item more t
+          ∙ ap (λ (k : ℕ). behind_deed k x.core (takes item) old) x.place
+          );
+    }
+turn_takes old node at x new item more false losses t count =
+    record {
+      core = x.core;
+      runs = x.runs;
+      way = inr (inl (
+          record {
+            node = new;
+            wanted = t.wanted;
+            kept = t.kept;
+            runs = t.runs;
+            thinned = t.thinned;
+            is = ap (λ (k : ℕ). behind_turn_of at new more k old) count
+                ∙ ap (λ (l : List (ℕ × Message Command)). behind_turn_of at new l (one_more old.losses) old) t.is
+                ∙ ap (λ (k : ℕ). behind_turn_of k new (old.sent ++ messages t.kept) (one_more old.losses) old) x.place;
+          }
+          ));
+    }
+
+pub turn_acts : (old : NodesState) (node at : ℕ) (x : RunsAt old.nodes node at) (new : CountedCore) (item : Item) (more : List (ℕ × Message Command))
+    (whole : Bool) (losses : ℕ) → TookItem x.core item new old.sent more whole → losses ≡ (if whole && true then old.losses else one_more old.losses)
+    → WasSent node item old.sent → LosesNothing old (behind_turn_of at new more losses old) → Acts (node - 1) (takes item) old (behind_turn_of at new more losses old)
+turn_acts old node at x new item more true losses t count sent none =
+    subst (λ (z : NodesState). Acts (node - 1) (takes item) old z)
+    (sym (ap (λ (k : ℕ). behind_turn_of at new more k old) count ∙ whole_turn old at x.core new item more t))
+    (subst (λ (k : ℕ). Acts k (takes item) old (behind_deed at x.core (takes item) old)) x.place
+    (acts old at x.core (takes item) x.stands (deed_sent old node at item x.place x.positive sent)))
+turn_acts old node at x new item more false losses t count sent none =
+    absurd (not_one_more old.losses none.1 (sym count ∙ none.0))
+
+-- what is read at a place is the node that stands there
+pub same_core : (nodes : List CountedCore) (at : ℕ) (core z : CountedCore) → slice_get nodes at ≡ Some core → z ≡ get_or nodes at z → z ≡ core
+same_core nodes at core z there is = is ∙ get_or_from_slice_get nodes at core z there
+
+pub took_by : (nodes : List CountedCore) (at : ℕ) (core z : CountedCore) (item : Item) (new : CountedCore) (sent more : List (ℕ × Message Command)) (whole : Bool)
+    → slice_get nodes at ≡ Some core → z ≡ get_or nodes at z → TookItem z item new sent more whole → TookItem core item new sent more whole
+took_by nodes at core z item new sent more whole there is t =
+    subst (λ (y : CountedCore). TookItem y item new sent more whole) (same_core nodes at core z there is) t

@@ -1,0 +1,56 @@
+-- What is handed over by a node is its deed.
+use Rattle.std.proofs.Common.{◌≡◌, ◌<◌, ◌≤◌, ◌-◌, ℕ, zero, suc, List, [], ◌∷◌, ◌++◌, length, Option, Some, refl, sym, ap, ◌∙◌, subst, arith}
+use Rattle.std.specs.Prelude.{get_or, slice_get, slice_set}
+use Rattle.std.proofs.lemmas.List.{append-nil}
+use Rattle.ballot.specs.Message.{Message}
+use Rattle.broker_base.specs.Command.{Command}
+use Rattle.world_base.specs.declared.handed.Handed.{Handed}
+use Rattle.world_base.specs.declared.item.Port.{Port}
+use Rattle.world_base.specs.Core.{CountedCore}
+use Rattle.world_base.specs.Handing.{answer_of, bytes_of, hands_over, listed_at}
+use Rattle.node_model.specs.Moves.Deed.{gives}
+use Rattle.world_nodes.specs.Nodes.{NodesState}
+use Rattle.world_nodes.specs.Goes.{Acts, AnswersFor, HandsOver, node_of}
+use Rattle.world_nodes.proofs.Acts.{acts}
+
+there : (nodes : List CountedCore) (at : ℕ) (z : CountedCore) → at < length nodes → z ≡ get_or nodes at z → slice_get nodes at ≡ Some z
+there [] at z below is = absurd (omega (arith, below))
+there (c ∷ nodes) zero z below is = ap Some (sym is)
+there (c ∷ nodes) (suc at) z below is = there nodes at z (omega (arith, below)) is
+
+same_some : (z core : CountedCore) → ◌≡◌ {A = Option CountedCore} (Some z) (Some core) → z ≡ core
+same_some z core e = cc
+
+pub stands_there : (nodes : List CountedCore) (node : ℕ) (z : CountedCore) → (node ≡ 0 → ⊥) → node ≤ length nodes → z ≡ get_or nodes (node - 1) z
+    → slice_get nodes (node - 1) ≡ Some z
+stands_there nodes zero z positive below is = absurd (positive refl)
+stands_there nodes (suc n) z positive below is = there nodes (suc n - 1) z (omega (arith, below)) is
+
+pub is_there : (nodes : List CountedCore) (node : ℕ) (z : CountedCore) → (node ≡ 0 → ⊥) → slice_get nodes (node - 1) ≡ Some z → node_of nodes node ≡ Some z
+is_there nodes zero z positive found = absurd (positive refl)
+is_there nodes (suc n) z positive found = subst (λ (k : ℕ). slice_get nodes k ≡ Some z) (let e : suc n - 1 ≡ n = omega arith in e) found
+
+abbrev pub with_node : ℕ → CountedCore → NodesState → NodesState
+with_node at node old = record old { nodes = slice_set old.nodes at node }
+
+pub hands : (old : NodesState) (at : ℕ) (z new : CountedCore) (port : Port) → slice_get old.nodes at ≡ Some z
+    → new ≡ record z { core = hands_over port z.core } → Acts at (gives port) old (with_node at new old)
+hands old at z new port found is =
+    subst (λ (y : NodesState). Acts at (gives port) old y)
+    (ap (λ (l : List (ℕ × Message Command)). record old { nodes = slice_set old.nodes at (record z { core = hands_over port z.core }); sent = l }) (append-nil old.sent)
+    ∙ ap (λ (c : CountedCore). with_node at c old) (sym is))
+    (acts old at z (gives port) found (λ g s. tt))
+
+-- what is read at the place of a number is the node of that number
+pub same_node : (nodes : List CountedCore) (node : ℕ) (z core : CountedCore) → node_of nodes node ≡ Some z → node_of nodes node ≡ Some core → z ≡ core
+same_node nodes node z core a b = same_some z core (sym a ∙ b)
+
+pub hands_bytes : (n : NodesState) (node : ℕ) (port : Port) (z : CountedCore) (before behind : List ℕ) → node_of n.nodes node ≡ Some z
+    → behind ≡ before ++ bytes_of (listed_at port z.core) → HandsOver node port n before behind
+hands_bytes n node port z before behind is bytes core there =
+    subst (λ (y : CountedCore). behind ≡ before ++ bytes_of (listed_at port y.core)) (same_node n.nodes node z core is there) bytes
+
+pub answers_so : (n : NodesState) (node : ℕ) (port : Port) (z : CountedCore) (handed : Handed) → node_of n.nodes node ≡ Some z
+    → handed ≡ answer_of (listed_at port z.core) → AnswersFor node port n handed
+answers_so n node port z handed is answer core there =
+    subst (λ (y : CountedCore). handed ≡ answer_of (listed_at port y.core)) (same_node n.nodes node z core is there) answer

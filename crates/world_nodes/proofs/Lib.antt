@@ -1,0 +1,7 @@
+mod Acts
+mod HandsOver
+mod InnerRuns
+mod Opens
+mod KeepsAll
+mod MasterActs
+pub mod DeedsRun

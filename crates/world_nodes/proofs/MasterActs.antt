@@ -1,0 +1,179 @@
+-- What the master does is what it may do in a group that stands for the nodes; and messages that come to it.
+use Rattle.std.proofs.Common.{◌≡◌, ◌+◌, ℕ, Bool, true, false, ◌&&◌, if◌then◌else◌, List, [], ◌∷◌, ◌++◌, Option, Some, None, refl, sym, ap, ◌∙◌, subst}
+use Rattle.std.specs.Prelude.{slice_get}
+use Rattle.std.specs.Bool.{OnTrue}
+use Rattle.lists.specs.Lists.{In}
+use Rattle.lists.proofs.Members.{in_at}
+use Rattle.ballot.specs.Body.{Body}
+use Rattle.ballot.specs.Body.TheVariants.{NewBallot, Join, State, Install, Installed, Activate, Activated, Superseded, Append, Held, Commit}
+use Rattle.ballot.specs.Config.{Config}
+use Rattle.ballot.specs.Losses.{one_more}
+use Rattle.ballot.specs.Message.{Message}
+use Rattle.agreement.specs.MasterState.{AssignRefusal, MasterState, activating, assigning, is_granted, master_behind, refusal}
+use Rattle.broker_base.specs.Command.{Command}
+use Rattle.group_model.specs.Group.{Group, with_master}
+use Rattle.group_model.specs.Goes.{MayGo, behind_assign}
+use Rattle.group_model.specs.Goes.MayGo.{master_assigns, master_hears}
+use Rattle.world_model.specs.Goes.{Does, IsFaithful, deed_of}
+use Rattle.world_nodes.specs.Nodes.{NodesState}
+use Rattle.world_nodes.specs.Goes.{Comes, HeardByMaster, MasterActs, behind_answer, behind_giving}
+use Rattle.world_nodes.specs.Steps.{LosesNothing}
+use Rattle.world_nodes.specs.Inside.{asks_for}
+use Rattle.world_nodes.proofs.Acts.{not_one_more}
+
+abbrev Sent : Type 0
+Sent = List (ℕ × Message Command)
+
+-- ---- steps of the master alone
+
+record ByMaster (g h : Group) : Type 0 where
+  pub step : MayGo g h
+  pub is : deed_of step ≡ None
+  pub faithful : IsFaithful step
+
+does_by : {g h : Group} → ByMaster g h → Does g None
+does_by {h = h} b = record { behind = h; step = b.step; is = b.is; faithful = b.faithful }
+
+assigns_by : (g : Group) (config : Config) → refusal g.master config ≡ None → ByMaster g (behind_giving config g)
+assigns_by g config e =
+    subst (λ (r : Option AssignRefusal). ByMaster g (with_master (behind_assign g config r) (master_behind g.master config r))) e
+    (record { step = master_assigns config; is = refl; faithful = tt })
+
+hears_by : (g : Group) (from ballot : ℕ) → In (0, record { from = from; body = Activate ballot }) g.sent → ByMaster g (behind_answer from ballot g)
+hears_by g from ballot sent = record { step = master_hears from ballot sent; is = refl; faithful = tt }
+
+-- the nodes with another master, and a message of it
+abbrev pub told_to : MasterState → ℕ → Body Command → NodesState → NodesState
+told_to m receiver body old = record old { master = m; sent = old.sent ++ (receiver, record { from = 0; body = body }) ∷ [] }
+
+gives_exactly : (old : NodesState) (config : Config) → refusal old.master config ≡ None
+    → MasterActs (behind_giving config) old
+    (told_to (assigning old.master config) config.primary (NewBallot (old.master.given + 1) config.members old.master.active old.master.members) old)
+unfolding does_by
+gives_exactly old config none g s = (
+  record {
+    does = does_by (assigns_by g config (ap (λ (m : MasterState). refusal m config) s.master ∙ none));
+    stands = record {
+      master = ap (λ (m : MasterState). assigning m config) s.master;
+      nodes = s.nodes;
+      sent = ap (λ (l : Sent). l ++ (config.primary, message g.master) ∷ []) s.sent
+          ∙ ap (λ (m : MasterState). old.sent ++ (config.primary, message m) ∷ []) s.master;
+    };
+  },
+  refl,
+)
+  where
+    message : MasterState → Message Command
+    message m = record { from = 0; body = NewBallot (m.given + 1) config.members m.active m.members }
+
+answers_exactly : (old : NodesState) (from ballot : ℕ) → In (0, record { from = from; body = Activate ballot }) old.sent
+    → MasterActs (behind_answer from ballot) old
+    (told_to (activating old.master ballot old.master.waiting) from
+    (if is_granted old.master ballot old.master.waiting then Activated ballot else Superseded ballot) old)
+unfolding does_by
+answers_exactly old from ballot sent g s = (
+  record {
+    does = does_by (hears_by g from ballot (subst (λ (l : Sent). In (0, record { from = from; body = Activate ballot }) l) (sym s.sent) sent));
+    stands = record {
+      master = ap (λ (m : MasterState). activating m ballot m.waiting) s.master;
+      nodes = s.nodes;
+      sent = ap (λ (l : Sent). l ++ (from, message g.master) ∷ []) s.sent
+          ∙ ap (λ (m : MasterState). old.sent ++ (from, message m) ∷ []) s.master;
+    };
+  },
+  refl,
+)
+  where
+    message : MasterState → Message Command
+    message m = record { from = 0; body = if is_granted m ballot m.waiting then Activated ballot else Superseded ballot }
+
+-- ---- where memory may be wanting
+
+abbrev pub master_turn : MasterState → Sent → ℕ → NodesState → NodesState
+master_turn m more losses old = record old { master = m; sent = more; losses = losses }
+
+-- the message was kept, or the step is counted
+told_or_counted : (old : NodesState) (next : Group → Group) (m state : MasterState) (receiver : ℕ) (body is : Body Command) (more : Sent) (told : Bool) (losses : ℕ)
+    → MasterActs next old (told_to m receiver is old) → state ≡ m → body ≡ is
+    → OnTrue told (more ≡ old.sent ++ (receiver, record { from = 0; body = body }) ∷ [])
+    → losses ≡ (if told && true then old.losses else one_more old.losses)
+    → LosesNothing old (master_turn state more losses old) → MasterActs next old (master_turn state more losses old)
+told_or_counted old next m state receiver body is more true losses acts same_state same_body kept count none =
+    subst (λ (z : NodesState). MasterActs next old z)
+    (sym (ap (λ (k : ℕ). master_turn state more k old) count
+    ∙ ap (λ (l : Sent). master_turn state l old.losses old) kept
+    ∙ ap (λ (b : Body Command). master_turn state (old.sent ++ (receiver, record { from = 0; body = b }) ∷ []) old.losses old) same_body
+    ∙ ap (λ (x : MasterState). told_to x receiver is old) same_state)) acts
+told_or_counted old next m state receiver body is more false losses acts same_state same_body kept count none =
+    absurd (not_one_more old.losses none.1 (sym count ∙ none.0))
+
+pub gives_ballot : (old : NodesState) (config : Config) (state : MasterState) (body : Body Command) (more : Sent) (told : Bool) (losses : ℕ)
+    → refusal old.master config ≡ None → state ≡ assigning old.master config
+    → body ≡ NewBallot (old.master.given + 1) config.members old.master.active old.master.members
+    → OnTrue told (more ≡ old.sent ++ (config.primary, record { from = 0; body = body }) ∷ [])
+    → losses ≡ (if told && true then old.losses else one_more old.losses)
+    → LosesNothing old (master_turn state more losses old) → MasterActs (behind_giving config) old (master_turn state more losses old)
+gives_ballot old config state body more told losses none state_is body_is kept count =
+    told_or_counted old (behind_giving config) _ state config.primary body _ more told losses (gives_exactly old config none) state_is body_is kept count
+
+pub answers_ballot : (old : NodesState) (from ballot : ℕ) (state : MasterState) (body : Body Command) (more : Sent) (told : Bool) (losses : ℕ)
+    → In (0, record { from = from; body = Activate ballot }) old.sent → state ≡ activating old.master ballot old.master.waiting
+    → body ≡ (if is_granted old.master ballot old.master.waiting then Activated ballot else Superseded ballot)
+    → OnTrue told (more ≡ old.sent ++ (from, record { from = 0; body = body }) ∷ [])
+    → losses ≡ (if told && true then old.losses else one_more old.losses)
+    → LosesNothing old (master_turn state more losses old) → MasterActs (behind_answer from ballot) old (master_turn state more losses old)
+answers_ballot old from ballot state body more told losses sent state_is body_is kept count =
+    told_or_counted old (behind_answer from ballot) _ state from body _ more told losses (answers_exactly old from ballot sent) state_is body_is kept count
+
+-- ---- messages that come to the master
+
+asks_ballot : (ballot : ℕ) (body : Body Command) → asks_for body ≡ Some ballot → body ≡ Activate ballot
+asks_ballot ballot (NewBallot b members a old) e = cc
+asks_ballot ballot (Join b a) e = cc
+asks_ballot ballot (State b log) e = cc
+asks_ballot ballot (Install b log) e = cc
+asks_ballot ballot (Installed b held) e = cc
+asks_ballot ballot (Activate b) e = let same : b ≡ ballot = cc in ap Activate same
+asks_ballot ballot (Activated b) e = cc
+asks_ballot ballot (Superseded b) e = cc
+asks_ballot ballot (Append b place command) e = cc
+asks_ballot ballot (Held b held) e = cc
+asks_ballot ballot (Commit b held) e = cc
+
+-- who asks for a ballot was heard
+pub asked_in : (sent : Sent) (number ballot : ℕ) (x : ℕ × Message Command) → slice_get sent number ≡ Some x → x.0 ≡ 0 → asks_for x.1.body ≡ Some ballot
+    → In (0, record { from = x.1.from; body = Activate ballot }) sent
+asked_in sent number ballot x found zero_is asks =
+    in_at sent number (0, record { from = x.1.from; body = Activate ballot })
+    (found ∙ ap (λ (k : ℕ). let y : ℕ × Message Command = (k, x.1) in Some y) zero_is
+    ∙ ap (λ (b : Body Command). let m : Message Command = record { from = x.1.from; body = b } in let y : ℕ × Message Command = (0, m) in Some y) (asks_ballot ballot x.1.body asks))
+
+-- a message of a number that came to the master
+pub heard_ballot : (from ballot : ℕ) (body : Body Command) (old new : NodesState) → asks_for body ≡ Some ballot → MasterActs (behind_answer from ballot) old new
+    → HeardByMaster from body old new
+heard_ballot from ballot body old new asks acts =
+    subst (λ (b : Body Command). HeardByMaster from b old new) (sym (asks_ballot ballot body asks)) acts
+
+pub not_heard : (from : ℕ) (body : Body Command) (old new : NodesState) → asks_for body ≡ None → new ≡ old → HeardByMaster from body old new
+not_heard from (NewBallot b members a o) old new e same = same
+not_heard from (Join b a) old new e same = same
+not_heard from (State b log) old new e same = same
+not_heard from (Install b log) old new e same = same
+not_heard from (Installed b held) old new e same = same
+not_heard from (Activate b) old new e same = cc
+not_heard from (Activated b) old new e same = same
+not_heard from (Superseded b) old new e same = same
+not_heard from (Append b place command) old new e same = same
+not_heard from (Held b held) old new e same = same
+not_heard from (Commit b held) old new e same = same
+
+pub comes_to_master : (o : Option (ℕ × Message Command)) (x : ℕ × Message Command) (old new : NodesState) → o ≡ Some x → x.0 ≡ 0
+    → HeardByMaster x.1.from x.1.body old new → Comes o old new
+comes_to_master o x old new found zero_is heard =
+    subst (λ (q : Option (ℕ × Message Command)). Comes q old new)
+    (sym (found ∙ ap (λ (k : ℕ). let y : ℕ × Message Command = (k, x.1) in Some y) zero_is)) heard
+
+-- a copy of a message of a number was sent too
+pub sent_copy : (sent : Sent) (number : ℕ) (x : ℕ × Message Command) (m : Message Command) → slice_get sent number ≡ Some x → m ≡ x.1 → In (x.0, m) sent
+sent_copy sent number x m found same =
+    in_at sent number (x.0, m) (found ∙ ap (λ (z : Message Command). let y : ℕ × Message Command = (x.0, z) in Some y) (sym same))

@@ -1,0 +1,54 @@
+use Rattle.std.proofs.Common.{◌≡◌, ◌≤◌, ◌-◌, length, Some, arith}
+use Rattle.world_nodes.specs.Goes.{node_of}
+use Rattle.world_nodes.specs.Nodes.{NodesState}
+use Rattle.world_nodes.proofs.HandsOver.{answers_so, hands, hands_bytes, is_there, stands_there}
+use Rattle.world_nodes.proofs.nodes.Nodes.hand_over.Goals as goal
+
+pub returns-in-Ok-clause-goes : goal.returns-in-Ok-clause-goes
+returns-in-Ok-clause-goes c =
+    let below : c.args.node ≤ length c.self.inside.nodes.items = omega (arith, c.self.inside.nodes.ok.0, c.len.ensures, c.if-node-len.false) in
+    let found = stands_there c.self.inside.nodes.items c.args.node c.index_mut-core.result.now c.if-node-eq0.false below c.index_mut-core.ensures.value in
+    rw (← c.self.view_is) (λ none. hands (let old : NodesState = record {
+      master = c.self.inside.master;
+      nodes = c.self.inside.nodes.items;
+      sent = c.self.inside.sent.items;
+      losses = c.self.inside.losses;
+    } in old) (c.args.node - 1) c.index_mut-core.result.now c.outgoing.new.self c.args.port found c.in-Ok.ensures.left)
+
+pub returns-in-Ok-clause-idle : goal.returns-in-Ok-clause-idle
+returns-in-Ok-clause-idle c =
+    let below : c.args.node ≤ length c.self.inside.nodes.items = omega (arith, c.self.inside.nodes.ok.0, c.len.ensures, c.if-node-len.false) in
+    let found = stands_there c.self.inside.nodes.items c.args.node c.index_mut-core.result.now c.if-node-eq0.false below c.index_mut-core.ensures.value in
+    let is : node_of c.self.inside.nodes.items c.args.node ≡ Some c.index_mut-core.result.now = is_there c.self.inside.nodes.items c.args.node c.index_mut-core.result.now c.if-node-eq0.false found in
+    rw (← c.self.view_is) (λ e. cc, λ e. cc)
+
+pub returns-in-Err-clause-idle : goal.returns-in-Err-clause-idle
+returns-in-Err-clause-idle c =
+    let below : c.args.node ≤ length c.self.inside.nodes.items = omega (arith, c.self.inside.nodes.ok.0, c.len.ensures, c.if-node-len.false) in
+    let found = stands_there c.self.inside.nodes.items c.args.node c.index_mut-core.result.now c.if-node-eq0.false below c.index_mut-core.ensures.value in
+    let is : node_of c.self.inside.nodes.items c.args.node ≡ Some c.index_mut-core.result.now = is_there c.self.inside.nodes.items c.args.node c.index_mut-core.result.now c.if-node-eq0.false found in
+    rw (← c.self.view_is) (λ e. cc, λ e. cc)
+
+pub returns-in-Ok-clause-bytes : goal.returns-in-Ok-clause-bytes
+returns-in-Ok-clause-bytes c =
+    let below : c.args.node ≤ length c.self.inside.nodes.items = omega (arith, c.self.inside.nodes.ok.0, c.len.ensures, c.if-node-len.false) in
+    let found = stands_there c.self.inside.nodes.items c.args.node c.index_mut-core.result.now c.if-node-eq0.false below c.index_mut-core.ensures.value in
+    let is : node_of c.self.inside.nodes.items c.args.node ≡ Some c.index_mut-core.result.now = is_there c.self.inside.nodes.items c.args.node c.index_mut-core.result.now c.if-node-eq0.false found in
+    rw (← c.self.view_is) (λ none. hands_bytes (let old : NodesState = record {
+      master = c.self.inside.master;
+      nodes = c.self.inside.nodes.items;
+      sent = c.self.inside.sent.items;
+      losses = c.self.inside.losses;
+    } in old) c.args.node c.args.port c.index_mut-core.result.now c.args.out.now.items c.outgoing.new.out.items is c.in-Ok.ensures.bytes)
+
+pub returns-in-Ok-clause-answer : goal.returns-in-Ok-clause-answer
+returns-in-Ok-clause-answer c =
+    let below : c.args.node ≤ length c.self.inside.nodes.items = omega (arith, c.self.inside.nodes.ok.0, c.len.ensures, c.if-node-len.false) in
+    let found = stands_there c.self.inside.nodes.items c.args.node c.index_mut-core.result.now c.if-node-eq0.false below c.index_mut-core.ensures.value in
+    let is : node_of c.self.inside.nodes.items c.args.node ≡ Some c.index_mut-core.result.now = is_there c.self.inside.nodes.items c.args.node c.index_mut-core.result.now c.if-node-eq0.false found in
+    rw (← c.self.view_is) (λ none. answers_so (let old : NodesState = record {
+      master = c.self.inside.master;
+      nodes = c.self.inside.nodes.items;
+      sent = c.self.inside.sent.items;
+      losses = c.self.inside.losses;
+    } in old) c.args.node c.args.port c.index_mut-core.result.now c.in-Ok.handed is c.in-Ok.ensures.answer)

@@ -1,0 +1,100 @@
+-- What may happen to nodes, and how a group that stands for them goes on then.
+use Rattle.std.specs.Prelude.{◌≡◌, ℕ, zero, suc, ◌++◌, if◌then◌else◌, List, Option, Some, None, slice_get, slice_set}
+use Rattle.ballot.specs.Body.{Body}
+use Rattle.ballot.specs.Body.TheVariants.{Activate}
+use Rattle.ballot.specs.Config.{Config}
+use Rattle.ballot.specs.Message.{Message}
+use Rattle.agreement.specs.MasterState.{activated, assigned}
+use Rattle.agreement.specs.World.{messages}
+use Rattle.broker_base.specs.Command.{Command}
+use Rattle.world_base.specs.Core.{CountedCore}
+use Rattle.world_base.specs.declared.handed.Handed.{Handed}
+use Rattle.world_base.specs.declared.item.Item.TheVariants.{Peer}
+use Rattle.world_base.specs.declared.item.Port.{Port}
+use Rattle.world_base.specs.Handing.{answer_of, bytes_of, listed_at}
+use Rattle.node_model.specs.Moves.{Deed, done}
+use Rattle.node_model.specs.Moves.Deed.{takes}
+use Rattle.group_model.specs.Group.{Group, told_by_master, with_master}
+use Rattle.world_model.specs.Goes.{Does}
+use Rattle.world_nodes.specs.Nodes.{NodesState, StandsFor}
+
+-- ---- which nodes run
+
+abbrev pub unless_stopped : Option CountedCore → Option CountedCore
+unless_stopped None = None
+unless_stopped (Some c) = if c.core.replica.state.stopped then None else Some c
+
+-- the node of a number, if it is there and has not stopped
+abbrev pub running : List CountedCore → ℕ → Option CountedCore
+running nodes zero = None
+running nodes (suc at) = unless_stopped (slice_get nodes at)
+
+-- .. and if it is there
+abbrev pub node_of : List CountedCore → ℕ → Option CountedCore
+node_of nodes zero = None
+node_of nodes (suc at) = slice_get nodes at
+
+-- ---- a deed of a node
+
+-- the nodes behind a deed of the one at this place
+abbrev pub behind_deed : ℕ → CountedCore → Deed → NodesState → NodesState
+behind_deed at node deed n =
+    record n {
+      nodes = slice_set n.nodes at (record node { core = (done deed node.core).core });
+      sent = n.sent ++ messages (done deed node.core).messages;
+    }
+
+-- a group does a deed of a node, or of the master, and then stands for these nodes
+pub record GoesBy (deed : Option (ℕ × Deed)) (g : Group) (new : NodesState) : Type 0 where
+  pub does : Does g deed
+  pub stands : StandsFor does.behind new
+
+-- so does each group that stands for the nodes before: the node at this place does this deed
+abbrev pub Acts : ℕ → Deed → NodesState → NodesState → Type 0
+Acts at deed old new = (g : Group) → StandsFor g old → GoesBy (Some (at, deed)) g new
+
+-- ---- what is handed over
+
+-- what the node of this number put out for a port is appended
+abbrev pub HandsOver : ℕ → Port → NodesState → List ℕ → List ℕ → Type 0
+HandsOver node port n before behind =
+    (core : CountedCore) → node_of n.nodes node ≡ Some core → behind ≡ before ++ bytes_of (listed_at port core.core)
+
+-- .. and whether more may come is told
+abbrev pub AnswersFor : ℕ → Port → NodesState → Handed → Type 0
+AnswersFor node port n handed =
+    (core : CountedCore) → node_of n.nodes node ≡ Some core → handed ≡ answer_of (listed_at port core.core)
+
+-- ---- the master
+
+-- a group behind an Assign that is not refused, and behind an Activate of a node
+abbrev pub behind_giving : Config → Group → Group
+behind_giving config g =
+    let o = assigned Command g.master config in with_master (told_by_master g o) o.state
+
+abbrev pub behind_answer : ℕ → ℕ → Group → Group
+behind_answer from ballot g =
+    let o = activated Command g.master ballot from g.master.waiting in with_master (told_by_master g o) o.state
+
+-- each group that stands for the nodes before goes on so, and then stands for the nodes behind
+abbrev pub MasterActs : (Group → Group) → NodesState → NodesState → Type 0
+MasterActs next old new = (g : Group) → StandsFor g old → (goes : GoesBy None g new) × (goes.does.behind ≡ next g)
+
+-- ---- a message comes to its receiver
+
+-- the master heeds an Activate, and no other message
+abbrev pub HeardByMaster : ℕ → Body Command → NodesState → NodesState → Type 0
+HeardByMaster from (Activate ballot) old new = MasterActs (behind_answer from ballot) old new
+HeardByMaster from _ old new = new ≡ old
+
+-- a message that was sent comes to the master, or to a node
+abbrev pub Comes : Option (ℕ × Message Command) → NodesState → NodesState → Type 0
+Comes None old new = ⊥
+Comes (Some (zero, message)) old new = HeardByMaster message.from message.body old new
+Comes (Some (suc at, message)) old new = Acts at (takes (Peer message)) old new
+
+-- it comes to nobody: none was sent, or its receiver is unknown or has stopped
+abbrev pub ComesToNobody : Option (ℕ × Message Command) → NodesState → Type 0
+ComesToNobody None n = Unit {0}
+ComesToNobody (Some (zero, message)) n = ⊥
+ComesToNobody (Some (suc at, message)) n = running n.nodes (suc at) ≡ None

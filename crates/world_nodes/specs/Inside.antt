@@ -1,0 +1,52 @@
+-- What the helpers of nodes say.
+use Rattle.std.specs.Prelude.{◌≡◌, ◌<◌, ℕ, Bool, true, ◌-◌, ◌++◌, List, Option, Some, None, length, slice_get}
+use Rattle.lists.specs.Lists.{In}
+use Rattle.agreement.specs.World.{messages}
+use Rattle.ballot.specs.Body.{Body}
+use Rattle.ballot.specs.Body.TheVariants.{Activate}
+use Rattle.ballot.specs.Effect.{Effect}
+use Rattle.ballot.specs.Losses.{Thinned}
+use Rattle.ballot.specs.Message.{Message}
+use Rattle.broker_base.specs.Command.{Command}
+use Rattle.broker_base.specs.Output.{Output}
+use Rattle.world_base.specs.declared.item.Item.{Item}
+use Rattle.world_base.specs.declared.item.Item.TheVariants.{Peer}
+use Rattle.world_base.specs.Core.{CountedCore}
+use Rattle.world_base.specs.LossyStep.{RunsOn}
+use Rattle.world_base.specs.Step.{node_step}
+use Rattle.world_nodes.specs.Goes.{running}
+
+-- the ballot that a message asks the master to activate, if it does
+abbrev pub asks_for : Body Command → Option ℕ
+asks_for (Activate ballot) = Some ballot
+asks_for _ = None
+
+-- messages were kept behind those that were sent, save some that were lost
+pub record Keeps (given : List (Effect Command Output)) (sent more : List (ℕ × Message Command)) (whole : Bool) : Type 0 where
+  pub kept : List (Effect Command Output)
+  pub thinned : Thinned kept given
+  pub exact : whole ≡ true → kept ≡ given
+  pub is : more ≡ sent ++ messages kept
+
+-- the node of a number runs, at a place
+pub record RunsAt (nodes : List CountedCore) (node at : ℕ) : Type 0 where
+  pub core : CountedCore
+  pub place : at ≡ node - 1
+  pub positive : 0 < node
+  pub below : at < length nodes
+  pub stands : slice_get nodes at ≡ Some core
+  pub runs : running nodes node ≡ Some core
+
+-- what a node takes in of others was sent to it
+abbrev pub WasSent : ℕ → Item → List (ℕ × Message Command) → Type 0
+WasSent node (Peer message) sent = In (node, message) sent
+WasSent node _ sent = Unit {0}
+
+-- a node took an item in, perhaps with losses, and without any where it was whole
+pub record TookItem (old : CountedCore) (item : Item) (new : CountedCore) (sent more : List (ℕ × Message Command)) (whole : Bool) : Type 0 where
+  pub wanted : List (Effect Command Output)
+  pub kept : List (Effect Command Output)
+  pub runs : RunsOn item old.core new.core wanted
+  pub thinned : Thinned kept wanted
+  pub is : more ≡ sent ++ messages kept
+  pub exact : whole ≡ true → (new ≡ record old { core = (node_step item old.core).core }) × (kept ≡ (node_step item old.core).messages)

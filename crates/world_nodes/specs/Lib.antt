@@ -1,0 +1,4 @@
+pub mod Nodes
+pub mod Goes
+pub mod Steps
+pub mod Inside

@@ -1,0 +1,25 @@
+-- Nodes with their master and all messages that were sent, and which groups of the model they are.
+use Rattle.std.specs.Prelude.{◌≡◌, ℕ, List, map}
+use Rattle.ballot.specs.Message.{Message}
+use Rattle.agreement.specs.MasterState.{MasterState}
+use Rattle.broker_base.specs.Command.{Command}
+use Rattle.world_base.specs.Core.{CoreState, CountedCore}
+use Rattle.group_model.specs.Group.{Group}
+
+-- Node n + 1 stands at place n; all messages that were ever sent stay, each with its receiver. Losses count the steps in
+-- which memory was wanting, up to 2^64 - 1.
+pub record NodesState : Type 0 where
+  pub master : MasterState
+  pub nodes : List CountedCore
+  pub sent : List (ℕ × Message Command)
+  pub losses : ℕ
+
+abbrev pub cores_of : List CountedCore → List CoreState
+cores_of nodes = map (λ (c : CountedCore). c.core) nodes
+
+-- A group stands for nodes: it has their master, what each of them keeps, and their messages. Which outputs its replicas
+-- gave before is history: no field keeps it.
+pub record StandsFor (g : Group) (n : NodesState) : Type 0 where
+  pub master : g.master ≡ n.master
+  pub nodes : g.nodes ≡ cores_of n.nodes
+  pub sent : g.sent ≡ n.sent

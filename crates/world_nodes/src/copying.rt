@@ -1,0 +1,63 @@
+// Copies of messages that were sent, to be delivered once more.
+
+ghost use Rattle.std.specs.Prelude.{◌≡◌, IfOk};
+
+use ballot::copy_log;
+use broker::BrokerMachine;
+use machine::Machine;
+use std::alloc::Global;
+use world_base::{Body, Command, Config, Members, Memory, Message};
+
+/// A copy of a message. The only error is want of memory.
+pub fn copy_of(alloc: Global, message: &Message<Command>) -> Result<Message<Command>, Memory>
+    ensures { IfOk result (λ copied. copied ≡ message.now) }
+{
+    let from = message.from;
+    let body = match &message.body {
+        Body::NewBallot(ballot, members, previous, previous_members) => {
+            new_ballot_of(alloc, *ballot, members, *previous, previous_members)?
+        }
+        Body::Join(ballot, previous) => Body::Join(*ballot, *previous),
+        Body::State(ballot, log) => {
+            Body::State(*ballot, copy_log::<BrokerMachine>(alloc, log.as_slice())?)
+        }
+        Body::Install(ballot, log) => {
+            Body::Install(*ballot, copy_log::<BrokerMachine>(alloc, log.as_slice())?)
+        }
+        Body::Installed(ballot, held) => Body::Installed(*ballot, *held),
+        Body::Activate(ballot) => Body::Activate(*ballot),
+        Body::Activated(ballot) => Body::Activated(*ballot),
+        Body::Superseded(ballot) => Body::Superseded(*ballot),
+        Body::Append(ballot, place, command) => {
+            Body::Append(*ballot, *place, BrokerMachine::copy(alloc, command)?)
+        }
+        Body::Held(ballot, held) => Body::Held(*ballot, *held),
+        Body::Commit(ballot, committed) => Body::Commit(*ballot, *committed),
+    };
+    Ok(Message { from, body })
+}
+
+// A copy of a NewBallot.
+fn new_ballot_of(
+    alloc: Global,
+    ballot: u64,
+    members: &Members,
+    previous: u64,
+    previous_members: &Members,
+) -> Result<Body<Command>, Memory>
+    ensures { IfOk result (λ body. body
+        ≡ Body.NewBallot ballot members.now previous previous_members.now) }
+{
+    let members = Members::from_slice(alloc, members.as_slice())?;
+    let previous_members = Members::from_slice(alloc, previous_members.as_slice())?;
+    Ok(Body::NewBallot(ballot, members, previous, previous_members))
+}
+
+/// A copy of a configuration. The only error is want of memory.
+pub fn config_of(alloc: Global, config: &Config) -> Result<Config, Memory>
+    ensures { IfOk result (λ copied. copied ≡ config.now) }
+{
+    let members = Members::from_slice(alloc, config.members.as_slice())?;
+    let primary = config.primary;
+    Ok(Config { members, primary })
+}

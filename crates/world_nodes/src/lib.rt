@@ -1,0 +1,11 @@
+//! Nodes with the connections of their clients, their master, and all messages that they ever sent.
+#![tactic(auto)]
+
+mod copying;
+mod keeping;
+mod nodes;
+mod opening;
+mod turning;
+
+pub use master::Idle;
+pub use nodes::Nodes;
