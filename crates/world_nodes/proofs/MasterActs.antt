@@ -18,7 +18,7 @@ use Rattle.world_model.specs.Goes.{Does, IsFaithful, deed_of}
 use Rattle.world_nodes.specs.Nodes.{NodesState}
 use Rattle.world_nodes.specs.Goes.{Comes, HeardByMaster, MasterActs, behind_answer, behind_giving}
 use Rattle.world_nodes.specs.Steps.{LosesNothing}
-use Rattle.world_nodes.specs.Inside.{asks_for}
+use Rattle.master.specs.Inside.{asks_for}
 use Rattle.world_nodes.proofs.Acts.{not_one_more}
 
 abbrev Sent : Type 0

@@ -1,9 +1,7 @@
 -- What the helpers of nodes say.
-use Rattle.std.specs.Prelude.{◌≡◌, ◌<◌, ℕ, Bool, true, ◌-◌, ◌++◌, List, Option, Some, None, length, slice_get}
+use Rattle.std.specs.Prelude.{◌≡◌, ◌<◌, ℕ, Bool, true, ◌-◌, ◌++◌, List, Some, length, slice_get}
 use Rattle.lists.specs.Lists.{In}
 use Rattle.agreement.specs.World.{messages}
-use Rattle.ballot.specs.Body.{Body}
-use Rattle.ballot.specs.Body.TheVariants.{Activate}
 use Rattle.ballot.specs.Effect.{Effect}
 use Rattle.ballot.specs.Losses.{Thinned}
 use Rattle.ballot.specs.Message.{Message}
@@ -15,11 +13,6 @@ use Rattle.world_base.specs.Core.{CountedCore}
 use Rattle.world_base.specs.LossyStep.{RunsOn}
 use Rattle.world_base.specs.Step.{node_step}
 use Rattle.world_nodes.specs.Goes.{running}
-
--- the ballot that a message asks the master to activate, if it does
-abbrev pub asks_for : Body Command → Option ℕ
-asks_for (Activate ballot) = Some ballot
-asks_for _ = None
 
 -- messages were kept behind those that were sent, save some that were lost
 pub record Keeps (given : List (Effect Command Output)) (sent more : List (ℕ × Message Command)) (whole : Bool) : Type 0 where

@@ -4,41 +4,9 @@ ghost use Rattle.std.specs.Prelude.{◌≡◌, ◌++◌, ◌∷◌, [], ◌&&◌
 ghost use Rattle.std.specs.Bool.{OnTrue, OnFalse};
 ghost use Rattle.agreement.specs.World.{messages};
 ghost use Rattle.ballot.specs.Losses.{Thinned, one_more};
-ghost use Rattle.world_nodes.specs.Inside.{Keeps, asks_for};
+ghost use Rattle.world_nodes.specs.Inside.{Keeps};
 
-use master::Activation;
-use world_base::{Body, Command, Effect, Message, Output};
-
-/// Puts a message of the master behind those that were sent. Whether there was memory for it is the
-/// result.
-pub fn tell(sent: &mut Vec<(u8, Message<Command>)>, receiver: u8, body: Body<Command>) -> bool
-    ensures told { OnTrue result
-        (sent.new.items ≡ sent.old.items ++ (receiver, record { from = 0; body = body }) ∷ []) }
-    ensures lost { OnFalse result (sent.new.items ≡ sent.old.items) }
-{
-    sent.push((receiver, Message { from: 0, body })).is_ok()
-}
-
-/// What the master answers of a ballot.
-pub fn answer_of(activation: Activation, ballot: u64) -> Body<Command>
-    ensures granted { activation ≡ Activation.Activated → result ≡ Body.Activated ballot }
-    ensures refused { activation ≡ Activation.Superseded → result ≡ Body.Superseded ballot }
-{
-    match activation {
-        Activation::Activated => Body::Activated(ballot),
-        Activation::Superseded => Body::Superseded(ballot),
-    }
-}
-
-/// The ballot that a message asks the master to activate, if it does.
-pub fn asks_for(message: &Message<Command>) -> Option<u64>
-    ensures { result ≡ asks_for message.now.body }
-{
-    match message.body {
-        Body::Activate(ballot) => Some(ballot),
-        _ => None,
-    }
-}
+use world_base::{Command, Effect, Message, Output};
 
 /// Puts the messages among effects behind those that were sent. One that finds no memory is lost;
 /// whether none was is the result.

@@ -1,7 +1,8 @@
 //! Nodes with the connections of their clients, their master, and all messages that they ever sent.
 #![tactic(auto)]
 
-mod copying;
+mod acting;
+mod counters;
 mod keeping;
 mod nodes;
 mod opening;

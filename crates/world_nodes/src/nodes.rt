@@ -1,40 +1,34 @@
 // Nodes and their master.
 
 ghost use Rattle.std.specs.Prelude.{◌≡◌, ◌-◌, ◌↔◌, ◌⊎◌, ◌++◌, true, false, None, Some, length, slice_get, IfOk, IfSome, OnOk, OnErr, IsErr, IsErrOf};
-ghost use Rattle.ballot.specs.Body.TheVariants.{Activate};
 ghost use Rattle.ballot.specs.Losses.{one_more};
-ghost use Rattle.lists.specs.Lists.{In};
 ghost use Rattle.agreement.specs.MasterState.{refusal};
 ghost use Rattle.agreement.specs.World.{can_open};
 ghost use Rattle.group_model.specs.Group.{Group, opening_group};
 ghost use Rattle.node_model.specs.Moves.Deed.{takes, gives};
 ghost use Rattle.world_nodes.specs.Nodes.{NodesState, StandsFor};
 ghost use Rattle.world_nodes.specs.Goes.{Acts, AnswersFor, Comes, ComesToNobody, HandsOver, MasterActs, behind_answer, behind_giving, node_of, running};
-ghost use Rattle.world_nodes.specs.Steps.{LosesNothing, TakesIn, forgetful};
-ghost use Rattle.world_nodes.specs.Inside.{RunsAt, WasSent};
+ghost use Rattle.world_nodes.specs.Steps.{LosesNothing, TakesIn};
 
-use crate::copying::{config_of, copy_of};
-use crate::keeping::{answer_of, asks_for, counted, tell};
+use crate::counters::Counters;
 use crate::opening::can_open;
-use crate::turning::take_in;
-use master::{Idle, Master};
+use broker::BrokerMachine;
+use master::{Idle, Master, asks_for, copy_of};
 use std::alloc::Global;
 use std::marker::Model;
-use world_base::{
-    Body, Command, Config, Handed, Item, Members, Memory, Message, NodeCore, OpeningError, Piece,
-    Port,
-};
+use world_base::{Command, Config, Handed, Item, Message, NodeCore, OpeningError, Piece, Port};
 
 /// Nodes with the connections of their clients, their master, and all messages that they ever sent:
 /// any may come late, again or never. Nodes are numbered from 1, messages from 0 in the order of
 /// their sending.
 #[derive(Drop)]
 pub struct Nodes {
-    alloc: Global,
-    master: Master,
-    nodes: Vec<NodeCore>,
-    sent: Vec<(u8, Message<Command>)>,
-    losses: u64,
+    pub(crate) alloc: Global,
+    pub(crate) master: Master,
+    pub(crate) nodes: Vec<NodeCore>,
+    pub(crate) sent: Vec<(u8, Message<Command>)>,
+    pub(crate) counters: Counters,
+    pub(crate) losses: u64,
 }
 
 impl Model for Nodes {
@@ -67,6 +61,7 @@ impl Nodes {
         for at in 0..nodes {
             opened.push(NodeCore::new(alloc, at + 1, &config)?)?;
         }
+        let counters = Counters::new(alloc)?;
         let Ok(master) = Master::new(config) else {
             return Err(OpeningError::BadMembers);
         };
@@ -75,6 +70,7 @@ impl Nodes {
             master,
             nodes: opened,
             sent: Vec::new(alloc),
+            counters,
             losses: 0,
         })
     }
@@ -121,7 +117,7 @@ impl Nodes {
         if self.running(receiver).is_none() {
             return Err(Idle);
         }
-        match copy_of(self.alloc, message) {
+        match copy_of::<BrokerMachine>(self.alloc, message) {
             Ok(message) => self.act(receiver, Item::Peer(message)),
             Err(_) => {
                 self.lose();
@@ -244,6 +240,23 @@ impl Nodes {
         self.master.active()
     }
 
+    /// The length of the agreed list, found without going through messages.
+    pub fn agreed_len(&self) -> u64 {
+        let (_, members) = self.master.active();
+        if members.len() == 1 {
+            return self.held(members[0]);
+        }
+        self.counters.agreed_by(members)
+    }
+
+    // How many places the log of a node has; 0 where it is not there.
+    fn held(&self, node: u8) -> u64 {
+        match self.node(node) {
+            Some(core) => core.status().held,
+            None => 0,
+        }
+    }
+
     /// A node, if it is there.
     pub fn node(&self, node: u8) -> Option<&NodeCore>
         ensures some { IfSome result (λ core. node_of self.now.nodes node ≡ Some core.now) }
@@ -260,88 +273,5 @@ impl Nodes {
         ensures { result ≡ self.now.losses }
     {
         self.losses
-    }
-
-    // A node that runs takes an item in.
-    fn act(&mut self, node: u8, item: Item) -> Result<(), Idle>
-        requires { WasSent node item self.old.sent }
-        ensures step { OnOk result (TakesIn node item self.old self.new) }
-        ensures goes { LosesNothing self.old self.new →
-            OnOk result (Acts (node - 1) (takes item) self.old self.new) }
-        ensures idle { IsErr result ↔ (running self.old.nodes node ≡ None) }
-        ensures same { OnErr result (self.new ≡ self.old) }
-    {
-        let Some(at) = self.running(node) else {
-            return Err(Idle);
-        };
-        let core = &mut self.nodes[at];
-        let whole = take_in(self.alloc, core, item, &mut self.sent);
-        self.losses = counted(self.losses, whole, true);
-        Ok(())
-    }
-
-    // The message of a number, with its receiver.
-    fn message(&self, number: u64) -> Option<&(u8, Message<Command>)>
-        ensures some { IfSome result (λ found. slice_get self.now.sent number ≡ Some found.now) }
-        ensures none { result ≡ None → slice_get self.now.sent number ≡ None }
-    {
-        self.sent.get(number as usize)
-    }
-
-    // The place of a node that is there and has not stopped.
-    fn running(&self, node: u8) -> Option<usize>
-        ensures some { IfSome result (λ at. RunsAt self.now.nodes node at) }
-        ensures none { result ≡ None → running self.now.nodes node ≡ None }
-    {
-        if node == 0 || node as usize > self.nodes.len() {
-            return None;
-        }
-        let at = node as usize - 1;
-        if self.nodes[at].status().stopped {
-            return None;
-        }
-        Some(at)
-    }
-
-    // The master gives a ballot and tells its primary.
-    fn give(&mut self, config: &Config) -> Result<(), Memory>
-        requires { refusal self.old.master config.now ≡ None }
-        ensures goes { LosesNothing self.old self.new →
-            OnOk result (MasterActs (behind_giving config.now) self.old self.new) }
-        ensures counted { (self.new.losses ≡ self.old.losses)
-            ⊎ (self.new.losses ≡ one_more self.old.losses) }
-        ensures err { OnErr result (self.new ≡ self.old) }
-    {
-        let given = config_of(self.alloc, config)?;
-        let members = Members::from_slice(self.alloc, config.members.as_slice())?;
-        let (previous, previous_members) = self.master.active();
-        let previous_members = Members::from_slice(self.alloc, previous_members)?;
-        let Ok(ballot) = self.master.assign(given) else {
-            return Err(Memory);
-        };
-        let body = Body::NewBallot(ballot, members, previous, previous_members);
-        let told = tell(&mut self.sent, config.primary, body);
-        self.losses = counted(self.losses, told, true);
-        Ok(())
-    }
-
-    // The master answers a node that asks it to activate a ballot.
-    fn answer(&mut self, from: u8, ballot: u64)
-        requires { In (0, record { from = from; body = Activate ballot }) self.old.sent }
-        ensures goes { LosesNothing self.old self.new →
-            MasterActs (behind_answer from ballot) self.old self.new }
-        ensures counted { (self.new.losses ≡ self.old.losses)
-            ⊎ (self.new.losses ≡ one_more self.old.losses) }
-    {
-        let activation = self.master.activate(ballot);
-        let told = tell(&mut self.sent, from, answer_of(activation, ballot));
-        self.losses = counted(self.losses, told, true);
-    }
-
-    // Nothing happens, for want of memory.
-    fn lose(&mut self)
-        ensures { self.new ≡ forgetful self.old }
-    {
-        self.losses = counted(self.losses, false, true);
     }
 }

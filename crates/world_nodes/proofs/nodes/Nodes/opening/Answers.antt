@@ -9,4 +9,4 @@ loop-at-preserved c =
 pub returns-clause-opens : goal.returns-clause-opens
 returns-clause-opens c =
     let count : c.loop-at.at ≡ c.args.nodes = (let a = c.loop-at.auto.at-end in omega (arith, a, c.loop-at-test.false)) in
-    opened_all c.args.config c.args.nodes c.loop-at.at c.in-Ok.master c.loop-at.opened.items c.new-3.result.items 0 c.in-Ok.ensures.ok c.loop-at.invariant count c.new-3.ensures.items
+    opened_all c.args.config c.args.nodes c.loop-at.at c.in-Ok.master c.loop-at.opened.items c.new-4.result.items 0 c.in-Ok.ensures.ok c.loop-at.invariant count c.new-4.ensures.items

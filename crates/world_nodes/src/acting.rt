@@ -1,0 +1,108 @@
+// What nodes and their master do in a step.
+
+ghost use Rattle.std.specs.Prelude.{◌≡◌, ◌-◌, ◌↔◌, ◌⊎◌, true, false, None, Some, length, slice_get, IfSome, OnOk, OnErr, IsErr};
+ghost use Rattle.ballot.specs.Body.TheVariants.{Activate};
+ghost use Rattle.ballot.specs.Losses.{one_more};
+ghost use Rattle.lists.specs.Lists.{In};
+ghost use Rattle.agreement.specs.MasterState.{refusal};
+ghost use Rattle.node_model.specs.Moves.Deed.{takes};
+ghost use Rattle.world_nodes.specs.Goes.{Acts, MasterActs, behind_answer, behind_giving, running};
+ghost use Rattle.world_nodes.specs.Steps.{LosesNothing, TakesIn, forgetful};
+ghost use Rattle.world_nodes.specs.Inside.{RunsAt, WasSent};
+
+use crate::keeping::counted;
+use crate::nodes::Nodes;
+use crate::turning::take_in;
+use master::{Idle, answer_of, config_of, tell};
+use world_base::{Body, Command, Config, Item, Members, Memory, Message};
+
+impl Nodes {
+    // A node that runs takes an item in.
+    pub(crate) fn act(&mut self, node: u8, item: Item) -> Result<(), Idle>
+        requires { WasSent node item self.old.sent }
+        ensures step { OnOk result (TakesIn node item self.old self.new) }
+        ensures goes { LosesNothing self.old self.new →
+            OnOk result (Acts (node - 1) (takes item) self.old self.new) }
+        ensures idle { IsErr result ↔ (running self.old.nodes node ≡ None) }
+        ensures same { OnErr result (self.new ≡ self.old) }
+    {
+        let Some(at) = self.running(node) else {
+            return Err(Idle);
+        };
+        let core = &mut self.nodes[at];
+        let from = self.sent.len();
+        let whole = take_in(self.alloc, core, item, &mut self.sent);
+        self.counters.hear_from(&self.sent, from);
+        self.losses = counted(self.losses, whole, true);
+        Ok(())
+    }
+
+    // The message of a number, with its receiver.
+    pub(crate) fn message(&self, number: u64) -> Option<&(u8, Message<Command>)>
+        ensures some { IfSome result (λ found. slice_get self.now.sent number ≡ Some found.now) }
+        ensures none { result ≡ None → slice_get self.now.sent number ≡ None }
+    {
+        self.sent.get(number as usize)
+    }
+
+    // The place of a node that is there and has not stopped.
+    pub(crate) fn running(&self, node: u8) -> Option<usize>
+        ensures some { IfSome result (λ at. RunsAt self.now.nodes node at) }
+        ensures none { result ≡ None → running self.now.nodes node ≡ None }
+    {
+        if node == 0 || node as usize > self.nodes.len() {
+            return None;
+        }
+        let at = node as usize - 1;
+        if self.nodes[at].status().stopped {
+            return None;
+        }
+        Some(at)
+    }
+
+    // The master gives a ballot and tells its primary.
+    pub(crate) fn give(&mut self, config: &Config) -> Result<(), Memory>
+        requires { refusal self.old.master config.now ≡ None }
+        ensures goes { LosesNothing self.old self.new →
+            OnOk result (MasterActs (behind_giving config.now) self.old self.new) }
+        ensures counted { (self.new.losses ≡ self.old.losses)
+            ⊎ (self.new.losses ≡ one_more self.old.losses) }
+        ensures err { OnErr result (self.new ≡ self.old) }
+    {
+        let given = config_of(self.alloc, config)?;
+        let members = Members::from_slice(self.alloc, config.members.as_slice())?;
+        let (previous, previous_members) = self.master.active();
+        let previous_members = Members::from_slice(self.alloc, previous_members)?;
+        let Ok(ballot) = self.master.assign(given) else {
+            return Err(Memory);
+        };
+        self.counters.begin(ballot);
+        let body = Body::NewBallot(ballot, members, previous, previous_members);
+        let told = tell(&mut self.sent, config.primary, body);
+        self.losses = counted(self.losses, told, true);
+        Ok(())
+    }
+
+    // The master answers a node that asks it to activate a ballot.
+    pub(crate) fn answer(&mut self, from: u8, ballot: u64)
+        requires { In (0, record { from = from; body = Activate ballot }) self.old.sent }
+        ensures goes { LosesNothing self.old self.new →
+            MasterActs (behind_answer from ballot) self.old self.new }
+        ensures counted { (self.new.losses ≡ self.old.losses)
+            ⊎ (self.new.losses ≡ one_more self.old.losses) }
+    {
+        let (before, _) = self.master.active();
+        let activation = self.master.activate(ballot);
+        let (behind, _) = self.master.active();
+        self.counters.turn_over(before, behind);
+        let told = tell(&mut self.sent, from, answer_of(activation, ballot));
+        self.losses = counted(self.losses, told, true);
+    }
+
+    // Nothing happens, for want of memory.
+    pub(crate) fn lose(&mut self)
+        ensures { self.new ≡ forgetful self.old }
+    {
+        self.losses = counted(self.losses, false, true);
+    }
+}
