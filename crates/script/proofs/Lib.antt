@@ -1,0 +1,9 @@
+pub mod AllRead
+pub mod ByWord
+pub mod FieldsRead
+pub mod Lawful
+pub mod ManyLines
+pub mod OneForm
+pub mod OneLine
+pub mod OneOpening
+pub mod WithoutFault

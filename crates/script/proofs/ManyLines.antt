@@ -1,0 +1,71 @@
+-- ManyLines.antt: the lines behind the first, one after the other.
+use Rattle.std.proofs.Common.{◌≡◌, ◌<◌, ◌≤◌, ◌+◌, Bor, ℕ, suc, zero, List, [], ◌∷◌, ◌++◌, Result, Ok, Err, length, get_or, take, take_all, inr, ap, refl, sym, subst, ◌∙◌, arith}
+use Rattle.std.proofs.Math.ListN.{get_or-map}
+use Rattle.std.proofs.lemmas.List.{length-map, take_more}
+use Rattle.std.specs.Result.{IsErrOf}
+use Rattle.script.specs.declared.error.ScriptError.{ScriptError}
+use Rattle.script.specs.declared.error.ScriptError.TheVariants as errors
+use Rattle.script.specs.declared.opening.Opening.{Opening}
+use Rattle.script.specs.declared.order.Order.{Order}
+use Rattle.script.specs.Fields.{Text, texts}
+use Rattle.script.specs.Scripts.{AreOrders, HasOrder, IsFirstBad, IsOpeningLine, IsOrderLine, Refuses}
+
+push_order : (ts : List Text) (os : List Order) (t : Text) (o : Order) → AreOrders ts os → IsOrderLine t o
+    → AreOrders (ts ++ t ∷ []) (os ++ o ∷ [])
+push_order [] [] t o before is = (is, tt)
+push_order [] (p ∷ os) t o before is = absurd before
+push_order (s ∷ ts) [] t o before is = absurd before
+push_order (s ∷ ts) (p ∷ os) t o before is = (before.0, push_order ts os t o before.1 is)
+
+-- one line more is read
+pub orders_more : (lines : List (Bor Text)) (i : ℕ) (d : Bor Text) (os ps : List Order) (o : Order)
+    → i < length lines → AreOrders (take i (texts lines)) os → IsOrderLine (get_or lines i d).now o
+    → ps ≡ os ++ o ∷ [] → AreOrders (take (i + 1) (texts lines)) ps
+orders_more lines i d os ps o within before is more =
+    let here : get_or (texts lines) i d.now ≡ (get_or lines i d).now = get_or-map (λ (b : Bor Text). b.now) lines i d in
+    let pushed = push_order (take i (texts lines)) os (get_or lines i d).now o before is in
+    let front : take (i + 1) (texts lines) ≡ take i (texts lines) ++ (get_or lines i d).now ∷ [] =
+    take_more (texts lines) i d.now (omega (arith, length-map lines (λ (b : Bor Text). b.now)))
+    ∙ ap (λ t. take i (texts lines) ++ t ∷ []) here in
+    subst (λ qs. AreOrders (take (i + 1) (texts lines)) qs) (sym more)
+    (subst (λ ts. AreOrders ts (os ++ o ∷ [])) (sym front) pushed)
+
+-- all lines are read
+pub orders_all : (lines : List (Bor Text)) (i : ℕ) (os : List Order) → length lines ≤ i
+    → AreOrders (take i (texts lines)) os → AreOrders (texts lines) os
+orders_all lines i os end before =
+    subst (λ ts. AreOrders ts os) (take_all i (texts lines) (omega (arith, length-map lines (λ (b : Bor Text). b.now)))) before
+
+first_bad_at : (ts : List Text) (i : ℕ) (d : Text) (os : List Order) → i < length ts → AreOrders (take i ts) os
+    → (HasOrder (get_or ts i d) → ⊥) → IsFirstBad ts i
+first_bad_at [] i d os within before bad = absurd (omega arith)
+first_bad_at (t ∷ ts) zero d os within before bad = bad
+first_bad_at (t ∷ ts) (suc i) d [] within before bad = absurd before
+first_bad_at (t ∷ ts) (suc i) d (o ∷ os) within before bad =
+    ((o, before.0), first_bad_at ts i d os (omega arith) before.1 bad)
+
+number_in : {T : Type 0} → Result T ScriptError → ℕ
+number_in (Ok x) = 0
+number_in (Err (errors.Line n)) = n
+number_in (Err errors.Memory) = 0
+
+-- a refusal has one number
+pub one_number : {T : Type 0} (x : Result T ScriptError) (a b : ℕ) → x ≡ Err (errors.Line a) → x ≡ Err (errors.Line b) → b ≡ a
+unfolding number_in
+one_number x a b one other = sym (ap number_in other) ∙ ap number_in one
+
+-- the first line that orders nothing
+pub first_bad : (lines : List (Bor Text)) (i : ℕ) (d : Bor Text) (os : List Order) → i < length lines
+    → AreOrders (take i (texts lines)) os → (HasOrder (get_or lines i d).now → ⊥) → IsFirstBad (texts lines) i
+first_bad lines i d os within before bad =
+    let here : get_or (texts lines) i d.now ≡ (get_or lines i d).now = get_or-map (λ (b : Bor Text). b.now) lines i d in
+    first_bad_at (texts lines) i d.now os (omega (arith, length-map lines (λ (b : Bor Text). b.now))) before
+    (λ has. bad (subst HasOrder here has))
+
+-- a line behind the first is refused by its number
+pub bad_behind : {T : Type 0} (first : Text) (rest : List Text) (error : ScriptError) (o : Opening) → IsOpeningLine first o
+    → ((bad : ℕ) → IsErrOf {T = T} (Err error) (errors.Line bad) → (index : ℕ) × (bad ≡ index + 2) × IsFirstBad rest index)
+    → Refuses (first ∷ rest) error
+bad_behind first rest errors.Memory o is refused = tt
+bad_behind first rest (errors.Line n) o is refused =
+    let (index, number, bad) = refused n refl in inr ((o, is), (index, (number, bad)))

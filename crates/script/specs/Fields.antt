@@ -1,0 +1,103 @@
+-- The fields of a line, and what each kind of field writes. Texts are bytes.
+use Rattle.std.specs.Prelude.{ℕ, Bool, true, false, ◌&&◌, ◌^◌, ◌==◌, nat_lt, if◌then◌else◌, List, [], ◌∷◌, length, codes, bytes_eq, Option, Some, None, option_map, map}
+use Rattle.std.specs.Borrow.{Bor}
+use Rattle.std.specs.List.{slice_split}
+use Rattle.std.specs.Result.{result_ok}
+use Rattle.std.specs.Str.{all_ascii_digits}
+use Rattle.std.specs.Str.Parse.{digits_value}
+use Rattle.hex.specs.Hex.{decode_of}
+use Rattle.topics.specs.declared.malformed.MalformedKind.{MalformedKind}
+use Rattle.topics.specs.Text.{filter_fault, topic_fault}
+use Rattle.packet.specs.ClientId.{client_fault}
+use Rattle.packet.specs.declared.qos.QoS.{QoS}
+use Rattle.packet.specs.declared.qos.QoS.TheVariants as levels
+use Rattle.script.specs.declared.order.Amount.{Amount}
+use Rattle.script.specs.declared.order.Amount.TheVariants as amounts
+
+abbrev pub Text : Type 0
+Text = List ℕ
+
+-- the texts behind references
+abbrev pub texts : List (Bor Text) → List Text
+texts borrowed = map (λ text. text.now) borrowed
+
+-- what stands between the spaces, 32
+unfoldable pub fields_of : Text → List Text
+fields_of line = slice_split (λ byte. byte == 32) line
+
+-- what stands between the commas, 44
+unfoldable pub parts_of : Text → List Text
+parts_of field = slice_split (λ byte. byte == 44) field
+
+-- one decimal digit or more
+abbrev pub is_decimal : Text → Bool
+is_decimal text = nat_lt 0 (length text) && all_ascii_digits text
+
+-- a decimal number of 64 bits; zeros may stand in front
+unfoldable pub number_of : Text → Option ℕ
+number_of text = if is_decimal text && nat_lt (digits_value 10 text) (2 ^ 64)
+    then Some (digits_value 10 text) else None
+
+-- the level of a number, of which there are three
+abbrev pub level_of : Option ℕ → Option QoS
+level_of None = None
+level_of (Some number) =
+    if number == 0 then Some levels.AtMostOnce else
+    if number == 1 then Some levels.AtLeastOnce else
+    if number == 2 then Some levels.ExactlyOnce else None
+
+unfoldable pub qos_of : Text → Option QoS
+qos_of text = level_of (number_of text)
+
+-- 0 or 1
+abbrev pub bit_of : Option ℕ → Option Bool
+bit_of None = None
+bit_of (Some number) =
+    if number == 0 then Some false else if number == 1 then Some true else None
+
+unfoldable pub retain_of : Text → Option Bool
+retain_of text = bit_of (number_of text)
+
+-- `all`, or a number
+unfoldable pub amount_of : Text → Option Amount
+amount_of text =
+    if bytes_eq text (codes "all") then Some amounts.All else option_map amounts.Bytes (number_of text)
+
+-- `-` for no byte, or two hexadecimal digits for each
+unfoldable pub payload_of : Text → Option Text
+payload_of text =
+    if bytes_eq text (codes "-") then Some [] else
+    if nat_lt 0 (length text) then result_ok (decode_of text) else None
+
+-- the text, where it has no fault
+abbrev pub unless : Option MalformedKind → Text → Option Text
+unless None text = Some text
+unless (Some fault) text = None
+
+-- a Client Identifier, a Topic Name and a Topic Filter stand as they are
+unfoldable pub client_of : Text → Option Text
+client_of text = unless (client_fault text) text
+
+unfoldable pub topic_of : Text → Option Text
+topic_of text = unless (topic_fault text) text
+
+unfoldable pub filter_of : Text → Option Text
+filter_of text = unless (filter_fault text) text
+
+-- both, where there are both
+abbrev pub with_first : {X : Type 0} → Option X → Option (List X) → Option (List X)
+with_first (Some x) (Some xs) = Some (x ∷ xs)
+with_first (Some x) None = None
+with_first None xs = None
+
+-- what all of the texts write, where each writes something
+abbrev pub all_of : {X : Type 0} → (Text → Option X) → List Text → Option (List X)
+all_of reads [] = Some []
+all_of reads (text ∷ texts) = with_first (reads text) (all_of reads texts)
+
+-- lists with commas
+unfoldable pub numbers_of : Text → Option (List ℕ)
+numbers_of field = all_of number_of (parts_of field)
+
+unfoldable pub clients_of : Text → Option (List Text)
+clients_of field = all_of client_of (parts_of field)

@@ -1,0 +1,5 @@
+pub mod Fields
+pub mod Orders
+pub mod Scripts
+pub mod Faults
+pub mod Inside

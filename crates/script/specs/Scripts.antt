@@ -1,0 +1,88 @@
+-- The form of a whole script: its lines, the first of them, and the first line without its form.
+use Rattle.std.specs.Prelude.{◌≡◌, ◌==◌, ◌&&◌, ◌-◌, ◌+◌, ℕ, suc, zero, Bool, true, not, nat_le, if◌then◌else◌, List, [], ◌∷◌, length, slice_index, take, codes, bytes_eq, Some, ◌⊎◌}
+use Rattle.std.specs.List.{list_all, list_any, slice_split}
+use Rattle.std.specs.Str.{IsUtf8}
+use Rattle.ballot_base.specs.LawfulConfig.{is_lawful}
+use Rattle.script.specs.Fields.{Text, clients_of, fields_of, number_of, numbers_of}
+use Rattle.script.specs.Orders.{IsOrder}
+use Rattle.script.specs.declared.error.ScriptError.{ScriptError}
+use Rattle.script.specs.declared.error.ScriptError.TheVariants as errors
+use Rattle.script.specs.declared.opening.Opening.{Opening}
+use Rattle.script.specs.declared.order.Order.{Order}
+use Rattle.script.specs.declared.reading.Script.{Script}
+
+-- a line feed, 10, behind the last line may be missing
+abbrev pub without_last_feed : Text → Text
+without_last_feed text =
+    if slice_index text (length text - 1) == 10 then take (length text - 1) text else text
+
+-- what stands between the line feeds
+unfoldable pub lines_of : Text → List Text
+lines_of text = slice_split (λ byte. byte == 10) (without_last_feed text)
+
+-- each of the members is one of so many nodes, numbered from 1
+abbrev pub are_nodes : ℕ → List ℕ → Bool
+are_nodes nodes members = list_all (λ member. nat_le member nodes) members
+
+-- at most 15 nodes, and members of them that a ballot may have
+abbrev pub is_lawful_opening : ℕ → List ℕ → ℕ → Bool
+is_lawful_opening nodes members primary = nat_le nodes 15
+    && (are_nodes nodes members && is_lawful members primary)
+
+-- one of the clients is this one
+abbrev pub has : List Text → Text → Bool
+has clients client = list_any (λ other. bytes_eq other client) clients
+
+-- no two of the clients are the same
+abbrev pub are_distinct : List Text → Bool
+are_distinct [] = true
+are_distinct (client ∷ clients) = not (has clients client) && are_distinct clients
+
+-- the first line of these fields opens this world: `world 2 1,2 1 a,b`
+pub data IsOpening : List Text → Opening → Type 0 where
+  world : {n m p c : Text} {opening : Opening}
+      → number_of n ≡ Some opening.nodes → numbers_of m ≡ Some opening.config.members
+      → number_of p ≡ Some opening.config.primary → clients_of c ≡ Some opening.clients.items
+      → is_lawful_opening opening.nodes opening.config.members opening.config.primary ≡ true
+      → are_distinct opening.clients.items ≡ true
+      → IsOpening (codes "world" ∷ n ∷ m ∷ p ∷ c ∷ []) opening
+
+-- lines are well-formed texts of these forms
+abbrev pub IsOpeningLine : Text → Opening → Type 0
+IsOpeningLine line opening = IsUtf8 line × IsOpening (fields_of line) opening
+
+abbrev pub IsOrderLine : Text → Order → Type 0
+IsOrderLine line order = IsUtf8 line × IsOrder (fields_of line) order
+
+-- the lines order these, one behind the other
+abbrev pub AreOrders : List Text → List Order → Type 0
+AreOrders [] [] = Unit {0}
+AreOrders [] (order ∷ orders) = ⊥
+AreOrders (line ∷ lines) [] = ⊥
+AreOrders (line ∷ lines) (order ∷ orders) = IsOrderLine line order × AreOrders lines orders
+
+-- the lines are this script
+abbrev pub IsScript : List Text → Script → Type 0
+IsScript [] script = ⊥
+IsScript (first ∷ lines) script =
+    IsOpeningLine first script.opening × AreOrders lines script.orders.items
+
+-- some order, or no order, has this line
+abbrev pub HasOrder : Text → Type 0
+HasOrder line = (order : Order) × IsOrderLine line order
+
+abbrev pub HasOpening : Text → Type 0
+HasOpening line = (opening : Opening) × IsOpeningLine line opening
+
+-- the line of this index is the first that orders nothing
+abbrev pub IsFirstBad : List Text → ℕ → Type 0
+IsFirstBad [] index = ⊥
+IsFirstBad (line ∷ lines) zero = ¬ (HasOrder line)
+IsFirstBad (line ∷ lines) (suc index) = HasOrder line × IsFirstBad lines index
+
+-- lines are refused by the number of the first without its form, or for want of memory
+abbrev pub Refuses : List Text → ScriptError → Type 0
+Refuses lines errors.Memory = Unit {0}
+Refuses [] (errors.Line number) = number ≡ 1
+Refuses (first ∷ lines) (errors.Line number) = ((number ≡ 1) × ¬ (HasOpening first))
+    ⊎ (HasOpening first × ((index : ℕ) × ((number ≡ index + 2) × IsFirstBad lines index)))

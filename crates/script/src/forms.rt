@@ -1,0 +1,203 @@
+// The forms of the lines behind the first, by the fields behind their word.
+
+ghost use Rattle.std.specs.Prelude.{◌≡◌, Some, None, IfOk, IsErrOf};
+ghost use Rattle.script.specs.declared.order.Order.TheVariants as orders;
+ghost use Rattle.script.specs.Fields.{amount_of, client_of, filter_of, number_of, numbers_of, texts};
+ghost use Rattle.script.specs.Inside.Ordering.{one, only, publication_of, publish_of, subscribe_of, two};
+
+use crate::error::LineFault;
+use crate::order::Order;
+use crate::values::{amount, client, filter, number, numbers, payload, qos, retain, topic};
+use packet::ClientId;
+use session_base::Publication;
+use std::alloc::Global;
+
+// The number of a line that has one field more.
+fn one_number(fields: &[&str]) -> Result<u64, LineFault>
+    ensures value { IfOk result (λ number. only number_of (texts fields.now) ≡ Some number) }
+    ensures form { IsErrOf result LineFault.Form → only number_of (texts fields.now) ≡ None }
+{
+    match fields {
+        [field] => number(field),
+        _ => Err(LineFault::Form),
+    }
+}
+
+// The client of a line that has one field more.
+fn one_client(alloc: Global, fields: &[&str]) -> Result<ClientId, LineFault>
+    ensures value { IfOk result (λ client. only client_of (texts fields.now) ≡ Some client) }
+    ensures form { IsErrOf result LineFault.Form → only client_of (texts fields.now) ≡ None }
+{
+    match fields {
+        [field] => client(alloc, field),
+        _ => Err(LineFault::Form),
+    }
+}
+
+/// `deliver 0`
+pub(crate) fn deliver(fields: &[&str]) -> Result<Order, LineFault>
+    ensures value { IfOk result (λ order. one orders.Deliver number_of (texts fields.now) ≡ Some order) }
+    ensures form { IsErrOf result LineFault.Form → one orders.Deliver number_of (texts fields.now) ≡ None }
+{
+    Ok(Order::Deliver(one_number(fields)?))
+}
+
+/// `tick 1`
+pub(crate) fn tick(fields: &[&str]) -> Result<Order, LineFault>
+    ensures value { IfOk result (λ order. one orders.Tick number_of (texts fields.now) ≡ Some order) }
+    ensures form { IsErrOf result LineFault.Form → one orders.Tick number_of (texts fields.now) ≡ None }
+{
+    Ok(Order::Tick(one_number(fields)?))
+}
+
+/// `crash 1`
+pub(crate) fn crash(fields: &[&str]) -> Result<Order, LineFault>
+    ensures value { IfOk result (λ order. one orders.Crash number_of (texts fields.now) ≡ Some order) }
+    ensures form { IsErrOf result LineFault.Form → one orders.Crash number_of (texts fields.now) ≡ None }
+{
+    Ok(Order::Crash(one_number(fields)?))
+}
+
+/// `notice 1`
+pub(crate) fn notice(fields: &[&str]) -> Result<Order, LineFault>
+    ensures value { IfOk result (λ order. one orders.Notice number_of (texts fields.now) ≡ Some order) }
+    ensures form { IsErrOf result LineFault.Form → one orders.Notice number_of (texts fields.now) ≡ None }
+{
+    Ok(Order::Notice(one_number(fields)?))
+}
+
+/// `abandon a`
+pub(crate) fn abandon(alloc: Global, fields: &[&str]) -> Result<Order, LineFault>
+    ensures value { IfOk result (λ order. one orders.Abandon client_of (texts fields.now) ≡ Some order) }
+    ensures form { IsErrOf result LineFault.Form → one orders.Abandon client_of (texts fields.now) ≡ None }
+{
+    Ok(Order::Abandon(one_client(alloc, fields)?))
+}
+
+/// `disconnect a`
+pub(crate) fn disconnect(alloc: Global, fields: &[&str]) -> Result<Order, LineFault>
+    ensures value { IfOk result (λ order. one orders.Disconnect client_of (texts fields.now) ≡ Some order) }
+    ensures form { IsErrOf result LineFault.Form → one orders.Disconnect client_of (texts fields.now) ≡ None }
+{
+    Ok(Order::Disconnect(one_client(alloc, fields)?))
+}
+
+/// `assign 2,3 2`
+pub(crate) fn assign(alloc: Global, fields: &[&str]) -> Result<Order, LineFault>
+    ensures value { IfOk result (λ order.
+        two orders.Assign numbers_of number_of (texts fields.now) ≡ Some order) }
+    ensures form { IsErrOf result LineFault.Form
+        → two orders.Assign numbers_of number_of (texts fields.now) ≡ None }
+{
+    let [members, primary] = fields else {
+        return Err(LineFault::Form);
+    };
+    let members = numbers(alloc, members)?;
+    Ok(Order::Assign(members, number(primary)?))
+}
+
+/// `open a 1`
+pub(crate) fn open_connection(alloc: Global, fields: &[&str]) -> Result<Order, LineFault>
+    ensures value { IfOk result (λ order.
+        two orders.Open client_of number_of (texts fields.now) ≡ Some order) }
+    ensures form { IsErrOf result LineFault.Form
+        → two orders.Open client_of number_of (texts fields.now) ≡ None }
+{
+    let [name, node] = fields else {
+        return Err(LineFault::Form);
+    };
+    let name = client(alloc, name)?;
+    Ok(Order::Open(name, number(node)?))
+}
+
+/// `up 1 all`
+pub(crate) fn carry_up(fields: &[&str]) -> Result<Order, LineFault>
+    ensures value { IfOk result (λ order.
+        two orders.CarryUp number_of amount_of (texts fields.now) ≡ Some order) }
+    ensures form { IsErrOf result LineFault.Form
+        → two orders.CarryUp number_of amount_of (texts fields.now) ≡ None }
+{
+    let [connection, bytes] = fields else {
+        return Err(LineFault::Form);
+    };
+    let connection = number(connection)?;
+    Ok(Order::CarryUp(connection, amount(bytes)?))
+}
+
+/// `down 1 all`
+pub(crate) fn carry_down(fields: &[&str]) -> Result<Order, LineFault>
+    ensures value { IfOk result (λ order.
+        two orders.CarryDown number_of amount_of (texts fields.now) ≡ Some order) }
+    ensures form { IsErrOf result LineFault.Form
+        → two orders.CarryDown number_of amount_of (texts fields.now) ≡ None }
+{
+    let [connection, bytes] = fields else {
+        return Err(LineFault::Form);
+    };
+    let connection = number(connection)?;
+    Ok(Order::CarryDown(connection, amount(bytes)?))
+}
+
+/// `publish a t/1 2 0 78`
+pub(crate) fn publish(alloc: Global, fields: &[&str]) -> Result<Order, LineFault>
+    ensures value { IfOk result (λ order. publish_of (texts fields.now) ≡ Some order) }
+    ensures form { IsErrOf result LineFault.Form → publish_of (texts fields.now) ≡ None }
+{
+    let [name, about, level, keep, bytes] = fields else {
+        return Err(LineFault::Form);
+    };
+    let name = client(alloc, name)?;
+    Ok(Order::Publish(name, publication(alloc, about, level, keep, bytes)?))
+}
+
+// The publication of the last four fields.
+#[tactic(auto, unfolding(crate::specs::Inside::Ordering::publication_of))]
+fn publication(
+    alloc: Global,
+    about: &str,
+    level: &str,
+    keep: &str,
+    bytes: &str,
+) -> Result<Publication, LineFault>
+    ensures value { IfOk result (λ sent.
+        publication_of about.now level.now keep.now bytes.now ≡ Some sent) }
+    ensures form { IsErrOf result LineFault.Form
+        → publication_of about.now level.now keep.now bytes.now ≡ None }
+{
+    let about = topic(alloc, about)?;
+    let level = qos(level)?;
+    let keep = retain(keep)?;
+    Ok(Publication {
+        retain: keep,
+        qos: level,
+        topic: about,
+        payload: payload(alloc, bytes)?,
+    })
+}
+
+/// `subscribe b t/# 2`
+pub(crate) fn subscribe(alloc: Global, fields: &[&str]) -> Result<Order, LineFault>
+    ensures value { IfOk result (λ order. subscribe_of (texts fields.now) ≡ Some order) }
+    ensures form { IsErrOf result LineFault.Form → subscribe_of (texts fields.now) ≡ None }
+{
+    let [name, pattern, level] = fields else {
+        return Err(LineFault::Form);
+    };
+    let name = client(alloc, name)?;
+    let pattern = filter(alloc, pattern)?;
+    Ok(Order::Subscribe(name, pattern, qos(level)?))
+}
+
+/// `unsubscribe b t/#`
+pub(crate) fn unsubscribe(alloc: Global, fields: &[&str]) -> Result<Order, LineFault>
+    ensures value { IfOk result (λ order.
+        two orders.Unsubscribe client_of filter_of (texts fields.now) ≡ Some order) }
+    ensures form { IsErrOf result LineFault.Form
+        → two orders.Unsubscribe client_of filter_of (texts fields.now) ≡ None }
+{
+    let [name, pattern] = fields else {
+        return Err(LineFault::Form);
+    };
+    let name = client(alloc, name)?;
+    Ok(Order::Unsubscribe(name, filter(alloc, pattern)?))
+}

@@ -1,0 +1,19 @@
+//! A script of what happens in a world: its text, read whole before anything of it is done.
+#![tactic(auto)]
+
+mod error;
+mod fields;
+mod forms;
+mod lines;
+mod numbers;
+mod opening;
+mod order;
+mod ordering;
+mod reading;
+mod values;
+
+pub use error::ScriptError;
+pub use numbers::Numbers;
+pub use opening::Opening;
+pub use order::{Amount, Order};
+pub use reading::{Script, read};

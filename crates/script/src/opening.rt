@@ -1,0 +1,118 @@
+// The first line of a script.
+
+ghost use Rattle.std.specs.Prelude.{◌≡◌, ◌≢◌, Some, None, Err, IfOk, OnOk, IsErrOf, true, false};
+ghost use Rattle.std.specs.List.{list_all};
+ghost use Rattle.script.specs.Fields.{texts};
+ghost use Rattle.script.specs.Scripts.{are_distinct, are_nodes, has, is_lawful_opening};
+ghost use Rattle.script.specs.Inside.Worlds.{is_small, values_of, world_of};
+
+use crate::error::LineFault;
+use crate::values::{clients, number, numbers};
+use ballot_base::{Config, Members};
+use packet::ClientId;
+use std::alloc::Global;
+
+/// The world at the beginning.
+#[derive(Drop)]
+pub struct Opening {
+    /// How many nodes there are, at most 15, numbered from 1.
+    pub nodes: u8,
+    /// The configuration of the first ballot, all of whose members are nodes.
+    pub config: Config,
+    /// The clients, of whom no two are the same.
+    pub clients: Vec<ClientId>,
+}
+
+/// The greatest number of a node.
+const MOST: u64 = 15;
+
+/// The world that the fields of the first line open.
+pub(crate) fn opening_of(alloc: Global, fields: &[&str]) -> Result<Opening, LineFault>
+    ensures value { IfOk result (λ opening. world_of (texts fields.now) ≡ Some (values_of opening)) }
+    ensures form { IsErrOf result LineFault.Form → world_of (texts fields.now) ≡ None }
+{
+    let [word, count, members, primary, names] = fields else {
+        return Err(LineFault::Form);
+    };
+    if *word != "world" {
+        return Err(LineFault::Form);
+    }
+    let count = number(count)?;
+    let members = numbers(alloc, members)?;
+    let primary = number(primary)?;
+    let clients = clients(alloc, names)?;
+    let config = config(alloc, count, members.as_slice(), primary)?;
+    if !are_distinct(clients.as_slice()) {
+        return Err(LineFault::Form);
+    }
+    Ok(Opening {
+        nodes: count as u8,
+        config,
+        clients,
+    })
+}
+
+// The configuration of these numbers, where a world of so many nodes may open with it.
+fn config(alloc: Global, count: u64, members: &[u64], primary: u64) -> Result<Config, LineFault>
+    ensures members { IfOk result (λ config. config.members ≡ members.now) }
+    ensures primary { IfOk result (λ config. config.primary ≡ primary) }
+    ensures lawful { OnOk result (is_lawful_opening count members.now primary ≡ true) }
+    ensures form { IsErrOf result LineFault.Form
+        → is_lawful_opening count members.now primary ≡ false }
+{
+    if count > MOST || !are_nodes(count, members) {
+        return Err(LineFault::Form);
+    }
+    if primary > MOST {
+        return Err(LineFault::Form);
+    }
+    let members = small_members(alloc, members)?;
+    let config = Config {
+        members,
+        primary: primary as u8,
+    };
+    if config.is_lawful() {
+        Ok(config)
+    } else {
+        Err(LineFault::Form)
+    }
+}
+
+// Whether each of the numbers is at most this one.
+fn are_nodes(count: u64, members: &[u64]) -> bool
+    ensures { result ≡ are_nodes count members.now }
+{
+    members.iter().all(|member| *member <= count)
+}
+
+// Numbers of at most 15.
+fn small_members(alloc: Global, members: &[u64]) -> Result<Members, LineFault>
+    requires { list_all is_small members.now ≡ true }
+    ensures value { IfOk result (λ small. small ≡ members.now) }
+    ensures memory { result ≢ Err LineFault.Form }
+{
+    let mut small: Vec<u8> = Vec::new(alloc);
+    for member in members {
+        small.push(*member as u8)?;
+    }
+    Members::from_slice(alloc, small.as_slice())
+        .ok()
+        .ok_or(LineFault::Memory)
+}
+
+// Whether no two of the clients are the same.
+fn are_distinct(clients: &[ClientId]) -> bool
+    ensures { result ≡ are_distinct clients.now }
+{
+    let Some((client, others)) = clients.split_first() else {
+        return true;
+    };
+    !has(others, client) && are_distinct(others)
+}
+
+// Whether one of the clients is this one.
+fn has(clients: &[ClientId], client: &ClientId) -> bool
+    ensures { result ≡ has clients.now client.now }
+{
+    clients.iter().any(|other| other == client)
+}

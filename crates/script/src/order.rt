@@ -1,0 +1,47 @@
+// What a line of a script orders.
+
+use crate::numbers::Numbers;
+use packet::{ClientId, QoS};
+use session_base::Publication;
+use topics::Filter;
+
+/// How many bytes are carried.
+#[derive(Clone, Copy, Debug, PartialEq, Eq)]
+pub enum Amount {
+    /// All that wait.
+    All,
+    /// So many.
+    Bytes(u64),
+}
+
+/// What a line orders to happen. Every number is one that a line may write; whether there is such a node,
+/// message or connection is seen only where the order is done.
+#[derive(Drop)]
+pub enum Order {
+    /// A configuration of these members and this primary is assigned.
+    Assign(Numbers, u64),
+    /// The message of this number comes to its receiver.
+    Deliver(u64),
+    /// Time passes at this node.
+    Tick(u64),
+    /// This node stops for good.
+    Crash(u64),
+    /// This client opens a connection to this node.
+    Open(ClientId, u64),
+    /// Bytes of this connection come up to its node.
+    CarryUp(u64, Amount),
+    /// Bytes of this connection come down to its client.
+    CarryDown(u64, Amount),
+    /// This client loses its connection.
+    Abandon(ClientId),
+    /// This client says that it leaves.
+    Disconnect(ClientId),
+    /// A node sees the end of this connection.
+    Notice(u64),
+    /// This client publishes.
+    Publish(ClientId, Publication),
+    /// This client asks for the publications of a filter, at most at this QoS.
+    Subscribe(ClientId, Filter, QoS),
+    /// This client gives up a filter.
+    Unsubscribe(ClientId, Filter),
+}

@@ -1,0 +1,44 @@
+// What the lines behind the first order.
+
+ghost use Rattle.std.specs.Prelude.{◌≡◌, Some, None, IfOk, IsErrOf};
+ghost use Rattle.script.specs.Fields.{texts};
+ghost use Rattle.script.specs.Inside.Ordering.{order_by, order_of};
+
+use crate::error::LineFault;
+use crate::forms;
+use crate::order::Order;
+use std::alloc::Global;
+
+/// What the fields of a line order.
+pub(crate) fn order_of(alloc: Global, fields: &[&str]) -> Result<Order, LineFault>
+    ensures value { IfOk result (λ order. order_of (texts fields.now) ≡ Some order) }
+    ensures form { IsErrOf result LineFault.Form → order_of (texts fields.now) ≡ None }
+{
+    match fields {
+        [] => Err(LineFault::Form),
+        [word, fields @ ..] => order_by(alloc, word, fields),
+    }
+}
+
+// What the fields behind a word order.
+fn order_by(alloc: Global, word: &str, fields: &[&str]) -> Result<Order, LineFault>
+    ensures value { IfOk result (λ order. order_by word.now (texts fields.now) ≡ Some order) }
+    ensures form { IsErrOf result LineFault.Form → order_by word.now (texts fields.now) ≡ None }
+{
+    match word {
+        "assign" => forms::assign(alloc, fields),
+        "deliver" => forms::deliver(fields),
+        "tick" => forms::tick(fields),
+        "crash" => forms::crash(fields),
+        "open" => forms::open_connection(alloc, fields),
+        "up" => forms::carry_up(fields),
+        "down" => forms::carry_down(fields),
+        "abandon" => forms::abandon(alloc, fields),
+        "disconnect" => forms::disconnect(alloc, fields),
+        "notice" => forms::notice(fields),
+        "publish" => forms::publish(alloc, fields),
+        "subscribe" => forms::subscribe(alloc, fields),
+        "unsubscribe" => forms::unsubscribe(alloc, fields),
+        _ => Err(LineFault::Form),
+    }
+}

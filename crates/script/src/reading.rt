@@ -1,0 +1,103 @@
+// Reading a script.
+
+ghost use Rattle.std.specs.Prelude.{◌≡◌, ◌+◌, ◌∷◌, ℕ, Some, None, IfOk, IfErr, IsErrOf};
+ghost use Rattle.script.specs.declared.opening.Opening.{Opening};
+ghost use Rattle.script.specs.declared.order.Order.{Order};
+ghost use Rattle.script.specs.Fields.{texts};
+ghost use Rattle.script.specs.Scripts.{AreOrders, HasOpening, HasOrder, IsFirstBad, IsOpeningLine, IsOrderLine, IsScript, Refuses, lines_of};
+
+use crate::error::{LineFault, ScriptError};
+use crate::fields::fields_of;
+use crate::lines::lines_of;
+use crate::opening::{Opening, opening_of};
+use crate::order::Order;
+use crate::ordering::order_of;
+use std::alloc::Global;
+use std::str;
+
+/// A script.
+#[derive(Drop)]
+pub struct Script {
+    /// The world at the beginning.
+    pub opening: Opening,
+    /// What happens in it, one behind the other.
+    pub orders: Vec<Order>,
+}
+
+/// Reads a script, whole. It is refused exactly where a line has not its form, by the number of the first
+/// such line, want of memory aside.
+pub fn read(alloc: Global, text: &[u8]) -> Result<Script, ScriptError>
+    ensures script { IfOk result (IsScript (lines_of text.now)) }
+    ensures refused { IfErr result (Refuses (lines_of text.now)) }
+{
+    let lines = lines_of(alloc, text)?;
+    script_of(alloc, lines.as_slice())
+}
+
+// The script of all lines.
+fn script_of(alloc: Global, lines: &[&[u8]]) -> Result<Script, ScriptError>
+    ensures script { IfOk result (IsScript (texts lines.now)) }
+    ensures refused { IfErr result (Refuses (texts lines.now)) }
+{
+    match lines {
+        [] => Err(ScriptError::Line(1)),
+        [first, others @ ..] => script_behind(alloc, first, others),
+    }
+}
+
+// The script of the first line and the others.
+fn script_behind(alloc: Global, first: &[u8], others: &[&[u8]]) -> Result<Script, ScriptError>
+    ensures script { IfOk result (IsScript (first.now ∷ texts others.now)) }
+    ensures refused { IfErr result (Refuses (first.now ∷ texts others.now)) }
+{
+    let opening = match opening_line(alloc, first) {
+        Ok(opening) => opening,
+        Err(LineFault::Form) => return Err(ScriptError::Line(1)),
+        Err(LineFault::Memory) => return Err(ScriptError::Memory),
+    };
+    match orders(alloc, others) {
+        Ok(orders) => Ok(Script { opening, orders }),
+        Err(error) => Err(error),
+    }
+}
+
+// The world that the first line opens.
+fn opening_line(alloc: Global, line: &[u8]) -> Result<Opening, LineFault>
+    ensures value { IfOk result (IsOpeningLine line.now) }
+    ensures form { IsErrOf result LineFault.Form → HasOpening line.now → ⊥ }
+{
+    let Ok(line) = str::from_utf8(line) else {
+        return Err(LineFault::Form);
+    };
+    let fields = fields_of(alloc, line)?;
+    opening_of(alloc, fields.as_slice())
+}
+
+// What one of the other lines orders.
+fn order_line(alloc: Global, line: &[u8]) -> Result<Order, LineFault>
+    ensures value { IfOk result (IsOrderLine line.now) }
+    ensures form { IsErrOf result LineFault.Form → HasOrder line.now → ⊥ }
+{
+    let Ok(line) = str::from_utf8(line) else {
+        return Err(LineFault::Form);
+    };
+    let fields = fields_of(alloc, line)?;
+    order_of(alloc, fields.as_slice())
+}
+
+// What the lines behind the first order. They are counted from the second line of the text.
+fn orders(alloc: Global, lines: &[&[u8]]) -> Result<Vec<Order>, ScriptError>
+    ensures orders { IfOk result (λ orders. AreOrders (texts lines.now) orders.items) }
+    ensures refused { (bad : ℕ) → IsErrOf result (ScriptError.Line bad)
+        → (index : ℕ) × (bad ≡ index + 2) × IsFirstBad (texts lines.now) index }
+{
+    let mut orders = Vec::new(alloc);
+    for (index, line) in lines.iter().enumerate() {
+        match order_line(alloc, line) {
+            Ok(order) => orders.push(order)?,
+            Err(LineFault::Form) => return Err(ScriptError::Line(index as u64 + 2)),
+            Err(LineFault::Memory) => return Err(ScriptError::Memory),
+        }
+    }
+    Ok(orders)
+}

@@ -1,0 +1,148 @@
+// What the fields of a line write.
+
+ghost use Rattle.std.specs.Prelude.{◌≡◌, ◌==◌, Some, None, IfOk, IsErrOf, slice_index};
+ghost use Rattle.script.specs.Fields.{amount_of, client_of, clients_of, filter_of, number_of, numbers_of, payload_of, qos_of, retain_of, topic_of};
+
+use crate::error::LineFault;
+use crate::fields::parts_of;
+use crate::numbers::Numbers;
+use crate::order::Amount;
+use hex::FromHexError;
+use packet::{ClientId, Payload, QoS};
+use std::alloc::Global;
+use topics::{Filter, TopicName};
+
+/// A decimal number.
+pub(crate) fn number(text: &str) -> Result<u64, LineFault>
+    ensures value { IfOk result (λ number. number_of text.now ≡ Some number) }
+    ensures form { IsErrOf result LineFault.Form → number_of text.now ≡ None }
+{
+    // `parse` takes a sign.
+    if has_sign(text) {
+        return Err(LineFault::Form);
+    }
+    match text.parse::<u64>() {
+        Ok(number) => Ok(number),
+        Err(_) => Err(LineFault::Form),
+    }
+}
+
+// Whether a plus stands in front.
+fn has_sign(text: &str) -> bool
+    ensures { result ≡ (slice_index text.now 0 == 43) }
+{
+    match text.as_bytes() {
+        [first, ..] => *first == b'+',
+        [] => false,
+    }
+}
+
+/// Numbers with commas between them.
+pub(crate) fn numbers(alloc: Global, text: &str) -> Result<Numbers, LineFault>
+    ensures value { IfOk result (λ numbers. numbers_of text.now ≡ Some numbers) }
+    ensures form { IsErrOf result LineFault.Form → numbers_of text.now ≡ None }
+{
+    let all = parts_of(alloc, text)?;
+    let parts = all.as_slice();
+    let mut numbers = Vec::new(alloc);
+    for part in parts {
+        numbers.push(number(part)?)?;
+    }
+    Ok(Numbers::new(numbers))
+}
+
+/// A level of delivery.
+#[tactic(auto, unfolding(crate::specs::Fields::qos_of))]
+pub(crate) fn qos(text: &str) -> Result<QoS, LineFault>
+    ensures value { IfOk result (λ qos. qos_of text.now ≡ Some qos) }
+    ensures form { IsErrOf result LineFault.Form → qos_of text.now ≡ None }
+{
+    match number(text)? {
+        0 => Ok(QoS::AtMostOnce),
+        1 => Ok(QoS::AtLeastOnce),
+        2 => Ok(QoS::ExactlyOnce),
+        _ => Err(LineFault::Form),
+    }
+}
+
+/// RETAIN.
+#[tactic(auto, unfolding(crate::specs::Fields::retain_of))]
+pub(crate) fn retain(text: &str) -> Result<bool, LineFault>
+    ensures value { IfOk result (λ retain. retain_of text.now ≡ Some retain) }
+    ensures form { IsErrOf result LineFault.Form → retain_of text.now ≡ None }
+{
+    match number(text)? {
+        0 => Ok(false),
+        1 => Ok(true),
+        _ => Err(LineFault::Form),
+    }
+}
+
+/// A count of bytes.
+#[tactic(auto, unfolding(crate::specs::Fields::amount_of))]
+pub(crate) fn amount(text: &str) -> Result<Amount, LineFault>
+    ensures value { IfOk result (λ amount. amount_of text.now ≡ Some amount) }
+    ensures form { IsErrOf result LineFault.Form → amount_of text.now ≡ None }
+{
+    if text == "all" {
+        return Ok(Amount::All);
+    }
+    Ok(Amount::Bytes(number(text)?))
+}
+
+/// A payload in hexadecimal.
+#[tactic(auto, unfolding(crate::specs::Fields::payload_of))]
+pub(crate) fn payload(alloc: Global, text: &str) -> Result<Payload, LineFault>
+    ensures value { IfOk result (λ payload. payload_of text.now ≡ Some payload) }
+    ensures form { IsErrOf result LineFault.Form → payload_of text.now ≡ None }
+{
+    if text == "-" {
+        return Ok(Payload::new(alloc, &[])?);
+    }
+    if text.is_empty() {
+        return Err(LineFault::Form);
+    }
+    match hex::decode(alloc, text) {
+        Ok(bytes) => Ok(Payload::new(alloc, bytes.as_slice())?),
+        Err(FromHexError::OutOfMemory) => Err(LineFault::Memory),
+        Err(_) => Err(LineFault::Form),
+    }
+}
+
+/// A Client Identifier.
+pub(crate) fn client(alloc: Global, text: &str) -> Result<ClientId, LineFault>
+    ensures value { IfOk result (λ client. client_of text.now ≡ Some client) }
+    ensures form { IsErrOf result LineFault.Form → client_of text.now ≡ None }
+{
+    Ok(ClientId::new(alloc, text)?)
+}
+
+/// Client Identifiers with commas between them.
+pub(crate) fn clients(alloc: Global, text: &str) -> Result<Vec<ClientId>, LineFault>
+    ensures value { IfOk result (λ clients. clients_of text.now ≡ Some clients.items) }
+    ensures form { IsErrOf result LineFault.Form → clients_of text.now ≡ None }
+{
+    let all = parts_of(alloc, text)?;
+    let parts = all.as_slice();
+    let mut clients = Vec::new(alloc);
+    for part in parts {
+        clients.push(client(alloc, part)?)?;
+    }
+    Ok(clients)
+}
+
+/// A Topic Name.
+pub(crate) fn topic(alloc: Global, text: &str) -> Result<TopicName, LineFault>
+    ensures value { IfOk result (λ topic. topic_of text.now ≡ Some topic) }
+    ensures form { IsErrOf result LineFault.Form → topic_of text.now ≡ None }
+{
+    Ok(TopicName::new(alloc, text)?)
+}
+
+/// A Topic Filter.
+pub(crate) fn filter(alloc: Global, text: &str) -> Result<Filter, LineFault>
+    ensures value { IfOk result (λ filter. filter_of text.now ≡ Some filter) }
+    ensures form { IsErrOf result LineFault.Form → filter_of text.now ≡ None }
+{
+    Ok(Filter::new(alloc, text)?)
+}
