@@ -1,0 +1,7 @@
+//! The transcript of a script that is played: a line for each event, one for each publication that a client
+//! took in behind it, and one for the end.
+#![tactic(auto)]
+
+mod writing;
+
+pub use writing::{write_accepted, write_done, write_end, write_idle};
