@@ -1,3 +1,4 @@
+pub mod PartsOfMoves
 pub mod StepsMove
 pub mod NamesInOrder
 pub mod JoinedGrows

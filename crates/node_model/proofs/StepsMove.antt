@@ -25,12 +25,12 @@ use Rattle.world_base.specs.Step.{node_step, acts_on, settled, takes_in}
 use Rattle.world_base.specs.Failing.{loses_failed, loses_if}
 use Rattle.world_base.specs.KeepAlive.{ends_if, ends_silent, lowest_silent}
 use Rattle.world_base.specs.Turns.{quiet, proposes, drives, has_room, repeated}
-use Rattle.node_model.specs.Hearing.{DeedsHearAtFirst, HearsAtFirst, IsCalm}
-use Rattle.node_model.specs.Keeping.{moves_replica}
+use Rattle.node_model.specs.Hearing.{DeedsHearAtFirst}
 use Rattle.node_model.specs.Moves.{Moves, Runs, Deed, and_then, done, DeedsAreMoves}
 use Rattle.node_model.specs.Moves.Deed.{takes, gives}
 use Rattle.node_model.specs.Moves.Moves.{hears, opens_one, holds, reads_first, reads_later, closes, refuses, loses_one, loses_next, crashes, settles, hands}
 use Rattle.node_model.specs.Moves.Runs.{rests, goes_on}
+use Rattle.node_model.proofs.PartsOfMoves.{BeginsWith, IsBare, IsBareMove, Part, begins_hearing, part_in, part_of}
 
 abbrev Given : Type 0
 Given = List (Effect Command Output)
@@ -43,14 +43,14 @@ runs_join {b = b} (goes_on {core = core} {first = first} {next = next} m r) q =
     subst (λ (given : Given). Runs core (let t : Turn = record { core = b.core; messages = given } in t)) (sym (append_assoc first.messages next.messages b.messages))
     (goes_on m (runs_join r q))
 
--- runs in which the replica hears nothing, or hears it at first
+-- runs of bare moves, and those of which the first one may have a part
 abbrev pub Calm : CoreState → Turn → Type 0
-Calm core turn = (run : Runs core turn) × IsCalm run
+Calm core turn = (run : Runs core turn) × IsBare run
 
-abbrev pub First : CoreState → Turn → Type 0
-First core turn = (run : Runs core turn) × HearsAtFirst run
+abbrev pub First : Part → CoreState → Turn → Type 0
+First part core turn = (run : Runs core turn) × BeginsWith part run
 
-calm_then : {core : CoreState} {a b : Turn} (run : Runs core a) → IsCalm run → Calm a.core b → Calm core (and_then a b)
+calm_then : {core : CoreState} {a b : Turn} (run : Runs core a) → IsBare run → Calm a.core b → Calm core (and_then a b)
 calm_then rests calm r = r
 calm_then {b = b} (goes_on {core = core} {first = first} {next = next} m run) calm r =
     let rest = calm_then run calm.1 r in
@@ -60,27 +60,27 @@ calm_then {b = b} (goes_on {core = core} {first = first} {next = next} m run) ca
 calm_join : {core : CoreState} {a b : Turn} → Calm core a → Calm a.core b → Calm core (and_then a b)
 calm_join q r = calm_then q.0 q.1 r
 
-calm_move : {core : CoreState} {t : Turn} (m : Moves core t) → moves_replica m ≡ false → Calm core t
+calm_move : {core : CoreState} {t : Turn} (m : Moves core t) → IsBareMove m → Calm core t
 calm_move {core = core} {t = t} m calm =
     subst (λ (given : Given). Calm core (let u : Turn = record { core = t.core; messages = given } in u)) (append-nil t.messages) (goes_on m rests, (calm, tt))
 
-calm_first : {core : CoreState} {a : Turn} (run : Runs core a) → IsCalm run → First core a
-calm_first rests calm = (rests, tt)
-calm_first (goes_on m run) calm = (goes_on m run, calm.1)
+calm_first : {core : CoreState} {a : Turn} (run : Runs core a) → IsBare run → First Part.nothing core a
+calm_first rests calm = (rests, refl)
+calm_first (goes_on m run) calm = (goes_on m run, (calm.0.1, calm.1))
 
-first_then : {core : CoreState} {a b : Turn} (run : Runs core a) → HearsAtFirst run → Calm a.core b → First core (and_then a b)
-first_then rests first r = calm_first r.0 r.1
-first_then {b = b} (goes_on {core = core} {first = first} {next = next} m run) heard r =
-    let rest = calm_then run heard r in
-    subst (λ (given : Given). First core (let t : Turn = record { core = b.core; messages = given } in t)) (sym (append_assoc first.messages next.messages b.messages))
-    (goes_on m rest.0, rest.1)
+first_then : (part : Part) {core : CoreState} {a b : Turn} (run : Runs core a) → BeginsWith part run → Calm a.core b → First part core (and_then a b)
+first_then part {a = a} {b = b} rests begins r = subst (λ p. First p a.core b) begins (calm_first r.0 r.1)
+first_then part {b = b} (goes_on {core = core} {first = first} {next = next} m run) begins r =
+    let rest = calm_then run begins.1 r in
+    subst (λ (given : Given). First part core (let t : Turn = record { core = b.core; messages = given } in t)) (sym (append_assoc first.messages next.messages b.messages))
+    (goes_on m rest.0, (begins.0, rest.1))
 
-first_join : {core : CoreState} {a b : Turn} → First core a → Calm a.core b → First core (and_then a b)
-first_join q r = first_then q.0 q.1 r
+first_join : {part : Part} {core : CoreState} {a b : Turn} → First part core a → Calm a.core b → First part core (and_then a b)
+first_join {part = part} q r = first_then part q.0 q.1 r
 
-first_move : {core : CoreState} {t : Turn} → Moves core t → First core t
+first_move : {core : CoreState} {t : Turn} (m : Moves core t) → First (part_in m) core t
 first_move {core = core} {t = t} m =
-    subst (λ (given : Given). First core (let u : Turn = record { core = t.core; messages = given } in u)) (append-nil t.messages) (goes_on m rests, tt)
+    subst (λ (given : Given). First (part_in m) core (let u : Turn = record { core = t.core; messages = given } in u)) (append-nil t.messages) (goes_on m rests, (refl, tt))
 
 -- ---- what changes a connection before it is closed leaves no trace
 
@@ -123,8 +123,8 @@ room_kept port change core = refl
 
 lost_by : (port : Port) (c : Connection) (core : CoreState) → open_at port core ≡ Some c → (b : Bool) → is_proposed c.stage ≡ b
     → Calm core (if b then proposes (commands.Lost c.name) (changes port closed core) else quiet (changes port closed core))
-lost_by port c core at true e = calm_move (loses_one port c at e) refl
-lost_by port c core at false e = calm_move (closes port) refl
+lost_by port c core at true e = calm_move (loses_one port c at e) (refl, refl)
+lost_by port c core at false e = calm_move (closes port) (refl, refl)
 
 lost_runs : (port : Port) (c : Connection) (core : CoreState) → open_at port core ≡ Some c → Calm core (loses port c core)
 lost_runs port c core at = lost_by port c core at (is_proposed c.stage) refl
@@ -140,7 +140,7 @@ ends_run port core = ended_runs port core (open_at port core) refl
 -- ---- a packet is read
 
 closes_with : (port : Port) (core later : CoreState) → later ≡ changes port closed core → Calm core (quiet later)
-closes_with port core later same = subst (λ (z : CoreState). Calm core (quiet z)) (sym same) (calm_move (closes port) refl)
+closes_with port core later same = subst (λ (z : CoreState). Calm core (quiet z)) (sym same) (calm_move (closes port) (refl, refl))
 
 first_runs : (now : ℕ) (port : Port) (c : Connection) (core : CoreState) (connect : Connect) (rest : List ℕ) → open_at port core ≡ Some c → is_first c.stage ≡ true
     → verdict c.unread ≡ Ok (packets.Connect connect, rest)
@@ -151,7 +151,7 @@ first_runs now port c core connect rest at first is = by (has_room core) refl
     same = room_kept port (asked connect.keep_alive) (changes port (left_with now rest) core) ∙ room_kept port (left_with now rest) core
 
     by : (b : Bool) → has_room core ≡ b → Calm core (asks port c.name connect (changes port (asked connect.keep_alive) (changes port (left_with now rest) core)))
-    by true room = rw (same ∙ room) (calm_move (reads_first now port c connect rest at first is room) refl)
+    by true room = rw (same ∙ room) (calm_move (reads_first now port c connect rest at first is room) (refl, refl))
     by false none = rw (same ∙ none) (closes_with port core _ (closed_asked connect.keep_alive now port rest core))
 
 begins_runs : (now : ℕ) (port : Port) (c : Connection) (core : CoreState) (packet : Packet) (rest : List ℕ) → open_at port core ≡ Some c → is_first c.stage ≡ true
@@ -164,7 +164,7 @@ says_runs : (now : ℕ) (port : Port) (c : Connection) (core : CoreState) (packe
 says_runs now port c core packet rest at later is = by (has_room core) refl
   where
     by : (b : Bool) → has_room core ≡ b → Calm core (says port c.name packet (changes port (left_with now rest) core))
-    by true room = rw (room_kept port (left_with now rest) core ∙ room) (calm_move (reads_later now port c packet rest at later is room) refl)
+    by true room = rw (room_kept port (left_with now rest) core ∙ room) (calm_move (reads_later now port c packet rest at later is room) (refl, refl))
     by false none = rw (room_kept port (left_with now rest) core ∙ none) (closes_with port core _ (closed_left now port rest core))
 
 packet_runs : (now : ℕ) (port : Port) (c : Connection) (core : CoreState) (packet : Packet) (rest : List ℕ) → open_at port core ≡ Some c
@@ -181,7 +181,7 @@ refused_runs : (now : ℕ) (port : Port) (c : Connection) (core : CoreState) (co
 refused_runs now port c core code at is = by (is_first c.stage) refl
   where
     by : (b : Bool) → is_first c.stage ≡ b → Calm core (if b then quiet (changes port (refused code) core) else loses port c core)
-    by true first = calm_move (refuses port c code at first is) refl
+    by true first = calm_move (refuses port c code at first is) (refl, refl)
     by false later = lost_runs port c core at
 
 front_runs : (now : ℕ) (port : Port) (c : Connection) (core : CoreState) (front : Result (Packet × List ℕ) Stop) → open_at port core ≡ Some c
@@ -220,7 +220,7 @@ silent_run now core = silent_runs core (lowest_silent now core.connections)
 
 failed_runs : (core : CoreState) (o : Option Connection) → find has_failed core.connections ≡ o → Calm core (loses_if o core)
 failed_runs core None at = (rests, tt)
-failed_runs core (Some c) at = calm_move (loses_next c at) refl
+failed_runs core (Some c) at = calm_move (loses_next c at) (refl, refl)
 
 failed_run : (core : CoreState) → Calm core (loses_failed core)
 unfolding loses_failed
@@ -228,7 +228,7 @@ failed_run core = failed_runs core (find has_failed core.connections) refl
 
 -- ---- a step
 
-taken_in : (item : Item) (core : CoreState) → First core (takes_in item core)
+taken_in : (item : Item) (core : CoreState) → First (part_of (takes item)) core (takes_in item core)
 taken_in (Peer message) core = first_move (hears (Receives message) refl)
 taken_in (Tick now) core =
     first_join (first_move (hears Ticks refl))
@@ -241,20 +241,24 @@ taken_in (Bytes port piece now) core =
 taken_in (Ended port) core = let r = ends_run port core in calm_first r.0 r.1
 taken_in Crash core = first_move crashes
 
-acted_on : (item : Item) (core : CoreState) → First core (acts_on item core)
+acted_on : (item : Item) (core : CoreState) → First (part_of (takes item)) core (acts_on item core)
 acted_on item core =
     first_join (taken_in item core)
     (repeated_runs loses_failed failed_run (length (takes_in item core).core.connections) (takes_in item core).core)
 
-step_runs : (item : Item) (core : CoreState) → First core (node_step item core)
+step_runs : (item : Item) (core : CoreState) → First (part_of (takes item)) core (node_step item core)
 step_runs item core =
-    subst (λ (given : Given). First core (let t : Turn = record { core = settled (acts_on item core).core; messages = given } in t))
-    (append-nil (acts_on item core).messages) (first_join (acted_on item core) (calm_move settles refl))
+    subst (λ (given : Given). First (part_of (takes item)) core (let t : Turn = record { core = settled (acts_on item core).core; messages = given } in t))
+    (append-nil (acts_on item core).messages) (first_join (acted_on item core) (calm_move settles (refl, refl)))
+
+-- a deed begins with its part, and the moves behind it are bare
+pub deeds_begin : (deed : Deed) (core : CoreState) → First (part_of deed) core (done deed core)
+deeds_begin (takes item) core = step_runs item core
+deeds_begin (gives port) core = first_move (hands port)
 
 pub deeds_hear_at_first : DeedsHearAtFirst
-deeds_hear_at_first (takes item) core = step_runs item core
-deeds_hear_at_first (gives port) core = first_move (hands port)
+deeds_hear_at_first deed core = let r = deeds_begin deed core in (r.0, begins_hearing (part_of deed) r.0 r.1)
 
 pub deeds_are_moves : DeedsAreMoves
 deeds_are_moves [] core = rests
-deeds_are_moves (deed ∷ deeds) core = runs_join (deeds_hear_at_first deed core).0 (deeds_are_moves deeds (done deed core).core)
+deeds_are_moves (deed ∷ deeds) core = runs_join (deeds_begin deed core).0 (deeds_are_moves deeds (done deed core).core)

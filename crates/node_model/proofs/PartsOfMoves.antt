@@ -1,0 +1,53 @@
+-- What a deed of a node has to do with others: a message that is heard, bytes that come in, bytes that are handed over.
+use Rattle.std.proofs.Common.{◌≡◌, false, ℕ, List}
+use Rattle.ballot.specs.Message.{Message}
+use Rattle.ballot.specs.Protocol.Input.{Receives}
+use Rattle.broker_base.specs.Command.{Command}
+use Rattle.world_base.specs.declared.item.Port.{Port}
+use Rattle.world_base.specs.declared.item.Item.TheVariants.{Peer, Bytes}
+use Rattle.world_base.specs.Core.{CoreState, Turn}
+use Rattle.node_model.specs.Hearing.{HearsAtFirst, IsCalm}
+use Rattle.node_model.specs.Keeping.{moves_replica}
+use Rattle.node_model.specs.Moves.{Deed, Moves, Runs}
+use Rattle.node_model.specs.Moves.Deed.{takes, gives}
+use Rattle.node_model.specs.Moves.Moves.{hears, holds, hands}
+use Rattle.node_model.specs.Moves.Runs.{rests, goes_on}
+
+pub data Part : Type 0 where
+  nothing : Part
+  heard : Message Command → Part
+  bytes_in : Port → List ℕ → Part
+  bytes_out : Port → Part
+
+abbrev pub part_in : {core : CoreState} {turn : Turn} → Moves core turn → Part
+part_in (hears (Receives message) is) = Part.heard message
+part_in (holds port piece) = Part.bytes_in port piece
+part_in (hands port) = Part.bytes_out port
+part_in _ = Part.nothing
+
+abbrev pub part_of : Deed → Part
+part_of (takes (Peer message)) = Part.heard message
+part_of (takes (Bytes port piece now)) = Part.bytes_in port piece
+part_of (gives port) = Part.bytes_out port
+part_of _ = Part.nothing
+
+-- a move in which the replica hears nothing and does not stop, and no bytes are carried
+abbrev pub IsBareMove : {core : CoreState} {turn : Turn} → Moves core turn → Type 0
+IsBareMove m = (moves_replica m ≡ false) × (part_in m ≡ Part.nothing)
+
+abbrev pub IsBare : {core : CoreState} {turn : Turn} → Runs core turn → Type 0
+IsBare rests = Unit {0}
+IsBare (goes_on m run) = IsBareMove m × IsBare run
+
+-- all but the first move are bare, and that one has this part
+abbrev pub BeginsWith : Part → {core : CoreState} {turn : Turn} → Runs core turn → Type 0
+BeginsWith part rests = Part.nothing ≡ part
+BeginsWith part (goes_on m run) = (part_in m ≡ part) × IsBare run
+
+bare_is_calm : {core : CoreState} {turn : Turn} (run : Runs core turn) → IsBare run → IsCalm run
+bare_is_calm rests bare = tt
+bare_is_calm (goes_on m run) bare = (bare.0.0, bare_is_calm run bare.1)
+
+pub begins_hearing : (part : Part) {core : CoreState} {turn : Turn} (run : Runs core turn) → BeginsWith part run → HearsAtFirst run
+begins_hearing part rests begins = tt
+begins_hearing part (goes_on m run) begins = bare_is_calm run begins.1
