@@ -1,5 +1,5 @@
--- A group carries the packets of each connection in order, both ways.
-use Rattle.std.proofs.Common.{◌≡◌, ◌+◌, inl, inr, ℕ, zero, suc, List, [], ◌∷◌, ◌++◌, length, Option, Some, None, slice_get, refl, sym, ap, ◌∙◌, subst, append_assoc}
+-- A group carries the packets of each connection in order, both ways, by a list that only grows.
+use Rattle.std.proofs.Common.{◌≡◌, ◌+◌, inl, inr, ℕ, zero, suc, true, List, [], ◌∷◌, ◌++◌, length, Option, Some, None, slice_get, refl, sym, ap, ◌∙◌, subst, append_assoc}
 use Rattle.std.specs.List.{find}
 use Rattle.std.proofs.lemmas.List.{append-nil}
 use Rattle.packet.specs.declared.packet.Packet.{Packet}
@@ -14,14 +14,15 @@ use Rattle.lists.proofs.Beginnings.{prefix_then}
 use Rattle.lists.proofs.OfEach.{each_append}
 use Rattle.pipes.specs.Pipe.{Joins}
 use Rattle.agreement.specs.MasterState.{AssignRefusal, master_behind, refusal}
-use Rattle.agreement.specs.Past.{Moment, Past}
+use Rattle.agreement.specs.Past.{IsAgreed, Moment, Past}
 use Rattle.agreement.specs.Proposals.{commands_of as commands_in}
+use Rattle.agreement.specs.World.{can_open}
 use Rattle.agreement.proofs.Agreed.PastAgrees.{has_agreed}
 use Rattle.world_base.specs.Core.{CoreState, opening_core, rules}
 use Rattle.node_model.specs.Ends.{commands_of}
 use Rattle.node_model.proofs.Kept.{named}
 use Rattle.node_model.proofs.ProposesInOrder.{commands_join, front_of}
-use Rattle.group_model.specs.Group.{Group, moment_of, opening_cores, with_master}
+use Rattle.group_model.specs.Group.{Group, moment_of, opening_cores, opening_group, with_master}
 use Rattle.group_model.specs.Goes.{MayGo, Went, all_put, behind_assign, groups_of, put_in_step}
 use Rattle.group_model.specs.Goes.MayGo.{node_acts, master_assigns, master_hears}
 use Rattle.group_model.specs.Goes.Went.{opened, then_went}
@@ -93,15 +94,25 @@ no_connections zero config = tt
 no_connections (suc n) config =
     each_append (λ (core : CoreState). core.connections ≡ []) (opening_cores n config) (opening_core (n + 1) config ∷ []) (no_connections n config) (refl, tt)
 
-record SoFar {nodes : ℕ} {config : Config} {g : Group} (went : Went nodes config g) : Type 0 where
-  of : HasPast config g (groups_of went) (all_put went)
-  good : (x : ConnectionName) (written : List Packet) (later : List ℕ) → Joins written (came_up x went ++ later)
+-- a past of the group, and where it is with each connection by what is agreed at its end
+pub record CarriedSo {nodes : ℕ} {config : Config} {g : Group} (went : Went nodes config g) : Type 0 where
+  pub of : HasPast config g (groups_of went) (all_put went)
+  pub good : (x : ConnectionName) (written : List Packet) (later : List ℕ) → Joins written (came_up x went ++ later)
       → Good config x written later g (moment_of g ∷ of.earlier) (all_put went) (went_down x went)
 
-so_far : {nodes : ℕ} {config : Config} {g : Group} (went : Went nodes config g) → SoFar went
-so_far {nodes = nodes} {config = config} {g = g} (opened can) =
+-- what is agreed in it
+abbrev pub IsAgreedSo : {nodes : ℕ} {config : Config} {g : Group} {went : Went nodes config g} → CarriedSo went → List Command → Type 0
+IsAgreedSo {config = config} {g = g} so agreed = IsAgreed config (moment_of g ∷ so.of.earlier) agreed
+
+-- it goes on by a step, and what is agreed grows
+pub record CarriedOn {nodes : ℕ} {config : Config} {g h : Group} {went : Went nodes config g} (before : CarriedSo went) (step : MayGo g h) : Type 0 where
+  pub now : CarriedSo (then_went went step)
+  pub grows : (xs ys : List Command) → IsAgreedSo before xs → IsAgreedSo now ys → IsPrefixOf xs ys
+
+pub carried_at_first : (nodes : ℕ) (config : Config) (can : can_open nodes config ≡ true) → CarriedSo (let went : Went nodes config (opening_group nodes config) = opened can in went)
+carried_at_first nodes config can =
     record {
-      of = groups_are_pasts nodes config g (opened can);
+      of = groups_are_pasts nodes config (opening_group nodes config) (opened can);
       good = λ x written later joined agreed is.
           inl (record {
             nowhere = λ n core at. ap (find (named x)) (each_got (λ (c : CoreState). c.connections ≡ []) (opening_cores nodes config) n core (no_connections nodes config) at);
@@ -110,25 +121,34 @@ so_far {nodes = nodes} {config = config} {g = g} (opened can) =
             unsent = refl;
           });
     }
-so_far {nodes = nodes} {config = config} {g = h} (then_went {g = g} went step) =
-    let before = so_far went in
+
+pub carried_on : {nodes : ℕ} {config : Config} (g h : Group) (went : Went nodes config g) (before : CarriedSo went) (step : MayGo g h) → CarriedOn before step
+carried_on {nodes = nodes} {config = config} g h went before step =
     let is : IsPut before.of.past (all_put went) = record { proposed = before.of.proposed; taken = before.of.taken } in
     let s = group_steps g h step before.of.past (all_well nodes config g went).0 in
     let now = put_further (all_put went) s.further is in
     record {
-      of = record {
-        earlier = s.further.before;
-        past = s.further.past;
-        proposed = now.proposed;
-        taken = now.taken;
-        seen = (here, seen_still (groups_of went) s.further.kept before.of.seen);
+      now = record {
+        of = record {
+          earlier = s.further.before;
+          past = s.further.past;
+          proposed = now.proposed;
+          taken = now.taken;
+          seen = (here, seen_still (groups_of went) s.further.kept before.of.seen);
+        };
+        good = λ x written later joined.
+            s.keeps_each x written later (all_put went) (went_down x went) is (all_well nodes config h (then_went went step)).1
+            (before.good x written (comes_up x step ++ later) (subst (Joins written) (append_assoc (came_up x went) (comes_up x step) later) joined));
       };
-      good = λ x written later joined.
-          s.keeps_each x written later (all_put went) (went_down x went) is (all_well nodes config h (then_went went step)).1
-          (before.good x written (comes_up x step ++ later) (subst (Joins written) (append_assoc (came_up x went) (comes_up x step) later) joined));
+      grows = s.further.grows;
     }
 
--- ---- the law
+-- so it is of all that went on
+pub carried_so : {nodes : ℕ} {config : Config} {g : Group} (went : Went nodes config g) → CarriedSo went
+carried_so {nodes = nodes} {config = config} (opened can) = carried_at_first nodes config can
+carried_so {g = h} (then_went {g = g} went step) = (carried_on g h went (carried_so went) step).now
+
+-- ---- what it says
 
 carried : (x : ConnectionName) (written : List Packet) (later : List ℕ) (g : Group) (moments : List (Moment State Command Output)) (put : List (ℕ × Command)) (sent : List ℕ)
     (agreed : List Command) → IsPrefixOf (packets_of x agreed) (packets_of x (commands_in put)) → Stands x written later g moments put sent agreed
@@ -146,12 +166,15 @@ carried x written later g moments put sent agreed said (inr held) =
       down = down_front held.sent;
     }
 
+pub carries_each : {nodes : ℕ} {config : Config} (g : Group) (went : Went nodes config g) (so : CarriedSo went) (agreed : List Command) → IsAgreedSo so agreed → (x : ConnectionName)
+    (written : List Packet) (later : List ℕ) → Joins written (came_up x went ++ later) → IsCarried x written (went_down x went) agreed
+carries_each {nodes = nodes} {config = config} g went so agreed is x written later joined =
+    carried x written later g (moment_of g ∷ so.of.earlier) (all_put went) (went_down x went) agreed
+    (in_agreed config g (groups_of went) (all_put went) so.of (all_well nodes config g went).1 x agreed is) (so.good x written later joined agreed is)
+
+-- ---- the law
+
 pub groups_carry_in_order : GroupsCarryInOrder
 groups_carry_in_order nodes config g went =
-    let s = so_far went in
-    record {
-      of = s.of;
-      each = λ agreed is x written later joined.
-          carried x written later g (moment_of g ∷ s.of.earlier) (all_put went) (went_down x went) agreed
-          (in_agreed config g (groups_of went) (all_put went) s.of (all_well nodes config g went).1 x agreed is) (s.good x written later joined agreed is);
-    }
+    let so = carried_so went in
+    record { of = so.of; each = λ agreed is x written later joined. carries_each g went so agreed is x written later joined }

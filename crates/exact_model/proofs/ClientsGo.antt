@@ -42,7 +42,7 @@ use Rattle.exact_model.proofs.Beside.{Alone, Beside, alone}
 use Rattle.exact_model.proofs.ClientsBeside.{IsFreshAlone, calls_beside, handles_beside, named_untaken, opens_beside}
 use Rattle.exact_model.proofs.CommandsFit.{IsWritten, list_fits}
 use Rattle.exact_model.proofs.GoesBeside.{GoesBeside, group_beside}
-use Rattle.exact_model.proofs.Growth.{IsAgreedSo, carries_each}
+use Rattle.connection_model.proofs.CarriedInOrder.{IsAgreedSo, carries_each}
 use Rattle.exact_model.proofs.NamesGiven.{names_fit}
 use Rattle.exact_model.proofs.NextAnswer.{next_answer}
 use Rattle.exact_model.proofs.Places.{each_of_made}
@@ -50,11 +50,10 @@ use Rattle.exact_model.proofs.WorldsWrite.{HasAllPipes, clients_alone, known_at,
 
 -- ---- one client becomes another, and the group rests
 
-client_rests : {nodes : ℕ} {config : Config} {cs : List Client} (v : World) (i : ℕ) (later : ClientPipes) (s : GoesBeside nodes config cs v) → Holds (with_client i later v) s.went
-    → HasAllPipes later → ((agreed : List Command) → IsAgreedSo s.so agreed → Beside cs agreed (set (clients_alone v) i (pipes_alone later))) → GoesBeside nodes config cs (with_client i later v)
-client_rests {cs = cs} v i later s holds all beside =
+client_rests : {nodes : ℕ} {config : Config} {cs : List Client} (v : World) (went : Went nodes config v.group) (i : ℕ) (later : ClientPipes) (s : GoesBeside nodes config cs v went) → Holds (with_client i later v) went
+    → HasAllPipes later → ((agreed : List Command) → IsAgreedSo s.so agreed → Beside cs agreed (set (clients_alone v) i (pipes_alone later))) → GoesBeside nodes config cs (with_client i later v) went
+client_rests {cs = cs} v went i later s holds all beside =
     record {
-      went = s.went;
       holds = holds;
       piped = each_set HasAllPipes v.clients i later s.piped all;
       so = s.so;
@@ -71,12 +70,13 @@ writes_length : (new : List Written) (connections : List Connection) → length 
 writes_length new [] = refl
 writes_length new (κ ∷ connections) = refl
 
-pub calls_so : {nodes : ℕ} {config : Config} {cs : List Client} (v : World) (i : ℕ) (c : ClientPipes) (t : Story) (h : Happens usual_limits (story_alone c) t) (s : GoesBeside nodes config cs v)
-    → slice_get v.clients i ≡ Some c → is_call h ≡ true → Holds (with_client i (after_writing t.keeper t.connections c) v) s.went
-    → GoesBeside nodes config cs (with_client i (after_writing t.keeper t.connections c) v)
-calls_so v i c t h s at call holds =
+pub calls_so : {nodes : ℕ} {config : Config} {cs : List Client} (v : World) (went : Went nodes config v.group) (i : ℕ) (c : ClientPipes) (t : Story)
+    (h : Happens usual_limits (story_alone c) t) (s : GoesBeside nodes config cs v went)
+    → slice_get v.clients i ≡ Some c → is_call h ≡ true → Holds (with_client i (after_writing t.keeper t.connections c) v) went
+    → GoesBeside nodes config cs (with_client i (after_writing t.keeper t.connections c) v) went
+calls_so v went i c t h s at call holds =
     let new = call_writes h call in
-    client_rests v i (after_writing t.keeper t.connections c) s holds
+    client_rests v went i (after_writing t.keeper t.connections c) s holds
     (sent_length (newly_written c.connections t.connections) c.pipes ∙ each_get HasAllPipes v.clients i c s.piped at ∙ sym (ap length new.1 ∙ writes_length new.0 c.connections))
     (λ agreed is. calls_beside (s.beside agreed is) i (story_alone c) t h call (get_mapped pipes_alone v.clients i c at))
 
@@ -86,19 +86,19 @@ joins_whole : (ps : List Packet) (bytes : List ℕ) → Joins ps bytes → Each 
 joins_whole [] bytes j = tt
 joins_whole (p ∷ ps) bytes (front, rest, spells, fits, is, j) = (fits, joins_whole ps rest j)
 
-module _ {nodes : ℕ} {config : Config} {cs : List Client} (v : World) (s : GoesBeside nodes config cs v) (agreed : List Command) (is : IsAgreedSo s.so agreed) where
+module _ {nodes : ℕ} {config : Config} {cs : List Client} (v : World) (went : Went nodes config v.group) (s : GoesBeside nodes config cs v went) (agreed : List Command) (is : IsAgreedSo s.so agreed) where
   -- each packet in the list was written by a client on a connection
   was_written : (command : Command) → In command agreed → is_of_connection command ≡ true → IsWritten agreed command
   was_written command among own =
-      let z = known_at v s.went s.holds s.piped s.so agreed is command among own in
+      let z = known_at v went s.holds s.piped s.so agreed is command among own in
       let k = z.2 in
       let h = s.holds.each k.i k.c k.j k.κ k.p k.has in
       record {
         name = k.κ.name;
         written = packets_of k.κ.written;
-        named = names_fit s.went k.κ.name h.placed.earlier k.p.node h.placed.among h.placed.had;
+        named = names_fit went k.κ.name h.placed.earlier k.p.node h.placed.among h.placed.had;
         whole = joins_whole (packets_of k.κ.written) _ h.up.joined;
-        order = order_at v s.went s.holds s.piped s.so agreed is k.i k.c k.j k.κ k.p k.has;
+        order = order_at v went s.holds s.piped s.so agreed is k.i k.c k.j k.κ k.p k.has;
         of = ap (is_packet_of command) k.name ∙ z.1;
       }
 
@@ -107,23 +107,23 @@ module _ {nodes : ℕ} {config : Config} {cs : List Client} (v : World) (s : Goe
       → slice_get (put_to usual_limits (past_of usual_limits agreed) κ.name) κ.handled ≡ Some packet
   next_there i c j κ p packet left has cut =
       let h = s.holds.each i c j κ p has in
-      let down = (carries_each v.group s.went s.so agreed is κ.name (packets_of κ.written) h.up.later h.up.joined).down in
+      let down = (carries_each v.group went s.so agreed is κ.name (packets_of κ.written) h.up.later h.up.joined).down in
       ap (slice_get (put_to usual_limits (past_of usual_limits agreed) κ.name)) (sym h.down.counted)
       ∙ next_answer h.down.handled (put_to usual_limits (past_of usual_limits agreed) κ.name) p.came left p.down packet h.down.whole
       (answers_fit agreed κ.name (list_fits agreed was_written)) h.down.sound (subst (λ l. IsPrefixOf l (answers_to κ.name agreed)) (sym h.down.is) down) cut
 
-pub handles_so : {nodes : ℕ} {config : Config} {cs : List Client} (v : World) (i : ℕ) (c : ClientPipes) (κ : Connection) (others : List Connection) (p : Pipe) (pipes : List Pipe)
-    (packet : Packet) (left : Stream) (s : GoesBeside nodes config cs v) → slice_get v.clients i ≡ Some c → c.connections ≡ κ ∷ others → c.pipes ≡ p ∷ pipes → c.keeper.is_open ≡ true
-    → Takes p.came (Ok (Some packet)) left → Holds (with_client i (after_packet others pipes p left (handled packet (record { keeper = c.keeper; connection = κ })) c) v) s.went
-    → GoesBeside nodes config cs (with_client i (after_packet others pipes p left (handled packet (record { keeper = c.keeper; connection = κ })) c) v)
-handles_so v i c κ others p pipes packet left s at are piped is_open cut holds =
+pub handles_so : {nodes : ℕ} {config : Config} {cs : List Client} (v : World) (went : Went nodes config v.group) (i : ℕ) (c : ClientPipes) (κ : Connection) (others : List Connection) (p : Pipe) (pipes : List Pipe)
+    (packet : Packet) (left : Stream) (s : GoesBeside nodes config cs v went) → slice_get v.clients i ≡ Some c → c.connections ≡ κ ∷ others → c.pipes ≡ p ∷ pipes → c.keeper.is_open ≡ true
+    → Takes p.came (Ok (Some packet)) left → Holds (with_client i (after_packet others pipes p left (handled packet (record { keeper = c.keeper; connection = κ })) c) v) went
+    → GoesBeside nodes config cs (with_client i (after_packet others pipes p left (handled packet (record { keeper = c.keeper; connection = κ })) c) v) went
+handles_so v went i c κ others p pipes packet left s at are piped is_open cut holds =
     let side : Side = handled packet (record { keeper = c.keeper; connection = κ }) in
     let all = each_get HasAllPipes v.clients i c s.piped at in
-    client_rests v i (after_packet others pipes p left side c) s holds
+    client_rests v went i (after_packet others pipes p left side c) s holds
     (sent_length (newly_written c.connections (side.connection ∷ others)) (record p { came = left } ∷ pipes) ∙ ap length (sym piped) ∙ all ∙ ap length are)
     (λ agreed is.
     handles_beside (s.beside agreed is) i c.keeper κ others packet (get_mapped pipes_alone v.clients i c at ∙ ap (λ l. Some (alone c.keeper l)) are) is_open
-    (next_there v s agreed is i c 0 κ p packet left (record { client = at; connection = ap (λ l. slice_get l 0) are; pipe = ap (λ l. slice_get l 0) piped }) cut) side refl)
+    (next_there v went s agreed is i c 0 κ p packet left (record { client = at; connection = ap (λ l. slice_get l 0) are; pipe = ap (λ l. slice_get l 0) piped }) cut) side refl)
 
 -- ---- it opens a connection
 
@@ -181,15 +181,15 @@ module _ {nodes : ℕ} {config : Config} (v : World) (g : Group) (i : ℕ) (c : 
       by k e there (inr none) = none
       by k e there (inl some) = let z = named_at κ.name e.connections some in absurd (other_name k e z.0 z.1 there z.2 z.3)
 
-pub connects_so : {nodes : ℕ} {config : Config} {cs : List Client} → AreApart cs → (v : World) (i n : ℕ) (c : ClientPipes) (x : ConnectionName) (port : Port) (now : ℕ)
-    (d : Does v.group (Some (n, takes (Opened port now)))) (s : GoesBeside nodes config cs v) → slice_get v.clients i ≡ Some c
-    → Holds (with_client i (after_connecting x n port c) (record v { group = d.behind })) (then_went s.went d.step)
-    → GoesBeside nodes config cs (with_client i (after_connecting x n port c) (record v { group = d.behind }))
-connects_so {cs = cs} apart v i n c x port now d s at holds =
+pub connects_so : {nodes : ℕ} {config : Config} {cs : List Client} → AreApart cs → (v : World) (went : Went nodes config v.group) (i n : ℕ) (c : ClientPipes) (x : ConnectionName) (port : Port) (now : ℕ)
+    (d : Does v.group (Some (n, takes (Opened port now)))) (s : GoesBeside nodes config cs v went) → slice_get v.clients i ≡ Some c
+    → Holds (with_client i (after_connecting x n port c) (record v { group = d.behind })) (then_went went d.step)
+    → GoesBeside nodes config cs (with_client i (after_connecting x n port c) (record v { group = d.behind })) (then_went went d.step)
+connects_so {cs = cs} apart v went i n c x port now d s at holds =
     let later = after_connecting x n port c in
     let κ : Connection = new_connection c.keeper.client x in
     let p : Pipe = record { node = n; port = port; up = spelled (packets_of κ.written); down = []; came = record { held = []; failed = false } } in
-    group_beside apart (with_client i later (record v { group = d.behind })) v.group s.went s.so d.step
+    group_beside apart (with_client i later (record v { group = d.behind })) v.group went s.so d.step
     (λ agreed is.
     subst (Beside cs agreed) (sym (set_mapped pipes_alone v.clients i later))
     (opens_beside apart (s.beside agreed is) i c.keeper c.connections x (get_mapped pipes_alone v.clients i c at)

@@ -17,12 +17,11 @@ use Rattle.group_model.specs.Goes.Went.{then_went}
 use Rattle.world_model.specs.World.{ClientPipes, Pipe, World, with_client, with_pipe}
 use Rattle.world_model.proofs.WorldsHold.{Holds}
 use Rattle.exact_model.proofs.Beside.{Beside, grows_beside}
-use Rattle.exact_model.proofs.Growth.{CarriedSo, IsAgreedSo, carried_on}
+use Rattle.connection_model.proofs.CarriedInOrder.{CarriedSo, IsAgreedSo, carried_on}
 use Rattle.exact_model.proofs.WorldsWrite.{HasAllPipes, clients_alone, is_of_written, pipes_alone}
 
--- all that went on in its group, a past of it, and for each list that is agreed at its end a world of `model`
-pub record GoesBeside (nodes : ℕ) (config : Config) (cs : List Client) (w : World) : Type 0 where
-  pub went : Went nodes config w.group
+-- of all that went on in its group a past, and for each list that is agreed at its end a world of `model`
+pub record GoesBeside (nodes : ℕ) (config : Config) (cs : List Client) (w : World) (went : Went nodes config w.group) : Type 0 where
   pub holds : Holds w went
   pub piped : Each HasAllPipes w.clients
   pub so : CarriedSo went
@@ -32,12 +31,11 @@ pub record GoesBeside (nodes : ℕ) (config : Config) (cs : List Client) (w : Wo
 
 pub group_beside : {nodes : ℕ} {config : Config} {cs : List Client} → AreApart cs → (w : World) (g : Group) (went : Went nodes config g) (so : CarriedSo went) (step : MayGo g w.group)
     → ((agreed : List Command) → IsAgreedSo so agreed → Beside cs agreed (clients_alone w)) → Holds w (then_went went step) → Each HasAllPipes w.clients
-    → GoesBeside nodes config cs w
+    → GoesBeside nodes config cs w (then_went went step)
 group_beside {config = config} {cs = cs} apart w g went so step beside holds piped =
     let on = carried_on g w.group went so step in
     let xs = has_agreed rules config (moment_of g) so.of.earlier so.of.past in
     record {
-      went = then_went went step;
       holds = holds;
       piped = piped;
       so = on.now;
@@ -58,19 +56,19 @@ pub alone_still : (clients : List ClientPipes) (i j : ℕ) (c : ClientPipes) (q 
 alone_still clients i j c q at = map_set pipes_alone clients i c (with_pipe j q c) at refl
 
 -- while the group goes on
-pub pipe_beside : {nodes : ℕ} {config : Config} {cs : List Client} → AreApart cs → (v : World) (g : Group) (i j : ℕ) (c : ClientPipes) (q : Pipe) (s : GoesBeside nodes config cs v)
-    (step : MayGo v.group g) → slice_get v.clients i ≡ Some c → Holds (with_client i (with_pipe j q c) (record v { group = g })) (then_went s.went step)
-    → GoesBeside nodes config cs (with_client i (with_pipe j q c) (record v { group = g }))
-pipe_beside {cs = cs} apart v g i j c q s step at holds =
-    group_beside apart (with_client i (with_pipe j q c) (record v { group = g })) v.group s.went s.so step
+pub pipe_beside : {nodes : ℕ} {config : Config} {cs : List Client} → AreApart cs → (v : World) (went : Went nodes config v.group) (g : Group) (i j : ℕ) (c : ClientPipes) (q : Pipe)
+    (s : GoesBeside nodes config cs v went) (step : MayGo v.group g) → slice_get v.clients i ≡ Some c → Holds (with_client i (with_pipe j q c) (record v { group = g })) (then_went went step)
+    → GoesBeside nodes config cs (with_client i (with_pipe j q c) (record v { group = g })) (then_went went step)
+pipe_beside {cs = cs} apart v went g i j c q s step at holds =
+    group_beside apart (with_client i (with_pipe j q c) (record v { group = g })) v.group went s.so step
     (λ agreed is. subst (Beside cs agreed) (sym (alone_still v.clients i j c q at)) (s.beside agreed is)) holds (piped_still v.clients i j c q at s.piped)
 
 -- while it rests
-pub pipe_rests : {nodes : ℕ} {config : Config} {cs : List Client} (v : World) (i j : ℕ) (c : ClientPipes) (q : Pipe) (s : GoesBeside nodes config cs v) → slice_get v.clients i ≡ Some c
-    → Holds (with_client i (with_pipe j q c) v) s.went → GoesBeside nodes config cs (with_client i (with_pipe j q c) v)
-pipe_rests {cs = cs} v i j c q s at holds =
+pub pipe_rests : {nodes : ℕ} {config : Config} {cs : List Client} (v : World) (went : Went nodes config v.group) (i j : ℕ) (c : ClientPipes) (q : Pipe)
+    (s : GoesBeside nodes config cs v went) → slice_get v.clients i ≡ Some c
+    → Holds (with_client i (with_pipe j q c) v) went → GoesBeside nodes config cs (with_client i (with_pipe j q c) v) went
+pipe_rests {cs = cs} v went i j c q s at holds =
     record {
-      went = s.went;
       holds = holds;
       piped = piped_still v.clients i j c q at s.piped;
       so = s.so;

@@ -6,7 +6,6 @@ pub mod HandledUntaken
 pub mod AllPutOut
 pub mod Beside
 pub mod ClientsBeside
-pub mod Growth
 pub mod NamesGiven
 pub mod WorldsWrite
 pub mod GoesBeside

@@ -24,7 +24,7 @@ use Rattle.world_model.specs.World.{ClientPipes, HasPipe, Pipe, World, packets_o
 use Rattle.world_model.proofs.WorldsHold.{Holds, IsKnown, IsUnheard}
 use Rattle.exact_model.proofs.Untaken.{untaken_connection}
 use Rattle.exact_model.proofs.Beside.{Alone, IsOfWritten, alone}
-use Rattle.exact_model.proofs.Growth.{CarriedSo, IsAgreedSo, carries_each}
+use Rattle.connection_model.proofs.CarriedInOrder.{CarriedSo, IsAgreedSo, carries_each}
 use Rattle.exact_model.proofs.Places.{map_back}
 
 abbrev pub pipes_alone : ClientPipes → Alone

@@ -13,9 +13,10 @@ use Rattle.story.specs.Story.{Story}
 use Rattle.agreement.specs.Past.{IsAgreed}
 use Rattle.model.specs.World.{AreApart}
 use Rattle.group_model.specs.Group.{moment_of}
-use Rattle.group_model.specs.Goes.{Went, all_put, groups_of}
+use Rattle.group_model.specs.Goes.{all_put, groups_of}
 use Rattle.group_model.specs.Pasts.{HasPast}
 use Rattle.world_model.specs.World.{ClientPipes, HasPipe, Pipe, World}
+use Rattle.world_model.specs.Carried.{went_of}
 use Rattle.world_model.specs.Goes.{Reached}
 use Rattle.world_model.specs.InPipes.{IsInOrder}
 
@@ -33,14 +34,14 @@ pub record IsExactBy (agreed : List Command) (w : World) : Type 0 where
   -- connections carry their packets in order, both ways
   pub pipes : (i : ℕ) (c : ClientPipes) (j : ℕ) (κ : Connection) (p : Pipe) → HasPipe w i c j κ p → IsInOrder agreed κ p
 
--- The group of a world went through a past, there is a list on which its nodes agree at its end, and so it is by that list.
-pub record IsExact (nodes : ℕ) (config : Config) (w : World) : Type 0 where
-  pub went : Went nodes config w.group
-  pub of : HasPast config w.group (groups_of went) (all_put went)
+-- A world that is reached on this way: what went on in its group on the way is a past, there is a list on which the nodes agree
+-- at its end, and so it is by that list.
+pub record IsExact {nodes : ℕ} {config : Config} {cs : List Client} {w : World} (trail : Reached nodes config cs w) : Type 0 where
+  pub of : HasPast config w.group (groups_of (went_of trail)) (all_put (went_of trail))
   pub agreed : List Command
   pub is_agreed : IsAgreed config (moment_of w.group ∷ of.earlier) agreed
   pub exact : (list : List Command) → IsAgreed config (moment_of w.group ∷ of.earlier) list → IsExactBy list w
 
--- of clients with identifiers of their own
+-- of clients with identifiers of their own, and on every way
 abbrev pub WorldsAreExact : Type 0
-WorldsAreExact = (nodes : ℕ) (config : Config) (cs : List Client) (w : World) → AreApart cs → Reached nodes config cs w → IsExact nodes config w
+WorldsAreExact = (nodes : ℕ) (config : Config) (cs : List Client) (w : World) → AreApart cs → (trail : Reached nodes config cs w) → IsExact trail

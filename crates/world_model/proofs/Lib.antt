@@ -8,3 +8,4 @@ pub mod WorldsHold
 pub mod WorldsKeep
 pub mod WorldsOpen
 pub mod PipesInOrder
+pub mod DeedsCarry

@@ -3,14 +3,28 @@ use Rattle.std.specs.Prelude.{ℕ, List}
 use Rattle.ballot.specs.Config.{Config}
 use Rattle.broker_base.specs.Place.{Client}
 use Rattle.group_model.specs.Goes.{Went}
+use Rattle.group_model.specs.Goes.Went.{opened, then_went}
 use Rattle.connection_model.specs.Carried.{Carries}
 use Rattle.world_model.specs.World.{World}
-use Rattle.world_model.specs.Goes.{Reached}
+use Rattle.world_model.specs.Goes.{Reached, WorldStep}
+use Rattle.world_model.specs.Goes.Reached.{begins, goes_on}
+use Rattle.world_model.specs.Goes.WorldStep.{goes_on as group_goes, calls, connects, comes_up, goes_down, arrives, handles}
 
--- the group of a world went through steps of a group, in which each connection carries its packets in order
-pub record CarriesInOrder (nodes : ℕ) (config : Config) (w : World) : Type 0 where
-  pub went : Went nodes config w.group
-  pub carries : Carries went
+-- where a step of a world has a step of its group, the group goes that one
+abbrev pub went_on : {nodes : ℕ} {config : Config} {v w : World} → Went nodes config v.group → WorldStep v w → Went nodes config w.group
+went_on went (group_goes deed d apart) = then_went went d.step
+went_on went (calls i c t h at call spelled) = went
+went_on went (connects i n c port now d core end at unused behind there spelled) = then_went went d.step
+went_on went (comes_up i j c κ p piece rest now d pipe is) = then_went went d.step
+went_on went (goes_down i j c κ p d pipe) = then_went went d.step
+went_on went (arrives i j c κ p piece rest pipe is) = went
+went_on went (handles i c κ others p pipes packet left at first piped is_open takes spelled) = went
 
+-- what went on in the group of a world on this way to it
+abbrev pub went_of : {nodes : ℕ} {config : Config} {cs : List Client} {w : World} → Reached nodes config cs w → Went nodes config w.group
+went_of (begins can) = opened can
+went_of (goes_on before step) = went_on (went_of before) step
+
+-- on whatever way a world is reached, each connection carries its packets in order in what went on in its group
 abbrev pub WorldsCarryInOrder : Type 0
-WorldsCarryInOrder = (nodes : ℕ) (config : Config) (cs : List Client) (w : World) → Reached nodes config cs w → CarriesInOrder nodes config w
+WorldsCarryInOrder = (nodes : ℕ) (config : Config) (cs : List Client) (w : World) (trail : Reached nodes config cs w) → Carries (went_of trail)

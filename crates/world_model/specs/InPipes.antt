@@ -11,10 +11,11 @@ use Rattle.agreement.specs.Past.{IsAgreed}
 use Rattle.node_model.specs.Ends.{commands_of}
 use Rattle.node_model.specs.Puts.{spelled}
 use Rattle.group_model.specs.Group.{moment_of}
-use Rattle.group_model.specs.Goes.{Went, all_put, groups_of}
+use Rattle.group_model.specs.Goes.{all_put, groups_of}
 use Rattle.group_model.specs.Order.{packets_of as packets_in_list}
 use Rattle.group_model.specs.Pasts.{HasPast}
 use Rattle.connection_model.specs.Carried.{answers_to}
+use Rattle.world_model.specs.Carried.{went_of}
 use Rattle.world_model.specs.World.{ClientPipes, HasPipe, Pipe, World, packets_of}
 use Rattle.world_model.specs.Goes.{Reached}
 
@@ -29,12 +30,12 @@ pub record IsInOrder (agreed : List Command) (κ : Connection) (p : Pipe) : Type
   pub down : IsPrefixOf (spelled handled ++ (p.came.held ++ p.down)) (answers_to κ.name agreed)
   pub sound : p.came.failed ≡ false
 
--- so it is of each connection of each client, by the list on which the nodes agree
-pub record PipesAreInOrder (nodes : ℕ) (config : Config) (w : World) : Type 0 where
-  pub went : Went nodes config w.group
-  pub of : HasPast config w.group (groups_of went) (all_put went)
+-- so it is of each connection of each client, by the list on which the nodes agree at the end of what went on in the group
+-- on the way to the world
+pub record PipesAreInOrder {nodes : ℕ} {config : Config} {cs : List Client} {w : World} (trail : Reached nodes config cs w) : Type 0 where
+  pub of : HasPast config w.group (groups_of (went_of trail)) (all_put (went_of trail))
   pub each : (agreed : List Command) → IsAgreed config (moment_of w.group ∷ of.earlier) agreed → (i : ℕ) (c : ClientPipes) (j : ℕ) (κ : Connection) (p : Pipe) →
       HasPipe w i c j κ p → IsInOrder agreed κ p
 
 abbrev pub PipesCarryInOrder : Type 0
-PipesCarryInOrder = (nodes : ℕ) (config : Config) (cs : List Client) (w : World) → Reached nodes config cs w → PipesAreInOrder nodes config w
+PipesCarryInOrder = (nodes : ℕ) (config : Config) (cs : List Client) (w : World) (trail : Reached nodes config cs w) → PipesAreInOrder trail

@@ -3,3 +3,4 @@ pub mod Goes
 pub mod Carried
 pub mod InPipes
 pub mod Apart
+pub mod Deeds

@@ -1,0 +1,150 @@
+-- Each deed of a node has moves that carry just its bytes, and in which the replica hears what was sent to it, at first.
+use Rattle.std.proofs.Common.{◌≡◌, ℕ, ◌+◌, List, [], ◌++◌, refl, sym, ap, ◌∙◌, subst}
+use Rattle.std.proofs.lemmas.List.{append-nil}
+use Rattle.lists.specs.Lists.{In}
+use Rattle.ballot.specs.Protocol.Input.{Receives, Proposes, Ticks}
+use Rattle.broker_base.specs.Connection.{ConnectionName}
+use Rattle.world_base.specs.declared.item.Item.TheVariants.{Peer, Tick, Opened, Bytes, Ended, Crash}
+use Rattle.world_base.specs.Core.{CoreState, Turn}
+use Rattle.world_base.specs.Handing.{listed_at}
+use Rattle.world_base.specs.Reading.{open_at}
+use Rattle.node_model.specs.Ends.{bytes_on, came_on, piece_on}
+use Rattle.node_model.specs.Moves.{Deed, Moves, Runs, done}
+use Rattle.node_model.specs.Moves.Deed.{takes, gives}
+use Rattle.node_model.specs.Moves.Moves.{hears, opens_one, holds, reads_first, reads_later, closes, refuses, loses_one, loses_next, crashes, settles, hands}
+use Rattle.node_model.specs.Moves.Runs.{rests, goes_on}
+use Rattle.node_model.proofs.PartsOfMoves.{BeginsWith, IsBare, Part, begins_hearing, part_in, part_of}
+use Rattle.node_model.proofs.PartsOfMoves.Part.{heard, bytes_in, bytes_out}
+use Rattle.node_model.proofs.StepsMove.{deeds_begin}
+use Rattle.group_model.specs.Group.{Group, behind_turn}
+use Rattle.group_model.specs.Goes.{AllWasSent, WasSent, all_given}
+use Rattle.group_model.specs.Goes.MayGo.{node_acts}
+use Rattle.connection_model.specs.Streams.{bytes_named, handed_in_run, handed_on}
+use Rattle.world_model.specs.Deeds.{DeedWasSent, DeedsCarryTheirBytes, GroupsDoEachDeed}
+use Rattle.world_model.specs.Goes.{coming_with, going_with}
+
+-- ---- what a part is for one connection
+
+abbrev comes_in : ConnectionName → Part → CoreState → List ℕ
+comes_in x (bytes_in port piece) core = piece_on x piece (open_at port core)
+comes_in x _ core = []
+
+abbrev goes_out : ConnectionName → Part → CoreState → List ℕ
+goes_out x (bytes_out port) core = bytes_named x (listed_at port core)
+goes_out x _ core = []
+
+abbrev PartWasSent : Group → ℕ → Part → Type 0
+PartWasSent g n (heard message) = In (n + 1, message) g.sent
+PartWasSent g n _ = Unit {0}
+
+-- .. of a deed
+deed_parts : (x : ConnectionName) (deed : Deed) (core : CoreState) → (comes_in x (part_of deed) core ≡ coming_with x deed core) × (goes_out x (part_of deed) core ≡ going_with x deed core)
+deed_parts x (takes (Peer message)) core = (refl, refl)
+deed_parts x (takes (Tick now)) core = (refl, refl)
+deed_parts x (takes (Opened port now)) core = (refl, refl)
+deed_parts x (takes (Bytes port piece now)) core = (refl, refl)
+deed_parts x (takes (Ended port)) core = (refl, refl)
+deed_parts x (takes Crash) core = (refl, refl)
+deed_parts x (gives port) core = (refl, refl)
+
+deed_sent : (g : Group) (n : ℕ) (deed : Deed) → DeedWasSent g n deed → PartWasSent g n (part_of deed)
+deed_sent g n (takes (Peer message)) sent = sent
+deed_sent g n (takes (Tick now)) sent = tt
+deed_sent g n (takes (Opened port now)) sent = tt
+deed_sent g n (takes (Bytes port piece now)) sent = tt
+deed_sent g n (takes (Ended port)) sent = tt
+deed_sent g n (takes Crash) sent = tt
+deed_sent g n (gives port) sent = tt
+
+-- .. of a move
+move_parts : (x : ConnectionName) {core : CoreState} {turn : Turn} (m : Moves core turn) → (came_on x m ≡ comes_in x (part_in m) core) × (handed_on x m ≡ goes_out x (part_in m) core)
+move_parts x (hears (Receives message) is) = (refl, refl)
+move_parts x (hears (Proposes command) is) = (refl, refl)
+move_parts x (hears Ticks is) = (refl, refl)
+move_parts x (opens_one port) = (refl, refl)
+move_parts x (holds port piece) = (refl, refl)
+move_parts x (reads_first now port c connect rest at first is room) = (refl, refl)
+move_parts x (reads_later now port c packet rest at later is room) = (refl, refl)
+move_parts x (closes port) = (refl, refl)
+move_parts x (refuses port c code at first is) = (refl, refl)
+move_parts x (loses_one port c at proposed) = (refl, refl)
+move_parts x (loses_next c at) = (refl, refl)
+move_parts x crashes = (refl, refl)
+move_parts x settles = (refl, refl)
+move_parts x (hands port) = (refl, refl)
+
+move_sent : (g : Group) (n : ℕ) {core : CoreState} {turn : Turn} (m : Moves core turn) → PartWasSent g n (part_in m) → WasSent g n m
+move_sent g n (hears (Receives message) is) sent = sent
+move_sent g n (hears (Proposes command) is) sent = tt
+move_sent g n (hears Ticks is) sent = tt
+move_sent g n (opens_one port) sent = tt
+move_sent g n (holds port piece) sent = tt
+move_sent g n (reads_first now port c connect rest at first is room) sent = tt
+move_sent g n (reads_later now port c packet rest at later is room) sent = tt
+move_sent g n (closes port) sent = tt
+move_sent g n (refuses port c code at first is) sent = tt
+move_sent g n (loses_one port c at proposed) sent = tt
+move_sent g n (loses_next c at) sent = tt
+move_sent g n crashes sent = tt
+move_sent g n settles sent = tt
+move_sent g n (hands port) sent = tt
+
+-- ---- runs
+
+-- a run of bare moves carries nothing, and hears nothing
+bare_carries : (x : ConnectionName) {core : CoreState} {turn : Turn} (run : Runs core turn) → IsBare run → (bytes_on x run ≡ []) × (handed_in_run x run ≡ [])
+bare_carries x rests bare = (refl, refl)
+bare_carries x (goes_on {core = core} m run) bare =
+    let p = move_parts x m in
+    let rest = bare_carries x run bare.1 in (
+      ap (λ l. came_on x m ++ l) rest.0 ∙ append-nil (came_on x m) ∙ p.0 ∙ ap (λ part. comes_in x part core) bare.0.1,
+      ap (λ l. handed_on x m ++ l) rest.1 ∙ append-nil (handed_on x m) ∙ p.1 ∙ ap (λ part. goes_out x part core) bare.0.1,
+    )
+
+bare_sent : (g : Group) (n : ℕ) {core : CoreState} {turn : Turn} (run : Runs core turn) → IsBare run → AllWasSent g n run
+bare_sent g n rests bare = tt
+bare_sent g n (goes_on m run) bare = (move_sent g n m (subst (PartWasSent g n) (sym bare.0.1) tt), bare_sent g n run bare.1)
+
+-- one that begins with a part carries what that does
+begun_carries : (x : ConnectionName) (part : Part) {core : CoreState} {turn : Turn} (run : Runs core turn) → BeginsWith part run
+    → (bytes_on x run ≡ comes_in x part core) × (handed_in_run x run ≡ goes_out x part core)
+begun_carries x part {core = core} rests begins = (ap (λ part. comes_in x part core) begins, ap (λ part. goes_out x part core) begins)
+begun_carries x part {core = core} (goes_on m run) begins =
+    let p = move_parts x m in
+    let rest = bare_carries x run begins.1 in (
+      ap (λ l. came_on x m ++ l) rest.0 ∙ append-nil (came_on x m) ∙ p.0 ∙ ap (λ part. comes_in x part core) begins.0,
+      ap (λ l. handed_on x m ++ l) rest.1 ∙ append-nil (handed_on x m) ∙ p.1 ∙ ap (λ part. goes_out x part core) begins.0,
+    )
+
+begun_sent : (g : Group) (n : ℕ) (part : Part) {core : CoreState} {turn : Turn} (run : Runs core turn) → BeginsWith part run → PartWasSent g n part → AllWasSent g n run
+begun_sent g n part rests begins sent = tt
+begun_sent g n part (goes_on m run) begins sent = (move_sent g n m (subst (PartWasSent g n) (sym begins.0) sent), bare_sent g n run begins.1)
+
+-- ---- the laws
+
+pub deeds_carry_their_bytes : DeedsCarryTheirBytes
+deeds_carry_their_bytes g n deed core sent =
+    let r = deeds_begin deed core in
+    record {
+      run = r.0;
+      first = begins_hearing (part_of deed) r.0 r.1;
+      sent = begun_sent g n (part_of deed) r.0 r.1 (deed_sent g n deed sent);
+      bytes = λ x.
+          let c = begun_carries x (part_of deed) r.0 r.1 in
+          let d = deed_parts x deed core in
+          (c.0 ∙ d.0, c.1 ∙ d.1);
+    }
+
+pub groups_do_each_deed : GroupsDoEachDeed
+groups_do_each_deed g n deed core at sent =
+    let r = deeds_carry_their_bytes g n deed core sent in
+    record {
+      does = record {
+        behind = behind_turn g n (done deed core) (all_given r.run);
+        step = node_acts n core deed (done deed core) r.run at refl r.first r.sent;
+        is = refl;
+        faithful = r.bytes;
+      };
+      given = all_given r.run;
+      is = refl;
+    }

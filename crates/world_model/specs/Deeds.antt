@@ -1,0 +1,41 @@
+-- That a world can go on: each deed of a node has moves that carry just its bytes.
+use Rattle.std.specs.Prelude.{◌≡◌, ℕ, ◌+◌, List, slice_get, Some}
+use Rattle.lists.specs.Lists.{In}
+use Rattle.ballot.specs.Effect.{Effect}
+use Rattle.broker_base.specs.Command.{Command}
+use Rattle.broker_base.specs.Output.{Output}
+use Rattle.world_base.specs.declared.item.Item.TheVariants.{Peer}
+use Rattle.world_base.specs.Core.{CoreState, Turn}
+use Rattle.node_model.specs.Hearing.{HearsAtFirst}
+use Rattle.node_model.specs.Moves.{Deed, Runs, done}
+use Rattle.node_model.specs.Moves.Deed.{takes}
+use Rattle.group_model.specs.Group.{Group, behind_turn}
+use Rattle.group_model.specs.Goes.{AllWasSent}
+use Rattle.world_model.specs.Goes.{CarriesItsBytes, Does}
+
+-- what a node takes in of others was sent to it
+abbrev pub DeedWasSent : Group → ℕ → Deed → Type 0
+DeedWasSent g n (takes (Peer message)) = In (n + 1, message) g.sent
+DeedWasSent g n _ = Unit {0}
+
+-- moves in which a node's replica hears what was sent, at first, and just the bytes of the deed are carried
+pub record RunsAs (g : Group) (n : ℕ) (deed : Deed) (core : CoreState) (turn : Turn) : Type 0 where
+  pub run : Runs core turn
+  pub first : HearsAtFirst run
+  pub sent : AllWasSent g n run
+  pub bytes : CarriesItsBytes deed run
+
+-- each deed of a node, whatever the node keeps, has such moves
+abbrev pub DeedsCarryTheirBytes : Type 0
+DeedsCarryTheirBytes = (g : Group) (n : ℕ) (deed : Deed) (core : CoreState) → DeedWasSent g n deed → RunsAs g n deed core (done deed core)
+
+-- a step of a group with this deed of a node, behind which the node is as its own turn leaves it, and all that it gave
+-- besides are outputs
+pub record DoesDeed (g : Group) (n : ℕ) (deed : Deed) (core : CoreState) : Type 0 where
+  pub does : Does g (Some (n, deed))
+  pub given : List (Effect Command Output)
+  pub is : does.behind ≡ behind_turn g n (done deed core) given
+
+-- in whatever group a node stands, it can do each deed
+abbrev pub GroupsDoEachDeed : Type 0
+GroupsDoEachDeed = (g : Group) (n : ℕ) (deed : Deed) (core : CoreState) → slice_get g.nodes n ≡ Some core → DeedWasSent g n deed → DoesDeed g n deed core
