@@ -146,7 +146,7 @@ put_out_name bytes c = by (nat_le (length c.pending + length bytes) most_pending
     by true = refl
     by false = refl
 
-put_out_is_mild : (bytes : List ℕ) → IsMild (put_out bytes)
+pub put_out_is_mild : (bytes : List ℕ) → IsMild (put_out bytes)
 put_out_is_mild bytes = record { name = put_out_name bytes; stage = stays_or_ends }
   where
     stays_or_ends : (c : Connection) → (((put_out bytes c).stage ≡ c.stage) × ((put_out bytes c).unread ≡ c.unread)) ⊎ (is_over (put_out bytes c).stage ≡ true)
@@ -162,7 +162,7 @@ pub stays_at : (port : Port) (f : Connection → Connection) (core : CoreState) 
 unfolding changes
 stays_at port f core o mild = stays_changed core (changes port f core) (is_open_at port) f o refl refl (same_le core.replica.state.joined) (λ d e. left_true (live d) (is_at port d) e) mild
 
-stays_named : (name : ConnectionName) (f : Connection → Connection) (core : CoreState) → IsOrderly core → IsMild f → Stays core (changes_named name f core)
+pub stays_named : (name : ConnectionName) (f : Connection → Connection) (core : CoreState) → IsOrderly core → IsMild f → Stays core (changes_named name f core)
 unfolding changes_named
 stays_named name f core o mild = stays_changed core (changes_named name f core) (is_open_named name) f o refl refl (same_le core.replica.state.joined) (λ d e. left_true (live d) (named name d) e) mild
 

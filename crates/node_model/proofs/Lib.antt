@@ -26,3 +26,11 @@ pub mod OpenBehind
 pub mod NamesInMoves
 pub mod NamesKeepTheirBallot
 pub mod NamesStayApart
+pub mod LossyOutputs
+pub mod LossyReads
+pub mod LossyShuts
+pub mod LossyClosed
+pub mod LossyNames
+pub mod LossyRead
+pub mod LossyRuns
+pub mod LossesAreMoves

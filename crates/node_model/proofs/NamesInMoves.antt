@@ -1,5 +1,5 @@
 -- Names keep their ballot in each move in which the replica hears nothing and does not stop.
-use Rattle.std.proofs.Common.{◌≡◌, ◌+◌, ℕ, Bool, true, false, not, ◌&&◌, if◌then◌else◌, List, [], ◌∷◌, ◌++◌, Option, Some, None, refl, sym, ap, ◌∙◌}
+use Rattle.std.proofs.Common.{◌≡◌, ℕ, Bool, true, false, not, ◌&&◌, if◌then◌else◌, List, [], ◌∷◌, ◌++◌, Option, Some, None, refl, sym, ap, ◌∙◌}
 use Rattle.std.specs.List.{list_any}
 use Rattle.broker_base.specs.Connection.{ConnectionName, is_connection_name}
 use Rattle.world_base.specs.declared.item.Port.{Port}
@@ -21,12 +21,12 @@ use Rattle.node_model.proofs.ReplicaStays.{Same}
 use Rattle.node_model.proofs.Shut.{Shuts}
 
 -- what was open before has a name of the ballot still
-still_of : (x : ConnectionName) (core later : CoreState) (c : Connection) → AreOfTheBallot core → Same core.replica.state later.replica.state → listed_named x core ≡ Some c
+pub still_of : (x : ConnectionName) (core later : CoreState) (c : Connection) → AreOfTheBallot core → Same core.replica.state later.replica.state → listed_named x core ≡ Some c
     → is_over c.stage ≡ false → (serves later ≡ true) × (x.ballot ≡ later.replica.state.joined)
 still_of x core later c of same there' lives =
     let a = of.each x c there' lives in (serves_same core later same ∙ a.0, a.1 ∙ sym same.joined)
 
-by_shuts : (x : ConnectionName) (core later : CoreState) (bytes : List ℕ) (d : Connection) → AreOfTheBallot core → Same core.replica.state later.replica.state
+pub by_shuts : (x : ConnectionName) (core later : CoreState) (bytes : List ℕ) (d : Connection) → AreOfTheBallot core → Same core.replica.state later.replica.state
     → Shuts bytes (listed_named x core) (listed_named x later) → listed_named x later ≡ Some d → is_over d.stage ≡ false
     → (serves later ≡ true) × (x.ballot ≡ later.replica.state.joined)
 by_shuts x core later bytes d of same shuts e lives =

@@ -89,14 +89,14 @@ orderly_crashed core o = record { names = o.names; given = o.given; within = o.w
 
 -- ---- what is proposed
 
-proposed_of : (core : CoreState) (port : Port) (c : Connection) (x : ConnectionName) → IsOrderly core → AreOfTheBallot core → open_at port core ≡ Some c
+pub proposed_of : (core : CoreState) (port : Port) (c : Connection) (x : ConnectionName) → IsOrderly core → AreOfTheBallot core → open_at port core ≡ Some c
     → same_connection c.name x ≡ true → x.ballot ≡ core.replica.state.joined
 proposed_of core port c x o of at is =
     let there' = (view_of_changed all (named x) (is_open_at port) (λ z. z) core.connections c (o.names x) (λ z t. refl) (λ z. refl) at is).0 in
     let lives = left_true (live c) (is_at port c) (found_passes (is_open_at port) core.connections c at) in
     (of.each x c there' (open_if (is_over c.stage) lives)).1
 
-only_one : (x : ConnectionName) (z command : Command) → In command (z ∷ []) → is_packet_of command x ≡ true → is_packet_of z x ≡ true
+pub only_one : (x : ConnectionName) (z command : Command) → In command (z ∷ []) → is_packet_of command x ≡ true → is_packet_of z x ≡ true
 only_one x z command here is = is
 only_one x z command (there i) is = elim i [ ]
 

@@ -1,5 +1,5 @@
 -- Names stay apart in each step of a node, also where memory may be wanting.
-use Rattle.std.proofs.Common.{◌≡◌, inl, inr, ◌≤◌, ◌<◌, ◌+◌, ℕ, zero, suc, Bool, true, false, not, ◌&&◌, if◌then◌else◌, List, [], ◌∷◌, ◌++◌, length, Option, Some, None, refl, sym, ap, ◌∙◌, subst, arith}
+use Rattle.std.proofs.Common.{◌≡◌, inl, inr, ◌≤◌, ◌<◌, ℕ, zero, suc, Bool, true, false, not, ◌&&◌, if◌then◌else◌, List, [], ◌∷◌, ◌++◌, length, Option, Some, None, refl, sym, ap, ◌∙◌, subst, arith}
 use Rattle.std.specs.List.{find, list_any}
 use Rattle.packet.specs.Spelling.{spelling}
 use Rattle.packet.specs.declared.packet.Packet.{Packet}
@@ -123,7 +123,7 @@ keep_replica core replica up o =
 same_up : (r s : ReplicaState State Command) → s ≡ r → r.joined ≤ s.joined
 same_up r s e = subst (λ (t : ReplicaState State Command). r.joined ≤ t.joined) (sym e) (same_le r.joined)
 
-steps_up : (old new : CountedReplica State Command) (outcome : Outcome State Command Output) (given : List (Effect Command Output)) →
+pub steps_up : (old new : CountedReplica State Command) (outcome : Outcome State Command Output) (given : List (Effect Command Output)) →
     Up old.state outcome → Steps rules old outcome new given → old.state.joined ≤ new.state.joined
 steps_up old new outcome given up (inl (state, effects, rest)) =
     subst (λ (t : ReplicaState State Command). old.state.joined ≤ t.joined) (sym state) up

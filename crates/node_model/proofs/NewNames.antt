@@ -1,5 +1,5 @@
 -- A connection that is new behind a move was opened in it, and has the next name of the ballot that its node leads.
-use Rattle.std.proofs.Common.{◌≡◌, ◌⊎◌, inl, inr, ◌+◌, ℕ, Bool, true, false, not, ◌&&◌, if◌then◌else◌, List, [], ◌∷◌, ◌++◌, Option, Some, None, refl, sym, ap, ◌∙◌, filter, map}
+use Rattle.std.proofs.Common.{◌≡◌, ◌⊎◌, inl, inr, ℕ, Bool, true, false, not, ◌&&◌, if◌then◌else◌, List, [], ◌∷◌, ◌++◌, Option, Some, None, refl, sym, ap, ◌∙◌, filter, map}
 use Rattle.std.specs.List.{find, list_any}
 use Rattle.broker_base.specs.Connection.{ConnectionName, is_connection_name}
 use Rattle.broker_model.proofs.ConnectionNames.{same_name}
@@ -20,7 +20,7 @@ use Rattle.node_model.proofs.Shut.{Shuts, all, found_filtered, found_mapped}
 use Rattle.node_model.proofs.Shut.Shuts.{nobody, stays_open, is_shut, was_shut}
 
 -- who is not there does not come by a change
-stays_away : (bytes : List ℕ) (o p : Option Connection) (d : Connection) → Shuts bytes o p → o ≡ None → p ≡ Some d → ⊥
+pub stays_away : (bytes : List ℕ) (o p : Option Connection) (d : Connection) → Shuts bytes o p → o ≡ None → p ≡ Some d → ⊥
 stays_away bytes o None d nobody none there = some_none d (sym there)
 stays_away bytes None (Some e) d shuts none there = elim shuts [ ]
 stays_away bytes (Some c) (Some e) d (stays_open a b f) none there = some_none c none

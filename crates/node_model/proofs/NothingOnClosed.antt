@@ -1,5 +1,5 @@
 -- A connection that is closed behind a move was so before, or got a beginning of what the move sends to it.
-use Rattle.std.proofs.Common.{◌≡◌, ◌⊎◌, inl, inr, ◌+◌, ℕ, Bool, true, false, not, ◌&&◌, ◌||◌, ◌==◌, if◌then◌else◌, List, [], ◌∷◌, ◌++◌, Option, Some, None, refl, sym, ap, ◌∙◌, subst, filter, map, length}
+use Rattle.std.proofs.Common.{◌≡◌, ◌⊎◌, inl, inr, ℕ, Bool, true, false, not, ◌&&◌, ◌||◌, ◌==◌, if◌then◌else◌, List, [], ◌∷◌, ◌++◌, Option, Some, None, refl, sym, ap, ◌∙◌, subst, filter, map, length}
 use Rattle.std.specs.List.{find, list_any}
 use Rattle.std.proofs.lemmas.List.{append-nil}
 use Rattle.std.proofs.lemmas.Bool.{both_ways}
@@ -28,11 +28,11 @@ use Rattle.node_model.proofs.Shut.Shuts.{nobody, stays_open, is_shut, was_shut}
 use Rattle.node_model.proofs.ShutByOutputs.{driven_shuts}
 use Rattle.node_model.proofs.ShutByChanges.{asked_shuts, at_orderly, at_replica, at_shuts, behind_shuts, holding_shuts, left_shuts, refused_shuts, with_room}
 
-over_if : (b : Bool) → not b ≡ false → b ≡ true
+pub over_if : (b : Bool) → not b ≡ false → b ≡ true
 over_if true e = refl
 over_if false e = cc
 
-open_if : (b : Bool) → not b ≡ true → b ≡ false
+pub open_if : (b : Bool) → not b ≡ true → b ≡ false
 open_if true e = cc
 open_if false e = refl
 
@@ -133,7 +133,7 @@ handed_closed x port core d o e over = by (find (is_at port) core.connections) r
 -- ---- the law
 
 -- one that failed is closed
-failed_dead : (c : Connection) → has_failed c ≡ true → live c ≡ false
+pub failed_dead : (c : Connection) → has_failed c ≡ true → live c ≡ false
 failed_dead c failed = by c.stage failed
   where
     by : (s : Stage) → is_failed s ≡ true → not (is_over s) ≡ false

@@ -68,7 +68,7 @@ front_of x core written read later (is_open c given is first piped) = record { r
 front_of x core written read later (is_over given is front) = front
 
 -- before the first connection all names are still to come
-still_to_come : (x : ConnectionName) → 0 < x.count → Precedes (record { ballot = 0; count = 0 }) x
+pub still_to_come : (x : ConnectionName) → 0 < x.count → Precedes (record { ballot = 0; count = 0 }) x
 still_to_come x some = by (cases_lt 0 x.ballot)
   where
     by : (0 < x.ballot) ⊎ (x.ballot ≤ 0) → Precedes (record { ballot = 0; count = 0 }) x

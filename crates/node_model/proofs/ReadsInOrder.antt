@@ -34,7 +34,7 @@ use Rattle.node_model.proofs.Kept.Kept.{never, still, ended}
 
 -- ---- moves that read nothing
 
-end_kept : (x : ConnectionName) (core later : CoreState) (written read : List Packet) (under_way : List ℕ) → IsEnd x core written read under_way
+pub end_kept : (x : ConnectionName) (core later : CoreState) (written read : List Packet) (under_way : List ℕ) → IsEnd x core written read under_way
     → Kept (open_named x core) (open_named x later) → later.last_name ≡ core.last_name → IsEnd x later written read under_way
 end_kept x core later written read under_way (not_yet below none piped) kept same = not_yet (subst (λ (y : ConnectionName). Precedes y x) (sym same) below) none piped
 end_kept x core later written read under_way (is_open c given is first piped) kept same = by (open_named x core) (open_named x later) kept is refl
@@ -90,13 +90,13 @@ found_open x core port c o at is =
 pub found_given : (core : CoreState) (port : Port) (c : Connection) → IsOrderly core → open_at port core ≡ Some c → IsGiven core.last_name c.name
 found_given core port c o at = found_each (λ (d : Connection). IsGiven core.last_name d.name) (is_open_at port) core.connections c o.given at
 
-record IsChange (core later : CoreState) (port : Port) (c : Connection) (f : Connection → Connection) : Type 0 where
-  are : later.connections ≡ changed (is_open_at port) f core.connections
-  same : later.last_name ≡ core.last_name
-  up : core.replica.state.joined ≤ later.replica.state.joined
-  at : open_at port core ≡ Some c
-  name : (d : Connection) → (f d).name ≡ d.name
-  lives : live (f c) ≡ true
+pub record IsChange (core later : CoreState) (port : Port) (c : Connection) (f : Connection → Connection) : Type 0 where
+  pub are : later.connections ≡ changed (is_open_at port) f core.connections
+  pub same : later.last_name ≡ core.last_name
+  pub up : core.replica.state.joined ≤ later.replica.state.joined
+  pub at : open_at port core ≡ Some c
+  pub name : (d : Connection) → (f d).name ≡ d.name
+  pub lives : live (f c) ≡ true
 
 change_other : (x : ConnectionName) (core later : CoreState) (port : Port) (c : Connection) (f : Connection → Connection) (written read : List Packet) (under_way : List ℕ)
     → IsChange core later port c f → named x c ≡ false → IsEnd x core written read under_way → IsEnd x later written read under_way
@@ -160,7 +160,7 @@ one_held x core later port c written read piece under_way o h is was =
 -- ---- a packet is read and proposed
 
 -- the connection is changed, and then the command is put to the replica
-read_then : (x : ConnectionName) (core between later : CoreState) (port : Port) (c : Connection) (f : Connection → Connection) (written read : List Packet)
+pub read_then : (x : ConnectionName) (core between later : CoreState) (port : Port) (c : Connection) (f : Connection → Connection) (written read : List Packet)
     (under_way rest : List ℕ) (packet : Packet) → IsOrderly core → IsChange core between port c f → (f c).unread ≡ rest → is_first (f c).stage ≡ false
     → verdict c.unread ≡ Ok (packet, rest) → Stays between later → IsEnd x core written read under_way → (b : Bool) → named x c ≡ b
     → (more : List Packet) × IsEnd x later written (read ++ more) under_way
@@ -180,23 +180,23 @@ read_then x core between later port c f written read under_way rest packet o h l
   λ e. absurd cc,
 )
 
-first_command : (x : ConnectionName) (c : Connection) (connect : Connect) (read : List Packet) → named x c ≡ true → true ≡ is_nothing read
+pub first_command : (x : ConnectionName) (c : Connection) (connect : Connect) (read : List Packet) → named x c ≡ true → true ≡ is_nothing read
     → commands.Connect c.name connect.client connect.clean ∷ [] ≡ commands_of x (length read) (packets.Connect connect ∷ [])
 first_command x c connect [] is nothing = ap (λ (y : ConnectionName). let one : Command = commands.Connect y connect.client connect.clean in one ∷ []) (same_name c.name x is)
 first_command x c connect (p ∷ read) is nothing = absurd cc
 
-later_command : (x : ConnectionName) (c : Connection) (packet : Packet) (read : List Packet) → named x c ≡ true → false ≡ is_nothing read
+pub later_command : (x : ConnectionName) (c : Connection) (packet : Packet) (read : List Packet) → named x c ≡ true → false ≡ is_nothing read
     → commands.Packet c.name packet ∷ [] ≡ commands_of x (length read) (packet ∷ [])
 later_command x c packet [] is nothing = absurd cc
 later_command x c packet (p ∷ read) is nothing = ap (λ (y : ConnectionName). let one : Command = commands.Packet y packet in one ∷ []) (same_name c.name x is)
 
-asked_change : (keep_alive now : ℕ) (core : CoreState) (port : Port) (c : Connection) (rest : List ℕ) → open_at port core ≡ Some c
+pub asked_change : (keep_alive now : ℕ) (core : CoreState) (port : Port) (c : Connection) (rest : List ℕ) → open_at port core ≡ Some c
     → IsChange core (changes port (asked keep_alive) (changes port (left_with now rest) core)) port c (λ d. asked keep_alive (left_with now rest d))
 unfolding changes
 asked_change keep_alive now core port c rest at =
     record { are = twice (is_open_at port) (asked keep_alive) (left_with now rest) core.connections (λ d e. e); same = refl; up = same_le core.replica.state.joined; at = at; name = λ d. refl; lives = refl }
 
-left_change : (now : ℕ) (core : CoreState) (port : Port) (c : Connection) (rest : List ℕ) → open_at port core ≡ Some c → IsChange core (changes port (left_with now rest) core) port c (left_with now rest)
+pub left_change : (now : ℕ) (core : CoreState) (port : Port) (c : Connection) (rest : List ℕ) → open_at port core ≡ Some c → IsChange core (changes port (left_with now rest) core) port c (left_with now rest)
 unfolding changes
 left_change now core port c rest at =
     record {

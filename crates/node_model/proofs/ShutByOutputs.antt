@@ -29,7 +29,7 @@ use Rattle.node_model.proofs.Views.{view, found_passes, none_changes}
 use Rattle.node_model.proofs.Kept.{heard_up, live, named, left_true, put_out_name, stays_served}
 use Rattle.node_model.proofs.Shut.{Shuts, all, listed_closed, put_out_shuts, shuts_closed, shuts_dead, shuts_joined, shuts_nothing, shuts_on, shuts_others, shuts_same, shuts_unchanged}
 
-right_true : (a b : Bool) → (a && b) ≡ true → b ≡ true
+pub right_true : (a b : Bool) → (a && b) ≡ true → b ≡ true
 right_true true b t = t
 right_true false b t = absurd cc
 
@@ -68,7 +68,7 @@ sent x name bytes cs one false e = by (find (is_open_named name) cs) refl
 abbrev pub bytes_for : ConnectionName → List (Effect Command Output) → List ℕ
 bytes_for x effects = spelled (sends_to x (outputs_of effects))
 
-bytes_join : (x : ConnectionName) (e : Effect Command Output) (effects : List (Effect Command Output)) → bytes_for x (e ∷ effects) ≡ bytes_for x (e ∷ []) ++ bytes_for x effects
+pub bytes_join : (x : ConnectionName) (e : Effect Command Output) (effects : List (Effect Command Output)) → bytes_for x (e ∷ effects) ≡ bytes_for x (e ∷ []) ++ bytes_for x effects
 bytes_join x (To receiver message) effects = refl
 bytes_join x (Out place (outputs.Close name)) effects = refl
 bytes_join x (Out place (outputs.Send name packet)) effects = by (same_connection x name)
@@ -80,12 +80,12 @@ bytes_join x (Out place (outputs.Send name packet)) effects = by (same_connectio
     by true = ap (λ (l : List ℕ). l ++ spelled rest) (sym (append-nil (spelling packet)))
     by false = refl
 
-named_shuts : (x name : ConnectionName) (f : Connection → Connection) (core : CoreState) (bytes : List ℕ)
+pub named_shuts : (x name : ConnectionName) (f : Connection → Connection) (core : CoreState) (bytes : List ℕ)
     → Shuts bytes (listed_named x core) (view all (named x) (changed (is_open_named name) f core.connections)) → Shuts bytes (listed_named x core) (listed_named x (changes_named name f core))
 unfolding changes_named
 named_shuts x name f core bytes h = h
 
-served_shuts : (x : ConnectionName) (core : CoreState) (e : Effect Command Output) → IsOrderly core
+pub served_shuts : (x : ConnectionName) (core : CoreState) (e : Effect Command Output) → IsOrderly core
     → Shuts (bytes_for x (e ∷ [])) (listed_named x core) (listed_named x (served core e))
 served_shuts x core (To receiver message) o = shuts_same (listed_named x core)
 served_shuts x core (Out place (outputs.Close name)) o =

@@ -7,3 +7,5 @@ pub mod Apart
 pub mod Behind
 pub mod Keeping
 pub mod Hearing
+pub mod LossyMoves
+pub mod LossyLaws

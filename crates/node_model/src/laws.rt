@@ -6,6 +6,8 @@ ghost use Rattle.node_model.specs.Closed.{NothingOnClosed};
 ghost use Rattle.node_model.specs.Ends.{NodesProposeInOrder, NodesReadInOrder, ReadsAreTaken};
 ghost use Rattle.node_model.specs.Hearing.{DeedsHearAtFirst};
 ghost use Rattle.node_model.specs.Keeping.{NamesKeepTheirBallot};
+ghost use Rattle.node_model.specs.LossyLaws.{LossesAreTaken, LossesProposeInOrder, LossesPutInOrder, LossesPutNothingOnClosed, LossesReadInOrder, LossyNamesAreOfTheBallot, LossyNamesKeepTheirBallot};
+ghost use Rattle.node_model.specs.LossyMoves.{LossesAreMoves};
 ghost use Rattle.node_model.specs.Moves.{DeedsAreMoves};
 ghost use Rattle.node_model.specs.Names.{NewNamesAreOfTheBallot};
 ghost use Rattle.node_model.specs.Puts.{PutsInOrder};
@@ -80,4 +82,49 @@ pub fn names_keep_their_ballot()
 /// the opening on, in each step, also in one in which memory was wanting, and where bytes are handed over.
 pub fn names_stay_apart()
     ensures { NamesStayApart }
+{}
+
+/// Each step of a node in which memory was wanting is a run of moves, too, in which something may be lost: the replica hears
+/// what comes with the item, and on each connection the bytes of the item come.
+pub fn losses_are_moves()
+    ensures { LossesAreMoves }
+{}
+
+/// In each such move, on each connection, a node reads the next packets that the client writes, or none, and proposes just
+/// these: none is skipped while the connection is open.
+pub fn losses_read_in_order()
+    ensures { LossesReadInOrder }
+{}
+
+/// From its opening on, whatever memory does, a node proposes under the name of a connection the commands of a beginning of
+/// what the client writes on it, each once and in order.
+pub fn losses_propose_in_order()
+    ensures { LossesProposeInOrder }
+{}
+
+/// Each packet that is read in such a move stands in the node's log at once: a connection of which one is not taken is closed.
+pub fn losses_are_taken()
+    ensures { LossesAreTaken }
+{}
+
+/// On a connection that stays open such a move puts out all that its replica's outputs send to it, in their order, and
+/// nothing else.
+pub fn losses_put_in_order()
+    ensures { LossesPutInOrder }
+{}
+
+/// On a connection that is closed behind such a move no more was put out than a beginning of what is sent to it, and nothing
+/// where it was closed before.
+pub fn losses_put_nothing_on_closed()
+    ensures { LossesPutNothingOnClosed }
+{}
+
+/// A connection that is new behind such a move has the next name of the ballot that the node leads.
+pub fn lossy_names_are_of_the_ballot()
+    ensures { LossyNamesAreOfTheBallot }
+{}
+
+/// Behind such a move each open connection of a node that serves has a name of the ballot that it leads.
+pub fn lossy_names_keep_their_ballot()
+    ensures { LossyNamesKeepTheirBallot }
 {}

@@ -1,0 +1,206 @@
+-- What a node may do in a step where memory may be wanting, move by move: one of its moves, or one in which something is lost.
+use Rattle.std.specs.Prelude.{◌≡◌, ◌⊎◌, ℕ, Bool, true, false, List, [], ◌∷◌, ◌++◌, Some, Ok}
+use Rattle.packet.specs.declared.packet.Packet.{Packet}
+use Rattle.packet.specs.declared.packet.Packet.TheVariants as packets
+use Rattle.packet.specs.declared.connect.Connect.{Connect}
+use Rattle.packet.specs.Verdict.{verdict}
+use Rattle.ballot.specs.Effect.{Effect}
+use Rattle.ballot.specs.Losses.{halted, one_more}
+use Rattle.ballot.specs.Protocol.{Input}
+use Rattle.ballot.specs.Protocol.Input.{Receives, Ticks}
+use Rattle.broker_base.specs.Command.{Command}
+use Rattle.broker_base.specs.Command.TheVariants as commands
+use Rattle.broker_base.specs.Connection.{ConnectionName}
+use Rattle.broker_base.specs.Output.{Output}
+use Rattle.world_base.specs.declared.item.Port.{Port}
+use Rattle.world_base.specs.declared.item.Item.{Item}
+use Rattle.world_base.specs.declared.item.Item.TheVariants.{Peer, Tick, Bytes}
+use Rattle.world_base.specs.declared.connection.Connection.{Connection}
+use Rattle.world_base.specs.Connections.{asked, closed, failing, is_first, left_with}
+use Rattle.world_base.specs.Core.{CoreState, Turn, rules}
+use Rattle.world_base.specs.Failing.{closes_failed}
+use Rattle.world_base.specs.Lossy.{Account, Drives, Takes}
+use Rattle.world_base.specs.LossyStep.{RunsOn}
+use Rattle.world_base.specs.Reading.{changes, open_at}
+use Rattle.world_base.specs.Turns.{quiet}
+use Rattle.node_model.specs.Closed.{refusal_in as exact_refusal}
+use Rattle.node_model.specs.Ends.{came_on as exact_came, is_read as exact_read, piece_on, proposal_of as exact_proposal}
+use Rattle.node_model.specs.Keeping.{moves_replica}
+use Rattle.node_model.specs.Moves.{Deed, Moves, and_then, done, is_proposal}
+use Rattle.node_model.specs.Moves.Deed.{takes, gives}
+use Rattle.node_model.specs.Moves.Moves.{hears}
+use Rattle.node_model.specs.Puts.{given_in as exact_given, is_handing as exact_handing}
+
+-- ---- one move
+
+-- what became of a node, and the messages that were handed out
+abbrev pub turn_of : Account → Turn
+turn_of did = record { core = did.core; messages = did.messages }
+
+-- the replica counts a loss
+abbrev pub forgetful : CoreState → CoreState
+forgetful core = record core { replica = record core.replica { losses = one_more core.replica.losses } }
+
+-- it stops, which it counts
+abbrev pub halting : CoreState → CoreState
+halting core =
+    record core { replica = record { state = halted rules core.replica.state; losses = one_more core.replica.losses } }
+
+pub data LossyMoves (core : CoreState) : Turn → Type 0 where
+  exactly : {turn : Turn} → Moves core turn → LossyMoves core turn
+  -- the replica hears a message or a tick, perhaps with losses; of what it gives messages may be lost, and connections closed
+  hears_losing : (input : Input Command) (did : Account) → is_proposal input ≡ false → Drives input core did → LossyMoves core (turn_of did)
+  -- so it is where a CONNECT, the first packet of an open connection, is read and taken
+  first_losing : (now : ℕ) (port : Port) (c : Connection) (connect : Connect) (rest : List ℕ) (did : Account) → open_at port core ≡ Some c →
+      is_first c.stage ≡ true → verdict c.unread ≡ Ok (packets.Connect connect, rest) →
+      Takes (commands.Connect c.name connect.client connect.clean) (changes port (asked connect.keep_alive) (changes port (left_with now rest) core)) did →
+      LossyMoves core (turn_of did)
+  -- .. or a later packet
+  later_losing : (now : ℕ) (port : Port) (c : Connection) (packet : Packet) (rest : List ℕ) (did : Account) → open_at port core ≡ Some c →
+      is_first c.stage ≡ false → verdict c.unread ≡ Ok (packet, rest) →
+      Takes (commands.Packet c.name packet) (changes port (left_with now rest) core) did → LossyMoves core (turn_of did)
+  -- .. or that a connection is lost
+  tells_losing : (name : ConnectionName) (did : Account) → Takes (commands.Lost name) core did → LossyMoves core (turn_of did)
+  -- the replica does not take what comes to it, and counts that; or it stops
+  forgets : LossyMoves core (quiet (forgetful core))
+  halts : LossyMoves core (quiet (halting core))
+  -- a connection is closed as lost, of which the broker is still to hear; or it will not hear of it
+  fails : (port : Port) → LossyMoves core (quiet (changes port failing core))
+  unheard : LossyMoves core (quiet (closes_failed core))
+  -- bytes come in on an open connection that is closed, since there is no memory for them
+  drops : (port : Port) (piece : List ℕ) → LossyMoves core (quiet (changes port closed core))
+
+-- moves one behind the other
+pub data LossyRuns : CoreState → Turn → Type 0 where
+  rests : {core : CoreState} → LossyRuns core (quiet core)
+  goes_on : {core : CoreState} {first next : Turn} → LossyMoves core first → LossyRuns first.core next → LossyRuns core (and_then first next)
+
+-- ---- what a move is
+
+-- what its replica gives in a move
+abbrev pub given_in : {core : CoreState} {turn : Turn} → LossyMoves core turn → List (Effect Command Output)
+given_in (exactly m) = exact_given m
+given_in (hears_losing input did other drives) = did.given
+given_in (first_losing now port c connect rest did at first is taken) = did.given
+given_in (later_losing now port c packet rest did at later is taken) = did.given
+given_in (tells_losing name did taken) = did.given
+given_in forgets = []
+given_in halts = []
+given_in (fails port) = []
+given_in unheard = []
+given_in (drops port piece) = []
+
+-- the command that it proposes
+abbrev pub proposal_of : {core : CoreState} {turn : Turn} → LossyMoves core turn → List Command
+proposal_of (exactly m) = exact_proposal m
+proposal_of (hears_losing input did other drives) = []
+proposal_of (first_losing now port c connect rest did at first is taken) = commands.Connect c.name connect.client connect.clean ∷ []
+proposal_of (later_losing now port c packet rest did at later is taken) = commands.Packet c.name packet ∷ []
+proposal_of (tells_losing name did taken) = commands.Lost name ∷ []
+proposal_of forgets = []
+proposal_of halts = []
+proposal_of (fails port) = []
+proposal_of unheard = []
+proposal_of (drops port piece) = []
+
+-- the bytes that come on the connection of a name
+abbrev pub came_on : ConnectionName → {core : CoreState} {turn : Turn} → LossyMoves core turn → List ℕ
+came_on x (exactly m) = exact_came x m
+came_on x {core = core} (drops port piece) = piece_on x piece (open_at port core)
+came_on x _ = []
+
+-- the answer to a CONNECT that the node refuses itself
+abbrev pub refusal_in : ConnectionName → {core : CoreState} {turn : Turn} → LossyMoves core turn → List Packet
+refusal_in x (exactly m) = exact_refusal x m
+refusal_in x _ = []
+
+abbrev pub is_handing : {core : CoreState} {turn : Turn} → LossyMoves core turn → Bool
+is_handing (exactly m) = exact_handing m
+is_handing _ = false
+
+-- whether a packet is read in it
+abbrev pub is_read : {core : CoreState} {turn : Turn} → LossyMoves core turn → Bool
+is_read (exactly m) = exact_read m
+is_read (first_losing now port c connect rest did at first is taken) = true
+is_read (later_losing now port c packet rest did at later is taken) = true
+is_read _ = false
+
+-- what the replica hears in it
+abbrev pub inputs_of : {core : CoreState} {turn : Turn} → Moves core turn → List (Input Command)
+inputs_of (hears input other) = input ∷ []
+inputs_of _ = []
+
+abbrev pub inputs_in : {core : CoreState} {turn : Turn} → LossyMoves core turn → List (Input Command)
+inputs_in (exactly m) = inputs_of m
+inputs_in (hears_losing input did other drives) = input ∷ []
+inputs_in _ = []
+
+-- whether it does, or the node crashes
+abbrev pub hears_in : {core : CoreState} {turn : Turn} → LossyMoves core turn → Bool
+hears_in (exactly m) = moves_replica m
+hears_in (hears_losing input did other drives) = true
+hears_in _ = false
+
+-- ---- runs
+
+-- in no move of a run the replica hears something
+abbrev pub IsCalm : {core : CoreState} {turn : Turn} → LossyRuns core turn → Type 0
+IsCalm rests = Unit {0}
+IsCalm (goes_on m run) = (hears_in m ≡ false) × IsCalm run
+
+-- in none but the first
+abbrev pub HearsAtFirst : {core : CoreState} {turn : Turn} → LossyRuns core turn → Type 0
+HearsAtFirst rests = Unit {0}
+HearsAtFirst (goes_on m run) = IsCalm run
+
+-- the commands that a node proposes in a run, in order, and the bytes that come on the connection of a name
+abbrev pub proposals_of : {core : CoreState} {turn : Turn} → LossyRuns core turn → List Command
+proposals_of rests = []
+proposals_of (goes_on m run) = proposal_of m ++ proposals_of run
+
+abbrev pub bytes_on : ConnectionName → {core : CoreState} {turn : Turn} → LossyRuns core turn → List ℕ
+bytes_on x rests = []
+bytes_on x (goes_on m run) = came_on x m ++ bytes_on x run
+
+abbrev pub all_inputs : {core : CoreState} {turn : Turn} → LossyRuns core turn → List (Input Command)
+all_inputs rests = []
+all_inputs (goes_on m run) = inputs_in m ++ all_inputs run
+
+-- nothing is handed over in it
+abbrev pub HandsNothing : {core : CoreState} {turn : Turn} → LossyRuns core turn → Type 0
+HandsNothing rests = Unit {0}
+HandsNothing (goes_on m run) = (is_handing m ≡ false) × HandsNothing run
+
+-- ---- what a node does at the wish of others
+
+-- an item is taken with losses; handing over has none
+abbrev pub MayLose : Deed → CoreState → Turn → Type 0
+MayLose (takes item) core turn = RunsOn item core turn.core turn.messages
+MayLose (gives port) core turn = ⊥
+
+-- what the replica hears with an item, and the bytes that come with it on the connection of a name
+abbrev pub heard_with : Item → List (Input Command)
+heard_with (Peer message) = Receives message ∷ []
+heard_with (Tick now) = Ticks ∷ []
+heard_with _ = []
+
+abbrev pub came_with : ConnectionName → Item → CoreState → List ℕ
+came_with x (Bytes port piece now) core = piece_on x piece (open_at port core)
+came_with x _ core = []
+
+-- Each step that takes an item with losses is a run of such moves: the replica hears what comes with the item, in the first of them,
+-- on each connection the bytes of the item come, and nothing is handed over.
+pub record IsRunOn (item : Item) (core : CoreState) (turn : Turn) : Type 0 where
+  pub run : LossyRuns core turn
+  pub first : HearsAtFirst run
+  pub hears : all_inputs run ≡ heard_with item
+  pub bytes : (x : ConnectionName) → bytes_on x run ≡ came_with x item core
+  pub hands : HandsNothing run
+
+abbrev pub LossesAreMoves : Type 0
+LossesAreMoves = (item : Item) (core later : CoreState) (messages : List (Effect Command Output)) → RunsOn item core later messages →
+    IsRunOn item core (record { core = later; messages = messages })
+
+-- a deed is done exactly, or so
+abbrev pub MayDo : Deed → CoreState → Turn → Type 0
+MayDo deed core turn = (turn ≡ done deed core) ⊎ MayLose deed core turn
