@@ -3,6 +3,7 @@ pub mod ByWord
 pub mod FieldsRead
 pub mod Lawful
 pub mod ManyLines
+pub mod NotRefused
 pub mod OneForm
 pub mod OneLine
 pub mod OneOpening

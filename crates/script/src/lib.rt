@@ -4,6 +4,7 @@
 mod error;
 mod fields;
 mod forms;
+mod laws;
 mod lines;
 mod numbers;
 mod opening;
@@ -13,6 +14,7 @@ mod reading;
 mod values;
 
 pub use error::ScriptError;
+pub use laws::{no_script_is_refused, one_order_a_line};
 pub use numbers::Numbers;
 pub use opening::Opening;
 pub use order::{Amount, Order};

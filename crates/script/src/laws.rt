@@ -1,0 +1,13 @@
+// Laws of the definitions: functions whose contract is the law.
+
+ghost use Rattle.script.specs.Laws.{NoScriptIsRefused, OneOrderALine};
+
+/// The fields of a line order one thing at most.
+pub fn one_order_a_line()
+    ensures { OneOrderALine }
+{}
+
+/// Lines that are a script are refused for want of memory alone.
+pub fn no_script_is_refused()
+    ensures { NoScriptIsRefused }
+{}
