@@ -1,48 +1,124 @@
-// Memory that is refused. Run with each allocation failing in turn: a step in which it was wanting is counted, and where
-// none was all comes out as ever.
+// Memory that is refused. Run with each allocation failing in turn: a step in which it was wanting is counted, where
+// none was all comes out as ever, and what is still open then has all that it is to be sent.
 
-use super::row::{ACCEPTED, CONNECT_A, CONNECT_B, NOTHING, bring, hands_over, primary, take};
+use super::row::{ACCEPTED, CONNECT_A, CONNECT_B, bring, primary, take};
 use std::alloc::Global;
-use world_base::{Item, NodeCore, Port};
-
-// A port, the bytes that come on it, and what is handed over then for the port behind them.
-type Row<'a> = (u64, &'a [u8], u64, &'a [u8]);
+use world_base::{Handed, Item, NodeCore, Port};
 
 // PUBLISH of `x` on `t/1` at QoS 1 with identifier 1.
 const PUBLISH: &[u8] = &[0x32, 0x08, 0x00, 0x03, 0x74, 0x2F, 0x31, 0x00, 0x01, 0x78];
 
 const PUBACK: &[u8] = &[0x40, 0x02, 0x00, 0x01];
 
-// A subscriber by port 1, and a publisher by port 2.
-const ROWS: [Row<'static>; 6] = [
-    (1, CONNECT_B, 1, ACCEPTED),
-    (
-        1,
-        &[0x82, 0x08, 0x00, 0x01, 0x00, 0x03, 0x74, 0x2F, 0x23, 0x01],
-        1,
-        &[0x90, 0x03, 0x00, 0x01, 0x01],
-    ),
-    (2, CONNECT_A, 2, ACCEPTED),
-    (2, PUBLISH, 2, PUBACK),
-    (1, NOTHING, 1, PUBLISH),
-    (1, PUBACK, 1, NOTHING),
+const SUBSCRIBE: &[u8] = &[0x82, 0x08, 0x00, 0x01, 0x00, 0x03, 0x74, 0x2F, 0x23, 0x01];
+
+const SUBACK: &[u8] = &[0x90, 0x03, 0x00, 0x01, 0x01];
+
+// Ports, and the bytes that come on them: a subscriber by port 1, and a publisher by port 2.
+const ROWS: &[(u64, &[u8])] = &[
+    (1, CONNECT_B),
+    (1, SUBSCRIBE),
+    (2, CONNECT_A),
+    (2, PUBLISH),
+    (1, PUBACK),
 ];
 
-// Whether a row comes out. What found no memory outside of a step is done again: one allocation fails.
-fn comes_out(alloc: Global, node: &mut NodeCore, row: &Row<'_>) -> bool {
-    let (port, bytes, other, wanted) = *row;
-    let came = bring(alloc, node, port, bytes, 0).or_else(|| bring(alloc, node, port, bytes, 0));
-    came.is_some()
-        && (hands_over(alloc, node, other, wanted, true)
-            || hands_over(alloc, node, other, wanted, true))
+// All that the publisher is to be sent, and the subscriber.
+const TO_PUBLISHER: &[&[u8]] = &[ACCEPTED, PUBACK];
+
+const TO_SUBSCRIBER: &[&[u8]] = &[ACCEPTED, SUBACK, PUBLISH];
+
+// What was handed over for a port so far, and whether it is open.
+#[derive(Drop)]
+struct Seen {
+    bytes: Vec<u8>,
+    open: bool,
 }
 
-fn is_whole_or_counted(alloc: Global, node: &mut NodeCore) -> bool {
+// Takes out what is there for a port. What found no memory outside of a step is done again: one allocation fails.
+fn look(node: &mut NodeCore, port: u64, seen: &mut Seen) {
+    for _ in 0..2 {
+        if let Ok(answer) = node.outgoing(Port(port), &mut seen.bytes) {
+            seen.open = answer == Handed::Open;
+            return;
+        }
+    }
+}
+
+// Lets all rows come, whatever is lost: what was handed over for the subscriber, and for the publisher.
+fn rows_seen(alloc: Global, node: &mut NodeCore) -> (Seen, Seen) {
+    let mut subscriber = Seen {
+        bytes: Vec::new(alloc),
+        open: false,
+    };
+    let mut publisher = Seen {
+        bytes: Vec::new(alloc),
+        open: false,
+    };
     for port in [1, 2] {
         take(alloc, node, Item::Opened(Port(port), 0));
     }
-    let whole = ROWS.iter().all(|row| comes_out(alloc, node, row));
-    (whole && node.losses() == 0) || node.losses() == 1
+    for (port, bytes) in ROWS {
+        let came = bring(alloc, node, *port, bytes, 0);
+        if came.is_none() {
+            let _ = bring(alloc, node, *port, bytes, 0);
+        }
+        look(node, 1, &mut subscriber);
+        look(node, 2, &mut publisher);
+    }
+    (subscriber, publisher)
+}
+
+// Whether these are the bytes of so many of the packets.
+fn are(bytes: &[u8], packets: &[&[u8]]) -> bool {
+    let mut rest = bytes;
+    for packet in packets {
+        match rest.strip_prefix(*packet) {
+            Some(behind) => rest = behind,
+            None => return false,
+        }
+    }
+    rest.is_empty()
+}
+
+// Whether these bytes begin those of the packets.
+fn begin(bytes: &[u8], packets: &[&[u8]]) -> bool {
+    let mut rest = bytes;
+    for packet in packets {
+        match rest.strip_prefix(*packet) {
+            Some(behind) => rest = behind,
+            None => return packet.starts_with(rest),
+        }
+    }
+    rest.is_empty()
+}
+
+// Whether what is open has all that it is to be sent, and what is closed a beginning. A publisher that was closed may
+// not have been heard.
+fn has_no_gap(subscriber: &Seen, publisher: &Seen) -> bool {
+    let told = subscriber.bytes.as_slice();
+    let unheard = !publisher.open && are(told, &TO_SUBSCRIBER[..2]);
+    let subscriber_is_well = if subscriber.open {
+        are(told, TO_SUBSCRIBER) || unheard
+    } else {
+        begin(told, TO_SUBSCRIBER)
+    };
+    let answered = publisher.bytes.as_slice();
+    let publisher_is_well = if publisher.open {
+        are(answered, TO_PUBLISHER)
+    } else {
+        begin(answered, TO_PUBLISHER)
+    };
+    subscriber_is_well && publisher_is_well
+}
+
+fn is_whole_or_counted(alloc: Global, node: &mut NodeCore) -> bool {
+    let (subscriber, publisher) = rows_seen(alloc, node);
+    match node.losses() {
+        0 => subscriber.open && publisher.open && has_no_gap(&subscriber, &publisher),
+        1 => has_no_gap(&subscriber, &publisher),
+        _ => false,
+    }
 }
 
 // Without memory for a node nothing is asked of it.
@@ -54,6 +130,6 @@ fn is_well(alloc: Global) -> bool {
 }
 
 #[test]
-fn a_refused_growth_is_counted(rt: HostRuntime) {
+fn a_refused_growth_is_counted_and_leaves_no_gap(rt: HostRuntime) {
     assert!(rt; is_well(rt.alloc()));
 }
