@@ -1,6 +1,6 @@
 // What nodes and their master do in a step.
 
-ghost use Rattle.std.specs.Prelude.{◌≡◌, ◌-◌, ◌↔◌, ◌⊎◌, true, false, None, Some, length, slice_get, IfSome, OnOk, OnErr, IsErr};
+ghost use Rattle.std.specs.Prelude.{◌≡◌, ◌-◌, ◌↔◌, ◌≤◌, true, false, None, Some, length, slice_get, IfSome, OnOk, OnErr, IsErr};
 ghost use Rattle.ballot.specs.Body.TheVariants.{Activate};
 ghost use Rattle.ballot.specs.Losses.{one_more};
 ghost use Rattle.lists.specs.Lists.{In};
@@ -23,6 +23,7 @@ impl Nodes {
         ensures step { OnOk result (TakesIn node item self.old self.new) }
         ensures goes { LosesNothing self.old self.new →
             OnOk result (Acts (node - 1) (takes item) self.old self.new) }
+        ensures rises { self.old.losses ≤ self.new.losses }
         ensures idle { IsErr result ↔ (running self.old.nodes node ≡ None) }
         ensures same { OnErr result (self.new ≡ self.old) }
     {
@@ -65,8 +66,7 @@ impl Nodes {
         requires { refusal self.old.master config.now ≡ None }
         ensures goes { LosesNothing self.old self.new →
             OnOk result (MasterActs (behind_giving config.now) self.old self.new) }
-        ensures counted { (self.new.losses ≡ self.old.losses)
-            ⊎ (self.new.losses ≡ one_more self.old.losses) }
+        ensures rises { self.old.losses ≤ self.new.losses }
         ensures err { OnErr result (self.new ≡ self.old) }
     {
         let given = config_of(self.alloc, config)?;
@@ -88,8 +88,7 @@ impl Nodes {
         requires { In (0, record { from = from; body = Activate ballot }) self.old.sent }
         ensures goes { LosesNothing self.old self.new →
             MasterActs (behind_answer from ballot) self.old self.new }
-        ensures counted { (self.new.losses ≡ self.old.losses)
-            ⊎ (self.new.losses ≡ one_more self.old.losses) }
+        ensures rises { self.old.losses ≤ self.new.losses }
     {
         let (before, _) = self.master.active();
         let activation = self.master.activate(ballot);
@@ -101,7 +100,8 @@ impl Nodes {
 
     // Nothing happens, for want of memory.
     pub(crate) fn lose(&mut self)
-        ensures { self.new ≡ forgetful self.old }
+        ensures lost { self.new ≡ forgetful self.old }
+        ensures rises { self.old.losses ≤ self.new.losses }
     {
         self.losses = counted(self.losses, false, true);
     }

@@ -1,6 +1,6 @@
 // Nodes and their master.
 
-ghost use Rattle.std.specs.Prelude.{◌≡◌, ◌-◌, ◌↔◌, ◌⊎◌, ◌++◌, true, false, None, Some, length, slice_get, IfOk, IfSome, OnOk, OnErr, IsErr, IsErrOf};
+ghost use Rattle.std.specs.Prelude.{◌≡◌, ◌≤◌, ◌-◌, ◌↔◌, ◌++◌, true, false, None, Some, length, slice_get, IfOk, IfSome, OnOk, OnErr, IsErr, IsErrOf};
 ghost use Rattle.ballot.specs.Losses.{one_more};
 ghost use Rattle.agreement.specs.MasterState.{refusal};
 ghost use Rattle.agreement.specs.World.{can_open};
@@ -80,8 +80,7 @@ impl Nodes {
     pub fn assign(&mut self, config: &Config) -> Result<(), Idle>
         ensures goes { LosesNothing self.old self.new →
             OnOk result (MasterActs (behind_giving config.now) self.old self.new) }
-        ensures counted { (self.new.losses ≡ self.old.losses)
-            ⊎ (self.new.losses ≡ one_more self.old.losses) }
+        ensures rises { self.old.losses ≤ self.new.losses }
         ensures idle { IsErr result ↔ (refusal self.old.master config.now ≡ None → ⊥) }
         ensures same { OnErr result (self.new ≡ self.old) }
     {
@@ -99,6 +98,7 @@ impl Nodes {
     pub fn deliver(&mut self, number: u64) -> Result<(), Idle>
         ensures goes { LosesNothing self.old self.new →
             OnOk result (Comes (slice_get self.old.sent number) self.old self.new) }
+        ensures rises { self.old.losses ≤ self.new.losses }
         ensures idle { IsErr result ↔ ComesToNobody (slice_get self.old.sent number) self.old }
         ensures same { OnErr result (self.new ≡ self.old) }
     {
@@ -132,6 +132,7 @@ impl Nodes {
         ensures step { OnOk result (TakesIn node (Item.Tick 0) self.old self.new) }
         ensures goes { LosesNothing self.old self.new →
             OnOk result (Acts (node - 1) (takes (Item.Tick 0)) self.old self.new) }
+        ensures rises { self.old.losses ≤ self.new.losses }
         ensures idle { IsErr result ↔ (running self.old.nodes node ≡ None) }
         ensures same { OnErr result (self.new ≡ self.old) }
     {
@@ -143,6 +144,7 @@ impl Nodes {
         ensures step { OnOk result (TakesIn node Item.Crash self.old self.new) }
         ensures goes { LosesNothing self.old self.new →
             OnOk result (Acts (node - 1) (takes Item.Crash) self.old self.new) }
+        ensures rises { self.old.losses ≤ self.new.losses }
         ensures idle { IsErr result ↔ (running self.old.nodes node ≡ None) }
         ensures same { OnErr result (self.new ≡ self.old) }
     {
@@ -154,6 +156,7 @@ impl Nodes {
         ensures step { OnOk result (TakesIn node (Item.Opened port now) self.old self.new) }
         ensures goes { LosesNothing self.old self.new →
             OnOk result (Acts (node - 1) (takes (Item.Opened port now)) self.old self.new) }
+        ensures rises { self.old.losses ≤ self.new.losses }
         ensures idle { IsErr result ↔ (running self.old.nodes node ≡ None) }
         ensures same { OnErr result (self.new ≡ self.old) }
     {
@@ -165,6 +168,7 @@ impl Nodes {
         ensures step { OnOk result (TakesIn node (Item.Bytes port piece.now 0) self.old self.new) }
         ensures goes { LosesNothing self.old self.new →
             OnOk result (Acts (node - 1) (takes (Item.Bytes port piece.now 0)) self.old self.new) }
+        ensures rises { self.old.losses ≤ self.new.losses }
         ensures idle { IsErr result ↔ (running self.old.nodes node ≡ None) }
         ensures same { OnErr result (self.new ≡ self.old) }
     {
@@ -185,6 +189,7 @@ impl Nodes {
         ensures step { OnOk result (TakesIn node (Item.Ended port) self.old self.new) }
         ensures goes { LosesNothing self.old self.new →
             OnOk result (Acts (node - 1) (takes (Item.Ended port)) self.old self.new) }
+        ensures rises { self.old.losses ≤ self.new.losses }
         ensures idle { IsErr result ↔ (running self.old.nodes node ≡ None) }
         ensures same { OnErr result (self.new ≡ self.old) }
     {
@@ -201,6 +206,7 @@ impl Nodes {
             OnOk result (HandsOver node port self.old out.old.items out.new.items) }
         ensures answer { LosesNothing self.old self.new →
             IfOk result (λ handed. AnswersFor node port self.old handed) }
+        ensures rises { self.old.losses ≤ self.new.losses }
         ensures idle { IsErr result ↔ (node_of self.old.nodes node ≡ None) }
         ensures same { OnErr result ((self.new ≡ self.old) × (out.new.items ≡ out.old.items)) }
     {

@@ -1,0 +1,65 @@
+-- What the nodes of a world do is what may happen in a group, and so they agree.
+use Rattle.std.specs.Prelude.{◌≡◌, ◌<◌, ◌≤◌, ◌^◌, ◌-◌, ℕ, List, ◌∷◌}
+use Rattle.ballot.specs.Config.{Config}
+use Rattle.agreement.specs.Agreement.{Agrees, Holds}
+use Rattle.agreement.specs.Leaving.{LeftInOrder}
+use Rattle.agreement.specs.Past.{IsAgreed}
+use Rattle.broker_base.specs.Command.{Command}
+use Rattle.world_base.specs.Core.{rules}
+use Rattle.group_model.specs.Group.{Group, moment_of}
+use Rattle.group_model.specs.Goes.{MayGo, Went, all_put, groups_of}
+use Rattle.group_model.specs.Order.{KeepsOrder}
+use Rattle.world_nodes.specs.Nodes.{NodesState, StandsFor}
+use Rattle.world_nodes.specs.Steps.{LosesNothing as NodesLoseNothing}
+use Rattle.world.specs.World.{WorldState}
+
+-- ---- steps of a group, one behind the other
+
+pub data Goes (g : Group) : Group → Type 0 where
+  rests : Goes g g
+  goes_on : {h k : Group} → Goes g h → MayGo h k → Goes g k
+
+-- a group goes on so, and then stands for these nodes
+pub record GoesTo (g : Group) (new : NodesState) : Type 0 where
+  pub behind : Group
+  pub goes : Goes g behind
+  pub stands : StandsFor behind new
+
+-- each group that stands for the nodes before does
+abbrev pub NodesGo : NodesState → NodesState → Type 0
+NodesGo old new = (g : Group) → StandsFor g old → GoesTo g new
+
+-- .. where the nodes count no loss; and their count never falls
+pub record NodesGoOn (old new : NodesState) : Type 0 where
+  pub rises : old.losses ≤ new.losses
+  pub goes : NodesLoseNothing old new → NodesGo old new
+
+-- ---- worlds
+
+-- the count is exact as long as it stands below its greatest number
+abbrev pub LosesNothing : WorldState → WorldState → Type 0
+LosesNothing old new = (new.losses ≡ old.losses) × (old.losses < 2 ^ 64 - 1)
+
+pub record WorldGoesOn (old new : WorldState) : Type 0 where
+  pub rises : old.losses ≤ new.losses
+  pub goes : LosesNothing old new → NodesGo old.nodes new.nodes
+
+-- ---- agreement
+
+-- The nodes are those of a group that went on from its opening with so many nodes, in this configuration. There is an agreed
+-- list; the nodes agree on it, hold it, and what their replicas gave is its answers in order; and of each connection it has,
+-- as each log has, a beginning of the packets that nodes put for it, in order.
+pub record AreReached (nodes : ℕ) (config : Config) (new : NodesState) : Type 0 where
+  pub group : Group
+  pub went : Went nodes config group
+  pub stands : StandsFor group new
+  pub order : KeepsOrder config group (groups_of went) (all_put went)
+  pub list : List Command
+  pub agreed : IsAgreed config (moment_of group ∷ order.of.earlier) list
+  pub agrees : Agrees rules (moment_of group).master (moment_of group).world list
+  pub holds : Holds (moment_of group).master (moment_of group).world list
+  pub leaves : LeftInOrder rules (moment_of group ∷ order.of.earlier) (moment_of group).world list
+
+-- nodes that are reached still are behind it
+abbrev pub StaysReached : NodesState → NodesState → Type 0
+StaysReached old new = (nodes : ℕ) (config : Config) → AreReached nodes config old → AreReached nodes config new

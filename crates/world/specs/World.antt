@@ -1,0 +1,13 @@
+-- A world as it is seen.
+use Rattle.std.specs.Prelude.{ℕ, List}
+use Rattle.world.specs.declared.place.Place.{Place}
+use Rattle.world.specs.declared.world.WorldClient.{WorldClient}
+use Rattle.world_nodes.specs.Nodes.{NodesState}
+
+-- The nodes with their master; the clients, each by its identifier with all its connections; where each connection stands, the
+-- first opened first; and the count of steps in which memory was wanting, up to 2^64 - 1.
+pub record WorldState : Type 0 where
+  pub nodes : NodesState
+  pub clients : List WorldClient
+  pub connections : List Place
+  pub losses : ℕ

@@ -1,0 +1,14 @@
+//! A world: nodes with their master, clients, and a pipe of bytes each way on every connection.
+#![tactic(auto)]
+
+mod calling;
+mod carrying;
+mod event;
+mod piped_client;
+mod place;
+mod world;
+
+pub use event::Event;
+pub use world::World;
+pub use world_base::{Config, Members, Memory, OpeningError};
+pub use world_nodes::Idle;

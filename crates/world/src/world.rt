@@ -1,0 +1,252 @@
+// A world.
+
+ghost use Rattle.std.specs.Prelude.{◌≡◌, ◌≤◌, ◌<◌, ◌^◌, ◌-◌, ◌↔◌, false, length, IfOk, IsErrOf, OnErr};
+ghost use Rattle.agreement.specs.World.{can_open};
+ghost use Rattle.world.specs.Goes.{AreReached, LosesNothing, NodesGoOn, StaysReached, WorldGoesOn};
+
+use crate::event::Event;
+use crate::piped_client::PipedClient;
+use crate::place::Place;
+use client::ClientCore;
+use packet::ClientId;
+use std::alloc::Global;
+use std::marker::Model;
+use world_base::{Config, Memory, OpeningError};
+use world_nodes::{Idle, Nodes};
+
+/// A client of a world by its identifier.
+#[derive(Drop)]
+pub struct WorldClient {
+    /// The identifier.
+    pub name: ClientId,
+    /// The client, with all its connections.
+    pub piped: PipedClient,
+}
+
+/// Nodes with their master, and clients that keep their side of the handshakes, with a pipe of bytes each way on
+/// every connection. Whatever is on its way comes late, again or never, as events say.
+#[derive(Drop)]
+pub struct World {
+    pub(crate) alloc: Global,
+    pub(crate) nodes: Nodes,
+    pub(crate) clients: Vec<WorldClient>,
+    // Connection n + 1 stands at place n.
+    pub(crate) connections: Vec<Place>,
+    // Of each node the connections whose end there is open, in the order of opening; node n + 1 at place n.
+    pub(crate) open: Vec<Vec<u64>>,
+    // Whether memory was wanting in this step, in what the nodes do not count.
+    pub(crate) wanting: bool,
+    losses: u64,
+}
+
+impl Model for World {
+    ghost use Rattle.world.specs.World.{WorldState};
+
+    ghost Value = { WorldState };
+
+    ghost view = { λ w.
+        record {
+          nodes = w.nodes;
+          clients = w.clients.items;
+          connections = w.connections.items;
+          losses = w.losses;
+        } };
+}
+
+impl World {
+    /// Opens nodes 1 to `nodes` in ballot 1, and clients that were never connected.
+    /// [`OpeningError::BadMembers`] comes for more than 15 nodes, for a configuration that no ballot
+    /// may have, and for a member over `nodes`.
+    pub fn opening(
+        alloc: Global,
+        nodes: u8,
+        config: Config,
+        clients: &[ClientId],
+    ) -> Result<World, OpeningError>
+        ensures reached { IfOk result (λ world. AreReached nodes config world.nodes) }
+        ensures losses { IfOk result (λ world. world.losses ≡ 0) }
+        ensures bad { IsErrOf result OpeningError.BadMembers ↔ (can_open nodes config ≡ false) }
+    {
+        let opened = Nodes::opening(alloc, nodes, config)?;
+        let mut keepers = Vec::new(alloc);
+        for client in clients {
+            keepers.push(new_client(alloc, client)?)?;
+        }
+        let mut open = Vec::new(alloc);
+        for _node in 0..nodes {
+            open.push(Vec::new(alloc))?;
+        }
+        Ok(World {
+            alloc,
+            nodes: opened,
+            clients: keepers,
+            connections: Vec::new(alloc),
+            open,
+            wanting: false,
+            losses: 0,
+        })
+    }
+
+    /// Lets one thing happen. [`Idle`] comes for what cannot happen now, and changes nothing. Where
+    /// memory is wanting, messages are lost, connections are closed, nothing happens, or a node stops.
+    pub fn step(&mut self, event: &Event) -> Result<(), Idle>
+        // Its nodes do what may happen in a group, or something was lost, which is counted.
+        ensures goes { WorldGoesOn self.old self.new }
+        // Whatever led up to here, the nodes agree behind the event, what left is in order, and of
+        // each connection they have its packets in order.
+        ensures reached { LosesNothing self.old self.new →
+            StaysReached self.old.nodes self.new.nodes }
+        ensures nodes { OnErr result (self.new.nodes ≡ self.old.nodes) }
+        ensures losses { OnErr result (self.new.losses ≡ self.old.losses) }
+    {
+        let before = self.nodes.losses();
+        self.wanting = false;
+        self.happen(event)?;
+        self.count(before);
+        Ok(())
+    }
+
+    /// Lets events happen one after the other. Idle ones are passed over.
+    pub fn run(&mut self, events: &[Event])
+        ensures goes { WorldGoesOn self.old self.new }
+        ensures reached { LosesNothing self.old self.new →
+            StaysReached self.old.nodes self.new.nodes }
+    {
+        for event in events {
+            let _ = self.step(event);
+        }
+    }
+
+    /// How many messages nodes and their master sent so far.
+    pub fn messages(&self) -> u64
+        ensures { result ≡ length self.now.nodes.sent }
+    {
+        self.nodes.messages()
+    }
+
+    /// The length of the list on which the nodes agree.
+    pub fn agreed_len(&self) -> u64 {
+        self.nodes.agreed_len()
+    }
+
+    /// The active ballot and its members.
+    pub fn active(&self) -> (u64, &[u8])
+        ensures ballot { result.0 ≡ self.now.nodes.master.active }
+        ensures members { result.1.now ≡ self.now.nodes.master.members }
+    {
+        self.nodes.active()
+    }
+
+    /// A client, if there is one of this identifier.
+    pub fn client(&self, client: &ClientId) -> Option<&ClientCore> {
+        let at = self.place_of(client)?;
+        let found = self.clients.get(at)?;
+        Some(found.piped.core())
+    }
+
+    /// The bytes that wait to be carried up on a connection; none for one that was never opened.
+    pub fn up(&self, connection: u64) -> &[u8] {
+        match self.place(connection) {
+            Some(place) => self.clients_up(place),
+            None => &[],
+        }
+    }
+
+    /// The bytes that wait to be carried down on a connection; none for one that was never opened.
+    pub fn down(&self, connection: u64) -> &[u8] {
+        match self.place(connection) {
+            Some(place) => self.clients_down(place),
+            None => &[],
+        }
+    }
+
+    /// In how many steps memory was wanting. The count stays at 2^64 - 1.
+    pub fn losses(&self) -> u64
+        ensures { result ≡ self.now.losses }
+    {
+        self.losses
+    }
+
+    // Where a client stands.
+    pub(crate) fn place_of(&self, client: &ClientId) -> Option<usize> {
+        self.clients.iter().position(|found| found.name == *client)
+    }
+
+    // Where a connection stands.
+    pub(crate) fn place(&self, number: u64) -> Option<Place> {
+        if number == 0 {
+            return None;
+        }
+        self.connections.get(number as usize - 1).copied()
+    }
+
+    // What waits upwards, and downwards.
+    fn clients_up(&self, place: Place) -> &[u8] {
+        match self.clients.get(place.client) {
+            Some(found) => found.piped.up(place.at),
+            None => &[],
+        }
+    }
+
+    fn clients_down(&self, place: Place) -> &[u8] {
+        match self.clients.get(place.client) {
+            Some(found) => found.piped.down(place.at),
+            None => &[],
+        }
+    }
+
+    // Counts a step in which memory was wanting, where the nodes had counted so many before it.
+    fn count(&mut self, before: u64)
+        ensures nodes { self.new.nodes ≡ self.old.nodes }
+        ensures rises { self.old.losses ≤ self.new.losses }
+        ensures whole { LosesNothing self.old self.new →
+            (self.old.nodes.losses ≡ before) × (before < 2 ^ 64 - 1) }
+    {
+        let whole = self.nodes.losses() == before && before < u64::MAX;
+        if self.wanting || !whole {
+            self.losses = self.losses.saturating_add(1);
+        }
+    }
+
+    fn happen(&mut self, event: &Event) -> Result<(), Idle>
+        ensures nodes { NodesGoOn self.old.nodes self.new.nodes }
+        ensures same { OnErr result (self.new.nodes ≡ self.old.nodes) }
+        ensures losses { self.new.losses ≡ self.old.losses }
+    {
+        match event {
+            Event::Assign(config) => self.assign(config),
+            Event::Deliver(number) => self.deliver(*number),
+            Event::Tick(node) => self.tick(*node),
+            Event::Crash(node) => self.crash(*node),
+            Event::Open(client, node) => self.open(client, *node),
+            Event::CarryUp(connection, count) => self.carry_up(*connection, *count),
+            Event::Notice(connection) => self.notice(*connection),
+            _ => self.call(event),
+        }
+    }
+
+    // What clients do, and what they hear.
+    fn call(&mut self, event: &Event) -> Result<(), Idle>
+        ensures nodes { self.new.nodes ≡ self.old.nodes }
+        ensures losses { self.new.losses ≡ self.old.losses }
+    {
+        match event {
+            Event::CarryDown(connection, count) => self.carry_down(*connection, *count),
+            Event::Abandon(client) => self.abandon(client),
+            Event::Disconnect(client) => self.disconnect(client),
+            Event::Publish(client, publication) => self.publish(client, publication),
+            Event::Subscribe(client, filter, qos) => self.subscribe(client, filter, *qos),
+            Event::Unsubscribe(client, filter) => self.unsubscribe(client, filter),
+            _ => Err(Idle),
+        }
+    }
+}
+
+// A client that was never connected.
+fn new_client(alloc: Global, client: &ClientId) -> Result<WorldClient, Memory> {
+    let piped = PipedClient::new(alloc, client.clone()?);
+    Ok(WorldClient {
+        name: client.clone()?,
+        piped,
+    })
+}
