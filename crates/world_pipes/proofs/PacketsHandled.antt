@@ -1,0 +1,114 @@
+-- PacketsHandled.antt: a client that handles the packets that came goes as the model's, packet by packet.
+use Rattle.std.proofs.Common.{◌≡◌, ℕ, true, List, [], ◌∷◌, ◌++◌, Some, Ok, refl, ap, ap₂, sym, subst, ◌∙◌, append_assoc}
+use Rattle.std.proofs.lemmas.List.{append-nil}
+use Rattle.packet.specs.Spelling.{IsPacket, spelling}
+use Rattle.packet.specs.declared.packet.Packet.{Packet}
+use Rattle.packet.proofs.OneSpelling.{spelling_is}
+use Rattle.cutter.specs.Stream.{Stream, Takes}
+use Rattle.lists.specs.Lists.{Each}
+use Rattle.client_base.specs.State.{ClientState, is_open}
+use Rattle.client_base.specs.Answered.{Turn}
+use Rattle.client_base.specs.Handled.{handled}
+use Rattle.client_base.specs.History as history
+use Rattle.client_base.specs.Keeper as keepers
+use Rattle.client_base.proofs.FollowsHandled.{handled_follows}
+use Rattle.client_base.proofs.FollowsPackets.{Same}
+use Rattle.client.specs.Core.{AppendsAll, Core, IsDone}
+use Rattle.client.specs.Reading.{Handles, Reads, turn_of}
+use Rattle.node_model.specs.Puts.{spelled}
+use Rattle.story.specs.Sides.{Connection, Side}
+use Rattle.world_model.specs.World.{ClientPipes, Pipe, newly_written}
+use Rattle.world_model.specs.Goes.{after_packet}
+use Rattle.world_model.proofs.OnTheWay.{newly_is}
+use Rattle.world_pipes.specs.Goes.{ClientGoes, ClientStep}
+use Rattle.world_pipes.specs.Standing.{CanGoOut}
+use Rattle.world_pipes.proofs.Renamed.{handled_renamed, renamed}
+use Rattle.world_pipes.proofs.StaysOpen.{handled_stays}
+use Rattle.world_pipes.proofs.Spellable.{AllSpelled, received_fits}
+
+-- ---- bytes
+
+-- packets that are written one behind the other are their spellings, joined
+pub appended : (old new : List ℕ) (packets : List Packet) → Each IsPacket packets → AppendsAll old new packets → new ≡ old ++ spelled packets
+appended old new [] fits same = same ∙ sym (append-nil old)
+appended old new (p ∷ packets) fits (between, (bytes, spells, is), more) =
+    appended between new packets fits.1 more
+    ∙ ap (λ l. l ++ spelled packets) (is ∙ ap (λ b. old ++ b) ((spelling_is p fits.0).1 bytes spells))
+    ∙ append_assoc old (spelling p) (spelled packets)
+
+-- ---- in the midst of a call
+
+-- The client stands for the model's, whose newest connection has this pipe: what was under way before, and behind it what
+-- the client wrote.
+pub record IsInMidst (before : List ℕ) (core : Core) (m : ClientPipes) (others : List Connection) (p₀ : Pipe) (further : List Pipe) : Type 0 where
+  pub keeper : history.StandsFor m.keeper core.state
+  pub fits : CanGoOut core.state
+  pub connection : Connection
+  pub connections : m.connections ≡ connection ∷ others
+  pub pipe : Pipe
+  pub pipes : m.pipes ≡ pipe ∷ further
+  pub leads : (pipe.node ≡ p₀.node) × (pipe.port ≡ p₀.port) × (pipe.down ≡ p₀.down)
+  pub up : pipe.up ≡ before ++ core.out
+  pub came : pipe.came ≡ core.unread
+
+-- one packet more
+pub record GoesOn (before : List ℕ) (core : Core) (m : ClientPipes) (others : List Connection) (p₀ : Pipe) (further : List Pipe) : Type 0 where
+  pub next : ClientPipes
+  pub step : ClientStep m next
+  pub stands : IsInMidst before core next others p₀ further
+
+taken_fits : (old left : Stream) (packet : Packet) → Takes old (Ok (Some packet)) left → IsPacket packet
+taken_fits old left packet (a, b, (front, spells, is, e), c) = is
+
+pub one_goes : (before : List ℕ) (core next after : Core) (m : ClientPipes) (others : List Connection) (p₀ : Pipe) (further : List Pipe) (packet : Packet) →
+    is_open core.state.stage ≡ true → IsInMidst before core m others p₀ further → Reads core packet next → IsDone (turn_of packet next) next after →
+    GoesOn before after m others p₀ further
+one_goes before core next after m others p₀ further packet up s reads done =
+    let κ = s.connection in
+    let p = s.pipe in
+    let side : Side = record { keeper = m.keeper; connection = κ } in
+    let later : Side = handled packet side in
+    let turn : Turn = turn_of packet next in
+    let stands : history.StandsFor m.keeper next.state = subst (history.StandsFor m.keeper) (sym reads.1) s.keeper in
+    let opened : is_open next.state.stage ≡ true = ap (λ (state : ClientState). is_open state.stage) reads.1 ∙ up in
+    let whole : AllSpelled turn =
+    received_fits packet next.state.stage next.state (taken_fits core.unread next.unread packet reads.0).0 (subst CanGoOut (sym reads.1) s.fits) in
+    let same : Same (renamed side) (renamed later) turn =
+    subst (λ (after : keepers.Side ℕ). Same (renamed side) after turn) (handled_renamed packet side)
+    (handled_follows packet next.state.stage m.keeper.is_online (renamed side) next.state stands opened (sym stands.is_open ∙ opened) stands.is_online) in
+    let more = same.writes.0 in
+    let newly : newly_written m.connections (later.connection ∷ others) ≡ turn.writes =
+    ap (λ l. newly_written l (later.connection ∷ others)) s.connections ∙ newly_is κ later.connection others others more same.writes.1 ∙ same.writes.2 in
+    let out : after.out ≡ core.out ++ spelled turn.writes =
+    appended next.out after.out turn.writes whole.writes done.1 ∙ ap (λ o. o ++ spelled turn.writes) reads.2 in
+    record {
+      next = after_packet others further p next.unread later m;
+      step = ClientStep.handles κ others p further packet next.unread s.connections s.pipes (sym s.keeper.is_open ∙ up)
+          (subst (λ (came : Stream). Takes came (Ok (Some packet)) next.unread) (sym s.came) reads.0)
+          (subst (Each IsPacket) (sym newly) whole.writes);
+      stands = record {
+        keeper = subst (history.StandsFor later.keeper) (sym done.0) same.stands;
+        fits = subst CanGoOut (sym done.0) whole.left;
+        connection = later.connection;
+        connections = refl;
+        pipe = record p { came = next.unread; up = p.up ++ spelled (newly_written m.connections (later.connection ∷ others)) };
+        pipes = refl;
+        leads = s.leads;
+        up = ap₂ (λ u l. u ++ spelled l) s.up newly ∙ append_assoc before core.out (spelled turn.writes) ∙ ap (λ l. before ++ l) (sym out);
+        came = sym done.2;
+      };
+    }
+
+-- all that were handled
+pub record GoFar (before : List ℕ) (core : Core) (m : ClientPipes) (others : List Connection) (p₀ : Pipe) (further : List Pipe) : Type 0 where
+  pub last : ClientPipes
+  pub steps : ClientGoes m last
+  pub stands : IsInMidst before core last others p₀ further
+
+pub all_go : (before : List ℕ) (start last : Core) (m : ClientPipes) (others : List Connection) (p₀ : Pipe) (further : List Pipe) → is_open start.state.stage ≡ true →
+    IsInMidst before start m others p₀ further → Handles start last → GoFar before last m others p₀ further
+all_go before start last m others p₀ further up s Handles.none = record { last = m; steps = ClientGoes.stays; stands = s }
+all_go before start last m others p₀ further up s (Handles.more {s = mid} {t = next} packet run reads taken done) =
+    let far = all_go before start mid m others p₀ further up s run in
+    let one = one_goes before mid next last far.last others p₀ further packet (handled_stays start mid run up) far.stands reads done in
+    record { last = one.next; steps = ClientGoes.goes_on far.steps one.step; stands = one.stands }

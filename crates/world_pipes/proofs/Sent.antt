@@ -1,0 +1,174 @@
+-- Sent.antt: what a call wrote went up, or the connection is lost; either way the client stays in order.
+use Rattle.std.proofs.Common.{◌≡◌, ℕ, ◌<◌, Bool, true, false, List, [], ◌∷◌, ◌++◌, length, take, slice_index_or, Result, Ok, Err, refl, ap, sym, subst, ◌∙◌, ap₂, arith, ◌-◌, None, ◌⊎◌, inl, inr, slice_set}
+use Rattle.std.proofs.lemmas.Bool.{both_ways}
+use Rattle.std.proofs.lemmas.Option.{none-some}
+use Rattle.std.proofs.lemmas.List.{length-append}
+use Rattle.client_base.specs.declared.error.ClientError.{ClientError}
+use Rattle.client_base.specs.declared.error.ClientError.TheVariants as errors
+use Rattle.client_base.specs.State.{ClientState, is_open}
+use Rattle.client_base.specs.declared.stage.Stage.{Stage}
+use Rattle.client_base.specs.declared.stage.Stage.TheVariants as stages
+use Rattle.client_base.specs.Steps.{Call, keeper_step, disconnected}
+use Rattle.client_base.specs.Answered.{Turn}
+use Rattle.client.specs.Core.{Core, Does, Leaves}
+use Rattle.world_pipes.specs.declared.way.Way.{Way}
+use Rattle.world_pipes.specs.declared.sending.Sending.{Sending}
+use Rattle.world_pipes.specs.declared.sending.Sending.TheVariants as sendings
+use Rattle.world_pipes.specs.Held.{IsHeld}
+use Rattle.world_pipes.specs.Inside.{MovesUp, SendsUp, TakesIn, stays_open}
+use Rattle.world_pipes.specs.Piped.{Calls, TakesLeave, GoesUp, GoesUpWhere, Hears, Piped, broken, come_down, piped, sent_up}
+use Rattle.world_pipes.proofs.Newest.{last_set, last_splits}
+use Rattle.world_pipes.proofs.StaysOpen.{heard_stays}
+
+-- what was moved up is sent
+pub moved_is_sent : (core left : Core) (ways after : List Way) → 0 < length ways → MovesUp core ways left after →
+    GoesUp core ways sendings.Sent (piped left after)
+moved_is_sent core left [] after some m = absurd (omega (arith, some))
+moved_is_sent core left (first ∷ more) after some m =
+    let ways = first ∷ more in
+    let older = take (length ways - 1) ways in
+    let way = slice_index_or ways (length ways - 1) first in
+    let splits : ways ≡ older ++ way ∷ [] = last_splits ways first some in
+    (older, way, splits, ap₂ piped m.handed (m.moved older way splits))
+
+-- ---- behind a call
+
+goes_up : (holds : Bool) (core left : Core) (ways after : List Way) (sending : Sending) (holding : Bool) → (holds ≡ true → 0 < length ways) →
+    SendsUp holds core ways sending holding left after → GoesUpWhere holds core ways sending (piped left after)
+goes_up false core left ways after sending holding leads s = (s.0, ap₂ piped s.2 s.3)
+goes_up true core left ways after sendings.Sent holding leads s = moved_is_sent core left ways after (leads refl) s.1
+goes_up true core left ways after sendings.Lost holding leads s = ap₂ piped s.1 s.2
+
+pub called_so : (turn : Turn) (old : Piped) (core left : Core) (after : List Way) (sending : Sending) (holds holding : Bool) → IsHeld holds old.core old.ways
+    → Does turn old.core (Ok tt) core → SendsUp holds core old.ways sending holding left after → Calls turn old (Ok sending) (piped left after)
+called_so turn old core left after sending holds holding held does s = (
+  core,
+  does,
+  subst (λ up. GoesUpWhere up core old.ways sending (piped left after)) held.known (goes_up holds core left old.ways after sending holding held.leads s),
+)
+
+some_left : (ways after : List Way) (left core : Core) → 0 < length ways → MovesUp core ways left after → 0 < length after
+some_left ways after left core some m =
+    let sent = moved_is_sent core left ways after some m in
+    let older = sent.0 in
+    let is : after ≡ older ++ record sent.1 { up = sent.1.up ++ core.out } ∷ [] = ap (λ (p : Piped). p.ways) sent.3 in
+    rw is (omega (arith, length-append older (record sent.1 { up = sent.1.up ++ core.out } ∷ [])))
+
+held_behind : (holds : Bool) (core left : Core) (ways after : List Way) (sending : Sending) (holding : Bool) → holds ≡ is_open core.state.stage
+    → (holds ≡ true → 0 < length ways) → SendsUp holds core ways sending holding left after → IsHeld holding left after
+held_behind false core left ways after sending holding known leads s =
+    record {
+      known = s.1 ∙ known ∙ ap (λ (c : Core). is_open c.state.stage) (sym s.2);
+      leads = λ up. absurd (both_ways holding s.1 up);
+      sent = λ up. absurd (both_ways holding s.1 up);
+    }
+held_behind true core left ways after sendings.Sent holding known leads s =
+    record {
+      known = s.0 ∙ known ∙ ap (λ (c : Core). is_open c.state.stage) (sym s.1.handed);
+      leads = λ up. some_left ways after left core (leads refl) s.1;
+      sent = λ up. ap (λ (c : Core). c.out) s.1.handed;
+    }
+held_behind true core left ways after sendings.Lost holding known leads s =
+    record {
+      known = s.0 ∙ ap (λ (c : Core). is_open c.state.stage) (sym s.1);
+      leads = λ up. absurd (both_ways holding s.0 up);
+      sent = λ up. absurd (both_ways holding s.0 up);
+    }
+
+-- a call that ends no connection
+pub held_so : (turn : Turn) (before core left : Core) (ways after : List Way) (sending : Sending) (holds holding : Bool) → IsHeld holds before ways
+    → turn.state.stage ≡ before.state.stage → Does turn before (Ok tt) core → SendsUp holds core ways sending holding left after → IsHeld holding left after
+held_so turn before core left ways after sending holds holding held stays does s =
+    held_behind holds core left ways after sending holding
+    (held.known ∙ ap is_open (sym stays) ∙ ap (λ (state : ClientState). is_open state.stage) (sym does.1.0))
+    held.leads s
+
+-- ---- taking leave
+
+leaves_open : (stage : Stage) (state : ClientState) → (disconnected stage state).refusal ≡ None → is_open stage ≡ true
+leaves_open stages.Closed state none = absurd (none-some _ (sym none))
+leaves_open stages.Opened state none = refl
+leaves_open stages.Online state none = refl
+
+pub left_so : (old : Piped) (core left : Core) (after : List Way) (sending : Sending) (holds holding : Bool) → IsHeld holds old.core old.ways
+    → Leaves (keeper_step Call.Disconnects old.core.state) old.core (Ok tt) core → SendsUp holds core old.ways sending holding left after
+    → TakesLeave (keeper_step Call.Disconnects old.core.state) old (Ok sending) (piped left after)
+left_so old core left after sending holds holding held leaves s =
+    let up : holds ≡ true = held.known ∙ leaves_open old.core.state.stage old.core.state leaves.0 in (
+      core,
+      leaves,
+      subst (λ up. GoesUpWhere up core old.ways sending (piped left after)) up (goes_up holds core left old.ways after sending holding held.leads s),
+    )
+
+-- ---- hearing
+
+-- what came of a piece, and went up
+pub heard_so : (count : ℕ) (core mid left : Core) (ways between after : List Way) (n : ℕ) (newest taken : Way) (read : Result (Unit {0}) ClientError)
+    → 0 < length ways → n ≡ length ways → newest ≡ slice_index_or ways (n - 1) newest → TakesIn count core newest read mid taken
+    → between ≡ slice_set ways (n - 1) taken → MovesUp mid between left after → Hears count (piped core ways) read (piped left after)
+heard_so count core mid left ways between after n newest taken read some counted is takes set m =
+    let older = take (length ways - 1) ways in
+    let place : n - 1 ≡ length ways - 1 = ap (λ k. k - 1) counted in
+    let put : between ≡ older ++ come_down count newest ∷ [] =
+    set ∙ ap₂ (λ k w. slice_set ways k w) place takes.1 ∙ last_set ways newest (come_down count newest) some in
+    record {
+      older = older;
+      way = newest;
+      newest = last_splits ways newest some
+          ∙ ap (λ (w : Way). older ++ w ∷ []) (ap (λ k. slice_index_or ways k newest) (sym place) ∙ sym is);
+      core = mid;
+      read = read;
+      heard = takes.0;
+      goes_up = inl (refl, ap₂ piped m.handed (m.moved older (come_down count newest) put));
+    }
+
+abbrev pub as_error : ClientError → Result (Unit {0}) ClientError
+as_error cause = Err cause
+
+-- or found no memory
+pub heard_in_vain : (count : ℕ) (core mid : Core) (ways between : List Way) (n : ℕ) (newest taken : Way) (read : Result (Unit {0}) ClientError) (cause : ClientError)
+    → 0 < length ways → n ≡ length ways → newest ≡ slice_index_or ways (n - 1) newest → TakesIn count core newest read mid taken
+    → between ≡ slice_set ways (n - 1) taken → as_error cause ≡ as_error errors.Memory → Hears count (piped core ways) (Err cause) (broken mid between)
+heard_in_vain count core mid ways between n newest taken read cause some counted is takes set memory =
+    let older = take (length ways - 1) ways in
+    let place : n - 1 ≡ length ways - 1 = ap (λ k. k - 1) counted in
+    let put : between ≡ older ++ come_down count newest ∷ [] =
+    set ∙ ap₂ (λ k w. slice_set ways k w) place takes.1 ∙ last_set ways newest (come_down count newest) some in
+    record {
+      older = older;
+      way = newest;
+      newest = last_splits ways newest some
+          ∙ ap (λ (w : Way). older ++ w ∷ []) (ap (λ k. slice_index_or ways k newest) (sym place) ∙ sym is);
+      core = mid;
+      read = read;
+      heard = takes.0;
+      goes_up = inr (memory, ap (λ all. broken mid all) put);
+    }
+
+pub held_hearing : (count : ℕ) (old new : Piped) (result : Result (Unit {0}) ClientError) (holds : Bool) → is_open old.core.state.stage ≡ true → Hears count old result new
+    → holds ≡ stays_open result → IsHeld holds new.core new.ways
+held_hearing count old new result holds up h is = held_end count old new result holds up h is h.goes_up
+  where
+    some_there : (older : List Way) (way : Way) → 0 < length (older ++ way ∷ [])
+    some_there older way = omega (arith, length-append older (way ∷ []))
+
+    held_end : (count : ℕ) (old new : Piped) (result : Result (Unit {0}) ClientError) (holds : Bool) → is_open old.core.state.stage ≡ true
+        → (h : Hears count old result new) → holds ≡ stays_open result
+        → ((result ≡ h.read) × (new ≡ sent_up h.core h.older (come_down count h.way)))
+        ⊎ ((result ≡ Err errors.Memory) × (new ≡ broken h.core (h.older ++ come_down count h.way ∷ [])))
+        → IsHeld holds new.core new.ways
+    held_end count old new result holds up h is (inl end) =
+        record {
+          known = is ∙ ap stays_open end.0
+              ∙ heard_stays _ old.core.state.stage old.core h.core h.read refl up h.heard
+              ∙ ap (λ (p : Piped). is_open p.core.state.stage) (sym end.1);
+          leads = λ on. rw end.1 (some_there h.older (record h.way { up = h.way.up ++ h.core.out; down = (come_down count h.way).down }));
+          sent = λ on. ap (λ (p : Piped). p.core.out) end.1;
+        }
+    held_end count old new result holds up h is (inr end) =
+        let gone : holds ≡ false = is ∙ ap stays_open end.0 in
+        record {
+          known = gone ∙ ap (λ (p : Piped). is_open p.core.state.stage) (sym end.1);
+          leads = λ on. absurd (both_ways holds gone on);
+          sent = λ on. absurd (both_ways holds gone on);
+        }

@@ -1,0 +1,10 @@
+-- StepsInWorlds.antt: a client's step is one of its world.
+use Rattle.world_model.specs.Goes.{WorldStep}
+use Rattle.world_pipes.specs.Goes.{ClientStep, ClientsStepInWorlds}
+
+pub steps_in_worlds : ClientsStepInWorlds
+steps_in_worlds w i c d at (ClientStep.calls t h is spelled) = WorldStep.calls i c t h at is spelled
+steps_in_worlds w i c d at (ClientStep.arrives j κ p piece rest connection pipe down) =
+    WorldStep.arrives i j c κ p piece rest (record { client = at; connection = connection; pipe = pipe }) down
+steps_in_worlds w i c d at (ClientStep.handles κ others p pipes packet left connections are up takes spelled) =
+    WorldStep.handles i c κ others p pipes packet left at connections are up takes spelled

@@ -1,0 +1,19 @@
+use Rattle.client_base.specs.Steps.{Call, keeper_step}
+use Rattle.world_pipes.specs.Piped.{piped}
+use Rattle.world_pipes.proofs.StaysOpen.{subscribing_stays}
+use Rattle.world_pipes.proofs.Sent.{called_so, held_so}
+use Rattle.world_pipes.proofs.piped_client.PipedClient.subscribe.Goals as goal
+
+pub invariant_of-self-2 : goal.invariant_of-self-2
+invariant_of-self-2 c =
+    held_so (keeper_step (Call.Subscribes c.args.filter c.args.qos) c.self.inside.core.state)
+    c.self.inside.core c.subscribe.new.self c.send_up.new.core c.self.inside.ways.items c.send_up.new.ways.items c.send_up.result
+    c.self.inside.holds c.send_up.new.holds c.self.invariant (subscribing_stays c.args.filter c.args.qos c.self.inside.core.state)
+    c.in_ok-subscribe.ensures c.send_up.ensures
+
+pub returns : goal.returns
+returns c =
+    rw (← c.self.view_is)
+    (called_so (keeper_step (Call.Subscribes c.args.filter c.args.qos) c.self.inside.core.state)
+    (piped c.self.inside.core c.self.inside.ways.items) c.subscribe.new.self c.send_up.new.core c.send_up.new.ways.items c.send_up.result
+    c.self.inside.holds c.send_up.new.holds c.self.invariant c.in_ok-subscribe.ensures c.send_up.ensures)

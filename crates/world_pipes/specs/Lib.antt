@@ -1,0 +1,5 @@
+pub mod Piped
+pub mod Held
+pub mod Inside
+pub mod Standing
+pub mod Goes

@@ -1,0 +1,56 @@
+-- Which client of the model of worlds a `PipedClient` stands for. History stands in the model alone.
+use Rattle.std.specs.Prelude.{◌≡◌, true, false, IsTrue, List, [], ◌∷◌, ◌++◌, length, reverse}
+use Rattle.packet_base.specs.Spelling.{IsId}
+use Rattle.packet.specs.ClientId.{is_client}
+use Rattle.packet.specs.Spelling.{IsPacket}
+use Rattle.lists.specs.Lists.{Each, IsPrefixOf}
+use Rattle.client_base.specs.declared.kept_publication.KeptPublication.{KeptPublication}
+use Rattle.client_base.specs.State.{ClientState, publish_kept}
+use Rattle.client_base.specs.History as history
+use Rattle.story.specs.Sides.{Connection}
+use Rattle.world_model.specs.World.{ClientPipes, Pipe}
+use Rattle.world_pipes.specs.declared.way.Way.{Way}
+use Rattle.world_pipes.specs.Piped.{Piped, is_holding}
+
+-- A connection leads where the model's does. Of what is under way up, the end may be missing where it found no memory: then
+-- the connection is lost.
+pub record IsWay (way : Way) (p : Pipe) : Type 0 where
+  pub node : p.node ≡ way.node
+  pub port : p.port ≡ way.port
+  pub up : IsPrefixOf way.up p.up
+  pub down : p.down ≡ way.down
+
+abbrev pub AreWays : List Way → List Pipe → Type 0
+AreWays (way ∷ ways) (p ∷ pipes) = IsWay way p × AreWays ways pipes
+AreWays [] [] = Unit {0}
+AreWays _ _ = ⊥
+
+-- the connection that is held, from end to end: what came and is not handled is what the client did not read
+pub record IsHolding (client : Piped) (m : ClientPipes) : Type 0 where
+  pub connection : Connection
+  pub others : List Connection
+  pub connections : m.connections ≡ connection ∷ others
+  pub pipe : Pipe
+  pub further : List Pipe
+  pub pipes : m.pipes ≡ pipe ∷ further
+  pub older : List Way
+  pub way : Way
+  pub ways : client.ways ≡ older ++ way ∷ []
+  pub up : pipe.up ≡ way.up
+  pub came : pipe.came ≡ client.core.unread
+  pub sent : client.core.out ≡ []
+
+-- its keep alive is 0, and what it keeps can be spelled when it goes out again
+pub record CanGoOut (state : ClientState) : Type 0 where
+  pub keep_alive : state.keep_alive ≡ 0
+  pub client : IsTrue (is_client state.client)
+  pub released : Each IsId state.released
+  pub sent : Each (λ (kept : KeptPublication). IsPacket (publish_kept false kept)) state.sent
+  pub unsent : Each (λ (kept : KeptPublication). IsPacket (publish_kept false kept)) state.unsent
+
+pub record StandsFor (client : Piped) (m : ClientPipes) : Type 0 where
+  pub keeper : history.StandsFor m.keeper client.core.state
+  pub fits : CanGoOut client.core.state
+  pub many : length m.connections ≡ length m.pipes
+  pub ways : AreWays (reverse client.ways) m.pipes
+  pub held : is_holding client ≡ true → IsHolding client m

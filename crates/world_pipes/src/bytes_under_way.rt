@@ -1,0 +1,86 @@
+// Bytes under way in one direction.
+
+ghost use Rattle.std.specs.Prelude.{◌≡◌, ◌++◌, ◌≤◌, [], drop, length, OnOk, OnErr, IsErrOf};
+
+use client::{ClientCore, ClientError};
+use std::alloc::Global;
+use std::marker::Model;
+use std::mem;
+
+/// Bytes under way in one direction, in their order.
+#[derive(Drop)]
+pub struct BytesUnderWay {
+    bytes: Vec<u8>,
+    // How many bytes at the front have come.
+    come: usize,
+}
+
+impl Model for BytesUnderWay {
+    ghost use Rattle.std.specs.Prelude.{List, ℕ, ◌≤◌, drop, length};
+
+    ghost Value = { List ℕ };
+
+    ghost view = { λ way. drop way.come way.bytes.items };
+
+    ghost invariant = { λ way. way.come ≤ length way.bytes.items };
+}
+
+impl BytesUnderWay {
+    /// No bytes.
+    pub fn new(alloc: Global) -> BytesUnderWay
+        ensures { result ≡ [] }
+    {
+        BytesUnderWay {
+            bytes: Vec::new(alloc),
+            come: 0,
+        }
+    }
+
+    /// The bytes.
+    pub fn as_slice(&self) -> &[u8]
+        ensures { result.now ≡ self.now }
+    {
+        &self.bytes[self.come..]
+    }
+
+    /// The first so many come.
+    pub fn take(&mut self, count: usize)
+        requires { count ≤ length self.old }
+        ensures { self.new ≡ drop count self.old }
+    {
+        self.come += count;
+        // Room is given back once half of it is free, so that a byte is moved twice at most.
+        if self.come >= self.bytes.len() - self.come {
+            self.close_up();
+        }
+    }
+
+    /// Exchanges the bytes.
+    pub fn swap(&mut self, bytes: &mut Vec<u8>)
+        ensures left { self.new ≡ bytes.old.items }
+        ensures given { bytes.new.items ≡ self.old }
+    {
+        self.bytes.drain(..self.come);
+        self.come = 0;
+        mem::swap(&mut self.bytes, bytes);
+    }
+
+    /// What the client wrote follows. Where memory is wanting nothing changes.
+    pub fn follow(&mut self, core: &mut ClientCore) -> Result<(), ClientError>
+        ensures bytes { OnOk result (self.new ≡ self.old ++ core.old.out) }
+        ensures ok { OnOk result (core.new ≡ record core.old { out = [] }) }
+        ensures memory { OnErr result (IsErrOf result ClientError.Memory) }
+        ensures same { OnErr result (self.new ≡ self.old) }
+        ensures err { OnErr result (core.new ≡ core.old) }
+    {
+        core.outgoing(&mut self.bytes)
+    }
+
+    // Gives back the room of what has come.
+    fn close_up(&mut self)
+        ensures { self.new ≡ self.old }
+    {
+        self.bytes.drain(..self.come);
+        self.come = 0;
+    }
+}

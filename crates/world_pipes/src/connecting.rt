@@ -1,0 +1,42 @@
+// The beginning and the end of a client's connections.
+
+ghost use Rattle.std.specs.Prelude.{◌≡◌, false};
+ghost use Rattle.client_base.specs.Steps.{Call, keeper_step};
+ghost use Rattle.world_pipes.specs.Piped.{Connects, TakesLeave, is_holding};
+
+use crate::piped_client::PipedClient;
+use crate::sending::{Sending, send_up};
+use crate::way::Way;
+use client::ClientError;
+use world_base::Port;
+
+impl PipedClient {
+    /// Opens a connection to the node at this place, which is to know it by this port: CONNECT is under way on it. It
+    /// is not open before. `Memory` is the only error, and then there is no new connection.
+    pub fn open(&mut self, node: usize, port: Port) -> Result<(), ClientError>
+        requires { is_holding self.old ≡ false }
+        ensures { Connects node port (keeper_step Call.Opens self.old.core.state) self.old result self.new }
+    {
+        let mut way = Way::new(self.alloc, node, port);
+        self.ways.reserve(1)?;
+        self.core.open()?;
+        if let Err(error) = way.up.follow(&mut self.core) {
+            self.core.lost();
+            return Err(error);
+        }
+        self.ways.push_reserved(way);
+        self.holds = true;
+        Ok(())
+    }
+
+    /// Ends the connection, with a DISCONNECT where the server has accepted it. `NotActive` comes exactly where there is
+    /// none; a refusal, and `Memory`, leave everything as it was.
+    pub fn disconnect(&mut self) -> Result<Sending, ClientError>
+        ensures { TakesLeave (keeper_step Call.Disconnects self.old.core.state) self.old result self.new }
+    {
+        self.core.disconnect()?;
+        let sending = send_up(&mut self.core, &mut self.ways, &mut self.holds);
+        self.holds = false;
+        Ok(sending)
+    }
+}

@@ -1,0 +1,62 @@
+// What comes to a client.
+
+ghost use Rattle.std.specs.Prelude.{◌≡◌, ◌≤◌, ◌<◌, ◌-◌, true, length, slice_get, IfSome};
+ghost use Rattle.world_pipes.specs.Piped.{Hears, is_holding, piped};
+ghost use Rattle.world_pipes.specs.Inside.{TakesIn, stays_open};
+
+use crate::piped_client::PipedClient;
+use crate::sending::move_up;
+use crate::way::Way;
+use client::{ClientCore, ClientError};
+
+impl PipedClient {
+    /// The first so many bytes that are under way on the newest connection, which it holds, come to the client, and what
+    /// it answers goes up. It answers as `ClientCore::on_bytes`, and `Memory` also where its own answers find no
+    /// memory. It holds the connection on behind `Ok` and `SessionLost`, and else it is lost.
+    pub fn hear(&mut self, count: usize) -> Result<(), ClientError>
+        requires open { is_holding self.old ≡ true }
+        requires count { IfSome (slice_get self.old.ways (length self.old.ways - 1))
+            (λ way. count ≤ length way.down) }
+        ensures { Hears count self.old result self.new }
+    {
+        let answer = hear_on(&mut self.core, &mut self.ways, count);
+        self.holds = stays_open(answer);
+        answer
+    }
+}
+
+// The first so many bytes under way on the newest connection come to a client, and what it answers goes up.
+fn hear_on(core: &mut ClientCore, ways: &mut Vec<Way>, count: usize) -> Result<(), ClientError>
+    requires some { 0 < length ways.old.items }
+    requires count { IfSome (slice_get ways.old.items (length ways.old.items - 1))
+        (λ way. count ≤ length way.down) }
+    ensures { Hears count (piped core.old ways.old.items) result (piped core.new ways.new.items) }
+{
+    let newest = ways.len() - 1;
+    let read = take_in(core, &mut ways[newest], count);
+    if let Err(error) = move_up(core, ways) {
+        core.lost();
+        return Err(error);
+    }
+    read
+}
+
+// The first so many bytes under way on a connection come to a client.
+fn take_in(core: &mut ClientCore, way: &mut Way, count: usize) -> Result<(), ClientError>
+    requires { count ≤ length way.old.down }
+    ensures { TakesIn count core.old way.old result core.new way.new }
+{
+    let read = core.on_bytes(&way.down.as_slice()[..count]);
+    way.down.take(count);
+    read
+}
+
+// Whether a client holds its connection on behind this answer to bytes that came on it.
+fn stays_open(read: Result<(), ClientError>) -> bool
+    ensures { result ≡ stays_open read }
+{
+    match read {
+        Ok(()) | Err(ClientError::SessionLost) => true,
+        Err(_) => false,
+    }
+}

@@ -1,0 +1,8 @@
+// Laws of clients in worlds. The calls do nothing; their contracts are the laws.
+
+ghost use Rattle.world_pipes.specs.Goes.{ClientsStepInWorlds};
+
+/// What a client does without its nodes is a step of every world in which it is a client.
+pub fn clients_step_in_worlds()
+    ensures { ClientsStepInWorlds }
+{}

@@ -1,0 +1,18 @@
+//! One client of a world with all its connections and a pipe of bytes each way on every one of them, of which it holds at
+//! most the newest.
+#![tactic(auto)]
+
+mod bytes_under_way;
+mod calling;
+mod connecting;
+mod hearing;
+mod laws;
+mod piped_client;
+mod sending;
+mod way;
+
+pub use client::{Accepted, ClientCore, ClientError};
+pub use laws::clients_step_in_worlds;
+pub use piped_client::PipedClient;
+pub use sending::Sending;
+pub use world_base::Port;

@@ -1,0 +1,124 @@
+// A client with its connections.
+
+ghost use Rattle.std.specs.Prelude.{◌≡◌, ◌<◌, ◌≤◌, drop, length, set, slice_get, IfSome};
+ghost use Rattle.client.specs.Core.{gone};
+ghost use Rattle.world_pipes.specs.Piped.{is_holding, new_piped};
+
+use crate::way::Way;
+use client::ClientCore;
+use packet::ClientId;
+use std::alloc::Global;
+use std::marker::Model;
+use world_base::Port;
+
+/// A client with all its connections, the oldest first, and the bytes under way on each. It holds at most the newest one;
+/// what is under way on the others still goes up, and is not heard any more.
+#[derive(Drop)]
+pub struct PipedClient {
+    pub(crate) alloc: Global,
+    pub(crate) core: ClientCore,
+    pub(crate) ways: Vec<Way>,
+    // Whether it holds the newest connection.
+    pub(crate) holds: bool,
+}
+
+impl Model for PipedClient {
+    ghost use Rattle.world_pipes.specs.Piped.{Piped};
+    ghost use Rattle.world_pipes.specs.Held.{IsHeld};
+
+    ghost Value = { Piped };
+
+    ghost view = { λ c. record { core = c.core; ways = c.ways.items } };
+
+    ghost invariant = { λ c. IsHeld c.holds c.core c.ways.items };
+}
+
+impl PipedClient {
+    /// A client of this identifier that was never connected. Its keep alive is 0.
+    pub fn new(alloc: Global, client: ClientId) -> PipedClient
+        ensures { result ≡ new_piped client }
+    {
+        PipedClient {
+            alloc,
+            core: ClientCore::new(alloc, client, 0),
+            ways: Vec::new(alloc),
+            holds: false,
+        }
+    }
+
+    /// The client.
+    pub fn core(&self) -> &ClientCore
+        ensures { result.now ≡ self.now.core }
+    {
+        &self.core
+    }
+
+    /// Whether it holds its newest connection.
+    pub fn is_open(&self) -> bool
+        ensures { result ≡ is_holding self.now }
+    {
+        self.holds
+    }
+
+    /// How many connections it opened.
+    pub fn len(&self) -> usize
+        ensures { result ≡ length self.now.ways }
+    {
+        self.ways.len()
+    }
+
+    /// Where a connection leads: the place of its node, and the port by which that knows it.
+    pub fn place(&self, at: usize) -> (usize, Port)
+        requires { at < length self.now.ways }
+        ensures { IfSome (slice_get self.now.ways at) (λ way. result ≡ (way.node, way.port)) }
+    {
+        let way = &self.ways[at];
+        (way.node, way.port)
+    }
+
+    /// What is under way on a connection to its node.
+    pub fn up(&self, at: usize) -> &[u8]
+        requires { at < length self.now.ways }
+        ensures { IfSome (slice_get self.now.ways at) (λ way. result.now ≡ way.up) }
+    {
+        self.ways[at].up.as_slice()
+    }
+
+    /// What is under way on a connection to the client.
+    pub fn down(&self, at: usize) -> &[u8]
+        requires { at < length self.now.ways }
+        ensures { IfSome (slice_get self.now.ways at) (λ way. result.now ≡ way.down) }
+    {
+        self.ways[at].down.as_slice()
+    }
+
+    /// The first so many bytes that are under way to a node have come to it.
+    pub fn take_up(&mut self, at: usize, count: usize)
+        requires at { at < length self.old.ways }
+        requires count { IfSome (slice_get self.old.ways at) (λ way. count ≤ length way.up) }
+        ensures { IfSome (slice_get self.old.ways at) (λ way. self.new
+            ≡ record self.old { ways = set self.old.ways at (record way { up = drop count way.up }) }) }
+    {
+        let way = &mut self.ways[at];
+        way.up.take(count);
+    }
+
+    /// Exchanges what is under way on a connection to the client, so that a node may hand over more behind it.
+    pub fn swap_down(&mut self, at: usize, bytes: &mut Vec<u8>)
+        requires { at < length self.old.ways }
+        ensures left { IfSome (slice_get self.old.ways at) (λ way. self.new
+            ≡ record self.old { ways = set self.old.ways at (record way { down = bytes.old.items }) }) }
+        ensures given { IfSome (slice_get self.old.ways at) (λ way. bytes.new.items ≡ way.down) }
+    {
+        let way = &mut self.ways[at];
+        way.down.swap(bytes);
+    }
+
+    /// The connection is lost, if it holds one. What is under way on it stays.
+    pub fn abandon(&mut self)
+        ensures { self.new ≡ record self.old { core = gone self.old.core } }
+    {
+        self.core.lost();
+        self.holds = false;
+    }
+}

@@ -1,0 +1,46 @@
+// What becomes of what a client writes.
+
+ghost use Rattle.std.specs.Prelude.{◌≡◌, ◌<◌, true, length, OnOk, OnErr, IsErrOf};
+ghost use Rattle.world_pipes.specs.Inside.{MovesUp, SendsUp};
+
+use crate::way::Way;
+use client::{ClientCore, ClientError};
+
+/// What became of what a call wrote.
+#[derive(Clone, Copy, Debug, PartialEq, Eq)]
+pub enum Sending {
+    /// It is under way on the newest connection.
+    Sent,
+    /// It found no memory, and the connection is lost.
+    Lost,
+}
+
+/// What a client wrote goes up on its newest connection, while it holds that; where memory is wanting the connection is
+/// lost.
+pub(crate) fn send_up(core: &mut ClientCore, ways: &mut Vec<Way>, holds: &mut bool) -> Sending
+    requires { holds.old ≡ true → 0 < length ways.old.items }
+    ensures { SendsUp holds.old core.old ways.old.items result holds.new core.new ways.new.items }
+{
+    if !*holds {
+        return Sending::Sent;
+    }
+    if move_up(core, ways).is_ok() {
+        return Sending::Sent;
+    }
+    core.lost();
+    *holds = false;
+    Sending::Lost
+}
+
+/// What a client wrote goes up on its newest connection. Where memory is wanting nothing changes.
+pub(crate) fn move_up(core: &mut ClientCore, ways: &mut Vec<Way>) -> Result<(), ClientError>
+    requires { 0 < length ways.old.items }
+    ensures ok { OnOk result (MovesUp core.old ways.old.items core.new ways.new.items) }
+    ensures memory { OnErr result (IsErrOf result ClientError.Memory) }
+    ensures same { OnErr result (core.new ≡ core.old) }
+    ensures err { OnErr result (ways.new.items ≡ ways.old.items) }
+{
+    let newest = ways.len() - 1;
+    let way = &mut ways[newest];
+    way.up.follow(core)
+}

@@ -1,0 +1,35 @@
+// One connection of a client.
+
+ghost use Rattle.std.specs.Prelude.{◌≡◌};
+ghost use Rattle.world_pipes.specs.Piped.{new_way};
+
+use crate::bytes_under_way::BytesUnderWay;
+use std::alloc::Global;
+use world_base::Port;
+
+/// Where a connection leads, and the bytes under way on it.
+#[derive(Drop)]
+pub struct Way {
+    /// The place of its node among the nodes, from 0.
+    pub node: usize,
+    /// By which the node knows it.
+    pub port: Port,
+    /// What the client wrote and the node did not get yet.
+    pub up: BytesUnderWay,
+    /// What the node handed over and the client did not get yet.
+    pub down: BytesUnderWay,
+}
+
+impl Way {
+    /// A connection on which nothing is under way.
+    pub fn new(alloc: Global, node: usize, port: Port) -> Way
+        ensures { result ≡ new_way node port }
+    {
+        Way {
+            node,
+            port,
+            up: BytesUnderWay::new(alloc),
+            down: BytesUnderWay::new(alloc),
+        }
+    }
+}
