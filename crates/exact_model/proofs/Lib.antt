@@ -16,3 +16,7 @@ pub mod CommandsFit
 pub mod NextAnswer
 pub mod ClientsGo
 pub mod WorldsExact
+pub mod RowGoes
+pub mod ServedNode
+pub mod ClientServed
+pub mod PublicationAccepted
