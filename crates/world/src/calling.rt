@@ -3,15 +3,14 @@
 ghost use Rattle.std.specs.Prelude.{◌≡◌, OnErr};
 ghost use Rattle.world.specs.Goes.{NodesGoOn};
 
-use crate::piped_client::Sending;
 use crate::place::Place;
 use crate::world::World;
-use client::ClientError;
 use packet::{ClientId, QoS};
 use session_base::Publication;
 use topics::Filter;
 use world_base::Port;
 use world_nodes::Idle;
+use world_pipes::{ClientError, Sending};
 
 impl World {
     pub(crate) fn open(&mut self, client: &ClientId, node: u8) -> Result<(), Idle>

@@ -1,14 +1,14 @@
 // What nodes do in a world, and what is carried on connections.
 
-ghost use Rattle.std.specs.Prelude.{◌≡◌, ◌≤◌, true, OnErr};
+ghost use Rattle.std.specs.Prelude.{◌≡◌, ◌<◌, ◌≤◌, true, length, OnErr};
 ghost use Rattle.world.specs.Goes.{NodesGoOn};
 
 use crate::place::Place;
 use crate::world::{World, WorldClient};
-use client::ClientError;
 use std::alloc::Global;
 use world_base::{Config, Handed, Port};
 use world_nodes::{Idle, Nodes};
+use world_pipes::{ClientError, PipedClient};
 
 impl World {
     pub(crate) fn deliver(&mut self, number: u64) -> Result<(), Idle>
@@ -89,6 +89,9 @@ impl World {
         let Some(client) = self.clients.get_mut(place.client) else {
             return Err(Idle);
         };
+        if place.at >= client.piped.len() {
+            return Err(Idle);
+        }
         let waiting = client.piped.up(place.at);
         if !is_part(count, waiting.len()) {
             return Err(Idle);
@@ -110,14 +113,10 @@ impl World {
         let Some(client) = self.clients.get_mut(place.client) else {
             return Err(Idle);
         };
-        let piped = &mut client.piped;
-        let waiting = piped.down(place.at).len();
-        let newest = place.at.saturating_add(1) == piped.len();
-        if !piped.is_open() || !newest || !is_part(count, waiting) {
-            return Err(Idle);
-        }
-        if piped.hear(count as usize) == Err(ClientError::Memory) {
-            self.wanting = true;
+        match hear_on(&mut client.piped, place.at, count) {
+            Ok(true) => {}
+            Ok(false) => self.wanting = true,
+            Err(_) => return Err(Idle),
         }
         Ok(())
     }
@@ -220,12 +219,52 @@ fn gather_on(
     let Some(client) = clients.get_mut(place.client) else {
         return false;
     };
+    if place.at >= client.piped.len() {
+        return false;
+    }
+    let at = place.at;
+    place.is_open = hand_on(
+        alloc,
+        nodes,
+        &mut client.piped,
+        at,
+        place.node,
+        Port(number),
+    );
+    place.is_open
+}
+
+// What a node put out for a port goes on its way down on a connection. Whether its end is open is the result.
+fn hand_on(
+    alloc: Global,
+    nodes: &mut Nodes,
+    piped: &mut PipedClient,
+    at: usize,
+    node: u8,
+    port: Port,
+) -> bool
+    requires { at < length piped.old.ways }
+    ensures { NodesGoOn nodes.old nodes.new }
+{
     let mut bytes = Vec::new(alloc);
-    client.piped.swap_down(place.at, &mut bytes);
-    let is_open = hands_on(nodes, place.node, Port(number), &mut bytes);
-    client.piped.swap_down(place.at, &mut bytes);
-    place.is_open = is_open;
+    piped.swap_down(at, &mut bytes);
+    let is_open = hands_on(nodes, node, port, &mut bytes);
+    piped.swap_down(at, &mut bytes);
     is_open
+}
+
+// The first so many bytes that wait on a connection come to its client, where it holds that. Whether there was memory is the
+// result.
+fn hear_on(piped: &mut PipedClient, at: usize, count: u64) -> Result<bool, Idle>
+    ensures { OnErr result (piped.new ≡ piped.old) }
+{
+    if !piped.is_open() || at >= piped.len() || at != piped.len() - 1 {
+        return Err(Idle);
+    }
+    if !is_part(count, piped.down(at).len()) {
+        return Err(Idle);
+    }
+    Ok(piped.hear(count as usize) != Err(ClientError::Memory))
 }
 
 // What a node put out for a port is handed over. Whether its end is open is the result.

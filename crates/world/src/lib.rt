@@ -4,7 +4,6 @@
 mod calling;
 mod carrying;
 mod event;
-mod piped_client;
 mod place;
 mod world;
 
@@ -12,3 +11,4 @@ pub use event::Event;
 pub use world::World;
 pub use world_base::{Config, Members, Memory, OpeningError};
 pub use world_nodes::Idle;
+pub use world_pipes::{Accepted, ClientCore};

@@ -5,14 +5,13 @@ ghost use Rattle.agreement.specs.World.{can_open};
 ghost use Rattle.world.specs.Goes.{AreReached, LosesNothing, NodesGoOn, StaysReached, WorldGoesOn};
 
 use crate::event::Event;
-use crate::piped_client::PipedClient;
 use crate::place::Place;
-use client::ClientCore;
 use packet::ClientId;
 use std::alloc::Global;
 use std::marker::Model;
 use world_base::{Config, Memory, OpeningError};
 use world_nodes::{Idle, Nodes};
+use world_pipes::{ClientCore, PipedClient};
 
 /// A client of a world by its identifier.
 #[derive(Drop)]
@@ -183,15 +182,15 @@ impl World {
     // What waits upwards, and downwards.
     fn clients_up(&self, place: Place) -> &[u8] {
         match self.clients.get(place.client) {
-            Some(found) => found.piped.up(place.at),
-            None => &[],
+            Some(found) if place.at < found.piped.len() => found.piped.up(place.at),
+            _ => &[],
         }
     }
 
     fn clients_down(&self, place: Place) -> &[u8] {
         match self.clients.get(place.client) {
-            Some(found) => found.piped.down(place.at),
-            None => &[],
+            Some(found) if place.at < found.piped.len() => found.piped.down(place.at),
+            _ => &[],
         }
     }
 

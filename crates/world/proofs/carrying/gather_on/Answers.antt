@@ -10,3 +10,6 @@ returns-in_default c = nodes_rest _ _ refl
 
 pub returns-in_default-get_mut : goal.returns-in_default-get_mut
 returns-in_default-get_mut c = nodes_rest _ _ refl
+
+pub returns-then-place-len : goal.returns-then-place-len
+returns-then-place-len c = nodes_rest _ _ refl

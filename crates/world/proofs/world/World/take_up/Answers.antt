@@ -15,3 +15,6 @@ returns-in_err-take-clause-nodes c =
 pub returns-clause-nodes : goal.returns-clause-nodes
 returns-clause-nodes c =
     rw (← c.self.view_is) (by_call c.take.result c.self.inside.nodes c.take.new.self _ _ c.take.ensures.rises c.take.ensures.goes c.take.ensures.same)
+
+pub returns-then-place-len-clause-nodes : goal.returns-then-place-len-clause-nodes
+returns-then-place-len-clause-nodes c = rw (← c.self.view_is) (nodes_rest _ _ refl)
