@@ -5,3 +5,6 @@ pub mod StepsInWorlds
 pub mod Renamed
 pub mod Spellable
 pub mod PacketsHandled
+pub mod Ways
+pub mod HearingFollows
+pub mod ConnectingFollows

@@ -3,3 +3,4 @@ pub mod Held
 pub mod Inside
 pub mod Standing
 pub mod Goes
+pub mod Following

@@ -2,6 +2,7 @@
 
 ghost use Rattle.std.specs.Prelude.{◌≡◌, false};
 ghost use Rattle.client_base.specs.Steps.{Call, keeper_step};
+ghost use Rattle.world_pipes.specs.Following.{ConnectingFollows};
 ghost use Rattle.world_pipes.specs.Piped.{Connects, TakesLeave, is_holding};
 
 use crate::piped_client::PipedClient;
@@ -14,6 +15,15 @@ impl PipedClient {
     /// Opens a connection to the node at this place, which is to know it by this port: CONNECT is under way on it. It
     /// is not open before. `Memory` is the only error, and then there is no new connection.
     pub fn open(&mut self, node: usize, port: Port) -> Result<(), ClientError>
+        requires { is_holding self.old ≡ false }
+        ensures opens { Connects node port (keeper_step Call.Opens self.old.core.state) self.old result self.new }
+        ensures goes { ConnectingFollows node port self.old result self.new }
+    {
+        self.connect(node, port)
+    }
+
+    // Opens a connection that is not open before.
+    fn connect(&mut self, node: usize, port: Port) -> Result<(), ClientError>
         requires { is_holding self.old ≡ false }
         ensures { Connects node port (keeper_step Call.Opens self.old.core.state) self.old result self.new }
     {

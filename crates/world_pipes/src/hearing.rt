@@ -2,6 +2,7 @@
 
 ghost use Rattle.std.specs.Prelude.{◌≡◌, ◌≤◌, ◌<◌, ◌-◌, true, length, slice_get, IfSome};
 ghost use Rattle.world_pipes.specs.Piped.{Hears, is_holding, piped};
+ghost use Rattle.world_pipes.specs.Following.{FollowsAll};
 ghost use Rattle.world_pipes.specs.Inside.{TakesIn, stays_open};
 
 use crate::piped_client::PipedClient;
@@ -17,7 +18,8 @@ impl PipedClient {
         requires open { is_holding self.old ≡ true }
         requires count { IfSome (slice_get self.old.ways (length self.old.ways - 1))
             (λ way. count ≤ length way.down) }
-        ensures { Hears count self.old result self.new }
+        ensures hears { Hears count self.old result self.new }
+        ensures goes { FollowsAll self.old self.new }
     {
         let answer = hear_on(&mut self.core, &mut self.ways, count);
         self.holds = stays_open(answer);

@@ -2,7 +2,10 @@
 
 ghost use Rattle.std.specs.Prelude.{◌≡◌, ◌<◌, ◌≤◌, drop, length, set, slice_get, IfSome};
 ghost use Rattle.client.specs.Core.{gone};
+ghost use Rattle.world_model.specs.World.{new_client};
+ghost use Rattle.world_pipes.specs.Following.{FollowsLosing};
 ghost use Rattle.world_pipes.specs.Piped.{is_holding, new_piped};
+ghost use Rattle.world_pipes.specs.Standing.{StandsFor};
 
 use crate::way::Way;
 use client::ClientCore;
@@ -36,8 +39,10 @@ impl Model for PipedClient {
 impl PipedClient {
     /// A client of this identifier that was never connected. Its keep alive is 0.
     pub fn new(alloc: Global, client: ClientId) -> PipedClient
-        ensures { result ≡ new_piped client }
+        ensures new { result ≡ new_piped client }
+        ensures stands { StandsFor result (new_client client) }
     {
+        let _known = client.as_str();
         PipedClient {
             alloc,
             core: ClientCore::new(alloc, client, 0),
@@ -116,7 +121,8 @@ impl PipedClient {
 
     /// The connection is lost, if it holds one. What is under way on it stays.
     pub fn abandon(&mut self)
-        ensures { self.new ≡ record self.old { core = gone self.old.core } }
+        ensures lost { self.new ≡ record self.old { core = gone self.old.core } }
+        ensures goes { FollowsLosing self.old self.new }
     {
         self.core.lost();
         self.holds = false;

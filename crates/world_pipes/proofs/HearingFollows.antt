@@ -1,0 +1,217 @@
+-- HearingFollows.antt: what comes to a client takes it where the model's may go.
+use Rattle.std.proofs.Common.{◌≡◌, ℕ, suc, true, false, ◌⊎◌, inl, inr, List, [], ◌∷◌, ◌++◌, length, take, drop, reverse, set, slice_get, Result, Ok, Err, refl, ap, sym, subst, ◌∙◌, arith}
+use Rattle.std.proofs.lemmas.Bool.{both_ways}
+use Rattle.std.proofs.lemmas.List.{append-nil, take-append-drop}
+use Rattle.cutter.specs.Stream.{Stream}
+use Rattle.client_base.specs.declared.error.ClientError.{ClientError}
+use Rattle.client_base.specs.declared.error.ClientError.TheVariants as errors
+use Rattle.client_base.specs.declared.stage.Stage.{Stage}
+use Rattle.client_base.specs.declared.stage.Stage.TheVariants as stages
+use Rattle.client_base.specs.State.{is_open}
+use Rattle.client_base.specs.History as history
+use Rattle.client_base.proofs.FollowsHandled.{lost_stands}
+use Rattle.client.specs.Core.{Core, gone}
+use Rattle.client.specs.Reading.{EndsWith, Handles, OnBytes, fed}
+use Rattle.story.specs.Sides.{Connection}
+use Rattle.world_model.specs.World.{ClientPipes, Pipe, with_pipe}
+use Rattle.world_pipes.specs.declared.way.Way.{Way}
+use Rattle.world_pipes.specs.Following.{Follows, HearingFollows, after_losing}
+use Rattle.world_pipes.specs.Goes.{ClientGoes, ClientStep}
+use Rattle.world_pipes.specs.Piped.{Hears, Piped, broken, come_down, piped, sent_up}
+use Rattle.world_pipes.specs.Standing.{AreWays, CanGoOut, IsWay, StandsFor}
+use Rattle.world_pipes.proofs.PacketsHandled.{GoFar, IsInMidst, all_go, one_goes}
+use Rattle.world_pipes.proofs.StaysOpen.{handled_stays}
+use Rattle.world_pipes.proofs.Ways.{last_same, losing, lost_fits, newest_way, same_pipes, with_newest}
+
+-- ---- behind a piece
+
+-- As in the midst of it, but that the connection may be lost.
+pub record IsLeft (before : List ℕ) (core : Core) (m : ClientPipes) (others : List Connection) (p₀ : Pipe) (further : List Pipe) : Type 0 where
+  pub keeper : history.StandsFor m.keeper core.state
+  pub fits : CanGoOut core.state
+  pub connection : Connection
+  pub connections : m.connections ≡ connection ∷ others
+  pub pipe : Pipe
+  pub pipes : m.pipes ≡ pipe ∷ further
+  pub leads : (pipe.node ≡ p₀.node) × (pipe.port ≡ p₀.port) × (pipe.down ≡ p₀.down)
+  pub up : pipe.up ≡ before ++ core.out
+  pub came : is_open core.state.stage ≡ true → pipe.came ≡ core.unread
+
+record Leaves (before : List ℕ) (core : Core) (m : ClientPipes) (others : List Connection) (p₀ : Pipe) (further : List Pipe) : Type 0 where
+  pub last : ClientPipes
+  pub steps : ClientGoes m last
+  pub left : IsLeft before core last others p₀ further
+
+left_so : (before : List ℕ) (core : Core) (m : ClientPipes) (others : List Connection) (p₀ : Pipe) (further : List Pipe) →
+    IsInMidst before core m others p₀ further → IsLeft before core m others p₀ further
+left_so before core m others p₀ further s =
+    record {
+      keeper = s.keeper;
+      fits = s.fits;
+      connection = s.connection;
+      connections = s.connections;
+      pipe = s.pipe;
+      pipes = s.pipes;
+      leads = s.leads;
+      up = s.up;
+      came = λ on. s.came;
+    }
+
+pub left_lost : (before : List ℕ) (core : Core) (m : ClientPipes) (others : List Connection) (p₀ : Pipe) (further : List Pipe) →
+    IsLeft before core m others p₀ further → IsLeft before (gone core) (after_losing m) others p₀ further
+left_lost before core m others p₀ further s =
+    record {
+      keeper = lost_stands m.keeper core.state s.keeper;
+      fits = lost_fits core s.fits;
+      connection = s.connection;
+      connections = s.connections;
+      pipe = s.pipe;
+      pipes = same_pipes m ∙ s.pipes;
+      leads = s.leads;
+      up = s.up;
+      came = λ on. absurd (both_ways false refl on);
+    }
+
+lose : (before : List ℕ) (core new : Core) (m : ClientPipes) (others : List Connection) (p₀ : Pipe) (further : List Pipe) →
+    new ≡ gone core → Leaves before core m others p₀ further → Leaves before new m others p₀ further
+lose before core new m others p₀ further is l =
+    record {
+      last = after_losing l.last;
+      steps = ClientGoes.goes_on l.steps (losing l.last);
+      left = subst (λ c. IsLeft before c (after_losing l.last) others p₀ further) (sym is) (left_lost before core l.last others p₀ further l.left);
+    }
+
+ends : (before : List ℕ) (last new : Core) (m : ClientPipes) (others : List Connection) (p₀ : Pipe) (further : List Pipe) (read : Result (Unit {0}) ClientError) →
+    is_open last.state.stage ≡ true → GoFar before last m others p₀ further → EndsWith last read new → Leaves before new m others p₀ further
+ends before last new m others p₀ further read up far end = by read end
+  where
+    kept : Leaves before last m others p₀ further
+    kept = record { last = far.last; steps = far.steps; left = left_so before last far.last others p₀ further far.stands }
+
+    by : (read : Result (Unit {0}) ClientError) → EndsWith last read new → Leaves before new m others p₀ further
+    by (Ok done) end = subst (λ c. Leaves before c m others p₀ further) (sym end.1) kept
+    by (Err errors.SessionLost) end =
+        let one = one_goes before last end.1 new far.last others p₀ further end.0 up far.stands end.2 end.4 in
+        record { last = one.next; steps = ClientGoes.goes_on far.steps one.step; left = left_so before new one.next others p₀ further one.stands }
+    by (Err errors.Memory) end = lose before last new m others p₀ further end kept
+    by (Err errors.NotActive) end = lose before last new m others p₀ further end.1 kept
+    by (Err errors.WindowFull) end = lose before last new m others p₀ further end.1 kept
+    by (Err errors.TooLarge) end = lose before last new m others p₀ further end.1 kept
+    by (Err errors.Protocol) end = lose before last new m others p₀ further end.1 kept
+    by (Err (errors.Malformed kind)) end = lose before last new m others p₀ further end.1 kept
+
+-- what a piece makes of an open client
+record HasRead (piece : List ℕ) (old : Core) (read : Result (Unit {0}) ClientError) (new : Core) : Type 0 where
+  pub last : Core
+  pub handled : Handles (fed piece old) last
+  pub ends : EndsWith last read new
+
+has_read : (piece : List ℕ) (stage : Stage) (old new : Core) (read : Result (Unit {0}) ClientError) → is_open stage ≡ true → OnBytes piece stage old read new →
+    HasRead piece old read new
+has_read piece stages.Closed old new read up heard = absurd (both_ways false refl up)
+has_read piece stages.Opened old new read up heard = record { last = heard.0; handled = heard.1; ends = heard.2 }
+has_read piece stages.Online old new read up heard = record { last = heard.0; handled = heard.1; ends = heard.2 }
+
+-- ---- behind the call
+
+pub way_up : (older : List Way) (way : Way) (before : List ℕ) (core : Core) (m : ClientPipes) (others : List Connection) (p₀ : Pipe) (further : List Pipe) (up rest : List ℕ) →
+    (l : IsLeft before core m others p₀ further) → p₀.node ≡ way.node → p₀.port ≡ way.port → p₀.down ≡ way.down → before ++ core.out ≡ up ++ rest →
+    IsWay (record way { up = up }) l.pipe
+way_up older way before core m others p₀ further up rest l node port down is =
+    record { node = l.leads.0 ∙ node; port = l.leads.1 ∙ port; up = record { rest = rest; is = l.up ∙ is }; down = l.leads.2 ∙ down }
+
+pub finished : (older : List Way) (way : Way) (before : List ℕ) (core shown : Core) (m : ClientPipes) (others : List Connection) (p₀ : Pipe) (further : List Pipe) (up rest : List ℕ) →
+    (l : IsLeft before core m others p₀ further) → shown.state ≡ core.state → length others ≡ length further → AreWays (reverse older) further →
+    IsWay (record way { up = up }) l.pipe →
+    (is_open core.state.stage ≡ true → (l.pipe.up ≡ up) × (shown.out ≡ []) × (shown.unread ≡ core.unread)) →
+    StandsFor (piped shown (older ++ record way { up = up } ∷ [])) m
+finished older way before core shown m others p₀ further up rest l same many ways one on =
+    record {
+      keeper = subst (history.StandsFor m.keeper) (sym same) l.keeper;
+      fits = subst CanGoOut (sym same) l.fits;
+      many = ap length l.connections ∙ ap suc many ∙ sym (ap length l.pipes);
+      ways = subst (AreWays (reverse (older ++ record way { up = up } ∷ []))) (sym l.pipes) (with_newest older (record way { up = up }) further l.pipe one ways);
+      held = λ open-now.
+          let opened : is_open core.state.stage ≡ true = ap (λ state. is_open state.stage) (sym same) ∙ open-now in
+          record {
+            connection = l.connection;
+            others = others;
+            connections = l.connections;
+            pipe = l.pipe;
+            further = further;
+            pipes = l.pipes;
+            older = older;
+            way = record way { up = up };
+            ways = refl;
+            up = (on opened).0;
+            came = l.came opened ∙ sym (on opened).2;
+            sent = (on opened).1;
+          };
+    }
+
+-- ---- the whole call
+
+first_then : {c d e : ClientPipes} → ClientStep c d → ClientGoes d e → ClientGoes c e
+first_then step ClientGoes.stays = ClientGoes.goes_on ClientGoes.stays step
+first_then step (ClientGoes.goes_on goes later) = ClientGoes.goes_on (first_then step goes) later
+
+pub hearing_follows : HearingFollows
+hearing_follows count old new result m s up h =
+    let held = s.held up in
+    let p = held.pipe in
+    let others = held.others in
+    let further = held.further in
+    let same : h.way ≡ held.way = last_same h.older held.older h.way held.way (sym h.newest ∙ held.ways) in
+    let ways = newest_way old.ways h.older h.way m.pipes further p h.newest held.pipes s.ways in
+    let piece = take count h.way.down in
+    let rest = drop count h.way.down in
+    let p₁ : Pipe = record p { down = rest; came = record p.came { held = p.came.held ++ piece } } in
+    let m₁ : ClientPipes = with_pipe 0 p₁ m in
+    let counted : suc (length others) ≡ suc (length further) = sym (ap length held.connections) ∙ s.many ∙ ap length held.pipes in
+    let many : length others ≡ length further = omega (arith, counted) in
+    let coming : ClientStep m m₁ =
+    ClientStep.arrives 0 held.connection p piece rest (ap (λ l. slice_get l 0) held.connections) (ap (λ l. slice_get l 0) held.pipes)
+    (ways.0.down ∙ sym (take-append-drop count h.way.down)) in
+    let start : IsInMidst h.way.up (fed piece old.core) m₁ others p₁ further =
+    record {
+      keeper = s.keeper;
+      fits = s.fits;
+      connection = held.connection;
+      connections = held.connections;
+      pipe = p₁;
+      pipes = ap (λ l. set l 0 p₁) held.pipes;
+      leads = (refl, refl, refl);
+      up = held.up ∙ ap (λ (way : Way). way.up) (sym same) ∙ sym (append-nil h.way.up) ∙ ap (λ l. h.way.up ++ l) (sym held.sent);
+      came = ap (λ (c : Stream). record c { held = c.held ++ piece }) held.came;
+    } in
+    let r = has_read piece old.core.state.stage old.core h.core h.read up h.heard in
+    let l = ends h.way.up r.last h.core m₁ others p₁ further h.read (handled_stays (fed piece old.core) r.last r.handled up)
+    (all_go h.way.up (fed piece old.core) r.last m₁ others p₁ further up start r.handled) r.ends in
+    shown count old new result m h others further p₁ m₁ many ways.1 ways.0.node ways.0.port refl coming l h.goes_up
+  where
+    shown : (count : ℕ) (old new : Piped) (result : Result (Unit {0}) ClientError) (m : ClientPipes) (h : Hears count old result new) (others : List Connection)
+        (further : List Pipe) (p₁ : Pipe) (m₁ : ClientPipes) → length others ≡ length further → AreWays (reverse h.older) further → p₁.node ≡ h.way.node →
+        p₁.port ≡ h.way.port → p₁.down ≡ drop count h.way.down → ClientStep m m₁ → Leaves h.way.up h.core m₁ others p₁ further →
+        ((result ≡ h.read) × (new ≡ sent_up h.core h.older (come_down count h.way)))
+        ⊎ ((result ≡ Err errors.Memory) × (new ≡ broken h.core (h.older ++ come_down count h.way ∷ []))) → Follows m new
+    shown count old new result m h others further p₁ m₁ many ways node port down coming l (inl end) =
+        let up = h.way.up ++ h.core.out in
+        record {
+          next = l.last;
+          goes = first_then coming l.steps;
+          stands = subst (λ q. StandsFor q l.last) (sym end.1)
+              (finished h.older (come_down count h.way) h.way.up h.core (record h.core { out = [] }) l.last others p₁ further up [] l.left refl many ways
+              (way_up h.older (come_down count h.way) h.way.up h.core l.last others p₁ further up [] l.left node port down (sym (append-nil up)))
+              (λ on. (l.left.up, refl, refl)));
+        }
+    shown count old new result m h others further p₁ m₁ many ways node port down coming l (inr end) =
+        let gone-now = lose h.way.up h.core (gone h.core) m₁ others p₁ further refl l in
+        record {
+          next = gone-now.last;
+          goes = first_then coming gone-now.steps;
+          stands = subst (λ q. StandsFor q gone-now.last) (sym end.1)
+              (finished h.older (come_down count h.way) h.way.up (gone h.core) (gone h.core) gone-now.last others p₁ further h.way.up h.core.out gone-now.left
+              refl many ways
+              (way_up h.older (come_down count h.way) h.way.up (gone h.core) gone-now.last others p₁ further h.way.up h.core.out gone-now.left node port down refl)
+              (λ on. absurd (both_ways false refl on)));
+        }

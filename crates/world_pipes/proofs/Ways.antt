@@ -1,0 +1,73 @@
+-- Ways.antt: connections and the model's, the newest of them apart.
+use Rattle.std.proofs.Common.{◌≡◌, List, [], ◌∷◌, ◌++◌, length, false, reverse, refl, ap, sym, subst, ◌∙◌, slice_index_or, ◌-◌}
+use Rattle.std.proofs.lemmas.List.{append-nil, reverse-append}
+use Rattle.std.proofs.lemmas.Bool.{both_ways}
+use Rattle.lists.specs.Lists.{Each}
+use Rattle.packet.specs.Spelling.{IsPacket}
+use Rattle.client_base.specs.Handled.{lost}
+use Rattle.client_base.proofs.FollowsHandled.{lost_stands}
+use Rattle.client.specs.Core.{Core, gone}
+use Rattle.story.specs.Sides.{Connection}
+use Rattle.story.specs.Story.{Happens}
+use Rattle.world_model.specs.World.{ClientPipes, Pipe, newly_written, sent_up}
+use Rattle.world_model.proofs.OnTheWay.{newly_is}
+use Rattle.world_pipes.specs.declared.way.Way.{Way}
+use Rattle.world_pipes.specs.Following.{FollowsLosing, after_losing}
+use Rattle.world_pipes.specs.Goes.{ClientGoes, ClientStep}
+use Rattle.world_pipes.specs.Piped.{Piped, piped}
+use Rattle.world_pipes.specs.Standing.{AreWays, CanGoOut, IsWay}
+use Rattle.world_pipes.proofs.Newest.{last_index}
+
+-- ---- the newest
+
+pub last_same : {X : Type 0} (older others : List X) (x y : X) → older ++ x ∷ [] ≡ others ++ y ∷ [] → x ≡ y
+last_same older others x y e =
+    sym (last_index older x x) ∙ ap (λ xs. slice_index_or xs (length xs - 1) x) e ∙ last_index others y x
+
+pub newest_way : (ways older : List Way) (way : Way) (pipes further : List Pipe) (p : Pipe) → ways ≡ older ++ way ∷ [] → pipes ≡ p ∷ further →
+    AreWays (reverse ways) pipes → IsWay way p × AreWays (reverse older) further
+newest_way ways older way pipes further p splits is are =
+    subst (λ all. AreWays all (p ∷ further)) (ap reverse splits ∙ reverse-append older (way ∷ [])) (subst (AreWays (reverse ways)) is are)
+
+pub with_newest : (older : List Way) (way : Way) (further : List Pipe) (p : Pipe) → IsWay way p → AreWays (reverse older) further →
+    AreWays (reverse (older ++ way ∷ [])) (p ∷ further)
+with_newest older way further p one others =
+    subst (λ all. AreWays all (p ∷ further)) (sym (reverse-append older (way ∷ []))) (one, others)
+
+-- ---- nothing is written
+
+none_newly : (connections : List Connection) → newly_written connections connections ≡ []
+none_newly [] = refl
+none_newly (κ ∷ others) = newly_is κ κ others others [] (sym (append-nil κ.written))
+
+none_sent : (pipes : List Pipe) → sent_up [] pipes ≡ pipes
+none_sent [] = refl
+none_sent (p ∷ pipes) = ap (λ u. record p { up = u } ∷ pipes) (append-nil p.up)
+
+pub same_pipes : (m : ClientPipes) → sent_up (newly_written m.connections m.connections) m.pipes ≡ m.pipes
+same_pipes m = ap (λ l. sent_up l m.pipes) (none_newly m.connections) ∙ none_sent m.pipes
+
+-- ---- a lost connection
+
+pub losing : (m : ClientPipes) → ClientStep m (after_losing m)
+losing m =
+    ClientStep.calls (record { past = []; connections = m.connections; keeper = lost m.keeper }) Happens.loses refl
+    (subst (Each IsPacket) (sym (none_newly m.connections)) tt)
+
+pub losing_goes : (m : ClientPipes) → ClientGoes m (after_losing m)
+losing_goes m = ClientGoes.goes_on ClientGoes.stays (losing m)
+
+pub lost_fits : (core : Core) → CanGoOut core.state → CanGoOut (gone core).state
+lost_fits core fits = record { keep_alive = fits.keep_alive; client = fits.client; released = fits.released; sent = fits.sent; unsent = fits.unsent }
+
+pub losing_follows : (old : Piped) → FollowsLosing old (piped (gone old.core) old.ways)
+losing_follows old m s = (
+  record {
+    keeper = lost_stands m.keeper old.core.state s.keeper;
+    fits = lost_fits old.core s.fits;
+    many = s.many ∙ ap length (sym (same_pipes m));
+    ways = subst (AreWays (reverse old.ways)) (sym (same_pipes m)) s.ways;
+    held = λ up. absurd (both_ways false refl up);
+  },
+  losing_goes m,
+)
