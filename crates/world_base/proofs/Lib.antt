@@ -20,6 +20,5 @@ mod ProposalsAreSteps
 mod Proposes
 mod Settles
 mod Silences
-mod Spelled
 mod TurnsJoin
 mod Repeats

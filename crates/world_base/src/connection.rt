@@ -10,11 +10,11 @@ ghost use Rattle.world_base.specs.Reading.{refused};
 use crate::front::Front;
 use crate::handed::Handed;
 use crate::item::Port;
-use crate::piece::Piece;
 use crate::unread::Unread;
 use ballot::Memory;
 use broker_model::ConnectionId;
 use packet::{Connack, Packet, RefusalCode};
+use piece::Piece;
 use std::alloc::Global;
 
 /// How many bytes may wait to be handed over on one connection: more than a client is sent again.

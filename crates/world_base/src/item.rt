@@ -1,8 +1,8 @@
 // What a node takes in.
 
-use crate::piece::Piece;
 use ballot::Message;
 use broker_model::Command;
+use piece::Piece;
 
 /// The number by which a node knows a stream of bytes from and to a client. A number may be used
 /// again once its connection is over and all that was put out for it was handed over.

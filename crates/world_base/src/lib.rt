@@ -12,7 +12,6 @@ mod item;
 mod laws;
 mod listing;
 mod node_core;
-mod piece;
 mod serving;
 mod taking;
 mod unread;

@@ -17,11 +17,11 @@ ghost use Rattle.world_base.specs.Turns.{changes_named};
 use crate::connection::Connection;
 use crate::item::Port;
 use crate::listing::{close_each, has_port, keep_listed, lowest_silent, push};
-use crate::piece::Piece;
 use ballot::{Config, OpeningError, Replica, Status};
 use broker::BrokerMachine;
 use broker_model::ConnectionId;
 use packet::{Packet, RefusalCode};
+use piece::Piece;
 use std::alloc::Global;
 use std::marker::Model;
 

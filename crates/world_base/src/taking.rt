@@ -19,11 +19,11 @@ ghost use Rattle.world_base.specs.Turns.{proposes, quiet};
 use crate::connection::Stage;
 use crate::front::Front;
 use crate::item::{Item, Port};
-use crate::piece::Piece;
 use crate::serving::Serving;
 use ballot::Effect;
 use broker_model::{Command, ConnectionId, Output, SizedPacket};
 use packet::{Connect, Packet};
+use piece::Piece;
 
 impl Serving {
     /// Takes an item in, and has the broker hear of each connection that fails in it. Whether memory was

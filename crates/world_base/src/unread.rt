@@ -4,10 +4,10 @@ ghost use Rattle.std.specs.Prelude.{◌≡◌, ◌++◌, [], length, OnErr, OnOk
 ghost use Rattle.world_base.specs.Inside.{Reads};
 
 use crate::front::Front;
-use crate::piece::Piece;
 use ballot::Memory;
 use cutter::{CutError, Cutter};
 use packet::DecodeFault;
+use piece::Piece;
 use std::alloc::Global;
 use std::marker::Model;
 

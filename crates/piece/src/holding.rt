@@ -3,7 +3,7 @@
 ghost use Rattle.std.specs.Prelude.{◌≡◌, ◌==◌, ◌+◌, ◌++◌, true, false, [], length, nat_le, if◌then◌else◌, IfOk, OnErr};
 ghost use Rattle.packet.specs.Spelling.{IsPacket, spelling};
 
-use ballot::Memory;
+use machine::Memory;
 use packet::{Packet, encode, spelling_spells};
 use std::alloc::Global;
 use std::marker::Model;
@@ -56,7 +56,7 @@ impl Piece {
 
     /// Adds the bytes of a packet at the end: whether they were added. They are not where memory is
     /// wanting, and for a packet that has none: one with an empty list, or over the size limit.
-    pub(crate) fn put(&mut self, packet: &Packet) -> bool
+    pub fn put(&mut self, packet: &Packet) -> bool
         ensures whole { result ≡ true → self.new ≡ self.old ++ spelling packet.now }
         ensures packet { result ≡ true → IsPacket packet.now }
         ensures same { result ≡ false → self.new ≡ self.old }
@@ -70,7 +70,7 @@ impl Piece {
 
     /// Adds the bytes of a packet at the end, where there are no more than `most` then: whether they were
     /// added. The only error is want of memory, as in [`Piece::put`].
-    pub(crate) fn put_within(&mut self, packet: &Packet, most: usize) -> Result<bool, Memory>
+    pub fn put_within(&mut self, packet: &Packet, most: usize) -> Result<bool, Memory>
         ensures fits { IfOk result (λ put.
             put ≡ nat_le (length self.old + length (spelling packet.now)) most) }
         ensures ok { IfOk result (λ put.

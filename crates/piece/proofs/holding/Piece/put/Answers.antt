@@ -1,6 +1,6 @@
 use Rattle.std.proofs.Common.{sym, ◌∙◌}
-use Rattle.world_base.proofs.Spelled.{appends_spelling, when_ok}
-use Rattle.world_base.proofs.piece.Piece.put.Goals as goal
+use Rattle.piece.proofs.Spelled.{appends_spelling, when_ok}
+use Rattle.piece.proofs.holding.Piece.put.Goals as goal
 
 pub returns-clause-whole : goal.returns-clause-whole
 returns-clause-whole c = λ is.

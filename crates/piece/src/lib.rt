@@ -1,0 +1,8 @@
+//! Bytes in their order, to which packets are added: what came on a connection at once, and what
+//! waits on it to be handed over.
+#![tactic(auto)]
+
+mod holding;
+
+pub use holding::Piece;
+pub use machine::Memory;
