@@ -1,3 +1,4 @@
+pub mod Report
 pub mod Running
 pub mod State
 pub use Rattle.world_base.specs.Core

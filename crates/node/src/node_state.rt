@@ -1,14 +1,16 @@
 // A node with its inbox.
 
-ghost use Rattle.std.specs.Prelude.{◌≡◌, ◌≤◌, ◌++◌, [], length, take, true, false, IfOk, OnErr, OnOk};
+ghost use Rattle.std.specs.Prelude.{◌≡◌, ◌≤◌, ◌++◌, ◌↔◌, [], length, map, slice_index, take, true, false, All, EachIndex, IfOk, IsTrue, OnErr, OnOk};
 ghost use Rattle.mailbox.specs.Delivery.{items_of};
-ghost use Rattle.mailbox.specs.Ends.{WasEmpty};
+ghost use Rattle.mailbox.specs.Ends.{AreAllLanes, ArrivesWhole, WasEmpty, unmet};
 ghost use Rattle.world_base.specs.Replica.{status_of};
 ghost use Rattle.lists.specs.Lists.{IsPrefixOf};
 ghost use Rattle.world_base.specs.Handing.{answer_of, bytes_of, hands_over, idle_ports, listed_at};
+ghost use Rattle.node.specs.Report.{HasRoom};
 ghost use Rattle.node.specs.State.{Replays, TakesOne};
 
 use crate::naming::NodeNaming;
+use crate::report::Report;
 use mailbox::{Lane, Receiver};
 use std::marker::Model;
 use std::sync::Wait;
@@ -48,6 +50,20 @@ impl<J: NodeNaming> NodeState<J> {
         ensures { result ≡ self.now.taker.inbox }
     {
         self.receiver.number()
+    }
+
+    /// How many lanes its inbox has.
+    pub fn lanes(&self) -> usize
+        ensures { result ≡ self.now.taker.lanes }
+    {
+        self.receiver.lanes()
+    }
+
+    /// Whether these are all lanes of its inbox, in the order of their numbers.
+    pub fn has_all(&self, lanes: &[Lane<Item, J>]) -> bool
+        ensures { IsTrue result ↔ AreAllLanes self.now.taker lanes.now }
+    {
+        self.receiver.has_all(lanes)
     }
 
     /// Takes the item that came first and does the node's step with it: whether there was one. There is
@@ -129,5 +145,39 @@ impl<J: NodeNaming> NodeState<J> {
         ensures { result ≡ self.now.node.losses }
     {
         self.core.losses()
+    }
+
+    /// Ends the node, once its lanes send no more, and tells what became of all that they sent. It takes
+    /// no memory: the report has its room beforehand. `gate_missed` is what it is to say of the gate.
+    pub fn close<R: Wait>(
+        self,
+        rt: &R,
+        lanes: &mut [Lane<Item, J>],
+        room: Report,
+        gate_missed: u64,
+    ) -> Report
+        requires lanes { AreAllLanes self.taker lanes.old }
+        requires room { HasRoom self.taker.lanes room }
+
+        // What was taken and what is left over are, lane by lane and in order, all that was sent.
+        ensures whole { All (ArrivesWhole result.taken.items result.left.items) lanes.new }
+        ensures lanes { map unmet lanes.new ≡ map unmet lanes.old }
+
+        // Of each lane so many items were taken as the node replayed.
+        ensures counted { EachIndex result.taken.items (λ lane.
+            slice_index result.taken.items lane ≡ length (items_of lane self.taker.taken)) }
+        ensures each { length result.taken.items ≡ self.taker.lanes }
+        ensures replays { Replays (J.first_of self.taker.inbox) self.taker.taken self.node }
+
+        ensures gate { result.gate_missed ≡ gate_missed }
+    {
+        let NodeState {
+            mut receiver,
+            core: _core,
+        } = self;
+        let mut report = room;
+        report.gate_missed = gate_missed;
+        receiver.settle(rt, lanes, report.taken.as_mut_slice(), &mut report.left);
+        report
     }
 }

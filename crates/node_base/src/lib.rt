@@ -1,14 +1,16 @@
 //! Reading from and writing to devices that may fail: streams, files, or bytes in memory. Each
 //! device stands in a [`Counted`], which counts its failed calls, so that a fault is told only
-//! where the device had one.
+//! where the device had one. And the gate at which a test holds nodes before they take an item.
 #![tactic(auto)]
 
 mod counted;
+mod gate;
 mod read_outcome;
 #[cfg(test)]
 mod tests;
 mod written;
 
 pub use counted::{Counted, PIECE_BYTES};
+pub use gate::{Gate, NoGate};
 pub use read_outcome::ReadOutcome;
 pub use written::Written;

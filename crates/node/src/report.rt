@@ -1,0 +1,33 @@
+// What became of the items that were sent to a node.
+
+ghost use Rattle.std.specs.Prelude.{IfOk};
+ghost use Rattle.node.specs.Report.{HasRoom};
+
+use mailbox::INBOX_ITEMS;
+use std::alloc::Global;
+use world_base::{Item, Memory};
+
+/// What became of the items that were sent to a node, once it takes no more.
+#[derive(Drop)]
+pub struct Report {
+    /// How many items of each lane the node took.
+    pub taken: Vec<u64>,
+    /// The items that it did not take, in order, each with its lane.
+    pub left: Vec<(u8, Item)>,
+    /// How many times the node went on though its gate had not opened.
+    pub gate_missed: u64,
+}
+
+impl Report {
+    /// A report of nothing, with the room that closing a node takes whose inbox has so many lanes. The
+    /// only error is want of memory.
+    pub fn with_room(alloc: Global, lanes: usize) -> Result<Report, Memory>
+        ensures { IfOk result (λ report. HasRoom lanes report) }
+    {
+        Ok(Report {
+            taken: Vec::from_elem(alloc, 0u64, lanes)?,
+            left: Vec::with_capacity(alloc, INBOX_ITEMS)?,
+            gate_missed: 0,
+        })
+    }
+}
