@@ -8,3 +8,12 @@ pub mod PacketsHandled
 pub mod Ways
 pub mod HearingFollows
 pub mod ConnectingFollows
+pub mod NotRefused
+pub mod CallsSpellable
+pub mod ModelsCalls
+pub mod CallsFollow
+pub mod CallsOffline
+pub mod CallingFollows
+pub mod WaysApart
+pub mod WayChanged
+pub mod LeadsStay

@@ -86,7 +86,7 @@ confirmed_fits present state fits =
 silently : (state : ClientState) → CanGoOut state → AllSpelled (record { state = state; writes = []; refusal = None })
 silently state fits = record { writes = tt; left = fits }
 
-lost_fits : (state : ClientState) → CanGoOut state → CanGoOut (lost state)
+pub lost_fits : (state : ClientState) → CanGoOut state → CanGoOut (lost state)
 lost_fits state fits = record { keep_alive = fits.keep_alive; client = fits.client; released = fits.released; sent = fits.sent; unsent = fits.unsent }
 
 publish_fits : (p : Publish) (delivery : Delivery) (state : ClientState) → Fits (packets.Publish (record p { delivery = delivery })) → CanGoOut state → AllSpelled (on_publish p delivery state)

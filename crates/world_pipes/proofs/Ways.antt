@@ -40,7 +40,7 @@ none_newly : (connections : List Connection) → newly_written connections conne
 none_newly [] = refl
 none_newly (κ ∷ others) = newly_is κ κ others others [] (sym (append-nil κ.written))
 
-none_sent : (pipes : List Pipe) → sent_up [] pipes ≡ pipes
+pub none_sent : (pipes : List Pipe) → sent_up [] pipes ≡ pipes
 none_sent [] = refl
 none_sent (p ∷ pipes) = ap (λ u. record p { up = u } ∷ pipes) (append-nil p.up)
 

@@ -1,16 +1,23 @@
 -- A `PipedClient` goes where clients of worlds may go.
-use Rattle.std.specs.Prelude.{◌≡◌, ℕ, true, false, Result, Ok, Err}
+use Rattle.std.specs.Prelude.{◌≡◌, ◌-◌, ℕ, true, false, List, ◌++◌, length, take, slice_get, IfSome, Some, Result, Ok, Err}
 use Rattle.packet.specs.Spelling.{IsPacket}
 use Rattle.packet.specs.declared.packet.Packet.TheVariants as packets
+use Rattle.broker_base.specs.Commands.{usual_limits}
 use Rattle.broker_base.specs.Connection.{ConnectionName}
 use Rattle.client_base.specs.declared.error.ClientError.{ClientError}
 use Rattle.client_base.specs.Handled.{lost}
+use Rattle.model.specs.Goes.{is_call}
+use Rattle.story.specs.Sides.{Connection}
+use Rattle.story.specs.Story.{Happens, Story}
 use Rattle.world_base.specs.declared.item.Port.{Port}
-use Rattle.world_model.specs.World.{ClientPipes, after_writing}
-use Rattle.world_model.specs.Goes.{after_connecting}
+use Rattle.world_model.specs.World.{ClientPipes, Pipe, after_writing, with_pipe}
+use Rattle.world_model.specs.Goes.{CanBeSpelled, after_connecting, story_alone}
+use Rattle.world_pipes.specs.declared.sending.Sending.{Sending}
+use Rattle.world_pipes.specs.declared.sending.Sending.TheVariants as sendings
+use Rattle.world_pipes.specs.declared.way.Way.{Way}
 use Rattle.world_pipes.specs.Goes.{ClientGoes}
 use Rattle.world_pipes.specs.Piped.{Hears, Piped, is_holding}
-use Rattle.world_pipes.specs.Standing.{StandsFor}
+use Rattle.world_pipes.specs.Standing.{IsWay, StandsFor}
 
 -- the model's client may go to one that this stands for
 pub record Follows (m : ClientPipes) (new : Piped) : Type 0 where
@@ -39,8 +46,56 @@ ConnectingFollows node port old (Ok done) new =
     × IsPacket (packets.Connect (record { client = m.keeper.client; clean = false; keep_alive = 0 }))
 ConnectingFollows node port old (Err cause) new = FollowsAll old new
 
+-- ---- a call
+
+-- one call of the model's client leads to one that this stands for
+pub record FollowsCalling (m : ClientPipes) (new : Piped) : Type 0 where
+  pub story : Story
+  pub call : Happens usual_limits (story_alone m) story
+  pub is_one : is_call call ≡ true
+  pub spelled : CanBeSpelled m.connections story.connections
+  pub stands : StandsFor new (after_writing story.keeper story.connections m)
+
+-- A refusal changes nothing. Where what was written found no memory, the model's client lost its connection behind its call.
+abbrev pub CallingFollows : Piped → Result Sending ClientError → Piped → Type 0
+CallingFollows old (Ok sendings.Sent) new = (m : ClientPipes) → StandsFor old m → FollowsCalling m new
+CallingFollows old (Ok sendings.Lost) new = FollowsAll old new
+CallingFollows old (Err cause) new = new ≡ old
+
 -- ---- hearing: a piece arrives, whole packets are handled, and the connection may be lost
 
 abbrev pub HearingFollows : Type 0
 HearingFollows = (count : ℕ) (old new : Piped) (result : Result (Unit {0}) ClientError) (m : ClientPipes) → StandsFor old m → is_holding old ≡ true →
     Hears count old result new → Follows m new
+
+-- ---- bytes that come to a node, and that go down from it
+
+-- where the model has the connection of this place: its newest is the first
+abbrev pub place_in_model : ℕ → Piped → ℕ
+place_in_model at client = length client.ways - 1 - at
+
+-- the model's connection for this one, with its pipe
+pub record HasWay (at : ℕ) (old : Piped) (way : Way) (m : ClientPipes) : Type 0 where
+  pub connection : Connection
+  pub pipe : Pipe
+  pub connected : slice_get m.connections (place_in_model at old) ≡ Some connection
+  pub piped : slice_get m.pipes (place_in_model at old) ≡ Some pipe
+  pub is_way : IsWay way pipe
+
+-- so many bytes have come up on it
+pub record FollowsUp (count at : ℕ) (old : Piped) (way : Way) (new : Piped) (m : ClientPipes) : Type 0 where
+  pub there : HasWay at old way m
+  pub rest : List ℕ
+  pub up : there.pipe.up ≡ take count way.up ++ rest
+  pub stands : StandsFor new (with_pipe (place_in_model at old) (record there.pipe { up = rest }) m)
+
+abbrev pub TakingUpFollows : ℕ → ℕ → Piped → Piped → Type 0
+TakingUpFollows at count old new = (m : ClientPipes) → StandsFor old m → IfSome (slice_get old.ways at) (λ way. FollowsUp count at old way new m)
+
+-- these bytes are under way down on it
+pub record FollowsDown (bytes : List ℕ) (at : ℕ) (old : Piped) (way : Way) (new : Piped) (m : ClientPipes) : Type 0 where
+  pub there : HasWay at old way m
+  pub stands : StandsFor new (with_pipe (place_in_model at old) (record there.pipe { down = bytes }) m)
+
+abbrev pub SwappingFollows : ℕ → List ℕ → Piped → Piped → Type 0
+SwappingFollows at bytes old new = (m : ClientPipes) → StandsFor old m → IfSome (slice_get old.ways at) (λ way. FollowsDown bytes at old way new m)

@@ -2,7 +2,7 @@
 
 ghost use Rattle.std.specs.Prelude.{◌≡◌, false};
 ghost use Rattle.client_base.specs.Steps.{Call, keeper_step};
-ghost use Rattle.world_pipes.specs.Following.{ConnectingFollows};
+ghost use Rattle.world_pipes.specs.Following.{CallingFollows, ConnectingFollows};
 ghost use Rattle.world_pipes.specs.Piped.{Connects, TakesLeave, is_holding};
 
 use crate::piped_client::PipedClient;
@@ -42,7 +42,8 @@ impl PipedClient {
     /// Ends the connection, with a DISCONNECT where the server has accepted it. `NotActive` comes exactly where there is
     /// none; a refusal, and `Memory`, leave everything as it was.
     pub fn disconnect(&mut self) -> Result<Sending, ClientError>
-        ensures { TakesLeave (keeper_step Call.Disconnects self.old.core.state) self.old result self.new }
+        ensures leaves { TakesLeave (keeper_step Call.Disconnects self.old.core.state) self.old result self.new }
+        ensures goes { CallingFollows self.old result self.new }
     {
         self.core.disconnect()?;
         let sending = send_up(&mut self.core, &mut self.ways, &mut self.holds);

@@ -3,7 +3,7 @@
 ghost use Rattle.std.specs.Prelude.{◌≡◌, ◌<◌, ◌≤◌, drop, length, set, slice_get, IfSome};
 ghost use Rattle.client.specs.Core.{gone};
 ghost use Rattle.world_model.specs.World.{new_client};
-ghost use Rattle.world_pipes.specs.Following.{FollowsLosing};
+ghost use Rattle.world_pipes.specs.Following.{FollowsLosing, SwappingFollows, TakingUpFollows};
 ghost use Rattle.world_pipes.specs.Piped.{is_holding, new_piped};
 ghost use Rattle.world_pipes.specs.Standing.{StandsFor};
 
@@ -101,6 +101,17 @@ impl PipedClient {
     pub fn take_up(&mut self, at: usize, count: usize)
         requires at { at < length self.old.ways }
         requires count { IfSome (slice_get self.old.ways at) (λ way. count ≤ length way.up) }
+        ensures taken { IfSome (slice_get self.old.ways at) (λ way. self.new
+            ≡ record self.old { ways = set self.old.ways at (record way { up = drop count way.up }) }) }
+        ensures goes { TakingUpFollows at count self.old self.new }
+    {
+        self.come_up(at, count);
+    }
+
+    // The first so many bytes that are under way to a node are taken from the front.
+    fn come_up(&mut self, at: usize, count: usize)
+        requires at { at < length self.old.ways }
+        requires count { IfSome (slice_get self.old.ways at) (λ way. count ≤ length way.up) }
         ensures { IfSome (slice_get self.old.ways at) (λ way. self.new
             ≡ record self.old { ways = set self.old.ways at (record way { up = drop count way.up }) }) }
     {
@@ -110,6 +121,17 @@ impl PipedClient {
 
     /// Exchanges what is under way on a connection to the client, so that a node may hand over more behind it.
     pub fn swap_down(&mut self, at: usize, bytes: &mut Vec<u8>)
+        requires { at < length self.old.ways }
+        ensures left { IfSome (slice_get self.old.ways at) (λ way. self.new
+            ≡ record self.old { ways = set self.old.ways at (record way { down = bytes.old.items }) }) }
+        ensures given { IfSome (slice_get self.old.ways at) (λ way. bytes.new.items ≡ way.down) }
+        ensures goes { SwappingFollows at bytes.old.items self.old self.new }
+    {
+        self.exchange(at, bytes);
+    }
+
+    // Exchanges what is under way on a connection to the client.
+    fn exchange(&mut self, at: usize, bytes: &mut Vec<u8>)
         requires { at < length self.old.ways }
         ensures left { IfSome (slice_get self.old.ways at) (λ way. self.new
             ≡ record self.old { ways = set self.old.ways at (record way { down = bytes.old.items }) }) }

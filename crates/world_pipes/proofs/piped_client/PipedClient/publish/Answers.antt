@@ -1,7 +1,9 @@
+use Rattle.std.proofs.Common.{Ok}
 use Rattle.client.specs.Core.{publication_with}
 use Rattle.client_base.specs.Steps.{Call, keeper_step}
 use Rattle.world_pipes.specs.Piped.{piped}
 use Rattle.world_pipes.proofs.StaysOpen.{publishing_stays}
+use Rattle.world_pipes.proofs.CallingFollows.{publishing_follows}
 use Rattle.world_pipes.proofs.Sent.{called_so, held_so}
 use Rattle.world_pipes.proofs.piped_client.PipedClient.publish.Goals as goal
 
@@ -12,9 +14,18 @@ invariant_of-self-2 c =
     c.self.inside.holds c.send_up.new.holds c.self.invariant (publishing_stays (publication_with c.args.retain c.args.qos c.args.topic c.args.payload) c.self.inside.core.state)
     c.in_ok-publish.ensures c.send_up.ensures
 
-pub returns : goal.returns
-returns c =
+pub returns-clause-calls : goal.returns-clause-calls
+returns-clause-calls c =
     rw (← c.self.view_is)
     (called_so (keeper_step (Call.Publishes (publication_with c.args.retain c.args.qos c.args.topic c.args.payload)) c.self.inside.core.state)
     (piped c.self.inside.core c.self.inside.ways.items) c.publish.new.self c.send_up.new.core c.send_up.new.ways.items c.send_up.result
     c.self.inside.holds c.send_up.new.holds c.self.invariant c.in_ok-publish.ensures c.send_up.ensures)
+
+pub returns-clause-goes : goal.returns-clause-goes
+returns-clause-goes c =
+    publishing_follows (publication_with c.args.retain c.args.qos c.args.topic c.args.payload) c.args.self.now (Ok c.send_up.result)
+    (piped c.send_up.new.core c.send_up.new.ways.items) c.as_str-known.ensures.checked
+    (rw (← c.self.view_is)
+    (called_so (keeper_step (Call.Publishes (publication_with c.args.retain c.args.qos c.args.topic c.args.payload)) c.self.inside.core.state)
+    (piped c.self.inside.core c.self.inside.ways.items) c.publish.new.self c.send_up.new.core c.send_up.new.ways.items c.send_up.result
+    c.self.inside.holds c.send_up.new.holds c.self.invariant c.in_ok-publish.ensures c.send_up.ensures))

@@ -1,6 +1,8 @@
+use Rattle.std.proofs.Common.{Ok}
 use Rattle.client_base.specs.Steps.{Call, keeper_step}
 use Rattle.world_pipes.specs.Piped.{piped}
 use Rattle.world_pipes.proofs.StaysOpen.{subscribing_stays}
+use Rattle.world_pipes.proofs.CallingFollows.{subscribing_follows}
 use Rattle.world_pipes.proofs.Sent.{called_so, held_so}
 use Rattle.world_pipes.proofs.piped_client.PipedClient.subscribe.Goals as goal
 
@@ -11,9 +13,18 @@ invariant_of-self-2 c =
     c.self.inside.holds c.send_up.new.holds c.self.invariant (subscribing_stays c.args.filter c.args.qos c.self.inside.core.state)
     c.in_ok-subscribe.ensures c.send_up.ensures
 
-pub returns : goal.returns
-returns c =
+pub returns-clause-calls : goal.returns-clause-calls
+returns-clause-calls c =
     rw (← c.self.view_is)
     (called_so (keeper_step (Call.Subscribes c.args.filter c.args.qos) c.self.inside.core.state)
     (piped c.self.inside.core c.self.inside.ways.items) c.subscribe.new.self c.send_up.new.core c.send_up.new.ways.items c.send_up.result
     c.self.inside.holds c.send_up.new.holds c.self.invariant c.in_ok-subscribe.ensures c.send_up.ensures)
+
+pub returns-clause-goes : goal.returns-clause-goes
+returns-clause-goes c =
+    subscribing_follows c.args.filter c.args.qos c.args.self.now (Ok c.send_up.result)
+    (piped c.send_up.new.core c.send_up.new.ways.items) c.as_str-known.ensures.checked
+    (rw (← c.self.view_is)
+    (called_so (keeper_step (Call.Subscribes c.args.filter c.args.qos) c.self.inside.core.state)
+    (piped c.self.inside.core c.self.inside.ways.items) c.subscribe.new.self c.send_up.new.core c.send_up.new.ways.items c.send_up.result
+    c.self.inside.holds c.send_up.new.holds c.self.invariant c.in_ok-subscribe.ensures c.send_up.ensures))

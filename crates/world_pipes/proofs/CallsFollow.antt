@@ -1,0 +1,135 @@
+-- CallsFollow.antt: a call takes a client where the model's client may go by a call of its own.
+use Rattle.std.proofs.Common.{◌≡◌, suc, true, false, List, [], ◌∷◌, ◌++◌, length, reverse, Ok, refl, ap, ap₂, sym, subst, ◌∙◌, arith}
+use Rattle.std.proofs.lemmas.Bool.{both_ways}
+use Rattle.std.proofs.lemmas.List.{append-nil}
+use Rattle.packet.specs.Spelling.{IsPacket}
+use Rattle.lists.specs.Lists.{Each}
+use Rattle.client_base.specs.State.{is_open}
+use Rattle.client_base.specs.Answered.{Turn}
+use Rattle.client_base.specs.History as history
+use Rattle.client_base.specs.Written.{writes, writes_first}
+use Rattle.client.specs.Core.{AppendsAll, Core, gone}
+use Rattle.node_model.specs.Puts.{spelled}
+use Rattle.story.specs.Sides.{Connection}
+use Rattle.world_model.specs.World.{ClientPipes, Pipe, after_writing, newly_written, sent_up}
+use Rattle.world_model.specs.Goes.{CanBeSpelled}
+use Rattle.world_model.proofs.OnTheWay.{newly_is}
+use Rattle.world_pipes.specs.declared.sending.Sending.{Sending}
+use Rattle.world_pipes.specs.declared.sending.Sending.TheVariants as sendings
+use Rattle.world_pipes.specs.declared.way.Way.{Way}
+use Rattle.world_pipes.specs.Following.{CallingFollows, after_losing}
+use Rattle.world_pipes.specs.Goes.{ClientGoes, ClientStep}
+use Rattle.world_pipes.specs.Piped.{Calls, GoesUp, GoesUpWhere, Piped, TakesLeave, broken, is_holding, piped}
+use Rattle.world_pipes.specs.Piped as pipings
+use Rattle.world_pipes.specs.Standing.{AreWays, CanGoOut, StandsFor}
+use Rattle.world_pipes.proofs.HearingFollows.{IsLeft, finished, left_lost, way_up}
+use Rattle.world_pipes.proofs.ModelsCalls.{IsCalled}
+use Rattle.world_pipes.proofs.PacketsHandled.{appended}
+use Rattle.world_pipes.proofs.Spellable.{AllSpelled}
+use Rattle.world_pipes.proofs.Ways.{last_same, losing, newest_way}
+
+-- ---- what was written, on the connection that is held
+
+-- the model's client behind its call, the connection that is held by itself
+record HasCalled (turn : Turn) (core : Core) (older : List Way) (way : Way) (m : ClientPipes) (c : IsCalled turn m) : Type 0 where
+  pub others : List Connection
+  pub pipe : Pipe
+  pub further : List Pipe
+  pub left : IsLeft way.up core (after_writing c.keeper c.connections m) others pipe further
+  pub leads : (pipe.node ≡ way.node) × (pipe.port ≡ way.port) × (pipe.down ≡ way.down)
+  pub many : length others ≡ length further
+  pub ways : AreWays (reverse older) further
+  pub spelled : CanBeSpelled m.connections c.connections
+
+has_called : (turn : Turn) (old : Piped) (core : Core) (older : List Way) (way : Way) (m : ClientPipes) (c : IsCalled turn m) → StandsFor old m →
+    is_holding old ≡ true → old.ways ≡ older ++ way ∷ [] → AllSpelled turn → core.state ≡ turn.state → AppendsAll old.core.out core.out turn.writes →
+    (is_open core.state.stage ≡ true → core.unread ≡ old.core.unread) → HasCalled turn core older way m c
+has_called turn old core older way m c s up splits whole same appends unread =
+    let held = s.held up in
+    let κ = held.connection in
+    let others = held.others in
+    let p = held.pipe in
+    let newest : way ≡ held.way = last_same older held.older way held.way (sym splits ∙ held.ways) in
+    let ways = newest_way old.ways older way m.pipes held.further p splits held.pipes s.ways in
+    let first : c.connections ≡ writes c.more κ ∷ others = c.on_first ∙ ap (λ l. writes_first c.more l) held.connections in
+    let newly : newly_written m.connections c.connections ≡ turn.writes =
+    ap₂ (λ before after. newly_written before after) held.connections first ∙ newly_is κ (writes c.more κ) others others c.more refl ∙ c.writes in
+    let out : core.out ≡ spelled turn.writes =
+    appended [] core.out turn.writes whole.writes (subst (λ o. AppendsAll o core.out turn.writes) held.sent appends) in
+    let counted : suc (length others) ≡ suc (length held.further) = sym (ap length held.connections) ∙ s.many ∙ ap length held.pipes in
+    record {
+      others = others;
+      pipe = p;
+      further = held.further;
+      left = record {
+        keeper = subst (history.StandsFor c.keeper) (sym same) c.stands;
+        fits = subst CanGoOut (sym same) whole.left;
+        connection = writes c.more κ;
+        connections = first;
+        pipe = record p { up = p.up ++ spelled (newly_written m.connections c.connections) };
+        pipes = ap (λ l. sent_up (newly_written m.connections c.connections) l) held.pipes;
+        leads = (refl, refl, refl);
+        up = ap₂ (λ u l. u ++ l) (held.up ∙ ap (λ (w : Way). w.up) (sym newest)) (ap spelled newly ∙ sym out);
+        came = λ on. held.came ∙ sym (unread on);
+      };
+      leads = (ways.0.node, ways.0.port, ways.0.down);
+      many = omega (arith, counted);
+      ways = ways.1;
+      spelled = subst (Each IsPacket) (sym newly) whole.writes;
+    }
+
+-- it went up
+sent_stands : (turn : Turn) (core : Core) (older : List Way) (way : Way) (m : ClientPipes) (c : IsCalled turn m) → HasCalled turn core older way m c →
+    StandsFor (pipings.sent_up core older way) (after_writing c.keeper c.connections m)
+sent_stands turn core older way m c h =
+    let up = way.up ++ core.out in
+    finished older way way.up core (record core { out = [] }) (after_writing c.keeper c.connections m) h.others h.pipe h.further up [] h.left refl h.many h.ways
+    (way_up older way way.up core (after_writing c.keeper c.connections m) h.others h.pipe h.further up [] h.left h.leads.0 h.leads.1 h.leads.2
+    (sym (append-nil up)))
+    (λ on. (h.left.up, refl, refl))
+
+-- or the connection was lost
+lost_stands : (turn : Turn) (core : Core) (older : List Way) (way : Way) (m : ClientPipes) (c : IsCalled turn m) → HasCalled turn core older way m c →
+    StandsFor (broken core (older ++ way ∷ [])) (after_losing (after_writing c.keeper c.connections m))
+lost_stands turn core older way m c h =
+    let m₁ = after_writing c.keeper c.connections m in
+    let left = left_lost way.up core m₁ h.others h.pipe h.further h.left in
+    finished older way way.up (gone core) (gone core) (after_losing m₁) h.others h.pipe h.further way.up core.out left refl h.many h.ways
+    (way_up older way way.up (gone core) (after_losing m₁) h.others h.pipe h.further way.up core.out left h.leads.0 h.leads.1 h.leads.2 refl)
+    (λ on. absurd (both_ways false refl on))
+
+-- ---- what a call needs
+
+-- what a call of the model's client and of this are to each other
+pub record HasCall (turn : Turn) (old : Piped) (core : Core) : Type 0 where
+  pub state : core.state ≡ turn.state
+  pub appends : AppendsAll old.core.out core.out turn.writes
+  pub unread : is_open core.state.stage ≡ true → core.unread ≡ old.core.unread
+  pub fits : CanGoOut old.core.state → AllSpelled turn
+  pub too : (m : ClientPipes) → history.StandsFor m.keeper old.core.state → old.core.state.keep_alive ≡ 0 → IsCalled turn m
+
+-- a call of a client that holds a connection
+pub up_follows : (turn : Turn) (old : Piped) (core : Core) (sending : Sending) (new : Piped) → is_holding old ≡ true → HasCall turn old core →
+    GoesUp core old.ways sending new → CallingFollows old (Ok sending) new
+up_follows turn old core sendings.Sent new up has (older, way, splits, is) = λ m s.
+    let c = has.too m s.keeper s.fits.keep_alive in
+    let h = has_called turn old core older way m c s up splits (has.fits s.fits) has.state has.appends has.unread in
+    record {
+      story = record { past = []; connections = c.connections; keeper = c.keeper };
+      call = c.call;
+      is_one = c.is_one;
+      spelled = h.spelled;
+      stands = subst (λ p. StandsFor p (after_writing c.keeper c.connections m)) (sym is) (sent_stands turn core older way m c h);
+    }
+up_follows turn old core sendings.Lost new up has is = λ m s.
+    let held = s.held up in
+    let c = has.too m s.keeper s.fits.keep_alive in
+    let m₁ = after_writing c.keeper c.connections m in
+    let h = has_called turn old core held.older held.way m c s up held.ways (has.fits s.fits) has.state has.appends has.unread in
+    let step : ClientStep m m₁ = ClientStep.calls (record { past = []; connections = c.connections; keeper = c.keeper }) c.call c.is_one h.spelled in
+    record {
+      next = after_losing m₁;
+      goes = ClientGoes.goes_on (ClientGoes.goes_on ClientGoes.stays step) (losing m₁);
+      stands = subst (λ p. StandsFor p (after_losing m₁)) (sym (is ∙ ap (λ l. broken core l) held.ways))
+          (lost_stands turn core held.older held.way m c h);
+    }

@@ -1,0 +1,108 @@
+-- CallsOffline.antt: a client that holds no connection writes nothing, and goes where the model's client may go by a call of its own.
+use Rattle.std.proofs.Common.{◌≡◌, ℕ, Bool, true, false, not, if◌then◌else◌, List, [], ◌∷◌, length, reverse, Option, Some, None, Ok, refl, ap, sym, subst, ◌∙◌}
+use Rattle.std.proofs.lemmas.Bool.{both_ways}
+use Rattle.packet.specs.Spelling.{IsPacket}
+use Rattle.packet.specs.declared.qos.QoS.{QoS}
+use Rattle.session_base.specs.declared.publication.Publication.{Publication}
+use Rattle.session_base.specs.Publication.{is_answered}
+use Rattle.lists.specs.Lists.{Each}
+use Rattle.client_base.specs.declared.error.ClientError.{ClientError}
+use Rattle.client_base.specs.declared.error.ClientError.TheVariants as errors
+use Rattle.client_base.specs.declared.stage.Stage.{Stage}
+use Rattle.client_base.specs.declared.stage.Stage.TheVariants as stages
+use Rattle.client_base.specs.State.{ClientState, is_online, is_open}
+use Rattle.client_base.specs.Answered.{Turn}
+use Rattle.client_base.specs.Calls.{has_free_id, next_id, publish_refusal, published}
+use Rattle.client_base.specs.History as history
+use Rattle.client_base.specs.Keeper.{Written}
+use Rattle.client_base.specs.Steps.{Call, keeper_step, subscribed, unless_refused, unsubscribed}
+use Rattle.client_base.specs.Written.{writes, writes_first}
+use Rattle.client_base.proofs.FollowsCalls.{turn_of}
+use Rattle.client.specs.Core.{Core}
+use Rattle.story.specs.Sides.{Connection}
+use Rattle.world_model.specs.World.{after_writing, newly_written, packets_of, sent_up}
+use Rattle.world_model.proofs.OnTheWay.{newly_is}
+use Rattle.world_pipes.specs.declared.sending.Sending.{Sending}
+use Rattle.world_pipes.specs.declared.sending.Sending.TheVariants as sendings
+use Rattle.world_pipes.specs.Following.{CallingFollows}
+use Rattle.world_pipes.specs.Piped.{GoesUpWhere, Piped, is_holding, piped}
+use Rattle.world_pipes.specs.Standing.{AreWays, CanGoOut, StandsFor}
+use Rattle.world_pipes.proofs.CallsFollow.{HasCall, up_follows}
+use Rattle.world_pipes.proofs.Ways.{none_sent}
+
+-- ---- nothing is written
+
+closed_offline : (stage : Stage) → is_open stage ≡ false → is_online stage ≡ false
+closed_offline stages.Closed e = refl
+closed_offline stages.Opened e = absurd (both_ways true e refl)
+closed_offline stages.Online e = absurd (both_ways true e refl)
+
+unless_none : (refusal : Option ClientError) (turn : Turn) (state : ClientState) → turn.writes ≡ [] → (unless_refused refusal turn state).writes ≡ []
+unless_none None turn state none = none
+unless_none (Some cause) turn state none = refl
+
+published_none : (p : Publication) (id : ℕ) (state : ClientState) (answered online : Bool) → online ≡ false → (turn_of p id state answered online).writes ≡ []
+published_none p id state answered false e = refl
+published_none p id state answered true e = absurd (both_ways true e refl)
+
+asked_none : (online free : Bool) (turn : Turn) (state : ClientState) → online ≡ false →
+    (unless_refused (if not online then Some errors.NotActive else if not free then Some errors.WindowFull else None) turn state).writes ≡ []
+asked_none false free turn state e = refl
+asked_none true free turn state e = absurd (both_ways true e refl)
+
+pub publishing_offline : (p : Publication) (state : ClientState) → is_open state.stage ≡ false → (keeper_step (Call.Publishes p) state).writes ≡ []
+publishing_offline p state closed =
+    unless_none (publish_refusal p state) (published p state) state
+    (published_none p (next_id state) state (is_answered p.qos) (is_online state.stage) (closed_offline state.stage closed))
+
+pub subscribing_offline : (filter : List ℕ) (qos : QoS) (state : ClientState) → is_open state.stage ≡ false →
+    (keeper_step (Call.Subscribes filter qos) state).writes ≡ []
+subscribing_offline filter qos state closed =
+    asked_none (is_online state.stage) (has_free_id state) (subscribed filter qos state) state (closed_offline state.stage closed)
+
+pub unsubscribing_offline : (filter : List ℕ) (state : ClientState) → is_open state.stage ≡ false →
+    (keeper_step (Call.Unsubscribes filter) state).writes ≡ []
+unsubscribing_offline filter state closed =
+    asked_none (is_online state.stage) (has_free_id state) (unsubscribed filter state) state (closed_offline state.stage closed)
+
+-- ---- so the pipes are as they were
+
+newly_none : (more : List Written) (connections : List Connection) → packets_of more ≡ [] → newly_written connections (writes_first more connections) ≡ []
+newly_none more [] none = refl
+newly_none more (κ ∷ others) none = newly_is κ (writes more κ) others others more refl ∙ none
+
+as_many : (more : List Written) (connections : List Connection) → length (writes_first more connections) ≡ length connections
+as_many more [] = refl
+as_many more (κ ∷ others) = refl
+
+idle_follows : (turn : Turn) (old : Piped) (core : Core) (new : Piped) → is_holding old ≡ false → turn.state.stage ≡ old.core.state.stage → turn.writes ≡ [] →
+    HasCall turn old core → new ≡ piped core old.ways → CallingFollows old (Ok sendings.Sent) new
+idle_follows turn old core new closed stays none has is = λ m s.
+    let c = has.too m s.keeper s.fits.keep_alive in
+    let newly : newly_written m.connections c.connections ≡ [] =
+    ap (λ l. newly_written m.connections l) c.on_first ∙ newly_none c.more m.connections (c.writes ∙ none) in
+    let same : sent_up (newly_written m.connections c.connections) m.pipes ≡ m.pipes = ap (λ l. sent_up l m.pipes) newly ∙ none_sent m.pipes in
+    let shut : is_open core.state.stage ≡ false = ap (λ (state : ClientState). is_open state.stage) has.state ∙ ap is_open stays ∙ closed in
+    record {
+      story = record { past = []; connections = c.connections; keeper = c.keeper };
+      call = c.call;
+      is_one = c.is_one;
+      spelled = subst (Each IsPacket) (sym newly) tt;
+      stands = subst (λ p. StandsFor p (after_writing c.keeper c.connections m)) (sym is)
+          (record {
+            keeper = subst (history.StandsFor c.keeper) (sym has.state) c.stands;
+            fits = subst CanGoOut (sym has.state) (has.fits s.fits).left;
+            many = ap length c.on_first ∙ as_many c.more m.connections ∙ s.many ∙ ap length (sym same);
+            ways = subst (AreWays (reverse old.ways)) (sym same) s.ways;
+            held = λ on. absurd (both_ways (is_open core.state.stage) shut on);
+          });
+    }
+
+-- ---- a call, whether a connection is held or not
+
+pub call_follows : (turn : Turn) (old : Piped) (core : Core) (new : Piped) (up : Bool) → is_holding old ≡ up → turn.state.stage ≡ old.core.state.stage →
+    (is_holding old ≡ false → turn.writes ≡ []) → HasCall turn old core → (sending : Sending) → GoesUpWhere up core old.ways sending new →
+    CallingFollows old (Ok sending) new
+call_follows turn old core new true held stays none has sending goes = up_follows turn old core sending new held has goes
+call_follows turn old core new false held stays none has sending goes =
+    subst (λ sending. CallingFollows old (Ok sending) new) (sym goes.0) (idle_follows turn old core new held stays (none held) has goes.1)
