@@ -55,7 +55,19 @@ fn measure(
         primary: 1,
     };
     let mut node = NodeCore::new(rt.alloc(), 1, &config)?;
-    let nanos = time(rt, &mut node, connections, traffic, looks)?;
+    figure(rt, &mut node, connections, traffic, places, looks)
+}
+
+// The time of a publication with a node that nothing came to yet.
+fn figure(
+    rt: &HostRuntime,
+    node: &mut NodeCore,
+    connections: u64,
+    traffic: &Traffic,
+    places: u64,
+    looks: bool,
+) -> Result<u128> {
+    let nanos = time(rt, node, connections, traffic, looks)?;
     ensure!(node.losses() == 0, "a step found no memory");
     ensure!(node.status().committed == places, "packets are missing");
     Ok(nanos)

@@ -13,10 +13,14 @@ const WAITING: u32 = 4_000;
 /// Prints the time for each publication that is put into the queue, and that leaves it with its handshake.
 pub fn run(rt: &HostRuntime) -> Result<()> {
     for qos in &[QoS::AtLeastOnce, QoS::ExactlyOnce] {
-        let mut clients = Clients::new(rt.alloc())?;
-        measure(rt, &mut clients, *qos)?;
+        with_new_clients(rt, *qos)?;
     }
     Ok(())
+}
+
+fn with_new_clients(rt: &HostRuntime, qos: QoS) -> Result<()> {
+    let mut clients = Clients::new(rt.alloc())?;
+    measure(rt, &mut clients, qos)
 }
 
 fn measure(rt: &HostRuntime, clients: &mut Clients, qos: QoS) -> Result<()> {
@@ -35,9 +39,14 @@ fn measure(rt: &HostRuntime, clients: &mut Clients, qos: QoS) -> Result<()> {
 
 fn fill(rt: &HostRuntime, clients: &mut Clients, qos: QoS) -> Result<u128> {
     let topic = TopicName::new(rt.alloc(), "plant/1/pump/speed")?;
+    put_in(rt, clients, &topic, qos)
+}
+
+// The time of all publications of this topic.
+fn put_in(rt: &HostRuntime, clients: &mut Clients, topic: &TopicName, qos: QoS) -> Result<u128> {
     let start = rt.process_cpu_time()?;
     for _ in 0..WAITING {
-        clients.publish(2, &topic, qos, false)?;
+        clients.publish(2, topic, qos, false)?;
     }
     nanos_since(rt, start)
 }
