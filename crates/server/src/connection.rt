@@ -5,7 +5,7 @@ use crate::served::Served;
 use crate::shared::Shared;
 use crate::turns::send;
 use mailbox::Lane;
-use node::{Item, NodeNaming, PIECE_BYTES, Piece, Port};
+use node::{Gate, Item, NodeNaming, PIECE_BYTES, Piece, Port};
 use std::alloc::Global;
 use std::io::Read;
 use std::net::TcpStream;
@@ -17,10 +17,10 @@ const WRITE_MILLIS: u64 = 1;
 
 /// Serves a stream until its client or the node ends it. Where all lanes are taken, or there is no memory
 /// for it, the stream is closed at once.
-pub(crate) fn serve_stream<J: NodeNaming, S: Served<J>, R: Wait + Clock>(
+pub(crate) fn serve_stream<J: NodeNaming, S: Served<J>, G: Gate, R: Wait + Clock>(
     rt: &R,
     alloc: Global,
-    shared: &Shared<J, S>,
+    shared: &Shared<J, S, G>,
     stream: TcpStream,
 ) {
     if stream.set_nodelay(true).is_err()
@@ -43,10 +43,10 @@ pub(crate) fn serve_stream<J: NodeNaming, S: Served<J>, R: Wait + Clock>(
 
 // Tells the node of the connection, and lists it while it is served. A port of which the node has not heard yet
 // is one that it closed, so it is listed behind that.
-fn listed<J: NodeNaming, S: Served<J>, R: Wait + Clock>(
+fn listed<J: NodeNaming, S: Served<J>, G: Gate, R: Wait + Clock>(
     rt: &R,
     alloc: Global,
-    shared: &Shared<J, S>,
+    shared: &Shared<J, S, G>,
     lane: &mut Lane<Item, J>,
     link: Arc<Link, Global>,
 ) {
@@ -65,10 +65,10 @@ fn listed<J: NodeNaming, S: Served<J>, R: Wait + Clock>(
 }
 
 // Tells the node of each piece that comes on the connection, until its end.
-fn talk<J: NodeNaming, S: Served<J>, R: Wait + Clock>(
+fn talk<J: NodeNaming, S: Served<J>, G: Gate, R: Wait + Clock>(
     rt: &R,
     alloc: Global,
-    shared: &Shared<J, S>,
+    shared: &Shared<J, S, G>,
     lane: &mut Lane<Item, J>,
     link: &Arc<Link, Global>,
 ) {
@@ -95,10 +95,10 @@ fn read_piece(alloc: Global, stream: &TcpStream, room: &mut [u8]) -> Option<Piec
 }
 
 // Takes what the node still holds for a connection that has ended, so that it holds no more.
-fn forget<J: NodeNaming, S: Served<J>, R: Wait>(
+fn forget<J: NodeNaming, S: Served<J>, G: Gate, R: Wait>(
     rt: &R,
     alloc: Global,
-    shared: &Shared<J, S>,
+    shared: &Shared<J, S, G>,
     port: Port,
 ) {
     let mut left = Vec::new(alloc);

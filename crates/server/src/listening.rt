@@ -4,7 +4,10 @@ ghost use denote.Param.Send.{IsSend};
 ghost use Rattle.std.specs.Prelude.{◌≡◌};
 
 use crate::connection::serve_stream;
+use crate::node_report::NodeReport;
+use crate::outcome::Outcome;
 use crate::own_thread;
+use crate::passage::Passage;
 use crate::peers::Peers;
 use crate::place::{CONNECTIONS, Place};
 use crate::seat::Seat;
@@ -12,7 +15,7 @@ use crate::serve_error::ServeError;
 use crate::served::Served;
 use crate::shared::Shared;
 use mailbox::Inbox;
-use node::{Config, Item, Memory, NodeCore, NodeNaming, NodeState};
+use node::{Config, Gate, Item, Memory, NoGate, NodeCore, NodeNaming, NodeState, Report};
 use std::alloc::Global;
 use std::marker::Brand;
 use std::net::{Net, TcpStream};
@@ -39,12 +42,39 @@ where
     F: FnOnce(&Peers) -> T,
     requires { F.IsAlwaysCallable attend }
 {
+    let (answer, _reports) = serve_gated(rt, alloc, places, config, &NoGate, attend)?;
+    Ok(answer)
+}
+
+/// As [`serve_while`], where each node asks a gate before it takes an item, and tells at the end what it
+/// took and what it left: the reports stand in the order of the nodes' numbers. Where the gate has not opened
+/// after ten thousand askings, a millisecond apart, the node goes on, and its report counts it.
+///
+/// The errors are those of [`serve_while`].
+pub fn serve_gated<R, G, T, F>(
+    rt: &R,
+    alloc: Global,
+    places: &[Place],
+    config: &Config,
+    gate: &G,
+    attend: F,
+) -> Result<(T, Vec<NodeReport>), ServeError>
+where
+    R: Threads + Wait + Clock + Sync + Net<Stream = TcpStream>,
+    G: Gate + Sync,
+    T: Drop,
+    F: FnOnce(&Peers) -> T,
+    requires { F.IsAlwaysCallable attend }
+{
     let peers = Peers::new(alloc, places, config)?;
     let Ok(start) = Instant::now(rt) else {
         return Err(ServeError::Clock);
     };
-    let failure = Mutex::new(None);
-    let told = &failure;
+    let Ok(outcome) = Outcome::new(alloc, places.len()) else {
+        return Err(ServeError::Memory);
+    };
+    let outcome = Mutex::new(outcome);
+    let told = &outcome;
     let group = &peers;
     let answer = thread::scope(
         thread::scope_env(),
@@ -57,7 +87,7 @@ where
                     let served = scope.spawn(move || tell(
                         rt,
                         told,
-                        serve(rt, alloc, seat, config),
+                        serve(rt, alloc, seat, config, gate),
                     ));
                     if served.is_err() {
                         tell(rt, told, Err(ServeError::Memory));
@@ -71,27 +101,23 @@ where
             answer
         },
     );
-    match failure.into_inner() {
-        Some(error) => Err(error),
-        None => Ok(answer),
-    }
+    Ok((answer, outcome.into_inner().into_reports()?))
 }
 
-// Keeps why a node is not served.
-fn tell<R: Wait>(rt: &R, told: &Mutex<Option<ServeError>>, served: Result<(), ServeError>) {
-    if let Err(error) = served {
-        *told.lock(rt) = Some(error);
-    }
+// Keeps what became of a node.
+fn tell<R: Wait>(rt: &R, told: &Mutex<Outcome>, served: Result<NodeReport, ServeError>) {
+    told.lock(rt).keep(served);
 }
 
 // Serves the clients that come to a node's place, until the place's door is closed, or where no thread can
 // be started.
-fn serve<R: Threads + Wait + Clock + Sync>(
+fn serve<G: Gate + Sync, R: Threads + Wait + Clock + Sync>(
     rt: &R,
     alloc: Global,
     seat: Seat<'_>,
     config: &Config,
-) -> Result<(), ServeError> {
+    gate: &G,
+) -> Result<NodeReport, ServeError> {
     let number = seat.place.number;
     if number == 0 || number > 15 {
         return Err(ServeError::BadMembers);
@@ -100,48 +126,53 @@ fn serve<R: Threads + Wait + Clock + Sync>(
     let Ok(inbox) = Inbox::new(alloc) else {
         return Err(ServeError::Memory);
     };
-    Ok(serve_named::<Brand, R>(rt, alloc, seat, inbox, core)?)
+    let report = serve_named::<Brand, G, R>(rt, alloc, seat, inbox, core, gate)?;
+    Ok(NodeReport { number, report })
 }
 
 // The same by an inbox whose number names it, with the node, for all threads.
-fn serve_named<J: NodeNaming + Send + Sync, R: Threads + Wait + Clock + Sync>(
+fn serve_named<J: NodeNaming + Send + Sync, G: Gate + Sync, R: Threads + Wait + Clock + Sync>(
     rt: &R,
     alloc: Global,
     seat: Seat<'_>,
     inbox: Inbox<Item>,
     core: NodeCore,
-) -> Result<(), Memory>
+    gate: &G,
+) -> Result<Report, Memory>
     requires named { inbox ≡ J.inbox_of 1 }
     requires first { core ≡ J.first_of 1 }
 {
     let (receiver, lanes) = inbox.named::<J>(1, CONNECTIONS + 1)?;
+    let room = Report::with_room(alloc, lanes.len())?;
     let shared = Shared {
         node: Mutex::new(NodeState::new(receiver, core)),
         lanes: Mutex::new(lanes),
         has_own_lane: Mutex::new(false),
+        passage: Passage::new(gate, seat.place.number),
         seat,
         late: Mutex::new(Vec::with_capacity(alloc, usize::from(CONNECTIONS))?),
         next_port: Mutex::new(1),
     };
     run_state(rt, alloc, &shared);
-    Ok(())
+    shared.close(rt, room)
 }
 
 // The same at the type that a node's state has. That it may be shared by threads is asked here alone.
-fn run_state<J: NodeNaming + Send + Sync, R: Threads + Wait + Clock + Sync>(
+fn run_state<J: NodeNaming + Send + Sync, G: Gate + Sync, R: Threads + Wait + Clock + Sync>(
     rt: &R,
     alloc: Global,
-    shared: &Shared<J, NodeState<J>>,
+    shared: &Shared<J, NodeState<J>, G>,
 ) {
-    run::<J, NodeState<J>, R>(rt, alloc, shared);
+    run::<J, NodeState<J>, G, R>(rt, alloc, shared);
 }
 
 // Starts the node's own thread, and then a thread for each client that comes.
-fn run<J: NodeNaming + Send + Sync, S: Served<J> + Send, R: Threads + Wait + Clock + Sync>(
-    rt: &R,
-    alloc: Global,
-    shared: &Shared<J, S>,
-) {
+fn run<
+    J: NodeNaming + Send + Sync,
+    S: Served<J> + Send,
+    G: Gate + Sync,
+    R: Threads + Wait + Clock + Sync,
+>(rt: &R, alloc: Global, shared: &Shared<J, S, G>) {
     thread::scope(
         thread::scope_env(),
         rt,
@@ -175,12 +206,13 @@ fn begin<
     E,
     J: NodeNaming + Send + Sync,
     S: Served<J> + Send,
+    G: Gate + Sync,
     R: Threads + Wait + Clock + Sync,
 >(
     scope: &Scope<'s, E>,
     rt: &'s R,
     alloc: Global,
-    shared: &'s Shared<'a, J, S>,
+    shared: &'s Shared<'a, J, S, G>,
     stream: TcpStream,
 ) -> bool {
     let served = scope.spawn(move || serve_stream(rt, alloc, shared, stream));

@@ -6,7 +6,7 @@ use crate::shared::Shared;
 use crate::turns::{put, send, turn};
 use crate::writing::{is_still_late, leave_late};
 use mailbox::Lane;
-use node::{Item, NodeNaming};
+use node::{Gate, Item, NodeNaming};
 use std::alloc::Global;
 use std::mem;
 use std::sync::Wait;
@@ -16,20 +16,22 @@ use std::time::{Clock, Duration};
 const TICK: u64 = 200;
 
 /// Does so until the door is closed.
-pub(crate) fn run<J: NodeNaming, S: Served<J>, R: Wait + Clock>(
+pub(crate) fn run<J: NodeNaming, S: Served<J>, G: Gate, R: Wait + Clock>(
     rt: &R,
     alloc: Global,
-    shared: &Shared<J, S>,
+    shared: &Shared<J, S, G>,
 ) {
     if let Some(mut lane) = shared.own_lane(rt) {
         go_on(rt, alloc, shared, &mut lane);
+        // There was room for it when it was taken.
+        let _ = shared.lanes.lock(rt).push(lane);
     }
 }
 
-fn go_on<J: NodeNaming, S: Served<J>, R: Wait + Clock>(
+fn go_on<J: NodeNaming, S: Served<J>, G: Gate, R: Wait + Clock>(
     rt: &R,
     alloc: Global,
-    shared: &Shared<J, S>,
+    shared: &Shared<J, S, G>,
     lane: &mut Lane<Item, J>,
 ) {
     let mut told = 0;
@@ -57,10 +59,10 @@ fn go_on<J: NodeNaming, S: Served<J>, R: Wait + Clock>(
 }
 
 // Takes all that other nodes and the master have for the node, and then what the inbox holds.
-fn take_letters<J: NodeNaming, S: Served<J>, R: Wait>(
+fn take_letters<J: NodeNaming, S: Served<J>, G: Gate, R: Wait + Clock>(
     rt: &R,
     alloc: Global,
-    shared: &Shared<J, S>,
+    shared: &Shared<J, S, G>,
     lane: &mut Lane<Item, J>,
 ) {
     let letters = shared.seat.node.take_waiting(rt, alloc);
@@ -74,7 +76,7 @@ fn take_letters<J: NodeNaming, S: Served<J>, R: Wait>(
 }
 
 // Sleeps until something comes, or it is time for a tick.
-fn rest<J: NodeNaming, S: Served<J>, R: Wait>(rt: &R, shared: &Shared<J, S>) {
+fn rest<J: NodeNaming, S: Served<J>, G: Gate, R: Wait>(rt: &R, shared: &Shared<J, S, G>) {
     shared.seat.node.bell.doze(rt);
     if !shared.seat.node.has_waiting(rt) && shared.late.lock(rt).is_empty() {
         let time = Duration::from_millis(TICK);
@@ -83,10 +85,10 @@ fn rest<J: NodeNaming, S: Served<J>, R: Wait>(rt: &R, shared: &Shared<J, S>) {
 }
 
 // Goes over the connections whose sockets were full: whether there are still some.
-fn write_late<J: NodeNaming, S: Served<J>, R: Wait>(
+fn write_late<J: NodeNaming, S: Served<J>, G: Gate, R: Wait>(
     rt: &R,
     alloc: Global,
-    shared: &Shared<J, S>,
+    shared: &Shared<J, S, G>,
 ) -> bool {
     let links = mem::replace(&mut *shared.late.lock(rt), Vec::new(alloc));
     let mut late = false;

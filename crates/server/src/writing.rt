@@ -3,7 +3,7 @@
 use crate::link::Link;
 use crate::served::Served;
 use crate::shared::Shared;
-use node::{Handed, NodeNaming};
+use node::{Gate, Handed, NodeNaming};
 use std::alloc::Global;
 use std::io::{ErrorKind, Write};
 use std::mem;
@@ -23,10 +23,10 @@ enum Wrote {
 
 /// Writes what the node put out for a connection, unless another thread writes there: that one is told
 /// to look again. What a full socket does not take is left to the node's own thread.
-pub(crate) fn flush<J: NodeNaming, S: Served<J>, R: Wait>(
+pub(crate) fn flush<J: NodeNaming, S: Served<J>, G: Gate, R: Wait>(
     rt: &R,
     alloc: Global,
-    shared: &Shared<J, S>,
+    shared: &Shared<J, S, G>,
     link: &Arc<Link, Global>,
 ) {
     if link.begin(rt) {
@@ -35,10 +35,10 @@ pub(crate) fn flush<J: NodeNaming, S: Served<J>, R: Wait>(
 }
 
 // Writes what was put out, as the one that writes, until nothing more was.
-fn go_on<J: NodeNaming, S: Served<J>, R: Wait>(
+fn go_on<J: NodeNaming, S: Served<J>, G: Gate, R: Wait>(
     rt: &R,
     alloc: Global,
-    shared: &Shared<J, S>,
+    shared: &Shared<J, S, G>,
     link: &Arc<Link, Global>,
 ) {
     let mut out = Vec::new(alloc);
@@ -50,10 +50,10 @@ fn go_on<J: NodeNaming, S: Served<J>, R: Wait>(
 }
 
 // Takes what the node put out and writes it: whether the stream may take more at once.
-fn write_out<J: NodeNaming, S: Served<J>, R: Wait>(
+fn write_out<J: NodeNaming, S: Served<J>, G: Gate, R: Wait>(
     rt: &R,
     alloc: Global,
-    shared: &Shared<J, S>,
+    shared: &Shared<J, S, G>,
     link: &Arc<Link, Global>,
     out: &mut Vec<u8>,
 ) -> bool {
@@ -80,9 +80,9 @@ fn write_out<J: NodeNaming, S: Served<J>, R: Wait>(
 }
 
 /// Leaves a connection to the node's own thread.
-pub(crate) fn leave_late<J: NodeNaming, S: Served<J>, R: Wait>(
+pub(crate) fn leave_late<J: NodeNaming, S: Served<J>, G: Gate, R: Wait>(
     rt: &R,
-    shared: &Shared<J, S>,
+    shared: &Shared<J, S, G>,
     link: &Arc<Link, Global>,
 ) {
     let kept = match Arc::try_clone(link) {
@@ -97,10 +97,10 @@ pub(crate) fn leave_late<J: NodeNaming, S: Served<J>, R: Wait>(
 }
 
 /// Writes more of what a full socket did not take: whether there is still some of it.
-pub(crate) fn is_still_late<J: NodeNaming, S: Served<J>, R: Wait>(
+pub(crate) fn is_still_late<J: NodeNaming, S: Served<J>, G: Gate, R: Wait>(
     rt: &R,
     alloc: Global,
-    shared: &Shared<J, S>,
+    shared: &Shared<J, S, G>,
     link: &Arc<Link, Global>,
 ) -> bool {
     let rest = mem::replace(&mut *link.rest.lock(rt), Vec::new(alloc));

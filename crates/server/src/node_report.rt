@@ -1,0 +1,12 @@
+// What a node tells at the end.
+
+use node::Report;
+
+/// What became of the items that were sent to one of the nodes.
+#[derive(Drop)]
+pub struct NodeReport {
+    /// The node's number.
+    pub number: u8,
+    /// What it took and what it left.
+    pub report: Report,
+}
