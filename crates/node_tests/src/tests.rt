@@ -6,7 +6,7 @@ ghost use Rattle.std.specs.Prelude.{◌≡◌};
 use mailbox::{Inbox, Lane};
 use node::{
     Config, Counted, Ending, Handed, Item, Members, NodeCore, NodeNaming, NodeState, Piece, Port,
-    run_connection,
+    Report, run_connection,
 };
 use std::alloc::Global;
 use std::io;
@@ -130,6 +130,82 @@ fn items_are_taken_in_their_order(rt: HostRuntime) -> Result<(), Fail> {
     let core = sole(rt.alloc())?;
     let answered = is_answered::<Brand, HostRuntime>(&rt, rt.alloc(), inbox, core)?;
     assert!(rt; answered);
+    Ok(())
+}
+
+// Whether a lane sends a tick of this time.
+fn ticks<J: NodeNaming, R: Wait>(
+    rt: &R,
+    lanes: &mut [Lane<Item, J>],
+    place: usize,
+    now: u64,
+) -> bool {
+    match lanes.get_mut(place) {
+        Some(lane) => lane.send(rt, Item::Tick(now)).is_ok(),
+        None => false,
+    }
+}
+
+// How many items of the first lane were taken.
+fn met<J: NodeNaming>(state: &mut NodeState<J>, lanes: &mut [Lane<Item, J>]) -> Option<u64> {
+    let lane = lanes.first_mut()?;
+    if lane.number() == state.number() {
+        Some(state.meet(lane))
+    } else {
+        None
+    }
+}
+
+// The lane and the time of a tick that is left over.
+fn left_at(report: &Report, place: usize) -> Option<(u8, u64)> {
+    match report.left.get(place) {
+        Some((lane, Item::Tick(now))) => Some((*lane, *now)),
+        _ => None,
+    }
+}
+
+// Whether of two lanes' items two are taken, and the others left over.
+fn leaves_two<J: NodeNaming, R: Wait>(
+    rt: &R,
+    alloc: Global,
+    inbox: Inbox<Item>,
+    core: NodeCore,
+) -> Result<bool, Fail>
+    requires inbox { inbox ≡ J.inbox_of 1 }
+    requires first { core ≡ J.first_of 1 }
+{
+    let (receiver, mut lanes) = inbox.named::<J>(1, 2)?;
+    let mut state = NodeState::new(receiver, core);
+    let mut sent = true;
+    for (place, now) in [(0, 1), (0, 2), (1, 5), (0, 3)] {
+        sent = ticks(rt, lanes.as_mut_slice(), place, now) && sent;
+    }
+    let before = met(&mut state, lanes.as_mut_slice());
+    let mut effects = Vec::new(alloc);
+    let taken = state.take_one(rt, &mut effects) && state.take_one(rt, &mut effects);
+    let behind = met(&mut state, lanes.as_mut_slice());
+    let room = Report::with_room(alloc, state.lanes())?;
+    if !state.has_all(lanes.as_slice()) {
+        return Ok(false);
+    }
+    let report = state.close(rt, lanes.as_mut_slice(), room, 0);
+    Ok(sent && taken && before == Some(0) && behind == Some(2) && tells_two(&report))
+}
+
+// Whether a report tells of two items taken of the first lane, and of two left over.
+fn tells_two(report: &Report) -> bool {
+    report.taken.as_slice() == [2, 0].as_slice()
+        && report.left.len() == 2
+        && left_at(report, 0) == Some((1, 5))
+        && left_at(report, 1) == Some((0, 3))
+}
+
+#[test]
+fn what_is_not_taken_is_left_over(rt: HostRuntime) -> Result<(), Fail> {
+    let inbox = Inbox::new(rt.alloc())?;
+    let core = sole(rt.alloc())?;
+    let left = leaves_two::<Brand, HostRuntime>(&rt, rt.alloc(), inbox, core)?;
+    assert!(rt; left);
     Ok(())
 }
 
