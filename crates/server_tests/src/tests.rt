@@ -1,12 +1,12 @@
 // What no clause says: that bytes come in and go out over a socket, by one node and by several, and that a
 // client finds its session at another node.
 
-use node::{Config, Members, Memory};
-use server::{Peers, Place, serve_while};
+use node::{Config, Gate, Members, Memory};
+use server::{NodeReport, Peers, Place, serve_gated, serve_while};
 use std::alloc::Global;
 use std::io::{Read, Write};
 use std::net::{Net, TcpListener, TcpStream};
-use std::sync::Wait;
+use std::sync::{Mutex, Wait};
 use std::test::Fail;
 use std::time::{Clock, Duration, Instant};
 use std::{io, thread};
@@ -168,5 +168,90 @@ fn a_silent_client_is_closed(rt: HostRuntime) -> Result<(), Fail> {
     let (count, took) = came?;
     assert_eq!(rt; count, 0);
     assert!(rt; took > 1_500 && took < 5_000);
+    Ok(())
+}
+
+// At this gate nodes 1 and 2 wait for each other: it opens once both are there at the same time.
+#[derive(Drop)]
+struct Meeting {
+    there: Mutex<(bool, bool)>,
+    met: Mutex<bool>,
+}
+
+impl Meeting {
+    fn new() -> Meeting {
+        Meeting {
+            there: Mutex::new((false, false)),
+            met: Mutex::new(false),
+        }
+    }
+
+    // A node comes, or goes: whether both are there.
+    fn sees<R: Wait>(&self, rt: &R, node: u8, comes: bool) -> bool {
+        let mut there = self.there.lock(rt);
+        if node == 1 {
+            there.0 = comes;
+        } else {
+            there.1 = comes;
+        }
+        there.0 && there.1
+    }
+
+    fn has_met<R: Wait>(&self, rt: &R) -> bool {
+        *self.met.lock(rt)
+    }
+}
+
+impl Gate for Meeting {
+    fn is_always_open(&self) -> bool {
+        false
+    }
+
+    fn open<R: Wait>(&self, rt: &R, node: u8, _taking: u64) -> bool {
+        if self.sees(rt, node, true) {
+            *self.met.lock(rt) = true;
+        }
+        self.has_met(rt)
+    }
+
+    fn answered<R: Wait>(&self, rt: &R, node: u8, _taking: u64) {
+        self.sees(rt, node, false);
+    }
+}
+
+// Asks node 1 as client `a`, once the nodes have met, or ten seconds are over.
+fn visit_behind<R>(rt: &R, meeting: &Meeting, place: &Place) -> [u8; ANSWERED]
+where
+    R: Wait + Clock + Net<Stream = TcpStream>,
+{
+    for _ in 0..1_000 {
+        if meeting.has_met(rt) {
+            break;
+        }
+        thread::sleep(rt, Duration::from_millis(10));
+    }
+    visit(rt, place)
+}
+
+// Whether a node took what was sent to it, and never went on though the gate was shut.
+fn is_through(report: &NodeReport) -> bool {
+    report.report.gate_missed == 0
+        && report.report.left.is_empty()
+        && report.report.taken.iter().any(|count| *count > 0)
+}
+
+// Were one thread to run all nodes in turn, or a lock round them all be held at the gate, they would not meet.
+#[test]
+fn nodes_run_apart(rt: HostRuntime) -> Result<(), Fail> {
+    let config = config(rt.alloc(), &[1, 2])?;
+    let places = [place(&rt, 1)?, place(&rt, 2)?];
+    let meeting = Meeting::new();
+    let (got, reports) = serve_gated(&rt, rt.alloc(), &places, &config, &meeting, |_peers| {
+        visit_behind(&rt, &meeting, &places[0])
+    })?;
+    assert!(rt; meeting.has_met(&rt));
+    assert!(rt; are_answers(&got));
+    assert_eq!(rt; reports.len(), 2);
+    assert!(rt; reports.iter().all(|report| is_through(report)));
     Ok(())
 }
