@@ -1,0 +1,3 @@
+pub mod LinesAppended
+pub mod PlayedToTheEnd
+pub mod ScriptsOpen

@@ -1,0 +1,20 @@
+use Rattle.std.proofs.Common.{ap, length}
+use Rattle.play.proofs.PlayedToTheEnd.{plays_losing, plays_well}
+use Rattle.play.proofs.ScriptsOpen.{other_err, script_opens}
+use Rattle.play.proofs.playing.play.Goals as goal
+
+pub returns-in-Err-clause-refused : goal.returns-in-Err-clause-refused
+returns-in-Err-clause-refused c = λ number is.
+    absurd (script_opens _ c.in_ok-opening.field-0 c.in_ok-opening.ensures.script (c.in-Err.ensures.bad number (other_err c.in-Err.error _ is)))
+
+pub returns-clause-played : goal.returns-clause-played
+returns-clause-played c =
+    plays_well c.play_whole.result c.args.text.now c.args.transcript.now.items c.play_whole.new.transcript.items
+    c.in_ok-opening.field-0 c.in-Ok.stage.world _ c.in_ok-opening.ensures.script c.in-Ok.ensures.opened
+    c.in-Ok.ensures.losses (ap length c.as_slice.ensures.value) c.play_whole.ensures.played
+
+pub returns-clause-wanting : goal.returns-clause-wanting
+returns-clause-wanting c = λ is.
+    plays_losing c.args.text.now c.args.transcript.now.items c.play_whole.new.transcript.items c.in_ok-opening.field-0
+    c.in-Ok.stage.world _ c.in_ok-opening.ensures.script c.in-Ok.ensures.opened c.in-Ok.ensures.losses
+    (ap length c.as_slice.ensures.value) (c.play_whole.ensures.wanting is)

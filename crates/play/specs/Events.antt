@@ -1,0 +1,47 @@
+-- The event that an order asks for.
+use Rattle.std.specs.Prelude.{◌≡◌, ℕ, Bool, nat_le, if◌then◌else◌, ◌&&◌, List, Option, Some, None, option_map}
+use Rattle.std.specs.List.{list_all}
+use Rattle.script.specs.declared.order.Amount.{Amount}
+use Rattle.script.specs.declared.order.Amount.TheVariants as amounts
+use Rattle.script.specs.declared.order.Order.{Order}
+use Rattle.script.specs.declared.order.Order.TheVariants as orders
+use Rattle.world.specs.declared.event.Event.{Event}
+use Rattle.world.specs.declared.event.Event.TheVariants as events
+
+-- a number that a node can have
+abbrev pub is_small : ℕ → Bool
+is_small number = nat_le number 255
+
+abbrev pub node_of : ℕ → Option ℕ
+node_of number = if is_small number then Some number else None
+
+-- a configuration is assigned, where each number can be a node's
+abbrev pub assign_of : List ℕ → ℕ → Option Event
+assign_of members primary =
+    if list_all is_small members && is_small primary
+    then Some (events.Assign (record { members = members; primary = primary })) else None
+
+-- how many bytes are carried where so many wait
+abbrev pub count_of : ℕ → Amount → ℕ
+count_of waiting amounts.All = waiting
+count_of waiting (amounts.Bytes count) = count
+
+-- where so many bytes wait on the connection that it names
+abbrev pub event_of : ℕ → Order → Option Event
+event_of waiting (orders.Assign members primary) = assign_of members primary
+event_of waiting (orders.Deliver message) = Some (events.Deliver message)
+event_of waiting (orders.Tick node) = option_map events.Tick (node_of node)
+event_of waiting (orders.Crash node) = option_map events.Crash (node_of node)
+event_of waiting (orders.Open client node) = option_map (events.Open client) (node_of node)
+event_of waiting (orders.CarryUp connection amount) = Some (events.CarryUp connection (count_of waiting amount))
+event_of waiting (orders.CarryDown connection amount) = Some (events.CarryDown connection (count_of waiting amount))
+event_of waiting (orders.Abandon client) = Some (events.Abandon client)
+event_of waiting (orders.Disconnect client) = Some (events.Disconnect client)
+event_of waiting (orders.Notice connection) = Some (events.Notice connection)
+event_of waiting (orders.Publish client publication) = Some (events.Publish client publication)
+event_of waiting (orders.Subscribe client filter qos) = Some (events.Subscribe client filter qos)
+event_of waiting (orders.Unsubscribe client filter) = Some (events.Unsubscribe client filter)
+
+-- the event of an order, or none, however many bytes wait
+abbrev pub IsEventOf : Order → Option Event → Type 0
+IsEventOf order event = (waiting : ℕ) × (event ≡ event_of waiting order)

@@ -1,0 +1,17 @@
+-- How other errors become those of a script that is played.
+use Rattle.ballot.specs.declared.error.OpeningError.{OpeningError}
+use Rattle.ballot.specs.declared.error.OpeningError.TheVariants as openings
+use Rattle.script.specs.declared.error.ScriptError.{ScriptError}
+use Rattle.script.specs.declared.error.ScriptError.TheVariants as scripts
+use Rattle.play.specs.declared.error.PlayError.{PlayError}
+use Rattle.play.specs.declared.error.PlayError.TheVariants as faults
+
+-- of a text that is no script
+abbrev pub fault_of : ScriptError → PlayError
+fault_of (scripts.Line number) = faults.Line number
+fault_of scripts.Memory = faults.Memory
+
+-- of a world that does not open
+abbrev pub opening_fault_of : OpeningError → PlayError
+opening_fault_of openings.BadMembers = faults.Line 1
+opening_fault_of openings.Memory = faults.Memory

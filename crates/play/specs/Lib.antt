@@ -1,0 +1,4 @@
+pub mod Transcripts
+pub mod Events
+pub mod Faults
+pub mod Inside

@@ -1,0 +1,93 @@
+// Why a script was not played as it should be.
+
+use script::ScriptError;
+use std::alloc::{AllocError, AllocFailed};
+use std::error::Error;
+use std::fmt;
+use world::{Memory, OpeningError};
+
+/// Why a script was not played as it should be.
+#[derive(Clone, Copy, Debug, PartialEq, Eq)]
+pub enum PlayError {
+    /// The text is no script: the first of its lines that has not its form, counted from 1. Nothing was
+    /// played.
+    Line(u64),
+    /// No memory was found. The transcript ends before its last line, maybe within a line.
+    Memory,
+    /// It was played to its end, and in some event memory was wanting.
+    Losses,
+}
+
+impl fmt::Display for PlayError {
+    fn fmt<W: fmt::Write>(&self, f: &mut fmt::Formatter<W>) -> fmt::Result {
+        match self {
+            PlayError::Line(number) => write!(f, "script line {number}"),
+            PlayError::Memory => write!(f, "out of memory"),
+            PlayError::Losses => write!(f, "memory was wanting in the world"),
+        }
+    }
+}
+
+impl Error for PlayError {}
+
+impl From<ScriptError> for PlayError {
+    ghost use Rattle.std.specs.Prelude.{◌≡◌};
+    ghost use Rattle.play.specs.Faults.{fault_of};
+
+    ghost from_gives = { λ error fault. fault ≡ fault_of error };
+
+    fn from(error: ScriptError) -> PlayError {
+        match error {
+            ScriptError::Line(number) => PlayError::Line(number),
+            ScriptError::Memory => PlayError::Memory,
+        }
+    }
+}
+
+impl From<AllocError> for PlayError {
+    ghost use Rattle.std.specs.Prelude.{◌≡◌};
+    ghost use Rattle.play.specs.declared.error.PlayError.TheVariants.{Memory};
+
+    ghost from_gives = { λ _ fault. fault ≡ Memory };
+
+    fn from(_error: AllocError) -> PlayError {
+        PlayError::Memory
+    }
+}
+
+impl<T: Drop> From<AllocFailed<T>> for PlayError {
+    ghost use Rattle.std.specs.Prelude.{◌≡◌};
+    ghost use Rattle.play.specs.declared.error.PlayError.TheVariants.{Memory};
+
+    ghost from_gives = { λ _ fault. fault ≡ Memory };
+
+    fn from(_error: AllocFailed<T>) -> PlayError {
+        PlayError::Memory
+    }
+}
+
+impl From<Memory> for PlayError {
+    ghost use Rattle.std.specs.Prelude.{◌≡◌};
+    ghost use Rattle.play.specs.declared.error.PlayError.TheVariants as faults;
+
+    ghost from_gives = { λ _ fault. fault ≡ faults.Memory };
+
+    fn from(_error: Memory) -> PlayError {
+        PlayError::Memory
+    }
+}
+
+impl From<OpeningError> for PlayError {
+    ghost use Rattle.std.specs.Prelude.{◌≡◌};
+    ghost use Rattle.play.specs.Faults.{opening_fault_of};
+
+    ghost from_gives = { λ error fault. fault ≡ opening_fault_of error };
+
+    fn from(error: OpeningError) -> PlayError {
+        match error {
+            // A script that is read opens a world that may open.
+            OpeningError::BadMembers => PlayError::Line(1),
+            OpeningError::Memory => PlayError::Memory,
+        }
+    }
+}

@@ -1,0 +1,139 @@
+// The event that an order asks for.
+
+ghost use Rattle.std.specs.Prelude.{◌≡◌, true, Some, length, option_map, IfOk, IsErrOf, OnErr};
+ghost use Rattle.std.specs.List.{list_all};
+ghost use Rattle.world.specs.declared.event.Event.TheVariants as events;
+ghost use Rattle.play.specs.Events.{IsEventOf, assign_of, count_of, event_of, is_small, node_of};
+
+use crate::error::PlayError;
+use ballot_base::{Config, Members};
+use packet::ClientId;
+use script::{Amount, Numbers, Order};
+use std::alloc::Global;
+use world::{Event, World};
+
+/// The event that an order asks for in a world; none where it names a number that no node can have.
+/// The only error is want of memory.
+pub(crate) fn event_of(
+    alloc: Global,
+    world: &World,
+    order: &Order,
+) -> Result<Option<Event>, PlayError>
+    ensures event { IfOk result (IsEventOf order.now) }
+    ensures memory { OnErr result (IsErrOf result PlayError.Memory) }
+{
+    match order {
+        Order::Assign(members, primary) => assign(alloc, members, *primary),
+        Order::Deliver(message) => Ok(Some(Event::Deliver(*message))),
+        Order::Tick(node) => Ok(tick(*node)),
+        Order::Crash(node) => Ok(crash(*node)),
+        Order::Open(client, node) => open(client, *node),
+        Order::CarryUp(connection, amount) => {
+            let count = count_of(*amount, world.up(*connection));
+            Ok(Some(Event::CarryUp(*connection, count)))
+        }
+        Order::CarryDown(connection, amount) => {
+            let count = count_of(*amount, world.down(*connection));
+            Ok(Some(Event::CarryDown(*connection, count)))
+        }
+        Order::Notice(connection) => Ok(Some(Event::Notice(*connection))),
+        _ => Ok(Some(call(order)?)),
+    }
+}
+
+// What a client is to do.
+fn call(order: &Order) -> Result<Event, PlayError>
+    ensures event { IfOk result (λ event. IsEventOf order.now (Some event)) }
+    ensures memory { OnErr result (IsErrOf result PlayError.Memory) }
+{
+    match order {
+        Order::Abandon(client) => Ok(Event::Abandon(client.clone()?)),
+        Order::Disconnect(client) => Ok(Event::Disconnect(client.clone()?)),
+        Order::Publish(client, publication) => {
+            Ok(Event::Publish(client.clone()?, publication.clone()?))
+        }
+        Order::Subscribe(client, filter, qos) => {
+            Ok(Event::Subscribe(client.clone()?, filter.clone()?, *qos))
+        }
+        Order::Unsubscribe(client, filter) => {
+            Ok(Event::Unsubscribe(client.clone()?, filter.clone()?))
+        }
+        _ => Err(PlayError::Memory),
+    }
+}
+
+fn assign(alloc: Global, members: &Numbers, primary: u64) -> Result<Option<Event>, PlayError>
+    ensures event { IfOk result (λ event. event ≡ assign_of members.now primary) }
+    ensures memory { OnErr result (IsErrOf result PlayError.Memory) }
+{
+    if !are_small(members.as_slice()) || primary > 255 {
+        return Ok(None);
+    }
+    let members = small_members(alloc, members.as_slice())?;
+    let primary = primary as u8;
+    Ok(Some(Event::Assign(Config { members, primary })))
+}
+
+// Whether nodes can have these numbers.
+fn are_small(numbers: &[u64]) -> bool
+    ensures { result ≡ list_all is_small numbers.now }
+{
+    numbers.iter().all(|number| *number <= 255)
+}
+
+// Members of numbers that nodes can have.
+fn small_members(alloc: Global, numbers: &[u64]) -> Result<Members, PlayError>
+    requires { list_all is_small numbers.now ≡ true }
+    ensures value { IfOk result (λ members. members ≡ numbers.now) }
+    ensures memory { OnErr result (IsErrOf result PlayError.Memory) }
+{
+    let mut small: Vec<u8> = Vec::new(alloc);
+    for number in numbers {
+        small.push(*number as u8)?;
+    }
+    Ok(Members::from_slice(alloc, small.as_slice())?)
+}
+
+fn tick(node: u64) -> Option<Event>
+    ensures { result ≡ option_map events.Tick (node_of node) }
+{
+    Some(Event::Tick(node_of(node)?))
+}
+
+fn crash(node: u64) -> Option<Event>
+    ensures { result ≡ option_map events.Crash (node_of node) }
+{
+    Some(Event::Crash(node_of(node)?))
+}
+
+fn open(client: &ClientId, node: u64) -> Result<Option<Event>, PlayError>
+    ensures event { IfOk result (λ event.
+        event ≡ option_map (events.Open client.now) (node_of node)) }
+    ensures memory { OnErr result (IsErrOf result PlayError.Memory) }
+{
+    let Some(node) = node_of(node) else {
+        return Ok(None);
+    };
+    Ok(Some(Event::Open(client.clone()?, node)))
+}
+
+// How many bytes are carried of those that wait.
+fn count_of(amount: Amount, waiting: &[u8]) -> u64
+    ensures { result ≡ count_of (length waiting.now) amount }
+{
+    match amount {
+        Amount::All => waiting.len() as u64,
+        Amount::Bytes(count) => count,
+    }
+}
+
+// The number of a node, if one can have it.
+fn node_of(number: u64) -> Option<u8>
+    ensures { result ≡ node_of number }
+{
+    if number <= 255 {
+        Some(number as u8)
+    } else {
+        None
+    }
+}

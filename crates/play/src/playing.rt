@@ -1,0 +1,63 @@
+// Playing a script.
+
+ghost use Rattle.std.specs.Prelude.{◌≡◌, ◌<◌, ◌++◌, ℕ, List, length, OnOk, OnErr, IsErrOf};
+ghost use Rattle.script.specs.declared.error.ScriptError.TheVariants.{Line};
+ghost use Rattle.script.specs.Scripts.{Refuses, lines_of};
+ghost use Rattle.play.specs.Transcripts.{Plays};
+ghost use Rattle.play.specs.Inside.{AppendsAll, PlaysOn};
+
+use crate::error::PlayError;
+use crate::stage::Stage;
+use script::{Order, Script, read};
+use std::alloc::Global;
+
+/// Plays a script, and appends its transcript. The whole text is read before anything is played.
+pub fn play(alloc: Global, text: &[u8], transcript: &mut Vec<u8>) -> Result<(), PlayError>
+    ensures played { OnOk result (Plays text.now transcript.old.items transcript.new.items 0) }
+
+    // A text is no script for its first line that has not its form; nothing is played of it.
+    ensures refused { (number : ℕ) → IsErrOf result (PlayError.Line number)
+        → Refuses (lines_of text.now) (Line number) }
+    ensures untouched { (number : ℕ) → IsErrOf result (PlayError.Line number)
+        → transcript.new.items ≡ transcript.old.items }
+
+    // Where memory was wanting in the world, the transcript is whole all the same.
+    ensures wanting { IsErrOf result PlayError.Losses → (losses : ℕ) × ((0 < losses)
+        × Plays text.now transcript.old.items transcript.new.items losses) }
+{
+    let Script { opening, orders } = read(alloc, text)?;
+    let mut stage = match Stage::new(alloc, opening) {
+        Ok(stage) => stage,
+        Err(error) => return Err(error),
+    };
+    play_whole(&mut stage, orders.as_slice(), transcript)
+}
+
+// Lets happen what the orders ask for, and appends what came of it, to the last line.
+fn play_whole(
+    stage: &mut Stage,
+    orders: &[Order],
+    transcript: &mut Vec<u8>,
+) -> Result<(), PlayError>
+    ensures played { OnOk result (PlaysOn (length orders.now) stage.old.world
+        transcript.old.items transcript.new.items 0) }
+    ensures form { (number : ℕ) → IsErrOf result (PlayError.Line number) → ⊥ }
+    ensures wanting { IsErrOf result PlayError.Losses → (losses : ℕ) × ((0 < losses)
+        × PlaysOn (length orders.now) stage.old.world transcript.old.items transcript.new.items
+        losses) }
+{
+    play_all(stage, orders, transcript)?;
+    stage.end(transcript)
+}
+
+// Lets happen what the orders ask for, one after the other, and appends what came of it.
+fn play_all(stage: &mut Stage, orders: &[Order], transcript: &mut Vec<u8>) -> Result<(), PlayError>
+    ensures lines { OnOk result (AppendsAll (length orders.now) stage.old.world stage.new.world
+        transcript.old.items transcript.new.items) }
+    ensures memory { OnErr result (IsErrOf result PlayError.Memory) }
+{
+    for (index, order) in orders.iter().enumerate() {
+        stage.play(index as u64, order, transcript)?;
+    }
+    Ok(())
+}
