@@ -1,0 +1,5 @@
+//! Scripts that are played, against their transcripts. Tests alone stand here.
+#![tactic(auto)]
+
+#[cfg(test)]
+mod tests;

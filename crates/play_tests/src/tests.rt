@@ -1,0 +1,6 @@
+// What no clause says: what comes of each line of a script, from its text to the text of its transcript.
+
+mod hand;
+mod refusals;
+mod rows;
+mod scripts;

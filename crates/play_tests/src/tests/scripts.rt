@@ -1,0 +1,265 @@
+// Whole scripts with their transcripts, as they stand in the folder `examples` of the repository.
+
+use crate::tests::hand::gives;
+use std::alloc::Global;
+
+const ANSWER_WAITS_FOR_THE_BACKUP: [&str; 2] = [
+    "world 2 1,2 1 a\n\
+    open a 1\n\
+    up 1 all\n\
+    deliver 0\n\
+    deliver 1\n\
+    down 1 all\n",
+    "0 ok msgs=0 agreed=0\n\
+    1 ok msgs=1 agreed=0\n\
+    2 ok msgs=2 agreed=1\n\
+    3 ok msgs=3 agreed=1\n\
+    4 ok msgs=3 agreed=1\n\
+    end agreed=1 active=1\n",
+];
+
+const CONFIGURATION_CHANGES: [&str; 2] = [
+    "world 2 1 1 a\n\
+    assign 1,2 2\n\
+    deliver 0\n\
+    deliver 1\n\
+    deliver 2\n\
+    deliver 3\n\
+    deliver 4\n\
+    deliver 5\n\
+    deliver 6\n\
+    deliver 7\n\
+    deliver 8\n",
+    "0 ok msgs=1 agreed=0\n\
+    1 ok msgs=2 agreed=0\n\
+    2 ok msgs=3 agreed=0\n\
+    3 ok msgs=4 agreed=0\n\
+    4 ok msgs=5 agreed=0\n\
+    5 ok msgs=6 agreed=0\n\
+    6 ok msgs=7 agreed=0\n\
+    7 ok msgs=8 agreed=0\n\
+    8 ok msgs=9 agreed=1\n\
+    9 ok msgs=10 agreed=1\n\
+    end agreed=1 active=2\n",
+];
+
+const PRIMARY_CRASHES: [&str; 2] = [
+    "world 2 1,2 1 a,b\n\
+    open b 1\n\
+    up 1 all\n\
+    deliver 0\n\
+    deliver 1\n\
+    down 1 all\n\
+    subscribe b t/# 2\n\
+    up 1 all\n\
+    deliver 3\n\
+    deliver 4\n\
+    open a 1\n\
+    up 2 all\n\
+    deliver 6\n\
+    deliver 7\n\
+    down 2 all\n\
+    publish a t/1 2 0 78\n\
+    up 2 all\n\
+    deliver 9\n\
+    crash 1\n\
+    assign 2 2\n\
+    deliver 11\n\
+    deliver 13\n\
+    deliver 14\n\
+    deliver 15\n\
+    deliver 16\n\
+    abandon a\n\
+    open a 2\n\
+    up 3 all\n\
+    down 3 all\n\
+    up 3 all\n\
+    down 3 all\n\
+    abandon b\n\
+    open b 2\n\
+    up 4 all\n\
+    down 4 all\n",
+    "0 ok msgs=0 agreed=0\n\
+    1 ok msgs=1 agreed=0\n\
+    2 ok msgs=2 agreed=1\n\
+    3 ok msgs=3 agreed=1\n\
+    4 ok msgs=3 agreed=1\n\
+    5 ok msgs=3 agreed=1\n\
+    6 ok msgs=4 agreed=1\n\
+    7 ok msgs=5 agreed=2\n\
+    8 ok msgs=6 agreed=2\n\
+    9 ok msgs=6 agreed=2\n\
+    10 ok msgs=7 agreed=2\n\
+    11 ok msgs=8 agreed=3\n\
+    12 ok msgs=9 agreed=3\n\
+    13 ok msgs=9 agreed=3\n\
+    14 ok msgs=9 agreed=3\n\
+    15 ok msgs=10 agreed=3\n\
+    16 ok msgs=11 agreed=4\n\
+    17 ok msgs=11 agreed=4\n\
+    18 ok msgs=12 agreed=4\n\
+    19 ok msgs=14 agreed=4\n\
+    20 ok msgs=15 agreed=4\n\
+    21 ok msgs=16 agreed=4\n\
+    22 ok msgs=17 agreed=4\n\
+    23 ok msgs=17 agreed=5\n\
+    24 ok msgs=17 agreed=5\n\
+    25 ok msgs=17 agreed=5\n\
+    26 ok msgs=17 agreed=6\n\
+    27 ok msgs=17 agreed=6\n\
+    28 ok msgs=17 agreed=7\n\
+    29 ok msgs=17 agreed=7\n\
+    30 ok msgs=17 agreed=7\n\
+    31 ok msgs=17 agreed=7\n\
+    32 ok msgs=17 agreed=8\n\
+    33 ok msgs=17 agreed=8\n\
+    accepted b 1 2 0 t/1 x\n\
+    end agreed=8 active=2\n",
+];
+
+const STALE_PRIMARY: [&str; 2] = [
+    "world 2 1,2 1 a,b\n\
+    open b 1\n\
+    up 1 all\n\
+    deliver 0\n\
+    deliver 1\n\
+    down 1 all\n\
+    subscribe b t/# 2\n\
+    up 1 all\n\
+    deliver 3\n\
+    deliver 4\n\
+    open a 1\n\
+    up 2 all\n\
+    deliver 6\n\
+    deliver 7\n\
+    down 2 all\n\
+    publish a t/1 2 0 78\n\
+    up 2 all\n\
+    deliver 9\n\
+    deliver 10\n\
+    down 1 all\n\
+    up 1 all\n\
+    assign 2 2\n\
+    deliver 13\n\
+    deliver 15\n\
+    deliver 16\n\
+    deliver 17\n\
+    deliver 18\n\
+    tick 1\n\
+    deliver 19\n\
+    abandon b\n\
+    open b 2\n\
+    up 3 all\n\
+    down 3 all\n",
+    "0 ok msgs=0 agreed=0\n\
+    1 ok msgs=1 agreed=0\n\
+    2 ok msgs=2 agreed=1\n\
+    3 ok msgs=3 agreed=1\n\
+    4 ok msgs=3 agreed=1\n\
+    5 ok msgs=3 agreed=1\n\
+    6 ok msgs=4 agreed=1\n\
+    7 ok msgs=5 agreed=2\n\
+    8 ok msgs=6 agreed=2\n\
+    9 ok msgs=6 agreed=2\n\
+    10 ok msgs=7 agreed=2\n\
+    11 ok msgs=8 agreed=3\n\
+    12 ok msgs=9 agreed=3\n\
+    13 ok msgs=9 agreed=3\n\
+    14 ok msgs=9 agreed=3\n\
+    15 ok msgs=10 agreed=3\n\
+    16 ok msgs=11 agreed=4\n\
+    17 ok msgs=12 agreed=4\n\
+    18 ok msgs=12 agreed=4\n\
+    accepted b 1 2 0 t/1 x\n\
+    19 ok msgs=13 agreed=4\n\
+    20 ok msgs=14 agreed=4\n\
+    21 ok msgs=16 agreed=4\n\
+    22 ok msgs=17 agreed=4\n\
+    23 ok msgs=18 agreed=4\n\
+    24 ok msgs=19 agreed=4\n\
+    25 ok msgs=19 agreed=5\n\
+    26 ok msgs=21 agreed=5\n\
+    27 ok msgs=21 agreed=5\n\
+    28 ok msgs=21 agreed=5\n\
+    29 ok msgs=21 agreed=5\n\
+    30 ok msgs=21 agreed=6\n\
+    31 ok msgs=21 agreed=6\n\
+    end agreed=6 active=2\n",
+];
+
+const BALLOT_IS_PUT_OUT: [&str; 2] = [
+    "world 3 1 1 a\n\
+    assign 1,2 2\n\
+    deliver 0\n\
+    deliver 1\n\
+    deliver 2\n\
+    deliver 3\n\
+    deliver 4\n\
+    assign 3 3\n\
+    deliver 5\n\
+    deliver 7\n\
+    deliver 6\n\
+    deliver 8\n\
+    deliver 9\n\
+    deliver 10\n\
+    deliver 11\n\
+    open a 1\n\
+    open a 3\n\
+    up 1 all\n\
+    down 1 all\n",
+    "0 ok msgs=1 agreed=0\n\
+    1 ok msgs=2 agreed=0\n\
+    2 ok msgs=3 agreed=0\n\
+    3 ok msgs=4 agreed=0\n\
+    4 ok msgs=5 agreed=0\n\
+    5 ok msgs=6 agreed=0\n\
+    6 ok msgs=7 agreed=0\n\
+    7 ok msgs=8 agreed=0\n\
+    8 ok msgs=8 agreed=0\n\
+    9 ok msgs=9 agreed=0\n\
+    10 ok msgs=10 agreed=0\n\
+    11 ok msgs=11 agreed=0\n\
+    12 ok msgs=12 agreed=0\n\
+    13 ok msgs=12 agreed=1\n\
+    14 idle\n\
+    15 ok msgs=12 agreed=1\n\
+    16 ok msgs=12 agreed=2\n\
+    17 ok msgs=12 agreed=2\n\
+    end agreed=2 active=3\n",
+];
+
+// Whether a script gives its transcript.
+fn goes_well(alloc: Global, row: &[&str; 2]) -> bool {
+    gives(alloc, row[0], row[1])
+}
+
+// The primary answers a CONNECT once its backup holds it.
+#[test]
+fn answer_waits_for_the_backup(rt: HostRuntime) {
+    assert!(rt; goes_well(rt.alloc(), &ANSWER_WAITS_FOR_THE_BACKUP));
+}
+
+// A sole member is joined by another one, which becomes the primary.
+#[test]
+fn configuration_changes(rt: HostRuntime) {
+    assert!(rt; goes_well(rt.alloc(), &CONFIGURATION_CHANGES));
+}
+
+// The primary crashes before it commits what its backup holds. A client publishes again what was not
+// answered, and the subscriber takes it in once.
+#[test]
+fn primary_crashes(rt: HostRuntime) {
+    assert!(rt; goes_well(rt.alloc(), &PRIMARY_CRASHES));
+}
+
+// A primary of a ballot that is over adds a command that nobody is told of; its message changes nothing.
+#[test]
+fn stale_primary(rt: HostRuntime) {
+    assert!(rt; goes_well(rt.alloc(), &STALE_PRIMARY));
+}
+
+// A ballot waits for its activation when the next one is assigned, and never becomes active.
+#[test]
+fn ballot_is_put_out(rt: HostRuntime) {
+    assert!(rt; goes_well(rt.alloc(), &BALLOT_IS_PUT_OUT));
+}
