@@ -1,5 +1,5 @@
 -- Steps of nodes, one behind the other.
-use Rattle.std.proofs.Common.{◌≡◌, ◌<◌, ◌≤◌, ◌^◌, ◌-◌, ℕ, zero, suc, Option, Some, None, Result, Ok, Err, OnOk, OnErr, sym, ◌∙◌, subst, arith}
+use Rattle.std.proofs.Common.{◌≡◌, ◌<◌, ◌≤◌, ◌^◌, ◌-◌, ℕ, zero, suc, Option, Some, None, Result, Ok, Err, OnOk, OnErr, sym, subst, arith}
 use Rattle.std.specs.Prelude.{slice_get}
 use Rattle.ballot.specs.Body.{Body}
 use Rattle.ballot.specs.Body.TheVariants.{NewBallot, Join, State, Install, Installed, Activate, Activated, Superseded, Append, Held, Commit}
@@ -17,9 +17,8 @@ use Rattle.group_model.proofs.Ordered.{groups_keep_the_order}
 use Rattle.world_nodes.specs.Nodes.{NodesState, StandsFor}
 use Rattle.world_nodes.specs.Goes.{Acts, Comes, GoesBy, HeardByMaster, MasterActs}
 use Rattle.world_nodes.specs.Steps.{LosesNothing as NodesLoseNothing}
-use Rattle.world.specs.Goes.{AreReached, Goes, GoesTo, NodesGo, NodesGoOn, LosesNothing, StaysReached, WorldGoesOn}
+use Rattle.world.specs.Goes.{AreReached, Goes, GoesTo, NodesGo, NodesGoOn, StaysReached}
 use Rattle.world.specs.Goes.Goes.{rests, goes_on}
-use Rattle.world.specs.World.{WorldState}
 
 -- ---- nodes
 
@@ -43,6 +42,13 @@ nodes_join a b c one two =
           record { behind = next.behind; goes = goes_join first.goes next.goes; stands = next.stands };
     }
 
+-- one behind the other
+pub nodes_go_join : (a b c : NodesState) → NodesGo a b → NodesGo b c → NodesGo a c
+nodes_go_join a b c one two g s =
+    let first = one g s in
+    let next = two first.behind first.stands in
+    record { behind = next.behind; goes = goes_join first.goes next.goes; stands = next.stands }
+
 by_step : (deed : Option (ℕ × Deed)) (g : Group) (new : NodesState) → GoesBy deed g new → GoesTo g new
 by_step deed g new by = record { behind = by.does.behind; goes = goes_on rests by.does.step; stands = by.stands }
 
@@ -52,7 +58,7 @@ by_deed old new at deed rises acts = record { rises = rises; goes = λ none g s.
 pub by_master : (old new : NodesState) (next : Group → Group) → old.losses ≤ new.losses → (NodesLoseNothing old new → MasterActs next old new) → NodesGoOn old new
 by_master old new next rises acts = record { rises = rises; goes = λ none g s. by_step None g new (acts none g s).0 }
 
-rest : (old new : NodesState) → new ≡ old → NodesGo old new
+pub rest : (old new : NodesState) → new ≡ old → NodesGo old new
 rest old new same g s = subst (λ (n : NodesState). GoesTo g n) (sym same) (record { behind = g; goes = rests; stands = s })
 
 heard_goes : (from : ℕ) (body : Body Command) (old new : NodesState) → HeardByMaster from body old new → NodesGo old new
@@ -97,46 +103,6 @@ pub by_handing : {X : Type 0} (Y : Type 0) (r : Result X Idle) (old new : NodesS
     → (NodesLoseNothing old new → OnOk r (Acts at deed old new)) → OnErr r ((new ≡ old) × Y) → NodesGoOn old new
 by_handing Y (Ok x) old new at deed rises acts same = by_deed old new at deed rises acts
 by_handing Y (Err e) old new at deed rises acts same = nodes_rest old new same.0
-
--- ---- worlds
-
-pub world_rests : (old new : WorldState) → new ≡ old → WorldGoesOn old new
-world_rests old new same =
-    subst (λ (w : WorldState). WorldGoesOn old w) (sym same)
-    (record { rises = omega arith; goes = λ none g s. record { behind = g; goes = rests; stands = s } })
-
-pub world_join : (a b c : WorldState) → WorldGoesOn a b → WorldGoesOn b c → WorldGoesOn a c
-world_join a b c one two =
-    record {
-      rises = (let x = one.rises in let y = two.rises in omega (arith, x, y));
-      goes = λ none g s.
-          let x = one.rises in let y = two.rises in let same = none.0 in let low = none.1 in
-          let first = one.goes ((let e : b.losses ≡ a.losses = omega (arith, x, y, same) in e), low) g s in
-          let next = two.goes ((let e : c.losses ≡ b.losses = omega (arith, x, y, same) in e), (let l : b.losses < 2 ^ 64 - 1 = omega (arith, x, y, same, low) in l)) first.behind first.stands in
-          record { behind = next.behind; goes = goes_join first.goes next.goes; stands = next.stands };
-    }
-
--- a step, and its count behind it
-pub step_goes : (old mid new : WorldState) (before : ℕ) → before ≡ old.nodes.losses → NodesGoOn old.nodes mid.nodes → mid.losses ≡ old.losses
-    → new.nodes ≡ mid.nodes → mid.losses ≤ new.losses → (LosesNothing mid new → (mid.nodes.losses ≡ before) × (before < 2 ^ 64 - 1)) → WorldGoesOn old new
-step_goes old mid new before is went same nodes rises whole =
-    record {
-      rises = (let x = rises in let y = same in omega (arith, x, y));
-      goes = λ none.
-          let a = none.0 in let b = none.1 in
-          let w = whole ((let e : new.losses ≡ mid.losses = omega (arith, a, same) in e), (let l : mid.losses < 2 ^ 64 - 1 = omega (arith, b, same) in l)) in
-          let low = w.1 in
-          subst (λ (n : NodesState). NodesGo old.nodes n) (sym nodes)
-          (went.goes (w.0 ∙ is, (let l : old.nodes.losses < 2 ^ 64 - 1 = omega (arith, is, low) in l)));
-    }
-
--- an idle one
-pub idle_goes : (old new : WorldState) → new.nodes ≡ old.nodes → new.losses ≡ old.losses → WorldGoesOn old new
-idle_goes old new nodes same =
-    record {
-      rises = omega (arith, same);
-      goes = λ none. subst (λ (n : NodesState). NodesGo old.nodes n) (sym nodes) (λ g s. record { behind = g; goes = rests; stands = s });
-    }
 
 -- ---- agreement
 

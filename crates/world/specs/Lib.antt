@@ -1,2 +1,5 @@
 pub mod World
 pub mod Goes
+pub mod Standing
+pub mod Housed
+pub mod Inside

@@ -4,10 +4,14 @@
 mod calling;
 mod carrying;
 mod event;
+mod gathering;
+mod going_on;
 mod place;
+mod playing;
 mod world;
 
 pub use event::Event;
+pub use playing::play;
 pub use world::World;
 pub use world_base::{Config, Members, Memory, OpeningError};
 pub use world_nodes::Idle;

@@ -1,8 +1,14 @@
 // A world.
 
-ghost use Rattle.std.specs.Prelude.{◌≡◌, ◌≤◌, ◌<◌, ◌^◌, ◌-◌, ◌↔◌, false, length, IfOk, IsErrOf, OnErr};
+ghost use Rattle.std.specs.Prelude.{◌≡◌, ◌≤◌, ◌<◌, ◌^◌, ◌-◌, ◌↔◌, false, Some, length, map, slice_get, IfOk, IfSome, IsErrOf, OnErr};
 ghost use Rattle.agreement.specs.World.{can_open};
-ghost use Rattle.world.specs.Goes.{AreReached, LosesNothing, NodesGoOn, StaysReached, WorldGoesOn};
+ghost use Rattle.ballot.specs.Losses.{one_more};
+ghost use Rattle.model.specs.World.{AreApart};
+ghost use Rattle.world_model.specs.World.{new_client};
+ghost use Rattle.world_pipes.specs.Standing.{StandsFor};
+ghost use Rattle.world.specs.Goes.{AreReached, LosesNothing, StaysReached, WorldGoesOn};
+ghost use Rattle.world.specs.Inside.{GoesOn};
+ghost use Rattle.world.specs.Standing.{ClientsStand, IsReached, KeepsReached, WorldGoes, identifiers};
 
 use crate::event::Event;
 use crate::place::Place;
@@ -33,12 +39,11 @@ pub struct World {
     pub(crate) connections: Vec<Place>,
     // Of each node the connections whose end there is open, in the order of opening; node n + 1 at place n.
     pub(crate) open: Vec<Vec<u64>>,
-    // Whether memory was wanting in this step, in what the nodes do not count.
-    pub(crate) wanting: bool,
-    losses: u64,
+    pub(crate) losses: u64,
 }
 
 impl Model for World {
+    ghost use Rattle.world.specs.Housed.{AreHoused, leads_of};
     ghost use Rattle.world.specs.World.{WorldState};
 
     ghost Value = { WorldState };
@@ -50,6 +55,8 @@ impl Model for World {
           connections = w.connections.items;
           losses = w.losses;
         } };
+
+    ghost invariant = { λ w. AreHoused (leads_of w.clients.items) w.connections.items };
 }
 
 impl World {
@@ -62,15 +69,17 @@ impl World {
         config: Config,
         clients: &[ClientId],
     ) -> Result<World, OpeningError>
+        // Where each client has an identifier of its own, each is exact.
+        ensures exact { AreApart clients.now →
+            IfOk result (λ world. IsReached nodes config clients.now world) }
+        ensures clients { IfOk result (λ world. identifiers world.clients ≡ clients.now) }
+        // The nodes agree.
         ensures reached { IfOk result (λ world. AreReached nodes config world.nodes) }
         ensures losses { IfOk result (λ world. world.losses ≡ 0) }
         ensures bad { IsErrOf result OpeningError.BadMembers ↔ (can_open nodes config ≡ false) }
     {
         let opened = Nodes::opening(alloc, nodes, config)?;
-        let mut keepers = Vec::new(alloc);
-        for client in clients {
-            keepers.push(new_client(alloc, client)?)?;
-        }
+        let keepers = new_clients(alloc, clients)?;
         let mut open = Vec::new(alloc);
         for _node in 0..nodes {
             open.push(Vec::new(alloc))?;
@@ -81,7 +90,6 @@ impl World {
             clients: keepers,
             connections: Vec::new(alloc),
             open,
-            wanting: false,
             losses: 0,
         })
     }
@@ -89,17 +97,19 @@ impl World {
     /// Lets one thing happen. [`Idle`] comes for what cannot happen now, and changes nothing. Where
     /// memory is wanting, messages are lost, connections are closed, nothing happens, or a node stops.
     pub fn step(&mut self, event: &Event) -> Result<(), Idle>
-        // Its nodes do what may happen in a group, or something was lost, which is counted.
+        // Whatever led up to here, each client is exact behind the event: the world goes by steps of
+        // the model, or something was lost, which is counted.
+        ensures exact { LosesNothing self.old self.new → KeepsReached self.old self.new }
+        ensures steps { LosesNothing self.old self.new → WorldGoes self.old self.new }
+        // Its nodes go on as a group, and agree behind the event.
         ensures goes { WorldGoesOn self.old self.new }
-        // Whatever led up to here, the nodes agree behind the event, what left is in order, and of
-        // each connection they have its packets in order.
         ensures reached { LosesNothing self.old self.new →
             StaysReached self.old.nodes self.new.nodes }
+        ensures same { OnErr result (self.new ≡ self.old) }
         ensures nodes { OnErr result (self.new.nodes ≡ self.old.nodes) }
         ensures losses { OnErr result (self.new.losses ≡ self.old.losses) }
     {
         let before = self.nodes.losses();
-        self.wanting = false;
         self.happen(event)?;
         self.count(before);
         Ok(())
@@ -107,6 +117,10 @@ impl World {
 
     /// Lets events happen one after the other. Idle ones are passed over.
     pub fn run(&mut self, events: &[Event])
+        // Whatever led up to here, each client is exact behind the events.
+        ensures exact { LosesNothing self.old self.new → KeepsReached self.old self.new }
+        ensures steps { LosesNothing self.old self.new → WorldGoes self.old self.new }
+        // Its nodes go on as a group, and agree behind them.
         ensures goes { WorldGoesOn self.old self.new }
         ensures reached { LosesNothing self.old self.new →
             StaysReached self.old.nodes self.new.nodes }
@@ -167,12 +181,17 @@ impl World {
     }
 
     // Where a client stands.
-    pub(crate) fn place_of(&self, client: &ClientId) -> Option<usize> {
+    pub(crate) fn place_of(&self, client: &ClientId) -> Option<usize>
+        ensures { IfSome result (λ at. at < length self.now.clients) }
+    {
         self.clients.iter().position(|found| found.name == *client)
     }
 
     // Where a connection stands.
-    pub(crate) fn place(&self, number: u64) -> Option<Place> {
+    pub(crate) fn place(&self, number: u64) -> Option<Place>
+        ensures { IfSome result (λ place.
+            (0 < number) × (slice_get self.now.connections (number - 1) ≡ Some place)) }
+    {
         if number == 0 {
             return None;
         }
@@ -194,23 +213,31 @@ impl World {
         }
     }
 
-    // Counts a step in which memory was wanting, where the nodes had counted so many before it.
+    // Memory was wanting, which is counted.
+    pub(crate) fn lose(&mut self)
+        ensures lost { self.new ≡ record self.old { losses = one_more self.old.losses } }
+        ensures rises { self.old.losses ≤ self.new.losses }
+    {
+        self.losses = self.losses.saturating_add(1);
+    }
+
+    // Counts a step in which memory was wanting in the nodes, which had counted so many before it.
     fn count(&mut self, before: u64)
         ensures nodes { self.new.nodes ≡ self.old.nodes }
+        ensures clients { self.new.clients ≡ self.old.clients }
         ensures rises { self.old.losses ≤ self.new.losses }
         ensures whole { LosesNothing self.old self.new →
             (self.old.nodes.losses ≡ before) × (before < 2 ^ 64 - 1) }
     {
         let whole = self.nodes.losses() == before && before < u64::MAX;
-        if self.wanting || !whole {
-            self.losses = self.losses.saturating_add(1);
+        if !whole {
+            self.lose();
         }
     }
 
     fn happen(&mut self, event: &Event) -> Result<(), Idle>
-        ensures nodes { NodesGoOn self.old.nodes self.new.nodes }
-        ensures same { OnErr result (self.new.nodes ≡ self.old.nodes) }
-        ensures losses { self.new.losses ≡ self.old.losses }
+        ensures goes { GoesOn self.old self.new }
+        ensures same { OnErr result (self.new ≡ self.old) }
     {
         match event {
             Event::Assign(config) => self.assign(config),
@@ -226,8 +253,8 @@ impl World {
 
     // What clients do, and what they hear.
     fn call(&mut self, event: &Event) -> Result<(), Idle>
-        ensures nodes { self.new.nodes ≡ self.old.nodes }
-        ensures losses { self.new.losses ≡ self.old.losses }
+        ensures goes { GoesOn self.old self.new }
+        ensures same { OnErr result (self.new ≡ self.old) }
     {
         match event {
             Event::CarryDown(connection, count) => self.carry_down(*connection, *count),
@@ -241,8 +268,23 @@ impl World {
     }
 }
 
+// Clients that were never connected.
+fn new_clients(alloc: Global, clients: &[ClientId]) -> Result<Vec<WorldClient>, Memory>
+    ensures stand { IfOk result (λ made. ClientsStand made.items (map new_client clients.now)) }
+    ensures named { IfOk result (λ made. identifiers made.items ≡ clients.now) }
+{
+    let mut made = Vec::new(alloc);
+    for client in clients {
+        made.push(new_one(alloc, client)?)?;
+    }
+    Ok(made)
+}
+
 // A client that was never connected.
-fn new_client(alloc: Global, client: &ClientId) -> Result<WorldClient, Memory> {
+fn new_one(alloc: Global, client: &ClientId) -> Result<WorldClient, Memory>
+    ensures stands { IfOk result (λ made. StandsFor made.piped (new_client client.now)) }
+    ensures named { IfOk result (λ made. made.name ≡ client.now) }
+{
     let piped = PipedClient::new(alloc, client.clone()?);
     Ok(WorldClient {
         name: client.clone()?,

@@ -1,11 +1,24 @@
-use Rattle.world.proofs.NodesGoOn.{by_call, nodes_join}
+use Rattle.std.proofs.Common.{refl}
+use Rattle.world.specs.World.{WorldState}
+use Rattle.world.proofs.GroupGoes.{goes_by_call}
+use Rattle.world.proofs.Joined.{goes_on_join}
 use Rattle.world.proofs.world.World.crash.Goals as goal
 
-pub returns-in_err-crash-clause-nodes : goal.returns-in_err-crash-clause-nodes
-returns-in_err-crash-clause-nodes c =
-    rw (← c.self.view_is) (by_call c.crash.result c.self.inside.nodes c.crash.new.self _ _ c.crash.ensures.rises c.crash.ensures.goes c.crash.ensures.same)
+pub returns-in_err-crash-clause-goes : goal.returns-in_err-crash-clause-goes
+returns-in_err-crash-clause-goes c =
+    rw (← c.self.view_is) (goes_by_call c.crash.result (let old : WorldState = record {
+      nodes = c.self.inside.nodes;
+      clients = c.self.inside.clients.items;
+      connections = c.self.inside.connections.items;
+      losses = c.self.inside.losses;
+    } in old) c.crash.new.self _ _ refl c.crash.ensures.rises c.crash.ensures.goes c.crash.ensures.same)
 
-pub returns-clause-nodes : goal.returns-clause-nodes
-returns-clause-nodes c =
-    rw (← c.self.view_is) (nodes_join _ _ _
-    (by_call c.crash.result c.self.inside.nodes c.crash.new.self _ _ c.crash.ensures.rises c.crash.ensures.goes c.crash.ensures.same) c.gather.ensures.nodes)
+pub returns-clause-goes : goal.returns-clause-goes
+returns-clause-goes c =
+    rw (← c.self.view_is) (goes_on_join _ _ _
+    (goes_by_call c.crash.result (let old : WorldState = record {
+      nodes = c.self.inside.nodes;
+      clients = c.self.inside.clients.items;
+      connections = c.self.inside.connections.items;
+      losses = c.self.inside.losses;
+    } in old) c.crash.new.self _ _ refl c.crash.ensures.rises c.crash.ensures.goes c.crash.ensures.same) c.gather.ensures)

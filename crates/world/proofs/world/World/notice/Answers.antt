@@ -1,9 +1,9 @@
 use Rattle.std.proofs.Common.{refl}
-use Rattle.world.proofs.NodesGoOn.{nodes_rest}
+use Rattle.world.proofs.Joined.{goes_on_rest}
 use Rattle.world.proofs.world.World.notice.Goals as goal
 
-pub returns-in_default-clause-nodes : goal.returns-in_default-clause-nodes
-returns-in_default-clause-nodes c = nodes_rest _ _ refl
+pub returns-in_default-clause-goes : goal.returns-in_default-clause-goes
+returns-in_default-clause-goes c = goes_on_rest _ _ refl
 
-pub returns-in_default-2-clause-nodes : goal.returns-in_default-2-clause-nodes
-returns-in_default-2-clause-nodes c = nodes_rest _ _ refl
+pub returns-in_default-2-clause-goes : goal.returns-in_default-2-clause-goes
+returns-in_default-2-clause-goes c = goes_on_rest _ _ refl

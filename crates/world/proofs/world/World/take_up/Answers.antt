@@ -1,20 +1,30 @@
-use Rattle.std.proofs.Common.{refl}
-use Rattle.world.proofs.NodesGoOn.{by_call, nodes_rest}
+use Rattle.std.proofs.Common.{◌<◌, length, refl, arith}
+use Rattle.master.proofs.Counting.{get_there}
+use Rattle.world.specs.World.{WorldState}
+use Rattle.world.proofs.ClientGoes.{housed_still}
+use Rattle.world.proofs.Handed.{takes_on}
+use Rattle.world.proofs.Joined.{goes_on_rest}
 use Rattle.world.proofs.world.World.take_up.Goals as goal
 
-pub returns-in_default-clause-nodes : goal.returns-in_default-clause-nodes
-returns-in_default-clause-nodes c = rw (← c.self.view_is) (nodes_rest _ _ refl)
+pub returns-then-place-len-clause-goes : goal.returns-then-place-len-clause-goes
+returns-then-place-len-clause-goes c = goes_on_rest _ _ refl
 
-pub returns-then-not-is_part-clause-nodes : goal.returns-then-not-is_part-clause-nodes
-returns-then-not-is_part-clause-nodes c = rw (← c.self.view_is) (nodes_rest _ _ refl)
+pub invariant_of-self : goal.invariant_of-self
+invariant_of-self c =
+    let few : c.args.place.client < length c.self.inside.clients.items = omega arith in
+    let found = get_there c.self.inside.clients.items c.args.place.client c.index_mut.result.now few c.index_mut.ensures.value in
+    housed_still c.self.inside.clients.items c.self.inside.connections.items c.args.place.client c.index_mut.result.now c.take_up.new.piped found
+    c.take_up.ensures.leads c.self.invariant
 
-pub returns-in_err-take-clause-nodes : goal.returns-in_err-take-clause-nodes
-returns-in_err-take-clause-nodes c =
-    rw (← c.self.view_is) (by_call c.take.result c.self.inside.nodes c.take.new.self _ _ c.take.ensures.rises c.take.ensures.goes c.take.ensures.same)
-
-pub returns-clause-nodes : goal.returns-clause-nodes
-returns-clause-nodes c =
-    rw (← c.self.view_is) (by_call c.take.result c.self.inside.nodes c.take.new.self _ _ c.take.ensures.rises c.take.ensures.goes c.take.ensures.same)
-
-pub returns-then-place-len-clause-nodes : goal.returns-then-place-len-clause-nodes
-returns-then-place-len-clause-nodes c = rw (← c.self.view_is) (nodes_rest _ _ refl)
+pub returns-clause-goes : goal.returns-clause-goes
+returns-clause-goes c =
+    let few : c.args.place.client < length c.self.inside.clients.items = omega arith in
+    let found = get_there c.self.inside.clients.items c.args.place.client c.index_mut.result.now few c.index_mut.ensures.value in
+    let stands = rw (← c.self.view_is) at c.requires.stands in
+    rw (← c.self.view_is) (takes_on c.take_up.result (let old : WorldState = record {
+      nodes = c.self.inside.nodes;
+      clients = c.self.inside.clients.items;
+      connections = c.self.inside.connections.items;
+      losses = c.self.inside.losses;
+    } in old) c.args.number c.args.count c.args.place c.index_mut.result.now c.take_up.new.nodes c.take_up.new.piped c.self.invariant
+    stands c.requires.positive found c.take_up.ensures.nodes c.take_up.ensures.takes c.take_up.ensures.same c.take_up.ensures.still)

@@ -1,0 +1,74 @@
+-- CallsCounted.antt: a call of a client takes its world where it may go, want of memory is counted, and a refusal changes nothing.
+use Rattle.std.proofs.Common.{◌≡◌, ◌≤◌, ℕ, Bool, true, false, if◌then◌else◌, Some, Result, Ok, Err, IsOk, IsErr, OnErr, slice_get, refl, sym, ◌∙◌, subst}
+use Rattle.std.proofs.lemmas.Bool.{both_ways}
+use Rattle.client_base.specs.declared.error.ClientError.{ClientError}
+use Rattle.client_base.specs.declared.error.ClientError.TheVariants as errors
+use Rattle.master.specs.declared.event.Idle.{Idle}
+use Rattle.world_pipes.specs.declared.sending.Sending.{Sending}
+use Rattle.world_pipes.specs.declared.sending.Sending.TheVariants as sendings
+use Rattle.world_pipes.specs.Following.{CallingFollows, FollowsAll}
+use Rattle.world_pipes.specs.Goes.{ClientGoes}
+use Rattle.world_pipes.specs.Piped.{Piped}
+use Rattle.world_pipes.specs.Standing.{StandsFor}
+use Rattle.world_pipes.proofs.CallingFollows.{calling_goes}
+use Rattle.world.specs.declared.world.WorldClient.{WorldClient}
+use Rattle.world.specs.Inside.{Counts, GoesOn, forgetful}
+use Rattle.world.specs.World.{WorldState}
+use Rattle.world.proofs.ClientGoes.{client_goes_forgetful, client_goes_on, same_piped, with_piped}
+use Rattle.world.proofs.Joined.{goes_on_rest}
+
+done_no_err : (result : Result (Unit {0}) Idle) (P : Type 0) → IsOk result → OnErr result P
+done_no_err (Ok done) P ok = tt
+done_no_err (Err idle) P ok = absurd (both_ways false refl ok)
+
+on_err : (result : Result (Unit {0}) Idle) (P : Type 0) → P → OnErr result P
+on_err (Ok done) P p = tt
+on_err (Err idle) P p = p
+
+pub record IsCounted (old : WorldState) (result : Result (Unit {0}) Idle) (new : WorldState) : Type 0 where
+  pub goes : GoesOn old new
+  pub same : OnErr result (new ≡ old)
+
+idle_call : (old : WorldState) (i : ℕ) (client : WorldClient) (piped : Piped) (result : Result (Unit {0}) Idle) (new : WorldState) → slice_get old.clients i ≡ Some client →
+    piped ≡ client.piped → IsErr result × (new ≡ with_piped i client piped old) → IsCounted old result new
+idle_call old i client piped result new found same counts =
+    let still : new ≡ old = counts.1 ∙ same_piped old i client piped found same in
+    record { goes = goes_on_rest old new still; same = on_err result (new ≡ old) still }
+
+pub call_counted : (old : WorldState) (i : ℕ) (client : WorldClient) (piped : Piped) (done : Result Sending ClientError) (result : Result (Unit {0}) Idle) (new : WorldState) →
+    slice_get old.clients i ≡ Some client → CallingFollows client.piped done piped → old.losses ≤ (forgetful old).losses → Counts done (with_piped i client piped old) result new →
+    IsCounted old result new
+call_counted old i client piped (Ok sendings.Sent) result new found follows rises counts =
+    record {
+      goes = subst (λ w. GoesOn old w) (sym counts.1) (client_goes_on old i client piped found (calling_goes client.piped (Ok sendings.Sent) piped follows));
+      same = done_no_err result (new ≡ old) counts.0;
+    }
+call_counted old i client piped (Ok sendings.Lost) result new found follows rises counts =
+    record {
+      goes = subst (λ w. GoesOn old w) (sym counts.1) (client_goes_forgetful old i client piped found follows rises);
+      same = done_no_err result (new ≡ old) counts.0;
+    }
+call_counted old i client piped (Err errors.Memory) result new found follows rises counts =
+    record {
+      goes = subst (λ w. GoesOn old w) (sym counts.1)
+          (client_goes_forgetful old i client piped found (calling_goes client.piped (Err errors.Memory) piped follows) rises);
+      same = done_no_err result (new ≡ old) counts.0;
+    }
+call_counted old i client piped (Err errors.NotActive) result new found follows rises counts = idle_call old i client piped result new found follows counts
+call_counted old i client piped (Err errors.WindowFull) result new found follows rises counts = idle_call old i client piped result new found follows counts
+call_counted old i client piped (Err errors.TooLarge) result new found follows rises counts = idle_call old i client piped result new found follows counts
+call_counted old i client piped (Err errors.SessionLost) result new found follows rises counts = idle_call old i client piped result new found follows counts
+call_counted old i client piped (Err errors.Protocol) result new found follows rises counts = idle_call old i client piped result new found follows counts
+call_counted old i client piped (Err (errors.Malformed kind)) result new found follows rises counts = idle_call old i client piped result new found follows counts
+
+-- ---- what a client hears
+
+pub hearing_counted : (old : WorldState) (i : ℕ) (client : WorldClient) (piped : Piped) (had : Bool) (new : WorldState) → slice_get old.clients i ≡ Some client →
+    FollowsAll client.piped piped → old.losses ≤ (forgetful old).losses →
+    new ≡ (if had then with_piped i client piped old else forgetful (with_piped i client piped old)) → GoesOn old new
+hearing_counted old i client piped true new found follows rises is = subst (λ w. GoesOn old w) (sym is) (client_goes_on old i client piped found follows)
+hearing_counted old i client piped false new found follows rises is = subst (λ w. GoesOn old w) (sym is) (client_goes_forgetful old i client piped found follows rises)
+
+-- one that hears nothing stays as it is
+pub stays_all : (old new : Piped) → new ≡ old → FollowsAll old new
+stays_all old new same m s = record { next = m; goes = ClientGoes.stays; stands = subst (λ p. StandsFor p m) (sym same) s }

@@ -1,0 +1,91 @@
+-- ClientGoes.antt: where a client goes, its world does.
+use Rattle.std.proofs.Common.{◌≡◌, ◌≤◌, ℕ, List, Some, set, slice_get, refl, sym, ap, ◌∙◌, subst, arith}
+use Rattle.std.proofs.lemmas.List.{set-set}
+use Rattle.lists.proofs.Places.{get_set}
+use Rattle.world_model.specs.World.{ClientPipes, World, with_client}
+use Rattle.world_pipes.specs.Following.{FollowsAll, FollowsLosing, after_losing}
+use Rattle.world_pipes.specs.Goes.{ClientGoes}
+use Rattle.world_pipes.specs.Piped.{Piped}
+use Rattle.world_pipes.proofs.StepsInWorlds.{steps_in_worlds}
+use Rattle.world.specs.declared.place.Place.{Place}
+use Rattle.world.specs.declared.world.WorldClient.{WorldClient}
+use Rattle.world.specs.Housed.{AreHoused, leads, leads_of}
+use Rattle.world.specs.Inside.{GoesOn, forgetful}
+use Rattle.world.specs.Standing.{Steps, WorldGoes}
+use Rattle.world.specs.Standing.Steps.{rests, goes_on}
+use Rattle.world.specs.World.{WorldState}
+use Rattle.world.proofs.ClientsStand.{client_at, stand_set}
+use Rattle.world.proofs.Joined.{world_goes_join, world_stays}
+use Rattle.world.proofs.LeadsKept.{housed_set}
+use Rattle.world.proofs.NodesGoOn.{nodes_rest}
+use Rattle.world.proofs.Turned.{set_itself}
+
+-- ---- the model
+
+-- where one client goes, and the place at which it stands then
+record StepsTo (w : World) (i : ℕ) (d : ClientPipes) : Type 0 where
+  pub steps : Steps w (with_client i d w)
+  pub at : slice_get (with_client i d w).clients i ≡ Some d
+
+steps_to : (w : World) (i : ℕ) {c d : ClientPipes} → slice_get w.clients i ≡ Some c → ClientGoes c d → StepsTo w i d
+steps_to w i {c = c} at ClientGoes.stays =
+    record {
+      steps = subst (λ (cs : List ClientPipes). Steps w (record w { clients = cs })) (sym (set_itself w.clients i c at)) rests;
+      at = get_set w.clients i c c at;
+    }
+steps_to w i {c = c} at (ClientGoes.goes_on {d = d} {e = e} goes step) =
+    let first = steps_to w i at goes in
+    record {
+      steps = subst (λ (cs : List ClientPipes). Steps w (record w { clients = cs })) (set-set w.clients i d e)
+          (goes_on first.steps (steps_in_worlds (with_client i d w) i d e first.at step));
+      at = get_set w.clients i c e at;
+    }
+
+-- ---- worlds in code
+
+-- the client at this place becomes this
+abbrev pub with_piped : ℕ → WorldClient → Piped → WorldState → WorldState
+with_piped i client piped w = record w { clients = set w.clients i (record client { piped = piped }) }
+
+pub client_goes : (old : WorldState) (i : ℕ) (client : WorldClient) (piped : Piped) → slice_get old.clients i ≡ Some client → FollowsAll client.piped piped →
+    WorldGoes old (with_piped i client piped old)
+client_goes old i client piped found follows nodes config cs m trail s =
+    let a = client_at old.clients m.clients i client s.clients found in
+    let f = follows a.c a.stands in
+    record {
+      behind = with_client i f.next m;
+      steps = (steps_to m i a.at f.goes).steps;
+      stands = record { nodes = s.nodes; clients = stand_set old.clients m.clients i (record client { piped = piped }) f.next s.clients f.stands };
+    }
+
+-- only clients change, and no count falls
+pub clients_go_on : (old new : WorldState) → new.nodes ≡ old.nodes → old.losses ≤ new.losses → WorldGoes old new → GoesOn old new
+clients_go_on old new nodes rises goes = record { rises = rises; nodes = nodes_rest old.nodes new.nodes nodes; goes = λ none whole. goes }
+
+pub client_goes_on : (old : WorldState) (i : ℕ) (client : WorldClient) (piped : Piped) → slice_get old.clients i ≡ Some client → FollowsAll client.piped piped →
+    GoesOn old (with_piped i client piped old)
+client_goes_on old i client piped found follows =
+    clients_go_on old (with_piped i client piped old) refl (omega arith) (client_goes old i client piped found follows)
+
+-- it finds no memory, which is counted
+pub client_goes_forgetful : (old : WorldState) (i : ℕ) (client : WorldClient) (piped : Piped) → slice_get old.clients i ≡ Some client → FollowsAll client.piped piped →
+    old.losses ≤ (forgetful old).losses → GoesOn old (forgetful (with_piped i client piped old))
+client_goes_forgetful old i client piped found follows rises =
+    let mid = with_piped i client piped old in
+    clients_go_on old (forgetful mid) refl rises (world_goes_join old mid (forgetful mid) (client_goes old i client piped found follows) (world_stays mid (forgetful mid) refl refl))
+
+-- a client that stays as it is leaves the world as it is
+pub same_piped : (old : WorldState) (i : ℕ) (client : WorldClient) (piped : Piped) → slice_get old.clients i ≡ Some client → piped ≡ client.piped → with_piped i client piped old ≡ old
+same_piped old i client piped found same =
+    ap (λ (p : Piped). with_piped i client p old) same ∙ ap (λ (cs : List WorldClient). record old { clients = cs }) (set_itself old.clients i client found)
+
+-- and connections lead where they led
+pub housed_still : (clients : List WorldClient) (connections : List Place) (i : ℕ) (client : WorldClient) (piped : Piped) → slice_get clients i ≡ Some client →
+    leads piped.ways ≡ leads client.piped.ways → AreHoused (leads_of clients) connections →
+    AreHoused (leads_of (set clients i (record client { piped = piped }))) connections
+housed_still clients connections i client piped found same housed =
+    subst (λ all. AreHoused all connections) (sym (housed_set clients i client (record client { piped = piped }) found same)) housed
+
+-- a client that loses its connection
+pub losing_goes : (old new : Piped) → FollowsLosing old new → FollowsAll old new
+losing_goes old new follows m s = let f = follows m s in record { next = after_losing m; goes = f.1; stands = f.0 }

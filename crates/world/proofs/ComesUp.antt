@@ -1,0 +1,68 @@
+-- ComesUp.antt: bytes that come to a node are gone from the connection.
+use Rattle.std.proofs.Common.{◌≡◌, ◌-◌, ◌≤◌, ℕ, suc, List, ◌++◌, take, drop, length, slice_get, Some, refl, sym, ap, ◌∙◌, subst, arith}
+use Rattle.std.proofs.lemmas.List.{take-append-drop, take-append-le, drop-append-le}
+use Rattle.std.proofs.lemmas.Option.{same_Some}
+use Rattle.world_base.specs.declared.item.Item.TheVariants.{Bytes}
+use Rattle.world_base.specs.declared.item.Port.{Port}
+use Rattle.node_model.specs.Moves.Deed.{takes}
+use Rattle.world_model.specs.World.{HasPipe, Pipe, World, with_client, with_pipe}
+use Rattle.world_model.specs.Goes.WorldStep.{comes_up}
+use Rattle.world_nodes.specs.Goes.{Acts}
+use Rattle.world_nodes.specs.Nodes.{NodesState}
+use Rattle.world_pipes.specs.declared.way.Way.{Way}
+use Rattle.world_pipes.specs.Piped.{Piped}
+use Rattle.world.specs.declared.place.Place.{Place}
+use Rattle.world.specs.declared.world.WorldClient.{WorldClient}
+use Rattle.world.specs.Housed.{LeadsThere, leads_of}
+use Rattle.world.specs.Inside.{TakesUp, with_less}
+use Rattle.world.specs.Standing.{GoesTo, StandsFor, WorldGoes}
+use Rattle.world.specs.Standing.Steps.{rests, goes_on}
+use Rattle.world.specs.World.{WorldState}
+use Rattle.world.proofs.ClientsStand.{StandsAt, client_at, stand_set}
+use Rattle.world.proofs.GoesDown.{put_down}
+use Rattle.world.proofs.LeadsKept.{led}
+use Rattle.world.proofs.WaysStand.{PipeAt, pipe_at, way_changes}
+
+taken_up : (old : WorldState) (m : World) (s : StandsFor m old) (place : Place) (client : WorldClient) (one : StandsAt m.clients place.client client.piped) (way : Way)
+    (x : PipeAt client.piped one.c place.at way) (new : NodesState) (count : ℕ) → count ≤ length way.up
+    → Acts x.p.node (takes (Bytes x.p.port (take count way.up) 0)) old.nodes new → GoesTo m (put_down place.client client (with_less place.at count way client.piped) new old)
+taken_up old m s place client one way x new count part acts =
+    let d = acts m.group s.nodes in
+    let has : HasPipe m place.client one.c x.turned.place x.κ x.p = record { client = one.at; connection = x.connection; pipe = x.pipe } in
+    let more = x.is.up.rest in
+    let front : take count x.p.up ≡ take count way.up = ap (take count) x.is.up.is ∙ take-append-le count way.up more part in
+    let whole : x.p.up ≡ take count way.up ++ drop count x.p.up = sym (take-append-drop count x.p.up) ∙ ap (λ (l : List ℕ). l ++ drop count x.p.up) front in
+    let q : Pipe = record x.p { up = drop count x.p.up } in
+    let later : Way = record way { up = drop count way.up } in
+    record {
+      behind = with_client place.client (with_pipe x.turned.place q one.c) (record m { group = d.does.behind });
+      steps = goes_on rests (comes_up place.client x.turned.place one.c x.κ x.p (take count way.up) (drop count x.p.up) 0 d.does has whole);
+      stands = record {
+        nodes = d.stands;
+        clients = stand_set old.clients m.clients place.client (record client { piped = with_less place.at count way client.piped }) (with_pipe x.turned.place q one.c) s.clients
+            (way_changes client.piped one.c place.at way later x q one.stands
+            (record {
+              node = x.is.node;
+              port = x.is.port;
+              up = record { rest = more; is = ap (drop count) x.is.up.is ∙ drop-append-le count way.up more part };
+              down = x.is.down;
+            })
+            (λ e. ap (drop count) e) refl);
+      };
+    }
+
+pub takes_up : (old : WorldState) (number count : ℕ) (place : Place) (client : WorldClient) (new : NodesState) (later : Piped) → LeadsThere (leads_of old.clients) number place
+    → slice_get old.clients place.client ≡ Some client → TakesUp place (record { 0 = number }) count old.nodes client.piped new later
+    → WorldGoes old (put_down place.client client later new old)
+takes_up old number count place client new later there at t nodes config cs m trail s =
+    let l = led old.clients number place client there at in
+    let one = client_at old.clients m.clients place.client client s.clients at in
+    let x = pipe_at client.piped one.c place.at t.way one.stands t.found in
+    let same : l.way ≡ t.way = same_Some l.way t.way (sym l.found ∙ t.found) in
+    let port : (let q : Port = record { 0 = number } in q) ≡ x.p.port = sym l.port ∙ ap (λ (z : Way). z.port) same ∙ sym x.is.port in
+    let leads : place.node ≡ suc x.p.node = sym l.node ∙ ap (λ (z : Way). suc z.node) same ∙ ap suc (sym x.is.node) in
+    let low : place.node - 1 ≡ x.p.node = omega (arith, leads) in
+    subst (λ (z : Piped). GoesTo m (put_down place.client client z new old)) (sym t.is)
+    (taken_up old m s place client one t.way x new count t.part
+    (subst (λ (k : ℕ). Acts k (takes (Bytes x.p.port (take count t.way.up) 0)) old.nodes new) low
+    (subst (λ (q : Port). Acts (place.node - 1) (takes (Bytes q (take count t.way.up) 0)) old.nodes new) port t.acts)))

@@ -1,0 +1,122 @@
+-- GoesDown.antt: what a node hands over for a connection goes down on it.
+use Rattle.std.proofs.Common.{◌≡◌, inl, inr, ◌-◌, ℕ, suc, Bool, if◌then◌else◌, List, [], ◌++◌, Option, Some, None, set, slice_get, refl, sym, ap, ◌∙◌, subst, arith}
+use Rattle.std.proofs.lemmas.Option.{same_Some}
+use Rattle.ballot.specs.Config.{Config}
+use Rattle.broker_base.specs.Connection.{ConnectionName, same_connection}
+use Rattle.broker_base.specs.Place.{Client}
+use Rattle.lists.specs.Lists.{In}
+use Rattle.lists.proofs.Tests.{eq_is}
+use Rattle.story.proofs.Takes.{same_name_self}
+use Rattle.world_base.specs.declared.connection.Connection.{Connection as NodesEnd}
+use Rattle.world_base.specs.declared.item.Port.{Port}
+use Rattle.world_base.specs.Connections.{is_at}
+use Rattle.world_base.specs.Core.{CoreState, CountedCore}
+use Rattle.world_base.specs.Handing.{bytes_of, listed_at}
+use Rattle.node_model.specs.Moves.Deed.{gives}
+use Rattle.node_model.proofs.Views.{found_passes}
+use Rattle.connection_model.specs.Streams.{bytes_named}
+use Rattle.connection_model.specs.Streams.{goes_down as goes_down_in}
+use Rattle.world_model.specs.World.{HasPipe, Pipe, World, with_client, with_pipe}
+use Rattle.world_model.specs.Goes.{Reached}
+use Rattle.world_model.specs.Goes.WorldStep.{goes_down}
+use Rattle.world_model.proofs.NodesGoOn.{carries_with}
+use Rattle.world_model.proofs.PipesHold.{found_in}
+use Rattle.world_model.proofs.PipesInOrder.{reached_holds}
+use Rattle.world_nodes.specs.Goes.{Acts, HandsOver}
+use Rattle.world_nodes.specs.Nodes.{NodesState}
+use Rattle.world_pipes.specs.declared.way.Way.{Way}
+use Rattle.world_pipes.specs.Piped.{Piped}
+use Rattle.world.specs.declared.place.Place.{Place}
+use Rattle.world.specs.declared.world.WorldClient.{WorldClient}
+use Rattle.world.specs.Housed.{LeadsThere, leads_of}
+use Rattle.world.specs.Inside.{HandsDown, PutsDown, with_down}
+use Rattle.world.specs.Standing.{GoesTo, StandsFor, WorldGoes}
+use Rattle.world.specs.Standing.Steps.{rests, goes_on}
+use Rattle.world.specs.World.{WorldState}
+use Rattle.world.proofs.ClientsStand.{StandsAt, client_at, stand_set}
+use Rattle.world.proofs.LeadsKept.{led}
+use Rattle.world.proofs.Turned.{mapped_from, set_itself}
+use Rattle.world.proofs.WaysStand.{PipeAt, pipe_at, way_changes}
+
+-- all that a node hands over at a port is of one name
+all_named : (x : ConnectionName) (port : Port) (core : CoreState) → ((d : NodesEnd) → In d core.connections → d.port.0 ≡ port.0 → d.name ≡ x)
+    → bytes_named x (listed_at port core) ≡ bytes_of (listed_at port core)
+all_named x port core ports = by (listed_at port core) refl
+  where
+    named : (d : NodesEnd) → d.name ≡ x → (let l : List ℕ = if same_connection d.name x then d.pending else [] in l) ≡ d.pending
+    named d is = ap (λ (b : Bool). let l : List ℕ = if b then d.pending else [] in l) (ap (λ (y : ConnectionName). same_connection y x) is ∙ same_name_self x)
+
+    by : (o : Option NodesEnd) → listed_at port core ≡ o → bytes_named x o ≡ bytes_of o
+    by None e = refl
+    by (Some d) e = named d (ports d (found_in (is_at port) core.connections d e) (eq_is d.port.0 port.0 (found_passes (is_at port) core.connections d e)))
+
+-- the world behind it
+abbrev pub put_down : ℕ → WorldClient → Piped → NodesState → WorldState → WorldState
+put_down i client later new old = record old { nodes = new; clients = set old.clients i (record client { piped = later }) }
+
+module _ {nodes : ℕ} {config : Config} {cs : List Client} (m : World) (trail : Reached nodes config cs m) (old : WorldState) (s : StandsFor m old) (place : Place) (client : WorldClient)
+    (one : StandsAt m.clients place.client client.piped) (way : Way) (x : PipeAt client.piped one.c place.at way) (new : NodesState) where
+  has : HasPipe m place.client one.c x.turned.place x.κ x.p
+  has = record { client = one.at; connection = x.connection; pipe = x.pipe }
+
+  -- with the bytes that it handed over
+  hands_down : (bytes : List ℕ) → Acts x.p.node (gives x.p.port) old.nodes new → HandsOver (suc x.p.node) x.p.port old.nodes way.down bytes
+      → GoesTo m (put_down place.client client (with_down place.at way bytes client.piped) new old)
+  hands_down bytes acts over =
+      let d = acts m.group s.nodes in
+      let carried = carries_with m.group d.does.behind d.does.step x.p.node (gives x.p.port) d.does.faithful d.does.is in
+      let placed = ((reached_holds m trail).each place.client one.c x.turned.place x.κ x.p has).placed in
+      let same : placed.core ≡ carried.core = same_Some placed.core carried.core (sym placed.stands ∙ carried.stands) in
+      let named = all_named x.κ.name x.p.port carried.core (λ e i at. placed.ports e (subst (λ (k : CoreState). In e k.connections) (sym same) i) at) in
+      let core = mapped_from (λ (c : CountedCore). c.core) old.nodes.nodes x.p.node carried.core (sym (ap (λ (l : List CoreState). slice_get l x.p.node) s.nodes.nodes) ∙ carried.stands) in
+      let handed = over core.x core.found in
+      let down : bytes ≡ x.p.down ++ goes_down_in x.κ.name d.does.step =
+      handed ∙ ap (λ (l : List ℕ). l ++ bytes_of (listed_at x.p.port core.x.core)) (sym x.is.down)
+      ∙ ap (λ (l : List ℕ). x.p.down ++ l)
+      (ap (λ (k : CoreState). bytes_of (listed_at x.p.port k)) core.is ∙ sym named ∙ sym (carried.down x.κ.name)) in
+      let q : Pipe = record x.p { down = x.p.down ++ goes_down_in x.κ.name d.does.step } in
+      let later : Way = record way { down = bytes } in
+      record {
+        behind = with_client place.client (with_pipe x.turned.place q one.c) (record m { group = d.does.behind });
+        steps = goes_on rests (goes_down place.client x.turned.place one.c x.κ x.p d.does has);
+        stands = record {
+          nodes = d.stands;
+          clients = stand_set old.clients m.clients place.client (record client { piped = with_down place.at way bytes client.piped }) (with_pipe x.turned.place q one.c) s.clients
+              (way_changes client.piped one.c place.at way later x q one.stands
+              (record { node = x.is.node; port = x.is.port; up = x.is.up; down = sym down }) (λ e. e) refl);
+        };
+      }
+
+  -- with none, where the node is unknown
+  hands_nothing : (later : Piped) → slice_get old.clients place.client ≡ Some client → new ≡ old.nodes → later ≡ client.piped → GoesTo m (put_down place.client client later new old)
+  hands_nothing later at same still =
+      subst (λ (z : Piped). GoesTo m (put_down place.client client z new old)) (sym still)
+      (subst (λ (l : List WorldClient). GoesTo m (let w : WorldState = record old { nodes = new; clients = l } in w)) (sym (set_itself old.clients place.client client at))
+      (subst (λ (n : NodesState). GoesTo m (let w : WorldState = record old { nodes = n } in w)) (sym same)
+      (record { behind = m; steps = rests; stands = s })))
+
+-- what its node put out for the connection of a number goes down, or nothing does
+pub puts_down : (old : WorldState) (number : ℕ) (place : Place) (client : WorldClient) (new : NodesState) (later : Piped) → LeadsThere (leads_of old.clients) number place
+    → slice_get old.clients place.client ≡ Some client → PutsDown place.at place.node (record { 0 = number }) old.nodes client.piped new later
+    → WorldGoes old (put_down place.client client later new old)
+puts_down old number place client new later there at puts nodes config cs m trail s =
+    let l = led old.clients number place client there at in
+    let one = client_at old.clients m.clients place.client client s.clients at in
+    let x = pipe_at client.piped one.c place.at l.way one.stands l.found in
+    let p = puts l.way l.found in by l.way one x p.0 l.node l.port l.found p.1 p.2
+  where
+    by : (way : Way) (one : StandsAt m.clients place.client client.piped) (x : PipeAt client.piped one.c place.at way) (bytes : List ℕ) → suc way.node ≡ place.node → way.port ≡ record { 0 = number }
+        → slice_get client.piped.ways place.at ≡ Some way → HandsDown place.node (record { 0 = number }) old.nodes way.down new bytes → later ≡ with_down place.at way bytes client.piped
+        → GoesTo m (put_down place.client client later new old)
+    by way one x bytes node port found (inl (same, still)) is =
+        hands_nothing m trail old s place client one way x new later at same
+        (is ∙ ap (λ (b : List ℕ). with_down place.at way b client.piped) still
+        ∙ ap (λ (ws : List Way). let z : Piped = record client.piped { ways = ws } in z) (set_itself client.piped.ways place.at way found))
+    by way one x bytes node port found (inr (acts, over)) is =
+        let number_is : place.node ≡ suc x.p.node = sym node ∙ ap suc (sym x.is.node) in
+        let port_is : (let q : Port = record { 0 = number } in q) ≡ x.p.port = sym port ∙ sym x.is.port in
+        let low : place.node - 1 ≡ x.p.node = omega (arith, number_is) in
+        subst (λ (z : Piped). GoesTo m (put_down place.client client z new old)) (sym is)
+        (hands_down m trail old s place client one way x new bytes
+        (subst (λ (k : ℕ). Acts k (gives x.p.port) old.nodes new) low (subst (λ (q : Port). Acts (place.node - 1) (gives q) old.nodes new) port_is acts))
+        (subst (λ (k : ℕ). HandsOver k x.p.port old.nodes way.down bytes) number_is (subst (λ (q : Port). HandsOver place.node q old.nodes way.down bytes) port_is over)))

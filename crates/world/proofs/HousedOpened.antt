@@ -1,0 +1,33 @@
+-- HousedOpened.antt: behind an opening each connection stands where it is known to stand.
+use Rattle.std.proofs.Common.{◌≡◌, ℕ, suc, List, [], ◌∷◌, ◌++◌, Some, length, set, slice_get, sym, ap, ◌∙◌, subst}
+use Rattle.std.proofs.lemmas.List.{length-map, map-append, map-set}
+use Rattle.client.specs.Core.{Core}
+use Rattle.group_model.proofs.Placed.{get_mapped}
+use Rattle.world_base.specs.declared.item.Port.{Port}
+use Rattle.world_pipes.specs.declared.way.Way.{Way}
+use Rattle.world_pipes.specs.Piped.{Piped, new_way, sent_up}
+use Rattle.world.specs.declared.place.Place.{Place}
+use Rattle.world.specs.declared.world.WorldClient.{WorldClient}
+use Rattle.world.specs.Housed.{AreHoused, leads, leads_of}
+use Rattle.world.proofs.HousedOn.{housed_more}
+
+abbrev lead : Way → ℕ × Port
+lead way = (way.node, way.port)
+
+-- the new one is behind those that the client had
+pub housed_opened : (clients : List WorldClient) (connections : List Place) (i : ℕ) (client : WorldClient) (piped : Piped) (node number : ℕ) (place : Place) (core : Core)
+    → slice_get clients i ≡ Some client → piped ≡ sent_up core client.piped.ways (new_way node (record { 0 = number })) → number ≡ suc (length connections) → place.client ≡ i
+    → place.at ≡ length client.piped.ways → suc node ≡ place.node → AreHoused (leads_of clients) connections
+    → AreHoused (leads_of (set clients i (record client { piped = piped }))) (connections ++ place ∷ [])
+housed_opened clients connections i client piped node number place core at is counted client_is last numbered h =
+    subst (λ (all : List (List (ℕ × Port))). AreHoused all (connections ++ place ∷ [])) (sym where_now)
+    (housed_more (leads_of clients) connections i (leads client.piped.ways) node number place (get_mapped (λ (c : WorldClient). leads c.piped.ways) clients i client at) counted client_is
+    (last ∙ sym (length-map client.piped.ways lead)) numbered h)
+  where
+    new : Way
+    new = record { node = node; port = record { 0 = number }; up = core.out; down = [] }
+
+    where_now : leads_of (set clients i (record client { piped = piped })) ≡ set (leads_of clients) i (leads client.piped.ways ++ (node, record { 0 = number }) ∷ [])
+    where_now =
+        map-set (λ (c : WorldClient). leads c.piped.ways) clients i (record client { piped = piped })
+        ∙ ap (set (leads_of clients) i) (ap (λ (p : Piped). leads p.ways) is ∙ map-append lead client.piped.ways (new ∷ []))

@@ -1,0 +1,142 @@
+-- Joined.antt: steps of worlds, one behind the other.
+use Rattle.std.proofs.Common.{◌≡◌, ◌<◌, ◌≤◌, ◌^◌, ◌-◌, ℕ, List, refl, sym, subst, arith}
+use Rattle.ballot.specs.Config.{Config}
+use Rattle.broker_base.specs.Place.{Client}
+use Rattle.exact_model.proofs.WorldsExact.{worlds_are_exact}
+use Rattle.model.specs.World.{AreApart}
+use Rattle.world_model.specs.World.{World}
+use Rattle.world_model.specs.Goes.{Reached}
+use Rattle.world_model.specs.Goes.Reached.{goes_on as reached_more}
+use Rattle.world_nodes.specs.Nodes.{NodesState, StandsFor as NodesStand}
+use Rattle.world_nodes.specs.Steps.{LosesNothing as NodesLoseNothing}
+use Rattle.world.specs.Goes.{LosesNothing, NodesGo, WorldGoesOn}
+use Rattle.world.specs.Inside.{GoesOn, RunsOn}
+use Rattle.world.specs.declared.world.WorldClient.{WorldClient}
+use Rattle.world.specs.Standing.{ClientsStand, GoesTo, IsReached, KeepsReached, StandsFor, Steps, WorldGoes}
+use Rattle.world.specs.Standing.Steps.{rests, goes_on}
+use Rattle.world.specs.World.{WorldState}
+use Rattle.world.proofs.NodesGoOn.{nodes_go_join, nodes_join, nodes_rest, rest}
+
+-- ---- worlds of the model
+
+pub steps_join : {m n o : World} → Steps m n → Steps n o → Steps m o
+steps_join one rests = one
+steps_join one (goes_on two step) = goes_on (steps_join one two) step
+
+pub reached_on : {nodes : ℕ} {config : Config} {cs : List Client} {m n : World} → Reached nodes config cs m → Steps m n → Reached nodes config cs n
+reached_on trail rests = trail
+reached_on trail (goes_on steps step) = reached_more (reached_on trail steps) step
+
+-- ---- worlds in code
+
+-- of a world the nodes and the clients alone stand for one of the model
+pub stands_as : (m : World) (a b : WorldState) → b.nodes ≡ a.nodes → b.clients ≡ a.clients → StandsFor m a → StandsFor m b
+stands_as m a b nodes clients s =
+    record {
+      nodes = subst (λ (n : NodesState). NodesStand m.group n) (sym nodes) s.nodes;
+      clients = subst (λ (cs : List WorldClient). ClientsStand cs m.clients) (sym clients) s.clients;
+    }
+
+pub world_stays : (a b : WorldState) → b.nodes ≡ a.nodes → b.clients ≡ a.clients → WorldGoes a b
+world_stays a b same clients nodes config cs m trail s = record { behind = m; steps = rests; stands = stands_as m a b same clients s }
+
+pub world_rests : (a b : WorldState) → b ≡ a → WorldGoes a b
+world_rests a b same nodes config cs m trail s = subst (λ (w : WorldState). GoesTo m w) (sym same) (record { behind = m; steps = rests; stands = s })
+
+pub world_goes_join : (a b c : WorldState) → WorldGoes a b → WorldGoes b c → WorldGoes a c
+world_goes_join a b c one two nodes config cs m trail s =
+    let first = one nodes config cs m trail s in
+    let next = two nodes config cs first.behind (reached_on trail first.steps) first.stands in
+    record { behind = next.behind; steps = steps_join first.steps next.steps; stands = next.stands }
+
+-- ---- parts of a step
+
+pub goes_on_rest : (a b : WorldState) → b ≡ a → GoesOn a b
+goes_on_rest a b same =
+    subst (λ (w : WorldState). GoesOn a w) (sym same)
+    (record { rises = omega arith; nodes = nodes_rest a.nodes a.nodes refl; goes = λ none whole. world_rests a a refl })
+
+pub goes_on_join : (a b c : WorldState) → GoesOn a b → GoesOn b c → GoesOn a c
+goes_on_join a b c one two =
+    let x = one.rises in let y = two.rises in let p = one.nodes.rises in let q = two.nodes.rises in
+    record {
+      rises = omega (arith, x, y);
+      nodes = nodes_join a.nodes b.nodes c.nodes one.nodes two.nodes;
+      goes = λ none whole.
+          let same = none.0 in let low = none.1 in let still = whole.0 in let below = whole.1 in
+          world_goes_join a b c
+          (one.goes ((let e : b.losses ≡ a.losses = omega (arith, x, y, same) in e), low)
+          ((let e : b.nodes.losses ≡ a.nodes.losses = omega (arith, p, q, still) in e), below))
+          (two.goes ((let e : c.losses ≡ b.losses = omega (arith, x, y, same) in e), (let l : b.losses < 2 ^ 64 - 1 = omega (arith, x, y, same, low) in l))
+          ((let e : c.nodes.losses ≡ b.nodes.losses = omega (arith, p, q, still) in e), (let l : b.nodes.losses < 2 ^ 64 - 1 = omega (arith, p, q, still, below) in l)));
+    }
+
+pub goes_on_still : (a b : WorldState) → b.nodes ≡ a.nodes → b.clients ≡ a.clients → b.losses ≡ a.losses → GoesOn a b
+goes_on_still a b nodes clients losses =
+    record { rises = omega (arith, losses); nodes = nodes_rest a.nodes b.nodes nodes; goes = λ none whole. world_stays a b nodes clients }
+
+-- ---- whole steps
+
+pub world_rests_on : (a b : WorldState) → b ≡ a → RunsOn a b
+world_rests_on a b same =
+    subst (λ (w : WorldState). RunsOn a w) (sym same)
+    (record {
+      rises = omega arith;
+      goes = λ none. world_rests a a refl;
+      nodes = λ none. rest a.nodes a.nodes refl;
+    })
+
+pub world_join : (a b c : WorldState) → RunsOn a b → RunsOn b c → RunsOn a c
+world_join a b c one two =
+    let x = one.rises in let y = two.rises in
+    record {
+      rises = omega (arith, x, y);
+      goes = λ none.
+          let s = split none in world_goes_join a b c (one.goes s.0) (two.goes s.1);
+      nodes = λ none.
+          let s = split none in nodes_go_join a.nodes b.nodes c.nodes (one.nodes s.0) (two.nodes s.1);
+    }
+  where
+    split : LosesNothing a c → LosesNothing a b × LosesNothing b c
+    split none =
+        let x = one.rises in let y = two.rises in let same = none.0 in let low = none.1 in (
+          ((let e : b.losses ≡ a.losses = omega (arith, x, y, same) in e), low),
+          ((let e : c.losses ≡ b.losses = omega (arith, x, y, same) in e), (let l : b.losses < 2 ^ 64 - 1 = omega (arith, x, y, same, low) in l)),
+        )
+
+pub nodes_run : (old new : WorldState) → RunsOn old new → WorldGoesOn old new
+nodes_run old new on = record { rises = on.rises; goes = on.nodes }
+
+pub runs_on : (old new : WorldState) → WorldGoesOn old new → (LosesNothing old new → WorldGoes old new) → RunsOn old new
+runs_on old new on goes = record { rises = on.rises; goes = goes; nodes = on.goes }
+
+-- a step, and its count behind it
+pub step_goes : (old mid new : WorldState) (before : ℕ) → before ≡ old.nodes.losses → GoesOn old mid → new.nodes ≡ mid.nodes → new.clients ≡ mid.clients
+    → mid.losses ≤ new.losses → (LosesNothing mid new → (mid.nodes.losses ≡ before) × (before < 2 ^ 64 - 1)) → RunsOn old new
+step_goes old mid new before is went nodes clients rises whole =
+    let x = went.rises in
+    record {
+      rises = omega (arith, x, rises);
+      goes = λ none. let s = split none in world_goes_join old mid new (went.goes s.0 s.1) (world_stays mid new nodes clients);
+      nodes = λ none. let s = split none in subst (λ (n : NodesState). NodesGo old.nodes n) (sym nodes) (went.nodes.goes s.1);
+    }
+  where
+    split : LosesNothing old new → LosesNothing old mid × NodesLoseNothing old.nodes mid.nodes
+    split none =
+        let x = went.rises in let same = none.0 in let low = none.1 in
+        let w = whole ((let e : new.losses ≡ mid.losses = omega (arith, x, rises, same) in e), (let l : mid.losses < 2 ^ 64 - 1 = omega (arith, x, rises, same, low) in l)) in
+        let below = w.1 in let still = w.0 in (
+          ((let e : mid.losses ≡ old.losses = omega (arith, x, rises, same) in e), low),
+          ((let e : mid.nodes.losses ≡ old.nodes.losses = omega (arith, still, is) in e), (let l : old.nodes.losses < 2 ^ 64 - 1 = omega (arith, is, below) in l)),
+        )
+
+-- ---- what is promised
+
+pub is_reached : (nodes : ℕ) (config : Config) (cs : List Client) (m : World) (w : WorldState) → AreApart cs → Reached nodes config cs m → StandsFor m w → IsReached nodes config cs w
+is_reached nodes config cs m w apart trail stands =
+    record { apart = apart; world = m; trail = trail; stands = stands; exact = worlds_are_exact nodes config cs m apart trail }
+
+pub keeps_reached : (old new : WorldState) → WorldGoes old new → KeepsReached old new
+keeps_reached old new goes nodes config cs r =
+    let to = goes nodes config cs r.world r.trail r.stands in
+    is_reached nodes config cs to.behind new r.apart (reached_on r.trail to.steps) to.stands

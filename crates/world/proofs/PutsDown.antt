@@ -1,0 +1,75 @@
+-- PutsDown.antt: what a node hands over is put behind what is under way down.
+use Rattle.std.proofs.Common.{◌≡◌, ◌↔◌, inl, inr, ◌-◌, ℕ, false, List, Option, Some, None, Result, Ok, Err, OnOk, OnErr, slice_get, refl, sym, ap, ◌∙◌, subst}
+use Rattle.std.specs.Prelude.{IfSome, IfOk, IsErr}
+use Rattle.std.proofs.lemmas.Bool.{both_ways}
+use Rattle.std.proofs.lemmas.List.{set-set}
+use Rattle.lists.proofs.Places.{get_set}
+use Rattle.master.specs.declared.event.Idle.{Idle}
+use Rattle.world_base.specs.declared.handed.Handed.{Handed}
+use Rattle.world_base.specs.declared.handed.Handed.TheVariants as answers
+use Rattle.world_base.specs.declared.item.Port.{Port}
+use Rattle.world_base.specs.Core.{CountedCore}
+use Rattle.node_model.specs.Moves.Deed.{gives}
+use Rattle.world_nodes.specs.Goes.{Acts, AnswersFor, HandsOver, node_of}
+use Rattle.world_nodes.specs.Nodes.{NodesState}
+use Rattle.world_pipes.specs.declared.way.Way.{Way}
+use Rattle.world_pipes.specs.Piped.{Piped}
+use Rattle.world.specs.Housed.{leads}
+use Rattle.world.specs.Inside.{HandsDown, PutsDown, Tells, with_down}
+use Rattle.world.proofs.LeadsKept.{leads_set}
+use Rattle.world.proofs.Turned.{set_itself}
+
+-- ---- one call of a node
+
+pub handed_down : (r : Result Handed Idle) (node : ℕ) (port : Port) (old new : NodesState) (before behind : List ℕ) → OnOk r (Acts (node - 1) (gives port) old new)
+    → OnOk r (HandsOver node port old before behind) → OnErr r ((new ≡ old) × (behind ≡ before)) → HandsDown node port old before new behind
+handed_down (Ok h) node port old new before behind acts over same = inr (acts, over)
+handed_down (Err e) node port old new before behind acts over same = inl same
+
+pub told : (r : Result Handed Idle) (node : ℕ) (port : Port) (old : NodesState) → r ≡ Ok answers.Open → IsErr r ↔ (node_of old.nodes node ≡ None)
+    → IfOk r (λ handed. AnswersFor node port old handed) → Tells node port old
+told (Err e) node port old is idle answer = absurd cc
+told (Ok h) node port old is idle answer = by (node_of old.nodes node) refl
+  where
+    by : (o : Option CountedCore) → node_of old.nodes node ≡ o → Tells node port old
+    by None none = absurd (both_ways false refl (idle.1 none))
+    by (Some core) there = (core, there, sym (answer core there) ∙ opened h is)
+      where
+        opened : (k : Handed) → (let r : Result Handed Idle = Ok k in r) ≡ Ok answers.Open → k ≡ answers.Open
+        opened k e = cc
+
+-- ---- bytes that are exchanged twice
+
+of_some : {X : Type 0} (P : X → Type 0) (o : Option X) (x : X) → o ≡ Some x → IfSome o P → P x
+of_some P o x e i = subst (λ (z : Option _). IfSome z P) e i
+
+exchanged : (old mid later : Piped) (at : ℕ) (none handed : List ℕ) → IfSome (slice_get old.ways at) (λ way. mid ≡ with_down at way none old)
+    → IfSome (slice_get mid.ways at) (λ way. later ≡ with_down at way handed mid) → (way : Way) → slice_get old.ways at ≡ Some way → later ≡ with_down at way handed old
+exchanged old mid later at none handed first second way found =
+    let bare : Way = record way { down = none } in
+    let one : mid ≡ with_down at way none old = of_some (λ (w : Way). mid ≡ with_down at w none old) (slice_get old.ways at) way found first in
+    let there : slice_get mid.ways at ≡ Some bare = ap (λ (p : Piped). slice_get p.ways at) one ∙ get_set old.ways at way bare found in
+    let two : later ≡ with_down at bare handed mid = of_some (λ (w : Way). later ≡ with_down at w handed mid) (slice_get mid.ways at) bare there second in
+    two ∙ ap (λ (p : Piped). with_down at bare handed p) one
+    ∙ ap (λ (l : List Way). let p : Piped = record old { ways = l } in p) (set-set old.ways at bare (record way { down = handed }))
+
+pub puts : (node : ℕ) (port : Port) (nodes behind : NodesState) (old mid later : Piped) (at : ℕ) (none moved handed : List ℕ)
+    → IfSome (slice_get old.ways at) (λ way. mid ≡ with_down at way none old) → IfSome (slice_get old.ways at) (λ way. moved ≡ way.down)
+    → IfSome (slice_get mid.ways at) (λ way. later ≡ with_down at way handed mid) → HandsDown node port nodes moved behind handed
+    → PutsDown at node port nodes old behind later
+puts node port nodes behind old mid later at none moved handed first given second hands way found = (
+  handed,
+  subst (λ (l : List ℕ). HandsDown node port nodes l behind handed) (of_some (λ (w : Way). moved ≡ w.down) (slice_get old.ways at) way found given) hands,
+  exchanged old mid later at none handed first second way found,
+)
+
+pub puts_nothing : (node : ℕ) (port : Port) (nodes : NodesState) (client : Piped) (at : ℕ) → PutsDown at node port nodes client nodes client
+puts_nothing node port nodes client at way found =
+    (way.down, inl (refl, refl), ap (λ (l : List Way). let p : Piped = record client { ways = l } in p) (sym (set_itself client.ways at way found)))
+
+pub same_leads : (old mid later : Piped) (at : ℕ) (none handed : List ℕ) (way : Way) → slice_get old.ways at ≡ Some way
+    → IfSome (slice_get old.ways at) (λ way. mid ≡ with_down at way none old) → IfSome (slice_get mid.ways at) (λ way. later ≡ with_down at way handed mid)
+    → leads later.ways ≡ leads old.ways
+same_leads old mid later at none handed way found first second =
+    ap (λ (p : Piped). leads p.ways) (exchanged old mid later at none handed first second way found)
+    ∙ leads_set old.ways at way (record way { down = handed }) found refl

@@ -1,0 +1,11 @@
+use Rattle.std.proofs.Common.{ap}
+use Rattle.world_pipes.specs.Piped.{Piped}
+use Rattle.world.specs.Housed.{leads}
+use Rattle.world.proofs.ClientGoes.{losing_goes}
+use Rattle.world.proofs.calling.lose.Goals as goal
+
+pub returns-clause-goes : goal.returns-clause-goes
+returns-clause-goes c = losing_goes c.args.piped.now c.abandon.new.self c.abandon.ensures.goes
+
+pub returns-clause-leads : goal.returns-clause-leads
+returns-clause-leads c = ap (λ (p : Piped). leads p.ways) c.abandon.ensures.lost

@@ -1,0 +1,48 @@
+use Rattle.std.proofs.Common.{◌≤◌, ◌<◌, length, refl, arith}
+use Rattle.master.proofs.Counting.{get_there}
+use Rattle.world.specs.Inside.{forgetful}
+use Rattle.world.specs.World.{WorldState}
+use Rattle.world.proofs.CallsCounted.{call_counted}
+use Rattle.world.proofs.ClientGoes.{housed_still}
+use Rattle.world.proofs.Joined.{goes_on_rest}
+use Rattle.world.proofs.world.World.disconnect.Goals as goal
+
+pub returns-in_default-clause-goes : goal.returns-in_default-clause-goes
+returns-in_default-clause-goes c = goes_on_rest _ _ refl
+
+pub invariant_of-self : goal.invariant_of-self
+invariant_of-self c =
+    let few : c.in-Some.at < length c.self.inside.clients.items = rw (← c.self.view_is) at c.in-Some.ensures in
+    let found = get_there c.self.inside.clients.items c.in-Some.at c.index_mut.result.now few c.index_mut.ensures.value in
+    housed_still c.self.inside.clients.items c.self.inside.connections.items c.in-Some.at c.index_mut.result.now c.leave-done.new.piped found
+    c.leave-done.ensures.leads c.self.invariant
+
+pub returns-clause-goes : goal.returns-clause-goes
+returns-clause-goes c =
+    let few : c.in-Some.at < length c.self.inside.clients.items = rw (← c.self.view_is) at c.in-Some.ensures in
+    let found = get_there c.self.inside.clients.items c.in-Some.at c.index_mut.result.now few c.index_mut.ensures.value in
+    let old : WorldState = record {
+      nodes = c.self.inside.nodes;
+      clients = c.self.inside.clients.items;
+      connections = c.self.inside.connections.items;
+      losses = c.self.inside.losses;
+    } in
+    let rises : old.losses ≤ (forgetful old).losses = omega arith in
+    rw (← c.self.view_is)
+    (call_counted old c.in-Some.at c.index_mut.result.now c.leave-done.new.piped c.leave-done.result c.called.result c.called.new.self found
+    c.leave-done.ensures.goes rises c.called.ensures).goes
+
+pub returns-clause-same : goal.returns-clause-same
+returns-clause-same c =
+    let few : c.in-Some.at < length c.self.inside.clients.items = rw (← c.self.view_is) at c.in-Some.ensures in
+    let found = get_there c.self.inside.clients.items c.in-Some.at c.index_mut.result.now few c.index_mut.ensures.value in
+    let old : WorldState = record {
+      nodes = c.self.inside.nodes;
+      clients = c.self.inside.clients.items;
+      connections = c.self.inside.connections.items;
+      losses = c.self.inside.losses;
+    } in
+    let rises : old.losses ≤ (forgetful old).losses = omega arith in
+    rw (← c.self.view_is)
+    (call_counted old c.in-Some.at c.index_mut.result.now c.leave-done.new.piped c.leave-done.result c.called.result c.called.new.self found
+    c.leave-done.ensures.goes rises c.called.ensures).same

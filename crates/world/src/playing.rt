@@ -1,0 +1,30 @@
+// A world from its opening on.
+
+ghost use Rattle.std.specs.Prelude.{◌≡◌, ◌↔◌, false, IfOk, IsErrOf};
+ghost use Rattle.agreement.specs.World.{can_open};
+ghost use Rattle.model.specs.World.{AreApart};
+ghost use Rattle.world.specs.Standing.{IsReached};
+
+use crate::event::Event;
+use crate::world::World;
+use packet::ClientId;
+use std::alloc::Global;
+use world_base::{Config, OpeningError};
+
+/// Opens a world as [`World::opening`] does, and lets events happen in it one after the other. It fails as the opening.
+pub fn play(
+    alloc: Global,
+    nodes: u8,
+    config: Config,
+    clients: &[ClientId],
+    events: &[Event],
+) -> Result<World, OpeningError>
+    // Where each client has an identifier of its own, and memory was not wanting, each is exact.
+    ensures headline { AreApart clients.now → IfOk result (λ world.
+        world.losses ≡ 0 → IsReached nodes config clients.now world) }
+    ensures bad { IsErrOf result OpeningError.BadMembers ↔ (can_open nodes config ≡ false) }
+{
+    let mut world = World::opening(alloc, nodes, config, clients)?;
+    world.run(events);
+    Ok(world)
+}
