@@ -3,3 +3,4 @@ pub mod Goes
 pub mod Standing
 pub mod Housed
 pub mod Inside
+pub mod Found

@@ -8,6 +8,7 @@ mod gathering;
 mod going_on;
 mod place;
 mod playing;
+mod reading;
 mod world;
 
 pub use event::Event;

@@ -17,7 +17,7 @@ use std::alloc::Global;
 use std::marker::Model;
 use world_base::{Config, Memory, OpeningError};
 use world_nodes::{Idle, Nodes};
-use world_pipes::{ClientCore, PipedClient};
+use world_pipes::PipedClient;
 
 /// A client of a world by its identifier.
 #[derive(Drop)]
@@ -150,67 +150,11 @@ impl World {
         self.nodes.active()
     }
 
-    /// A client, if there is one of this identifier.
-    pub fn client(&self, client: &ClientId) -> Option<&ClientCore> {
-        let at = self.place_of(client)?;
-        let found = self.clients.get(at)?;
-        Some(found.piped.core())
-    }
-
-    /// The bytes that wait to be carried up on a connection; none for one that was never opened.
-    pub fn up(&self, connection: u64) -> &[u8] {
-        match self.place(connection) {
-            Some(place) => self.clients_up(place),
-            None => &[],
-        }
-    }
-
-    /// The bytes that wait to be carried down on a connection; none for one that was never opened.
-    pub fn down(&self, connection: u64) -> &[u8] {
-        match self.place(connection) {
-            Some(place) => self.clients_down(place),
-            None => &[],
-        }
-    }
-
     /// In how many steps memory was wanting. The count stays at 2^64 - 1.
     pub fn losses(&self) -> u64
         ensures { result ≡ self.now.losses }
     {
         self.losses
-    }
-
-    // Where a client stands.
-    pub(crate) fn place_of(&self, client: &ClientId) -> Option<usize>
-        ensures { IfSome result (λ at. at < length self.now.clients) }
-    {
-        self.clients.iter().position(|found| found.name == *client)
-    }
-
-    // Where a connection stands.
-    pub(crate) fn place(&self, number: u64) -> Option<Place>
-        ensures { IfSome result (λ place.
-            (0 < number) × (slice_get self.now.connections (number - 1) ≡ Some place)) }
-    {
-        if number == 0 {
-            return None;
-        }
-        self.connections.get(number as usize - 1).copied()
-    }
-
-    // What waits upwards, and downwards.
-    fn clients_up(&self, place: Place) -> &[u8] {
-        match self.clients.get(place.client) {
-            Some(found) if place.at < found.piped.len() => found.piped.up(place.at),
-            _ => &[],
-        }
-    }
-
-    fn clients_down(&self, place: Place) -> &[u8] {
-        match self.clients.get(place.client) {
-            Some(found) if place.at < found.piped.len() => found.piped.down(place.at),
-            _ => &[],
-        }
     }
 
     // Memory was wanting, which is counted.

@@ -12,14 +12,14 @@ returns-in_default-clause-goes c = goes_on_rest _ _ refl
 
 pub invariant_of-self : goal.invariant_of-self
 invariant_of-self c =
-    let few : c.in-Some.at < length c.self.inside.clients.items = rw (← c.self.view_is) at c.in-Some.ensures in
+    let few : c.in-Some.at < length c.self.inside.clients.items = rw (← c.self.view_is) at c.in-Some.ensures.below in
     let found = get_there c.self.inside.clients.items c.in-Some.at c.index_mut.result.now few c.index_mut.ensures.value in
     housed_still c.self.inside.clients.items c.self.inside.connections.items c.in-Some.at c.index_mut.result.now c.publish_copy-done.new.piped found
     c.publish_copy-done.ensures.leads c.self.invariant
 
 pub returns-clause-goes : goal.returns-clause-goes
 returns-clause-goes c =
-    let few : c.in-Some.at < length c.self.inside.clients.items = rw (← c.self.view_is) at c.in-Some.ensures in
+    let few : c.in-Some.at < length c.self.inside.clients.items = rw (← c.self.view_is) at c.in-Some.ensures.below in
     let found = get_there c.self.inside.clients.items c.in-Some.at c.index_mut.result.now few c.index_mut.ensures.value in
     let old : WorldState = record {
       nodes = c.self.inside.nodes;
@@ -34,7 +34,7 @@ returns-clause-goes c =
 
 pub returns-clause-same : goal.returns-clause-same
 returns-clause-same c =
-    let few : c.in-Some.at < length c.self.inside.clients.items = rw (← c.self.view_is) at c.in-Some.ensures in
+    let few : c.in-Some.at < length c.self.inside.clients.items = rw (← c.self.view_is) at c.in-Some.ensures.below in
     let found = get_there c.self.inside.clients.items c.in-Some.at c.index_mut.result.now few c.index_mut.ensures.value in
     let old : WorldState = record {
       nodes = c.self.inside.nodes;

@@ -1,0 +1,43 @@
+-- What is found in a world: a client by its identifier, and a connection by its number.
+use Rattle.std.specs.Prelude.{ℕ, ◌-◌, ◌==◌, if◌then◌else◌, Bool, List, Option, Some, None, bytes_eq, slice_get}
+use Rattle.std.specs.List.{position}
+use Rattle.client.specs.Core.{Core}
+use Rattle.world_pipes.specs.declared.way.Way.{Way}
+use Rattle.world.specs.declared.place.Place.{Place}
+use Rattle.world.specs.declared.world.WorldClient.{WorldClient}
+use Rattle.world.specs.World.{WorldState}
+
+abbrev pub is_named : List ℕ → WorldClient → Bool
+is_named name client = bytes_eq client.name name
+
+-- ---- a client
+
+abbrev pub core_of : Option WorldClient → Option Core
+core_of None = None
+core_of (Some client) = Some client.piped.core
+
+abbrev pub core_at : Option ℕ → List WorldClient → Option Core
+core_at None clients = None
+core_at (Some at) clients = core_of (slice_get clients at)
+
+-- the first client of this identifier
+abbrev pub core_named : List ℕ → List WorldClient → Option Core
+core_named name clients = core_at (position (is_named name) clients) clients
+
+-- ---- a connection
+
+-- connections are numbered from 1
+abbrev pub place_numbered : ℕ → List Place → Option Place
+place_numbered number connections = if number == 0 then None else slice_get connections (number - 1)
+
+abbrev pub way_in : Option WorldClient → ℕ → Option Way
+way_in None at = None
+way_in (Some client) at = slice_get client.piped.ways at
+
+abbrev pub way_at : Option Place → List WorldClient → Option Way
+way_at None clients = None
+way_at (Some place) clients = way_in (slice_get clients place.client) place.at
+
+-- the connection of this number, if it was opened
+abbrev pub way_of : ℕ → WorldState → Option Way
+way_of number w = way_at (place_numbered number w.connections) w.clients

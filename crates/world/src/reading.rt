@@ -1,0 +1,86 @@
+// What is read of a world's clients and connections.
+
+ghost use Rattle.std.specs.Prelude.{◌≡◌, ◌<◌, ◌-◌, length, [], None, Some, IfSome, slice_get};
+ghost use Rattle.std.specs.List.{position};
+ghost use Rattle.world.specs.Found.{core_named, is_named, place_numbered, way_of};
+
+use crate::place::Place;
+use crate::world::{World, WorldClient};
+use packet::ClientId;
+use world_pipes::ClientCore;
+
+impl WorldClient {
+    // Whether it has this identifier.
+    pub(crate) fn is_named(&self, name: &ClientId) -> bool
+        ensures { result ≡ is_named name.now self.now }
+    {
+        self.name == *name
+    }
+}
+
+impl World {
+    /// A client, if there is one of this identifier.
+    pub fn client(&self, client: &ClientId) -> Option<&ClientCore>
+        ensures some { IfSome result
+            (λ core. core_named client.now self.now.clients ≡ Some core.now) }
+        ensures none { result ≡ None → core_named client.now self.now.clients ≡ None }
+    {
+        let at = self.place_of(client)?;
+        let found = self.clients.get(at)?;
+        Some(found.piped.core())
+    }
+
+    /// The bytes that wait to be carried up on a connection; none for one that was never opened.
+    pub fn up(&self, connection: u64) -> &[u8]
+        ensures some { IfSome (way_of connection self.now) (λ way. result.now ≡ way.up) }
+        ensures none { way_of connection self.now ≡ None → result.now ≡ [] }
+    {
+        let Some(place) = self.place(connection) else {
+            return &[];
+        };
+        let Some(found) = self.clients.get(place.client) else {
+            return &[];
+        };
+        if place.at >= found.piped.len() {
+            return &[];
+        }
+        found.piped.up(place.at)
+    }
+
+    /// The bytes that wait to be carried down on a connection; none for one that was never opened.
+    pub fn down(&self, connection: u64) -> &[u8]
+        ensures some { IfSome (way_of connection self.now) (λ way. result.now ≡ way.down) }
+        ensures none { way_of connection self.now ≡ None → result.now ≡ [] }
+    {
+        let Some(place) = self.place(connection) else {
+            return &[];
+        };
+        let Some(found) = self.clients.get(place.client) else {
+            return &[];
+        };
+        if place.at >= found.piped.len() {
+            return &[];
+        }
+        found.piped.down(place.at)
+    }
+
+    // Where a client stands.
+    pub(crate) fn place_of(&self, client: &ClientId) -> Option<usize>
+        ensures below { IfSome result (λ at. at < length self.now.clients) }
+        ensures exact { result ≡ position (is_named client.now) self.now.clients }
+    {
+        self.clients.iter().position(|found| found.is_named(client))
+    }
+
+    // Where a connection stands.
+    pub(crate) fn place(&self, number: u64) -> Option<Place>
+        ensures stands { IfSome result (λ place.
+            (0 < number) × (slice_get self.now.connections (number - 1) ≡ Some place)) }
+        ensures exact { result ≡ place_numbered number self.now.connections }
+    {
+        if number == 0 {
+            return None;
+        }
+        self.connections.get(number as usize - 1).copied()
+    }
+}
