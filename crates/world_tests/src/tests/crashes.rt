@@ -1,0 +1,82 @@
+// A primary that crashes.
+
+use crate::tests::hand::{Deed, Row, goes_well};
+
+// The primary holds a publication that its backup holds too, and crashes before it says so. The backup takes over
+// alone: the publisher sends its PUBLISH again, with DUP, and is answered, and the subscriber takes it in once.
+const CRASHED: &[Row] = &[
+    Row::Does(Deed::Open("b", 1), 0, 0),
+    Row::Does(Deed::Up(1), 1, 0),
+    Row::Does(Deed::Deliver(0), 2, 1),
+    Row::Does(Deed::Deliver(1), 3, 1),
+    Row::Does(Deed::Down(1), 3, 1),
+    Row::Does(Deed::Subscribe("b"), 3, 1),
+    Row::Does(Deed::Up(1), 4, 1),
+    Row::Does(Deed::Deliver(3), 5, 2),
+    Row::Does(Deed::Deliver(4), 6, 2),
+    Row::Does(Deed::Open("a", 1), 6, 2),
+    Row::Does(Deed::Up(2), 7, 2),
+    Row::Does(Deed::Deliver(6), 8, 3),
+    Row::Does(Deed::Deliver(7), 9, 3),
+    Row::Does(Deed::Down(2), 9, 3),
+    Row::Does(Deed::Publish("a"), 9, 3),
+    Row::Does(Deed::Up(2), 10, 3),
+    Row::HasDown(2, b""),
+    Row::Does(Deed::Deliver(9), 11, 4),
+    Row::HasDown(2, b""),
+    Row::Does(Deed::Crash(1), 11, 4),
+    Row::Idle(Deed::Crash(1)),
+    Row::Idle(Deed::Tick(1)),
+    Row::Idle(Deed::Deliver(10)),
+    Row::Does(Deed::Assign(&[2], 2), 12, 4),
+    Row::Active(1),
+    Row::Does(Deed::Deliver(11), 14, 4),
+    Row::Does(Deed::Deliver(13), 15, 4),
+    Row::Does(Deed::Deliver(14), 16, 4),
+    Row::Does(Deed::Deliver(15), 17, 4),
+    Row::Active(2),
+    Row::Does(Deed::Deliver(16), 17, 5),
+    Row::Does(Deed::Abandon("a"), 17, 5),
+    Row::Idle(Deed::Open("a", 1)),
+    Row::Does(Deed::Open("a", 2), 17, 5),
+    Row::Does(Deed::Up(3), 17, 6),
+    Row::HasDown(3, b"\x20\x02\x01\x00"),
+    Row::Does(Deed::Down(3), 17, 6),
+    Row::HasUp(3, b"\x3C\x08\x00\x03t/1\x00\x01x"),
+    Row::Does(Deed::Up(3), 17, 7),
+    Row::HasDown(3, b"\x50\x02\x00\x01"),
+    Row::Does(Deed::Down(3), 17, 7),
+    Row::Does(Deed::Abandon("b"), 17, 7),
+    Row::Does(Deed::Open("b", 2), 17, 7),
+    Row::Does(Deed::Up(4), 17, 8),
+    Row::HasDown(4, b"\x20\x02\x01\x00\x3C\x08\x00\x03t/1\x00\x01x"),
+    Row::Took("b", 0, 0),
+    Row::Does(Deed::Down(4), 17, 8),
+    Row::Took("b", 1, 1),
+];
+
+#[test]
+fn the_backup_takes_over(rt: HostRuntime) {
+    assert!(rt; goes_well(rt.alloc(), 2, &[1, 2], CRASHED));
+}
+
+// Behind a crash of the sole member nothing can happen on its connections.
+const NOBODY: &[Row] = &[
+    Row::Does(Deed::Open("a", 1), 0, 0),
+    Row::Does(Deed::Crash(1), 0, 0),
+    Row::Idle(Deed::Up(1)),
+    Row::Idle(Deed::Notice(1)),
+    Row::Does(Deed::Abandon("a"), 0, 0),
+    Row::Idle(Deed::Open("a", 1)),
+    Row::Idle(Deed::Assign(&[2], 1)),
+    Row::Idle(Deed::Assign(&[], 1)),
+    Row::Does(Deed::Assign(&[2], 2), 1, 0),
+    Row::Does(Deed::Deliver(0), 2, 0),
+    Row::Idle(Deed::Deliver(1)),
+    Row::Active(1),
+];
+
+#[test]
+fn nobody_serves_behind_a_crash(rt: HostRuntime) {
+    assert!(rt; goes_well(rt.alloc(), 2, &[1], NOBODY));
+}

@@ -1,0 +1,179 @@
+// Rows of what happens in a world, and what is seen of it.
+
+use packet::{ClientId, Payload, QoS};
+use session_base::Publication;
+use std::alloc::Global;
+use topics::{Filter, TopicName};
+use world::{Config, Event, Members, Memory, World};
+
+/// What happens.
+pub enum Deed {
+    Assign(&'static [u8], u8),
+    Deliver(u64),
+    Tick(u8),
+    Crash(u8),
+    Open(&'static str, u8),
+    /// All that waits on a connection goes up, or down.
+    Up(u64),
+    Down(u64),
+    /// So many bytes do.
+    UpSome(u64, u64),
+    DownSome(u64, u64),
+    Abandon(&'static str),
+    Disconnect(&'static str),
+    Notice(u64),
+    /// A client publishes `x` about `t/1` at QoS 2.
+    Publish(&'static str),
+    /// A client subscribes to `t/#` at QoS 2.
+    Subscribe(&'static str),
+}
+
+/// A row of what happens.
+pub enum Row {
+    /// It does, and then so many messages were sent, and so many commands are agreed.
+    Does(Deed, u64, u64),
+    /// It cannot.
+    Idle(Deed),
+    /// These bytes wait to go up on a connection, or down.
+    HasUp(u64, &'static [u8]),
+    HasDown(u64, &'static [u8]),
+    /// So many publications were taken in by a client, the last of them in this session.
+    Took(&'static str, usize, u64),
+    /// This ballot is active.
+    Active(u64),
+}
+
+/// A world of so many nodes, these members of ballot 1 with node 1 as primary, and clients `a` and `b`.
+pub fn opened(alloc: Global, nodes: u8, members: &[u8]) -> Option<World> {
+    let config = config_of(alloc, members, 1)?;
+    let mut clients = Vec::new(alloc);
+    clients.push(ClientId::new(alloc, "a").ok()?).ok()?;
+    clients.push(ClientId::new(alloc, "b").ok()?).ok()?;
+    World::opening(alloc, nodes, config, clients.as_slice()).ok()
+}
+
+/// A configuration.
+pub fn config_of(alloc: Global, members: &[u8], primary: u8) -> Option<Config> {
+    let members: Result<Members, Memory> = Members::from_slice(alloc, members);
+    Some(Config {
+        members: members.ok()?,
+        primary,
+    })
+}
+
+/// Whether a world of so many nodes goes by these rows, with no memory wanting.
+pub fn goes_well(alloc: Global, nodes: u8, members: &[u8], rows: &[Row]) -> bool {
+    match opened(alloc, nodes, members) {
+        Some(mut world) => goes(alloc, &mut world, rows),
+        None => false,
+    }
+}
+
+/// Whether a world goes by these rows, with no memory wanting.
+pub fn goes(alloc: Global, world: &mut World, rows: &[Row]) -> bool {
+    for row in rows {
+        if !goes_by(alloc, world, row) {
+            return false;
+        }
+    }
+    world.losses() == 0
+}
+
+// Whether a world goes by a row.
+fn goes_by(alloc: Global, world: &mut World, row: &Row) -> bool {
+    match row {
+        Row::Does(deed, messages, agreed) => {
+            does(alloc, world, deed)
+                && world.messages() == *messages
+                && world.agreed_len() == *agreed
+        }
+        Row::Idle(deed) => !does(alloc, world, deed),
+        Row::HasUp(connection, bytes) => has_up(world, *connection, bytes),
+        Row::HasDown(connection, bytes) => has_down(world, *connection, bytes),
+        Row::Took(client, count, session) => took(alloc, world, client, *count, *session),
+        Row::Active(ballot) => world.active().0 == *ballot,
+    }
+}
+
+// Whether these bytes wait to go up on a connection.
+fn has_up(world: &World, connection: u64, bytes: &[u8]) -> bool {
+    let waiting = world.up(connection);
+    waiting == bytes
+}
+
+// Whether they wait to go down.
+fn has_down(world: &World, connection: u64, bytes: &[u8]) -> bool {
+    let waiting = world.down(connection);
+    waiting == bytes
+}
+
+/// Whether a deed can be done.
+pub fn does(alloc: Global, world: &mut World, deed: &Deed) -> bool {
+    match event_of(alloc, world, deed) {
+        Some(event) => world.step(&event).is_ok(),
+        None => false,
+    }
+}
+
+// The event of a deed.
+fn event_of(alloc: Global, world: &World, deed: &Deed) -> Option<Event> {
+    match deed {
+        Deed::Assign(members, primary) => {
+            Some(Event::Assign(config_of(alloc, members, *primary)?))
+        }
+        Deed::Deliver(number) => Some(Event::Deliver(*number)),
+        Deed::Tick(node) => Some(Event::Tick(*node)),
+        Deed::Crash(node) => Some(Event::Crash(*node)),
+        Deed::Up(number) => Some(Event::CarryUp(*number, world.up(*number).len() as u64)),
+        Deed::Down(number) => Some(Event::CarryDown(*number, world.down(*number).len() as u64)),
+        Deed::UpSome(number, count) => Some(Event::CarryUp(*number, *count)),
+        Deed::DownSome(number, count) => Some(Event::CarryDown(*number, *count)),
+        Deed::Notice(number) => Some(Event::Notice(*number)),
+        _ => call_of(alloc, deed),
+    }
+}
+
+// The event of what a client does.
+fn call_of(alloc: Global, deed: &Deed) -> Option<Event> {
+    match deed {
+        Deed::Open(client, node) => Some(Event::Open(named(alloc, client)?, *node)),
+        Deed::Abandon(client) => Some(Event::Abandon(named(alloc, client)?)),
+        Deed::Disconnect(client) => Some(Event::Disconnect(named(alloc, client)?)),
+        Deed::Publish(client) => Some(Event::Publish(named(alloc, client)?, publication(alloc)?)),
+        Deed::Subscribe(client) => {
+            let filter = Filter::new(alloc, "t/#").ok()?;
+            Some(Event::Subscribe(named(alloc, client)?, filter, QoS::ExactlyOnce))
+        }
+        _ => None,
+    }
+}
+
+/// A client's name.
+pub fn named(alloc: Global, client: &str) -> Option<ClientId> {
+    ClientId::new(alloc, client).ok()
+}
+
+/// A publication of `x` about `t/1`.
+pub fn publication(alloc: Global) -> Option<Publication> {
+    Some(Publication {
+        retain: false,
+        qos: QoS::ExactlyOnce,
+        topic: TopicName::new(alloc, "t/1").ok()?,
+        payload: Payload::new(alloc, b"x").ok()?,
+    })
+}
+
+// Whether a client took in so many publications, the last of them in this session.
+fn took(alloc: Global, world: &World, client: &str, count: usize, session: u64) -> bool {
+    let Some(name) = named(alloc, client) else {
+        return false;
+    };
+    let Some(core) = world.client(&name) else {
+        return false;
+    };
+    let accepted = core.accepted();
+    match accepted.last() {
+        Some(last) => accepted.len() == count && last.session == session,
+        None => count == 0,
+    }
+}

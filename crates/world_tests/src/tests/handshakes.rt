@@ -1,0 +1,50 @@
+// A publication at QoS 2 from one client to another, byte by byte.
+
+use crate::tests::hand::{Deed, Row, goes_well};
+
+// A subscription of `b`, a publication of `a`, and both handshakes to their ends.
+const WHOLE: &[Row] = &[
+    Row::Idle(Deed::Subscribe("b")),
+    Row::Idle(Deed::Open("c", 1)),
+    Row::Idle(Deed::Open("b", 2)),
+    Row::Idle(Deed::Open("b", 0)),
+    Row::Does(Deed::Open("b", 1), 0, 0),
+    Row::Does(Deed::Up(1), 0, 1),
+    Row::Does(Deed::Down(1), 0, 1),
+    Row::Does(Deed::Subscribe("b"), 0, 1),
+    Row::HasUp(1, b"\x82\x08\x00\x01\x00\x03t/#\x02"),
+    Row::Does(Deed::Up(1), 0, 2),
+    Row::HasDown(1, b"\x90\x03\x00\x01\x02"),
+    Row::Does(Deed::Down(1), 0, 2),
+    Row::Does(Deed::Open("a", 1), 0, 2),
+    Row::Does(Deed::Up(2), 0, 3),
+    Row::Does(Deed::Down(2), 0, 3),
+    Row::Does(Deed::Publish("a"), 0, 3),
+    Row::HasUp(2, b"\x34\x08\x00\x03t/1\x00\x01x"),
+    Row::Does(Deed::Up(2), 0, 4),
+    Row::HasDown(2, b"\x50\x02\x00\x01"),
+    Row::HasDown(1, b"\x34\x08\x00\x03t/1\x00\x01x"),
+    Row::Does(Deed::Down(2), 0, 4),
+    Row::HasUp(2, b"\x62\x02\x00\x01"),
+    Row::Does(Deed::Up(2), 0, 5),
+    Row::HasDown(2, b"\x70\x02\x00\x01"),
+    Row::Does(Deed::Down(2), 0, 5),
+    Row::Took("b", 0, 0),
+    Row::Does(Deed::DownSome(1, 9), 0, 5),
+    Row::Took("b", 0, 0),
+    Row::Does(Deed::DownSome(1, 1), 0, 5),
+    Row::Took("b", 1, 1),
+    Row::Took("a", 0, 0),
+    Row::HasUp(1, b"\x50\x02\x00\x01"),
+    Row::Does(Deed::Up(1), 0, 6),
+    Row::HasDown(1, b"\x62\x02\x00\x01"),
+    Row::Does(Deed::Down(1), 0, 6),
+    Row::Does(Deed::Up(1), 0, 7),
+    Row::HasDown(1, b""),
+    Row::Took("b", 1, 1),
+];
+
+#[test]
+fn a_publication_reaches_the_subscriber(rt: HostRuntime) {
+    assert!(rt; goes_well(rt.alloc(), 1, &[1], WHOLE));
+}
