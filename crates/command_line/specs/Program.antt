@@ -78,11 +78,12 @@ subscribe_app = with_openings
 abbrev pub play_app : App
 play_app = with_rule (new_app (codes "play")) file_rule
 
--- the program without its subcommands: it has a version, and wants a subcommand
+-- the program without its subcommands: it has a version, wants a subcommand, and answers no words with the help
 abbrev pub bare_program : App
 bare_program = record (new_app (codes "vbroker")) {
   top = record ((new_app (codes "vbroker")).top) {
     has_version = true;
+    arg_required_else_help = true;
     subcommand_required = true;
     disable_help_subcommand = true;
   };

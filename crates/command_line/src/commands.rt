@@ -9,7 +9,7 @@ use clap::{Arg, Command};
 use std::alloc::{AllocError, Global};
 
 const AFTER_HELP: &str = "Exit status: 0 done; 1 a fault of file, network or memory;
-2 a command line that was refused, or help; 3 a refused table, topic or other argument.
+2 a command line that was refused, or help; 3 a refused table, script, topic or other argument.
 
 Example:
   vbroker serve --config examples/one.toml";
@@ -29,8 +29,11 @@ const AFTER_SUBSCRIBE: &str = "Each message is one line: QoS, retain, topic, pay
 Example:
   vbroker sub --id meter --filter 'house/#' --qos 2 --count 3 127.0.0.1:1883";
 
-const AFTER_PLAY: &str = "Example:
-  vbroker play takeover.script";
+const AFTER_PLAY: &str = "The first line opens the world: nodes, members, primary, clients. Each line
+behind it lets one event happen, and is answered by what came of it.
+
+Example:
+  vbroker play examples/primary_crashes.script";
 
 /// The whole command line.
 pub(crate) fn program<'a>(alloc: Global) -> Result<Command<'a>, AllocError>
@@ -52,6 +55,7 @@ fn bare_program<'a>(alloc: Global) -> Command<'a>
         .about("An MQTT 3.1.1 broker, and two small clients of it")
         .after_help(AFTER_HELP)
         .subcommand_required(true)
+        .arg_required_else_help(true)
         .disable_help_subcommand(true)
 }
 
@@ -122,7 +126,7 @@ fn subscribe<'a>(alloc: Global) -> Result<Command<'a>, AllocError>
 fn play<'a>(alloc: Global) -> Result<Command<'a>, AllocError>
     ensures { IfOk result (IsCommand play_app) }
 {
-    let about = "Runs a script over nodes and clients; this version has none, and refuses it";
+    let about = "Plays a script of nodes and clients in memory, and prints what came of it";
     let command = bare(alloc, "play", about, AFTER_PLAY);
     add(command, arguments::file(alloc))
 }

@@ -11,7 +11,7 @@ pub enum Job<'a> {
     Publish(Publish<'a>),
     /// To print what is published.
     Subscribe(Subscribe<'a>),
-    /// To run a script.
+    /// To play a script.
     Play(Play<'a>),
 }
 
@@ -58,7 +58,7 @@ pub struct Subscribe<'a> {
     pub addresses: Vec<&'a str>,
 }
 
-/// To run a script.
+/// To play a script.
 #[derive(Debug, Drop)]
 pub struct Play<'a> {
     /// The file with the script; without one it is standard input.

@@ -5,6 +5,7 @@ ghost use Rattle.jobs.specs.Faults.{status_of};
 
 use command_line::TableFault;
 use node::Memory;
+use play::PlayError;
 use server::ServeError;
 use std::alloc::{AllocError, AllocFailed};
 use std::io::ErrorKind;
@@ -38,9 +39,12 @@ pub enum Fault {
     /// The file is no table of nodes.
     #[error("config")]
     Config,
-    /// A script was to be played.
-    #[error("this version plays no scripts")]
-    Script,
+    /// A text is no script, by this line of it, counted from 1.
+    #[error("script line {0}")]
+    Script(u64),
+    /// A script was played to its end, and its transcript was written; in the world memory was wanting.
+    #[error("out of memory: the transcript is of a world in which memory was wanting")]
+    Losses,
     /// A client's identifier, topic, filter or message was refused.
     #[error("refused {0}")]
     Refused(u8),
@@ -54,7 +58,7 @@ pub enum Fault {
 
 impl Fault {
     /// The exit status: 1 for a fault of file, network or memory, 2 for a command line that is
-    /// refused, 3 for a refused table or argument.
+    /// refused, 3 for a refused table, script or argument.
     pub fn status(&self) -> u8
         ensures { result ≡ status_of self.now }
     {
@@ -65,10 +69,11 @@ impl Fault {
             | Fault::Clock
             | Fault::File(_, _)
             | Fault::Address(_, _)
+            | Fault::Losses
             | Fault::SessionPresent
             | Fault::Lost => 1,
-            Fault::Words | Fault::Script => 2,
-            Fault::Config | Fault::Refused(_) => 3,
+            Fault::Words => 2,
+            Fault::Config | Fault::Script(_) | Fault::Refused(_) => 3,
         }
     }
 }
@@ -118,6 +123,20 @@ impl From<ClientFault> for Fault {
             ClientFault::Lost => Fault::Lost,
             ClientFault::Memory => Fault::Memory,
             ClientFault::Output => Fault::Output,
+        }
+    }
+}
+
+impl From<PlayError> for Fault {
+    ghost use Rattle.jobs.specs.Faults.{played_fault_of};
+
+    ghost from_gives = { λ error fault. fault ≡ played_fault_of error };
+
+    fn from(error: PlayError) -> Fault {
+        match error {
+            PlayError::Line(number) => Fault::Script(number),
+            PlayError::Memory => Fault::Memory,
+            PlayError::Losses => Fault::Losses,
         }
     }
 }

@@ -4,12 +4,13 @@
 mod fault;
 mod obeying;
 mod performing;
-mod piped;
+mod reading;
+mod scripts;
 mod serving;
 mod talking;
 
 pub use fault::Fault;
 pub use performing::{perform, tell};
-pub use piped::pipe;
+pub use scripts::play_text;
 pub use serving::serve_table;
 pub use talking::{publish, subscribe};

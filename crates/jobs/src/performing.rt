@@ -1,7 +1,7 @@
 // Doing a job.
 
 use crate::fault::Fault;
-use crate::{serving, talking};
+use crate::{scripts, serving, talking};
 use command_line::Job;
 use std::io::{BufRead, Write};
 use std::net::{Net, TcpListener, TcpStream};
@@ -29,7 +29,7 @@ where
         Job::Serve(job) => serving::run(rt, job, input, output, faults),
         Job::Publish(job) => talking::publish(rt, job),
         Job::Subscribe(job) => talking::subscribe(rt, job, output),
-        Job::Play(_) => Err(Fault::Script),
+        Job::Play(job) => scripts::run(rt, job, input, output),
     };
     match done {
         Ok(()) => 0,

@@ -2,12 +2,13 @@
 
 use crate::fault::Fault;
 use crate::obeying::obey;
+use crate::reading::bytes_of;
 use command_line::{ListeningNode, Serve, table};
 use server::{Place, serve_while};
-use std::fs;
-use std::io::{BufRead, ErrorKind, Write};
+use std::io::{BufRead, Write};
 use std::net::{Net, TcpListener, TcpStream};
 use std::rt::Files;
+use std::str;
 use std::sync::Wait;
 use std::thread::Threads;
 use std::time::Clock;
@@ -27,8 +28,9 @@ where
     O: Write,
     E: Write,
 {
-    let text = text_of(rt, job.config)?;
-    serve_table(rt, text.as_str(), input, output, faults)
+    let bytes = bytes_of(rt, job.config)?;
+    let text = str::from_utf8(bytes.as_slice()).ok().ok_or(Fault::Config)?;
+    serve_table(rt, text, input, output, faults)
 }
 
 /// Serves clients as a table of nodes says, and obeys the lines of the input, until its end or the line
@@ -54,18 +56,6 @@ where
         obey(rt, peers, nodes, input, output);
     })?;
     writeln!(output, "bye").ok().ok_or(Fault::Output)
-}
-
-// The text of a file.
-fn text_of<R: Files + AllocGlobal>(rt: &R, file: &str) -> Result<String, Fault> {
-    match fs::read_to_string(rt, file) {
-        Ok(text) => Ok(text),
-        Err(error) => match error.kind() {
-            ErrorKind::InvalidData => Err(Fault::Config),
-            ErrorKind::OutOfMemory => Err(Fault::Memory),
-            kind => Err(Fault::File(String::from_str(rt.alloc(), file)?, kind)),
-        },
-    }
 }
 
 // Listens where each node is to listen, and then tells it.

@@ -2,4 +2,6 @@
 // that an order names.
 
 mod ends;
+mod hand;
 mod orders;
+mod scripts;

@@ -1,12 +1,12 @@
 //! The broker as a program: it serves MQTT clients over TCP, publishes or prints as a client does itself, and
-//! without a word takes all of standard input for one connection of node 1.
+//! plays scripts of nodes and clients in memory.
 #![tactic(auto)]
 
 mod standard_error;
 
 use clap::error::ErrorKind;
-use command_line::{Job, LineFault, line};
-use jobs::{Fault, perform, pipe, tell};
+use command_line::{LineFault, line};
+use jobs::{Fault, perform, tell};
 use standard_error::StandardError;
 use std::net::{Net, TcpListener, TcpStream};
 use std::process::ExitCode;
@@ -20,7 +20,7 @@ fn main(rt: HostRuntime) -> ExitCode {
     ExitCode::from(run(&rt))
 }
 
-// Does what the words of the command line say, and gives the exit status.
+// Does what the words of the command line say, over the standard streams, and gives the exit status.
 fn run<R>(rt: &R) -> u8
 where
     R: Env + Files + Input + Print + Eprint + Threads + Wait + Clock + Sync + AllocGlobal,
@@ -31,28 +31,14 @@ where
         Ok(words) => words,
         Err(fault) => return tell(&mut faults, &fault),
     };
-    match words.as_slice() {
-        [] | [_] => match pipe(rt, rt.reader(), io::writer(rt)) {
-            Ok(()) => 0,
-            Err(fault) => tell(&mut faults, &fault),
-        },
-        words => match line(rt.alloc(), words) {
-            Ok(job) => do_job(rt, &job),
-            Err(fault) => refuse(rt, fault),
-        },
+    match line(rt.alloc(), words.as_slice()) {
+        Ok(job) => {
+            let mut input = rt.reader();
+            let mut output = io::writer(rt);
+            perform(rt, &job, &mut input, &mut output, &mut faults)
+        }
+        Err(fault) => refuse(rt, fault),
     }
-}
-
-// Does a job over the standard streams.
-fn do_job<R>(rt: &R, job: &Job<'_>) -> u8
-where
-    R: Files + Input + Print + Eprint + Threads + Wait + Clock + Sync + AllocGlobal,
-    R: Net<Listener = TcpListener, Stream = TcpStream>,
-{
-    let mut input = rt.reader();
-    let mut output = io::writer(rt);
-    let mut faults = StandardError::new(rt);
-    perform(rt, job, &mut input, &mut output, &mut faults)
 }
 
 // The words of the command line.
@@ -61,7 +47,7 @@ fn words<R: Env + AllocGlobal>(rt: &R) -> Result<Vec<String>, Fault> {
     Ok(words.collect(rt.alloc())?)
 }
 
-// Says why a command line gives no job. Help and the version go to standard output.
+// Says why a command line gives no job. Help and the version go to standard output where they were asked for.
 fn refuse<R: Print + Eprint>(rt: &R, fault: LineFault) -> u8 {
     match fault {
         LineFault::Words(error) => {

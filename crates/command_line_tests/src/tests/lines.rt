@@ -3,7 +3,8 @@
 use clap::error::ErrorKind;
 use command_line::{Job, LineFault, Publish, Subscribe, line};
 use packet::QoS;
-use std::alloc::Global;
+use std::alloc::{AllocError, Global};
+use std::test::Fail;
 
 const PUB: [&str; 12] = [
     "vbroker",
@@ -139,8 +140,12 @@ fn a_flag_and_a_negative_number(rt: HostRuntime) {
 
 #[test]
 fn other_words_are_refused(rt: HostRuntime) {
-    let rows: [(&str, ErrorKind); 17] = [
-        ("vbroker", ErrorKind::MissingSubcommand),
+    let rows: [(&str, ErrorKind); 18] = [
+        (
+            "vbroker",
+            ErrorKind::DisplayHelpOnMissingArgumentOrSubcommand,
+        ),
+        ("vbroker play --help", ErrorKind::DisplayHelp),
         ("vbroker help", ErrorKind::InvalidSubcommand),
         ("vbroker two", ErrorKind::InvalidSubcommand),
         ("vbroker --help", ErrorKind::DisplayHelp),
@@ -179,4 +184,60 @@ fn other_words_are_refused(rt: HostRuntime) {
     for (words, kind) in rows {
         assert!(rt; is_refused(rt.alloc(), words, kind), "{words}");
     }
+}
+
+// The program's name may be wanting too.
+#[test]
+fn no_words_at_all_are_answered_by_the_help(rt: HostRuntime) {
+    let kind = ErrorKind::DisplayHelpOnMissingArgumentOrSubcommand;
+    assert!(rt; is_refused_for(rt.alloc(), &[], kind));
+}
+
+// Words that ask for help, and a line of what they are answered with.
+const HELPED: &[(&str, &str)] = &[
+    ("vbroker", "  vbroker serve --config examples/one.toml\n"),
+    (
+        "vbroker --help",
+        "Exit status: 0 done; 1 a fault of file, network or memory;\n",
+    ),
+    (
+        "vbroker serve --help",
+        "  vbroker serve --config examples/one.toml\n",
+    ),
+    (
+        "vbroker pub --help",
+        "  vbroker pub --id switch --topic house/lamp --qos 2 --message on 127.0.0.1:1883\n",
+    ),
+    (
+        "vbroker sub --help",
+        "  vbroker sub --id meter --filter 'house/#' --qos 2 --count 3 127.0.0.1:1883\n",
+    ),
+    (
+        "vbroker play --help",
+        "Plays a script of nodes and clients in memory",
+    ),
+    (
+        "vbroker play --help",
+        "  vbroker play examples/primary_crashes.script\n",
+    ),
+];
+
+// Whether the words, which blanks part, are answered by a text in which this stands.
+fn is_helped(alloc: Global, words: &str, wanted: &str) -> Result<bool, AllocError> {
+    let parted: Vec<&str> = words.split(' ').collect(alloc)?;
+    match line(alloc, &parted) {
+        Err(LineFault::Words(error)) => {
+            let text = format!(in alloc; "{error}")?;
+            Ok(text.as_str().contains(wanted))
+        }
+        _ => Ok(false),
+    }
+}
+
+#[test]
+fn each_help_has_an_example(rt: HostRuntime) -> Result<(), Fail> {
+    for (words, wanted) in HELPED {
+        assert!(rt; is_helped(rt.alloc(), words, wanted)?, "{words}");
+    }
+    Ok(())
 }

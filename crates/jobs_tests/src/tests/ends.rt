@@ -1,17 +1,15 @@
 // How each job ends: its exit status, and what it writes.
 
-use command_line::line;
-use jobs::{Fault, perform, serve_table, tell};
-use std::alloc::AllocError;
+use crate::tests::hand::ends;
+use jobs::{Fault, serve_table, tell};
 use std::net::{Net, TcpListener, TcpStream};
-use std::rt::Files;
 use std::sync::Wait;
 use std::test::Fail;
 use std::thread::Threads;
 use std::time::Clock;
 
-// Words of a command line behind the program's name, the exit status, and what comes on standard error. No
-// server listens on the address of these clients.
+// Words of a command line behind the program's name, the exit status, and what comes on standard error; nothing is
+// printed. No server listens on the address of these clients.
 const ENDS: &[(&[&str], u8, &str)] = &[
     (
         &["serve", "--config", "/nowhere/nodes.toml"],
@@ -68,34 +66,20 @@ const ENDS: &[(&[&str], u8, &str)] = &[
         1,
         "vbroker: lost\n",
     ),
-    (&["play"], 2, "vbroker: this version plays no scripts\n"),
+    (
+        &["play", "/nowhere/a.script"],
+        1,
+        "vbroker: cannot read /nowhere/a.script: entity not found\n",
+    ),
 ];
-
-// Whether a command line of these words behind the program's name ends so, and prints nothing.
-fn ends<R>(rt: &R, words: &[&str], status: u8, told: &str) -> Result<bool, AllocError>
-where
-    R: Files + Threads + Wait + Clock + Sync + AllocGlobal,
-    R: Net<Listener = TcpListener, Stream = TcpStream>,
-{
-    let mut line_words = Vec::new(rt.alloc());
-    line_words.push(String::from_str(rt.alloc(), "vbroker")?)?;
-    for word in words {
-        line_words.push(String::from_str(rt.alloc(), word)?)?;
-    }
-    let Ok(job) = line(rt.alloc(), line_words.as_slice()) else {
-        return Ok(false);
-    };
-    let mut output = Vec::new(rt.alloc());
-    let mut faults = Vec::new(rt.alloc());
-    let mut input = b"".as_slice();
-    let ended = perform(rt, &job, &mut input, &mut output, &mut faults);
-    Ok(ended == status && output.is_empty() && faults.as_slice() == told.as_bytes())
-}
 
 #[test]
 fn jobs_end_so(rt: HostRuntime) -> Result<(), Fail> {
     for (words, status, told) in ENDS {
-        assert!(rt; ends(&rt, words, *status, told)?);
+        assert!(rt;
+            ends(&rt, words, b"".as_slice(), (*status, "", told))?,
+            "{told}"
+        );
     }
     Ok(())
 }
@@ -159,6 +143,12 @@ fn faults_are_told_so(rt: HostRuntime) -> Result<(), Fail> {
             Fault::Words,
             "vbroker: the words of the command line could not be read; try vbroker --help\n",
             2,
+        ),
+        (Fault::Script(3), "vbroker: script line 3\n", 3),
+        (
+            Fault::Losses,
+            "vbroker: out of memory: the transcript is of a world in which memory was wanting\n",
+            1,
         ),
         (Fault::SessionPresent, "vbroker: session present\n", 1),
     ];

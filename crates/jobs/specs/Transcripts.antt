@@ -1,0 +1,10 @@
+-- What is written of a script that is played.
+use Rattle.std.specs.Prelude.{ℕ, List, [], Option}
+use Rattle.std.specs.Io.KnownBytes.{Appends}
+use Rattle.play.specs.Transcripts.{Plays}
+
+-- the text's transcript was written, of a world in which memory was wanting in so many events
+pub record Prints (text : List ℕ) (old new : Option (List ℕ)) (losses : ℕ) : Type 0 where
+  pub transcript : List ℕ
+  pub played : Plays text [] transcript losses
+  pub written : Appends old new transcript
