@@ -1,8 +1,11 @@
 // What no clause says: which events are idle, what is carried on connections, and what clients take in.
 
 mod changes;
+mod course;
 mod crashes;
 mod hand;
 mod handshakes;
+mod long;
 mod losing;
+mod memory;
 mod repeats;

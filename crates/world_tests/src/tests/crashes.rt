@@ -2,8 +2,32 @@
 
 use crate::tests::hand::{Deed, Row, goes_well};
 
-// The primary holds a publication that its backup holds too, and crashes before it says so. The backup takes over
-// alone: the publisher sends its PUBLISH again, with DUP, and is answered, and the subscriber takes it in once.
+// The packets behind the takeover, as MQTT 3.1.1 spells them. CONNECT (3.1): 13 bytes follow, the protocol's name, its
+// level 4, no flag, so that the session is kept, no keep alive, and the Client Identifier.
+const CONNECT_A: &[u8] = b"\x10\x0D\x00\x04MQTT\x04\x00\x00\x00\x00\x01a";
+
+const CONNECT_B: &[u8] = b"\x10\x0D\x00\x04MQTT\x04\x00\x00\x00\x00\x01b";
+
+// CONNACK (3.2): Session Present, and accepted.
+const PRESENT: &[u8] = b"\x20\x02\x01\x00";
+
+// PUBLISH (3.3) sent again: DUP, QoS 2, no RETAIN. 8 bytes follow, the Topic Name, Packet Identifier 1 and the payload.
+const PUBLISH_AGAIN: &[u8] = b"\x3C\x08\x00\x03t/1\x00\x01x";
+
+// What the subscriber is sent when it comes back: both.
+const PRESENT_AND_PUBLISH: &[u8] = b"\x20\x02\x01\x00\x3C\x08\x00\x03t/1\x00\x01x";
+
+// PUBREC (3.5), and PUBREL, whose lower bits are 0010 (3.6), of Packet Identifier 1.
+const PUBREC: &[u8] = b"\x50\x02\x00\x01";
+
+const PUBREL: &[u8] = b"\x62\x02\x00\x01";
+
+const NOTHING: &[u8] = b"";
+
+// The events of the script `primary_crashes` of the folder `examples`, and idle ones among them, with all that waits
+// on connections 3 and 4. The primary holds a publication that its backup holds too, and crashes before it says so.
+// The backup takes over alone: the publisher sends its PUBLISH again, with DUP, and is answered, and the subscriber
+// takes it in once.
 const CRASHED: &[Row] = &[
     Row::Does(Deed::Open("b", 1), 0, 0),
     Row::Does(Deed::Up(1), 1, 0),
@@ -38,21 +62,37 @@ const CRASHED: &[Row] = &[
     Row::Does(Deed::Deliver(16), 17, 5),
     Row::Does(Deed::Abandon("a"), 17, 5),
     Row::Idle(Deed::Open("a", 1)),
+    Row::HasUp(3, NOTHING),
     Row::Does(Deed::Open("a", 2), 17, 5),
+    Row::HasUp(3, CONNECT_A),
+    Row::HasDown(3, NOTHING),
     Row::Does(Deed::Up(3), 17, 6),
-    Row::HasDown(3, b"\x20\x02\x01\x00"),
+    Row::HasUp(3, NOTHING),
+    Row::HasDown(3, PRESENT),
     Row::Does(Deed::Down(3), 17, 6),
-    Row::HasUp(3, b"\x3C\x08\x00\x03t/1\x00\x01x"),
+    Row::HasUp(3, PUBLISH_AGAIN),
+    Row::HasDown(3, NOTHING),
     Row::Does(Deed::Up(3), 17, 7),
-    Row::HasDown(3, b"\x50\x02\x00\x01"),
+    Row::HasUp(3, NOTHING),
+    Row::HasDown(3, PUBREC),
     Row::Does(Deed::Down(3), 17, 7),
+    Row::HasUp(3, PUBREL),
+    Row::HasDown(3, NOTHING),
     Row::Does(Deed::Abandon("b"), 17, 7),
+    Row::HasUp(4, NOTHING),
     Row::Does(Deed::Open("b", 2), 17, 7),
+    Row::HasUp(4, CONNECT_B),
+    Row::HasDown(4, NOTHING),
     Row::Does(Deed::Up(4), 17, 8),
-    Row::HasDown(4, b"\x20\x02\x01\x00\x3C\x08\x00\x03t/1\x00\x01x"),
+    Row::HasUp(4, NOTHING),
+    Row::HasDown(4, PRESENT_AND_PUBLISH),
     Row::Took("b", 0, 0),
     Row::Does(Deed::Down(4), 17, 8),
     Row::Took("b", 1, 1),
+    Row::HasUp(4, PUBREC),
+    Row::HasDown(4, NOTHING),
+    Row::HasUp(3, PUBREL),
+    Row::HasDown(3, NOTHING),
 ];
 
 #[test]

@@ -45,10 +45,16 @@ pub enum Row {
 
 /// A world of so many nodes, these members of ballot 1 with node 1 as primary, and clients `a` and `b`.
 pub fn opened(alloc: Global, nodes: u8, members: &[u8]) -> Option<World> {
+    opened_for(alloc, nodes, members, &["a", "b"])
+}
+
+/// The same with clients of these names.
+pub fn opened_for(alloc: Global, nodes: u8, members: &[u8], names: &[&str]) -> Option<World> {
     let config = config_of(alloc, members, 1)?;
     let mut clients = Vec::new(alloc);
-    clients.push(ClientId::new(alloc, "a").ok()?).ok()?;
-    clients.push(ClientId::new(alloc, "b").ok()?).ok()?;
+    for name in names {
+        clients.push(ClientId::new(alloc, name).ok()?).ok()?;
+    }
     World::opening(alloc, nodes, config, clients.as_slice()).ok()
 }
 

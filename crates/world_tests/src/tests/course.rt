@@ -1,0 +1,308 @@
+// How a long run of events by a fixed rule goes on.
+
+use crate::tests::hand::{config_of, named};
+use packet::{ClientId, Payload, QoS};
+use session_base::Publication;
+use std::alloc::Global;
+use topics::{Filter, TopicName};
+use world::{Event, World};
+
+/// The clients of the run.
+pub const CLIENTS: [&str; 4] = ["a", "b", "c", "d"];
+
+const TOPICS: [&str; 3] = ["t/1", "t/2", "u"];
+
+const FILTERS: [&str; 4] = ["t/#", "#", "t/1", "+"];
+
+/// How far the run has come.
+#[derive(Drop)]
+pub struct Course {
+    /// The state of the rule.
+    pub state: u64,
+    /// The message that comes next.
+    pub next: u64,
+    /// How many publications were tried; each carries its number.
+    pub published: u64,
+    /// How many connections were opened, and the last one of each client.
+    pub opened: u64,
+    pub last: [u64; 4],
+    /// How many ballots were given.
+    pub given: u64,
+    /// Whether each node runs.
+    pub runs: [bool; 3],
+    /// Whether the agreed list never became shorter.
+    pub only_grows: bool,
+}
+
+impl Course {
+    /// The course of three nodes in ballot 1.
+    pub fn new() -> Course {
+        Course {
+            state: 29,
+            next: 0,
+            published: 0,
+            opened: 0,
+            last: [0; 4],
+            given: 1,
+            runs: [true; 3],
+            only_grows: true,
+        }
+    }
+
+    // The next number: the upper bits of a product's remainder.
+    fn draw(&mut self) -> u64 {
+        self.state = self
+            .state
+            .wrapping_mul(6_364_136_223_846_793_005)
+            .wrapping_add(1_442_695_040_888_963_407);
+        self.state >> 33
+    }
+
+    // A connection, mostly the last one of a client.
+    fn connection(&mut self) -> u64 {
+        let client = (self.draw() % 4) as usize;
+        let number = self.draw();
+        if number % 16 == 0 {
+            number / 16 % self.opened.saturating_add(2)
+        } else {
+            self.last[client]
+        }
+    }
+
+    // How many bytes are carried where so many wait: mostly all, else some, none or one too many.
+    fn share(&mut self, waiting: &[u8]) -> u64 {
+        let waiting = waiting.len() as u64;
+        let number = self.draw();
+        if number % 4 == 0 {
+            number / 4 % waiting.saturating_add(2)
+        } else {
+            waiting
+        }
+    }
+
+    // Whether many messages wait to come.
+    fn is_behind(&self, world: &World) -> bool {
+        self.next.saturating_add(64) < world.messages()
+    }
+}
+
+// Lets an event happen or be idle, and looks at what is agreed behind it.
+fn happens(world: &mut World, course: &mut Course, event: &Event) -> bool {
+    let before = world.agreed_len();
+    let happened = world.step(event).is_ok();
+    course.only_grows = course.only_grows && before <= world.agreed_len();
+    happened
+}
+
+/// Lets the next event of the rule happen or be idle. False where a value of it found no memory.
+pub fn goes_on(alloc: Global, world: &mut World, course: &mut Course) -> bool {
+    let number = course.draw() % 128;
+    if number < 32 || course.is_behind(world) {
+        delivers(world, course);
+        return true;
+    }
+    match number {
+        32..=53 => carries_up(world, course),
+        54..=79 => carries_down(world, course),
+        80 => notices(world, course),
+        81..=86 => ticks(world, course),
+        87 => return gives(alloc, world, course),
+        _ => return calls(alloc, world, course, number),
+    }
+    true
+}
+
+// The next message comes; one in 32 is lost, and one in 8 comes again.
+fn delivers(world: &mut World, course: &mut Course) {
+    let number = course.draw();
+    if number % 8 == 0 {
+        let early = number / 8 % world.messages().saturating_add(1);
+        happens(world, course, &Event::Deliver(early));
+        return;
+    }
+    if number % 32 == 1 && course.next < world.messages() {
+        course.next = course.next.saturating_add(1);
+    }
+    let next = course.next;
+    if next < world.messages() {
+        course.next = next.saturating_add(1);
+    }
+    happens(world, course, &Event::Deliver(next));
+}
+
+fn carries_up(world: &mut World, course: &mut Course) {
+    let connection = course.connection();
+    let count = course.share(world.up(connection));
+    happens(world, course, &Event::CarryUp(connection, count));
+}
+
+fn carries_down(world: &mut World, course: &mut Course) {
+    let connection = course.connection();
+    let count = course.share(world.down(connection));
+    happens(world, course, &Event::CarryDown(connection, count));
+}
+
+fn notices(world: &mut World, course: &mut Course) {
+    let connection = course.connection();
+    happens(world, course, &Event::Notice(connection));
+}
+
+fn ticks(world: &mut World, course: &mut Course) {
+    let node = (course.draw() % 5) as u8;
+    happens(world, course, &Event::Tick(node));
+}
+
+// The next ballot is given to some of the nodes that run, one time of four.
+fn gives(alloc: Global, world: &mut World, course: &mut Course) -> bool {
+    if course.draw() % 4 != 0 {
+        return true;
+    }
+    // Most of them: a bit of two drawn ones is set.
+    let bits = course.draw() | course.draw();
+    let Some(members) = members_of(alloc, course.runs, bits) else {
+        return false;
+    };
+    let ballot = course.given.saturating_add(1);
+    let primary = primary_of(ballot, members.as_slice());
+    let Some(config) = config_of(alloc, members.as_slice(), primary) else {
+        return false;
+    };
+    if happens(world, course, &Event::Assign(config)) {
+        course.given = ballot;
+    }
+    true
+}
+
+// Those of the nodes that run whose bit is set.
+fn members_of(alloc: Global, runs: [bool; 3], bits: u64) -> Option<Vec<u8>> {
+    let mut members = Vec::new(alloc);
+    for at in 0..3u8 {
+        if runs[at as usize] && bits >> at & 1 == 1 {
+            members.push(at + 1).ok()?;
+        }
+    }
+    Some(members)
+}
+
+// The primary of a ballot of these members: each in turn.
+fn primary_of(ballot: u64, members: &[u8]) -> u8 {
+    if members.is_empty() {
+        return 0;
+    }
+    members[(ballot % members.len() as u64) as usize]
+}
+
+// The active primary.
+fn active_primary(world: &World) -> u8 {
+    let (ballot, members) = world.active();
+    primary_of(ballot, members)
+}
+
+/// Whether the active primary crashes. It may where no ballot waits, and where one more of its members runs.
+pub fn primary_crashes(world: &mut World, course: &mut Course) -> bool {
+    let node = active_primary(world);
+    if node == 0 || node > 3 || !is_one_left(world, course, node) {
+        return false;
+    }
+    let crashed = happens(world, course, &Event::Crash(node));
+    course.runs[node as usize - 1] = false;
+    crashed
+}
+
+// Whether no ballot waits, and a member of the active one beside this one runs.
+fn is_one_left(world: &World, course: &Course, node: u8) -> bool {
+    let (ballot, members) = world.active();
+    ballot == course.given
+        && members
+            .iter()
+            .any(|member| *member != node && runs(course, *member))
+}
+
+// Whether a node runs.
+fn runs(course: &Course, node: u8) -> bool {
+    matches!(
+        course.runs.get((node as usize).saturating_sub(1)),
+        Some(true)
+    )
+}
+
+// What a client does.
+fn calls(alloc: Global, world: &mut World, course: &mut Course, number: u64) -> bool {
+    let client = (course.draw() % 4) as usize;
+    let Some(name) = named(alloc, CLIENTS[client]) else {
+        return false;
+    };
+    match number {
+        88..=99 => opens(world, course, client, name, active_primary(world)),
+        100 => opens(world, course, client, name, 2),
+        101 | 102 => passes(world, course, &Event::Abandon(name)),
+        103 => passes(world, course, &Event::Disconnect(name)),
+        _ => return says(alloc, world, course, client, name),
+    }
+    true
+}
+
+fn passes(world: &mut World, course: &mut Course, event: &Event) {
+    happens(world, course, event);
+}
+
+fn opens(world: &mut World, course: &mut Course, client: usize, name: ClientId, node: u8) {
+    if client < 4 && happens(world, course, &Event::Open(name, node)) {
+        course.opened = course.opened.saturating_add(1);
+        course.last[client] = course.opened;
+    }
+}
+
+// What a client says: mostly a publication.
+fn says(
+    alloc: Global,
+    world: &mut World,
+    course: &mut Course,
+    client: usize,
+    name: ClientId,
+) -> bool {
+    let number = course.draw();
+    let Some(event) = said(alloc, number, course.published, client, name) else {
+        return false;
+    };
+    course.published = course.published.saturating_add(1);
+    happens(world, course, &event);
+    true
+}
+
+// The event of what a client says, by a number of the rule.
+fn said(alloc: Global, number: u64, serial: u64, client: usize, name: ClientId) -> Option<Event> {
+    match number % 16 {
+        0..=3 => Some(Event::Subscribe(name, filter(alloc, number)?, qos(number / 64))),
+        4 => Some(Event::Unsubscribe(name, filter(alloc, number)?)),
+        _ => Some(Event::Publish(name, publication(alloc, number, serial, client)?)),
+    }
+}
+
+fn filter(alloc: Global, number: u64) -> Option<Filter> {
+    Filter::new(alloc, FILTERS[(number / 16 % 4) as usize]).ok()
+}
+
+// QoS 2 mostly.
+fn qos(number: u64) -> QoS {
+    match number % 8 {
+        0 => QoS::AtMostOnce,
+        1 => QoS::AtLeastOnce,
+        _ => QoS::ExactlyOnce,
+    }
+}
+
+// A publication that carries who made it, and its number.
+fn publication(alloc: Global, number: u64, serial: u64, client: usize) -> Option<Publication> {
+    let payload = [
+        (client % 4) as u8,
+        (serial / 256 % 256) as u8,
+        (serial % 256) as u8,
+    ];
+    Some(Publication {
+        retain: number / 1024 % 16 == 0,
+        qos: qos(number / 64),
+        topic: TopicName::new(alloc, TOPICS[(number / 16 % 3) as usize]).ok()?,
+        payload: Payload::new(alloc, &payload).ok()?,
+    })
+}

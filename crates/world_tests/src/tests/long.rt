@@ -1,0 +1,92 @@
+// Twenty thousand events by a fixed rule, over three nodes and four clients.
+
+use crate::tests::course::{CLIENTS, Course, goes_on, primary_crashes};
+use crate::tests::hand::{named, opened_for};
+use packet::QoS;
+use std::alloc::Global;
+use world::{Accepted, World};
+
+const EVENTS: u32 = 20_000;
+
+// Behind so many events the active primary crashes as soon as it may, and behind twice as many the next one.
+const UNTIL_A_CRASH: u32 = 8_000;
+
+// Whether all events come, two primaries crash, and nothing is lost.
+fn all_come(alloc: Global, world: &mut World, course: &mut Course) -> bool {
+    let mut crashed = 0;
+    for count in 0..EVENTS {
+        if crashed < 2 && count / UNTIL_A_CRASH > crashed && primary_crashes(world, course) {
+            crashed += 1;
+        } else if !goes_on(alloc, world, course) {
+            return false;
+        }
+    }
+    crashed == 2 && world.losses() == 0 && course.only_grows
+}
+
+// Whether a client took in publications at QoS 2 all in one session, each once: those of each publisher in the
+// order in which it made them. What was retained comes again with each subscription (MQTT 3.3.1.3).
+fn took_each_once(alloc: Global, world: &World, client: &str) -> bool {
+    let Some(name) = named(alloc, client) else {
+        return false;
+    };
+    let Some(core) = world.client(&name) else {
+        return false;
+    };
+    let mut last = [None; 4];
+    let mut count = 0u32;
+    for accepted in core.accepted() {
+        if !is_new(accepted, &mut last, &mut count) {
+            return false;
+        }
+    }
+    count > 100
+}
+
+// Whether a publication that was taken in is newer than the ones before it of the same publisher.
+fn is_new(accepted: &Accepted, last: &mut [Option<u64>; 4], count: &mut u32) -> bool {
+    if accepted.retain || accepted.qos != QoS::ExactlyOnce {
+        return true;
+    }
+    let [publisher, upper, lower] = accepted.payload.as_slice() else {
+        return false;
+    };
+    let Some(before) = last.get_mut(*publisher as usize) else {
+        return false;
+    };
+    let serial = Some(u64::from(*upper) * 256 + u64::from(*lower));
+    let is_newer = *before < serial;
+    *before = serial;
+    *count = count.saturating_add(1);
+    is_newer && accepted.session == 1
+}
+
+// Whether each client did.
+fn all_took_each_once(alloc: Global, world: &World) -> bool {
+    CLIENTS
+        .iter()
+        .all(|client| took_each_once(alloc, world, client))
+}
+
+// Whether it all goes well, with many takeovers.
+fn goes_well(alloc: Global, world: &mut World) -> bool {
+    let mut course = Course::new();
+    all_come(alloc, world, &mut course)
+        && all_took_each_once(alloc, world)
+        && world.active().0 > 20
+        && world.agreed_len() > 1_000
+}
+
+fn goes_well_from_the_opening(alloc: Global) -> bool {
+    match opened_for(alloc, 3, &[1, 2, 3], &CLIENTS) {
+        Some(mut world) => goes_well(alloc, &mut world),
+        None => false,
+    }
+}
+
+// Each client takes in each publication at QoS 2 once, whatever comes late, again or never, while two of three
+// nodes crash and other configurations take over. The agreed list never becomes shorter, and nothing is lost.
+#[test]
+fn whatever_happens_each_is_taken_in_once(rt: HostRuntime) {
+    assert!(rt; goes_well_from_the_opening(rt.alloc()));
+}

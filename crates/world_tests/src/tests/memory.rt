@@ -1,0 +1,78 @@
+// Memory that is refused, in the events of the script `answer_waits_for_the_backup` of the folder `examples`. Run with
+// each allocation failing in turn: a step in which it was wanting is counted, and where none was all comes as ever.
+
+use crate::tests::hand::{named, opened};
+use std::alloc::Global;
+use world::{Event, World};
+
+// How many messages were sent and commands are agreed behind each event.
+const WANTED: &[(u64, u64)] = &[(0, 0), (1, 0), (2, 1), (3, 1), (3, 1)];
+
+// A CONNECT of 15 bytes goes up, and a CONNACK of 4 comes down once the backup holds it.
+fn events(alloc: Global) -> Option<Vec<Event>> {
+    let mut events = Vec::new(alloc);
+    events.push(Event::Open(named(alloc, "a")?, 1)).ok()?;
+    events.push(Event::CarryUp(1, 15)).ok()?;
+    events.push(Event::Deliver(0)).ok()?;
+    events.push(Event::Deliver(1)).ok()?;
+    events.push(Event::CarryDown(1, 4)).ok()?;
+    Some(events)
+}
+
+// Lets an event happen: whether it does and leads here, and whether the agreed list did not become shorter.
+fn goes_by(world: &mut World, event: &Event, wanted: &(u64, u64)) -> (bool, bool) {
+    let before = world.agreed_len();
+    let happened = world.step(event).is_ok();
+    let agreed = world.agreed_len();
+    let leads_here = (world.messages(), agreed) == *wanted;
+    (happened && leads_here, before <= agreed)
+}
+
+// Whether all comes as ever or a loss is counted; the agreed list never becomes shorter.
+fn is_whole_or_counted(world: &mut World, events: &[Event]) -> bool {
+    let mut is_whole = true;
+    let mut only_grows = true;
+    for (event, wanted) in events.iter().zip(WANTED) {
+        let (goes, grows) = goes_by(world, event, wanted);
+        is_whole = is_whole && goes;
+        only_grows = only_grows && grows;
+    }
+    only_grows
+        && match world.losses() {
+            0 => is_whole,
+            losses => losses == 1,
+        }
+}
+
+// Whether the client took in nothing, and was accepted if nothing was lost.
+fn took_nothing(alloc: Global, world: &World) -> bool {
+    let Some(name) = named(alloc, "a") else {
+        return true;
+    };
+    match world.client(&name) {
+        Some(core) => { core.accepted().is_empty() && (core.connected() || world.losses() == 1) }
+        None => false,
+    }
+}
+
+fn is_well(alloc: Global, world: &mut World) -> bool {
+    match events(alloc) {
+        Some(events) => {
+            is_whole_or_counted(world, events.as_slice()) && took_nothing(alloc, world)
+        }
+        None => true,
+    }
+}
+
+// Without memory for a world, or for the events, nothing is asked of it.
+fn is_well_from_the_opening(alloc: Global) -> bool {
+    match opened(alloc, 2, &[1, 2]) {
+        Some(mut world) => is_well(alloc, &mut world),
+        None => true,
+    }
+}
+
+#[test]
+fn what_finds_no_memory_is_counted(rt: HostRuntime) {
+    assert!(rt; is_well_from_the_opening(rt.alloc()));
+}
