@@ -1,0 +1,2 @@
+mod PiecesJoin
+mod WritesJoin

@@ -1,0 +1,127 @@
+-- PiecesJoin.antt: pieces that are told one behind the other are what the device gave, in its order.
+use Rattle.std.specs.Prelude.{◌≡◌, ℕ, Option, None, Some, List, [], ◌∷◌, ◌++◌, refl}
+use Rattle.std.proofs.Common.{sym, ◌∙◌, ap, subst, lit≤, append_assoc}
+use Rattle.std.proofs.lemmas.List.{append-nil, map-append}
+use Rattle.std.proofs.lemmas.List.Concat.{flat_map-append}
+use Rattle.std.specs.Io.KnownBytes.{Consumes, Keeps}
+use Rattle.world_base.specs.declared.item.Port.{Port}
+use Rattle.world_base.specs.declared.item.Item.{Item}
+use Rattle.world_base.specs.declared.item.Item.TheVariants.{Opened, Bytes, Ended}
+use Rattle.connection.specs.declared.ending.Ending.{Ending}
+use Rattle.connection.specs.declared.ending.Ending.TheVariants as endings
+use Rattle.connection.specs.Hearing.{Came, Hears, joined, pieces_told}
+use Rattle.connection.specs.Inside.{HearsOn, HearsPiece, HearsPieces, HearsSome}
+
+-- what is read in two steps is read in one
+consumes_join :
+    (old mid new : Option (List ℕ)) (xs ys : List ℕ)
+    → Consumes old mid xs → Consumes mid new ys → Consumes old new (xs ++ ys)
+consumes_join None mid new xs ys first second = tt
+consumes_join (Some o) None new xs ys first second = absurd first
+consumes_join (Some o) (Some m) None xs ys first second = absurd second
+consumes_join (Some o) (Some m) (Some n) xs ys first second =
+    first ∙ ap (λ l. xs ++ l) second ∙ sym (append_assoc xs ys n)
+
+-- a device that kept its bytes gave none
+pub kept_gives_none : (old new : Option (List ℕ)) → Keeps old new → Consumes old new []
+kept_gives_none None new kept = tt
+kept_gives_none (Some o) None kept = absurd kept
+kept_gives_none (Some o) (Some n) kept = sym kept
+
+-- a device that was not read gave none
+pub gives_none : (old : Option (List ℕ)) → Consumes old old []
+gives_none None = tt
+gives_none (Some o) = refl
+
+-- the pieces of two lists, one behind the other
+pub pieces_join :
+    (port : Port) (a b c : List Item) (first second : List Came) (lost : List ℕ) (x y z : Option (List ℕ))
+    → HearsPieces port a b first [] x y
+    → HearsPieces port b c second lost y z
+    → HearsPieces port a c (first ++ second) lost x z
+pieces_join port a b c first second lost x y z h k =
+    let told =
+    k.told
+    ∙ ap (λ l. l ++ pieces_told port second) h.told
+    ∙ append_assoc a (pieces_told port first) (pieces_told port second)
+    ∙ ap (λ l. a ++ l) (sym (map-append (λ (piece : Came). Bytes port piece.bytes piece.now) first second)) in
+    let first_gave : Consumes x y (joined first) = rw append-nil at h.gave in
+    let both = consumes_join x y z (joined first) (joined second ++ lost) first_gave k.gave in
+    let bytes =
+    sym (append_assoc (joined first) (joined second) lost)
+    ∙ ap (λ l. l ++ lost) (sym (flat_map-append (λ (piece : Came). piece.bytes) first second)) in
+    record { told = told; gave = subst (λ l. Consumes x z l) bytes both }
+
+-- a piece that was told behind others
+pub one_more :
+    (port : Port) (a b c : List Item) (x y z : Option (List ℕ))
+    → HearsSome port a b x y → HearsPiece port b c None y z → HearsSome port a c x z
+one_more port a b c x y z some (piece, h) = record {
+  pieces = some.pieces ++ piece ∷ [];
+  hears = pieces_join port a b c some.pieces (piece ∷ []) [] x y z some.hears h;
+}
+
+-- an end behind some pieces
+pub ends_behind :
+    (port : Port) (a b c : List Item) (ending : Ending) (x y z : Option (List ℕ))
+    → HearsSome port a b x y → HearsPiece port b c (Some ending) y z → HearsOn port a c ending x z
+ends_behind port a b c ending x y z some (same, (lost, gave, ends)) =
+    let none : HearsPieces port b c [] lost y z =
+    record { told = same ∙ sym (append-nil b); gave = gave } in
+    let joins = pieces_join port a b c some.pieces [] lost x y z some.hears none in
+    record {
+      pieces = some.pieces ++ [];
+      lost = lost;
+      hears = joins;
+      ends = ends (some.pieces ++ []);
+    }
+
+-- nothing was told yet
+pub none_yet : (port : Port) (a : List Item) (x : Option (List ℕ)) → HearsSome port a a x x
+none_yet port a x = record {
+  pieces = [];
+  hears = record { told = sym (append-nil a); gave = gives_none x };
+}
+
+-- nothing was told, since memory was wanting
+pub none_for_memory : (port : Port) (a : List Item) (x : Option (List ℕ)) → HearsOn port a a endings.Memory x x
+unfolding none_yet
+none_for_memory port a x = record {
+  pieces = [];
+  lost = [];
+  hears = (none_yet port a x).hears;
+  ends = lit≤ tt;
+}
+
+-- what was told between a connection's first item and its last
+pub framed :
+    (port : Port) (opened : ℕ) (a b c d : List Item) (ending : Ending) (x y : Option (List ℕ))
+    → b ≡ a ++ Opened port opened ∷ [] → HearsOn port b c ending x y → d ≡ c ++ Ended port ∷ []
+    → Hears port a d ending x y
+framed port opened a b c d ending x y first h last =
+    let middle = pieces_told port h.pieces in
+    let told =
+    last
+    ∙ ap (λ l. l ++ Ended port ∷ []) h.hears.told
+    ∙ append_assoc b middle (Ended port ∷ [])
+    ∙ ap (λ l. l ++ (middle ++ Ended port ∷ [])) first
+    ∙ append_assoc a (Opened port opened ∷ []) (middle ++ Ended port ∷ []) in
+    record {
+      opened = opened;
+      pieces = h.pieces;
+      lost = h.lost;
+      told = told;
+      gave = h.hears.gave;
+      ends = h.ends;
+    }
+
+-- a connection that was not let in
+pub refused :
+    (port : Port) (a : List Item) (x : Option (List ℕ)) → HearsOn port a a endings.Refused x x
+unfolding none_yet
+refused port a x = record {
+  pieces = [];
+  lost = [];
+  hears = (none_yet port a x).hears;
+  ends = (refl, refl);
+}

@@ -1,0 +1,45 @@
+-- What is told of a connection: that it was opened, each piece that came on it, and that it ended.
+use Rattle.std.specs.Prelude.{◌≡◌, ℕ, ◌≤◌, List, [], ◌∷◌, ◌++◌, length, map, Option}
+use Rattle.std.specs.List.{flat_map}
+use Rattle.std.specs.Io.KnownBytes.{Consumes, IsAtEnd}
+use Rattle.node_base.specs.declared.counted.TheConstants.{PIECE_BYTES}
+use Rattle.world_base.specs.declared.item.Port.{Port}
+use Rattle.world_base.specs.declared.item.Item.{Item}
+use Rattle.world_base.specs.declared.item.Item.TheVariants.{Opened, Bytes, Ended}
+use Rattle.connection.specs.declared.ending.Ending.{Ending}
+use Rattle.connection.specs.declared.ending.Ending.TheVariants as endings
+
+-- a piece that came, and the time that it was told with
+pub record Came : Type 0 where
+  pub bytes : List ℕ
+  pub now : ℕ
+
+-- the items of these pieces, in their order
+abbrev pub pieces_told : Port → List Came → List Item
+pieces_told port pieces = map (λ (piece : Came). Bytes port piece.bytes piece.now) pieces
+
+-- all that is told of a connection that was opened at a time, and on which these pieces came
+abbrev pub told_of : Port → ℕ → List Came → List Item
+told_of port opened pieces = Opened port opened ∷ (pieces_told port pieces ++ Ended port ∷ [])
+
+-- the bytes of all pieces, in their order
+abbrev pub joined : List Came → List ℕ
+joined pieces = flat_map (λ (piece : Came). piece.bytes) pieces
+
+-- How it ended, with the pieces that came, what was read and not told, and what the device has left: a byte is lost only
+-- where memory was wanting.
+abbrev pub EndsSo : Ending → List Came → List ℕ → Option (List ℕ) → Type 0
+EndsSo endings.Refused pieces lost behind = (pieces ≡ []) × (lost ≡ [])
+EndsSo endings.End pieces lost behind = (lost ≡ []) × IsAtEnd behind
+EndsSo endings.Fault pieces lost behind = lost ≡ []
+EndsSo endings.Memory pieces lost behind = length lost ≤ PIECE_BYTES
+
+-- What was told behind what was told before is a whole connection, and its pieces are what the device gave.
+pub record Hears (port : Port) (old new : List Item) (ending : Ending) (before behind : Option (List ℕ))
+    : Type 0 where
+  pub opened : ℕ
+  pub pieces : List Came
+  pub lost : List ℕ
+  pub told : new ≡ old ++ told_of port opened pieces
+  pub gave : Consumes before behind (joined pieces ++ lost)
+  pub ends : EndsSo ending pieces lost behind

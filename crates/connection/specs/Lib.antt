@@ -1,0 +1,3 @@
+pub mod Hearing
+pub mod Inside
+pub mod Writing

@@ -1,0 +1,14 @@
+// How the bytes of a connection ended.
+
+/// How [`listen`](crate::listen) ended.
+#[derive(Clone, Copy, Debug, PartialEq, Eq)]
+pub enum Ending {
+    /// The connection was not let in: nothing was read.
+    Refused,
+    /// The device had no more bytes.
+    End,
+    /// A read failed.
+    Fault,
+    /// Memory was wanting. A piece that was read then, if there was one, was not told.
+    Memory,
+}

@@ -1,0 +1,23 @@
+//! One connection over a device that is read and one that is written: what came on it is told to
+//! whoever hears of it, piece by piece, and what is put out for it is written in its order, as far as
+//! the device takes it.
+#![tactic(auto)]
+
+mod ending;
+mod flow;
+mod hearer;
+mod listening;
+mod outlet;
+mod unwritten;
+mod writing;
+mod wrote;
+
+pub use ending::Ending;
+pub use flow::{Flow, write_out};
+pub use hearer::Hearer;
+pub use listening::listen;
+pub use node_base::PIECE_BYTES;
+pub use outlet::Outlet;
+pub use unwritten::Unwritten;
+pub use writing::write_some;
+pub use wrote::Wrote;

@@ -1,0 +1,85 @@
+// What comes on a connection is told.
+
+ghost use Rattle.std.specs.Prelude.{◌≡◌, length};
+ghost use Rattle.connection.specs.Hearing.{Hears};
+ghost use Rattle.connection.specs.Inside.{HearsOn, HearsPiece};
+
+use crate::ending::Ending;
+use crate::hearer::Hearer;
+use node_base::PIECE_BYTES;
+use std::alloc::Global;
+use std::io::Read;
+use std::sync::Wait;
+use std::time::Clock;
+use world_base::{Item, Piece, Port};
+
+/// Tells of a connection: that it was opened, then each piece that the device gives, then that it
+/// ended, whichever way it did.
+pub fn listen<R: Wait + Clock, H: Hearer, D: Read>(
+    rt: &R,
+    alloc: Global,
+    port: Port,
+    device: &mut D,
+    hearer: &mut H,
+) -> Ending
+    ensures { Hears port (H.heard hearer.old) (H.heard hearer.new)
+        result (D.remaining device.old) (D.remaining device.new) }
+{
+    let opened = hearer.now(rt);
+    hearer.tell(rt, Item::Opened(port, opened));
+    let ending = hear_on(rt, alloc, port, device, hearer);
+    hearer.tell(rt, Item::Ended(port));
+    ending
+}
+
+// Tells each piece that the device gives, until it ends, if the connection is let in.
+fn hear_on<R: Wait + Clock, H: Hearer, D: Read>(
+    rt: &R,
+    alloc: Global,
+    port: Port,
+    device: &mut D,
+    hearer: &mut H,
+) -> Ending
+    ensures { HearsOn port (H.heard hearer.old) (H.heard hearer.new)
+        result (D.remaining device.old) (D.remaining device.new) }
+{
+    if !hearer.lets_in(rt) {
+        return Ending::Refused;
+    }
+    let Ok(mut bytes) = Vec::from_elem(alloc, 0u8, PIECE_BYTES) else {
+        return Ending::Memory;
+    };
+    let room = bytes.as_mut_slice();
+    for _ in rt.forever() {
+        if let Some(ending) = hear_piece(rt, alloc, port, device, room, hearer) {
+            return ending;
+        }
+    }
+    unreachable!()
+}
+
+// Reads a piece by one call of the device and tells it: how the connection ended, if it did.
+fn hear_piece<R: Wait + Clock, H: Hearer, D: Read>(
+    rt: &R,
+    alloc: Global,
+    port: Port,
+    device: &mut D,
+    room: &mut [u8],
+    hearer: &mut H,
+) -> Option<Ending>
+    requires { length room.old ≡ PIECE_BYTES }
+    ensures { HearsPiece port (H.heard hearer.old) (H.heard hearer.new)
+        result (D.remaining device.old) (D.remaining device.new) }
+{
+    let count = match device.read(room) {
+        Ok(0) => return Some(Ending::End),
+        Ok(count) => count,
+        Err(_) => return Some(Ending::Fault),
+    };
+    let Ok(piece) = Piece::from_slice(alloc, &room[..count]) else {
+        return Some(Ending::Memory);
+    };
+    let now = hearer.now(rt);
+    hearer.tell(rt, Item::Bytes(port, piece, now));
+    None
+}
