@@ -3,7 +3,7 @@
 use crate::tests::hand::gives;
 use std::alloc::Global;
 
-const ANSWER_WAITS_FOR_THE_BACKUP: [&str; 2] = [
+pub const ANSWER_WAITS_FOR_THE_BACKUP: [&str; 2] = [
     "world 2 1,2 1 a\n\
     open a 1\n\
     up 1 all\n\
@@ -18,7 +18,7 @@ const ANSWER_WAITS_FOR_THE_BACKUP: [&str; 2] = [
     end agreed=1 active=1\n",
 ];
 
-const CONFIGURATION_CHANGES: [&str; 2] = [
+pub const CONFIGURATION_CHANGES: [&str; 2] = [
     "world 2 1 1 a\n\
     assign 1,2 2\n\
     deliver 0\n\
@@ -43,7 +43,7 @@ const CONFIGURATION_CHANGES: [&str; 2] = [
     end agreed=1 active=2\n",
 ];
 
-const PRIMARY_CRASHES: [&str; 2] = [
+pub const PRIMARY_CRASHES: [&str; 2] = [
     "world 2 1,2 1 a,b\n\
     open b 1\n\
     up 1 all\n\
@@ -117,7 +117,7 @@ const PRIMARY_CRASHES: [&str; 2] = [
     end agreed=8 active=2\n",
 ];
 
-const STALE_PRIMARY: [&str; 2] = [
+pub const STALE_PRIMARY: [&str; 2] = [
     "world 2 1,2 1 a,b\n\
     open b 1\n\
     up 1 all\n\
@@ -187,7 +187,7 @@ const STALE_PRIMARY: [&str; 2] = [
     end agreed=6 active=2\n",
 ];
 
-const BALLOT_IS_PUT_OUT: [&str; 2] = [
+pub const BALLOT_IS_PUT_OUT: [&str; 2] = [
     "world 3 1 1 a\n\
     assign 1,2 2\n\
     deliver 0\n\

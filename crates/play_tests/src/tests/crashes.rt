@@ -1,0 +1,114 @@
+// A node crashes behind an event of a script, each node behind each event, and the script goes on.
+
+use crate::tests::scripts::{
+    ANSWER_WAITS_FOR_THE_BACKUP, BALLOT_IS_PUT_OUT, CONFIGURATION_CHANGES, PRIMARY_CRASHES,
+    STALE_PRIMARY,
+};
+use play::play;
+use std::alloc::Global;
+use std::str;
+
+// Scripts with two nodes, but for the last, which has three.
+const SCRIPTS: [&[&str; 2]; 5] = [
+    &ANSWER_WAITS_FOR_THE_BACKUP,
+    &CONFIGURATION_CHANGES,
+    &PRIMARY_CRASHES,
+    &STALE_PRIMARY,
+    &BALLOT_IS_PUT_OUT,
+];
+
+// A crash of each node. That of a node which a script does not have is idle.
+const CRASHES: [&[u8]; 3] = [b"crash 1\n", b"crash 2\n", b"crash 3\n"];
+
+// How long the agreed list is by a line of a transcript; none where it does not tell.
+fn agreed_in(line: &str) -> Option<u64> {
+    let (_, behind) = line.split_once("agreed=")?;
+    match behind.split_once(" ") {
+        Some((number, _)) => number.parse::<u64>().ok(),
+        None => behind.parse::<u64>().ok(),
+    }
+}
+
+// Whether the agreed list never becomes shorter, and its length is told at all.
+fn only_grows(told: &str) -> bool {
+    let mut agreed = None;
+    for line in told.lines() {
+        let behind = agreed_in(line);
+        if behind.is_some() {
+            if behind < agreed {
+                return false;
+            }
+            agreed = behind;
+        }
+    }
+    agreed.is_some()
+}
+
+// How often a line stands in a text.
+fn count_in(text: &str, line: &str) -> usize {
+    text.lines().filter(|other| *other == line).count()
+}
+
+// Whether each publication that is told stands in the script's own transcript, as often at least.
+fn tells_no_more(told: &str, own: &str) -> bool {
+    for line in told.lines() {
+        if line.starts_with("accepted") && count_in(told, line) > count_in(own, line) {
+            return false;
+        }
+    }
+    true
+}
+
+// A script with a line put in at this byte.
+fn with_line(alloc: Global, script: &[u8], at: usize, line: &[u8]) -> Option<Vec<u8>> {
+    let (front, behind) = script.split_at_checked(at)?;
+    let mut edited = Vec::new(alloc);
+    edited.extend_from_slice(front).ok()?;
+    edited.extend_from_slice(line).ok()?;
+    edited.extend_from_slice(behind).ok()?;
+    Some(edited)
+}
+
+// Whether an edited script is played to its end with no loss, and its transcript tells no more than this one.
+fn goes_no_further(alloc: Global, script: &[u8], own: &str) -> bool {
+    let mut transcript = Vec::new(alloc);
+    if play(alloc, script, &mut transcript).is_err() {
+        return false;
+    }
+    match str::from_utf8(transcript.as_slice()) {
+        Ok(told) => only_grows(told) && tells_no_more(told, own),
+        Err(_) => false,
+    }
+}
+
+// Whether a script goes no further with a line put in at this byte.
+fn survives(alloc: Global, row: &[&str; 2], at: usize, line: &[u8]) -> bool {
+    match with_line(alloc, row[0].as_bytes(), at, line) {
+        Some(edited) => goes_no_further(alloc, edited.as_slice(), row[1]),
+        None => false,
+    }
+}
+
+// Whether it does so with a crash of each node put in at this byte.
+fn survives_each(alloc: Global, row: &[&str; 2], at: usize) -> bool {
+    CRASHES.iter().all(|line| survives(alloc, row, at, line))
+}
+
+// Whether it does so behind each of its lines.
+fn survives_behind_each(alloc: Global, row: &[&str; 2]) -> bool {
+    for (at, byte) in row[0].as_bytes().iter().enumerate() {
+        if *byte == b'\n' && !survives_each(alloc, row, at.saturating_add(1)) {
+            return false;
+        }
+    }
+    true
+}
+
+// Whichever node crashes behind whichever event, the agreed list never becomes shorter, and nothing is taken in that
+// is not in the script's own run.
+#[test]
+fn a_crash_anywhere_takes_nothing_back(rt: HostRuntime) {
+    for row in &SCRIPTS {
+        assert!(rt; survives_behind_each(rt.alloc(), row), "{}", row[0]);
+    }
+}

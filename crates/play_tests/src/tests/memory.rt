@@ -1,0 +1,38 @@
+// Memory that is refused, in the script `answer_waits_for_the_backup`. Run with each allocation failing in turn: it is
+// played as ever, or what was wanting is told.
+
+use crate::tests::scripts::ANSWER_WAITS_FOR_THE_BACKUP;
+use play::{PlayError, play};
+use std::alloc::Global;
+
+// How many lines of a transcript tell of a publication that was taken in.
+fn accepted_in(transcript: &[u8]) -> usize {
+    transcript
+        .split(|byte| *byte == b'\n')
+        .filter(|line| line.starts_with(b"accepted"))
+        .count()
+}
+
+// How many lines a transcript has.
+fn lines_in(transcript: &[u8]) -> usize {
+    transcript.iter().filter(|byte| **byte == b'\n').count()
+}
+
+// Whether the script is played as ever, or to its end with losses, or is broken off. Nothing is ever taken in.
+fn is_played_or_told(alloc: Global, row: &[&str; 2]) -> bool {
+    let mut transcript = Vec::new(alloc);
+    let played = play(alloc, row[0].as_bytes(), &mut transcript);
+    let told = transcript.as_slice();
+    let is_so = match played {
+        Ok(()) => told == row[1].as_bytes(),
+        Err(PlayError::Losses) => lines_in(told) == lines_in(row[1].as_bytes()),
+        Err(PlayError::Memory) => true,
+        Err(PlayError::Line(_)) => false,
+    };
+    is_so && accepted_in(told) == 0
+}
+
+#[test]
+fn what_finds_no_memory_is_told(rt: HostRuntime) {
+    assert!(rt; is_played_or_told(rt.alloc(), &ANSWER_WAITS_FOR_THE_BACKUP));
+}
