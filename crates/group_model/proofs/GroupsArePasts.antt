@@ -10,18 +10,22 @@ use Rattle.agreement.specs.MasterState.{AssignRefusal, MasterState, master_behin
 use Rattle.agreement.specs.Past.{Moment, Past, opening_moment}
 use Rattle.agreement.specs.Past.Past.{began}
 use Rattle.agreement.specs.Steps.{world_behind}
-use Rattle.agreement.specs.Steps.MayHappen.{master_assigns, master_hears}
+use Rattle.agreement.specs.Steps.MayHappen.{master_assigns, master_hears, assignment_lost, answer_lost}
 use Rattle.agreement.specs.World.{World}
 use Rattle.world_base.specs.Core.{rules}
-use Rattle.group_model.specs.Group.{Group, moment_of, opening_group, with_master}
-use Rattle.group_model.specs.Goes.{MayGo, all_put, behind_assign, groups_of, put_in_step}
-use Rattle.group_model.specs.Goes.MayGo.{node_acts, master_assigns as assigns, master_hears as hears_master}
+use Rattle.group_model.specs.Group.{Group, behind_turn, moment_of, opening_group, with_master}
+use Rattle.group_model.specs.Goes.{MayGo, all_given, all_put, behind_assign, groups_of, put_in_step}
+use Rattle.group_model.specs.Goes.MayGo.{node_acts, node_loses, master_assigns as assigns, master_hears as hears_master, assigns_unheard, answers_unheard}
 use Rattle.group_model.specs.Goes.Went.{opened, then_went}
+use Rattle.group_model.specs.Losing.{WereSent}
+use Rattle.group_model.specs.Losing.{put_in_run as put_losing}
 use Rattle.group_model.specs.Pasts.{GroupsArePasts, packets_in}
+use Rattle.group_model.proofs.LosingNone.{losing_none, same_given, same_put, sent_losing}
 use Rattle.group_model.proofs.MovesHappen.{Further, by_event}
 use Rattle.group_model.proofs.RunsHappen.{runs_happen}
 use Rattle.group_model.proofs.Packets.{packets_join}
 use Rattle.group_model.proofs.Placed.{opened_replicas}
+use Rattle.group_model.proofs.Thinning.{all_kept}
 
 abbrev at_moment : MasterState → World State Command Output → Moment State Command Output
 at_moment m w = record { master = m; world = w }
@@ -38,12 +42,19 @@ assigned_as g config None = refl
 
 pub goes_on : (config : Config) (g h : Group) (step : MayGo g h) (earlier : List (Moment State Command Output)) (came : Past rules config (moment_of g ∷ earlier))
     → Further came (moment_of h) (put_in_step step)
-goes_on config g h (node_acts n core deed turn run at is first sent) earlier came = runs_happen g n core turn run at sent config earlier came
+goes_on config g h (node_acts n core deed turn run at is first sent) earlier came =
+    subst (λ l. Further came (moment_of (behind_turn g n turn (all_given run))) l) (same_put run)
+    (subst (λ l. Further came (moment_of (behind_turn g n turn l)) (put_losing (losing_none run))) (same_given run)
+    (runs_happen g n core turn (losing_none run) turn.messages at (sent_losing g n run sent) (all_kept turn.messages) config earlier came))
+goes_on config g h (node_loses n core item turn kept by at runs sent thinned) earlier came =
+    runs_happen g n core turn by.run kept at (subst (WereSent g n) (sym by.hears) sent) thinned config earlier came
 goes_on config g h (assigns wanted) earlier came =
     subst (λ z. Further came z []) (assigned_as g wanted (refusal g.master wanted))
     (by_event came _ (master_assigns wanted) [] 0 [] refl (λ x. refl) refl).further
 goes_on config g h (hears_master from ballot sent) earlier came =
     (by_event came _ (master_hears from ballot sent) [] 0 [] refl (λ x. refl) refl).further
+goes_on config g h (assigns_unheard wanted) earlier came = (by_event came _ (assignment_lost wanted) [] 0 [] refl (λ x. refl) refl).further
+goes_on config g h (answers_unheard from ballot sent) earlier came = (by_event came _ (answer_lost from ballot sent) [] 0 [] refl (λ x. refl) refl).further
 
 pub seen_still : {old new : List (Moment State Command Output)} (groups : List Group) → ((z : Moment State Command Output) → In z old → In z new)
     → Each (λ h. In (moment_of h) old) groups → Each (λ h. In (moment_of h) new) groups

@@ -1,7 +1,10 @@
 pub mod Placed
 pub mod Replicas
 pub mod Packets
+pub mod LosingNone
+pub mod Thinning
 pub mod MovesHappen
+pub mod LossesHappen
 pub mod RunsHappen
 pub mod GroupsArePasts
 pub mod PutsInBallot

@@ -9,7 +9,6 @@ use Rattle.lists.specs.Lists.In.{there}
 use Rattle.ballot.specs.Config.{Config}
 use Rattle.ballot.specs.Effect.{Effect}
 use Rattle.ballot.specs.Losses.{Loses, Thinned, halted}
-use Rattle.ballot.specs.Losses.Thinned.{none, keeps}
 use Rattle.ballot.specs.Message.{Message}
 use Rattle.ballot.specs.Protocol.{Input, replica_step}
 use Rattle.ballot.specs.Protocol.Input.{Receives, Proposes, Ticks}
@@ -37,24 +36,26 @@ use Rattle.agreement.proofs.Agreed.PastKnown.{past_known}
 use Rattle.agreement.proofs.Given.NextPlaces.{answers_at_the_next_places}
 use Rattle.agreement.proofs.Given.Places.{none_between}
 use Rattle.agreement.proofs.Given.StepGives.{from_active}
+use Rattle.world_base.specs.declared.connection.Connection.{Connection}
+use Rattle.world_base.specs.declared.item.Port.{Port}
 use Rattle.world_base.specs.Core.{CoreState, Turn, rules, serves}
 use Rattle.world_base.specs.Failing.{closes_failed}
 use Rattle.world_base.specs.Reading.{changes}
 use Rattle.world_base.specs.Turns.{drives, has_room, heard, moved, proposes, quiet}
 use Rattle.world_base.specs.Connections.{asked, closed, holding, left_with}
+use Rattle.world_base.specs.Handing.{hands_over}
 use Rattle.world_base.specs.Reading.{refused}
+use Rattle.world_base.specs.Step.{opens, settled}
 use Rattle.node_model.specs.Moves.{Moves, is_proposal}
 use Rattle.node_model.specs.Moves.Moves.{hears, opens_one, holds, reads_first, reads_later, closes, refuses, loses_one, loses_next, crashes, settles, hands}
 use Rattle.node_model.specs.Puts.{given_in}
 use Rattle.group_model.specs.Group.{Group, behind_turn, moment_of, replica_of}
-use Rattle.group_model.specs.Goes.{InputWasSent, WasSent, put_in_move}
+use Rattle.group_model.specs.Goes.{InputWasSent, WasSent, keeping, put_in_move}
 use Rattle.group_model.specs.Pasts.{packets_in}
 use Rattle.group_model.proofs.Packets.{AreTaken, HasRoomFor, none_taken, packets_join, proposal_taken}
 use Rattle.group_model.proofs.Placed.{get_mapped, messages_kept, set_mapped, set_same}
+use Rattle.group_model.proofs.Thinning.{Given, KeptOf, all_kept, kept_of_all, nothing_kept}
 use Rattle.group_model.proofs.Replicas.{changes_keep, hands_keeps, moved_replica, opens_keeps, room_serves, serving_runs, settles_keeps}
-
-abbrev Given : Type 0
-Given = List (Effect Command Output)
 
 -- A past goes on to this moment, by events in which these commands were proposed; what is agreed grows.
 pub record Further {config : Config} {a : Moment State Command Output} {earlier : List (Moment State Command Output)} (came : Past rules config (a ∷ earlier))
@@ -115,14 +116,14 @@ behind_is g n turn given effects new replica sent left =
 -- ---- no event
 
 -- a turn that leaves the replica as it is, and hands out nothing
-stays_as_it_is : (g : Group) (n : ℕ) (core : CoreState) (turn : Turn) → slice_get g.nodes n ≡ Some core → replica_of turn.core ≡ replica_of core
-    → turn.messages ≡ [] → moment_of g ≡ moment_of (behind_turn g n turn [])
-stays_as_it_is g n core turn at same none_sent =
+stays_as_it_is : (g : Group) (n : ℕ) (core : CoreState) (turn : Turn) (given : Given) → slice_get g.nodes n ≡ Some core → replica_of turn.core ≡ replica_of core
+    → messages turn.messages ≡ [] → outputs given ≡ [] → moment_of g ≡ moment_of (behind_turn g n turn given)
+stays_as_it_is g n core turn given at same none_sent none_left =
     ap (with_world g.master)
     (same_world
     (sym (set_mapped replica_of g.nodes n turn.core ∙ ap (λ r. slice_set (map replica_of g.nodes) n r) same
     ∙ set_same (map replica_of g.nodes) n (replica_of core) (get_mapped replica_of g.nodes n core at)))
-    (sym (ap (λ l. g.sent ++ messages l) none_sent ∙ append-nil g.sent)) (sym (append-nil g.left)))
+    (sym (ap (λ l. g.sent ++ l) none_sent ∙ append-nil g.sent)) (sym (ap (λ l. g.left ++ l) none_left ∙ append-nil g.left)))
 
 -- what is agreed at one moment is one list
 pub one_agreed : (config : Config) (past : List (Moment State Command Output)) (xs ys : List Command) → IsAgreed config past xs → IsAgreed config past ys → IsPrefixOf xs ys
@@ -172,76 +173,100 @@ no_event config a b earlier came n same =
 
 -- ---- one step of a replica
 
-all_kept : (effects : Given) → Thinned effects effects
-all_kept [] = none
-all_kept (e ∷ effects) = keeps (all_kept effects)
-
-exactly : (r : ReplicaState State Command) (outcome : Outcome State Command Output) → Loses rules r outcome outcome.state outcome.effects
-exactly r outcome = inl (refl, all_kept outcome.effects)
-
-one_step : (g : Group) (n : ℕ) (core : CoreState) (turn : Turn) (input : Input Command) (given : Given) (config : Config)
+-- the replica takes a step on this, perhaps with losses; these messages and these outputs are what it gave
+pub one_step : (g : Group) (n : ℕ) (core : CoreState) (turn : Turn) (input : Input Command) (new : ReplicaState State Command) (given thin : Given) (config : Config)
     (earlier : List (Moment State Command Output)) (came : Past rules config (moment_of g ∷ earlier)) → slice_get g.nodes n ≡ Some core
-    → (replica_of core).stopped ≡ false → MayTake (moment_of g).world n input
-    → replica_of turn.core ≡ (replica_step rules (replica_of core) input).state
-    → messages turn.messages ≡ messages (replica_step rules (replica_of core) input).effects
-    → outputs given ≡ outputs (replica_step rules (replica_of core) input).effects
-    → AreTaken (replica_of core) (replica_step rules (replica_of core) input).state input
-    → Once came (moment_of (behind_turn g n turn given)) (proposal_by (replica_of core) input) n (outputs given)
-one_step g n core turn input given config earlier came at runs may replica sent left took =
-    subst (λ z. Once came z (proposal_by (replica_of core) input) n (outputs given)) (behind_is g n turn given outcome.effects outcome.state replica sent left)
+    → (replica_of core).stopped ≡ false → MayTake (moment_of g).world n input → replica_of turn.core ≡ new
+    → Loses rules (replica_of core) (replica_step rules (replica_of core) input) new thin → messages turn.messages ≡ messages thin → outputs given ≡ outputs thin
+    → AreTaken (replica_of core) new input → Once came (moment_of (behind_turn g n turn given)) (proposal_by (replica_of core) input) n (outputs given)
+one_step g n core turn input new given thin config earlier came at runs may replica lost sent left took =
+    subst (λ z. Once came z (proposal_by (replica_of core) input) n (outputs given)) (behind_is g n turn given thin new replica sent left)
     (by_event came _ step (proposal_by (replica_of core) input) n (outputs given) refl took
-    (ap (λ b. if b then outputs outcome.effects else []) (eq_same n) ∙ sym left))
+    (ap (λ b. if b then outputs thin else []) (eq_same n) ∙ sym left))
   where
-    outcome : Outcome State Command Output
-    outcome = replica_step rules (replica_of core) input
-
-    step : MayHappen rules g.master (moment_of g).world g.master (moved_world (moment_of g).world n outcome.state outcome.effects)
-    step = node_takes n (replica_of core) input (get_mapped replica_of g.nodes n core at) runs may (exactly (replica_of core) outcome)
+    step : MayHappen rules g.master (moment_of g).world g.master (moved_world (moment_of g).world n new thin)
+    step = node_takes n (replica_of core) input (get_mapped replica_of g.nodes n core at) runs may lost
 
 -- a crash
-one_stop : (g : Group) (n : ℕ) (core : CoreState) (turn : Turn) (config : Config) (earlier : List (Moment State Command Output))
+pub one_stop : (g : Group) (n : ℕ) (core : CoreState) (turn : Turn) (given : Given) (config : Config) (earlier : List (Moment State Command Output))
     (came : Past rules config (moment_of g ∷ earlier)) → slice_get g.nodes n ≡ Some core → replica_of turn.core ≡ halted rules (replica_of core)
-    → turn.messages ≡ [] → Once came (moment_of (behind_turn g n turn [])) [] n []
-one_stop g n core turn config earlier came at replica none_sent =
-    subst (λ z. Once came z [] n []) (behind_is g n turn [] [] (halted rules (replica_of core)) replica (ap messages none_sent) refl)
-    (by_event came _ step [] n [] refl (λ x. refl) refl)
+    → messages turn.messages ≡ [] → outputs given ≡ [] → Once came (moment_of (behind_turn g n turn given)) [] n (outputs given)
+one_stop g n core turn given config earlier came at replica none_sent none_left =
+    subst (λ z. Once came z [] n (outputs given)) (behind_is g n turn given [] (halted rules (replica_of core)) replica none_sent none_left)
+    (by_event came _ step [] n (outputs given) refl (λ x. refl) (sym none_left))
   where
     step : MayHappen rules g.master (moment_of g).world g.master (moved_world (moment_of g).world n (halted rules (replica_of core)) [])
     step = node_stops n (replica_of core) (get_mapped replica_of g.nodes n core at)
 
+-- nothing happens to the replica
+pub no_step : (g : Group) (n : ℕ) (core : CoreState) (turn : Turn) (given : Given) (config : Config) (earlier : List (Moment State Command Output))
+    (came : Past rules config (moment_of g ∷ earlier)) → slice_get g.nodes n ≡ Some core → replica_of turn.core ≡ replica_of core
+    → messages turn.messages ≡ [] → outputs given ≡ [] → Once came (moment_of (behind_turn g n turn given)) [] n (outputs given)
+no_step g n core turn given config earlier came at replica none_sent none_left =
+    subst (λ (l : List (ℕ × Output)). Once came (moment_of (behind_turn g n turn given)) [] n l) (sym none_left)
+    (no_event config (moment_of g) _ earlier came n (stays_as_it_is g n core turn given at replica none_sent none_left))
+
 -- ---- moves
 
--- what is asked of each move
-abbrev Happens : Group → ℕ → (core : CoreState) (turn : Turn) → Moves core turn → Type 0
-Happens g n core turn m = (config : Config) (earlier : List (Moment State Command Output)) (came : Past rules config (moment_of g ∷ earlier))
-    → Once came (moment_of (behind_turn g n turn (given_in m))) (put_in_move m) n (outputs (given_in m))
+-- what is asked of each move, of whose messages these are kept
+abbrev Happens : Group → ℕ → (core : CoreState) (turn : Turn) → Moves core turn → Given → Type 0
+Happens g n core turn m kept = (config : Config) (earlier : List (Moment State Command Output)) (came : Past rules config (moment_of g ∷ earlier))
+    → Once came (moment_of (behind_turn g n (keeping kept turn) (given_in m))) (put_in_move m) n (outputs (given_in m))
 
-pub quietly : (g : Group) (n : ℕ) (core later : CoreState) → slice_get g.nodes n ≡ Some core → later.replica ≡ core.replica → (config : Config)
-    (earlier : List (Moment State Command Output)) (came : Past rules config (moment_of g ∷ earlier)) → Once came (moment_of (behind_turn g n (quiet later) [])) [] n []
-quietly g n core later at same config earlier came =
-    no_event config (moment_of g) _ earlier came n
-    (stays_as_it_is g n core (quiet later) at (ap (λ (r : CountedReplica State Command). r.state) same) refl)
+pub quietly : (g : Group) (n : ℕ) (core later : CoreState) (kept : Given) → slice_get g.nodes n ≡ Some core → replica_of later ≡ replica_of core → Thinned kept []
+    → (config : Config) (earlier : List (Moment State Command Output)) (came : Past rules config (moment_of g ∷ earlier))
+    → Once came (moment_of (behind_turn g n (keeping kept (quiet later)) [])) [] n []
+quietly g n core later kept at same t config earlier came =
+    no_step g n core (keeping kept (quiet later)) [] config earlier came at same (ap messages (nothing_kept kept t)) refl
+
+pub state_of : (a b : CoreState) → a.replica ≡ b.replica → replica_of a ≡ replica_of b
+state_of a b same = ap (λ (r : CountedReplica State Command). r.state) same
+
+pub changed_state : (port : Port) (f : Connection → Connection) (core : CoreState) → replica_of (changes port f core) ≡ replica_of core
+changed_state port f core = state_of (changes port f core) core (changes_keep port f core)
+
+pub serves_as : (a b : CoreState) → a.replica ≡ b.replica → serves a ≡ serves b
+serves_as a b same =
+    ap (λ (r : CountedReplica State Command). serves (let k : CoreState = record { replica = r; last_name = record { ballot = 0; count = 0 }; connections = [] } in k)) same
+
+-- a step of the replica alone, of whose messages these are kept
+moved_happens : (g : Group) (n : ℕ) (core between : CoreState) (input : Input Command) (kept : Given) → slice_get g.nodes n ≡ Some core
+    → (replica_of core).stopped ≡ false → MayTake (moment_of g).world n input → AreTaken (replica_of core) (replica_step rules (replica_of core) input).state input
+    → KeptOf kept (replica_step rules (replica_of core) input).effects → (config : Config) (earlier : List (Moment State Command Output))
+    (came : Past rules config (moment_of g ∷ earlier))
+    → Once came (moment_of (behind_turn g n (keeping kept (moved (replica_step rules (replica_of core) input) between)) (replica_step rules (replica_of core) input).effects))
+    (proposal_by (replica_of core) input) n (outputs (replica_step rules (replica_of core) input).effects)
+moved_happens g n core between input kept at runs may took k config earlier came =
+    one_step g n core (keeping kept (moved (replica_step rules (replica_of core) input) between)) input (replica_step rules (replica_of core) input).state
+    (replica_step rules (replica_of core) input).effects k.thin config earlier came at runs may (moved_replica (replica_step rules (replica_of core) input) between)
+    (inl (refl, k.thinned)) k.sent k.left took
 
 -- a command is put to the replica of a node that serves
-put_happens : (g : Group) (n : ℕ) (core between : CoreState) (command : Command) → slice_get g.nodes n ≡ Some core → between.replica ≡ core.replica
-    → serves core ≡ true → HasRoomFor core command → (config : Config) (earlier : List (Moment State Command Output))
+put_happens : (g : Group) (n : ℕ) (core between : CoreState) (command : Command) (kept : Given) → slice_get g.nodes n ≡ Some core → between.replica ≡ core.replica
+    → serves core ≡ true → HasRoomFor core command → Thinned kept (proposes command between).messages → (config : Config) (earlier : List (Moment State Command Output))
     (came : Past rules config (moment_of g ∷ earlier))
-    → Once came (moment_of (behind_turn g n (proposes command between) (proposed rules (replica_of core) command).effects)) (((replica_of core).joined, command) ∷ []) n
+    → Once came (moment_of (behind_turn g n (keeping kept (proposes command between)) (proposed rules (replica_of core) command).effects)) (((replica_of core).joined, command) ∷ []) n
     (outputs (proposed rules (replica_of core) command).effects)
 unfolding proposes
-put_happens g n core between command at same serving room config earlier came =
-    rw (serving_between)
-    (one_step g n core (moved (proposed rules (replica_of between) command) between) (Proposes command) (proposed rules (replica_of core) command).effects
-    config earlier came at (serving_runs core serving) tt
-    (moved_replica (proposed rules (replica_of between) command) between ∙ ap (λ r. (proposed rules r command).state) same_replica)
-    (messages_kept (proposed rules (replica_of between) command).effects ∙ ap (λ r. messages (proposed rules r command).effects) same_replica) refl
-    (proposal_taken core command serving room))
+put_happens g n core between command kept at same serving room t config earlier came =
+    subst (λ (c : CoreState). Once came (moment_of (behind_turn g n (let u : Turn = record { core = c; messages = kept } in u) (proposed rules (replica_of core) command).effects))
+    (((replica_of core).joined, command) ∷ []) n (outputs (proposed rules (replica_of core) command).effects)) (sym is)
+    (moved_happens g n core between (Proposes command) kept at (serving_runs core serving) tt (proposal_taken core command serving room)
+    (kept_of_all (proposed rules (replica_of core) command).effects kept (by serving_between t)) config earlier came)
   where
-    same_replica : replica_of between ≡ replica_of core
-    same_replica = ap (λ (r : CountedReplica State Command). r.state) same
-
     serving_between : serves between ≡ true
-    serving_between = ap (λ (r : CountedReplica State Command). serves (let k : CoreState = record { replica = r; last_name = record { ballot = 0; count = 0 }; connections = [] } in k)) same ∙ serving
+    serving_between = serves_as between core same ∙ serving
+
+    core_if : Bool → CoreState
+    core_if b = (let u : Turn = if b then moved (proposed rules (replica_of between) command) between else quiet between in u).core
+
+    is : core_if (serves between) ≡ (moved (proposed rules (replica_of core) command) between).core
+    is = ap core_if serving_between ∙ ap (λ (r : ReplicaState State Command). (moved (proposed rules r command) between).core) (state_of between core same)
+
+    by : {b : Bool} → b ≡ true → Thinned kept (let u : Turn = if b then moved (proposed rules (replica_of between) command) between else quiet between in u).messages
+        → Thinned kept (moved (proposed rules (replica_of core) command) between).messages
+    by {b = true} e f = subst (λ (r : ReplicaState State Command). Thinned kept (moved (proposed rules r command) between).messages) (state_of between core same) f
+    by {b = false} e f = absurd cc
 
 -- a replica that has stopped does nothing
 heard_stopped : (b : Bool) (r : ReplicaState State Command) (input : Input Command) → b ≡ true
@@ -254,58 +279,69 @@ heard_running : (b : Bool) (r : ReplicaState State Command) (input : Input Comma
 heard_running true r input e = absurd cc
 heard_running false r input e = refl
 
-heard_happens : (g : Group) (n : ℕ) (core : CoreState) (input : Input Command) → slice_get g.nodes n ≡ Some core → is_proposal input ≡ false
-    → InputWasSent g n input → (config : Config) (earlier : List (Moment State Command Output)) (came : Past rules config (moment_of g ∷ earlier))
-    → Once came (moment_of (behind_turn g n (drives input core) (heard input (replica_of core)).effects)) [] n (outputs (heard input (replica_of core)).effects)
+pub heard_as_stopped : (r : ReplicaState State Command) (input : Input Command) → r.stopped ≡ true → heard input r ≡ nothing_done Output r
+heard_as_stopped r input e = heard_stopped r.stopped r input e
+
+pub heard_as_running : (r : ReplicaState State Command) (input : Input Command) → r.stopped ≡ false → heard input r ≡ replica_step rules r input
+heard_as_running r input e = heard_running r.stopped r input e
+
+pub may_take : (g : Group) (n : ℕ) (i : Input Command) → is_proposal i ≡ false → InputWasSent g n i → MayTake (moment_of g).world n i
+may_take g n (Receives message) e s = s
+may_take g n (Proposes command) e s = absurd cc
+may_take g n Ticks e s = tt
+
+pub none_put : (core : CoreState) (i : Input Command) → is_proposal i ≡ false → proposal_by (replica_of core) i ≡ []
+none_put core (Receives message) e = refl
+none_put core (Proposes command) e = absurd cc
+none_put core Ticks e = refl
+
+heard_happens : (g : Group) (n : ℕ) (core : CoreState) (input : Input Command) (kept : Given) → slice_get g.nodes n ≡ Some core → is_proposal input ≡ false
+    → InputWasSent g n input → Thinned kept (drives input core).messages → (config : Config) (earlier : List (Moment State Command Output))
+    (came : Past rules config (moment_of g ∷ earlier))
+    → Once came (moment_of (behind_turn g n (keeping kept (drives input core)) (heard input (replica_of core)).effects)) [] n (outputs (heard input (replica_of core)).effects)
 unfolding drives
-heard_happens g n core input at other sent config earlier came = by (replica_of core).stopped refl
+heard_happens g n core input kept at other sent t config earlier came = by (replica_of core).stopped refl t
   where
-    may : (i : Input Command) → is_proposal i ≡ false → InputWasSent g n i → MayTake (moment_of g).world n i
-    may (Receives message) e s = s
-    may (Proposes command) e s = absurd cc
-    may Ticks e s = tt
-
-    none_put : (i : Input Command) → is_proposal i ≡ false → proposal_by (replica_of core) i ≡ []
-    none_put (Receives message) e = refl
-    none_put (Proposes command) e = absurd cc
-    none_put Ticks e = refl
-
     behind : Outcome State Command Output → Type 0
-    behind o = Once came (moment_of (behind_turn g n (moved o core) o.effects)) [] n (outputs o.effects)
+    behind o = Thinned kept (moved o core).messages → Once came (moment_of (behind_turn g n (keeping kept (moved o core)) o.effects)) [] n (outputs o.effects)
 
     by : (b : Bool) → (replica_of core).stopped ≡ b → behind (heard input (replica_of core))
     by true e =
-        subst behind (sym (heard_stopped (replica_of core).stopped (replica_of core) input e))
-        (no_event config (moment_of g) _ earlier came n
-        (stays_as_it_is g n core (moved (nothing_done Output (replica_of core)) core) at (moved_replica (nothing_done Output (replica_of core)) core) refl))
+        subst behind (sym (heard_as_stopped (replica_of core) input e))
+        (λ f.
+        no_step g n core (keeping kept (moved (nothing_done Output (replica_of core)) core)) [] config earlier came at
+        (moved_replica (nothing_done Output (replica_of core)) core) (ap messages (nothing_kept kept f)) refl)
     by false e =
-        subst behind (sym (heard_running (replica_of core).stopped (replica_of core) input e))
-        (subst (λ l. Once came (moment_of (behind_turn g n (moved (replica_step rules (replica_of core) input) core) (replica_step rules (replica_of core) input).effects)) l n
+        subst behind (sym (heard_as_running (replica_of core) input e))
+        (λ f.
+        subst (λ l. Once came (moment_of (behind_turn g n (keeping kept (moved (replica_step rules (replica_of core) input) core)) (replica_step rules (replica_of core) input).effects)) l n
         (outputs (replica_step rules (replica_of core) input).effects))
-        (none_put input other)
-        (one_step g n core (moved (replica_step rules (replica_of core) input) core) input (replica_step rules (replica_of core) input).effects config earlier came at e
-        (may input other sent) (moved_replica (replica_step rules (replica_of core) input) core)
-        (messages_kept (replica_step rules (replica_of core) input).effects) refl (none_taken (replica_of core) (replica_step rules (replica_of core) input).state input other)))
+        (none_put core input other)
+        (moved_happens g n core core input kept at e (may_take g n input other sent) (none_taken (replica_of core) (replica_step rules (replica_of core) input).state input other)
+        (kept_of_all (replica_step rules (replica_of core) input).effects kept f) config earlier came))
 
 -- where the node does not serve, nobody hears that a connection is lost
-lost_unheard : (g : Group) (n : ℕ) (core between : CoreState) (command : Command) → slice_get g.nodes n ≡ Some core → between.replica ≡ core.replica
-    → serves core ≡ false → (config : Config) (earlier : List (Moment State Command Output)) (came : Past rules config (moment_of g ∷ earlier))
-    → Once came (moment_of (behind_turn g n (proposes command between) [])) [] n []
+lost_unheard : (g : Group) (n : ℕ) (core between : CoreState) (command : Command) (kept : Given) → slice_get g.nodes n ≡ Some core → between.replica ≡ core.replica
+    → serves core ≡ false → Thinned kept (proposes command between).messages → (config : Config) (earlier : List (Moment State Command Output))
+    (came : Past rules config (moment_of g ∷ earlier)) → Once came (moment_of (behind_turn g n (keeping kept (proposes command between)) [])) [] n []
 unfolding proposes
-lost_unheard g n core between command at same none_served config earlier came =
-    rw (ap (λ (r : CountedReplica State Command). serves (let k : CoreState = record { replica = r; last_name = record { ballot = 0; count = 0 }; connections = [] } in k)) same ∙ none_served)
-    (quietly g n core between at same config earlier came)
+lost_unheard g n core between command kept at same none_served t config earlier came = by (serves between) (serves_as between core same ∙ none_served) t
+  where
+    by : (b : Bool) → b ≡ false → Thinned kept (let u : Turn = if b then moved (proposed rules (replica_of between) command) between else quiet between in u).messages
+        → Once came (moment_of (behind_turn g n (keeping kept (let u : Turn = if b then moved (proposed rules (replica_of between) command) between else quiet between in u)) [])) [] n []
+    by true e f = absurd cc
+    by false e f = quietly g n core between kept at (state_of between core same) f config earlier came
 
 -- where it serves, the broker hears it
-lost_happens : (g : Group) (n : ℕ) (core between : CoreState) (command : Command) → slice_get g.nodes n ≡ Some core → between.replica ≡ core.replica
-    → HasRoomFor core command → (b : Bool) → serves core ≡ b → (config : Config) (earlier : List (Moment State Command Output))
-    (came : Past rules config (moment_of g ∷ earlier))
-    → Once came (moment_of (behind_turn g n (proposes command between) (if b then (proposed rules (replica_of core) command).effects else [])))
+lost_happens : (g : Group) (n : ℕ) (core between : CoreState) (command : Command) (kept : Given) → slice_get g.nodes n ≡ Some core → between.replica ≡ core.replica
+    → HasRoomFor core command → (b : Bool) → serves core ≡ b → Thinned kept (proposes command between).messages → (config : Config)
+    (earlier : List (Moment State Command Output)) (came : Past rules config (moment_of g ∷ earlier))
+    → Once came (moment_of (behind_turn g n (keeping kept (proposes command between)) (if b then (proposed rules (replica_of core) command).effects else [])))
     (map (λ put. ((replica_of core).joined, put)) (if b then command ∷ [] else [])) n (outputs (if b then (proposed rules (replica_of core) command).effects else []))
-lost_happens g n core between command at same room true e = put_happens g n core between command at same e room
-lost_happens g n core between command at same room false e = lost_unheard g n core between command at same e
+lost_happens g n core between command kept at same room true e t = put_happens g n core between command kept at same e room t
+lost_happens g n core between command kept at same room false e t = lost_unheard g n core between command kept at same e t
 
-room_is : (core : CoreState) → has_room core ≡ true → nat_lt (length (replica_of core).log) most_places ≡ true
+pub room_is : (core : CoreState) → has_room core ≡ true → nat_lt (length (replica_of core).log) most_places ≡ true
 room_is core room = right_true (serves core) (nat_lt (length (replica_of core).log) most_places) room
   where
     right_true : (a b : Bool) → (a && b) ≡ true → b ≡ true
@@ -316,23 +352,25 @@ room_is core room = right_true (serves core) (nat_lt (length (replica_of core).l
 lost_is_none : (core : CoreState) (name : ConnectionName) → HasRoomFor core (commands.Lost name)
 lost_is_none core name x is = let e : is_packet_of (commands.Lost name) x ≡ true = is in absurd cc
 
-pub moves_happen : (g : Group) (n : ℕ) (core : CoreState) (turn : Turn) (m : Moves core turn) → slice_get g.nodes n ≡ Some core → WasSent g n m → Happens g n core turn m
-moves_happen g n core turn (hears input other) at sent = heard_happens g n core input at other sent
-moves_happen g n core turn (opens_one port) at sent = quietly g n core _ at (opens_keeps port core)
-moves_happen g n core turn (holds port piece) at sent = quietly g n core _ at (changes_keep port (holding piece) core)
-moves_happen g n core turn (reads_first now port c connect rest is_at first is room) at sent =
-    put_happens g n core (changes port (asked connect.keep_alive) (changes port (left_with now rest) core)) _ at
+pub moves_happen : (g : Group) (n : ℕ) (core : CoreState) (turn : Turn) (m : Moves core turn) (kept : Given) → slice_get g.nodes n ≡ Some core → WasSent g n m
+    → Thinned kept turn.messages → Happens g n core turn m kept
+moves_happen g n core turn (hears input other) kept at sent t = heard_happens g n core input kept at other sent t
+moves_happen g n core turn (opens_one port) kept at sent t = quietly g n core _ kept at (state_of (opens port core) core (opens_keeps port core)) t
+moves_happen g n core turn (holds port piece) kept at sent t = quietly g n core _ kept at (changed_state port (holding piece) core) t
+moves_happen g n core turn (reads_first now port c connect rest is_at first is room) kept at sent t =
+    put_happens g n core (changes port (asked connect.keep_alive) (changes port (left_with now rest) core)) _ kept at
     (changes_keep port (asked connect.keep_alive) (changes port (left_with now rest) core) ∙ changes_keep port (left_with now rest) core)
-    (room_serves core (nat_lt (length (replica_of core).log) most_places) room) (λ x is_one. room_is core room)
-moves_happen g n core turn (reads_later now port c packet rest is_at later is room) at sent =
-    put_happens g n core (changes port (left_with now rest) core) _ at (changes_keep port (left_with now rest) core)
-    (room_serves core (nat_lt (length (replica_of core).log) most_places) room) (λ x is_one. room_is core room)
-moves_happen g n core turn (closes port) at sent = quietly g n core _ at (changes_keep port closed core)
-moves_happen g n core turn (refuses port c code is_at first is) at sent = quietly g n core _ at (changes_keep port (refused code) core)
-moves_happen g n core turn (loses_one port c is_at was_asked) at sent =
-    lost_happens g n core (changes port closed core) (commands.Lost c.name) at (changes_keep port closed core) (lost_is_none core c.name) (serves core) refl
-moves_happen g n core turn (loses_next c is_at) at sent =
-    lost_happens g n core (closes_failed core) (commands.Lost c.name) at refl (lost_is_none core c.name) (serves core) refl
-moves_happen g n core turn crashes at sent = λ config earlier came. one_stop g n core _ config earlier came at refl refl
-moves_happen g n core turn settles at sent = quietly g n core _ at (settles_keeps core)
-moves_happen g n core turn (hands port) at sent = quietly g n core _ at (hands_keeps port core)
+    (room_serves core (nat_lt (length (replica_of core).log) most_places) room) (λ x is_one. room_is core room) t
+moves_happen g n core turn (reads_later now port c packet rest is_at later is room) kept at sent t =
+    put_happens g n core (changes port (left_with now rest) core) _ kept at (changes_keep port (left_with now rest) core)
+    (room_serves core (nat_lt (length (replica_of core).log) most_places) room) (λ x is_one. room_is core room) t
+moves_happen g n core turn (closes port) kept at sent t = quietly g n core _ kept at (changed_state port closed core) t
+moves_happen g n core turn (refuses port c code is_at first is) kept at sent t = quietly g n core _ kept at (changed_state port (refused code) core) t
+moves_happen g n core turn (loses_one port c is_at was_asked) kept at sent t =
+    lost_happens g n core (changes port closed core) (commands.Lost c.name) kept at (changes_keep port closed core) (lost_is_none core c.name) (serves core) refl t
+moves_happen g n core turn (loses_next c is_at) kept at sent t =
+    lost_happens g n core (closes_failed core) (commands.Lost c.name) kept at refl (lost_is_none core c.name) (serves core) refl t
+moves_happen g n core turn crashes kept at sent t =
+    λ config earlier came. one_stop g n core (keeping kept turn) [] config earlier came at refl (ap messages (nothing_kept kept t)) refl
+moves_happen g n core turn settles kept at sent t = quietly g n core _ kept at (state_of (settled core) core (settles_keeps core)) t
+moves_happen g n core turn (hands port) kept at sent t = quietly g n core _ kept at (state_of (hands_over port core) core (hands_keeps port core)) t

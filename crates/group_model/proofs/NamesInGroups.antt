@@ -9,11 +9,15 @@ use Rattle.agreement.specs.MasterState.{AssignRefusal, master_behind, refusal}
 use Rattle.broker_base.specs.Connection.{ConnectionName}
 use Rattle.world_base.specs.declared.connection.Connection.{Connection}
 use Rattle.world_base.specs.Connections.{closed, is_listed, is_over}
+use Rattle.world_base.specs.declared.item.Item.{Item}
 use Rattle.world_base.specs.Core.{CoreState, Turn, opening_core, serves}
+use Rattle.world_base.specs.LossyStep.{RunsOn}
 use Rattle.world_base.specs.Step.{acts_on, settled}
 use Rattle.node_model.specs.Closed.{listed_named}
 use Rattle.node_model.specs.Ends.{IsOrderly}
 use Rattle.node_model.specs.Keeping.{AreOfTheBallot}
+use Rattle.node_model.specs.LossyLaws.{AreWhereItServes}
+use Rattle.node_model.specs.LossyMoves.{IsRunOn}
 use Rattle.node_model.specs.Moves.{Deed, done}
 use Rattle.node_model.specs.Moves.Deed.{takes, gives}
 use Rattle.node_model.specs.Moves.Moves.{hands}
@@ -25,9 +29,10 @@ use Rattle.node_model.proofs.Views.{each_filtered, found_each, view}
 use Rattle.group_model.specs.Ballots.{IsInItsBallot, PutsInTheBallotOfTheName}
 use Rattle.group_model.specs.Group.{Group, opening_cores, with_master}
 use Rattle.group_model.specs.Goes.{MayGo, Went, all_put, behind_assign, put_in_step}
-use Rattle.group_model.specs.Goes.MayGo.{node_acts, master_assigns as assigns, master_hears as hears_master}
+use Rattle.group_model.specs.Goes.MayGo.{node_acts, node_loses, master_assigns as assigns, master_hears as hears_master, assigns_unheard, answers_unheard}
 use Rattle.group_model.specs.Goes.Went.{opened, then_went}
-use Rattle.group_model.proofs.PutsInBallot.{AreWhereItServes, runs_well}
+use Rattle.group_model.proofs.LosingNone.{first_still, losing_none, same_put}
+use Rattle.group_model.proofs.PutsInBallot.{runs_well}
 
 -- ---- the end of a step
 
@@ -51,7 +56,7 @@ settled_serves x core d e lives = by (serves core) refl e
 
 settled_names : (core : CoreState) → AreWhereItServes (settled core) → AreOfTheBallot (settled core)
 settled_names core of =
-    record { each = λ x d e lives. let leads = settled_serves x core d e lives in ((of.each leads).each x d e lives) }
+    record { each = λ x d e lives. let leads = settled_serves x core d e lives in ((of leads).each x d e lives) }
 
 -- ---- nodes
 
@@ -68,6 +73,14 @@ well_behind deed core turn is well orderly of =
     record {
       orderly = orderly;
       names = subst (λ (t : Turn). AreOfTheBallot t.core) (sym is) (deed_ends deed core well (subst (λ (t : Turn). AreWhereItServes t.core) is of));
+    }
+
+-- so does a step with losses end
+lost_well : (item : Item) (core : CoreState) (turn : Turn) → RunsOn item core turn.core turn.messages → IsOrderly turn.core → AreWhereItServes turn.core → IsWell turn.core
+lost_well item core turn runs orderly of =
+    record {
+      orderly = orderly;
+      names = subst (λ (c : CoreState). AreOfTheBallot c) (sym runs.settles) (settled_names runs.did.core (subst (λ (c : CoreState). AreWhereItServes c) runs.settles of));
     }
 
 -- ---- groups
@@ -101,10 +114,19 @@ assigned_well g config (Some why) well = well
 steps_well : (g h : Group) (step : MayGo g h) → Each IsWell g.nodes → WentWell step
 steps_well g h (node_acts n core deed turn run at is first sent) well =
     let mine = each_got IsWell g.nodes n core well at in
-    let r = runs_well run first mine.orderly mine.names in
-    record { nodes = each_set IsWell g.nodes n turn.core well (well_behind deed core turn is mine r.orderly r.names); puts = r.puts }
+    let r = runs_well (losing_none run) (first_still run first) mine.orderly mine.names in
+    record {
+      nodes = each_set IsWell g.nodes n turn.core well (well_behind deed core turn is mine r.orderly r.names);
+      puts = subst (Each IsInItsBallot) (same_put run) r.puts;
+    }
+steps_well g h (node_loses n core item turn kept by at runs sent thinned) well =
+    let mine = each_got IsWell g.nodes n core well at in
+    let r = runs_well by.run by.first mine.orderly mine.names in
+    record { nodes = each_set IsWell g.nodes n turn.core well (lost_well item core turn runs r.orderly r.names); puts = r.puts }
 steps_well g h (assigns config) well = record { nodes = assigned_well g config (refusal g.master config) well; puts = tt }
 steps_well g h (hears_master from ballot sent) well = record { nodes = well; puts = tt }
+steps_well g h (assigns_unheard config) well = record { nodes = well; puts = tt }
+steps_well g h (answers_unheard from ballot sent) well = record { nodes = well; puts = tt }
 
 pub all_well : (nodes : ℕ) (config : Config) (g : Group) (went : Went nodes config g) → Each IsWell g.nodes × Each IsInItsBallot (all_put went)
 all_well nodes config g (opened can) = (opening_well nodes config, tt)

@@ -1,100 +1,34 @@
 -- What a move puts to its replica is put in the ballot of its name, where the names of open connections are of the ballot.
-use Rattle.std.proofs.Common.{◌≡◌, inl, inr, Bool, true, false, not, nat_lt, if◌then◌else◌, [], ◌∷◌, length, Some, map, refl, sym, ap, ◌∙◌}
+use Rattle.std.proofs.Common.{◌≡◌, Bool, true, false, nat_lt, if◌then◌else◌, List, [], ◌∷◌, length, map, refl, ◌∙◌, sym, subst}
 use Rattle.std.proofs.lemmas.Bool.{both_ways}
-use Rattle.lists.specs.Lists.{Each}
+use Rattle.lists.specs.Lists.{Each, In}
 use Rattle.lists.specs.Lists.In.{here}
 use Rattle.lists.proofs.OfEach.{each_append}
-use Rattle.ballot.specs.Protocol.{Input}
-use Rattle.ballot.specs.Replica.{ReplicaState, is_active}
 use Rattle.ballot.specs.Serving.{most_places}
-use Rattle.broker_base.specs.State.{State}
 use Rattle.broker_base.specs.Command.{Command}
 use Rattle.broker_base.specs.Command.TheVariants as commands
 use Rattle.broker_base.specs.Connection.{ConnectionName}
 use Rattle.story.specs.Story.{is_packet_of}
-use Rattle.world_base.specs.declared.connection.Connection.{Connection}
-use Rattle.world_base.specs.Connections.{is_over}
+use Rattle.world_base.specs.Connections.{asked, left_with}
 use Rattle.world_base.specs.Core.{CoreState, Turn, serves}
-use Rattle.world_base.specs.Step.{crashed}
-use Rattle.world_base.specs.Turns.{drives, heard}
-use Rattle.node_model.specs.Closed.{listed_named}
+use Rattle.world_base.specs.Lossy.{Account, Takes}
+use Rattle.world_base.specs.Reading.{changes}
 use Rattle.node_model.specs.Ends.{IsOrderly}
-use Rattle.node_model.specs.Hearing.{HearsAtFirst, IsCalm}
-use Rattle.node_model.specs.Keeping.{AreOfTheBallot, moves_replica}
-use Rattle.node_model.specs.Moves.{Moves, Runs}
-use Rattle.node_model.specs.Moves.Moves.{hears, opens_one, holds, reads_first, reads_later, closes, refuses, loses_one, loses_next, crashes, settles, hands}
-use Rattle.node_model.specs.Moves.Runs.{rests, goes_on}
-use Rattle.node_model.proofs.Kept.{left_true}
-use Rattle.node_model.proofs.MovesOfReplica.{move_same, serves_same}
-use Rattle.node_model.proofs.NamesKeepTheirBallot.{and_false, drives_state, heard_stays, names_keep_their_ballot}
-use Rattle.node_model.proofs.OpenBehind.{shuts_open}
-use Rattle.node_model.proofs.ReadsInOrder.{nodes_read_in_order}
-use Rattle.node_model.proofs.ReplicaLeads.{StaysOr}
-use Rattle.node_model.proofs.ShutByOutputs.{bytes_for, driven_shuts}
+use Rattle.node_model.specs.Keeping.{AreOfTheBallot}
+use Rattle.node_model.specs.LossyLaws.{AreWhereItServes}
+use Rattle.node_model.specs.LossyMoves.{HearsAtFirst, IsCalm, LossyMoves, LossyRuns, proposal_of}
+use Rattle.node_model.specs.LossyMoves.LossyMoves.{exactly, hears_losing, first_losing, later_losing, tells_losing, forgets, halts, fails, unheard, drops}
+use Rattle.node_model.specs.LossyMoves.LossyRuns.{rests, goes_on}
+use Rattle.node_model.specs.Moves.{Moves}
+use Rattle.node_model.specs.Moves.Moves.{reads_first, reads_later, loses_one, loses_next}
+use Rattle.node_model.proofs.LossyNames.{lossy_names_keep_their_ballot}
+use Rattle.node_model.proofs.LossyReads.{losses_read_in_order}
 use Rattle.group_model.specs.Ballots.{IsInItsBallot}
 use Rattle.group_model.specs.Group.{replica_of}
-use Rattle.group_model.specs.Goes.{put_in_move, put_in_run}
-use Rattle.group_model.proofs.Replicas.{room_serves}
-
--- where a node serves, each open connection has a name of its ballot; so it is also before a step's end
-pub record AreWhereItServes (core : CoreState) : Type 0 where
-  pub each : serves core ≡ true → AreOfTheBallot core
-
-pub where_it_serves : (core : CoreState) → AreOfTheBallot core → AreWhereItServes core
-where_it_serves core of = record { each = λ leads. of }
-
-not_served : (core : CoreState) → serves core ≡ false → AreWhereItServes core
-not_served core none = record { each = λ leads. absurd (both_ways (serves core) none leads) }
-
--- ---- moves
-
-orderly_behind : (core : CoreState) (turn : Turn) (m : Moves core turn) → IsOrderly core → IsOrderly turn.core
-orderly_behind core turn m o = (nodes_read_in_order core turn m o).0
-
-calm_keeps : (core : CoreState) (turn : Turn) (m : Moves core turn) → IsOrderly core → moves_replica m ≡ false → AreWhereItServes core → AreWhereItServes turn.core
-calm_keeps core turn m o calm of = by (serves core) refl
-  where
-    by : (b : Bool) → serves core ≡ b → AreWhereItServes turn.core
-    by true leads = where_it_serves turn.core (names_keep_their_ballot.moves core turn m o calm (of.each leads))
-    by false none = not_served turn.core (serves_same core turn.core (move_same core turn m calm) ∙ none)
-
--- what the replica hears leaves it in its ballot, or it leads none
-heard_keeps : (core : CoreState) (input : Input Command) → IsOrderly core → AreOfTheBallot core → AreWhereItServes (drives input core).core
-heard_keeps core input o of = record { each = λ leads. record { each = λ x d e lives. (leads, led leads x d e lives) } }
-  where
-    later : CoreState
-    later = (drives input core).core
-
-    state : later.replica.state ≡ (heard input core.replica.state).state
-    state = drives_state input core
-
-    led : serves later ≡ true → (x : ConnectionName) (d : Connection) → listed_named x later ≡ Some d → is_over d.stage ≡ false
-        → x.ballot ≡ later.replica.state.joined
-    led leads x d e lives =
-        let was = shuts_open (bytes_for x (heard input core.replica.state).effects) (listed_named x core) (listed_named x later) d (driven_shuts x input core o) e lives in
-        (of.each x was.0 was.1 was.2).1 ∙ sym (ap (λ (r : ReplicaState State Command). r.joined) state ∙ joined (heard_stays input core.replica.state))
-      where
-        joined : StaysOr core.replica.state (heard input core.replica.state).state → (heard input core.replica.state).state.joined ≡ core.replica.state.joined
-        joined (inl same) = same
-        joined (inr passive) =
-            absurd (both_ways (is_active later.replica.state.role) (ap (λ (r : ReplicaState State Command). is_active r.role) state ∙ passive)
-            (left_true (is_active later.replica.state.role) (not later.replica.state.stopped) leads))
-
-first_keeps : (core : CoreState) (turn : Turn) (m : Moves core turn) → IsOrderly core → AreOfTheBallot core → AreWhereItServes turn.core
-first_keeps core turn (hears input other) o of = heard_keeps core input o of
-first_keeps core turn crashes o of = not_served (crashed core) (and_false (is_active core.replica.state.role))
-first_keeps core turn (opens_one port) o of = calm_keeps core turn (opens_one port) o refl (where_it_serves core of)
-first_keeps core turn (holds port piece) o of = calm_keeps core turn (holds port piece) o refl (where_it_serves core of)
-first_keeps core turn (reads_first now port c connect rest at first is room) o of =
-    calm_keeps core turn (reads_first now port c connect rest at first is room) o refl (where_it_serves core of)
-first_keeps core turn (reads_later now port c packet rest at later is room) o of =
-    calm_keeps core turn (reads_later now port c packet rest at later is room) o refl (where_it_serves core of)
-first_keeps core turn (closes port) o of = calm_keeps core turn (closes port) o refl (where_it_serves core of)
-first_keeps core turn (refuses port c code at first is) o of = calm_keeps core turn (refuses port c code at first is) o refl (where_it_serves core of)
-first_keeps core turn (loses_one port c at asked) o of = calm_keeps core turn (loses_one port c at asked) o refl (where_it_serves core of)
-first_keeps core turn (loses_next c at) o of = calm_keeps core turn (loses_next c at) o refl (where_it_serves core of)
-first_keeps core turn settles o of = calm_keeps core turn settles o refl (where_it_serves core of)
-first_keeps core turn (hands port) o of = calm_keeps core turn (hands port) o refl (where_it_serves core of)
+use Rattle.group_model.specs.Losing.{put_in_move, put_in_run}
+use Rattle.group_model.specs.Goes.{put_in_move as exactly_put}
+use Rattle.group_model.proofs.MovesHappen.{serves_as}
+use Rattle.group_model.proofs.Replicas.{changes_keep, room_serves}
 
 -- ---- what they put
 
@@ -103,46 +37,72 @@ none_of_a_packet : (core : CoreState) (name : ConnectionName) (b : Bool)
 none_of_a_packet core name true = (λ x is. absurd (both_ways (is_packet_of (commands.Lost name) x) refl is), tt)
 none_of_a_packet core name false = tt
 
-puts_in : (core : CoreState) (turn : Turn) (m : Moves core turn) → IsOrderly core → AreWhereItServes core → Each IsInItsBallot (put_in_move m)
-puts_in core turn (reads_first now port c connect rest at first is room) o of = (
-  λ x named. names_keep_their_ballot.proposes core turn (reads_first now port c connect rest at first is room) o
-      (of.each (room_serves core (nat_lt (length (replica_of core).log) most_places) room)) x (commands.Connect c.name connect.client connect.clean) here named,
+-- what is proposed is put by a node that serves
+proposed_in : (core : CoreState) (turn : Turn) (m : LossyMoves core turn) (command : Command) → IsOrderly core → AreWhereItServes core → serves core ≡ true → proposal_of m ≡ command ∷ []
+    → IsInItsBallot ((replica_of core).joined, command)
+proposed_in core turn m command o of serving is x named =
+    lossy_names_keep_their_ballot.proposes core turn m o of serving x command (subst (In command) (sym is) here) named
+
+-- who takes a command behind a change of connections serves
+serves_who_takes : (core between : CoreState) (command : Command) (did : Account) → between.replica ≡ core.replica → Takes command between did → serves core ≡ true
+serves_who_takes core between command did same taken =
+    sym (serves_as between core same) ∙ room_serves between (nat_lt (length (replica_of between).log) most_places) taken.room
+
+exactly_in : (core : CoreState) (turn : Turn) (m : Moves core turn) → IsOrderly core → AreWhereItServes core → Each IsInItsBallot (exactly_put m)
+exactly_in core turn (reads_first now port c connect rest at first is room) o of = (
+  proposed_in core turn (exactly (reads_first now port c connect rest at first is room)) (commands.Connect c.name connect.client connect.clean) o of
+      (room_serves core (nat_lt (length (replica_of core).log) most_places) room) refl,
   tt,
 )
-puts_in core turn (reads_later now port c packet rest at later is room) o of = (
-  λ x named. names_keep_their_ballot.proposes core turn (reads_later now port c packet rest at later is room) o
-      (of.each (room_serves core (nat_lt (length (replica_of core).log) most_places) room)) x (commands.Packet c.name packet) here named,
+exactly_in core turn (reads_later now port c packet rest at later is room) o of = (
+  proposed_in core turn (exactly (reads_later now port c packet rest at later is room)) (commands.Packet c.name packet) o of
+      (room_serves core (nat_lt (length (replica_of core).log) most_places) room) refl,
   tt,
 )
-puts_in core turn (loses_one port c at asked) o of = none_of_a_packet core c.name (serves core)
-puts_in core turn (loses_next c at) o of = none_of_a_packet core c.name (serves core)
-puts_in core turn (hears input other) o of = tt
-puts_in core turn (opens_one port) o of = tt
-puts_in core turn (holds port piece) o of = tt
-puts_in core turn (closes port) o of = tt
-puts_in core turn (refuses port c code at first is) o of = tt
-puts_in core turn crashes o of = tt
-puts_in core turn settles o of = tt
-puts_in core turn (hands port) o of = tt
+exactly_in core turn (loses_one port c at asked_before) o of = none_of_a_packet core c.name (serves core)
+exactly_in core turn (loses_next c at) o of = none_of_a_packet core c.name (serves core)
+exactly_in core turn m o of = tt
+
+puts_in : (core : CoreState) (turn : Turn) (m : LossyMoves core turn) → IsOrderly core → AreWhereItServes core → Each IsInItsBallot (put_in_move m)
+puts_in core turn (exactly m) o of = exactly_in core turn m o of
+puts_in core turn (first_losing now port c connect rest did at first is taken) o of = (
+  proposed_in core turn (first_losing now port c connect rest did at first is taken) (commands.Connect c.name connect.client connect.clean) o of
+      (serves_who_takes core (changes port (asked connect.keep_alive) (changes port (left_with now rest) core)) _ did
+      (changes_keep port (asked connect.keep_alive) (changes port (left_with now rest) core) ∙ changes_keep port (left_with now rest) core) taken) refl,
+  tt,
+)
+puts_in core turn (later_losing now port c packet rest did at later is taken) o of = (
+  proposed_in core turn (later_losing now port c packet rest did at later is taken) (commands.Packet c.name packet) o of
+      (serves_who_takes core (changes port (left_with now rest) core) _ did (changes_keep port (left_with now rest) core) taken) refl,
+  tt,
+)
+puts_in core turn (tells_losing name did taken) o of = none_of_a_packet core name true
+puts_in core turn m o of = tt
 
 -- ---- runs
 
 -- in a run what is put is put in its ballot; and what stays so behind it
-pub record RunsWell {core : CoreState} {turn : Turn} (run : Runs core turn) : Type 0 where
+pub record RunsWell {core : CoreState} {turn : Turn} (run : LossyRuns core turn) : Type 0 where
   pub orderly : IsOrderly turn.core
   pub names : AreWhereItServes turn.core
   pub puts : Each IsInItsBallot (put_in_run run)
 
-calm_run : {core : CoreState} {turn : Turn} (run : Runs core turn) → IsCalm run → IsOrderly core → AreWhereItServes core → RunsWell run
+orderly_behind : (core : CoreState) (turn : Turn) (m : LossyMoves core turn) → IsOrderly core → IsOrderly turn.core
+orderly_behind core turn m o = (losses_read_in_order core turn m o).0
+
+where_it_serves : (core : CoreState) → AreOfTheBallot core → AreWhereItServes core
+where_it_serves core of serving = of
+
+calm_run : {core : CoreState} {turn : Turn} (run : LossyRuns core turn) → IsCalm run → IsOrderly core → AreWhereItServes core → RunsWell run
 calm_run rests calm o of = record { orderly = o; names = of; puts = tt }
 calm_run {core = core} (goes_on {first = first} m run) calm o of =
-    let r = calm_run run calm.1 (orderly_behind core first m o) (calm_keeps core first m o calm.0 of) in
+    let r = calm_run run calm.1 (orderly_behind core first m o) (lossy_names_keep_their_ballot.moves core first m o calm.0 of) in
     record { orderly = r.orderly; names = r.names; puts = each_append IsInItsBallot (put_in_move m) (put_in_run run) (puts_in core first m o of) r.puts }
 
-pub runs_well : {core : CoreState} {turn : Turn} (run : Runs core turn) → HearsAtFirst run → IsOrderly core → AreOfTheBallot core → RunsWell run
+pub runs_well : {core : CoreState} {turn : Turn} (run : LossyRuns core turn) → HearsAtFirst run → IsOrderly core → AreOfTheBallot core → RunsWell run
 runs_well {core = core} rests first o of = record { orderly = o; names = where_it_serves core of; puts = tt }
 runs_well {core = core} (goes_on {first = first} m run) calm o of =
-    let r = calm_run run calm (orderly_behind core first m o) (first_keeps core first m o of) in
+    let r = calm_run run calm (orderly_behind core first m o) (lossy_names_keep_their_ballot.hears core first m o of) in
     record {
       orderly = r.orderly;
       names = r.names;

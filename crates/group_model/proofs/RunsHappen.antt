@@ -1,7 +1,8 @@
 -- What a node does by a run of moves are events among replicas, one behind the other.
-use Rattle.std.proofs.Common.{◌≡◌, ℕ, List, ◌∷◌, ◌++◌, Some, slice_get, refl, sym, ap, ◌∙◌, subst, append_assoc}
+use Rattle.std.proofs.Common.{◌≡◌, ℕ, List, [], ◌∷◌, ◌++◌, Some, slice_get, refl, sym, ap, ◌∙◌, subst, append_assoc}
 use Rattle.ballot.specs.Config.{Config}
 use Rattle.ballot.specs.Effect.{Effect}
+use Rattle.ballot.specs.Losses.{Thinned}
 use Rattle.ballot.specs.Message.{Message}
 use Rattle.ballot.specs.Protocol.{Input}
 use Rattle.ballot.specs.Protocol.Input.{Receives, Proposes, Ticks}
@@ -12,13 +13,15 @@ use Rattle.agreement.specs.Past.{Moment, Past}
 use Rattle.agreement.specs.Proposals.{proposals_of, taken_of}
 use Rattle.agreement.specs.World.{messages, outputs}
 use Rattle.world_base.specs.Core.{CoreState, Turn, rules}
-use Rattle.node_model.specs.Moves.{Moves, Runs, and_then}
-use Rattle.node_model.specs.Moves.Moves.{hears, opens_one, holds, reads_first, reads_later, closes, refuses, loses_one, loses_next, crashes, settles, hands}
-use Rattle.node_model.specs.Moves.Runs.{rests, goes_on}
-use Rattle.node_model.specs.Puts.{given_in}
+use Rattle.node_model.specs.LossyMoves.{LossyRuns, all_inputs, given_in, inputs_in}
+use Rattle.node_model.specs.LossyMoves.LossyRuns.{rests, goes_on}
+use Rattle.node_model.specs.Moves.{and_then}
 use Rattle.group_model.specs.Group.{Group, behind_turn, moment_of}
-use Rattle.group_model.specs.Goes.{AllWasSent, InputWasSent, WasSent, all_given, put_in_move, put_in_run}
-use Rattle.group_model.proofs.MovesHappen.{Further, moves_happen, quietly}
+use Rattle.group_model.specs.Goes.{InputWasSent, keeping}
+use Rattle.group_model.specs.Losing.{WereSent, all_given, put_in_move, put_in_run}
+use Rattle.group_model.proofs.LossesHappen.{losses_happen}
+use Rattle.group_model.proofs.MovesHappen.{Further, quietly}
+use Rattle.group_model.proofs.Thinning.{Given, KeptOfBoth, kept_of_both}
 use Rattle.group_model.specs.Pasts.{packets_in}
 use Rattle.group_model.proofs.Packets.{packets_join}
 use Rattle.group_model.proofs.Placed.{get_of_set, set_twice}
@@ -35,25 +38,13 @@ input_still g n turn given (Receives message) i = in_left (messages turn.message
 input_still g n turn given (Proposes command) i = tt
 input_still g n turn given Ticks i = tt
 
-sent_still : (g : Group) (n : ℕ) (turn : Turn) (given : List (Effect Command Output)) {core : CoreState} {later : Turn} (m : Moves core later) → WasSent g n m
-    → WasSent (behind_turn g n turn given) n m
-sent_still g n turn given (hears input is) i = input_still g n turn given input i
-sent_still g n turn given (opens_one port) i = tt
-sent_still g n turn given (holds port piece) i = tt
-sent_still g n turn given (reads_first now port c connect rest at first is room) i = tt
-sent_still g n turn given (reads_later now port c packet rest at later is room) i = tt
-sent_still g n turn given (closes port) i = tt
-sent_still g n turn given (refuses port c code at first is) i = tt
-sent_still g n turn given (loses_one port c at asked) i = tt
-sent_still g n turn given (loses_next c at) i = tt
-sent_still g n turn given crashes i = tt
-sent_still g n turn given settles i = tt
-sent_still g n turn given (hands port) i = tt
+pub were_still : (g : Group) (n : ℕ) (turn : Turn) (given : Given) (inputs : List (Input Command)) → WereSent g n inputs → WereSent (behind_turn g n turn given) n inputs
+were_still g n turn given [] sent = tt
+were_still g n turn given (input ∷ inputs) sent = (input_still g n turn given input sent.0, were_still g n turn given inputs sent.1)
 
-pub all_sent_still : (g : Group) (n : ℕ) (turn : Turn) (given : List (Effect Command Output)) {core : CoreState} {later : Turn} (run : Runs core later) → AllWasSent g n run
-    → AllWasSent (behind_turn g n turn given) n run
-all_sent_still g n turn given rests sent = tt
-all_sent_still g n turn given (goes_on m run) sent = (sent_still g n turn given m sent.0, all_sent_still g n turn given run sent.1)
+pub were_both : (g : Group) (n : ℕ) (inputs more : List (Input Command)) → WereSent g n (inputs ++ more) → WereSent g n inputs × WereSent g n more
+were_both g n [] more sent = (tt, sent)
+were_both g n (input ∷ inputs) more sent = let z = were_both g n inputs more sent.1 in ((sent.0, z.0), z.1)
 
 -- ---- two turns are one
 
@@ -87,13 +78,23 @@ both {config = config} {b = b} came put more first next =
           prefix_then (first.grows xs mid.0 before mid.1) (next.grows mid.0 ys mid.1 behind);
     }
 
-pub runs_happen : (g : Group) (n : ℕ) (core : CoreState) (turn : Turn) (run : Runs core turn) → slice_get g.nodes n ≡ Some core → AllWasSent g n run → (config : Config)
-    (earlier : List (Moment State Command Output)) (came : Past rules config (moment_of g ∷ earlier))
-    → Further came (moment_of (behind_turn g n turn (all_given run))) (put_in_run run)
-runs_happen g n core turn rests at sent config earlier came = (quietly g n core core at refl config earlier came).further
-runs_happen g n core turn (goes_on {first = first} {next = next} m run) at sent config earlier came =
-    let step = (moves_happen g n core first m at sent.0 config earlier came).further in
-    let behind : Group = behind_turn g n first (given_in m) in
-    let rest = runs_happen behind n first.core next run (get_of_set g.nodes n core first.core at) (all_sent_still g n first (given_in m) run sent.1) config step.before step.past in
+-- of what a node hands out in the first turn these messages are kept, and of the next those
+pub kept_turns : (g : Group) (n : ℕ) (first next : Turn) (given more kept : Given) (k : KeptOfBoth kept first.messages next.messages)
+    → behind_turn (behind_turn g n (keeping k.front first) given) n (keeping k.rest next) more ≡ behind_turn g n (keeping kept (and_then first next)) (given ++ more)
+kept_turns g n first next given more kept k =
+    two_turns g n (keeping k.front first) (keeping k.rest next) given more
+    ∙ ap (λ (l : Given). behind_turn g n (keeping l (and_then first next)) (given ++ more)) (sym k.is)
+
+pub runs_happen : (g : Group) (n : ℕ) (core : CoreState) (turn : Turn) (run : LossyRuns core turn) (kept : Given) → slice_get g.nodes n ≡ Some core → WereSent g n (all_inputs run)
+    → Thinned kept turn.messages → (config : Config) (earlier : List (Moment State Command Output)) (came : Past rules config (moment_of g ∷ earlier))
+    → Further came (moment_of (behind_turn g n (keeping kept turn) (all_given run))) (put_in_run run)
+runs_happen g n core turn rests kept at sent t config earlier came = (quietly g n core core kept at refl t config earlier came).further
+runs_happen g n core turn (goes_on {first = first} {next = next} m run) kept at sent t config earlier came =
+    let k = kept_of_both first.messages next.messages kept t in
+    let s = were_both g n (inputs_in m) (all_inputs run) sent in
+    let step = (losses_happen g n core first m k.front at s.0 k.first config earlier came).further in
+    let one : Turn = keeping k.front first in
+    let behind : Group = behind_turn g n one (given_in m) in
+    let rest = runs_happen behind n first.core next run k.rest (get_of_set g.nodes n core first.core at) (were_still g n one (given_in m) (all_inputs run) s.1) k.next config step.before step.past in
     both came (put_in_move m) (put_in_run run) step
-    (subst (λ (h : Group). Further step.past (moment_of h) (put_in_run run)) (two_turns g n first next (given_in m) (all_given run)) rest)
+    (subst (λ (h : Group). Further step.past (moment_of h) (put_in_run run)) (kept_turns g n first next (given_in m) (all_given run) kept k) rest)

@@ -1,68 +1,42 @@
--- What may happen in a group: a node acts, or the master answers.
-use Rattle.std.specs.Prelude.{◌≡◌, ℕ, ◌+◌, true, if◌then◌else◌, List, [], ◌∷◌, ◌++◌, map, slice_get, Option, Some, None}
+-- What may happen in a group: a node acts, perhaps with losses, or the master answers.
+use Rattle.std.specs.Prelude.{◌≡◌, ℕ, ◌+◌, true, List, [], ◌∷◌, ◌++◌, slice_get, Option, Some, None}
 use Rattle.lists.specs.Lists.{In}
 use Rattle.ballot.specs.Body.TheVariants.{Activate}
 use Rattle.ballot.specs.Config.{Config}
 use Rattle.ballot.specs.Effect.{Effect}
-use Rattle.ballot.specs.Protocol.{Input}
-use Rattle.ballot.specs.Protocol.Input.{Receives, Proposes, Ticks}
+use Rattle.ballot.specs.Losses.{Thinned}
 use Rattle.broker_base.specs.Command.{Command}
-use Rattle.broker_base.specs.Command.TheVariants as commands
 use Rattle.broker_base.specs.Output.{Output}
 use Rattle.agreement.specs.MasterState.{AssignRefusal, activated, assigned, master_behind, refusal}
 use Rattle.agreement.specs.World.{can_open}
-use Rattle.world_base.specs.Core.{CoreState, Turn, serves}
+use Rattle.world_base.specs.Core.{CoreState, Turn}
+use Rattle.world_base.specs.declared.item.Item.{Item}
+use Rattle.world_base.specs.LossyStep.{RunsOn}
 use Rattle.node_model.specs.Hearing.{HearsAtFirst}
-use Rattle.node_model.specs.Moves.{Deed, Moves, Runs, done}
-use Rattle.node_model.specs.Moves.Runs.{rests, goes_on}
-use Rattle.node_model.specs.Moves.Moves.{hears, reads_first, reads_later, loses_one, loses_next}
-use Rattle.node_model.specs.Puts.{given_in}
-use Rattle.group_model.specs.Group.{Group, behind_turn, opening_group, replica_of, told_by_master, with_master}
-
--- what a node hears of others was sent to it
-abbrev pub InputWasSent : Group → ℕ → Input Command → Type 0
-InputWasSent g n (Receives message) = In (n + 1, message) g.sent
-InputWasSent g n (Proposes command) = Unit {0}
-InputWasSent g n Ticks = Unit {0}
-
-abbrev pub WasSent : Group → ℕ → {core : CoreState} {turn : Turn} → Moves core turn → Type 0
-WasSent g n (hears input is) = InputWasSent g n input
-WasSent g n _ = Unit {0}
-
-abbrev pub AllWasSent : Group → ℕ → {core : CoreState} {turn : Turn} → Runs core turn → Type 0
-AllWasSent g n rests = Unit {0}
-AllWasSent g n (goes_on m run) = WasSent g n m × AllWasSent g n run
-
--- what its replica gives
-abbrev pub all_given : {core : CoreState} {turn : Turn} → Runs core turn → List (Effect Command Output)
-all_given rests = []
-all_given (goes_on m run) = given_in m ++ all_given run
-
--- the commands that a node puts to its replica in a move
-abbrev pub commands_put : {core : CoreState} {turn : Turn} → Moves core turn → List Command
-commands_put (reads_first now port c connect rest at first is room) = commands.Connect c.name connect.client connect.clean ∷ []
-commands_put (reads_later now port c packet rest at later is room) = commands.Packet c.name packet ∷ []
-commands_put {core = core} (loses_one port c at asked) = if serves core then commands.Lost c.name ∷ [] else []
-commands_put {core = core} (loses_next c at) = if serves core then commands.Lost c.name ∷ [] else []
-commands_put _ = []
-
--- .. each with the ballot that it has joined then
-abbrev pub put_in_move : {core : CoreState} {turn : Turn} → Moves core turn → List (ℕ × Command)
-put_in_move {core = core} m = map (λ command. ((replica_of core).joined, command)) (commands_put m)
-
-abbrev pub put_in_run : {core : CoreState} {turn : Turn} → Runs core turn → List (ℕ × Command)
-put_in_run rests = []
-put_in_run (goes_on m run) = put_in_move m ++ put_in_run run
+use Rattle.node_model.specs.LossyMoves.{IsRunOn, heard_with}
+use Rattle.node_model.specs.Moves.{Deed, Runs, done}
+use Rattle.group_model.specs.Group.{Group, behind_turn, opening_group, told_by_master, with_master}
+use Rattle.group_model.specs.Losing.{WereSent}
+use Rattle.group_model.specs.Losing.{all_given as given_losing, put_in_run as put_losing}
+pub use Rattle.group_model.specs.Putting.{AllWasSent, InputWasSent, WasSent, all_given, commands_put, put_in_move, put_in_run}
 
 -- the master behind an Assign; a refused one changes nothing
 abbrev pub behind_assign : Group → Config → Option AssignRefusal → Group
 behind_assign g config (Some why) = g
 behind_assign g config None = told_by_master g (assigned Command g.master config)
 
+-- what a node hands out, if these messages alone are not lost
+abbrev pub keeping : List (Effect Command Output) → Turn → Turn
+keeping kept turn = record turn { messages = kept }
+
 pub data MayGo (g : Group) : Group → Type 0 where
   -- a node takes an item, or hands over bytes, by these moves; what its replica hears comes first
   node_acts : (n : ℕ) (core : CoreState) (deed : Deed) (turn : Turn) (run : Runs core turn) → slice_get g.nodes n ≡ Some core →
       turn ≡ done deed core → HearsAtFirst run → AllWasSent g n run → MayGo g (behind_turn g n turn (all_given run))
+  -- a node takes an item with losses, by these moves; what comes with it was sent, and of its messages some may be missing
+  node_loses : (n : ℕ) (core : CoreState) (item : Item) (turn : Turn) (kept : List (Effect Command Output)) (by : IsRunOn item core turn) →
+      slice_get g.nodes n ≡ Some core → RunsOn item core turn.core turn.messages → WereSent g n (heard_with item) → Thinned kept turn.messages →
+      MayGo g (behind_turn g n (keeping kept turn) (given_losing by.run))
   -- an administrator asks for another configuration
   master_assigns : (config : Config) →
       MayGo g (with_master (behind_assign g config (refusal g.master config)) (master_behind g.master config (refusal g.master config)))
@@ -70,6 +44,10 @@ pub data MayGo (g : Group) : Group → Type 0 where
   master_hears : (from ballot : ℕ) → In (0, record { from = from; body = Activate ballot }) g.sent →
       MayGo g (with_master (told_by_master g (activated Command g.master ballot from g.master.waiting))
       (activated Command g.master ballot from g.master.waiting).state)
+  -- the same where the master's message is lost
+  assigns_unheard : (config : Config) → MayGo g (with_master g (master_behind g.master config (refusal g.master config)))
+  answers_unheard : (from ballot : ℕ) → In (0, record { from = from; body = Activate ballot }) g.sent →
+      MayGo g (with_master g (activated Command g.master ballot from g.master.waiting).state)
 
 -- all that went on in a group of so many nodes, from its opening in a configuration on
 pub data Went (nodes : ℕ) (config : Config) : Group → Type 0 where
@@ -79,8 +57,11 @@ pub data Went (nodes : ℕ) (config : Config) : Group → Type 0 where
 -- what nodes put to their replicas, each command with the ballot that its node had joined, in order
 abbrev pub put_in_step : {g h : Group} → MayGo g h → List (ℕ × Command)
 put_in_step (node_acts n core deed turn run at is first sent) = put_in_run run
+put_in_step (node_loses n core item turn kept by at runs sent thinned) = put_losing by.run
 put_in_step (master_assigns config) = []
 put_in_step (master_hears from ballot sent) = []
+put_in_step (assigns_unheard config) = []
+put_in_step (answers_unheard from ballot sent) = []
 
 abbrev pub all_put : {nodes : ℕ} {config : Config} {g : Group} → Went nodes config g → List (ℕ × Command)
 all_put (opened can) = []

@@ -1,0 +1,36 @@
+-- The same in a run of moves in which something may be lost: a command that the replica does not take is not put to it.
+use Rattle.std.specs.Prelude.{ℕ, List, [], ◌∷◌, ◌++◌, map}
+use Rattle.ballot.specs.Effect.{Effect}
+use Rattle.ballot.specs.Protocol.{Input}
+use Rattle.broker_base.specs.Command.{Command}
+use Rattle.broker_base.specs.Output.{Output}
+use Rattle.world_base.specs.Core.{CoreState, Turn}
+use Rattle.node_model.specs.LossyMoves.{LossyMoves, LossyRuns, given_in, proposal_of}
+use Rattle.node_model.specs.LossyMoves.LossyMoves.{exactly}
+use Rattle.node_model.specs.LossyMoves.LossyRuns.{rests, goes_on}
+use Rattle.group_model.specs.Group.{Group, replica_of}
+use Rattle.group_model.specs.Putting.{InputWasSent}
+use Rattle.group_model.specs.Putting.{commands_put as exactly_put}
+
+-- each of these that comes of others was sent to the node
+abbrev pub WereSent : Group → ℕ → List (Input Command) → Type 0
+WereSent g n [] = Unit {0}
+WereSent g n (input ∷ inputs) = InputWasSent g n input × WereSent g n inputs
+
+-- what its replica gives
+abbrev pub all_given : {core : CoreState} {turn : Turn} → LossyRuns core turn → List (Effect Command Output)
+all_given rests = []
+all_given (goes_on m run) = given_in m ++ all_given run
+
+-- the commands that a node puts to its replica in a move
+abbrev pub commands_put : {core : CoreState} {turn : Turn} → LossyMoves core turn → List Command
+commands_put (exactly m) = exactly_put m
+commands_put m = proposal_of m
+
+-- .. each with the ballot that it has joined then
+abbrev pub put_in_move : {core : CoreState} {turn : Turn} → LossyMoves core turn → List (ℕ × Command)
+put_in_move {core = core} m = map (λ command. ((replica_of core).joined, command)) (commands_put m)
+
+abbrev pub put_in_run : {core : CoreState} {turn : Turn} → LossyRuns core turn → List (ℕ × Command)
+put_in_run rests = []
+put_in_run (goes_on m run) = put_in_move m ++ put_in_run run

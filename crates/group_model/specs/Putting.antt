@@ -1,0 +1,50 @@
+-- What a node does to its replica in a run of moves: what it puts to it, what the replica gives, and that what it hears was sent.
+use Rattle.std.specs.Prelude.{ℕ, ◌+◌, if◌then◌else◌, List, [], ◌∷◌, ◌++◌, map}
+use Rattle.lists.specs.Lists.{In}
+use Rattle.ballot.specs.Effect.{Effect}
+use Rattle.ballot.specs.Protocol.{Input}
+use Rattle.ballot.specs.Protocol.Input.{Receives, Proposes, Ticks}
+use Rattle.broker_base.specs.Command.{Command}
+use Rattle.broker_base.specs.Command.TheVariants as commands
+use Rattle.broker_base.specs.Output.{Output}
+use Rattle.world_base.specs.Core.{CoreState, Turn, serves}
+use Rattle.node_model.specs.Moves.{Moves, Runs}
+use Rattle.node_model.specs.Moves.Runs.{rests, goes_on}
+use Rattle.node_model.specs.Moves.Moves.{hears, reads_first, reads_later, loses_one, loses_next}
+use Rattle.node_model.specs.Puts.{given_in}
+use Rattle.group_model.specs.Group.{Group, replica_of}
+
+-- what a node hears of others was sent to it
+abbrev pub InputWasSent : Group → ℕ → Input Command → Type 0
+InputWasSent g n (Receives message) = In (n + 1, message) g.sent
+InputWasSent g n (Proposes command) = Unit {0}
+InputWasSent g n Ticks = Unit {0}
+
+abbrev pub WasSent : Group → ℕ → {core : CoreState} {turn : Turn} → Moves core turn → Type 0
+WasSent g n (hears input is) = InputWasSent g n input
+WasSent g n _ = Unit {0}
+
+abbrev pub AllWasSent : Group → ℕ → {core : CoreState} {turn : Turn} → Runs core turn → Type 0
+AllWasSent g n rests = Unit {0}
+AllWasSent g n (goes_on m run) = WasSent g n m × AllWasSent g n run
+
+-- what its replica gives
+abbrev pub all_given : {core : CoreState} {turn : Turn} → Runs core turn → List (Effect Command Output)
+all_given rests = []
+all_given (goes_on m run) = given_in m ++ all_given run
+
+-- the commands that a node puts to its replica in a move
+abbrev pub commands_put : {core : CoreState} {turn : Turn} → Moves core turn → List Command
+commands_put (reads_first now port c connect rest at first is room) = commands.Connect c.name connect.client connect.clean ∷ []
+commands_put (reads_later now port c packet rest at later is room) = commands.Packet c.name packet ∷ []
+commands_put {core = core} (loses_one port c at asked) = if serves core then commands.Lost c.name ∷ [] else []
+commands_put {core = core} (loses_next c at) = if serves core then commands.Lost c.name ∷ [] else []
+commands_put _ = []
+
+-- .. each with the ballot that it has joined then
+abbrev pub put_in_move : {core : CoreState} {turn : Turn} → Moves core turn → List (ℕ × Command)
+put_in_move {core = core} m = map (λ command. ((replica_of core).joined, command)) (commands_put m)
+
+abbrev pub put_in_run : {core : CoreState} {turn : Turn} → Runs core turn → List (ℕ × Command)
+put_in_run rests = []
+put_in_run (goes_on m run) = put_in_move m ++ put_in_run run
