@@ -4,6 +4,7 @@ use Rattle.std.specs.List.{find}
 use Rattle.std.proofs.lemmas.List.{append-nil}
 use Rattle.packet.specs.declared.packet.Packet.{Packet}
 use Rattle.ballot.specs.Config.{Config}
+use Rattle.ballot.specs.Effect.{Effect}
 use Rattle.broker_base.specs.Command.{Command}
 use Rattle.broker_base.specs.Connection.{ConnectionName}
 use Rattle.broker_base.specs.Output.{Output}
@@ -19,23 +20,30 @@ use Rattle.agreement.specs.Proposals.{commands_of as commands_in}
 use Rattle.agreement.specs.World.{can_open}
 use Rattle.agreement.proofs.Agreed.PastAgrees.{has_agreed}
 use Rattle.world_base.specs.Core.{CoreState, opening_core, rules}
-use Rattle.node_model.specs.Ends.{commands_of}
+use Rattle.node_model.specs.Ends.{bytes_on, commands_of}
+use Rattle.node_model.specs.LossyMoves.{came_with}
+use Rattle.node_model.specs.LossyMoves.{bytes_on as bytes_losing}
 use Rattle.node_model.proofs.Kept.{named}
 use Rattle.node_model.proofs.ProposesInOrder.{commands_join, front_of}
-use Rattle.group_model.specs.Group.{Group, moment_of, opening_cores, opening_group, with_master}
-use Rattle.group_model.specs.Goes.{MayGo, Went, all_put, behind_assign, groups_of, put_in_step}
-use Rattle.group_model.specs.Goes.MayGo.{node_acts, master_assigns, master_hears}
+use Rattle.group_model.specs.Group.{Group, behind_turn, moment_of, opening_cores, opening_group, with_master}
+use Rattle.group_model.specs.Goes.{MayGo, Went, all_put, behind_assign, groups_of, put_in_run, put_in_step}
+use Rattle.group_model.specs.Goes.MayGo.{node_acts, node_loses, master_assigns, master_hears, assigns_unheard, answers_unheard}
 use Rattle.group_model.specs.Goes.Went.{opened, then_went}
+use Rattle.group_model.specs.Losing.{WereSent}
+use Rattle.group_model.specs.Losing.{put_in_run as put_losing}
 use Rattle.group_model.specs.Order.{packets_of}
 use Rattle.group_model.specs.Pasts.{HasPast}
 use Rattle.group_model.proofs.GroupsArePasts.{goes_on, groups_are_pasts, seen_still}
+use Rattle.group_model.proofs.LosingNone.{first_still, losing_none, same_bytes, same_given, same_put, sent_losing}
 use Rattle.group_model.proofs.MovesHappen.{Further}
 use Rattle.group_model.proofs.NamesInGroups.{IsWell, all_well, each_got}
 use Rattle.group_model.proofs.Ordered.{in_agreed}
+use Rattle.group_model.proofs.Thinning.{all_kept}
 use Rattle.connection_model.specs.Carried.{GroupsCarryInOrder, IsCarried, answers_to}
-use Rattle.connection_model.specs.Streams.{came_up, comes_up, goes_down, went_down}
+use Rattle.connection_model.specs.Streams.{came_up, comes_up, goes_down, handed_in_run, went_down}
 use Rattle.connection_model.proofs.Downward.{down_front, down_later}
-use Rattle.connection_model.proofs.RunsKeep.{Good, IsPut, Steps, put_further, run_steps}
+use Rattle.connection_model.proofs.Handed.{handed_losing, none_handed, same_handed}
+use Rattle.connection_model.proofs.RunsKeep.{Good, IsPut, Steps, put_further, run_steps, steps_as}
 use Rattle.connection_model.proofs.States.{Stands}
 
 -- ---- the master
@@ -81,11 +89,24 @@ assigned_nodes g config (Some why) = refl
 group_steps : {config : Config} (g h : Group) (step : MayGo g h) {earlier : List (Moment State Command Output)} (came : Past rules config (moment_of g ∷ earlier)) → Each IsWell g.nodes
     → Steps g came h (put_in_step step) (λ x. comes_up x step) (λ x. goes_down x step)
 group_steps g h (node_acts n core deed turn run at is first sent) came well =
-    let mine = each_got IsWell g.nodes n core well at in run_steps g n core turn run first mine.orderly mine.names at sent came
+    let mine = each_got IsWell g.nodes n core well at in
+    subst (λ (given : List (Effect Command Output)). Steps g came (behind_turn g n turn given) (put_in_run run) (λ x. bytes_on x run) (λ x. handed_in_run x run)) (same_given run)
+    (steps_as came (put_losing (losing_none run)) (put_in_run run) (λ x. bytes_losing x (losing_none run)) (λ x. bytes_on x run) (λ x. handed_losing x (losing_none run))
+    (λ x. handed_in_run x run) (same_put run) (λ x. same_bytes x run) (λ x. same_handed x run)
+    (run_steps g n core turn (losing_none run) turn.messages (first_still run first) mine.orderly mine.names at (sent_losing g n run sent) (all_kept turn.messages) came))
+group_steps g h (node_loses n core item turn kept by at runs sent thinned) came well =
+    let mine = each_got IsWell g.nodes n core well at in
+    steps_as came (put_losing by.run) (put_losing by.run) (λ x. bytes_losing x by.run) (λ x. came_with x item core) (λ x. handed_losing x by.run) (λ x. []) refl by.bytes
+    (λ x. none_handed x by.run by.hands)
+    (run_steps g n core turn by.run kept by.first mine.orderly mine.names at (subst (WereSent g n) (sym by.hears) sent) thinned came)
 group_steps {config = config} g h (master_assigns wanted) {earlier = earlier} came well =
     master_steps g h came (assigned_nodes g wanted (refusal g.master wanted)) (goes_on config g h (master_assigns wanted) earlier came)
 group_steps {config = config} g h (master_hears from ballot sent) {earlier = earlier} came well =
     master_steps g h came refl (goes_on config g h (master_hears from ballot sent) earlier came)
+group_steps {config = config} g h (assigns_unheard wanted) {earlier = earlier} came well =
+    master_steps g h came refl (goes_on config g h (assigns_unheard wanted) earlier came)
+group_steps {config = config} g h (answers_unheard from ballot sent) {earlier = earlier} came well =
+    master_steps g h came refl (goes_on config g h (answers_unheard from ballot sent) earlier came)
 
 -- ---- all that went on
 

@@ -15,17 +15,21 @@ use Rattle.world_base.specs.declared.item.Port.{Port}
 use Rattle.world_base.specs.declared.connection.Connection.{Connection}
 use Rattle.world_base.specs.Core.{CoreState, Turn, serves}
 use Rattle.world_base.specs.Reading.{open_at}
-use Rattle.node_model.specs.Closed.{refusal_in}
-use Rattle.node_model.specs.Ends.{IsEnd, IsGiven, IsOrderly, came_on, open_named, piece_on, proposal_of}
+use Rattle.node_model.specs.Closed.{refusal_in as exactly_refusal}
+use Rattle.node_model.specs.Ends.{IsEnd, IsGiven, IsOrderly, open_named, piece_on}
+use Rattle.node_model.specs.Ends.{came_on as exactly_came, proposal_of as exactly_proposed}
 use Rattle.node_model.specs.Ends.IsEnd.{not_yet, is_open, is_over}
+use Rattle.node_model.specs.LossyMoves.{LossyMoves, came_on, proposal_of, refusal_in}
+use Rattle.node_model.specs.LossyMoves.LossyMoves.{exactly, first_losing, later_losing, drops}
 use Rattle.node_model.specs.Moves.{Moves}
-use Rattle.node_model.specs.Moves.Moves.{hears, opens_one, holds, reads_first, reads_later, closes, refuses, loses_one, loses_next, crashes, settles, hands}
+use Rattle.node_model.specs.Moves.Moves.{holds, reads_first, reads_later, refuses, loses_one, loses_next}
 use Rattle.node_model.proofs.Kept.{named}
 use Rattle.node_model.proofs.NamesInOrder.{not_both}
 use Rattle.node_model.proofs.ReadsInOrder.{found_given, found_open}
 use Rattle.node_model.proofs.Views.{some_none}
 use Rattle.broker_model.proofs.ConnectionNames.{same_name}
-use Rattle.group_model.specs.Goes.{commands_put}
+use Rattle.group_model.specs.Goes.{commands_put as exactly_put}
+use Rattle.group_model.specs.Losing.{commands_put}
 use Rattle.group_model.specs.Order.{packets_of}
 
 -- ---- no open connection
@@ -42,25 +46,24 @@ one_other x core port c command o none at same = by (named x c) refl
     by false other = ap (λ (b : Bool). let l : List Command = if b then command ∷ [] else [] in l) (same ∙ other)
 
 -- nothing is put for it
-pub none_put : (x : ConnectionName) (core : CoreState) (turn : Turn) (m : Moves core turn) → IsOrderly core → open_named x core ≡ None
-    → packets_of x (proposal_of m) ≡ []
-none_put x core turn (reads_first now port c connect rest at first is room) o none =
+exactly_none_put : (x : ConnectionName) (core : CoreState) (turn : Turn) (m : Moves core turn) → IsOrderly core → open_named x core ≡ None
+    → packets_of x (exactly_proposed m) ≡ []
+exactly_none_put x core turn (reads_first now port c connect rest at first is room) o none =
     one_other x core port c (commands.Connect c.name connect.client connect.clean) o none at refl
-none_put x core turn (reads_later now port c packet rest at later is room) o none = one_other x core port c (commands.Packet c.name packet) o none at refl
-none_put x core turn (hears input other) o none = refl
-none_put x core turn (opens_one port) o none = refl
-none_put x core turn (holds port piece) o none = refl
-none_put x core turn (closes port) o none = refl
-none_put x core turn (refuses port c code at first is) o none = refl
-none_put x core turn (loses_one port c at asked) o none = refl
-none_put x core turn (loses_next c at) o none = refl
-none_put x core turn crashes o none = refl
-none_put x core turn settles o none = refl
-none_put x core turn (hands port) o none = refl
+exactly_none_put x core turn (reads_later now port c packet rest at later is room) o none = one_other x core port c (commands.Packet c.name packet) o none at refl
+exactly_none_put x core turn m o none = refl
+
+pub none_put : (x : ConnectionName) (core : CoreState) (turn : Turn) (m : LossyMoves core turn) → IsOrderly core → open_named x core ≡ None
+    → packets_of x (proposal_of m) ≡ []
+none_put x core turn (exactly m) o none = exactly_none_put x core turn m o none
+none_put x core turn (first_losing now port c connect rest did at first is taken) o none =
+    one_other x core port c (commands.Connect c.name connect.client connect.clean) o none at refl
+none_put x core turn (later_losing now port c packet rest did at later is taken) o none = one_other x core port c (commands.Packet c.name packet) o none at refl
+none_put x core turn m o none = refl
 
 -- no bytes come on it
-pub none_came : (x : ConnectionName) (core : CoreState) (turn : Turn) (m : Moves core turn) → IsOrderly core → open_named x core ≡ None → came_on x m ≡ []
-none_came x core turn (holds port piece) o none = by (open_at port core) refl
+no_piece : (x : ConnectionName) (core : CoreState) (port : Port) (piece : List ℕ) → IsOrderly core → open_named x core ≡ None → piece_on x piece (open_at port core) ≡ []
+no_piece x core port piece o none = by (open_at port core) refl
   where
     on : (c : Connection) → open_at port core ≡ Some c → (b : Bool) → named x c ≡ b → (if b then piece else []) ≡ []
     on c at true is = absurd (not_there x core port c o none at is)
@@ -69,17 +72,15 @@ none_came x core turn (holds port piece) o none = by (open_at port core) refl
     by : (found : Option Connection) → open_at port core ≡ found → piece_on x piece found ≡ []
     by None at = refl
     by (Some c) at = on c at (named x c) refl
-none_came x core turn (reads_first now port c connect rest at first is room) o none = refl
-none_came x core turn (reads_later now port c packet rest at later is room) o none = refl
-none_came x core turn (hears input other) o none = refl
-none_came x core turn (opens_one port) o none = refl
-none_came x core turn (closes port) o none = refl
-none_came x core turn (refuses port c code at first is) o none = refl
-none_came x core turn (loses_one port c at asked) o none = refl
-none_came x core turn (loses_next c at) o none = refl
-none_came x core turn crashes o none = refl
-none_came x core turn settles o none = refl
-none_came x core turn (hands port) o none = refl
+
+exactly_none_came : (x : ConnectionName) (core : CoreState) (turn : Turn) (m : Moves core turn) → IsOrderly core → open_named x core ≡ None → exactly_came x m ≡ []
+exactly_none_came x core turn (holds port piece) o none = no_piece x core port piece o none
+exactly_none_came x core turn m o none = refl
+
+pub none_came : (x : ConnectionName) (core : CoreState) (turn : Turn) (m : LossyMoves core turn) → IsOrderly core → open_named x core ≡ None → came_on x m ≡ []
+none_came x core turn (exactly m) o none = exactly_none_came x core turn m o none
+none_came x core turn (drops port piece) o none = no_piece x core port piece o none
+none_came x core turn m o none = refl
 
 -- ---- what is put are the packets that are proposed
 
@@ -87,19 +88,14 @@ lost_or_not : (x : ConnectionName) (name : ConnectionName) (b : Bool) → packet
 lost_or_not x name true = refl
 lost_or_not x name false = refl
 
-pub packets_put : (x : ConnectionName) (core : CoreState) (turn : Turn) (m : Moves core turn) → packets_of x (commands_put m) ≡ packets_of x (proposal_of m)
-packets_put x core turn (loses_one port c at asked) = lost_or_not x c.name (serves core)
-packets_put x core turn (loses_next c at) = lost_or_not x c.name (serves core)
-packets_put x core turn (reads_first now port c connect rest at first is room) = refl
-packets_put x core turn (reads_later now port c packet rest at later is room) = refl
-packets_put x core turn (holds port piece) = refl
-packets_put x core turn (hears input other) = refl
-packets_put x core turn (opens_one port) = refl
-packets_put x core turn (closes port) = refl
-packets_put x core turn (refuses port c code at first is) = refl
-packets_put x core turn crashes = refl
-packets_put x core turn settles = refl
-packets_put x core turn (hands port) = refl
+exactly_packets : (x : ConnectionName) (core : CoreState) (turn : Turn) (m : Moves core turn) → packets_of x (exactly_put m) ≡ packets_of x (exactly_proposed m)
+exactly_packets x core turn (loses_one port c at asked) = lost_or_not x c.name (serves core)
+exactly_packets x core turn (loses_next c at) = lost_or_not x c.name (serves core)
+exactly_packets x core turn m = refl
+
+pub packets_put : (x : ConnectionName) (core : CoreState) (turn : Turn) (m : LossyMoves core turn) → packets_of x (commands_put m) ≡ packets_of x (proposal_of m)
+packets_put x core turn (exactly m) = exactly_packets x core turn m
+packets_put x core turn m = refl
 
 -- ---- no CONNECT is refused where the bytes are those of packets
 
@@ -114,9 +110,9 @@ no_stop rest held later code joined e = by rest joined
     by [] j = let f = sym (ap verdict j) ∙ stays in cc
     by (p ∷ ps) (front, left, sp, kp, is, j) = let f = sym (ap verdict is ∙ verdict_again p front left kp sp) ∙ stays in cc
 
-pub none_refused : (x : ConnectionName) (core : CoreState) (turn : Turn) (m : Moves core turn) (written read : List Packet) (under_way : List ℕ) → IsOrderly core
-    → IsEnd x core written read under_way → refusal_in x m ≡ []
-none_refused x core turn (refuses port c code at first is) written read under_way o end = by (same_connection c.name x) refl
+exactly_refused : (x : ConnectionName) (core : CoreState) (turn : Turn) (m : Moves core turn) (written read : List Packet) (under_way : List ℕ) → IsOrderly core
+    → IsEnd x core written read under_way → exactly_refusal x m ≡ []
+exactly_refused x core turn (refuses port c code at first is) written read under_way o end = by (same_connection c.name x) refl
   where
     there : named x c ≡ true → IsEnd x core written read under_way → ⊥
     there named_so (not_yet below none piped) = not_both core.last_name x below (subst (IsGiven core.last_name) (same_name c.name x named_so) (found_given core port c o at))
@@ -128,17 +124,12 @@ none_refused x core turn (refuses port c code at first is) written read under_wa
         one a b e = cc
     there named_so (is_over given none front) = not_there x core port c o none at named_so
 
-    by : (b : Bool) → same_connection c.name x ≡ b → (refusal_in x (let k : Moves core turn = refuses port c code at first is in k)) ≡ []
+    by : (b : Bool) → same_connection c.name x ≡ b → (exactly_refusal x (let k : Moves core turn = refuses port c code at first is in k)) ≡ []
     by true e = absurd (there e end)
     by false e = rw e refl
-none_refused x core turn (reads_first now port c connect rest at first is room) written read under_way o end = refl
-none_refused x core turn (reads_later now port c packet rest at later is room) written read under_way o end = refl
-none_refused x core turn (holds port piece) written read under_way o end = refl
-none_refused x core turn (hears input other) written read under_way o end = refl
-none_refused x core turn (opens_one port) written read under_way o end = refl
-none_refused x core turn (closes port) written read under_way o end = refl
-none_refused x core turn (loses_one port c at asked) written read under_way o end = refl
-none_refused x core turn (loses_next c at) written read under_way o end = refl
-none_refused x core turn crashes written read under_way o end = refl
-none_refused x core turn settles written read under_way o end = refl
-none_refused x core turn (hands port) written read under_way o end = refl
+exactly_refused x core turn m written read under_way o end = refl
+
+pub none_refused : (x : ConnectionName) (core : CoreState) (turn : Turn) (m : LossyMoves core turn) (written read : List Packet) (under_way : List ℕ) → IsOrderly core
+    → IsEnd x core written read under_way → refusal_in x m ≡ []
+none_refused x core turn (exactly m) written read under_way o end = exactly_refused x core turn m written read under_way o end
+none_refused x core turn m written read under_way o end = refl

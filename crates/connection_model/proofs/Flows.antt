@@ -14,15 +14,21 @@ use Rattle.world_base.specs.Handing.{hands_over, left_by}
 use Rattle.world_base.specs.Step.{next_name, opens, settled}
 use Rattle.node_model.specs.Closed.{listed_named}
 use Rattle.node_model.specs.Ends.{IsOrderly}
+use Rattle.node_model.specs.LossyMoves.{LossyMoves}
+use Rattle.node_model.specs.LossyMoves.LossyMoves.{exactly, hears_losing, first_losing, later_losing, tells_losing, forgets, halts, fails, unheard, drops}
 use Rattle.node_model.specs.Moves.{Moves}
 use Rattle.node_model.specs.Moves.Moves.{hears, opens_one, holds, reads_first, reads_later, closes, refuses, loses_one, loses_next, crashes, settles, hands}
 use Rattle.node_model.proofs.Kept.{live, named, named_kept}
-use Rattle.node_model.proofs.NothingOnClosed.{found_pushed, move_shuts, sent_in}
+use Rattle.node_model.proofs.LossyShuts.{lossy_shuts, sent_in}
+use Rattle.node_model.proofs.NothingOnClosed.{found_pushed, move_shuts}
+use Rattle.node_model.proofs.NothingOnClosed.{sent_in as exactly_sent}
 use Rattle.node_model.proofs.OpenBehind.{found_front}
 use Rattle.node_model.proofs.Shut.{Shuts, all, found_filtered, found_mapped, shuts_same}
 use Rattle.node_model.proofs.Shut.Shuts.{nobody, stays_open, is_shut, was_shut}
 use Rattle.node_model.proofs.Views.{one_changed, one_mapped, same_some, some_none, view, view_of_changed, view_of_others}
-use Rattle.connection_model.specs.Streams.{bytes_named, handed_on}
+use Rattle.connection_model.specs.Streams.{bytes_named}
+use Rattle.connection_model.specs.Streams.{handed_on as exactly_handed}
+use Rattle.connection_model.proofs.Handed.{handed_on}
 
 -- Of a connection some bytes are handed over, and others are put out behind those that wait: all while it is open, a beginning
 -- of them where it is closed, and none where it was closed.
@@ -151,17 +157,30 @@ hands_flow x port core o = by (find (is_at port) core.connections) refl
 
 -- ---- each move
 
-pub move_flows : (x : ConnectionName) (core : CoreState) (turn : Turn) (m : Moves core turn) → IsOrderly core
+exactly_flows : (x : ConnectionName) (core : CoreState) (turn : Turn) (m : Moves core turn) → IsOrderly core
+    → Flows (exactly_handed x m) (exactly_sent x m) (listed_named x core) (listed_named x turn.core)
+exactly_flows x core turn (opens_one port) o = opens_flow x port core
+exactly_flows x core turn settles o = settles_flow x core o
+exactly_flows x core turn (hands port) o = hands_flow x port core o
+exactly_flows x core turn (hears input other) o = from_shuts (move_shuts core turn (hears input other) o x tt)
+exactly_flows x core turn (holds port piece) o = from_shuts (move_shuts core turn (holds port piece) o x tt)
+exactly_flows x core turn (reads_first now port c connect rest at first is room) o = from_shuts (move_shuts core turn (reads_first now port c connect rest at first is room) o x tt)
+exactly_flows x core turn (reads_later now port c packet rest at later is room) o = from_shuts (move_shuts core turn (reads_later now port c packet rest at later is room) o x tt)
+exactly_flows x core turn (closes port) o = from_shuts (move_shuts core turn (closes port) o x tt)
+exactly_flows x core turn (refuses port c code at first is) o = from_shuts (move_shuts core turn (refuses port c code at first is) o x tt)
+exactly_flows x core turn (loses_one port c at asked) o = from_shuts (move_shuts core turn (loses_one port c at asked) o x tt)
+exactly_flows x core turn (loses_next c at) o = from_shuts (move_shuts core turn (loses_next c at) o x tt)
+exactly_flows x core turn crashes o = from_shuts (move_shuts core turn crashes o x tt)
+
+pub move_flows : (x : ConnectionName) (core : CoreState) (turn : Turn) (m : LossyMoves core turn) → IsOrderly core
     → Flows (handed_on x m) (sent_in x m) (listed_named x core) (listed_named x turn.core)
-move_flows x core turn (opens_one port) o = opens_flow x port core
-move_flows x core turn settles o = settles_flow x core o
-move_flows x core turn (hands port) o = hands_flow x port core o
-move_flows x core turn (hears input other) o = from_shuts (move_shuts core turn (hears input other) o x tt)
-move_flows x core turn (holds port piece) o = from_shuts (move_shuts core turn (holds port piece) o x tt)
-move_flows x core turn (reads_first now port c connect rest at first is room) o = from_shuts (move_shuts core turn (reads_first now port c connect rest at first is room) o x tt)
-move_flows x core turn (reads_later now port c packet rest at later is room) o = from_shuts (move_shuts core turn (reads_later now port c packet rest at later is room) o x tt)
-move_flows x core turn (closes port) o = from_shuts (move_shuts core turn (closes port) o x tt)
-move_flows x core turn (refuses port c code at first is) o = from_shuts (move_shuts core turn (refuses port c code at first is) o x tt)
-move_flows x core turn (loses_one port c at asked) o = from_shuts (move_shuts core turn (loses_one port c at asked) o x tt)
-move_flows x core turn (loses_next c at) o = from_shuts (move_shuts core turn (loses_next c at) o x tt)
-move_flows x core turn crashes o = from_shuts (move_shuts core turn crashes o x tt)
+move_flows x core turn (exactly m) o = exactly_flows x core turn m o
+move_flows x core turn (hears_losing input did other drives) o = from_shuts (lossy_shuts core turn (hears_losing input did other drives) o x tt)
+move_flows x core turn (first_losing now port c connect rest did at first is taken) o = from_shuts (lossy_shuts core turn (first_losing now port c connect rest did at first is taken) o x tt)
+move_flows x core turn (later_losing now port c packet rest did at later is taken) o = from_shuts (lossy_shuts core turn (later_losing now port c packet rest did at later is taken) o x tt)
+move_flows x core turn (tells_losing name did taken) o = from_shuts (lossy_shuts core turn (tells_losing name did taken) o x tt)
+move_flows x core turn forgets o = from_shuts (lossy_shuts core turn forgets o x tt)
+move_flows x core turn halts o = from_shuts (lossy_shuts core turn halts o x tt)
+move_flows x core turn (fails port) o = from_shuts (lossy_shuts core turn (fails port) o x tt)
+move_flows x core turn unheard o = from_shuts (lossy_shuts core turn unheard o x tt)
+move_flows x core turn (drops port piece) o = from_shuts (lossy_shuts core turn (drops port piece) o x tt)

@@ -6,16 +6,20 @@ use Rattle.broker_base.specs.Command.TheVariants as commands
 use Rattle.broker_base.specs.Connection.{ConnectionName, is_connection_name}
 use Rattle.world_base.specs.declared.item.Port.{Port}
 use Rattle.world_base.specs.declared.connection.Connection.{Connection}
-use Rattle.world_base.specs.Connections.{asked, closed, fresh, is_at, left_with}
+use Rattle.world_base.specs.Connections.{asked, closed, failing, fresh, is_at, left_with}
 use Rattle.world_base.specs.Core.{CoreState, Turn, serves}
 use Rattle.world_base.specs.Failing.{closes_failed}
+use Rattle.world_base.specs.Lossy.{Account, Takes}
 use Rattle.world_base.specs.Reading.{changes}
 use Rattle.world_base.specs.Step.{next_name, opens}
 use Rattle.world_base.specs.Turns.{proposes}
 use Rattle.node_model.specs.Ends.{IsGiven, IsOrderly}
+use Rattle.node_model.specs.LossyMoves.{LossyMoves}
+use Rattle.node_model.specs.LossyMoves.LossyMoves.{exactly, hears_losing, first_losing, later_losing, tells_losing, forgets, halts, fails, unheard, drops}
 use Rattle.node_model.specs.Moves.{Moves}
 use Rattle.node_model.specs.Moves.Moves.{hears, opens_one, holds, reads_first, reads_later, closes, refuses, loses_one, loses_next, crashes, settles, hands}
 use Rattle.node_model.proofs.Kept.{stays_crashed, stays_driven, stays_failed, stays_handed, stays_proposed, stays_settled}
+use Rattle.node_model.proofs.LossyReads.{stays_drives, stays_takes}
 use Rattle.node_model.proofs.NamesInOrder.{given_later, next_precedes}
 use Rattle.node_model.proofs.ShutByChanges.{at_orderly}
 
@@ -39,24 +43,47 @@ opened_given x port core o given = by ((serves core && not (list_any (is_at port
     by true = given_later core.last_name (next_name core) x (next_precedes core o.within) given
     by false = given
 
-pub stays_given : (x : ConnectionName) (core : CoreState) (turn : Turn) (m : Moves core turn) → IsOrderly core → IsGiven core.last_name x → IsGiven turn.core.last_name x
-stays_given x core turn (hears input other) o given = by_same x core turn.core (stays_driven input core o).last given
-stays_given x core turn (opens_one port) o given = opened_given x port core o given
-stays_given x core turn (holds port piece) o given = by_same x core turn.core (same_last port _ core) given
-stays_given x core turn (reads_first now port c connect rest at first is room) o given =
+exactly_given : (x : ConnectionName) (core : CoreState) (turn : Turn) (m : Moves core turn) → IsOrderly core → IsGiven core.last_name x → IsGiven turn.core.last_name x
+exactly_given x core turn (hears input other) o given = by_same x core turn.core (stays_driven input core o).last given
+exactly_given x core turn (opens_one port) o given = opened_given x port core o given
+exactly_given x core turn (holds port piece) o given = by_same x core turn.core (same_last port _ core) given
+exactly_given x core turn (reads_first now port c connect rest at first is room) o given =
     let left : CoreState = changes port (left_with now rest) core in
     by_same x core turn.core
     (behind _ core (changes port (asked connect.keep_alive) left) (at_orderly port (asked connect.keep_alive) left (at_orderly port (left_with now rest) core o (λ d. refl)) (λ d. refl))
     (same_last port (asked connect.keep_alive) left ∙ same_last port (left_with now rest) core)) given
-stays_given x core turn (reads_later now port c packet rest at later is room) o given =
+exactly_given x core turn (reads_later now port c packet rest at later is room) o given =
     by_same x core turn.core
     (behind _ core (changes port (left_with now rest) core) (at_orderly port (left_with now rest) core o (λ d. refl)) (same_last port (left_with now rest) core)) given
-stays_given x core turn (closes port) o given = by_same x core turn.core (same_last port closed core) given
-stays_given x core turn (refuses port c code at first is) o given = by_same x core turn.core (same_last port _ core) given
-stays_given x core turn (loses_one port c at asked_before) o given =
+exactly_given x core turn (closes port) o given = by_same x core turn.core (same_last port closed core) given
+exactly_given x core turn (refuses port c code at first is) o given = by_same x core turn.core (same_last port _ core) given
+exactly_given x core turn (loses_one port c at asked_before) o given =
     by_same x core turn.core (behind (commands.Lost c.name) core (changes port closed core) (at_orderly port closed core o (λ d. refl)) (same_last port closed core)) given
-stays_given x core turn (loses_next c at) o given =
+exactly_given x core turn (loses_next c at) o given =
     by_same x core turn.core (behind (commands.Lost c.name) core (closes_failed core) (stays_failed core o).orderly refl) given
-stays_given x core turn crashes o given = by_same x core turn.core (stays_crashed core o).last given
-stays_given x core turn settles o given = by_same x core turn.core (stays_settled core o).last given
-stays_given x core turn (hands port) o given = by_same x core turn.core (stays_handed port core o).last given
+exactly_given x core turn crashes o given = by_same x core turn.core (stays_crashed core o).last given
+exactly_given x core turn settles o given = by_same x core turn.core (stays_settled core o).last given
+exactly_given x core turn (hands port) o given = by_same x core turn.core (stays_handed port core o).last given
+
+-- .. where a command is taken behind a change
+taken_last : (command : Command) (core between : CoreState) (did : Account) → IsOrderly between → between.last_name ≡ core.last_name → Takes command between did
+    → did.core.last_name ≡ core.last_name
+taken_last command core between did o same taken = (stays_takes command between did taken o).last ∙ same
+
+pub stays_given : (x : ConnectionName) (core : CoreState) (turn : Turn) (m : LossyMoves core turn) → IsOrderly core → IsGiven core.last_name x → IsGiven turn.core.last_name x
+stays_given x core turn (exactly m) o given = exactly_given x core turn m o given
+stays_given x core turn (hears_losing input did other drives_so) o given = by_same x core turn.core (stays_drives input core did drives_so o).last given
+stays_given x core turn (first_losing now port c connect rest did at first is taken) o given =
+    let left : CoreState = changes port (left_with now rest) core in
+    by_same x core turn.core
+    (taken_last _ core (changes port (asked connect.keep_alive) left) did (at_orderly port (asked connect.keep_alive) left (at_orderly port (left_with now rest) core o (λ d. refl)) (λ d. refl))
+    (same_last port (asked connect.keep_alive) left ∙ same_last port (left_with now rest) core) taken) given
+stays_given x core turn (later_losing now port c packet rest did at later is taken) o given =
+    by_same x core turn.core
+    (taken_last _ core (changes port (left_with now rest) core) did (at_orderly port (left_with now rest) core o (λ d. refl)) (same_last port (left_with now rest) core) taken) given
+stays_given x core turn (tells_losing name did taken) o given = by_same x core turn.core (taken_last _ core core did o refl taken) given
+stays_given x core turn forgets o given = given
+stays_given x core turn halts o given = given
+stays_given x core turn (fails port) o given = by_same x core turn.core (same_last port failing core) given
+stays_given x core turn unheard o given = by_same x core turn.core (stays_failed core o).last given
+stays_given x core turn (drops port piece) o given = by_same x core turn.core (same_last port closed core) given

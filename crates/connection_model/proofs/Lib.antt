@@ -1,3 +1,5 @@
+pub mod Handed
+pub mod CalmMoves
 pub mod Flows
 pub mod Shown
 pub mod Downward

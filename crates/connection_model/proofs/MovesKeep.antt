@@ -3,6 +3,7 @@ use Rattle.std.proofs.Common.{◌≡◌, ◌⊎◌, inl, inr, ℕ, zero, suc, tr
 use Rattle.std.proofs.lemmas.List.{append-nil}
 use Rattle.packet.specs.declared.packet.Packet.{Packet}
 use Rattle.ballot.specs.Config.{Config}
+use Rattle.ballot.specs.Effect.{Effect}
 use Rattle.ballot.specs.Replica.{is_active}
 use Rattle.broker_base.specs.Command.{Command}
 use Rattle.broker_base.specs.Commands.{usual_limits}
@@ -22,24 +23,26 @@ use Rattle.model.proofs.Answers.{counted_in, nothing_put}
 use Rattle.model.proofs.Lists.{same_or_other}
 use Rattle.world_base.specs.declared.connection.Connection.{Connection}
 use Rattle.world_base.specs.Core.{CoreState, Turn, rules}
-use Rattle.node_model.specs.Closed.{listed_named, refusal_in}
-use Rattle.node_model.specs.Ends.{IsEnd, IsGiven, IsOrderly, ReadsOn, came_on, commands_of, open_named, proposal_of, stream_of}
+use Rattle.node_model.specs.Closed.{listed_named}
+use Rattle.node_model.specs.Ends.{IsEnd, IsGiven, IsOrderly, commands_of, open_named, stream_of}
 use Rattle.node_model.specs.Ends.IsEnd.{not_yet}
-use Rattle.node_model.specs.Moves.{Moves}
-use Rattle.node_model.specs.Puts.{given_in, outputs_of, spelled}
+use Rattle.node_model.specs.LossyLaws.{ReadsOn}
+use Rattle.node_model.specs.LossyMoves.{LossyMoves, came_on, given_in, proposal_of, refusal_in}
+use Rattle.node_model.specs.Puts.{outputs_of, spelled}
 use Rattle.node_model.proofs.Kept.{live}
 use Rattle.node_model.proofs.NamesInOrder.{not_both}
-use Rattle.node_model.proofs.NewNames.{new_names_are_of_the_ballot}
-use Rattle.node_model.proofs.NothingOnClosed.{sent_in}
+use Rattle.node_model.proofs.LossyClosed.{lossy_names_are_of_the_ballot}
+use Rattle.node_model.proofs.LossyReads.{losses_read_in_order}
+use Rattle.node_model.proofs.LossyShuts.{sent_in}
 use Rattle.node_model.proofs.ProposesInOrder.{commands_join}
-use Rattle.node_model.proofs.ReadsInOrder.{nodes_read_in_order}
 use Rattle.group_model.specs.Group.{Group, behind_turn, moment_of, replica_of}
-use Rattle.group_model.specs.Goes.{commands_put, put_in_move}
+use Rattle.group_model.specs.Goes.{keeping}
+use Rattle.group_model.specs.Losing.{commands_put, put_in_move}
 use Rattle.group_model.specs.Order.{packets_of}
 use Rattle.group_model.proofs.MovesHappen.{Once}
 use Rattle.group_model.proofs.Placed.{get_mapped, get_of_set}
 use Rattle.connection_model.specs.Carried.{answers_to}
-use Rattle.connection_model.specs.Streams.{handed_on}
+use Rattle.connection_model.proofs.Handed.{handed_on}
 use Rattle.connection_model.proofs.Downward.{Down, down_later, down_on}
 use Rattle.connection_model.proofs.Downward.Down.{shows}
 use Rattle.connection_model.proofs.Elsewhere.{none_came, none_put, none_refused, packets_put}
@@ -78,31 +81,31 @@ abbrev pub LeadsStill : CoreState → Turn → Type 0
 LeadsStill core turn = (x : ConnectionName) (c : Connection) → listed_named x core ≡ Some c → live c ≡ true → is_active (replica_of turn.core).role ≡ true
     → is_active (replica_of core).role ≡ true
 
--- what is known of a move of the node at a place of a group
+-- what is known of a move of the node at a place of a group, of whose messages these are kept
 pub record Known {config : Config} (g : Group) {earlier : List (Moment State Command Output)} (came : Past rules config (moment_of g ∷ earlier)) (a : ℕ)
-    {core : CoreState} {turn : Turn} (m : Moves core turn) : Type 0 where
+    {core : CoreState} {turn : Turn} (m : LossyMoves core turn) (kept : List (Effect Command Output)) : Type 0 where
   pub at : slice_get g.nodes a ≡ Some core
   pub orderly : IsOrderly core
   pub leads : LeadsStill core turn
-  pub once : Once came (moment_of (behind_turn g a turn (given_in m))) (put_in_move m) a (outputs (given_in m))
+  pub once : Once came (moment_of (behind_turn g a (keeping kept turn) (given_in m))) (put_in_move m) a (outputs (given_in m))
 
 -- and of one connection in it
 record Here {config : Config} {g : Group} {earlier : List (Moment State Command Output)} {came : Past rules config (moment_of g ∷ earlier)} {a : ℕ}
-    {core : CoreState} {turn : Turn} {m : Moves core turn} (k : Known g came a m) (x : ConnectionName) (put : List (ℕ × Command)) (xs ys : List Command) : Type 0 where
+    {core : CoreState} {turn : Turn} {m : LossyMoves core turn} {kept : List (Effect Command Output)} (k : Known g came a m kept) (x : ConnectionName) (put : List (ℕ × Command)) (xs ys : List Command) : Type 0 where
   grown : IsPrefixOf xs ys
   sends : Sends x (replica_of core) (replica_of turn.core) ys (spelled (sends_to x (outputs_of (given_in m))))
   said : IsPrefixOf (packets_of x ys) (packets_of x (commands_in (put ++ put_in_move m)))
 
 abbrev Behind : {config : Config} {g : Group} {earlier : List (Moment State Command Output)} {came : Past rules config (moment_of g ∷ earlier)} {a : ℕ}
-    {core : CoreState} {turn : Turn} {m : Moves core turn} → Known g came a m → ConnectionName → List Packet → List ℕ → List (ℕ × Command) → List ℕ → List Command → Type 0
-Behind {g = g} {a = a} {turn = turn} {m = m} k x written later put down ys =
-    Stands x written later (behind_turn g a turn (given_in m)) (moment_of (behind_turn g a turn (given_in m)) ∷ k.once.further.before) (put ++ put_in_move m)
+    {core : CoreState} {turn : Turn} {m : LossyMoves core turn} {kept : List (Effect Command Output)} → Known g came a m kept → ConnectionName → List Packet → List ℕ → List (ℕ × Command) → List ℕ → List Command → Type 0
+Behind {g = g} {a = a} {turn = turn} {m = m} {kept = kept} k x written later put down ys =
+    Stands x written later (behind_turn g a (keeping kept turn) (given_in m)) (moment_of (behind_turn g a (keeping kept turn) (given_in m)) ∷ k.once.further.before) (put ++ put_in_move m)
     (down ++ handed_on x m) ys
 
-unrefused : (x : ConnectionName) {core : CoreState} {turn : Turn} (m : Moves core turn) → refusal_in x m ≡ [] → sent_in x m ≡ spelled (sends_to x (outputs_of (given_in m)))
+unrefused : (x : ConnectionName) {core : CoreState} {turn : Turn} (m : LossyMoves core turn) → refusal_in x m ≡ [] → sent_in x m ≡ spelled (sends_to x (outputs_of (given_in m)))
 unrefused x m none = ap (λ l. spelled (l ++ sends_to x (outputs_of (given_in m)))) none
 
-nothing_more : (x : ConnectionName) (put : List (ℕ × Command)) {core : CoreState} {turn : Turn} (m : Moves core turn) → packets_of x (proposal_of m) ≡ []
+nothing_more : (x : ConnectionName) (put : List (ℕ × Command)) {core : CoreState} {turn : Turn} (m : LossyMoves core turn) → packets_of x (proposal_of m) ≡ []
     → packets_of x (commands_in (put ++ put_in_move m)) ≡ packets_of x (commands_in put)
 nothing_more x put {core = core} {turn = turn} m none =
     packets_more x put m ∙ ap (λ l. packets_of x (commands_in put) ++ l) (packets_put x core turn m ∙ none) ∙ append-nil (packets_of x (commands_in put))
@@ -110,9 +113,9 @@ nothing_more x put {core = core} {turn = turn} m none =
 -- ---- no node had it
 
 untouched_keeps : {config : Config} {g : Group} {earlier : List (Moment State Command Output)} {came : Past rules config (moment_of g ∷ earlier)} {a : ℕ}
-    {core : CoreState} {turn : Turn} {m : Moves core turn} (k : Known g came a m) (x : ConnectionName) (written : List Packet) (later : List ℕ) (put : List (ℕ × Command)) (down : List ℕ)
+    {core : CoreState} {turn : Turn} {m : LossyMoves core turn} {kept : List (Effect Command Output)} (k : Known g came a m kept) (x : ConnectionName) (written : List Packet) (later : List ℕ) (put : List (ℕ × Command)) (down : List ℕ)
     (xs ys : List Command) → Here k x put xs ys → Untouched x written (came_on x m ++ later) g put down → Behind k x written later put down ys
-untouched_keeps {g = g} {earlier = earlier} {a = a} {core = core} {turn = turn} {m = m} k x written later put down xs ys h u =
+untouched_keeps {g = g} {earlier = earlier} {a = a} {core = core} {turn = turn} {m = m} {kept = kept} k x written later put down xs ys h u =
     by (listed_named x turn.core) refl (subst (λ (o : Option Connection). Flows (handed_on x m) (sent_in x m) o (listed_named x turn.core)) none (move_flows x core turn m k.orderly))
   where
     none : listed_named x core ≡ None
@@ -153,9 +156,9 @@ untouched_keeps {g = g} {earlier = earlier} {a = a} {core = core} {turn = turn} 
 
     opened : (d : Connection) → listed_named x turn.core ≡ Some d → handed_on x m ≡ [] → live d ≡ true → d.pending ≡ [] → Behind k x written later put down ys
     opened d there no_bytes lives empty =
-        let next = new_names_are_of_the_ballot core turn m k.orderly x d none there in
+        let next = lossy_names_are_of_the_ballot core turn m k.orderly x d none there in
         let led = leads_now g a core x earlier k.at next in
-        let read = nodes_read_in_order core turn m k.orderly in
+        let read = losses_read_in_order core turn m k.orderly in
         let r = read.1 x written [] (came_on x m ++ later) later (not_yet (still_to_come core x k.orderly next) refl u.piped) refl in
         inr (record {
           n = a;
@@ -185,10 +188,10 @@ untouched_keeps {g = g} {earlier = earlier} {a = a} {core = core} {turn = turn} 
 -- ---- the node that has it
 
 held_here : {config : Config} {g : Group} {earlier : List (Moment State Command Output)} {came : Past rules config (moment_of g ∷ earlier)} {a : ℕ}
-    {core : CoreState} {turn : Turn} {m : Moves core turn} (k : Known g came a m) (x : ConnectionName) (written : List Packet) (later : List ℕ) (put : List (ℕ × Command)) (down : List ℕ)
+    {core : CoreState} {turn : Turn} {m : LossyMoves core turn} {kept : List (Effect Command Output)} (k : Known g came a m kept) (x : ConnectionName) (written : List Packet) (later : List ℕ) (put : List (ℕ × Command)) (down : List ℕ)
     (xs ys : List Command) → Here k x put xs ys → (held : Held x written (came_on x m ++ later) g (moment_of g ∷ earlier) put down xs) → held.n ≡ a → held.core ≡ core
     → Behind k x written later put down ys
-held_here {g = g} {earlier = earlier} {a = a} {core = core} {turn = turn} {m = m} k x written later put down xs ys h held here_so same =
+held_here {g = g} {earlier = earlier} {a = a} {core = core} {turn = turn} {m = m} {kept = kept} k x written later put down xs ys h held here_so same =
     inr (record {
       n = a;
       core = turn.core;
@@ -214,7 +217,7 @@ held_here {g = g} {earlier = earlier} {a = a} {core = core} {turn = turn} {m = m
     end = subst (λ (c : CoreState). IsEnd x c written held.read (came_on x m ++ later)) same held.end
 
     r : ReadsOn x m written held.read later
-    r = (nodes_read_in_order core turn m k.orderly).1 x written held.read (came_on x m ++ later) later end refl
+    r = (losses_read_in_order core turn m k.orderly).1 x written held.read (came_on x m ++ later) later end refl
 
     from_none : (n : ℕ) → n ≡ 0 + n
     from_none n = omega arith
@@ -225,7 +228,7 @@ held_here {g = g} {earlier = earlier} {a = a} {core = core} {turn = turn} {m = m
         by : (p : Option Connection) → listed_named x turn.core ≡ p → p ≡ None
         by None there = refl
         by (Some d) there =
-            absurd (not_both core.last_name x (still_to_come core x k.orderly (new_names_are_of_the_ballot core turn m k.orderly x d none there)) given)
+            absurd (not_both core.last_name x (still_to_come core x k.orderly (lossy_names_are_of_the_ballot core turn m k.orderly x d none there)) given)
 
     elsewhere : (n : ℕ) (other : CoreState) → slice_get (slice_set g.nodes a turn.core) n ≡ Some other → (n ≡ a → ⊥) → listed_named x other ≡ None
     elsewhere n other e apart = on (set_back g.nodes a n turn.core other e)
@@ -237,10 +240,10 @@ held_here {g = g} {earlier = earlier} {a = a} {core = core} {turn = turn} {m = m
 -- ---- another node has it
 
 held_there : {config : Config} {g : Group} {earlier : List (Moment State Command Output)} {came : Past rules config (moment_of g ∷ earlier)} {a : ℕ}
-    {core : CoreState} {turn : Turn} {m : Moves core turn} (k : Known g came a m) (x : ConnectionName) (written : List Packet) (later : List ℕ) (put : List (ℕ × Command)) (down : List ℕ)
+    {core : CoreState} {turn : Turn} {m : LossyMoves core turn} {kept : List (Effect Command Output)} (k : Known g came a m kept) (x : ConnectionName) (written : List Packet) (later : List ℕ) (put : List (ℕ × Command)) (down : List ℕ)
     (xs ys : List Command) → Here k x put xs ys → (held : Held x written (came_on x m ++ later) g (moment_of g ∷ earlier) put down xs) → (a ≡ held.n → ⊥)
     → Behind k x written later put down ys
-held_there {config = config} {g = g} {earlier = earlier} {came = came} {a = a} {core = core} {turn = turn} {m = m} k x written later put down xs ys h held apart =
+held_there {config = config} {g = g} {earlier = earlier} {came = came} {a = a} {core = core} {turn = turn} {m = m} {kept = kept} k x written later put down xs ys h held apart =
     by (listed_named x turn.core) refl (subst (λ (o : Option Connection). Flows (handed_on x m) (sent_in x m) o (listed_named x turn.core)) none (move_flows x core turn m k.orderly))
   where
     none : listed_named x core ≡ None
@@ -274,18 +277,18 @@ held_there {config = config} {g = g} {earlier = earlier} {came = came} {a = a} {
           sent = subst (λ (l : List ℕ). Down x (replica_of held.core) l ys (listed_named x held.core)) (sym (ap (λ l. down ++ l) e ∙ append-nil down)) (down_later xs ys h.grown held.sent);
         })
     by (Some d) there f =
-        let now = leads_now g a core x earlier k.at (new_names_are_of_the_ballot core turn m k.orderly x d none there) in
+        let now = leads_now g a core x earlier k.at (lossy_names_are_of_the_ballot core turn m k.orderly x d none there) in
         absurd (apart (one_primary_a_ballot rules config (moment_of g) earlier came now.moment held.led.moment a held.n x.ballot now.among held.led.among now.primary held.led.primary))
 
 -- ---- the move
 
 pub move_keeps : {config : Config} {g : Group} {earlier : List (Moment State Command Output)} {came : Past rules config (moment_of g ∷ earlier)} {a : ℕ}
-    {core : CoreState} {turn : Turn} {m : Moves core turn} (k : Known g came a m) (x : ConnectionName) (written : List Packet) (later : List ℕ) (put : List (ℕ × Command)) (down : List ℕ)
-    (xs ys : List Command) → IsAgreed config (moment_of g ∷ earlier) xs → IsAgreed config (moment_of (behind_turn g a turn (given_in m)) ∷ k.once.further.before) ys
+    {core : CoreState} {turn : Turn} {m : LossyMoves core turn} {kept : List (Effect Command Output)} (k : Known g came a m kept) (x : ConnectionName) (written : List Packet) (later : List ℕ) (put : List (ℕ × Command)) (down : List ℕ)
+    (xs ys : List Command) → IsAgreed config (moment_of g ∷ earlier) xs → IsAgreed config (moment_of (behind_turn g a (keeping kept turn) (given_in m)) ∷ k.once.further.before) ys
     → IsPrefixOf (packets_of x ys) (packets_of x (commands_in (put ++ put_in_move m)))
     → Stands x written (came_on x m ++ later) g (moment_of g ∷ earlier) put down xs
-    → Stands x written later (behind_turn g a turn (given_in m)) (moment_of (behind_turn g a turn (given_in m)) ∷ k.once.further.before) (put ++ put_in_move m) (down ++ handed_on x m) ys
-move_keeps {config = config} {g = g} {earlier = earlier} {came = came} {a = a} {core = core} {turn = turn} {m = m} k x written later put down xs ys before behind said stands = by stands
+    → Stands x written later (behind_turn g a (keeping kept turn) (given_in m)) (moment_of (behind_turn g a (keeping kept turn) (given_in m)) ∷ k.once.further.before) (put ++ put_in_move m) (down ++ handed_on x m) ys
+move_keeps {config = config} {g = g} {earlier = earlier} {came = came} {a = a} {core = core} {turn = turn} {m = m} {kept = kept} k x written later put down xs ys before behind said stands = by stands
   where
     h : Here k x put xs ys
     h = record {

@@ -3,6 +3,7 @@ use Rattle.std.proofs.Common.{◌≡◌, ℕ, false, List, [], ◌∷◌, ◌++�
 use Rattle.std.proofs.lemmas.List.{append-nil}
 use Rattle.packet.specs.declared.packet.Packet.{Packet}
 use Rattle.ballot.specs.Config.{Config}
+use Rattle.ballot.specs.Losses.{Thinned}
 use Rattle.ballot.specs.Replica.{is_active}
 use Rattle.broker_base.specs.Command.{Command}
 use Rattle.broker_base.specs.Connection.{ConnectionName}
@@ -16,27 +17,29 @@ use Rattle.agreement.proofs.Agreed.PastAgrees.{has_agreed}
 use Rattle.world_base.specs.Connections.{is_over}
 use Rattle.world_base.specs.Core.{CoreState, Turn, rules}
 use Rattle.world_base.specs.Turns.{quiet}
-use Rattle.node_model.specs.Ends.{IsOrderly, bytes_on, came_on}
-use Rattle.node_model.specs.Hearing.{HearsAtFirst, IsCalm}
-use Rattle.node_model.specs.Keeping.{AreOfTheBallot, moves_replica}
-use Rattle.node_model.specs.Moves.{Moves, Runs}
-use Rattle.node_model.specs.Moves.Runs.{rests, goes_on}
-use Rattle.node_model.specs.Puts.{given_in}
+use Rattle.node_model.specs.Ends.{IsOrderly}
+use Rattle.node_model.specs.Keeping.{AreOfTheBallot}
+use Rattle.node_model.specs.LossyMoves.{HearsAtFirst, IsCalm, LossyMoves, LossyRuns, all_inputs, bytes_on, came_on, given_in, hears_in, inputs_in}
+use Rattle.node_model.specs.LossyMoves.LossyRuns.{rests, goes_on}
+use Rattle.node_model.specs.Moves.{and_then}
 use Rattle.node_model.proofs.Kept.{left_true}
-use Rattle.node_model.proofs.MovesOfReplica.{move_same}
+use Rattle.node_model.proofs.LossyReads.{losses_read_in_order}
 use Rattle.node_model.proofs.OpenBehind.{open_if}
-use Rattle.node_model.proofs.ReadsInOrder.{nodes_read_in_order}
 use Rattle.group_model.specs.Ballots.{IsInItsBallot}
 use Rattle.group_model.specs.Group.{Group, behind_turn, moment_of, replica_of}
-use Rattle.group_model.specs.Goes.{AllWasSent, WasSent, all_given, put_in_move, put_in_run}
+use Rattle.group_model.specs.Goes.{keeping}
+use Rattle.group_model.specs.Losing.{WereSent, all_given, put_in_move, put_in_run}
 use Rattle.group_model.specs.Order.{packets_of}
 use Rattle.group_model.specs.Pasts.{packets_in}
-use Rattle.group_model.proofs.MovesHappen.{Further, moves_happen, unchanged}
+use Rattle.group_model.proofs.LossesHappen.{losses_happen}
+use Rattle.group_model.proofs.MovesHappen.{Further, unchanged}
 use Rattle.group_model.proofs.Ordered.{in_agreed}
 use Rattle.group_model.proofs.Packets.{packets_join}
 use Rattle.group_model.proofs.Placed.{get_of_set, set_same}
-use Rattle.group_model.proofs.RunsHappen.{all_sent_still, both, two_turns}
-use Rattle.connection_model.specs.Streams.{handed_in_run, handed_on}
+use Rattle.group_model.proofs.RunsHappen.{both, kept_turns, were_both, were_still}
+use Rattle.group_model.proofs.Thinning.{Given, KeptOfBoth, kept_of_both, nothing_kept}
+use Rattle.connection_model.proofs.CalmMoves.{calm_role}
+use Rattle.connection_model.proofs.Handed.{handed_losing, handed_on}
 use Rattle.connection_model.proofs.MovesKeep.{Known, LeadsStill, move_keeps}
 use Rattle.connection_model.proofs.States.{Stands}
 
@@ -90,17 +93,17 @@ said_first {config = config} h {more = more} f x put is each ys behind =
     let now = put_further put f is in
     in_agreed config h [] (put ++ more) (record { earlier = f.before; past = f.past; proposed = now.proposed; taken = now.taken; seen = tt }) each x ys behind
 
-move_steps : {config : Config} (g : Group) (n : ℕ) (core : CoreState) (turn : Turn) (m : Moves core turn) → slice_get g.nodes n ≡ Some core → WasSent g n m → IsOrderly core
-    → LeadsStill core turn → {earlier : List (Moment State Command Output)} (came : Past rules config (moment_of g ∷ earlier))
-    → Steps g came (behind_turn g n turn (given_in m)) (put_in_move m) (λ x. came_on x m) (λ x. handed_on x m)
-move_steps {config = config} g n core turn m at sent_so o leads {earlier = earlier} came =
-    let known : Known g came n m = record { at = at; orderly = o; leads = leads; once = moves_happen g n core turn m at sent_so config earlier came } in
+move_steps : {config : Config} (g : Group) (n : ℕ) (core : CoreState) (turn : Turn) (m : LossyMoves core turn) (kept : Given) → slice_get g.nodes n ≡ Some core → WereSent g n (inputs_in m)
+    → Thinned kept turn.messages → IsOrderly core → LeadsStill core turn → {earlier : List (Moment State Command Output)} (came : Past rules config (moment_of g ∷ earlier))
+    → Steps g came (behind_turn g n (keeping kept turn) (given_in m)) (put_in_move m) (λ x. came_on x m) (λ x. handed_on x m)
+move_steps {config = config} g n core turn m kept at sent_so t o leads {earlier = earlier} came =
+    let known : Known g came n m kept = record { at = at; orderly = o; leads = leads; once = losses_happen g n core turn m kept at sent_so t config earlier came } in
     let xs = has_agreed rules config (moment_of g) earlier came in
     record {
       further = known.once.further;
       keeps_each = λ x written later put sent is each good ys behind.
           move_keeps known x written later put sent xs.0 ys xs.1 behind
-          (said_first (behind_turn g n turn (given_in m)) known.once.further x put is each ys behind) (good xs.0 xs.1);
+          (said_first (behind_turn g n (keeping kept turn) (given_in m)) known.once.further x put is each ys behind) (good xs.0 xs.1);
     }
 
 -- ---- one behind the other
@@ -120,38 +123,73 @@ both_steps {config = config} {g = g} {h = h} {k = k} {earlier = earlier} came pu
           (subst (λ (l : List ℕ). Good config x written l g (moment_of g ∷ earlier) said sent) (append_assoc (up x) (next_up x) later) good))));
     }
 
+-- the same with what equals it
+pub steps_as : {config : Config} {g h : Group} {earlier : List (Moment State Command Output)} (came : Past rules config (moment_of g ∷ earlier)) (put more : List (ℕ × Command))
+    (up next_up down next_down : ConnectionName → List ℕ) → put ≡ more → ((x : ConnectionName) → up x ≡ next_up x) → ((x : ConnectionName) → down x ≡ next_down x)
+    → Steps g came h put up down → Steps g came h more next_up next_down
+steps_as {config = config} {g = g} {h = h} {earlier = earlier} came put more up next_up down next_down same ups downs s =
+    subst (λ (l : List (ℕ × Command)). Steps g came h l next_up next_down) same
+    (record {
+      further = s.further;
+      keeps_each = λ x written later said sent is each good.
+          subst (λ (l : List ℕ). Good config x written later h (moment_of h ∷ s.further.before) (said ++ put) (sent ++ l)) (downs x)
+          (s.keeps_each x written later said sent is each
+          (subst (λ (l : List ℕ). Good config x written (l ++ later) g (moment_of g ∷ earlier) said sent) (sym (ups x)) good));
+    })
+
 -- ---- runs
 
 -- a calm move leaves the replica in its role
-calm_leads : (core : CoreState) (turn : Turn) (m : Moves core turn) → moves_replica m ≡ false → LeadsStill core turn
-calm_leads core turn m calm x c there lives e = ap is_active (sym (move_same core turn m calm).role) ∙ e
+calm_leads : (core : CoreState) (turn : Turn) (m : LossyMoves core turn) → hears_in m ≡ false → LeadsStill core turn
+calm_leads core turn m calm x c there lives e = ap is_active (sym (calm_role core turn m calm)) ∙ e
 
 -- at the beginning of a step who has open connections leads
 first_leads : (core : CoreState) (turn : Turn) → AreOfTheBallot core → LeadsStill core turn
 first_leads core turn of x c there lives e = left_true (is_active (replica_of core).role) _ (of.each x c there (open_if (is_over c.stage) lives)).0
 
-calm_steps : {config : Config} (g : Group) (n : ℕ) (core : CoreState) (turn : Turn) (run : Runs core turn) → IsCalm run → IsOrderly core → slice_get g.nodes n ≡ Some core
-    → AllWasSent g n run → {earlier : List (Moment State Command Output)} (came : Past rules config (moment_of g ∷ earlier))
-    → Steps g came (behind_turn g n turn (all_given run)) (put_in_run run) (λ x. bytes_on x run) (λ x. handed_in_run x run)
-calm_steps g n core turn rests calm o at sent came =
-    subst (λ (h : Group). Steps g came h [] (λ x. []) (λ x. [])) (same_group g n core at) (nothing_steps g came)
-calm_steps g n core turn (goes_on {first = first} {next = next} m run) calm o at sent came =
-    let step = move_steps g n core first m at sent.0 o (calm_leads core first m calm.0) came in
-    let behind : Group = behind_turn g n first (given_in m) in
-    let rest = calm_steps behind n first.core next run calm.1 (nodes_read_in_order core first m o).0 (get_of_set g.nodes n core first.core at)
-    (all_sent_still g n first (given_in m) run sent.1) step.further.past in
-    both_steps came (put_in_move m) (put_in_run run) (λ x. came_on x m) (λ x. bytes_on x run) (λ x. handed_on x m) (λ x. handed_in_run x run) step
-    (subst (λ (h : Group). Steps behind step.further.past h (put_in_run run) (λ x. bytes_on x run) (λ x. handed_in_run x run)) (two_turns g n first next (given_in m) (all_given run)) rest)
+-- one move, and a run behind it
+move_and_run : {config : Config} (g : Group) (n : ℕ) (core : CoreState) (first next : Turn) (m : LossyMoves core first) (run : LossyRuns first.core next) (kept : Given)
+    (k : KeptOfBoth kept first.messages next.messages) {earlier : List (Moment State Command Output)} (came : Past rules config (moment_of g ∷ earlier))
+    → (step : Steps g came (behind_turn g n (keeping k.front first) (given_in m)) (put_in_move m) (λ x. came_on x m) (λ x. handed_on x m))
+    → Steps (behind_turn g n (keeping k.front first) (given_in m)) step.further.past
+    (behind_turn (behind_turn g n (keeping k.front first) (given_in m)) n (keeping k.rest next) (all_given run)) (put_in_run run) (λ x. bytes_on x run) (λ x. handed_losing x run)
+    → Steps g came (behind_turn g n (keeping kept (and_then first next)) (given_in m ++ all_given run)) (put_in_move m ++ put_in_run run) (λ x. came_on x m ++ bytes_on x run)
+    (λ x. handed_on x m ++ handed_losing x run)
+move_and_run g n core first next m run kept k came step rest =
+    both_steps came (put_in_move m) (put_in_run run) (λ x. came_on x m) (λ x. bytes_on x run) (λ x. handed_on x m) (λ x. handed_losing x run) step
+    (subst (λ (h : Group). Steps (behind_turn g n (keeping k.front first) (given_in m)) step.further.past h (put_in_run run) (λ x. bytes_on x run) (λ x. handed_losing x run))
+    (kept_turns g n first next (given_in m) (all_given run) kept k) rest)
 
-pub run_steps : {config : Config} (g : Group) (n : ℕ) (core : CoreState) (turn : Turn) (run : Runs core turn) → HearsAtFirst run → IsOrderly core → AreOfTheBallot core
-    → slice_get g.nodes n ≡ Some core → AllWasSent g n run → {earlier : List (Moment State Command Output)} (came : Past rules config (moment_of g ∷ earlier))
-    → Steps g came (behind_turn g n turn (all_given run)) (put_in_run run) (λ x. bytes_on x run) (λ x. handed_in_run x run)
-run_steps g n core turn rests first_so o of at sent came =
-    subst (λ (h : Group). Steps g came h [] (λ x. []) (λ x. [])) (same_group g n core at) (nothing_steps g came)
-run_steps g n core turn (goes_on {first = first} {next = next} m run) calm o of at sent came =
-    let step = move_steps g n core first m at sent.0 o (first_leads core first of) came in
-    let behind : Group = behind_turn g n first (given_in m) in
-    let rest = calm_steps behind n first.core next run calm (nodes_read_in_order core first m o).0 (get_of_set g.nodes n core first.core at)
-    (all_sent_still g n first (given_in m) run sent.1) step.further.past in
-    both_steps came (put_in_move m) (put_in_run run) (λ x. came_on x m) (λ x. bytes_on x run) (λ x. handed_on x m) (λ x. handed_in_run x run) step
-    (subst (λ (h : Group). Steps behind step.further.past h (put_in_run run) (λ x. bytes_on x run) (λ x. handed_in_run x run)) (two_turns g n first next (given_in m) (all_given run)) rest)
+no_move : {config : Config} (g : Group) (n : ℕ) (core : CoreState) (kept : Given) → slice_get g.nodes n ≡ Some core → Thinned kept []
+    → {earlier : List (Moment State Command Output)} (came : Past rules config (moment_of g ∷ earlier))
+    → Steps g came (behind_turn g n (keeping kept (quiet core)) []) [] (λ x. []) (λ x. [])
+no_move g n core kept at t came =
+    subst (λ (h : Group). Steps g came h [] (λ x. []) (λ x. []))
+    (same_group g n core at ∙ ap (λ (l : Given). behind_turn g n (keeping l (quiet core)) []) (sym (nothing_kept kept t))) (nothing_steps g came)
+
+calm_steps : {config : Config} (g : Group) (n : ℕ) (core : CoreState) (turn : Turn) (run : LossyRuns core turn) (kept : Given) → IsCalm run → IsOrderly core → slice_get g.nodes n ≡ Some core
+    → WereSent g n (all_inputs run) → Thinned kept turn.messages → {earlier : List (Moment State Command Output)} (came : Past rules config (moment_of g ∷ earlier))
+    → Steps g came (behind_turn g n (keeping kept turn) (all_given run)) (put_in_run run) (λ x. bytes_on x run) (λ x. handed_losing x run)
+calm_steps g n core turn rests kept calm o at sent t came = no_move g n core kept at t came
+calm_steps g n core turn (goes_on {first = first} {next = next} m run) kept calm o at sent t came =
+    let k = kept_of_both first.messages next.messages kept t in
+    let s = were_both g n (inputs_in m) (all_inputs run) sent in
+    let one : Turn = keeping k.front first in
+    let step = move_steps g n core first m k.front at s.0 k.first o (calm_leads core first m calm.0) came in
+    move_and_run g n core first next m run kept k came step
+    (calm_steps (behind_turn g n one (given_in m)) n first.core next run k.rest calm.1 (losses_read_in_order core first m o).0 (get_of_set g.nodes n core first.core at)
+    (were_still g n one (given_in m) (all_inputs run) s.1) k.next step.further.past)
+
+pub run_steps : {config : Config} (g : Group) (n : ℕ) (core : CoreState) (turn : Turn) (run : LossyRuns core turn) (kept : Given) → HearsAtFirst run → IsOrderly core → AreOfTheBallot core
+    → slice_get g.nodes n ≡ Some core → WereSent g n (all_inputs run) → Thinned kept turn.messages
+    → {earlier : List (Moment State Command Output)} (came : Past rules config (moment_of g ∷ earlier))
+    → Steps g came (behind_turn g n (keeping kept turn) (all_given run)) (put_in_run run) (λ x. bytes_on x run) (λ x. handed_losing x run)
+run_steps g n core turn rests kept first_so o of at sent t came = no_move g n core kept at t came
+run_steps g n core turn (goes_on {first = first} {next = next} m run) kept calm o of at sent t came =
+    let k = kept_of_both first.messages next.messages kept t in
+    let s = were_both g n (inputs_in m) (all_inputs run) sent in
+    let one : Turn = keeping k.front first in
+    let step = move_steps g n core first m k.front at s.0 k.first o (first_leads core first of) came in
+    move_and_run g n core first next m run kept k came step
+    (calm_steps (behind_turn g n one (given_in m)) n first.core next run k.rest calm (losses_read_in_order core first m o).0 (get_of_set g.nodes n core first.core at)
+    (were_still g n one (given_in m) (all_inputs run) s.1) k.next step.further.past)

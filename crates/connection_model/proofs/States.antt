@@ -21,13 +21,13 @@ use Rattle.world_base.specs.Core.{CoreState, Turn}
 use Rattle.world_base.specs.Step.{next_name}
 use Rattle.node_model.specs.Closed.{listed_named}
 use Rattle.node_model.specs.Ends.{IsEnd, IsGiven, IsOrderly, Precedes, commands_of, open_named, stream_of}
-use Rattle.node_model.specs.Moves.{Moves}
+use Rattle.node_model.specs.LossyMoves.{LossyMoves}
 use Rattle.node_model.specs.Names.{IsNextName}
 use Rattle.node_model.proofs.Kept.{left_true, live, named}
 use Rattle.node_model.proofs.NamesInOrder.{next_precedes}
 use Rattle.node_model.proofs.Views.{and_no, found_each, found_passes, some_none}
 use Rattle.group_model.specs.Group.{Group, moment_of, replica_of}
-use Rattle.group_model.specs.Goes.{commands_put, put_in_move}
+use Rattle.group_model.specs.Losing.{commands_put, put_in_move}
 use Rattle.group_model.specs.Order.{packets_of}
 use Rattle.group_model.proofs.Placed.{get_mapped}
 use Rattle.connection_model.proofs.Downward.{Down}
@@ -84,7 +84,7 @@ rows_of ballot [] = refl
 rows_of ballot (command ∷ commands) = ap (λ l. command ∷ l) (rows_of ballot commands)
 
 -- the packets behind a move are those before and those of the move
-pub packets_more : (x : ConnectionName) (put : List (ℕ × Command)) {core : CoreState} {turn : Turn} (m : Moves core turn)
+pub packets_more : (x : ConnectionName) (put : List (ℕ × Command)) {core : CoreState} {turn : Turn} (m : LossyMoves core turn)
     → packets_of x (commands_in (put ++ put_in_move m)) ≡ packets_of x (commands_in put) ++ packets_of x (commands_put m)
 packets_more x put {core = core} m =
     ap (packets_of x) (rows_joined put (put_in_move m) ∙ ap (λ l. commands_in put ++ l) (rows_of (replica_of core).joined (commands_put m)))

@@ -6,12 +6,13 @@ use Rattle.world_base.specs.declared.connection.Connection.{Connection}
 use Rattle.world_base.specs.Core.{CoreState, Turn}
 use Rattle.world_base.specs.Handing.{listed_at}
 use Rattle.node_model.specs.Ends.{bytes_on}
+use Rattle.node_model.specs.LossyMoves.{came_with}
 use Rattle.node_model.specs.Moves.{Moves, Runs}
 use Rattle.node_model.specs.Moves.Moves.{hands}
 use Rattle.node_model.specs.Moves.Runs.{rests, goes_on}
 use Rattle.group_model.specs.Group.{Group}
 use Rattle.group_model.specs.Goes.{MayGo, Went}
-use Rattle.group_model.specs.Goes.MayGo.{node_acts, master_assigns, master_hears}
+use Rattle.group_model.specs.Goes.MayGo.{node_acts, node_loses, master_assigns, master_hears, assigns_unheard, answers_unheard}
 use Rattle.group_model.specs.Goes.Went.{opened, then_went}
 
 -- ---- up
@@ -19,8 +20,11 @@ use Rattle.group_model.specs.Goes.Went.{opened, then_went}
 -- what comes on the connection of a name, at whatever node
 abbrev pub comes_up : ConnectionName → {g h : Group} → MayGo g h → List ℕ
 comes_up x (node_acts n core deed turn run at is first sent) = bytes_on x run
+comes_up x (node_loses n core item turn kept by at runs sent thinned) = came_with x item core
 comes_up x (master_assigns config) = []
 comes_up x (master_hears from ballot sent) = []
+comes_up x (assigns_unheard config) = []
+comes_up x (answers_unheard from ballot sent) = []
 
 abbrev pub came_up : ConnectionName → {nodes : ℕ} {config : Config} {g : Group} → Went nodes config g → List ℕ
 came_up x (opened can) = []
@@ -41,10 +45,14 @@ abbrev pub handed_in_run : ConnectionName → {core : CoreState} {turn : Turn} �
 handed_in_run x rests = []
 handed_in_run x (goes_on m run) = handed_on x m ++ handed_in_run x run
 
+-- where an item is taken with losses nothing is
 abbrev pub goes_down : ConnectionName → {g h : Group} → MayGo g h → List ℕ
 goes_down x (node_acts n core deed turn run at is first sent) = handed_in_run x run
+goes_down x (node_loses n core item turn kept by at runs sent thinned) = []
 goes_down x (master_assigns config) = []
 goes_down x (master_hears from ballot sent) = []
+goes_down x (assigns_unheard config) = []
+goes_down x (answers_unheard from ballot sent) = []
 
 abbrev pub went_down : ConnectionName → {nodes : ℕ} {config : Config} {g : Group} → Went nodes config g → List ℕ
 went_down x (opened can) = []

@@ -1,0 +1,41 @@
+-- A move in which a replica hears nothing leaves it in its role, also one in which something is lost.
+use Rattle.std.proofs.Common.{◌≡◌, false, refl, ap, ◌∙◌}
+use Rattle.ballot.specs.Replica.{ReplicaState}
+use Rattle.broker_base.specs.State.{State}
+use Rattle.broker_base.specs.Command.{Command}
+use Rattle.broker_base.specs.Command.TheVariants as commands
+use Rattle.world_base.specs.Connections.{asked, closed, failing, left_with}
+use Rattle.world_base.specs.Core.{CoreState, Turn, rules}
+use Rattle.world_base.specs.Lossy.{Account, Takes}
+use Rattle.world_base.specs.Reading.{changes}
+use Rattle.node_model.specs.LossyMoves.{LossyMoves, hears_in}
+use Rattle.node_model.specs.LossyMoves.LossyMoves.{exactly, hears_losing, first_losing, later_losing, tells_losing, forgets, halts, fails, unheard, drops}
+use Rattle.node_model.proofs.LossyOutputs.{delivers_replica}
+use Rattle.node_model.proofs.MovesOfReplica.{move_same}
+use Rattle.node_model.proofs.ReplicaStays.{added_same}
+use Rattle.group_model.specs.Group.{replica_of}
+use Rattle.group_model.proofs.MovesHappen.{changed_state, state_of}
+
+-- a command is taken behind a change of connections
+taken_role : (command : Command) (core between : CoreState) (did : Account) → replica_of between ≡ replica_of core → Takes command between did
+    → (replica_of did.core).role ≡ (replica_of core).role
+taken_role command core between did same taken =
+    ap (λ (r : ReplicaState State Command). r.role)
+    (state_of did.core (record between { replica = taken.replica }) (delivers_replica did.given (record between { replica = taken.replica }) did.core did.messages taken.delivers)
+    ∙ taken.done.state)
+    ∙ (added_same rules (replica_of between) command).role ∙ ap (λ (r : ReplicaState State Command). r.role) same
+
+pub calm_role : (core : CoreState) (turn : Turn) (m : LossyMoves core turn) → hears_in m ≡ false → (replica_of turn.core).role ≡ (replica_of core).role
+calm_role core turn (exactly m) calm = (move_same core turn m calm).role
+calm_role core turn (hears_losing input did other drives) calm = absurd cc
+calm_role core turn (first_losing now port c connect rest did at first is taken) calm =
+    taken_role _ core (changes port (asked connect.keep_alive) (changes port (left_with now rest) core)) did
+    (changed_state port (asked connect.keep_alive) (changes port (left_with now rest) core) ∙ changed_state port (left_with now rest) core) taken
+calm_role core turn (later_losing now port c packet rest did at later is taken) calm =
+    taken_role _ core (changes port (left_with now rest) core) did (changed_state port (left_with now rest) core) taken
+calm_role core turn (tells_losing name did taken) calm = taken_role (commands.Lost name) core core did refl taken
+calm_role core turn forgets calm = refl
+calm_role core turn halts calm = refl
+calm_role core turn (fails port) calm = ap (λ (r : ReplicaState State Command). r.role) (changed_state port failing core)
+calm_role core turn unheard calm = refl
+calm_role core turn (drops port piece) calm = ap (λ (r : ReplicaState State Command). r.role) (changed_state port closed core)
