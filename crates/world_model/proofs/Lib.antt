@@ -1,6 +1,7 @@
 pub mod WorldsGo
 pub mod NamesApart
 pub mod PortsKept
+pub mod PortsLosing
 pub mod NodesGoOn
 pub mod OnTheWay
 pub mod PipesHold

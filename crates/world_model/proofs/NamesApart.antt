@@ -4,6 +4,7 @@ use Rattle.std.specs.List.{find}
 use Rattle.lists.specs.Lists.{In}
 use Rattle.lists.specs.Lists.In.{here, there}
 use Rattle.ballot.specs.Config.{Config}
+use Rattle.ballot.specs.Losses.{Thinned}
 use Rattle.broker_base.specs.State.{State}
 use Rattle.broker_base.specs.Command.{Command}
 use Rattle.broker_base.specs.Output.{Output}
@@ -13,25 +14,29 @@ use Rattle.agreement.specs.Past.{Moment, Past}
 use Rattle.agreement.proofs.Agreed.OnePrimary.{one_primary_a_ballot}
 use Rattle.world_base.specs.declared.connection.Connection.{Connection}
 use Rattle.world_base.specs.Core.{CoreState, Turn, rules}
+use Rattle.world_base.specs.Turns.{quiet}
 use Rattle.node_model.specs.Closed.{listed_named}
 use Rattle.node_model.specs.Ends.{IsOrderly}
-use Rattle.node_model.specs.Moves.{Moves, Runs}
-use Rattle.node_model.specs.Moves.Runs.{rests, goes_on}
-use Rattle.node_model.specs.Puts.{given_in}
+use Rattle.node_model.specs.LossyMoves.{LossyMoves, LossyRuns, all_inputs, given_in, inputs_in}
+use Rattle.node_model.specs.LossyMoves.LossyRuns.{rests, goes_on}
 use Rattle.node_model.proofs.Kept.{named}
-use Rattle.node_model.proofs.NewNames.{new_names_are_of_the_ballot}
-use Rattle.node_model.proofs.ReadsInOrder.{nodes_read_in_order}
+use Rattle.node_model.proofs.LossyClosed.{lossy_names_are_of_the_ballot}
+use Rattle.node_model.proofs.LossyReads.{losses_read_in_order}
 use Rattle.node_model.proofs.Views.{some_none}
 use Rattle.world_model.specs.Apart.{HasName, NamesStayApart}
 use Rattle.group_model.specs.Group.{Group, behind_turn, moment_of, opening_cores}
-use Rattle.group_model.specs.Goes.{AllWasSent, MayGo, WasSent, Went, all_given, groups_of, put_in_move, put_in_run, put_in_step}
-use Rattle.group_model.specs.Goes.MayGo.{node_acts, master_assigns as assigns, master_hears as hears_master}
+use Rattle.group_model.specs.Goes.{MayGo, Went, groups_of, keeping, put_in_step}
+use Rattle.group_model.specs.Losing.{WereSent, all_given, put_in_move, put_in_run}
+use Rattle.group_model.specs.Goes.MayGo.{node_acts, node_loses, master_assigns as assigns, master_hears as hears_master, assigns_unheard, answers_unheard}
 use Rattle.group_model.specs.Goes.Went.{opened, then_went}
 use Rattle.group_model.proofs.GroupsArePasts.{goes_on as step_goes_on, groups_are_pasts}
-use Rattle.group_model.proofs.MovesHappen.{Further, moves_happen, unchanged}
+use Rattle.group_model.proofs.LosingNone.{losing_none, same_given, same_put, sent_losing}
+use Rattle.group_model.proofs.LossesHappen.{losses_happen}
+use Rattle.group_model.proofs.MovesHappen.{Further, unchanged}
 use Rattle.group_model.proofs.NamesInGroups.{all_well, each_got}
 use Rattle.group_model.proofs.Placed.{get_of_set}
-use Rattle.group_model.proofs.RunsHappen.{all_sent_still, both, two_turns}
+use Rattle.group_model.proofs.RunsHappen.{both, kept_turns, were_both, were_still}
+use Rattle.group_model.proofs.Thinning.{Given, all_kept, kept_of_both, nothing_kept}
 use Rattle.connection_model.proofs.CarriedInOrder.{assigned_nodes, no_connections}
 use Rattle.connection_model.proofs.RunsKeep.{same_group}
 use Rattle.connection_model.proofs.States.{Led, leads_now, set_back}
@@ -49,34 +54,40 @@ record LedOn {config : Config} (g : Group) {earlier : List (Moment State Command
   further : Further came (moment_of h) put
   led : AreLed g (moment_of g ∷ earlier) → AreLed h (moment_of h ∷ further.before)
 
-move_led : {config : Config} (g : Group) (n : ℕ) (core : CoreState) (turn : Turn) (m : Moves core turn) → slice_get g.nodes n ≡ Some core → WasSent g n m → IsOrderly core
-    → {earlier : List (Moment State Command Output)} (came : Past rules config (moment_of g ∷ earlier)) → LedOn g came (behind_turn g n turn (given_in m)) (put_in_move m)
-move_led {config = config} g n core turn m at sent o {earlier = earlier} came =
-    let f = (moves_happen g n core turn m at sent config earlier came).further in
+move_led : {config : Config} (g : Group) (n : ℕ) (core : CoreState) (turn : Turn) (m : LossyMoves core turn) (kept : Given) → slice_get g.nodes n ≡ Some core → WereSent g n (inputs_in m)
+    → Thinned kept turn.messages → IsOrderly core → {earlier : List (Moment State Command Output)} (came : Past rules config (moment_of g ∷ earlier))
+    → LedOn g came (behind_turn g n (keeping kept turn) (given_in m)) (put_in_move m)
+move_led {config = config} g n core turn m kept at sent t o {earlier = earlier} came =
+    let f = (losses_happen g n core turn m kept at sent t config earlier came).further in
     record { further = f; led = λ before x k has. led_later f.kept (on before x k has (set_back g.nodes n k turn.core has.core has.stands)) }
   where
     here_now : AreLed g (moment_of g ∷ earlier) → (x : ConnectionName) (d : Connection) → listed_named x turn.core ≡ Some d → (before : Option Connection) → listed_named x core ≡ before
         → Led (moment_of g ∷ earlier) n x.ballot
-    here_now before x d now None none = leads_now g n core x earlier at (new_names_are_of_the_ballot core turn m o x d none now)
+    here_now before x d now None none = leads_now g n core x earlier at (lossy_names_are_of_the_ballot core turn m o x d none now)
     here_now before x d now (Some c) was = before x n (record { core = core; stands = at; connection = c; listed = was })
 
-    on : AreLed g (moment_of g ∷ earlier) → (x : ConnectionName) (k : ℕ) (has : HasName x (behind_turn g n turn (given_in m)) k)
+    on : AreLed g (moment_of g ∷ earlier) → (x : ConnectionName) (k : ℕ) (has : HasName x (behind_turn g n (keeping kept turn) (given_in m)) k)
         → ((k ≡ n) × (has.core ≡ turn.core)) ⊎ (slice_get g.nodes k ≡ Some has.core) → Led (moment_of g ∷ earlier) k x.ballot
     on before x k has (inl (same, is)) =
         subst (λ i. Led (moment_of g ∷ earlier) i x.ballot) (sym same)
         (here_now before x has.connection (ap (listed_named x) (sym is) ∙ has.listed) (listed_named x core) refl)
     on before x k has (inr stood) = before x k (record { core = has.core; stands = stood; connection = has.connection; listed = has.listed })
 
-run_led : {config : Config} (g : Group) (n : ℕ) (core : CoreState) (turn : Turn) (run : Runs core turn) → IsOrderly core → slice_get g.nodes n ≡ Some core → AllWasSent g n run
-    → {earlier : List (Moment State Command Output)} (came : Past rules config (moment_of g ∷ earlier)) → LedOn g came (behind_turn g n turn (all_given run)) (put_in_run run)
-run_led g n core turn rests o at sent came =
-    subst (λ (h : Group). LedOn g came h []) (same_group g n core at) (record { further = unchanged came; led = λ before. before })
-run_led g n core turn (goes_on {first = first} {next = next} m run) o at sent came =
-    let step = move_led g n core first m at sent.0 o came in
-    let behind : Group = behind_turn g n first (given_in m) in
-    let rest = subst (λ (h : Group). LedOn behind step.further.past h (put_in_run run)) (two_turns g n first next (given_in m) (all_given run))
-    (run_led behind n first.core next run (nodes_read_in_order core first m o).0 (get_of_set g.nodes n core first.core at)
-    (all_sent_still g n first (given_in m) run sent.1) step.further.past) in
+run_led : {config : Config} (g : Group) (n : ℕ) (core : CoreState) (turn : Turn) (run : LossyRuns core turn) (kept : Given) → IsOrderly core → slice_get g.nodes n ≡ Some core
+    → WereSent g n (all_inputs run) → Thinned kept turn.messages → {earlier : List (Moment State Command Output)} (came : Past rules config (moment_of g ∷ earlier))
+    → LedOn g came (behind_turn g n (keeping kept turn) (all_given run)) (put_in_run run)
+run_led g n core turn rests kept o at sent t came =
+    subst (λ (h : Group). LedOn g came h [])
+    (same_group g n core at ∙ ap (λ (l : Given). behind_turn g n (keeping l (quiet core)) []) (sym (nothing_kept kept t))) (record { further = unchanged came; led = λ before. before })
+run_led g n core turn (goes_on {first = first} {next = next} m run) kept o at sent t came =
+    let k = kept_of_both first.messages next.messages kept t in
+    let s = were_both g n (inputs_in m) (all_inputs run) sent in
+    let one : Turn = keeping k.front first in
+    let step = move_led g n core first m k.front at s.0 k.first o came in
+    let behind : Group = behind_turn g n one (given_in m) in
+    let rest = subst (λ (h : Group). LedOn behind step.further.past h (put_in_run run)) (kept_turns g n first next (given_in m) (all_given run) kept k)
+    (run_led behind n first.core next run k.rest (losses_read_in_order core first m o).0 (get_of_set g.nodes n core first.core at)
+    (were_still g n one (given_in m) (all_inputs run) s.1) k.next step.further.past) in
     record { further = both came (put_in_move m) (put_in_run run) step.further rest.further; led = λ before. rest.led (step.led before) }
 
 -- ---- groups
@@ -89,12 +100,23 @@ nodes_led g h same kept before x n has =
 step_led : {nodes : ℕ} {config : Config} (g h : Group) → Went nodes config g → (step : MayGo g h) → {earlier : List (Moment State Command Output)}
     (came : Past rules config (moment_of g ∷ earlier)) → LedOn g came h (put_in_step step)
 step_led {nodes = nodes} {config = config} g h went (node_acts n core deed turn run at is first sent) came =
-    run_led g n core turn run (each_got _ g.nodes n core (all_well nodes config g went).0 at).orderly at sent came
+    subst (λ l. LedOn g came h l) (same_put run)
+    (subst (λ l. LedOn g came (behind_turn g n turn l) (put_in_run (losing_none run))) (same_given run)
+    (run_led g n core turn (losing_none run) turn.messages (each_got _ g.nodes n core (all_well nodes config g went).0 at).orderly at (sent_losing g n run sent)
+    (all_kept turn.messages) came))
+step_led {nodes = nodes} {config = config} g h went (node_loses n core item turn kept by at runs sent thinned) came =
+    run_led g n core turn by.run kept (each_got _ g.nodes n core (all_well nodes config g went).0 at).orderly at (subst (WereSent g n) (sym by.hears) sent) thinned came
 step_led {config = config} g h went (assigns wanted) {earlier = earlier} came =
     let f = step_goes_on config g h (assigns wanted) earlier came in
     record { further = f; led = nodes_led g h (assigned_nodes g wanted (refusal g.master wanted)) f.kept }
 step_led {config = config} g h went (hears_master from ballot sent) {earlier = earlier} came =
     let f = step_goes_on config g h (hears_master from ballot sent) earlier came in
+    record { further = f; led = nodes_led g h refl f.kept }
+step_led {config = config} g h went (assigns_unheard wanted) {earlier = earlier} came =
+    let f = step_goes_on config g h (assigns_unheard wanted) earlier came in
+    record { further = f; led = nodes_led g h refl f.kept }
+step_led {config = config} g h went (answers_unheard from ballot sent) {earlier = earlier} came =
+    let f = step_goes_on config g h (answers_unheard from ballot sent) earlier came in
     record { further = f; led = nodes_led g h refl f.kept }
 
 -- a past of the group, and in it each earlier group's nodes led the ballots of their names

@@ -44,10 +44,10 @@ pub record IsLater (c d : Connection) : Type 0 where
   pub name : d.name ≡ c.name
   pub lives : live d ≡ true → live c ≡ true
 
-is_shut : (c : Connection) → IsLater c (closed c)
+pub is_shut : (c : Connection) → IsLater c (closed c)
 is_shut c = record { port = refl; name = refl; lives = λ e. absurd cc }
 
-is_put_out : (bytes : List ℕ) (c : Connection) → IsLater c (put_out bytes c)
+pub is_put_out : (bytes : List ℕ) (c : Connection) → IsLater c (put_out bytes c)
 is_put_out bytes c = record { port = port (nat_le (length c.pending + length bytes) most_pending); name = put_out_name bytes c; lives = lives (nat_le (length c.pending + length bytes) most_pending) }
   where
     port : (b : Bool) → (let d : Connection = if b then putting bytes c else failing c in d).port ≡ c.port
@@ -63,13 +63,13 @@ abbrev pub IsFollowed : (Connection → Type 0) → Type 0
 IsFollowed P = (c d : Connection) → IsLater c d → P c → P d
 
 module _ (P : Connection → Type 0) (follows : IsFollowed P) where
-  abbrev AllOf : CoreState → Type 0
+  abbrev pub AllOf : CoreState → Type 0
   AllOf core = Each P core.connections
 
-  kept : IsKept P
+  pub kept : IsKept P
   kept = record { shut = λ c. follows c (closed c) (is_shut c); put = λ bytes c. follows c (put_out bytes c) (is_put_out bytes c) }
 
-  each_changed : (test : Connection → Bool) (f : Connection → Connection) (cs : List Connection) → ((c : Connection) → test c ≡ true → IsLater c (f c)) → Each P cs
+  pub each_changed : (test : Connection → Bool) (f : Connection → Connection) (cs : List Connection) → ((c : Connection) → test c ≡ true → IsLater c (f c)) → Each P cs
       → Each P (changed test f cs)
   each_changed test f [] later all = tt
   each_changed test f (c ∷ cs) later all = by (test c) refl (each_changed test f cs later all.1)
@@ -78,16 +78,16 @@ module _ (P : Connection → Type 0) (follows : IsFollowed P) where
       by true e rest = (follows c (f c) (later c e) all.0, all.1)
       by false e rest = (all.0, rest)
 
-  each_at : (port : Port) (f : Connection → Connection) (core : CoreState) → ((c : Connection) → is_open_at port c ≡ true → IsLater c (f c)) → AllOf core → AllOf (changes port f core)
+  pub each_at : (port : Port) (f : Connection → Connection) (core : CoreState) → ((c : Connection) → is_open_at port c ≡ true → IsLater c (f c)) → AllOf core → AllOf (changes port f core)
   unfolding changes
   each_at port f core later all = each_changed (is_open_at port) f core.connections later all
 
-  shut_at : (port : Port) (core : CoreState) → AllOf core → AllOf (changes port closed core)
+  pub shut_at : (port : Port) (core : CoreState) → AllOf core → AllOf (changes port closed core)
   shut_at port core all = each_at port closed core (λ c e. is_shut c) all
 
   -- ---- the replica
 
-  each_named : (name : ConnectionName) (f : Connection → Connection) (core : CoreState) → ((c : Connection) → IsLater c (f c)) → AllOf core → AllOf (changes_named name f core)
+  pub each_named : (name : ConnectionName) (f : Connection → Connection) (core : CoreState) → ((c : Connection) → IsLater c (f c)) → AllOf core → AllOf (changes_named name f core)
   unfolding changes_named
   each_named name f core later all = each_changed (is_open_named name) f core.connections (λ c e. later c) all
 
@@ -186,7 +186,7 @@ module _ (P : Connection → Type 0) (follows : IsFollowed P) where
   each_time next each zero core all = all
   each_time next each (suc more) core all = each_time next each more (next core).core (each core all)
 
-  each_opened : (port : Port) (core : CoreState) → (list_any (is_at port) core.connections ≡ false → P (fresh port (next_name core))) → AllOf core → AllOf (opens port core)
+  pub each_opened : (port : Port) (core : CoreState) → (list_any (is_at port) core.connections ≡ false → P (fresh port (next_name core))) → AllOf core → AllOf (opens port core)
   unfolding opens
   each_opened port core new all = by (serves core) (list_any (is_at port) core.connections) (is_connection_name (next_name core)) refl
     where
@@ -249,7 +249,7 @@ later_still p q = record { port = q.port ∙ p.port; name = q.name ∙ p.name; l
 pub is_still : (old : List Connection) (d : Connection) → In d old → IsOfOld old d
 is_still old d i = record { was = d; among = i; later = record { port = refl; name = refl; lives = λ e. e } }
 
-all_old : (old cs : List Connection) → ((c : Connection) → In c cs → In c old) → Each (IsOfOld old) cs
+pub all_old : (old cs : List Connection) → ((c : Connection) → In c cs → In c old) → Each (IsOfOld old) cs
 all_old old [] among = tt
 all_old old (c ∷ cs) among =
     (is_still old c (among c here), all_old old cs (λ d i. among d (there i)))

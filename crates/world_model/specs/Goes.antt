@@ -27,7 +27,7 @@ use Rattle.node_model.specs.Moves.Deed.{takes, gives}
 use Rattle.node_model.specs.Puts.{spelled}
 use Rattle.group_model.specs.Group.{Group}
 use Rattle.group_model.specs.Goes.{MayGo}
-use Rattle.group_model.specs.Goes.MayGo.{node_acts, master_assigns, master_hears}
+use Rattle.group_model.specs.Goes.MayGo.{node_acts, node_loses, master_assigns, master_hears, assigns_unheard, answers_unheard}
 use Rattle.connection_model.specs.Streams.{bytes_named, handed_in_run}
 use Rattle.connection_model.specs.Streams.{goes_down as goes_down_in}
 use Rattle.world_model.specs.World.{ClientPipes, HasPipe, Pipe, World, after_writing, is_used, newly_written, opening, packets_of, sent_up, with_client, with_pipe}
@@ -47,16 +47,23 @@ going_with x _ core = []
 abbrev pub CarriesItsBytes : {core : CoreState} {turn : Turn} → Deed → Runs core turn → Type 0
 CarriesItsBytes {core = core} deed run = (x : ConnectionName) → (bytes_on x run ≡ coming_with x deed core) × (handed_in_run x run ≡ going_with x deed core)
 
+-- where an item is taken with losses they do in any case
 abbrev pub IsFaithful : {g h : Group} → MayGo g h → Type 0
 IsFaithful (node_acts n core deed turn run at is first sent) = CarriesItsBytes deed run
+IsFaithful (node_loses n core item turn kept by at runs sent thinned) = Unit {0}
 IsFaithful (master_assigns config) = Unit {0}
 IsFaithful (master_hears from ballot sent) = Unit {0}
+IsFaithful (assigns_unheard config) = Unit {0}
+IsFaithful (answers_unheard from ballot sent) = Unit {0}
 
 -- the deed of a step, at a node
 abbrev pub deed_of : {g h : Group} → MayGo g h → Option (ℕ × Deed)
 deed_of (node_acts n core deed turn run at is first sent) = Some (n, deed)
+deed_of (node_loses n core item turn kept by at runs sent thinned) = Some (n, takes item)
 deed_of (master_assigns config) = None
 deed_of (master_hears from ballot sent) = None
+deed_of (assigns_unheard config) = None
+deed_of (answers_unheard from ballot sent) = None
 
 -- a deed that a client's connection has no part in, but that it may end
 abbrev pub is_apart : Option (ℕ × Deed) → Bool
