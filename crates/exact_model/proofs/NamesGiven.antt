@@ -1,7 +1,10 @@
 -- Each name that a node of a group gives is one that a connection may have.
-use Rattle.std.proofs.Common.{◌≡◌, Bool, true, false, not, ◌&&◌, if◌then◌else◌, ℕ, [], ◌∷◌, ◌++◌, length, refl, sym, subst}
+use Rattle.std.proofs.Common.{◌≡◌, Bool, true, false, not, ◌&&◌, if◌then◌else◌, ℕ, List, [], ◌∷◌, ◌++◌, length, refl, sym, subst}
 use Rattle.std.specs.List.{list_any}
 use Rattle.ballot.specs.Config.{Config}
+use Rattle.ballot.specs.Effect.{Effect}
+use Rattle.broker_base.specs.Command.{Command}
+use Rattle.broker_base.specs.Output.{Output}
 use Rattle.broker_base.specs.Connection.{ConnectionName, IsConnectionName, is_connection_name}
 use Rattle.broker_model.proofs.ConnectionNames.{same_name}
 use Rattle.lists.specs.Lists.{Each, In}
@@ -10,10 +13,12 @@ use Rattle.lists.proofs.OfEach.{each_append, each_then}
 use Rattle.agreement.specs.MasterState.{refusal}
 use Rattle.model.proofs.Lists.{each_set}
 use Rattle.world_base.specs.declared.connection.Connection.{Connection}
+use Rattle.world_base.specs.declared.item.Item.{Item}
 use Rattle.world_base.specs.declared.item.Item.TheVariants.{Peer, Tick, Opened, Bytes, Ended, Crash}
 use Rattle.world_base.specs.declared.item.Port.{Port}
 use Rattle.world_base.specs.Connections.{fresh, is_at}
 use Rattle.world_base.specs.Core.{CoreState, Turn, serves}
+use Rattle.world_base.specs.LossyStep.{RunsOn}
 use Rattle.world_base.specs.Step.{acts_on, next_name, opens, takes_in}
 use Rattle.node_model.specs.Moves.{Deed, done}
 use Rattle.node_model.specs.Moves.Deed.{takes, gives}
@@ -22,12 +27,13 @@ use Rattle.node_model.proofs.Kept.{named, put_out_name}
 use Rattle.node_model.proofs.Views.{found_each, found_passes}
 use Rattle.group_model.specs.Group.{Group, opening_cores}
 use Rattle.group_model.specs.Goes.{MayGo, Went, groups_of}
-use Rattle.group_model.specs.Goes.MayGo.{node_acts, master_assigns, master_hears}
+use Rattle.group_model.specs.Goes.MayGo.{node_acts, node_loses, master_assigns, master_hears, assigns_unheard, answers_unheard}
 use Rattle.group_model.specs.Goes.Went.{opened, then_went}
 use Rattle.group_model.proofs.NamesInGroups.{each_got}
 use Rattle.connection_model.proofs.CarriedInOrder.{assigned_nodes, no_connections}
 use Rattle.world_model.specs.Apart.{HasName}
 use Rattle.world_model.proofs.PortsKept.{IsLater, each_done}
+use Rattle.world_model.proofs.PortsLosing.{each_lost}
 
 abbrev IsNamed : Connection → Type 0
 IsNamed c = IsConnectionName c.name
@@ -64,13 +70,26 @@ done_named (takes (Ended port)) core all = each_done IsNamed later_named (takes 
 done_named (takes Crash) core all = each_done IsNamed later_named (takes Crash) core tt all
 done_named (gives port) core all = each_done IsNamed later_named (gives port) core tt all
 
+-- where something is lost
+lost_named : (item : Item) (core new : CoreState) (messages : List (Effect Command Output)) → RunsOn item core new messages → AreNamed core → AreNamed new
+lost_named (Opened port now) core new messages runs all = each_lost IsNamed later_named (Opened port now) core new messages (opens_named port core) runs all
+lost_named (Peer message) core new messages runs all = each_lost IsNamed later_named (Peer message) core new messages tt runs all
+lost_named (Tick now) core new messages runs all = each_lost IsNamed later_named (Tick now) core new messages tt runs all
+lost_named (Bytes port piece now) core new messages runs all = each_lost IsNamed later_named (Bytes port piece now) core new messages tt runs all
+lost_named (Ended port) core new messages runs all = each_lost IsNamed later_named (Ended port) core new messages tt runs all
+lost_named Crash core new messages runs all = each_lost IsNamed later_named Crash core new messages tt runs all
+
 -- ---- a group
 
 step_named : (g h : Group) → MayGo g h → Each AreNamed g.nodes → Each AreNamed h.nodes
 step_named g h (node_acts n core deed turn run at is first sent) all =
     each_set AreNamed g.nodes n turn.core all (subst (λ (t : Turn). AreNamed t.core) (sym is) (done_named deed core (each_got AreNamed g.nodes n core all at)))
+step_named g h (node_loses n core item turn kept by at runs sent thinned) all =
+    each_set AreNamed g.nodes n turn.core all (lost_named item core turn.core turn.messages runs (each_got AreNamed g.nodes n core all at))
 step_named g h (master_assigns wanted) all = subst (Each AreNamed) (sym (assigned_nodes g wanted (refusal g.master wanted))) all
 step_named g h (master_hears from ballot sent) all = all
+step_named g h (assigns_unheard wanted) all = all
+step_named g h (answers_unheard from ballot sent) all = all
 
 all_named : {nodes : ℕ} {config : Config} (g : Group) → Went nodes config g → Each AreNamed g.nodes
 all_named {nodes = nodes} {config = config} g (opened can) =
