@@ -3,7 +3,7 @@ use Rattle.std.proofs.Common.{◌≡◌, ℕ, false, List, [], ◌++◌, refl, a
 use Rattle.broker_base.specs.Connection.{ConnectionName}
 use Rattle.world_base.specs.Core.{CoreState, Turn}
 use Rattle.node_model.specs.LossyMoves.{HandsNothing, LossyMoves, LossyRuns, is_handing}
-use Rattle.node_model.specs.LossyMoves.LossyMoves.{exactly, hears_losing, first_losing, later_losing, tells_losing, forgets, halts, fails, unheard, drops}
+use Rattle.node_model.specs.LossyMoves.LossyMoves.{exactly}
 use Rattle.node_model.specs.LossyMoves.LossyRuns.{rests as rests_losing, goes_on as goes_losing}
 use Rattle.node_model.specs.Moves.{Moves, Runs}
 use Rattle.node_model.specs.Moves.Moves.{hands}

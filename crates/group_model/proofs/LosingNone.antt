@@ -1,5 +1,5 @@
 -- A run of moves is one in which something may be lost, and nothing is.
-use Rattle.std.proofs.Common.{◌≡◌, ℕ, List, ◌++◌, refl, ap}
+use Rattle.std.proofs.Common.{◌≡◌, ℕ, ◌++◌, refl, ap}
 use Rattle.broker_base.specs.Connection.{ConnectionName}
 use Rattle.world_base.specs.Core.{CoreState, Turn}
 use Rattle.node_model.specs.Ends.{bytes_on, came_on}

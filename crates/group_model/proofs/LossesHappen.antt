@@ -1,9 +1,9 @@
 -- Each move of a node in which something may be lost is one event among replicas, or none.
-use Rattle.std.proofs.Common.{inl, inr, ◌⊎◌, ◌≡◌, ℕ, Bool, true, false, not, ◌&&◌, nat_lt, List, [], ◌∷◌, length, Some, slice_get, refl, sym, ap, ◌∙◌, subst}
+use Rattle.std.proofs.Common.{inl, inr, ◌≡◌, ℕ, Bool, true, false, not, ◌&&◌, nat_lt, List, [], ◌∷◌, length, Some, slice_get, refl, sym, ap, ◌∙◌, subst}
 use Rattle.std.proofs.lemmas.Bool.{ltb-true}
 use Rattle.ballot.specs.Config.{Config}
 use Rattle.ballot.specs.Losses.{Loses, Thinned}
-use Rattle.ballot.specs.Protocol.{Input, replica_step}
+use Rattle.ballot.specs.Protocol.{Input}
 use Rattle.ballot.specs.Protocol.Input.{Proposes}
 use Rattle.ballot.specs.Replica.{CountedReplica, ReplicaState, is_active}
 use Rattle.ballot.specs.Sending.{Outcome, nothing_done}

@@ -7,7 +7,6 @@ use Rattle.lists.proofs.Tests.{eq_same}
 use Rattle.ballot.specs.Applying.{outputs_between}
 use Rattle.lists.specs.Lists.In.{there}
 use Rattle.ballot.specs.Config.{Config}
-use Rattle.ballot.specs.Effect.{Effect}
 use Rattle.ballot.specs.Losses.{Loses, Thinned, halted}
 use Rattle.ballot.specs.Message.{Message}
 use Rattle.ballot.specs.Protocol.{Input, replica_step}
@@ -53,8 +52,8 @@ use Rattle.group_model.specs.Group.{Group, behind_turn, moment_of, replica_of}
 use Rattle.group_model.specs.Goes.{InputWasSent, WasSent, keeping, put_in_move}
 use Rattle.group_model.specs.Pasts.{packets_in}
 use Rattle.group_model.proofs.Packets.{AreTaken, HasRoomFor, none_taken, packets_join, proposal_taken}
-use Rattle.group_model.proofs.Placed.{get_mapped, messages_kept, set_mapped, set_same}
-use Rattle.group_model.proofs.Thinning.{Given, KeptOf, all_kept, kept_of_all, nothing_kept}
+use Rattle.group_model.proofs.Placed.{get_mapped, set_mapped, set_same}
+use Rattle.group_model.proofs.Thinning.{Given, KeptOf, kept_of_all, nothing_kept}
 use Rattle.group_model.proofs.Replicas.{changes_keep, hands_keeps, moved_replica, opens_keeps, room_serves, serving_runs, settles_keeps}
 
 -- A past goes on to this moment, by events in which these commands were proposed; what is agreed grows.

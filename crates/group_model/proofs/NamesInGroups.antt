@@ -17,7 +17,6 @@ use Rattle.node_model.specs.Closed.{listed_named}
 use Rattle.node_model.specs.Ends.{IsOrderly}
 use Rattle.node_model.specs.Keeping.{AreOfTheBallot}
 use Rattle.node_model.specs.LossyLaws.{AreWhereItServes}
-use Rattle.node_model.specs.LossyMoves.{IsRunOn}
 use Rattle.node_model.specs.Moves.{Deed, done}
 use Rattle.node_model.specs.Moves.Deed.{takes, gives}
 use Rattle.node_model.specs.Moves.Moves.{hands}

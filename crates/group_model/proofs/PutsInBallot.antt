@@ -1,5 +1,5 @@
 -- What a move puts to its replica is put in the ballot of its name, where the names of open connections are of the ballot.
-use Rattle.std.proofs.Common.{◌≡◌, Bool, true, false, nat_lt, if◌then◌else◌, List, [], ◌∷◌, length, map, refl, ◌∙◌, sym, subst}
+use Rattle.std.proofs.Common.{◌≡◌, Bool, true, false, nat_lt, if◌then◌else◌, [], ◌∷◌, length, map, refl, ◌∙◌, sym, subst}
 use Rattle.std.proofs.lemmas.Bool.{both_ways}
 use Rattle.lists.specs.Lists.{Each, In}
 use Rattle.lists.specs.Lists.In.{here}
@@ -17,7 +17,7 @@ use Rattle.node_model.specs.Ends.{IsOrderly}
 use Rattle.node_model.specs.Keeping.{AreOfTheBallot}
 use Rattle.node_model.specs.LossyLaws.{AreWhereItServes}
 use Rattle.node_model.specs.LossyMoves.{HearsAtFirst, IsCalm, LossyMoves, LossyRuns, proposal_of}
-use Rattle.node_model.specs.LossyMoves.LossyMoves.{exactly, hears_losing, first_losing, later_losing, tells_losing, forgets, halts, fails, unheard, drops}
+use Rattle.node_model.specs.LossyMoves.LossyMoves.{exactly, first_losing, later_losing, tells_losing}
 use Rattle.node_model.specs.LossyMoves.LossyRuns.{rests, goes_on}
 use Rattle.node_model.specs.Moves.{Moves}
 use Rattle.node_model.specs.Moves.Moves.{reads_first, reads_later, loses_one, loses_next}

@@ -1,5 +1,5 @@
 -- What may happen in a group: a node acts, perhaps with losses, or the master answers.
-use Rattle.std.specs.Prelude.{◌≡◌, ℕ, ◌+◌, true, List, [], ◌∷◌, ◌++◌, slice_get, Option, Some, None}
+use Rattle.std.specs.Prelude.{◌≡◌, ℕ, true, List, [], ◌∷◌, ◌++◌, slice_get, Option, Some, None}
 use Rattle.lists.specs.Lists.{In}
 use Rattle.ballot.specs.Body.TheVariants.{Activate}
 use Rattle.ballot.specs.Config.{Config}
@@ -33,7 +33,7 @@ pub data MayGo (g : Group) : Group → Type 0 where
   -- a node takes an item, or hands over bytes, by these moves; what its replica hears comes first
   node_acts : (n : ℕ) (core : CoreState) (deed : Deed) (turn : Turn) (run : Runs core turn) → slice_get g.nodes n ≡ Some core →
       turn ≡ done deed core → HearsAtFirst run → AllWasSent g n run → MayGo g (behind_turn g n turn (all_given run))
-  -- a node takes an item with losses, by these moves; what comes with it was sent, and of its messages some may be missing
+  -- a node takes an item with losses, by these moves; what comes with it was sent, and some of its messages may be missing
   node_loses : (n : ℕ) (core : CoreState) (item : Item) (turn : Turn) (kept : List (Effect Command Output)) (by : IsRunOn item core turn) →
       slice_get g.nodes n ≡ Some core → RunsOn item core turn.core turn.messages → WereSent g n (heard_with item) → Thinned kept turn.messages →
       MayGo g (behind_turn g n (keeping kept turn) (given_losing by.run))

@@ -1,4 +1,4 @@
--- The same in a run of moves in which something may be lost: a command that the replica does not take is not put to it.
+-- The same in moves in which something may be lost: a command that the replica does not take is not put to it.
 use Rattle.std.specs.Prelude.{ℕ, List, [], ◌∷◌, ◌++◌, map}
 use Rattle.ballot.specs.Effect.{Effect}
 use Rattle.ballot.specs.Protocol.{Input}

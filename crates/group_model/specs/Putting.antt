@@ -1,4 +1,4 @@
--- What a node does to its replica in a run of moves: what it puts to it, what the replica gives, and that what it hears was sent.
+-- What a node puts to its replica in a run of moves, what the replica gives, and that what it hears was sent.
 use Rattle.std.specs.Prelude.{ℕ, ◌+◌, if◌then◌else◌, List, [], ◌∷◌, ◌++◌, map}
 use Rattle.lists.specs.Lists.{In}
 use Rattle.ballot.specs.Effect.{Effect}

@@ -1,6 +1,5 @@
 -- In a step with losses, too, each connection keeps its port and its name, and none that was closed is open again.
-use Rattle.std.proofs.Common.{◌≡◌, ◌⊎◌, inl, inr, ℕ, zero, suc, Bool, true, false, not, List, length, refl, sym, ap, subst}
-use Rattle.std.specs.List.{list_any}
+use Rattle.std.proofs.Common.{◌≡◌, inl, inr, ℕ, zero, suc, true, not, List, length, refl, sym, ap, subst}
 use Rattle.std.proofs.lemmas.Bool.{both_ways}
 use Rattle.packet.specs.Spelling.{spelling}
 use Rattle.packet.specs.declared.packet.Packet.{Packet}
@@ -25,14 +24,13 @@ use Rattle.world_base.specs.Failing.{closes_failed}
 use Rattle.world_base.specs.Lossy.{Account, Declines, Delivers, Drives, Proposes, Repeated, Serves, Takes, Then, quietly}
 use Rattle.world_base.specs.Lossy.Declines.{no_room, forgets, stops}
 use Rattle.world_base.specs.Lossy.Delivers.{nothing, does, tells, loses}
-use Rattle.world_base.specs.LossyStep.{ActsOn, Asks, Begins, Closes, Ends, EndsSilent, Holds, LosesAllFailed, LosesFailed, Opens, ReadsAll, ReadsNext, RunsOn, Says, Shuts, TakesIn}
+use Rattle.world_base.specs.LossyStep.{ActsOn, Asks, Begins, Closes, Ends, EndsSilent, Holds, LosesAllFailed, LosesFailed, Opens, ReadsAll, ReadsNext, RunsOn, Shuts, TakesIn}
 use Rattle.world_base.specs.LossyStep.Ends.{none_open, untold, told}
 use Rattle.world_base.specs.LossyStep.EndsSilent.{none_silent, ends_one}
 use Rattle.world_base.specs.LossyStep.LosesFailed.{none_failed, tells_one}
 use Rattle.world_base.specs.LossyStep.ReadsNext.{waits, first, later, refuses, ends}
 use Rattle.world_base.specs.Reading.{changes, open_at, refused, unread_of}
-use Rattle.world_base.specs.Step.{next_name, opens, settled}
-use Rattle.world_base.specs.Turns.{changes_named}
+use Rattle.world_base.specs.Step.{opens}
 use Rattle.node_model.proofs.EachKept.{each_settled}
 use Rattle.node_model.proofs.Kept.{failing_over, left_true, live}
 use Rattle.world_model.proofs.PortsKept.{AllOf, Comes, IsFollowed, IsLater, IsOfOld, all_old, comes_later, each_at, each_changed, each_named, each_opened, is_put_out, is_shut, kept, old_later, shut_at}
