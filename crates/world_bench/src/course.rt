@@ -1,0 +1,108 @@
+// A world of three nodes and four clients, and what happens in it, event by event.
+
+use anyhow::{Result, bail, ensure};
+use packet::ClientId;
+use std::alloc::Global;
+use world::{Config, Event, Members, World};
+
+/// The clients.
+pub const CLIENTS: [&str; 4] = ["a", "b", "c", "d"];
+
+/// The most messages that one event may lead to.
+const MOST: u32 = 1_000;
+
+/// How far a world has come.
+#[derive(Clone, Copy)]
+pub struct Course {
+    /// The last connection of each client, and how many were opened of all.
+    pub last: [u64; 4],
+    pub opened: u64,
+    /// The message that comes next.
+    pub next: u64,
+    /// How many events happened.
+    pub events: u64,
+    /// The active primary.
+    pub primary: u8,
+}
+
+impl Course {
+    /// Nothing happened, and node 1 is the primary.
+    pub fn new() -> Course {
+        Course {
+            last: [0; 4],
+            opened: 0,
+            next: 0,
+            events: 0,
+            primary: 1,
+        }
+    }
+}
+
+/// A world of three nodes, all members of ballot 1, with node 1 as primary.
+pub fn opened(alloc: Global) -> Result<World> {
+    let mut clients = Vec::new(alloc);
+    for name in &CLIENTS {
+        clients.push(ClientId::new(alloc, name)?)?;
+    }
+    Ok(World::opening(alloc, 3, config(alloc, 1)?, clients.as_slice())?)
+}
+
+/// All three nodes with this primary.
+pub fn config(alloc: Global, primary: u8) -> Result<Config> {
+    let members = Members::from_slice(alloc, &[1, 2, 3])?;
+    Ok(Config { members, primary })
+}
+
+/// The name of a client.
+pub fn named(alloc: Global, client: usize) -> Result<ClientId> {
+    Ok(ClientId::new(alloc, CLIENTS[client % 4])?)
+}
+
+/// Lets an event happen.
+pub fn happens(world: &mut World, course: &mut Course, event: &Event) -> Result<()> {
+    ensure!(world.step(event).is_ok(), "an event could not happen");
+    course.events = course.events.saturating_add(1);
+    Ok(())
+}
+
+/// All messages come, in the order of sending, and those to which they lead.
+pub fn all_come(world: &mut World, course: &mut Course) -> Result<()> {
+    for _message in 0..MOST {
+        if course.next >= world.messages() {
+            return Ok(());
+        }
+        happens(world, course, &Event::Deliver(course.next))?;
+        course.next = course.next.saturating_add(1);
+    }
+    bail!("the messages do not end")
+}
+
+/// What waits on the connection of a client goes up, and the nodes agree on it.
+pub fn goes_up(world: &mut World, course: &mut Course, client: usize) -> Result<()> {
+    let connection = course.last[client % 4];
+    let count = world.up(connection).len() as u64;
+    happens(world, course, &Event::CarryUp(connection, count))?;
+    all_come(world, course)
+}
+
+/// What waits on the connection of a client comes down.
+pub fn comes_down(world: &mut World, course: &mut Course, client: usize) -> Result<()> {
+    let connection = course.last[client % 4];
+    let count = world.down(connection).len() as u64;
+    happens(world, course, &Event::CarryDown(connection, count))
+}
+
+/// A client connects to the primary, and is accepted.
+pub fn connects(
+    alloc: Global,
+    world: &mut World,
+    course: &mut Course,
+    client: usize,
+) -> Result<()> {
+    let event = Event::Open(named(alloc, client)?, course.primary);
+    happens(world, course, &event)?;
+    course.opened = course.opened.saturating_add(1);
+    course.last[client % 4] = course.opened;
+    goes_up(world, course, client)?;
+    comes_down(world, course, client)
+}

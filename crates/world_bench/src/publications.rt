@@ -1,0 +1,93 @@
+// Publications at QoS 2: `a` publishes to `b`, and `c` to `d`.
+
+use crate::course::{Course, comes_down, connects, goes_up, happens, named};
+use anyhow::Result;
+use packet::{Payload, QoS};
+use session_base::Publication;
+use std::alloc::Global;
+use topics::{Filter, TopicName};
+use world::{Event, World};
+
+/// How many bytes a publication carries.
+const PAYLOAD: [u8; 64] = [7; 64];
+
+/// What is published about, by `a` and by `c`.
+const TOPICS: [&str; 2] = ["plant/1/pump/speed", "plant/2/pump/speed"];
+
+/// The publications of both publishers.
+#[derive(Drop)]
+pub struct Publications {
+    first: Event,
+    second: Event,
+}
+
+impl Publications {
+    /// They are made once, and copied by each publisher.
+    pub fn new(alloc: Global) -> Result<Publications> {
+        Ok(Publications {
+            first: publication(alloc, 0)?,
+            second: publication(alloc, 1)?,
+        })
+    }
+}
+
+fn publication(alloc: Global, pair: usize) -> Result<Event> {
+    let publication = Publication {
+        retain: false,
+        qos: QoS::ExactlyOnce,
+        topic: TopicName::new(alloc, TOPICS[pair % 2])?,
+        payload: Payload::new(alloc, &PAYLOAD)?,
+    };
+    Ok(Event::Publish(named(alloc, pair.saturating_mul(2))?, publication))
+}
+
+/// All clients connect, and `b` and `d` subscribe.
+pub fn begin(alloc: Global, world: &mut World, course: &mut Course) -> Result<()> {
+    for client in 0..4 {
+        connects(alloc, world, course, client)?;
+    }
+    subscribes(alloc, world, course, 0)?;
+    subscribes(alloc, world, course, 1)
+}
+
+fn subscribes(alloc: Global, world: &mut World, course: &mut Course, pair: usize) -> Result<()> {
+    let subscriber = pair.saturating_mul(2).saturating_add(1);
+    let filter = Filter::new(alloc, TOPICS[pair % 2])?;
+    let event = Event::Subscribe(named(alloc, subscriber)?, filter, QoS::ExactlyOnce);
+    happens(world, course, &event)?;
+    goes_up(world, course, subscriber)?;
+    comes_down(world, course, subscriber)
+}
+
+/// A publication of each publisher, with all handshakes.
+pub fn both_publish(
+    world: &mut World,
+    course: &mut Course,
+    publications: &Publications,
+) -> Result<()> {
+    happens(world, course, &publications.first)?;
+    shake_hands(world, course, 0, 1)?;
+    happens(world, course, &publications.second)?;
+    shake_hands(world, course, 2, 3)
+}
+
+/// PUBLISH, PUBREC, PUBREL and PUBCOMP between a publisher and the primary, and between this and a subscriber.
+fn shake_hands(
+    world: &mut World,
+    course: &mut Course,
+    publisher: usize,
+    subscriber: usize,
+) -> Result<()> {
+    for client in &[publisher, subscriber] {
+        for _half in 0..2 {
+            if *client == subscriber {
+                comes_down(world, course, *client)?;
+            }
+            goes_up(world, course, *client)?;
+            if *client == publisher {
+                comes_down(world, course, *client)?;
+            }
+        }
+    }
+    Ok(())
+}

@@ -1,0 +1,45 @@
+// Another node becomes the primary, and all clients go to it.
+
+use crate::course::{Course, all_come, config, connects, happens, named};
+use anyhow::Result;
+use std::alloc::Global;
+use world::{Event, World};
+
+/// What becomes of the end of a lost connection at its node.
+#[derive(Clone, Copy, Debug, PartialEq, Eq)]
+pub enum Ends {
+    /// The node sees it.
+    Seen,
+    /// It does not.
+    Unseen,
+}
+
+/// The next node in turn takes over.
+pub fn take_over(alloc: Global, world: &mut World, course: &mut Course, ends: Ends) -> Result<()> {
+    let primary = course.primary % 3 + 1;
+    happens(world, course, &Event::Assign(config(alloc, primary)?))?;
+    all_come(world, course)?;
+    course.primary = primary;
+    for client in 0..4 {
+        goes_over(alloc, world, course, client, ends)?;
+    }
+    Ok(())
+}
+
+/// A client loses its connection and connects to the new primary.
+fn goes_over(
+    alloc: Global,
+    world: &mut World,
+    course: &mut Course,
+    client: usize,
+    ends: Ends,
+) -> Result<()> {
+    let before = course.last[client % 4];
+    happens(world, course, &Event::Abandon(named(alloc, client)?))?;
+    if ends == Ends::Seen {
+        // Idle where the node has closed it before.
+        let _ = world.step(&Event::Notice(before));
+        course.events = course.events.saturating_add(1);
+    }
+    connects(alloc, world, course, client)
+}
