@@ -29,7 +29,8 @@ const AFTER_SUBSCRIBE: &str = "Each message is one line: QoS, retain, topic, pay
 Example:
   vbroker sub --id meter --filter 'house/#' --qos 2 --count 3 127.0.0.1:1883";
 
-const AFTER_PLAY: &str = "The first line opens the world: nodes, members, primary, clients. Each line
+const AFTER_PLAY: &str =
+    "The first line opens the world: nodes, members, primary, clients. Each line
 behind it lets one event happen, and is answered by what came of it.
 
 Example:
