@@ -118,13 +118,16 @@ connects_goes i node number old mid new housed numbered one two nodes config cs 
     port : Port
     port = record { 0 = number }
 
+    place : Place
+    place = record { client = i; at = length one.client.piped.ways; node = node; is_open = true }
+
     at_place : two.taken.place.node ≡ node
     at_place =
-        let connections : mid.connections ≡ old.connections ++ one.place ∷ [] = ap (λ (w : WorldState). w.connections) one.is in
-        let place : number - 1 ≡ length old.connections = omega (arith, numbered) in
-        let same = last_there old.connections one.place two.taken.place
-        (sym (ap (λ (l : List Place). slice_get l (number - 1)) connections ∙ ap (slice_get (old.connections ++ one.place ∷ [])) place) ∙ two.taken.stands) in
-        ap (λ (p : Place). p.node) (sym same) ∙ one.there
+        let connections : mid.connections ≡ old.connections ++ place ∷ [] = ap (λ (w : WorldState). w.connections) one.is in
+        let before : number - 1 ≡ length old.connections = omega (arith, numbered) in
+        let same = last_there old.connections place two.taken.place
+        (sym (ap (λ (l : List Place). slice_get l (number - 1)) connections ∙ ap (slice_get (old.connections ++ place ∷ [])) before) ∙ two.taken.stands) in
+        ap (λ (p : Place). p.node) (sym same)
 
     by : (k : ℕ) → node ≡ k → GoesTo m new
     by zero is =

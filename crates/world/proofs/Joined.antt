@@ -49,6 +49,14 @@ world_goes_join a b c one two nodes config cs m trail s =
     let next = two nodes config cs first.behind (reached_on trail first.steps) first.stands in
     record { behind = next.behind; steps = steps_join first.steps next.steps; stands = next.stands }
 
+-- where nothing is lost from end to end, nothing is on the way
+pub worlds_split : (a b c : WorldState) → a.losses ≤ b.losses → b.losses ≤ c.losses → LosesNothing a c → LosesNothing a b × LosesNothing b c
+worlds_split a b c x y none =
+    let same = none.0 in let low = none.1 in (
+      ((let e : b.losses ≡ a.losses = omega (arith, x, y, same) in e), low),
+      ((let e : c.losses ≡ b.losses = omega (arith, x, y, same) in e), (let l : b.losses < 2 ^ 64 - 1 = omega (arith, x, y, same, low) in l)),
+    )
+
 -- ---- parts of a step
 
 pub goes_on_rest : (a b : WorldState) → b ≡ a → GoesOn a b

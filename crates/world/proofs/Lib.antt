@@ -11,8 +11,12 @@ mod Connects
 mod OpensReached
 mod HousedOn
 mod PutsDown
+mod StandsThere
+mod Gathered
 mod Handed
 mod HousedOpened
 mod OpensOn
 mod ClientGoes
 mod CallsCounted
+mod CallsMet
+mod ItemsMet

@@ -42,6 +42,14 @@ nodes_join a b c one two =
           record { behind = next.behind; goes = goes_join first.goes next.goes; stands = next.stands };
     }
 
+-- where nothing is lost from end to end, nothing is on the way
+pub nodes_split : (a b c : NodesState) → a.losses ≤ b.losses → b.losses ≤ c.losses → NodesLoseNothing a c → NodesLoseNothing a b × NodesLoseNothing b c
+nodes_split a b c x y none =
+    let same = none.0 in let low = none.1 in (
+      ((let e : b.losses ≡ a.losses = omega (arith, x, y, same) in e), low),
+      ((let e : c.losses ≡ b.losses = omega (arith, x, y, same) in e), (let l : b.losses < 2 ^ 64 - 1 = omega (arith, x, y, same, low) in l)),
+    )
+
 -- one behind the other
 pub nodes_go_join : (a b c : NodesState) → NodesGo a b → NodesGo b c → NodesGo a c
 nodes_go_join a b c one two g s =

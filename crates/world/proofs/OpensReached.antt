@@ -15,6 +15,7 @@ use Rattle.world_nodes.specs.Nodes.{StandsFor as NodesStand}
 use Rattle.world_pipes.specs.declared.way.Way.{Way}
 use Rattle.world_pipes.specs.Standing.{StandsFor as ClientStands}
 use Rattle.world.specs.declared.world.WorldClient.{WorldClient}
+use Rattle.world.specs.Happening.{new_world_client}
 use Rattle.world.specs.Housed.{AreHoused, leads, leads_of}
 use Rattle.world.specs.Standing.{ClientsStand, IsReached, identifiers}
 use Rattle.world.specs.World.{WorldState}
@@ -34,16 +35,17 @@ one_more (x ∷ made) (d ∷ cs) one c all stands = (all.0, one_more made cs one
 
 -- clients that were never connected, by these identifiers
 abbrev pub AreMade : List WorldClient → List Client → Type 0
-AreMade made ids = ClientsStand made (map new_client ids) × (identifiers made ≡ ids)
+AreMade made ids = ClientsStand made (map new_client ids) × (identifiers made ≡ ids) × (made ≡ map new_world_client ids)
 
 pub made_more : (made later : List WorldClient) (ids : List Client) (i : ℕ) (one : WorldClient) (id : Client) → i < length ids → id ≡ get_or ids i id
-    → ClientStands one.piped (new_client id) → one.name ≡ id → later ≡ made ++ one ∷ [] → AreMade made (take i ids) → AreMade later (take (i + 1) ids)
-made_more made later ids i one id below is stands named pushed are =
+    → ClientStands one.piped (new_client id) → one.name ≡ id → one ≡ new_world_client id → later ≡ made ++ one ∷ [] → AreMade made (take i ids) → AreMade later (take (i + 1) ids)
+made_more made later ids i one id below is stands named new pushed are =
     subst (λ (l : List WorldClient). AreMade l (take (i + 1) ids)) (sym pushed)
     (subst (λ (l : List Client). AreMade (made ++ one ∷ []) l) (sym (take_more ids i id below ∙ ap (λ (c : Client). take i ids ++ c ∷ []) (sym is))) (
       subst (ClientsStand (made ++ one ∷ [])) (sym (map-append new_client (take i ids) (id ∷ [])))
           (one_more made (map new_client (take i ids)) one (new_client id) are.0 stands),
       map-append (λ (c : WorldClient). c.name) made (one ∷ []) ∙ ap (λ (l : List Client). l ++ one.name ∷ []) are.1 ∙ ap (λ (c : Client). take i ids ++ c ∷ []) named,
+      ap (λ (l : List WorldClient). l ++ one ∷ []) are.2 ∙ ap (λ (o : WorldClient). map new_world_client (take i ids) ++ o ∷ []) new ∙ sym (map-append new_world_client (take i ids) (id ∷ [])),
     ))
 
 -- none of them has a connection

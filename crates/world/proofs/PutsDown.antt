@@ -1,8 +1,8 @@
 -- PutsDown.antt: what a node hands over is put behind what is under way down.
-use Rattle.std.proofs.Common.{◌≡◌, ◌↔◌, inl, inr, ◌-◌, ℕ, false, List, Option, Some, None, Result, Ok, Err, OnOk, OnErr, slice_get, refl, sym, ap, ◌∙◌, subst}
+use Rattle.std.proofs.Common.{◌≡◌, ◌↔◌, ◌-◌, ℕ, Bool, true, false, List, ◌++◌, Option, Some, None, Result, Ok, Err, OnOk, OnErr, slice_get, refl, sym, ap, ◌∙◌, subst}
 use Rattle.std.specs.Prelude.{IfSome, IfOk, IsErr}
 use Rattle.std.proofs.lemmas.Bool.{both_ways}
-use Rattle.std.proofs.lemmas.List.{set-set}
+use Rattle.std.proofs.lemmas.List.{append-nil, set-set}
 use Rattle.lists.proofs.Places.{get_set}
 use Rattle.master.specs.declared.event.Idle.{Idle}
 use Rattle.world_base.specs.declared.handed.Handed.{Handed}
@@ -15,16 +15,25 @@ use Rattle.world_nodes.specs.Nodes.{NodesState}
 use Rattle.world_pipes.specs.declared.way.Way.{Way}
 use Rattle.world_pipes.specs.Piped.{Piped}
 use Rattle.world.specs.Housed.{leads}
-use Rattle.world.specs.Inside.{HandsDown, PutsDown, Tells, with_down}
+use Rattle.world.specs.Found.{with_down}
+use Rattle.world.specs.Gathering.{Gives, is_more, is_told_open, put_out}
+use Rattle.world.specs.Inside.{HandsDown, PutsDown, Tells}
 use Rattle.world.proofs.LeadsKept.{leads_set}
-use Rattle.world.proofs.Turned.{set_itself}
 
 -- ---- one call of a node
 
-pub handed_down : (r : Result Handed Idle) (node : ℕ) (port : Port) (old new : NodesState) (before behind : List ℕ) → OnOk r (Acts (node - 1) (gives port) old new)
-    → OnOk r (HandsOver node port old before behind) → OnErr r ((new ≡ old) × (behind ≡ before)) → HandsDown node port old before new behind
-handed_down (Ok h) node port old new before behind acts over same = inr (acts, over)
-handed_down (Err e) node port old new before behind acts over same = inl same
+pub handed_down : (r : Result Handed Idle) (node : ℕ) (port : Port) (old new : NodesState) (before behind : List ℕ) → IsErr r ↔ (node_of old.nodes node ≡ None)
+    → OnOk r (Acts (node - 1) (gives port) old new) → OnOk r (HandsOver node port old before behind) → OnErr r ((new ≡ old) × (behind ≡ before)) → HandsDown node port old before new behind
+handed_down r node port old new before behind idle acts over same = by r (node_of old.nodes node) refl idle acts over same
+  where
+    behind_it : (o : Option CountedCore) → node_of old.nodes node ≡ o → Gives o node port old new → behind ≡ before ++ put_out port o → HandsDown node port old before new behind
+    behind_it o e handed is = subst (λ (z : Option CountedCore). Gives z node port old new × (behind ≡ before ++ put_out port z)) (sym e) (handed, is)
+
+    by : (r : Result Handed Idle) (o : Option CountedCore) → node_of old.nodes node ≡ o → IsErr r ↔ (node_of old.nodes node ≡ None) → OnOk r (Acts (node - 1) (gives port) old new)
+        → OnOk r (HandsOver node port old before behind) → OnErr r ((new ≡ old) × (behind ≡ before)) → HandsDown node port old before new behind
+    by (Ok h) None e idle acts over same = absurd (both_ways false refl (idle.1 e))
+    by (Ok h) (Some core) e idle acts over same = behind_it (Some core) e acts (over core e)
+    by (Err x) o e idle acts over same = behind_it None (idle.0 refl) same.0 (same.1 ∙ sym (append-nil before))
 
 pub told : (r : Result Handed Idle) (node : ℕ) (port : Port) (old : NodesState) → r ≡ Ok answers.Open → IsErr r ↔ (node_of old.nodes node ≡ None)
     → IfOk r (λ handed. AnswersFor node port old handed) → Tells node port old
@@ -37,6 +46,25 @@ told (Ok h) node port old is idle answer = by (node_of old.nodes node) refl
       where
         opened : (k : Handed) → (let r : Result Handed Idle = Ok k in r) ≡ Ok answers.Open → k ≡ answers.Open
         opened k e = cc
+
+-- whether its end is open is just what it told
+pub told_exactly : (r : Result Handed Idle) (is_open : Bool) (node : ℕ) (port : Port) (old : NodesState) → (is_open ≡ true) ↔ (r ≡ Ok answers.Open) → IsErr r ↔ (node_of old.nodes node ≡ None)
+    → IfOk r (λ handed. AnswersFor node port old handed) → is_open ≡ is_told_open port (node_of old.nodes node)
+told_exactly r is_open node port old eq idle answer = by r (node_of old.nodes node) refl eq idle answer
+  where
+    not_open : (r : Result Handed Idle) (b : Bool) → (b ≡ true) ↔ (r ≡ Ok answers.Open) → (r ≡ Ok answers.Open → ⊥) → b ≡ false
+    not_open r false eq never = refl
+    not_open r true eq never = absurd (never (eq.0 refl))
+
+    as_told : (h : Handed) (b : Bool) → (b ≡ true) ↔ (◌≡◌ {A = Result Handed Idle} (Ok h) (Ok answers.Open)) → b ≡ is_more h
+    as_told answers.Open b eq = eq.1 refl
+    as_told answers.Closed b eq = not_open (Ok answers.Closed) b eq (λ e. cc)
+
+    by : (r : Result Handed Idle) (o : Option CountedCore) → node_of old.nodes node ≡ o → (is_open ≡ true) ↔ (r ≡ Ok answers.Open) → IsErr r ↔ (node_of old.nodes node ≡ None)
+        → IfOk r (λ handed. AnswersFor node port old handed) → is_open ≡ is_told_open port (node_of old.nodes node)
+    by (Err x) o e eq idle answer = not_open (Err x) is_open eq (λ e. cc) ∙ sym (ap (is_told_open port) (idle.0 refl))
+    by (Ok h) None e eq idle answer = absurd (both_ways false refl (idle.1 e))
+    by (Ok h) (Some core) e eq idle answer = as_told h is_open eq ∙ ap is_more (answer core e) ∙ sym (ap (is_told_open port) e)
 
 -- ---- bytes that are exchanged twice
 
@@ -62,10 +90,6 @@ puts node port nodes behind old mid later at none moved handed first given secon
   subst (λ (l : List ℕ). HandsDown node port nodes l behind handed) (of_some (λ (w : Way). moved ≡ w.down) (slice_get old.ways at) way found given) hands,
   exchanged old mid later at none handed first second way found,
 )
-
-pub puts_nothing : (node : ℕ) (port : Port) (nodes : NodesState) (client : Piped) (at : ℕ) → PutsDown at node port nodes client nodes client
-puts_nothing node port nodes client at way found =
-    (way.down, inl (refl, refl), ap (λ (l : List Way). let p : Piped = record client { ways = l } in p) (sym (set_itself client.ways at way found)))
 
 pub same_leads : (old mid later : Piped) (at : ℕ) (none handed : List ℕ) (way : Way) → slice_get old.ways at ≡ Some way
     → IfSome (slice_get old.ways at) (λ way. mid ≡ with_down at way none old) → IfSome (slice_get mid.ways at) (λ way. later ≡ with_down at way handed mid)

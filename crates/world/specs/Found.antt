@@ -1,8 +1,10 @@
 -- What is found in a world: a client by its identifier, and a connection by its number.
-use Rattle.std.specs.Prelude.{ℕ, ◌-◌, ◌==◌, if◌then◌else◌, Bool, List, Option, Some, None, bytes_eq, slice_get}
+use Rattle.std.specs.Prelude.{◌≡◌, ℕ, ◌-◌, ◌==◌, if◌then◌else◌, Bool, List, Option, Some, None, bytes_eq, drop, set, slice_get}
 use Rattle.std.specs.List.{position}
 use Rattle.client.specs.Core.{Core}
+use Rattle.world_base.specs.declared.item.Port.{Port}
 use Rattle.world_pipes.specs.declared.way.Way.{Way}
+use Rattle.world_pipes.specs.Piped.{Piped}
 use Rattle.world.specs.declared.place.Place.{Place}
 use Rattle.world.specs.declared.world.WorldClient.{WorldClient}
 use Rattle.world.specs.World.{WorldState}
@@ -24,6 +26,17 @@ core_at (Some at) clients = core_of (slice_get clients at)
 abbrev pub core_named : List ℕ → List WorldClient → Option Core
 core_named name clients = core_at (position (is_named name) clients) clients
 
+-- there it is
+pub record Named (name : List ℕ) (w : WorldState) : Type 0 where
+  pub at : ℕ
+  pub first : position (is_named name) w.clients ≡ Some at
+  pub client : WorldClient
+  pub stands : slice_get w.clients at ≡ Some client
+
+-- the client at this place has become this, and nothing else is changed
+abbrev pub with_piped : ℕ → WorldClient → Piped → WorldState → WorldState
+with_piped at client piped w = record w { clients = set w.clients at (record client { piped = piped }) }
+
 -- ---- a connection
 
 -- connections are numbered from 1
@@ -41,3 +54,24 @@ way_at (Some place) clients = way_in (slice_get clients place.client) place.at
 -- the connection of this number, if it was opened
 abbrev pub way_of : ℕ → WorldState → Option Way
 way_of number w = way_at (place_numbered number w.connections) w.clients
+
+-- by which its node knows it
+abbrev pub port_of : ℕ → Port
+port_of number = record { 0 = number }
+
+-- There it is: where it stands, whose it is, and what is under way on it.
+pub record Connected (number : ℕ) (w : WorldState) : Type 0 where
+  pub place : Place
+  pub numbered : place_numbered number w.connections ≡ Some place
+  pub client : WorldClient
+  pub owned : slice_get w.clients place.client ≡ Some client
+  pub way : Way
+  pub stands : slice_get client.piped.ways place.at ≡ Some way
+
+-- these bytes are under way down on a client's connection at this place
+abbrev pub with_down : ℕ → Way → List ℕ → Piped → Piped
+with_down at way bytes client = record client { ways = set client.ways at (record way { down = bytes }) }
+
+-- the first so many bytes are gone from those under way up
+abbrev pub with_less : ℕ → ℕ → Way → Piped → Piped
+with_less at count way client = record client { ways = set client.ways at (record way { up = drop count way.up }) }

@@ -4,3 +4,5 @@ pub mod Standing
 pub mod Housed
 pub mod Inside
 pub mod Found
+pub mod Gathering
+pub mod Happening

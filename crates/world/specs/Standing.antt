@@ -55,5 +55,6 @@ pub record IsReached (nodes : ℕ) (config : Config) (cs : List Client) (w : Wor
 abbrev pub KeepsReached : WorldState → WorldState → Type 0
 KeepsReached old new = (nodes : ℕ) (config : Config) (cs : List Client) → IsReached nodes config cs old → IsReached nodes config cs new
 
+-- the identifiers of clients, in their order
 abbrev pub identifiers : List WorldClient → List Client
 identifiers clients = map (λ (c : WorldClient). c.name) clients

@@ -1,12 +1,13 @@
 // Bytes come to a node, or to a client.
 
-ghost use Rattle.std.specs.Prelude.{◌≡◌, ◌≤◌, ◌<◌, ◌-◌, true, Some, slice_get, if◌then◌else◌, OnOk, OnErr};
+ghost use Rattle.std.specs.Prelude.{◌≡◌, ◌⊎◌, ◌≤◌, ◌<◌, ◌-◌, true, false, Some, length, slice_get, if◌then◌else◌, IfOk, OnOk, OnErr};
 ghost use Rattle.world_nodes.specs.Steps.{LosesNothing};
 ghost use Rattle.world_pipes.specs.Following.{FollowsAll};
 ghost use Rattle.world.specs.Goes.{NodesGoOn};
 ghost use Rattle.world.specs.Housed.{leads};
-ghost use Rattle.world.specs.Inside.{GoesOn, TakesUp, forgetful};
+ghost use Rattle.world.specs.Inside.{CannotHear, CannotTake, CannotTakeOn, GoesOn, HearsOn, Meets, TakesUp, TakesUpOn, forgetful};
 
+use crate::event::Event;
 use crate::place::Place;
 use crate::world::World;
 use world_base::Port;
@@ -16,7 +17,7 @@ use world_pipes::{ClientError, PipedClient};
 impl World {
     pub(crate) fn carry_up(&mut self, number: u64, count: u64) -> Result<(), Idle>
         ensures goes { GoesOn self.old self.new }
-        ensures same { OnErr result (self.new ≡ self.old) }
+        ensures meets { Meets (Event.CarryUp number count) self.old result self.new }
     {
         match self.place(number) {
             Some(place) if place.is_open => self.bring_up(place, number, count),
@@ -28,8 +29,9 @@ impl World {
     fn bring_up(&mut self, place: Place, number: u64, count: u64) -> Result<(), Idle>
         requires stands { slice_get self.old.connections (number - 1) ≡ Some place }
         requires positive { 0 < number }
+        requires up { place.is_open ≡ true }
         ensures goes { GoesOn self.old self.new }
-        ensures same { OnErr result (self.new ≡ self.old) }
+        ensures meets { Meets (Event.CarryUp number count) self.old result self.new }
     {
         self.take_up(place, number, count)?;
         self.gather(place.node);
@@ -41,28 +43,29 @@ impl World {
         requires stands { slice_get self.old.connections (number - 1) ≡ Some place }
         requires positive { 0 < number }
         ensures goes { GoesOn self.old self.new }
+        ensures takes { LosesNothing self.old.nodes self.new.nodes →
+            OnOk result (TakesUpOn number place count self.old self.new) }
+        ensures idle { OnErr result (CannotTakeOn place count self.old) }
         ensures same { OnErr result (self.new ≡ self.old) }
     {
-        if place.client >= self.clients.len() {
-            return Err(Idle);
-        }
         let piped = &mut self.clients[place.client].piped;
         take_up(&mut self.nodes, piped, place, Port(number), count)
     }
 
     pub(crate) fn carry_down(&mut self, number: u64, count: u64) -> Result<(), Idle>
         ensures goes { GoesOn self.old self.new }
-        ensures same { OnErr result (self.new ≡ self.old) }
+        ensures meets { Meets (Event.CarryDown number count) self.old result self.new }
     {
         let Some(place) = self.place(number) else {
             return Err(Idle);
         };
-        if place.client >= self.clients.len() {
-            return Err(Idle);
+        match hear_on(&mut self.clients[place.client].piped, place.at, count) {
+            Ok(had) => {
+                self.heard(had);
+                Ok(())
+            }
+            Err(idle) => Err(idle),
         }
-        let had = hear_on(&mut self.clients[place.client].piped, place.at, count)?;
-        self.heard(had);
-        Ok(())
     }
 
     // Behind what a client heard: want of memory is counted.
@@ -83,16 +86,15 @@ fn take_up(
     port: Port,
     count: u64,
 ) -> Result<(), Idle>
+    requires { place.at < length piped.old.ways }
     ensures nodes { NodesGoOn nodes.old nodes.new }
     ensures takes { LosesNothing nodes.old nodes.new →
         OnOk result (TakesUp place port count nodes.old piped.old nodes.new piped.new) }
+    ensures idle { OnErr result (CannotTake place count nodes.old piped.old) }
     ensures leads { leads piped.new.ways ≡ leads piped.old.ways }
     ensures same { OnErr result (nodes.new ≡ nodes.old) }
     ensures still { OnErr result (piped.new ≡ piped.old) }
 {
-    if place.at >= piped.len() {
-        return Err(Idle);
-    }
     let waiting = piped.up(place.at);
     if !is_part(count, waiting.len()) {
         return Err(Idle);
@@ -103,14 +105,17 @@ fn take_up(
     Ok(())
 }
 
-// The first so many bytes that wait on a connection come to its client, where it holds that. Whether there was memory is the
-// result.
+// The first so many bytes that wait on a connection come to its client, where it holds that. Whether there was memory is
+// the result.
 fn hear_on(piped: &mut PipedClient, at: usize, count: u64) -> Result<bool, Idle>
+    requires { at < length piped.old.ways }
     ensures goes { FollowsAll piped.old piped.new }
     ensures leads { leads piped.new.ways ≡ leads piped.old.ways }
+    ensures hears { IfOk result (λ had. HearsOn had at count piped.old piped.new) }
+    ensures idle { OnErr result (CannotHear at count piped.old) }
     ensures same { OnErr result (piped.new ≡ piped.old) }
 {
-    if !piped.is_open() || at >= piped.len() || at != piped.len() - 1 {
+    if !piped.is_open() || at != piped.len() - 1 {
         return Err(Idle);
     }
     if !is_part(count, piped.down(at).len()) {
@@ -121,7 +126,8 @@ fn hear_on(piped: &mut PipedClient, at: usize, count: u64) -> Result<bool, Idle>
 
 // Whether some bytes are carried, and no more than wait.
 fn is_part(count: u64, waiting: usize) -> bool
-    ensures { result ≡ true → count ≤ waiting }
+    ensures yes { result ≡ true → (0 < count) × (count ≤ waiting) }
+    ensures no { result ≡ false → (count ≡ 0) ⊎ (waiting < count) }
 {
     count != 0 && count <= waiting as u64
 }

@@ -19,20 +19,21 @@ pub enum Event {
     Tick(u8),
     /// A node stops for good, and closes its connections. Idle where it is unknown or has stopped.
     Crash(u8),
-    /// A client opens a connection to a node. Idle where there is no such client, where it has a connection, and
-    /// where the node is no running active primary.
+    /// A client opens a connection to a node. Idle where there is no such client, where it has a
+    /// connection, and where the node is no running active primary.
     Open(ClientId, u8),
-    /// The first so many of the bytes that wait in a connection come up to its node. Idle where its end at the node
-    /// is closed, for no bytes, and for more than wait.
+    /// The first so many of the bytes that wait in a connection come up to its node. Idle where its
+    /// end at the node is closed, or the node has stopped, for no bytes, and for more than wait.
     CarryUp(u64, u64),
-    /// The first so many of the bytes that wait in a connection come down to its client. Idle where the client
-    /// holds another connection or none, for no bytes, and for more than wait.
+    /// The first so many of the bytes that wait in a connection come down to its client. Idle where
+    /// the client holds another connection or none, for no bytes, and for more than wait.
     CarryDown(u64, u64),
     /// A client loses its connection; what it wrote is still on its way. Idle where it has none.
     Abandon(ClientId),
     /// A client says that it leaves, and ends its connection. Idle where it has none.
     Disconnect(ClientId),
-    /// A node sees the end of a connection. Idle where its end at the node is closed.
+    /// A node sees the end of a connection. Idle where its end at the node is closed, or the node
+    /// has stopped.
     Notice(u64),
     /// A client publishes. Idle where it refuses, and where there is no such client.
     Publish(ClientId, Publication),

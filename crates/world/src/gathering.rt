@@ -1,10 +1,14 @@
 // What a node put out goes on its way.
 
-ghost use Rattle.std.specs.Prelude.{◌≡◌, ◌<◌, ◌-◌, true, Some, slice_get};
+ghost use Rattle.std.specs.Prelude.{◌≡◌, ◌<◌, ◌-◌, true, Some, length, slice_get};
+ghost use Rattle.world_nodes.specs.Nodes.{NodesState};
+ghost use Rattle.world_nodes.specs.Goes.{node_of};
 ghost use Rattle.world_nodes.specs.Steps.{LosesNothing};
+ghost use Rattle.world.specs.Found.{place_numbered};
+ghost use Rattle.world.specs.Gathering.{AskedWhere, Gathers, GathersAmong, IsAsked, is_open_at, is_told_open};
 ghost use Rattle.world.specs.Goes.{NodesGoOn};
 ghost use Rattle.world.specs.Housed.{leads};
-ghost use Rattle.world.specs.Inside.{GoesOn, HandsDown, HasTaken, PutsDown, Tells};
+ghost use Rattle.world.specs.Inside.{GoesOn, HandsDown, HandsOn, HasTaken, PutsDown, Tells, marked};
 
 use crate::place::Place;
 use crate::world::World;
@@ -14,95 +18,84 @@ use world_nodes::Nodes;
 use world_pipes::PipedClient;
 
 impl World {
-    // What a node put out goes on its way down, on each connection whose end there is open.
+    // What a node put out goes on its way down, on each connection whose end there is open. The master, node 0, has none.
     pub(crate) fn gather(&mut self, node: u8)
-        ensures { GoesOn self.old self.new }
+        ensures goes { GoesOn self.old self.new }
+        ensures gathers { LosesNothing self.old.nodes self.new.nodes →
+            Gathers node self.old self.new }
     {
-        let place = (node as usize).saturating_sub(1);
-        let mut at = 0;
-        for _connection in 0..self.open_len(place) {
-            at = self.gather_next(place, at);
+        if node != 0 {
+            let count = self.connections.len() as u64;
+            self.gather_among(node, count);
         }
     }
 
-    // Of how many connections the end at a node is open.
-    fn open_len(&self, place: usize) -> usize {
-        match self.open.get(place) {
-            Some(open) => open.len(),
-            None => 0,
+    // The same on the first so many connections, from the newest of these to the oldest.
+    pub(crate) fn gather_among(&mut self, node: u8, count: u64)
+        ensures goes { GoesOn self.old self.new }
+        ensures gathers { LosesNothing self.old.nodes self.new.nodes →
+            GathersAmong count node self.old self.new }
+    {
+        let mut number = count;
+        while number > 0 {
+            self.ask_at(node, number);
+            number -= 1;
         }
     }
 
-    // The same of the connection at this place of the list, and the place of the next one. One whose end is closed then is
-    // taken out.
-    fn gather_next(&mut self, node: usize, at: usize) -> usize
-        ensures { GoesOn self.old self.new }
+    // The same on one connection, where it leads to the node and its end there is open.
+    fn ask_at(&mut self, node: u8, number: u64)
+        ensures goes { GoesOn self.old self.new }
+        ensures asks { LosesNothing self.old.nodes self.new.nodes →
+            AskedWhere (is_open_at node (place_numbered number self.old.connections)) number
+            self.old self.new }
     {
-        let Some(number) = self.open_at(node, at) else {
-            return at;
-        };
-        if self.gather_on(number) {
-            return at.saturating_add(1);
-        }
-        self.close(node, at);
-        at
-    }
-
-    // The connection at this place of a node's list.
-    fn open_at(&self, node: usize, at: usize) -> Option<u64> {
-        self.open.get(node)?.get(at).copied()
-    }
-
-    // It is taken out of the list.
-    fn close(&mut self, node: usize, at: usize)
-        ensures { self.new ≡ self.old }
-    {
-        let Some(open) = self.open.get_mut(node) else {
+        let Some(place) = self.place(number) else {
             return;
         };
-        if at < open.len() {
-            open.remove(at);
+        if place.node == node && place.is_open {
+            self.ask(place, number);
         }
     }
 
-    // What the node of a connection put out for it goes on its way down. Whether its end at the node is open is the result.
-    pub(crate) fn gather_on(&mut self, number: u64) -> bool
+    // What the node of a connection put out for it goes on its way down. Whether its end at the node is open is marked,
+    // and the result.
+    pub(crate) fn ask(&mut self, place: Place, number: u64) -> bool
+        requires stands { slice_get self.old.connections (number - 1) ≡ Some place }
+        requires positive { 0 < number }
         ensures goes { GoesOn self.old self.new }
+        ensures asks { LosesNothing self.old.nodes self.new.nodes →
+            IsAsked number self.old self.new }
         ensures taken { result ≡ true →
             LosesNothing self.old.nodes self.new.nodes → HasTaken number self.old }
     {
-        let Some(place) = self.place(number) else {
-            return false;
-        };
         let is_open = self.hand_on(place, number);
-        self.mark(number, is_open);
+        self.mark(place, number, is_open);
         is_open
     }
 
     // The end of a connection at its node is open, or closed.
-    fn mark(&mut self, number: u64, is_open: bool)
-        ensures nodes { self.new.nodes ≡ self.old.nodes }
-        ensures clients { self.new.clients ≡ self.old.clients }
-        ensures losses { self.new.losses ≡ self.old.losses }
+    fn mark(&mut self, place: Place, number: u64, is_open: bool)
+        requires stands { slice_get self.old.connections (number - 1) ≡ Some place }
+        requires positive { 0 < number }
+        ensures { self.new ≡ marked number place is_open self.old }
     {
-        if number == 0 || number as usize > self.connections.len() {
-            return;
-        }
-        let place = &mut self.connections[number as usize - 1];
-        place.is_open = is_open;
+        let mut marked = place;
+        marked.is_open = is_open;
+        self.connections[number as usize - 1] = marked;
     }
 
-    // The same of a connection at this place.
+    // What its node put out for a connection goes on its way down. Whether its end there is open is the result.
     fn hand_on(&mut self, place: Place, number: u64) -> bool
         requires stands { slice_get self.old.connections (number - 1) ≡ Some place }
         requires positive { 0 < number }
         ensures goes { GoesOn self.old self.new }
+        ensures connections { self.new.connections ≡ self.old.connections }
+        ensures hands { LosesNothing self.old.nodes self.new.nodes →
+            HandsOn number place self.old result self.new }
         ensures taken { result ≡ true →
             LosesNothing self.old.nodes self.new.nodes → HasTaken number self.old }
     {
-        if place.client >= self.clients.len() {
-            return false;
-        }
         let piped = &mut self.clients[place.client].piped;
         hand_down(
             self.alloc,
@@ -124,15 +117,15 @@ fn hand_down(
     node: u8,
     port: Port,
 ) -> bool
+    requires { at < length piped.old.ways }
     ensures nodes { NodesGoOn nodes.old nodes.new }
     ensures puts { LosesNothing nodes.old nodes.new →
         PutsDown at node port nodes.old piped.old nodes.new piped.new }
     ensures leads { leads piped.new.ways ≡ leads piped.old.ways }
+    ensures told { LosesNothing nodes.old nodes.new →
+        result ≡ is_told_open port (node_of nodes.old.nodes node) }
     ensures tells { LosesNothing nodes.old nodes.new → result ≡ true → Tells node port nodes.old }
 {
-    if at >= piped.len() {
-        return false;
-    }
     let mut bytes = Vec::new(alloc);
     piped.swap_down(at, &mut bytes);
     let is_open = hands_over(nodes, node, port, &mut bytes);
@@ -145,6 +138,8 @@ fn hands_over(nodes: &mut Nodes, node: u8, port: Port, bytes: &mut Vec<u8>) -> b
     ensures nodes { NodesGoOn nodes.old nodes.new }
     ensures hands { LosesNothing nodes.old nodes.new →
         HandsDown node port nodes.old bytes.old.items nodes.new bytes.new.items }
+    ensures told { LosesNothing nodes.old nodes.new →
+        result ≡ is_told_open port (node_of nodes.old.nodes node) }
     ensures tells { LosesNothing nodes.old nodes.new → result ≡ true → Tells node port nodes.old }
 {
     nodes.hand_over(node, port, bytes) == Ok(Handed::Open)

@@ -1,8 +1,11 @@
 // What nodes and their master do in a world.
 
-ghost use Rattle.std.specs.Prelude.{◌≡◌, OnErr};
-ghost use Rattle.world.specs.Inside.{GoesOn};
+ghost use Rattle.std.specs.Prelude.{◌≡◌, ◌<◌, ◌-◌, true, Some, slice_get};
+ghost use Rattle.world.specs.Happening.{receiver_of};
+ghost use Rattle.world.specs.Inside.{GoesOn, Meets};
 
+use crate::event::Event;
+use crate::place::Place;
 use crate::world::World;
 use world_base::{Config, Port};
 use world_nodes::Idle;
@@ -10,7 +13,7 @@ use world_nodes::Idle;
 impl World {
     pub(crate) fn deliver(&mut self, number: u64) -> Result<(), Idle>
         ensures goes { GoesOn self.old self.new }
-        ensures same { OnErr result (self.new ≡ self.old) }
+        ensures meets { Meets (Event.Deliver number) self.old result self.new }
     {
         let receiver = self.receiver(number);
         self.nodes.deliver(number)?;
@@ -19,7 +22,9 @@ impl World {
     }
 
     // The receiver of a message; 0 for the master, and where none was sent.
-    fn receiver(&self, number: u64) -> u8 {
+    fn receiver(&self, number: u64) -> u8
+        ensures { result ≡ receiver_of (slice_get self.now.nodes.sent number) }
+    {
         match self.nodes.sent().get(number as usize) {
             Some((receiver, _)) => *receiver,
             None => 0,
@@ -28,7 +33,7 @@ impl World {
 
     pub(crate) fn tick(&mut self, node: u8) -> Result<(), Idle>
         ensures goes { GoesOn self.old self.new }
-        ensures same { OnErr result (self.new ≡ self.old) }
+        ensures meets { Meets (Event.Tick node) self.old result self.new }
     {
         self.nodes.tick(node)?;
         self.gather(node);
@@ -37,7 +42,7 @@ impl World {
 
     pub(crate) fn crash(&mut self, node: u8) -> Result<(), Idle>
         ensures goes { GoesOn self.old self.new }
-        ensures same { OnErr result (self.new ≡ self.old) }
+        ensures meets { Meets (Event.Crash node) self.old result self.new }
     {
         self.nodes.crash(node)?;
         self.gather(node);
@@ -46,28 +51,31 @@ impl World {
 
     pub(crate) fn assign(&mut self, config: &Config) -> Result<(), Idle>
         ensures goes { GoesOn self.old self.new }
-        ensures same { OnErr result (self.new ≡ self.old) }
+        ensures meets { Meets (Event.Assign config.now) self.old result self.new }
     {
         self.nodes.assign(config)
     }
 
     pub(crate) fn notice(&mut self, number: u64) -> Result<(), Idle>
         ensures goes { GoesOn self.old self.new }
-        ensures same { OnErr result (self.new ≡ self.old) }
+        ensures meets { Meets (Event.Notice number) self.old result self.new }
     {
         match self.place(number) {
-            Some(place) if place.is_open => self.end(place.node, number),
+            Some(place) if place.is_open => self.end(place, number),
             _ => Err(Idle),
         }
     }
 
     // A node sees the end of a connection.
-    fn end(&mut self, node: u8, number: u64) -> Result<(), Idle>
+    fn end(&mut self, place: Place, number: u64) -> Result<(), Idle>
+        requires stands { slice_get self.old.connections (number - 1) ≡ Some place }
+        requires up { place.is_open ≡ true }
+        requires positive { 0 < number }
         ensures goes { GoesOn self.old self.new }
-        ensures same { OnErr result (self.new ≡ self.old) }
+        ensures meets { Meets (Event.Notice number) self.old result self.new }
     {
-        self.nodes.ended(node, Port(number))?;
-        self.gather(node);
+        self.nodes.ended(place.node, Port(number))?;
+        self.gather(place.node);
         Ok(())
     }
 }

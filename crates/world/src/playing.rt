@@ -3,6 +3,7 @@
 ghost use Rattle.std.specs.Prelude.{◌≡◌, ◌↔◌, false, IfOk, IsErrOf};
 ghost use Rattle.agreement.specs.World.{can_open};
 ghost use Rattle.model.specs.World.{AreApart};
+ghost use Rattle.world.specs.Happening.{Plays};
 ghost use Rattle.world.specs.Standing.{IsReached};
 
 use crate::event::Event;
@@ -22,6 +23,8 @@ pub fn play(
     // Where each client has an identifier of its own, and memory was not wanting, each is exact.
     ensures headline { AreApart clients.now → IfOk result (λ world.
         world.losses ≡ 0 → IsReached nodes config clients.now world) }
+    // It opens, and then each event has happened, or could not.
+    ensures plays { IfOk result (λ world. Plays nodes config clients.now events.now world) }
     ensures bad { IsErrOf result OpeningError.BadMembers ↔ (can_open nodes config ≡ false) }
 {
     let mut world = World::opening(alloc, nodes, config, clients)?;

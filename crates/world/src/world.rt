@@ -7,7 +7,8 @@ ghost use Rattle.model.specs.World.{AreApart};
 ghost use Rattle.world_model.specs.World.{new_client};
 ghost use Rattle.world_pipes.specs.Standing.{StandsFor};
 ghost use Rattle.world.specs.Goes.{AreReached, LosesNothing, StaysReached, WorldGoesOn};
-ghost use Rattle.world.specs.Inside.{GoesOn};
+ghost use Rattle.world.specs.Happening.{Happens, Opens, Run, new_world_client};
+ghost use Rattle.world.specs.Inside.{GoesOn, Meets};
 ghost use Rattle.world.specs.Standing.{ClientsStand, IsReached, KeepsReached, WorldGoes, identifiers};
 
 use crate::event::Event;
@@ -37,8 +38,6 @@ pub struct World {
     pub(crate) clients: Vec<WorldClient>,
     // Connection n + 1 stands at place n.
     pub(crate) connections: Vec<Place>,
-    // Of each node the connections whose end there is open, in the order of opening; node n + 1 at place n.
-    pub(crate) open: Vec<Vec<u64>>,
     pub(crate) losses: u64,
 }
 
@@ -73,6 +72,7 @@ impl World {
         ensures exact { AreApart clients.now →
             IfOk result (λ world. IsReached nodes config clients.now world) }
         ensures clients { IfOk result (λ world. identifiers world.clients ≡ clients.now) }
+        ensures opens { IfOk result (λ world. Opens nodes config clients.now world) }
         // The nodes agree.
         ensures reached { IfOk result (λ world. AreReached nodes config world.nodes) }
         ensures losses { IfOk result (λ world. world.losses ≡ 0) }
@@ -80,16 +80,11 @@ impl World {
     {
         let opened = Nodes::opening(alloc, nodes, config)?;
         let keepers = new_clients(alloc, clients)?;
-        let mut open = Vec::new(alloc);
-        for _node in 0..nodes {
-            open.push(Vec::new(alloc))?;
-        }
         Ok(World {
             alloc,
             nodes: opened,
             clients: keepers,
             connections: Vec::new(alloc),
-            open,
             losses: 0,
         })
     }
@@ -105,9 +100,9 @@ impl World {
         ensures goes { WorldGoesOn self.old self.new }
         ensures reached { LosesNothing self.old self.new →
             StaysReached self.old.nodes self.new.nodes }
+        // What the event asks is done, or it cannot happen.
+        ensures happens { Happens event.now self.old result self.new }
         ensures same { OnErr result (self.new ≡ self.old) }
-        ensures nodes { OnErr result (self.new.nodes ≡ self.old.nodes) }
-        ensures losses { OnErr result (self.new.losses ≡ self.old.losses) }
     {
         let before = self.nodes.losses();
         self.happen(event)?;
@@ -124,6 +119,8 @@ impl World {
         ensures goes { WorldGoesOn self.old self.new }
         ensures reached { LosesNothing self.old self.new →
             StaysReached self.old.nodes self.new.nodes }
+        // Each event has happened, or could not.
+        ensures runs { Run events.now self.old self.new }
     {
         for event in events {
             let _ = self.step(event);
@@ -172,6 +169,7 @@ impl World {
         ensures rises { self.old.losses ≤ self.new.losses }
         ensures whole { LosesNothing self.old self.new →
             (self.old.nodes.losses ≡ before) × (before < 2 ^ 64 - 1) }
+        ensures same { LosesNothing self.old self.new → self.new ≡ self.old }
     {
         let whole = self.nodes.losses() == before && before < u64::MAX;
         if !whole {
@@ -181,7 +179,7 @@ impl World {
 
     fn happen(&mut self, event: &Event) -> Result<(), Idle>
         ensures goes { GoesOn self.old self.new }
-        ensures same { OnErr result (self.new ≡ self.old) }
+        ensures meets { Meets event.now self.old result self.new }
     {
         match event {
             Event::Assign(config) => self.assign(config),
@@ -190,24 +188,13 @@ impl World {
             Event::Crash(node) => self.crash(*node),
             Event::Open(client, node) => self.open(client, *node),
             Event::CarryUp(connection, count) => self.carry_up(*connection, *count),
-            Event::Notice(connection) => self.notice(*connection),
-            _ => self.call(event),
-        }
-    }
-
-    // What clients do, and what they hear.
-    fn call(&mut self, event: &Event) -> Result<(), Idle>
-        ensures goes { GoesOn self.old self.new }
-        ensures same { OnErr result (self.new ≡ self.old) }
-    {
-        match event {
             Event::CarryDown(connection, count) => self.carry_down(*connection, *count),
             Event::Abandon(client) => self.abandon(client),
             Event::Disconnect(client) => self.disconnect(client),
+            Event::Notice(connection) => self.notice(*connection),
             Event::Publish(client, publication) => self.publish(client, publication),
             Event::Subscribe(client, filter, qos) => self.subscribe(client, filter, *qos),
             Event::Unsubscribe(client, filter) => self.unsubscribe(client, filter),
-            _ => Err(Idle),
         }
     }
 }
@@ -216,6 +203,7 @@ impl World {
 fn new_clients(alloc: Global, clients: &[ClientId]) -> Result<Vec<WorldClient>, Memory>
     ensures stand { IfOk result (λ made. ClientsStand made.items (map new_client clients.now)) }
     ensures named { IfOk result (λ made. identifiers made.items ≡ clients.now) }
+    ensures new { IfOk result (λ made. made.items ≡ map new_world_client clients.now) }
 {
     let mut made = Vec::new(alloc);
     for client in clients {
@@ -228,6 +216,7 @@ fn new_clients(alloc: Global, clients: &[ClientId]) -> Result<Vec<WorldClient>, 
 fn new_one(alloc: Global, client: &ClientId) -> Result<WorldClient, Memory>
     ensures stands { IfOk result (λ made. StandsFor made.piped (new_client client.now)) }
     ensures named { IfOk result (λ made. made.name ≡ client.now) }
+    ensures new { IfOk result (λ made. made ≡ new_world_client client.now) }
 {
     let piped = PipedClient::new(alloc, client.clone()?);
     Ok(WorldClient {

@@ -1,11 +1,8 @@
-use Rattle.std.proofs.Common.{◌<◌, length, refl, arith}
+use Rattle.std.proofs.Common.{refl}
 use Rattle.world.proofs.NodesGoOn.{by_call, nodes_rest}
 use Rattle.world.proofs.Handed.{less_leads}
 use Rattle.world.proofs.Turned.{there}
 use Rattle.world.proofs.carrying.take_up.Goals as goal
-
-pub returns-then-place-len-clause-nodes : goal.returns-then-place-len-clause-nodes
-returns-then-place-len-clause-nodes c = nodes_rest _ _ refl
 
 pub returns-then-not-is_part-clause-nodes : goal.returns-then-not-is_part-clause-nodes
 returns-then-not-is_part-clause-nodes c = nodes_rest _ _ refl
@@ -18,6 +15,5 @@ returns-clause-nodes c = by_call c.take.result c.args.nodes.now c.take.new.self 
 
 pub returns-clause-leads : goal.returns-clause-leads
 returns-clause-leads c =
-    let below : c.args.place.at < length c.args.piped.now.ways = omega arith in
-    let way = there c.args.piped.now.ways c.args.place.at below in
+    let way = there c.args.piped.now.ways c.args.place.at c.requires in
     less_leads c.args.piped.now c.take_up.new.self c.args.place.at c.args.count way.0 way.1 c.take_up.ensures.taken

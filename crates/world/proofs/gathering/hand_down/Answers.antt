@@ -1,14 +1,6 @@
-use Rattle.std.proofs.Common.{◌<◌, length, refl, arith}
-use Rattle.world.proofs.NodesGoOn.{nodes_rest}
-use Rattle.world.proofs.PutsDown.{puts, puts_nothing, same_leads}
+use Rattle.world.proofs.PutsDown.{puts, same_leads}
 use Rattle.world.proofs.Turned.{there}
 use Rattle.world.proofs.gathering.hand_down.Goals as goal
-
-pub returns-then-at-len-clause-nodes : goal.returns-then-at-len-clause-nodes
-returns-then-at-len-clause-nodes c = nodes_rest _ _ refl
-
-pub returns-then-at-len-clause-puts : goal.returns-then-at-len-clause-puts
-returns-then-at-len-clause-puts c = λ none. puts_nothing c.args.node c.args.port c.args.nodes.now c.args.piped.now c.args.at
 
 pub returns-clause-puts : goal.returns-clause-puts
 returns-clause-puts c =
@@ -18,7 +10,6 @@ returns-clause-puts c =
 
 pub returns-clause-leads : goal.returns-clause-leads
 returns-clause-leads c =
-    let below : c.args.at < length c.args.piped.now.ways = omega arith in
-    let way = there c.args.piped.now.ways c.args.at below in
+    let way = there c.args.piped.now.ways c.args.at c.requires in
     same_leads c.args.piped.now c.swap_down.new.self c.swap_down-2.new.self c.args.at c.new-bytes.result.items c.hands_over-is_open.new.bytes.items way.0 way.1
     c.swap_down.ensures.left c.swap_down-2.ensures.left

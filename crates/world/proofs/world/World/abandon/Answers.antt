@@ -1,6 +1,10 @@
-use Rattle.std.proofs.Common.{◌<◌, length, refl}
+use Rattle.std.proofs.Common.{◌<◌, length, refl, sym, ◌∙◌, ◌≡◌, true, subst}
+use Rattle.std.proofs.lemmas.Option.{same_Some}
+use Rattle.world_pipes.specs.Piped.{is_holding}
+use Rattle.world.specs.declared.world.WorldClient.{WorldClient}
 use Rattle.master.proofs.Counting.{get_there}
 use Rattle.world.specs.World.{WorldState}
+use Rattle.world.proofs.CallsMet.{abandon_meets}
 use Rattle.world.proofs.ClientGoes.{client_goes_on, housed_still}
 use Rattle.world.proofs.Joined.{goes_on_rest}
 use Rattle.world.proofs.world.World.abandon.Goals as goal
@@ -29,3 +33,19 @@ returns-clause-goes c =
       losses = c.self.inside.losses;
     } in
     rw (← c.self.view_is) (client_goes_on old c.in-Some.at c.index_mut.result.now c.lose.new.piped found c.lose.ensures.goes)
+
+pub returns-clause-meets : goal.returns-clause-meets
+returns-clause-meets c =
+    let few : c.in-Some.at < length c.self.inside.clients.items = rw (← c.self.view_is) at c.in-Some.ensures.below in
+    let found = get_there c.self.inside.clients.items c.in-Some.at c.index_mut.result.now few c.index_mut.ensures.value in
+    let before = get_there c.self.inside.clients.items c.in-Some.at c.index.result.now few c.index.ensures in
+    let first = rw (← c.self.view_is) at c.in-Some.ensures.exact in
+    let old : WorldState = record {
+      nodes = c.self.inside.nodes;
+      clients = c.self.inside.clients.items;
+      connections = c.self.inside.connections.items;
+      losses = c.self.inside.losses;
+    } in
+    rw (← c.self.view_is)
+    (λ none whole. abandon_meets c.args.client.now old c.in-Some.at c.index_mut.result.now c.lose.new.piped (sym first) found
+    (subst (λ (k : WorldClient). is_holding k.piped ≡ true) (same_Some c.index.result.now c.index_mut.result.now (sym before ∙ found)) (sym c.is_open.ensures ∙ c.if-not-is_open.false)) c.lose.ensures.lost)

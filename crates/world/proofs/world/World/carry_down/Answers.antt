@@ -1,48 +1,96 @@
-use Rattle.std.proofs.Common.{◌≤◌, ◌<◌, length, refl, arith}
+use Rattle.std.proofs.Common.{◌≤◌, refl, arith}
 use Rattle.master.proofs.Counting.{get_there}
 use Rattle.world.specs.Inside.{forgetful}
 use Rattle.world.specs.World.{WorldState}
 use Rattle.world.proofs.CallsCounted.{hearing_counted}
-use Rattle.world.proofs.ClientGoes.{client_goes_on, housed_still}
+use Rattle.world.proofs.ClientGoes.{client_goes_on, housed_still, same_piped}
+use Rattle.world.proofs.ItemsMet.{heard_meets, hears_nothing}
 use Rattle.world.proofs.Joined.{goes_on_rest}
+use Rattle.world.proofs.StandsThere.{client_within, way_within}
 use Rattle.world.proofs.world.World.carry_down.Goals as goal
 
 pub returns-in_default-clause-goes : goal.returns-in_default-clause-goes
 returns-in_default-clause-goes c = goes_on_rest _ _ refl
 
-pub returns-then-place-len-clause-goes : goal.returns-then-place-len-clause-goes
-returns-then-place-len-clause-goes c = goes_on_rest _ _ refl
+pub index_mut-requires : goal.index_mut-requires
+index_mut-requires c =
+    let stands = rw (← c.self.view_is) at c.in-Some.ensures.stands in
+    let few = client_within c.self.inside.clients.items c.self.inside.connections.items c.args.number c.in-Some.place c.self.invariant stands.1 stands.0 in
+    omega (arith, few)
 
-pub returns-in_err-had-clause-goes : goal.returns-in_err-had-clause-goes
-returns-in_err-had-clause-goes c =
-    let few : c.in-Some.place.client < length c.self.inside.clients.items = omega arith in
+pub hear_on-requires : goal.hear_on-requires
+hear_on-requires c =
+    let stands = rw (← c.self.view_is) at c.in-Some.ensures.stands in
+    let few = client_within c.self.inside.clients.items c.self.inside.connections.items c.args.number c.in-Some.place c.self.invariant stands.1 stands.0 in
     let found = get_there c.self.inside.clients.items c.in-Some.place.client c.index_mut.result.now few c.index_mut.ensures.value in
-    let old : WorldState = record {
+    way_within c.self.inside.clients.items c.self.inside.connections.items c.args.number c.in-Some.place c.index_mut.result.now c.self.invariant stands.1 stands.0 found
+
+pub returns-in-Err-clause-goes : goal.returns-in-Err-clause-goes
+returns-in-Err-clause-goes c =
+    let stands = rw (← c.self.view_is) at c.in-Some.ensures.stands in
+    let few = client_within c.self.inside.clients.items c.self.inside.connections.items c.args.number c.in-Some.place c.self.invariant stands.1 stands.0 in
+    let found = get_there c.self.inside.clients.items c.in-Some.place.client c.index_mut.result.now few c.index_mut.ensures.value in
+    rw (← c.self.view_is) (client_goes_on (let old : WorldState = record {
       nodes = c.self.inside.nodes;
       clients = c.self.inside.clients.items;
       connections = c.self.inside.connections.items;
       losses = c.self.inside.losses;
-    } in
-    rw (← c.self.view_is) (client_goes_on old c.in-Some.place.client c.index_mut.result.now c.hear_on.new.piped found c.hear_on.ensures.goes)
+    } in old) c.in-Some.place.client c.index_mut.result.now c.hear_on.new.piped found c.hear_on.ensures.goes)
 
-pub invariant_of-self-2 : goal.invariant_of-self-2
-invariant_of-self-2 c =
-    let few : c.in-Some.place.client < length c.self.inside.clients.items = omega arith in
+pub returns-in-Err-clause-meets : goal.returns-in-Err-clause-meets
+returns-in-Err-clause-meets c =
+    let stands = rw (← c.self.view_is) at c.in-Some.ensures.stands in
+    let few = client_within c.self.inside.clients.items c.self.inside.connections.items c.args.number c.in-Some.place c.self.invariant stands.1 stands.0 in
+    let found = get_there c.self.inside.clients.items c.in-Some.place.client c.index_mut.result.now few c.index_mut.ensures.value in
+    rw (← c.self.view_is) (
+      hears_nothing c.args.number c.in-Some.place c.args.count (let old : WorldState = record {
+        nodes = c.self.inside.nodes;
+        clients = c.self.inside.clients.items;
+        connections = c.self.inside.connections.items;
+        losses = c.self.inside.losses;
+      } in old) c.index_mut.result.now c.self.invariant stands.1 stands.0 found c.in-Err.ensures.idle,
+      same_piped (let old : WorldState = record {
+        nodes = c.self.inside.nodes;
+        clients = c.self.inside.clients.items;
+        connections = c.self.inside.connections.items;
+        losses = c.self.inside.losses;
+      } in old) c.in-Some.place.client c.index_mut.result.now c.hear_on.new.piped found c.in-Err.ensures.same,
+    )
+
+pub invariant_of-self : goal.invariant_of-self
+invariant_of-self c =
+    let stands = rw (← c.self.view_is) at c.in-Some.ensures.stands in
+    let few = client_within c.self.inside.clients.items c.self.inside.connections.items c.args.number c.in-Some.place c.self.invariant stands.1 stands.0 in
     let found = get_there c.self.inside.clients.items c.in-Some.place.client c.index_mut.result.now few c.index_mut.ensures.value in
     housed_still c.self.inside.clients.items c.self.inside.connections.items c.in-Some.place.client c.index_mut.result.now c.hear_on.new.piped found
     c.hear_on.ensures.leads c.self.invariant
 
-pub returns-clause-goes : goal.returns-clause-goes
-returns-clause-goes c =
-    let few : c.in-Some.place.client < length c.self.inside.clients.items = omega arith in
+pub returns-in-Ok-clause-goes : goal.returns-in-Ok-clause-goes
+returns-in-Ok-clause-goes c =
+    let stands = rw (← c.self.view_is) at c.in-Some.ensures.stands in
+    let few = client_within c.self.inside.clients.items c.self.inside.connections.items c.args.number c.in-Some.place c.self.invariant stands.1 stands.0 in
     let found = get_there c.self.inside.clients.items c.in-Some.place.client c.index_mut.result.now few c.index_mut.ensures.value in
-    let old : WorldState = record {
+    let old : WorldState = (let old : WorldState = record {
       nodes = c.self.inside.nodes;
       clients = c.self.inside.clients.items;
       connections = c.self.inside.connections.items;
       losses = c.self.inside.losses;
-    } in
+    } in old) in
     let rises : old.losses ≤ (forgetful old).losses = omega arith in
     rw (← c.self.view_is)
-    (hearing_counted old c.in-Some.place.client c.index_mut.result.now c.hear_on.new.piped c.in_ok-had.had c.heard.new.self found c.hear_on.ensures.goes rises
+    (hearing_counted old c.in-Some.place.client c.index_mut.result.now c.hear_on.new.piped c.in-Ok.had c.heard.new.self found c.hear_on.ensures.goes rises
     c.heard.ensures)
+
+pub returns-in-Ok-clause-meets : goal.returns-in-Ok-clause-meets
+returns-in-Ok-clause-meets c =
+    let stands = rw (← c.self.view_is) at c.in-Some.ensures.stands in
+    let few = client_within c.self.inside.clients.items c.self.inside.connections.items c.args.number c.in-Some.place c.self.invariant stands.1 stands.0 in
+    let found = get_there c.self.inside.clients.items c.in-Some.place.client c.index_mut.result.now few c.index_mut.ensures.value in
+    rw (← c.self.view_is) (λ none whole.
+    heard_meets c.args.number c.in-Some.place c.args.count c.in-Ok.had (let old : WorldState = record {
+      nodes = c.self.inside.nodes;
+      clients = c.self.inside.clients.items;
+      connections = c.self.inside.connections.items;
+      losses = c.self.inside.losses;
+    } in old) c.index_mut.result.now c.hear_on.new.piped c.heard.new.self c.self.invariant stands.1 stands.0 found c.in-Ok.ensures.hears
+    (omega arith) c.heard.ensures none)

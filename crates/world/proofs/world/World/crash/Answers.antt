@@ -1,5 +1,8 @@
-use Rattle.std.proofs.Common.{refl}
+use Rattle.std.proofs.Common.{false, refl}
+use Rattle.std.proofs.lemmas.Bool.{both_ways}
+use Rattle.world_base.specs.declared.item.Item.TheVariants.{Crash}
 use Rattle.world.specs.World.{WorldState}
+use Rattle.world.proofs.Gathered.{takes_item}
 use Rattle.world.proofs.GroupGoes.{goes_by_call}
 use Rattle.world.proofs.Joined.{goes_on_join}
 use Rattle.world.proofs.world.World.crash.Goals as goal
@@ -21,4 +24,16 @@ returns-clause-goes c =
       clients = c.self.inside.clients.items;
       connections = c.self.inside.connections.items;
       losses = c.self.inside.losses;
-    } in old) c.crash.new.self _ _ refl c.crash.ensures.rises c.crash.ensures.goes c.crash.ensures.same) c.gather.ensures)
+    } in old) c.crash.new.self _ _ refl c.crash.ensures.rises c.crash.ensures.goes c.crash.ensures.same) c.gather.ensures.goes)
+
+pub returns-clause-meets : goal.returns-clause-meets
+returns-clause-meets c =
+    rw (← c.self.view_is) (λ none whole. (
+      λ stopped. both_ways false refl (c.in_ok-crash.ensures.idle.1 stopped),
+      takes_item c.args.node Crash (let old : WorldState = record {
+        nodes = c.self.inside.nodes;
+        clients = c.self.inside.clients.items;
+        connections = c.self.inside.connections.items;
+        losses = c.self.inside.losses;
+      } in old) c.crash.new.self c.gather.new.self c.crash.ensures.rises c.in_ok-crash.ensures.goes c.gather.ensures.goes c.gather.ensures.gathers whole,
+    ))

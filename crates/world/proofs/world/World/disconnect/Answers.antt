@@ -1,8 +1,10 @@
-use Rattle.std.proofs.Common.{◌≤◌, ◌<◌, length, refl, arith}
+use Rattle.std.proofs.Common.{◌≤◌, ◌<◌, length, refl, sym, arith}
 use Rattle.master.proofs.Counting.{get_there}
+use Rattle.world.specs.Happening.{HoldsNone, Leaves}
 use Rattle.world.specs.Inside.{forgetful}
 use Rattle.world.specs.World.{WorldState}
 use Rattle.world.proofs.CallsCounted.{call_counted}
+use Rattle.world.proofs.CallsMet.{client_meets, disconnect_meets, leave_outcome}
 use Rattle.world.proofs.ClientGoes.{housed_still}
 use Rattle.world.proofs.Joined.{goes_on_rest}
 use Rattle.world.proofs.world.World.disconnect.Goals as goal
@@ -32,17 +34,18 @@ returns-clause-goes c =
     (call_counted old c.in-Some.at c.index_mut.result.now c.leave-done.new.piped c.leave-done.result c.called.result c.called.new.self found
     c.leave-done.ensures.goes rises c.called.ensures).goes
 
-pub returns-clause-same : goal.returns-clause-same
-returns-clause-same c =
+pub returns-clause-meets : goal.returns-clause-meets
+returns-clause-meets c =
     let few : c.in-Some.at < length c.self.inside.clients.items = rw (← c.self.view_is) at c.in-Some.ensures.below in
     let found = get_there c.self.inside.clients.items c.in-Some.at c.index_mut.result.now few c.index_mut.ensures.value in
+    let first = rw (← c.self.view_is) at c.in-Some.ensures.exact in
     let old : WorldState = record {
       nodes = c.self.inside.nodes;
       clients = c.self.inside.clients.items;
       connections = c.self.inside.connections.items;
       losses = c.self.inside.losses;
     } in
-    let rises : old.losses ≤ (forgetful old).losses = omega arith in
     rw (← c.self.view_is)
-    (call_counted old c.in-Some.at c.index_mut.result.now c.leave-done.new.piped c.leave-done.result c.called.result c.called.new.self found
-    c.leave-done.ensures.goes rises c.called.ensures).same
+    (disconnect_meets c.args.client.now old c.called.result c.called.new.self
+    (client_meets c.args.client.now HoldsNone Leaves old c.in-Some.at c.index_mut.result.now c.leave-done.new.piped c.leave-done.result c.called.result c.called.new.self (sym first) found
+    (leave_outcome c.index_mut.result.now.piped c.leave-done.result c.leave-done.new.piped c.leave-done.ensures.leaves c.leave-done.ensures.goes) (omega arith) c.called.ensures))

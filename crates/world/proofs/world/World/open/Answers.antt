@@ -1,29 +1,55 @@
-use Rattle.std.proofs.Common.{◌≡◌, ◌≤◌, suc, length, refl, arith}
-use Rattle.ballot.specs.Losses.{one_more}
+use Rattle.std.proofs.Common.{inl, ◌<◌, length, refl, sym, ◌∙◌}
+use Rattle.master.proofs.Counting.{get_there}
+use Rattle.world.specs.World.{WorldState}
 use Rattle.world.proofs.Joined.{goes_on_rest}
-use Rattle.world.proofs.OpensOn.{opens_on, refused}
+use Rattle.world.proofs.OpensOn.{is_free, is_taken, open_meets}
 use Rattle.world.proofs.world.World.open.Goals as goal
 
 pub returns-in_default-clause-goes : goal.returns-in_default-clause-goes
 returns-in_default-clause-goes c = goes_on_rest _ _ refl
 
+pub returns-then-is_open-clause-goes : goal.returns-then-is_open-clause-goes
+returns-then-is_open-clause-goes c = goes_on_rest _ _ refl
+
+pub returns-then-is_open-clause-meets : goal.returns-then-is_open-clause-meets
+returns-then-is_open-clause-meets c =
+    let few : c.in-Some.at < length c.self.inside.clients.items = rw (← c.self.view_is) at c.in-Some.ensures.below in
+    let found = get_there c.self.inside.clients.items c.in-Some.at c.index.result.now few c.index.ensures in
+    let first = rw (← c.self.view_is) at c.in-Some.ensures.exact in
+    let old : WorldState = record {
+      nodes = c.self.inside.nodes;
+      clients = c.self.inside.clients.items;
+      connections = c.self.inside.connections.items;
+      losses = c.self.inside.losses;
+    } in
+    (inl (rw (← c.self.view_is) (is_taken c.args.client.now old c.in-Some.at c.index.result.now (sym first) found (sym c.is_open.ensures ∙ c.if-is_open.true))), refl)
+
 pub returns-then-not-serves-clause-goes : goal.returns-then-not-serves-clause-goes
 returns-then-not-serves-clause-goes c = goes_on_rest _ _ refl
 
-pub returns-in-Ok-clause-goes : goal.returns-in-Ok-clause-goes
-returns-in-Ok-clause-goes c =
-    let counted : c.saturating_add-number.result ≡ suc (length c.self.inside.connections.items) = omega arith in
-    opens_on c.in-Some.at c.args.node c.saturating_add-number.result c.args.self.now c.connect.new.self c.accept.new.self (rw (← c.self.view_is) c.self.invariant)
-    (rw (← c.self.view_is) counted) c.in-Ok.ensures.connects c.in-Ok.ensures.nodes c.in-Ok.ensures.losses c.accept.ensures.rises c.accept.ensures.nodes c.accept.ensures.takes
+pub begin-requires-clause-free : goal.begin-requires-clause-free
+begin-requires-clause-free c =
+    let few : c.in-Some.at < length c.self.inside.clients.items = rw (← c.self.view_is) at c.in-Some.ensures.below in
+    let found = get_there c.self.inside.clients.items c.in-Some.at c.index.result.now few c.index.ensures in
+    let first = rw (← c.self.view_is) at c.in-Some.ensures.exact in
+    let old : WorldState = record {
+      nodes = c.self.inside.nodes;
+      clients = c.self.inside.clients.items;
+      connections = c.self.inside.connections.items;
+      losses = c.self.inside.losses;
+    } in
+    rw (← c.self.view_is) (is_free old c.in-Some.at c.index.result.now found (sym c.is_open.ensures ∙ c.if-is_open.false))
 
-pub returns-in-Err-clause-goes : goal.returns-in-Err-clause-goes
-returns-in-Err-clause-goes c =
-    let low : c.self.inside.losses ≤ one_more c.self.inside.losses = omega arith in
-    (refused c.in-Err.error c.args.self.now c.connect.new.self c.called.new.self c.called.result c.in-Err.ensures.refused (rw (← c.self.view_is) low)
-    c.in-Err.ensures.nodes c.in-Err.ensures.losses c.called.ensures).goes
-
-pub returns-in-Err-clause-same : goal.returns-in-Err-clause-same
-returns-in-Err-clause-same c =
-    let low : c.self.inside.losses ≤ one_more c.self.inside.losses = omega arith in
-    (refused c.in-Err.error c.args.self.now c.connect.new.self c.called.new.self c.called.result c.in-Err.ensures.refused (rw (← c.self.view_is) low)
-    c.in-Err.ensures.nodes c.in-Err.ensures.losses c.called.ensures).same
+pub returns-clause-meets : goal.returns-clause-meets
+returns-clause-meets c =
+    let few : c.in-Some.at < length c.self.inside.clients.items = rw (← c.self.view_is) at c.in-Some.ensures.below in
+    let found = get_there c.self.inside.clients.items c.in-Some.at c.index.result.now few c.index.ensures in
+    let first = rw (← c.self.view_is) at c.in-Some.ensures.exact in
+    let old : WorldState = record {
+      nodes = c.self.inside.nodes;
+      clients = c.self.inside.clients.items;
+      connections = c.self.inside.connections.items;
+      losses = c.self.inside.losses;
+    } in
+    λ none whole. rw (← c.self.view_is) (open_meets c.args.client.now c.in-Some.at c.args.node old c.begin.new.self c.index.result.now (sym first) found (sym c.is_open.ensures ∙ c.if-is_open.false)
+    (rw (← c.self.view_is) at (sym c.serves.ensures ∙ c.if-not-serves.false)) (rw (← c.self.view_is) at (c.begin.ensures.opens none whole)))

@@ -1,8 +1,11 @@
-use Rattle.std.proofs.Common.{◌≤◌, ◌<◌, length, refl, arith}
+use Rattle.std.proofs.Common.{◌≤◌, ◌<◌, length, refl, sym, arith}
 use Rattle.master.proofs.Counting.{get_there}
+use Rattle.client_base.specs.Steps.{Call}
+use Rattle.world.specs.Happening.{Asks, Refuses}
 use Rattle.world.specs.Inside.{forgetful}
 use Rattle.world.specs.World.{WorldState}
 use Rattle.world.proofs.CallsCounted.{call_counted}
+use Rattle.world.proofs.CallsMet.{call_outcome, client_meets, subscribe_meets}
 use Rattle.world.proofs.ClientGoes.{housed_still}
 use Rattle.world.proofs.Joined.{goes_on_rest}
 use Rattle.world.proofs.world.World.subscribe.Goals as goal
@@ -32,17 +35,19 @@ returns-clause-goes c =
     (call_counted old c.in-Some.at c.index_mut.result.now c.subscribe_copy-done.new.piped c.subscribe_copy-done.result c.called.result c.called.new.self found
     c.subscribe_copy-done.ensures.goes rises c.called.ensures).goes
 
-pub returns-clause-same : goal.returns-clause-same
-returns-clause-same c =
+pub returns-clause-meets : goal.returns-clause-meets
+returns-clause-meets c =
     let few : c.in-Some.at < length c.self.inside.clients.items = rw (← c.self.view_is) at c.in-Some.ensures.below in
     let found = get_there c.self.inside.clients.items c.in-Some.at c.index_mut.result.now few c.index_mut.ensures.value in
+    let first = rw (← c.self.view_is) at c.in-Some.ensures.exact in
     let old : WorldState = record {
       nodes = c.self.inside.nodes;
       clients = c.self.inside.clients.items;
       connections = c.self.inside.connections.items;
       losses = c.self.inside.losses;
     } in
-    let rises : old.losses ≤ (forgetful old).losses = omega arith in
+    let call : Call = Call.Subscribes c.args.filter.now c.args.qos in
     rw (← c.self.view_is)
-    (call_counted old c.in-Some.at c.index_mut.result.now c.subscribe_copy-done.new.piped c.subscribe_copy-done.result c.called.result c.called.new.self found
-    c.subscribe_copy-done.ensures.goes rises c.called.ensures).same
+    (subscribe_meets c.args.client.now c.args.filter.now c.args.qos old c.called.result c.called.new.self
+    (client_meets c.args.client.now (Refuses call) (Asks call) old c.in-Some.at c.index_mut.result.now c.subscribe_copy-done.new.piped c.subscribe_copy-done.result c.called.result c.called.new.self (sym first) found
+    (call_outcome call c.index_mut.result.now.piped c.subscribe_copy-done.result c.subscribe_copy-done.new.piped c.subscribe_copy-done.ensures.calls c.subscribe_copy-done.ensures.goes) (omega arith) c.called.ensures))

@@ -1,26 +1,37 @@
-use Rattle.std.proofs.Common.{◌<◌, length, refl, arith}
+use Rattle.std.proofs.Common.{arith}
 use Rattle.master.proofs.Counting.{get_there}
 use Rattle.world.specs.World.{WorldState}
 use Rattle.world.proofs.ClientGoes.{housed_still}
-use Rattle.world.proofs.Handed.{takes_on}
-use Rattle.world.proofs.Joined.{goes_on_rest}
+use Rattle.world.proofs.Handed.{takes_nothing_on, takes_on, takes_up_on}
+use Rattle.world.proofs.StandsThere.{client_within, way_within}
 use Rattle.world.proofs.world.World.take_up.Goals as goal
 
-pub returns-then-place-len-clause-goes : goal.returns-then-place-len-clause-goes
-returns-then-place-len-clause-goes c = goes_on_rest _ _ refl
+pub index_mut-requires : goal.index_mut-requires
+index_mut-requires c =
+    let stands = rw (← c.self.view_is) at c.requires.stands in
+    let few = client_within c.self.inside.clients.items c.self.inside.connections.items c.args.number c.args.place c.self.invariant stands c.requires.positive in
+    omega (arith, few)
+
+pub take_up-requires : goal.take_up-requires
+take_up-requires c =
+    let stands = rw (← c.self.view_is) at c.requires.stands in
+    let few = client_within c.self.inside.clients.items c.self.inside.connections.items c.args.number c.args.place c.self.invariant stands c.requires.positive in
+    let found = get_there c.self.inside.clients.items c.args.place.client c.index_mut.result.now few c.index_mut.ensures.value in
+    way_within c.self.inside.clients.items c.self.inside.connections.items c.args.number c.args.place c.index_mut.result.now c.self.invariant stands c.requires.positive found
 
 pub invariant_of-self : goal.invariant_of-self
 invariant_of-self c =
-    let few : c.args.place.client < length c.self.inside.clients.items = omega arith in
+    let stands = rw (← c.self.view_is) at c.requires.stands in
+    let few = client_within c.self.inside.clients.items c.self.inside.connections.items c.args.number c.args.place c.self.invariant stands c.requires.positive in
     let found = get_there c.self.inside.clients.items c.args.place.client c.index_mut.result.now few c.index_mut.ensures.value in
     housed_still c.self.inside.clients.items c.self.inside.connections.items c.args.place.client c.index_mut.result.now c.take_up.new.piped found
     c.take_up.ensures.leads c.self.invariant
 
 pub returns-clause-goes : goal.returns-clause-goes
 returns-clause-goes c =
-    let few : c.args.place.client < length c.self.inside.clients.items = omega arith in
-    let found = get_there c.self.inside.clients.items c.args.place.client c.index_mut.result.now few c.index_mut.ensures.value in
     let stands = rw (← c.self.view_is) at c.requires.stands in
+    let few = client_within c.self.inside.clients.items c.self.inside.connections.items c.args.number c.args.place c.self.invariant stands c.requires.positive in
+    let found = get_there c.self.inside.clients.items c.args.place.client c.index_mut.result.now few c.index_mut.ensures.value in
     rw (← c.self.view_is) (takes_on c.take_up.result (let old : WorldState = record {
       nodes = c.self.inside.nodes;
       clients = c.self.inside.clients.items;
@@ -28,3 +39,27 @@ returns-clause-goes c =
       losses = c.self.inside.losses;
     } in old) c.args.number c.args.count c.args.place c.index_mut.result.now c.take_up.new.nodes c.take_up.new.piped c.self.invariant
     stands c.requires.positive found c.take_up.ensures.nodes c.take_up.ensures.takes c.take_up.ensures.same c.take_up.ensures.still)
+
+pub returns-clause-takes : goal.returns-clause-takes
+returns-clause-takes c =
+    let stands = rw (← c.self.view_is) at c.requires.stands in
+    let few = client_within c.self.inside.clients.items c.self.inside.connections.items c.args.number c.args.place c.self.invariant stands c.requires.positive in
+    let found = get_there c.self.inside.clients.items c.args.place.client c.index_mut.result.now few c.index_mut.ensures.value in
+    rw (← c.self.view_is) (λ none. takes_up_on c.take_up.result (let old : WorldState = record {
+      nodes = c.self.inside.nodes;
+      clients = c.self.inside.clients.items;
+      connections = c.self.inside.connections.items;
+      losses = c.self.inside.losses;
+    } in old) c.args.number c.args.count c.args.place c.index_mut.result.now c.take_up.new.nodes c.take_up.new.piped found (c.take_up.ensures.takes none))
+
+pub returns-clause-idle : goal.returns-clause-idle
+returns-clause-idle c =
+    let stands = rw (← c.self.view_is) at c.requires.stands in
+    let few = client_within c.self.inside.clients.items c.self.inside.connections.items c.args.number c.args.place c.self.invariant stands c.requires.positive in
+    let found = get_there c.self.inside.clients.items c.args.place.client c.index_mut.result.now few c.index_mut.ensures.value in
+    rw (← c.self.view_is) (takes_nothing_on c.take_up.result (let old : WorldState = record {
+      nodes = c.self.inside.nodes;
+      clients = c.self.inside.clients.items;
+      connections = c.self.inside.connections.items;
+      losses = c.self.inside.losses;
+    } in old) c.args.count c.args.place c.index_mut.result.now found c.take_up.ensures.idle)

@@ -1,0 +1,181 @@
+-- ItemsMet.antt: what an event asks of a node, of the master or of a connection is done, or it cannot happen.
+use Rattle.std.proofs.Common.{◌≡◌, ◌⊎◌, inl, inr, ◌↔◌, ◌<◌, ◌≤◌, ◌^◌, ◌-◌, ◌+◌, ℕ, suc, Bool, true, false, List, [], ◌∷◌, ◌++◌, Option, Some, None, Result, Ok, Err, IsErr, OnOk, OnErr, length, slice_get, take, refl, sym, ap, ◌∙◌, subst, arith}
+use Rattle.std.specs.Prelude.{◌&&◌, ◌==◌, if◌then◌else◌, get_or}
+use Rattle.std.proofs.lemmas.List.{take_more}
+use Rattle.std.proofs.lemmas.Bool.{both_ways}
+use Rattle.std.proofs.lemmas.Option.{same_Some}
+use Rattle.agreement.specs.MasterState.{refusal}
+use Rattle.ballot.specs.Config.{Config}
+use Rattle.master.specs.declared.event.Idle.{Idle}
+use Rattle.world_nodes.specs.Goes.{MasterActs, behind_giving, running}
+use Rattle.world_nodes.specs.Nodes.{NodesState}
+use Rattle.world_nodes.specs.Steps.{LosesNothing as NodesLoseNothing}
+use Rattle.world_pipes.specs.declared.way.Way.{Way}
+use Rattle.world_pipes.specs.Piped.{Piped, is_holding}
+use Rattle.world.specs.declared.event.Event.{Event}
+use Rattle.world.specs.declared.event.Event.TheVariants as events
+use Rattle.world.specs.declared.place.Place.{Place}
+use Rattle.world.specs.declared.world.WorldClient.{WorldClient}
+use Rattle.world.specs.Found.{Connected, place_numbered, with_piped}
+use Rattle.world.specs.Gathering.{Gathers}
+use Rattle.world.specs.Goes.{LosesNothing}
+use Rattle.world.specs.Happening.{CannotHappen, Does, Happens, IsClosed, IsNoPart, Run, down_of, is_held, is_held_by, up_of}
+use Rattle.world.specs.Housed.{AreHoused, leads_of}
+use Rattle.world.specs.Inside.{CannotHear, CannotTakeOn, GoesOn, HearsOn, Meets, TakesUpOn, forgetful}
+use Rattle.world.specs.World.{WorldState}
+use Rattle.world.proofs.GroupGoes.{with_nodes}
+use Rattle.world.proofs.OpensOn.{counted_loss}
+use Rattle.world.proofs.StandsThere.{connected, numbered_at, way_found}
+
+-- ---- the master
+
+pub assign_meets : (r : Result (Unit {0}) Idle) (config : Config) (old : WorldState) (new : NodesState) → (NodesLoseNothing old.nodes new → OnOk r (MasterActs (behind_giving config) old.nodes new))
+    → IsErr r ↔ (refusal old.nodes.master config ≡ None → ⊥) → OnErr r (new ≡ old.nodes) → Meets (events.Assign config) old r (with_nodes new old)
+assign_meets (Ok x) config old new acts idle same = λ none whole. (λ refused. both_ways false refl (idle.1 refused), (new, acts whole, refl))
+assign_meets (Err e) config old new acts idle same = (idle.0 refl, ap (λ (n : NodesState). with_nodes n old) same)
+
+-- ---- a connection's end at its node
+
+pub closed_none : (number : ℕ) (w : WorldState) → place_numbered number w.connections ≡ None → IsClosed (place_numbered number w.connections) w.nodes.nodes
+closed_none number w none = subst (λ (o : Option Place). IsClosed o w.nodes.nodes) (sym none) tt
+
+pub closed_some : (number : ℕ) (w : WorldState) (place : Place) → place_numbered number w.connections ≡ Some place → (place.is_open ≡ false) ⊎ (running w.nodes.nodes place.node ≡ None)
+    → IsClosed (place_numbered number w.connections) w.nodes.nodes
+closed_some number w place is why = subst (λ (o : Option Place). IsClosed o w.nodes.nodes) (sym is) why
+
+pub not_closed : (number : ℕ) (w : WorldState) (place : Place) → slice_get w.connections (number - 1) ≡ Some place → 0 < number → place.is_open ≡ true → (running w.nodes.nodes place.node ≡ None → ⊥)
+    → IsClosed (place_numbered number w.connections) w.nodes.nodes → ⊥
+not_closed number w place at positive up runs closed =
+    by (subst (λ (o : Option Place). IsClosed o w.nodes.nodes) (numbered_at number w.connections (Some place) positive at) closed)
+  where
+    by : (place.is_open ≡ false) ⊎ (running w.nodes.nodes place.node ≡ None) → ⊥
+    by (inl shut) = both_ways _ shut up
+    by (inr stopped) = runs stopped
+
+no_part : (count : ℕ) (waiting : List ℕ) → 0 < count → count ≤ length waiting → IsNoPart count waiting → ⊥
+no_part count waiting some part (inl zero_is) = omega (arith, some, zero_is)
+no_part count waiting some part (inr more) = omega (arith, part, more)
+
+-- ---- bytes come up
+
+pub carries_up : (number : ℕ) (place : Place) (count : ℕ) (old mid new : WorldState) → slice_get old.connections (number - 1) ≡ Some place → 0 < number → place.is_open ≡ true
+    → TakesUpOn number place count old mid → Gathers place.node mid new → (CannotHappen (events.CarryUp number count) old → ⊥) × Does (events.CarryUp number count) old new
+carries_up number place count old mid new at positive up t gathers = (can, done)
+  where
+    c : Connected number old
+    c = record {
+      place = place;
+      numbered = numbered_at number old.connections (Some place) positive at;
+      client = t.client;
+      owned = t.owned;
+      way = t.takes.way;
+      stands = t.takes.found;
+    }
+
+    can : CannotHappen (events.CarryUp number count) old → ⊥
+    can (inl closed) = not_closed number old place at positive up t.takes.runs closed
+    can (inr few) = no_part count t.takes.way.up t.takes.some t.takes.part (subst (λ (o : Option Way). IsNoPart count (up_of o)) (way_found number old c) few)
+
+    done : Does (events.CarryUp number count) old new
+    done = (
+      c,
+      (
+        t.between,
+        t.takes.acts,
+        subst (λ (w : WorldState). Gathers place.node w new)
+            (t.is ∙ ap (λ (p : Piped). let w : WorldState = record (with_piped place.client t.client p old) { nodes = t.between } in w) t.takes.is) gathers,
+      ),
+    )
+
+pub carries_nothing : (number : ℕ) (place : Place) (count : ℕ) (old : WorldState) → AreHoused (leads_of old.clients) old.connections → slice_get old.connections (number - 1) ≡ Some place → 0 < number
+    → CannotTakeOn place count old → CannotHappen (events.CarryUp number count) old
+carries_nothing number place count old housed at positive cannot = by (cannot c.client c.owned c.way c.stands)
+  where
+    c : Connected number old
+    c = connected old number place housed at positive
+
+    by : (running old.nodes.nodes place.node ≡ None) ⊎ IsNoPart count c.way.up → CannotHappen (events.CarryUp number count) old
+    by (inl stopped) = inl (closed_some number old place c.numbered (inr stopped))
+    by (inr few) = inr (subst (λ (o : Option Way). IsNoPart count (up_of o)) (sym (way_found number old c)) few)
+
+-- ---- bytes come down
+
+held_there : (number : ℕ) (w : WorldState) (c : Connected number w) → is_held (place_numbered number w.connections) w.clients ≡ (is_holding c.client.piped && (suc c.place.at == length c.client.piped.ways))
+held_there number w c = ap (λ (o : Option Place). is_held o w.clients) c.numbered ∙ ap (λ (o : Option WorldClient). is_held_by o c.place.at) c.owned
+
+pub carries_down : (number : ℕ) (place : Place) (count : ℕ) (had : Bool) (old : WorldState) (client : WorldClient) (piped : Piped) → AreHoused (leads_of old.clients) old.connections
+    → slice_get old.connections (number - 1) ≡ Some place → 0 < number → slice_get old.clients place.client ≡ Some client → HearsOn had place.at count client.piped piped → had ≡ true
+    → (CannotHappen (events.CarryDown number count) old → ⊥) × Does (events.CarryDown number count) old (with_piped place.client client piped old)
+carries_down number place count had old client piped housed at positive owned hears memory = (can, (c, piped, hears.hears memory, refl))
+  where
+    found : Connected number old
+    found = connected old number place housed at positive
+
+    c : Connected number old
+    c = with_client client owned
+      where
+        with_client : (k : WorldClient) → slice_get old.clients place.client ≡ Some k → Connected number old
+        with_client k there =
+            let same : found.client ≡ k = same_Some found.client k (sym found.owned ∙ there) in
+            record {
+              place = place;
+              numbered = found.numbered;
+              client = k;
+              owned = there;
+              way = found.way;
+              stands = ap (λ (z : WorldClient). slice_get z.piped.ways place.at) (sym same) ∙ found.stands;
+            }
+
+    can : CannotHappen (events.CarryDown number count) old → ⊥
+    can (inl other) = both_ways _ (sym (held_there number old c) ∙ other) hears.held
+    can (inr few) = hears.some c.way c.stands (subst (λ (o : Option Way). IsNoPart count (down_of o)) (way_found number old c) few)
+
+pub hears_nothing : (number : ℕ) (place : Place) (count : ℕ) (old : WorldState) (client : WorldClient) → AreHoused (leads_of old.clients) old.connections → slice_get old.connections (number - 1) ≡ Some place
+    → 0 < number → slice_get old.clients place.client ≡ Some client → CannotHear place.at count client.piped → CannotHappen (events.CarryDown number count) old
+hears_nothing number place count old client housed at positive owned cannot =
+    by (subst (λ (k : WorldClient). CannotHear place.at count k.piped) (same_Some client c.client (sym owned ∙ c.owned)) cannot c.way c.stands)
+  where
+    c : Connected number old
+    c = connected old number place housed at positive
+
+    by : ((is_holding c.client.piped && (suc c.place.at == length c.client.piped.ways)) ≡ false) ⊎ IsNoPart count c.way.down → CannotHappen (events.CarryDown number count) old
+    by (inl other) = inl (held_there number old c ∙ other)
+    by (inr few) = inr (subst (λ (o : Option Way). IsNoPart count (down_of o)) (sym (way_found number old c)) few)
+
+-- want of memory is counted
+pub heard_meets : (number : ℕ) (place : Place) (count : ℕ) (had : Bool) (old : WorldState) (client : WorldClient) (piped : Piped) (new : WorldState) → AreHoused (leads_of old.clients) old.connections
+    → slice_get old.connections (number - 1) ≡ Some place → 0 < number → slice_get old.clients place.client ≡ Some client → HearsOn had place.at count client.piped piped → old.losses ≤ old.losses
+    → new ≡ (if had then with_piped place.client client piped old else forgetful (with_piped place.client client piped old)) → LosesNothing old new
+    → (CannotHappen (events.CarryDown number count) old → ⊥) × Does (events.CarryDown number count) old new
+heard_meets number place count true old client piped new housed at positive owned hears low is none =
+    subst (λ (w : WorldState). (CannotHappen (events.CarryDown number count) old → ⊥) × Does (events.CarryDown number count) old w) (sym is)
+    (carries_down number place count true old client piped housed at positive owned hears refl)
+heard_meets number place count false old client piped new housed at positive owned hears low is none = absurd (counted_loss old new old.losses low (ap (λ (w : WorldState). w.losses) is) none)
+
+pub never_opened : (number count : ℕ) (w : WorldState) → place_numbered number w.connections ≡ None → CannotHappen (events.CarryDown number count) w
+never_opened number count w none = inl (ap (λ (o : Option Place). is_held o w.clients) none)
+
+-- ---- whole steps
+
+-- where nothing is counted behind it, what comes of an event is what came of it
+pub step_happens : (event : Event) (old mid new : WorldState) (before : ℕ) → before ≡ old.nodes.losses → GoesOn old mid → Meets event old (Ok tt) mid → mid.losses ≤ new.losses
+    → (LosesNothing mid new → (mid.nodes.losses ≡ before) × (before < 2 ^ 64 - 1)) → (LosesNothing mid new → new ≡ mid) → Happens event old (Ok tt) new
+step_happens event old mid new before is went meets rises whole same =
+    λ none.
+    let x = went.rises in let still = none.0 in let low = none.1 in
+    let one : LosesNothing old mid = ((let e : mid.losses ≡ old.losses = omega (arith, x, rises, still) in e), low) in
+    let two : LosesNothing mid new = ((let e : new.losses ≡ mid.losses = omega (arith, x, rises, still) in e), (let l : mid.losses < 2 ^ 64 - 1 = omega (arith, x, rises, still, low) in l)) in
+    let w = whole two in let kept = w.0 in let below = w.1 in
+    let nodes : NodesLoseNothing old.nodes mid.nodes =
+    ((let e : mid.nodes.losses ≡ old.nodes.losses = omega (arith, kept, is) in e), (let l : old.nodes.losses < 2 ^ 64 - 1 = omega (arith, is, below) in l)) in
+    subst (λ (w : WorldState). (CannotHappen event old → ⊥) × Does event old w) (sym (same two)) (meets one nodes)
+
+-- one more event
+pub run_more : (events : List Event) (event : Event) (old mid new : WorldState) (result : Result (Unit {0}) Idle) → Run events old mid → Happens event mid result new → Run (events ++ event ∷ []) old new
+run_more [] event old mid new result run happens = (new, result, subst (λ (w : WorldState). Happens event w result new) run happens, refl)
+run_more (e ∷ es) event old mid new result run happens = (run.0, run.1, run.2, run_more es event run.0 mid new result run.3 happens)
+
+pub run_on : (events : List Event) (i : ℕ) (event : Event) (old mid new : WorldState) (result : Result (Unit {0}) Idle) → i < length events → event ≡ get_or events i event → Run (take i events) old mid
+    → Happens event mid result new → Run (take (i + 1) events) old new
+run_on events i event old mid new result below is run happens =
+    subst (λ (l : List Event). Run l old new) (sym (take_more events i event below ∙ ap (λ (e : Event). take i events ++ e ∷ []) (sym is))) (run_more (take i events) event old mid new result run happens)

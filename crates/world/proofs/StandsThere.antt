@@ -1,0 +1,60 @@
+-- StandsThere.antt: a connection that was opened is found, with its client and what is under way on it.
+use Rattle.std.proofs.Common.{◌≡◌, ◌<◌, ◌-◌, ℕ, zero, suc, Bool, if◌then◌else◌, List, Option, Some, None, length, slice_get, ap, ◌∙◌, arith}
+use Rattle.std.specs.List.{position}
+use Rattle.std.proofs.lemmas.Bool.{ne_eqb}
+use Rattle.std.proofs.lemmas.List.{length-map}
+use Rattle.std.proofs.lemmas.Option.{slice_get_within}
+use Rattle.world.specs.declared.place.Place.{Place}
+use Rattle.world.specs.declared.world.WorldClient.{WorldClient}
+use Rattle.world.specs.Found.{Connected, core_at, core_named, core_of, is_named, place_numbered, way_at, way_in, way_of}
+use Rattle.world.specs.Housed.{AreHoused, leads, leads_of}
+use Rattle.world.specs.World.{WorldState}
+use Rattle.world.proofs.LeadsKept.{led, led_there}
+use Rattle.world.proofs.Turned.{mapped_from}
+
+-- ---- a connection
+
+pub numbered_at : (number : ℕ) (connections : List Place) (o : Option Place) → 0 < number → slice_get connections (number - 1) ≡ o → place_numbered number connections ≡ o
+numbered_at zero connections o positive e = absurd (omega (arith, positive))
+numbered_at (suc n) connections o positive e = ap (λ (b : Bool). if b then None else slice_get connections (suc n - 1)) (ne_eqb (suc n) 0 (λ z. cc)) ∙ e
+
+abbrev pub connected : (w : WorldState) (number : ℕ) (place : Place) → AreHoused (leads_of w.clients) w.connections → slice_get w.connections (number - 1) ≡ Some place → 0 < number → Connected number w
+connected w number place housed at positive =
+    let there = led_there (leads_of w.clients) w.connections number place housed at positive in
+    let client = mapped_from (λ (c : WorldClient). leads c.piped.ways) w.clients place.client there.ways there.client in
+    let way = led w.clients number place client.x there client.found in
+    record {
+      place = place;
+      numbered = numbered_at number w.connections (Some place) positive at;
+      client = client.x;
+      owned = client.found;
+      way = way.way;
+      stands = way.found;
+    }
+
+pub way_found : (number : ℕ) (w : WorldState) (c : Connected number w) → way_of number w ≡ Some c.way
+way_found number w c = ap (λ (o : Option Place). way_at o w.clients) c.numbered ∙ ap (λ (o : Option WorldClient). way_in o c.place.at) c.owned ∙ c.stands
+
+-- its places are within the lists
+pub client_within : (clients : List WorldClient) (connections : List Place) (number : ℕ) (place : Place) → AreHoused (leads_of clients) connections → slice_get connections (number - 1) ≡ Some place
+    → 0 < number → place.client < length clients
+client_within clients connections number place housed at positive =
+    let there = led_there (leads_of clients) connections number place housed at positive in
+    let below = slice_get_within (leads_of clients) place.client there.ways there.client in
+    let same = length-map clients (λ (c : WorldClient). leads c.piped.ways) in
+    omega (arith, below, same)
+
+pub way_within : (clients : List WorldClient) (connections : List Place) (number : ℕ) (place : Place) (client : WorldClient) → AreHoused (leads_of clients) connections
+    → slice_get connections (number - 1) ≡ Some place → 0 < number → slice_get clients place.client ≡ Some client → place.at < length client.piped.ways
+way_within clients connections number place client housed at positive owned =
+    let way = led clients number place client (led_there (leads_of clients) connections number place housed at positive) owned in
+    slice_get_within client.piped.ways place.at way.way way.found
+
+-- ---- a client
+
+pub core_found : (name : List ℕ) (clients : List WorldClient) (at : ℕ) (client : WorldClient) → position (is_named name) clients ≡ Some at → slice_get clients at ≡ Some client
+    → core_named name clients ≡ Some client.piped.core
+core_found name clients at client first stands = ap (λ (o : Option ℕ). core_at o clients) first ∙ ap core_of stands
+
+pub core_missing : (name : List ℕ) (clients : List WorldClient) → position (is_named name) clients ≡ None → core_named name clients ≡ None
+core_missing name clients none = ap (λ (o : Option ℕ). core_at o clients) none

@@ -1,0 +1,79 @@
+-- What a node put out goes down on its connections.
+use Rattle.std.specs.Prelude.{◌≡◌, ℕ, zero, suc, ◌-◌, ◌==◌, ◌&&◌, Bool, true, false, List, [], ◌++◌, Option, Some, None, length, set}
+use Rattle.node_model.specs.Moves.Deed.{takes, gives}
+use Rattle.world_base.specs.Core.{CountedCore}
+use Rattle.world_base.specs.Handing.{answer_of, bytes_of, listed_at}
+use Rattle.world_base.specs.declared.handed.Handed.{Handed}
+use Rattle.world_base.specs.declared.handed.Handed.TheVariants as answers
+use Rattle.world_base.specs.declared.item.Item.{Item}
+use Rattle.world_base.specs.declared.item.Port.{Port}
+use Rattle.world_nodes.specs.Goes.{Acts, node_of}
+use Rattle.world_nodes.specs.Nodes.{NodesState}
+use Rattle.world.specs.declared.place.Place.{Place}
+use Rattle.world.specs.Found.{Connected, place_numbered, port_of, with_down, with_piped}
+use Rattle.world.specs.World.{WorldState}
+
+-- ---- what a node tells of a port, if it is there
+
+-- the bytes that it put out and did not hand over before
+abbrev pub put_out : Port → Option CountedCore → List ℕ
+put_out port None = []
+put_out port (Some node) = bytes_of (listed_at port node.core)
+
+abbrev pub is_more : Handed → Bool
+is_more answers.Open = true
+is_more answers.Closed = false
+
+-- whether its end is open
+abbrev pub is_told_open : Port → Option CountedCore → Bool
+is_told_open port None = false
+is_told_open port (Some node) = is_more (answer_of (listed_at port node.core))
+
+-- it hands these bytes over
+abbrev pub Gives : Option CountedCore → ℕ → Port → NodesState → NodesState → Type 0
+Gives None node port old new = new ≡ old
+Gives (Some core) node port old new = Acts (node - 1) (gives port) old new
+
+-- ---- one connection
+
+-- What its node put out for it is under way down, behind what was, and its end there counts as open exactly where the node
+-- tells that it is.
+pub record IsAsked (number : ℕ) (old new : WorldState) : Type 0 where
+  pub c : Connected number old
+  pub node : Option CountedCore
+  pub is_node : node ≡ node_of old.nodes.nodes c.place.node
+  pub between : NodesState
+  pub gives : Gives node c.place.node (port_of number) old.nodes between
+  pub is : new ≡ record (with_piped c.place.client c.client
+      (with_down c.place.at c.way (c.way.down ++ put_out (port_of number) node) c.client.piped) old) {
+        nodes = between;
+        connections = set old.connections (number - 1) (record c.place { is_open = is_told_open (port_of number) node });
+      }
+
+-- whether it leads to this node, and its end there is open
+abbrev pub is_open_at : ℕ → Option Place → Bool
+is_open_at node None = false
+is_open_at node (Some place) = (place.node == node) && place.is_open
+
+abbrev pub AskedWhere : Bool → ℕ → WorldState → WorldState → Type 0
+AskedWhere true number old new = IsAsked number old new
+AskedWhere false number old new = new ≡ old
+
+-- ---- the connections of a node
+
+-- the first so many connections, from the newest of these to the oldest
+abbrev pub GathersAmong : ℕ → ℕ → WorldState → WorldState → Type 0
+GathersAmong zero node old new = new ≡ old
+GathersAmong (suc before) node old new =
+    (between : WorldState) × AskedWhere (is_open_at node (place_numbered (suc before) old.connections)) (suc before) old between
+    × GathersAmong before node between new
+
+-- all connections; the master, node 0, has none
+abbrev pub Gathers : ℕ → WorldState → WorldState → Type 0
+Gathers zero old new = new ≡ old
+Gathers (suc at) old new = GathersAmong (length old.connections) (suc at) old new
+
+-- a node takes an item in, and what it put out then goes down
+abbrev pub TakesItem : ℕ → Item → WorldState → WorldState → Type 0
+TakesItem node item old new =
+    (between : NodesState) × Acts (node - 1) (takes item) old.nodes between × Gathers node (record old { nodes = between }) new

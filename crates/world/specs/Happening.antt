@@ -1,0 +1,187 @@
+-- What happens in a world: each event, when it cannot happen, and what it does.
+use Rattle.std.specs.Prelude.{◌≡◌, ◌⊎◌, ◌<◌, ℕ, suc, ◌-◌, ◌==◌, ◌&&◌, Bool, true, false, List, [], ◌∷◌, ◌++◌, Option, Some, None, Result, Ok, Err, length, map, slice_get, take}
+use Rattle.agreement.specs.MasterState.{refusal}
+use Rattle.ballot.specs.Config.{Config}
+use Rattle.ballot.specs.Message.{Message}
+use Rattle.broker_base.specs.Command.{Command}
+use Rattle.broker_base.specs.Place.{Client}
+use Rattle.client.specs.Core.{Core, gone}
+use Rattle.client_base.specs.State.{is_open}
+use Rattle.client_base.specs.Steps.{Call, keeper_step}
+use Rattle.client_base.specs.declared.error.ClientError.{ClientError}
+use Rattle.client_base.specs.declared.error.ClientError.TheVariants as errors
+use Rattle.group_model.specs.Group.{opening_group}
+use Rattle.master.specs.declared.event.Idle.{Idle}
+use Rattle.world_base.specs.Core.{CountedCore, serves}
+use Rattle.world_base.specs.declared.item.Item.TheVariants as items
+use Rattle.world_nodes.specs.Goes.{Comes, ComesToNobody, MasterActs, behind_giving, node_of, running}
+use Rattle.world_nodes.specs.Nodes.{NodesState, StandsFor}
+use Rattle.world_pipes.specs.declared.sending.Sending.TheVariants as sendings
+use Rattle.world_pipes.specs.declared.way.Way.{Way}
+use Rattle.world_pipes.specs.Piped.{Calls, Connects, Hears, Piped, TakesLeave, is_holding, new_piped}
+use Rattle.world.specs.declared.event.Event.{Event}
+use Rattle.world.specs.declared.event.Event.TheVariants as events
+use Rattle.world.specs.declared.place.Place.{Place}
+use Rattle.world.specs.declared.world.WorldClient.{WorldClient}
+use Rattle.world.specs.Found.{Connected, Named, core_named, place_numbered, port_of, way_of, with_less, with_piped}
+use Rattle.world.specs.Gathering.{Gathers, TakesItem}
+use Rattle.world.specs.Goes.{LosesNothing}
+use Rattle.world.specs.World.{WorldState}
+
+-- ---- when an event cannot happen
+
+-- there is no such client, or it holds no connection; or there is none, or it holds one
+abbrev pub HoldsNone : Option Core → Type 0
+HoldsNone None = Unit {0}
+HoldsNone (Some core) = is_open core.state.stage ≡ false
+
+abbrev pub IsTaken : Option Core → Type 0
+IsTaken None = Unit {0}
+IsTaken (Some core) = is_open core.state.stage ≡ true
+
+-- there is no such client, or it refuses the call
+abbrev pub Refuses : Call → Option Core → Type 0
+Refuses call None = Unit {0}
+Refuses call (Some core) = (keeper_step call core.state).refusal ≡ None → ⊥
+
+-- whether a node is there, runs, and is the primary of an active ballot
+abbrev pub is_serving : Option CountedCore → Bool
+is_serving None = false
+is_serving (Some node) = serves node.core
+
+-- the connection was never opened, its end at the node is closed, or the node has stopped
+abbrev pub IsClosed : Option Place → List CountedCore → Type 0
+IsClosed None nodes = Unit {0}
+IsClosed (Some place) nodes = (place.is_open ≡ false) ⊎ (running nodes place.node ≡ None)
+
+-- whether a client holds this connection: its newest one
+abbrev pub is_held_by : Option WorldClient → ℕ → Bool
+is_held_by None at = false
+is_held_by (Some client) at = is_holding client.piped && (suc at == length client.piped.ways)
+
+abbrev pub is_held : Option Place → List WorldClient → Bool
+is_held None clients = false
+is_held (Some place) clients = is_held_by (slice_get clients place.client) place.at
+
+-- no bytes, or more than wait
+abbrev pub IsNoPart : ℕ → List ℕ → Type 0
+IsNoPart count waiting = (count ≡ 0) ⊎ (length waiting < count)
+
+abbrev pub up_of : Option Way → List ℕ
+up_of None = []
+up_of (Some way) = way.up
+
+abbrev pub down_of : Option Way → List ℕ
+down_of None = []
+down_of (Some way) = way.down
+
+abbrev pub CannotHappen : Event → WorldState → Type 0
+CannotHappen (events.Assign config) w = refusal w.nodes.master config ≡ None → ⊥
+CannotHappen (events.Deliver number) w = ComesToNobody (slice_get w.nodes.sent number) w.nodes
+CannotHappen (events.Tick node) w = running w.nodes.nodes node ≡ None
+CannotHappen (events.Crash node) w = running w.nodes.nodes node ≡ None
+CannotHappen (events.Open name node) w = IsTaken (core_named name w.clients) ⊎ (is_serving (node_of w.nodes.nodes node) ≡ false)
+CannotHappen (events.CarryUp number count) w =
+    IsClosed (place_numbered number w.connections) w.nodes.nodes ⊎ IsNoPart count (up_of (way_of number w))
+CannotHappen (events.CarryDown number count) w =
+    (is_held (place_numbered number w.connections) w.clients ≡ false) ⊎ IsNoPart count (down_of (way_of number w))
+CannotHappen (events.Abandon name) w = HoldsNone (core_named name w.clients)
+CannotHappen (events.Disconnect name) w = HoldsNone (core_named name w.clients)
+CannotHappen (events.Notice number) w = IsClosed (place_numbered number w.connections) w.nodes.nodes
+CannotHappen (events.Publish name publication) w = Refuses (Call.Publishes publication) (core_named name w.clients)
+CannotHappen (events.Subscribe name filter qos) w = Refuses (Call.Subscribes filter qos) (core_named name w.clients)
+CannotHappen (events.Unsubscribe name filter) w = Refuses (Call.Unsubscribes filter) (core_named name w.clients)
+
+-- ---- what an event does
+
+-- 0 is the master
+abbrev pub receiver_of : Option (ℕ × Message Command) → ℕ
+receiver_of None = 0
+receiver_of (Some (receiver, message)) = receiver
+
+-- the client of this identifier does this, and nothing else is changed
+abbrev pub ClientDoes : List ℕ → (Piped → Piped → Type 0) → WorldState → WorldState → Type 0
+ClientDoes name does old new =
+    (c : Named name old) × (piped : Piped) × does c.client.piped piped × (new ≡ with_piped c.at c.client piped old)
+
+-- what it writes is on its way
+abbrev pub Asks : Call → Piped → Piped → Type 0
+Asks call old new = Calls (keeper_step call old.core.state) old (Ok sendings.Sent) new
+
+abbrev pub Leaves : Piped → Piped → Type 0
+Leaves old new = TakesLeave (keeper_step Call.Disconnects old.core.state) old (Ok sendings.Sent) new
+
+-- what is under way stays
+abbrev pub Loses : Piped → Piped → Type 0
+Loses old new = new ≡ record old { core = gone old.core }
+
+-- whatever it makes of the bytes, memory was not wanting
+abbrev pub HearsThem : ℕ → Piped → Piped → Type 0
+HearsThem count old new = (result : Result (Unit {0}) ClientError) × (result ≡ Err errors.Memory → ⊥) × Hears count old result new
+
+-- a client has a new connection to a node: its CONNECT is under way on it, under the next number
+abbrev pub next_number : WorldState → ℕ
+next_number w = suc (length w.connections)
+
+abbrev pub ConnectsTo : ℕ → ℕ → Piped → Piped → Type 0
+ConnectsTo node number old new = Connects (node - 1) (port_of number) (keeper_step Call.Opens old.core.state) old (Ok tt) new
+
+abbrev pub with_connection : {name : List ℕ} {w : WorldState} → Named name w → Piped → ℕ → WorldState
+with_connection {w = w} c piped node =
+    record (with_piped c.at c.client piped w) {
+      connections = w.connections
+          ++ record { client = c.at; at = length c.client.piped.ways; node = node; is_open = true } ∷ [];
+    }
+
+abbrev pub Does : Event → WorldState → WorldState → Type 0
+Does (events.Assign config) old new =
+    (between : NodesState) × MasterActs (behind_giving config) old.nodes between × (new ≡ record old { nodes = between })
+Does (events.Deliver number) old new =
+    (between : NodesState) × Comes (slice_get old.nodes.sent number) old.nodes between
+    × Gathers (receiver_of (slice_get old.nodes.sent number)) (record old { nodes = between }) new
+Does (events.Tick node) old new = TakesItem node (items.Tick 0) old new
+Does (events.Crash node) old new = TakesItem node items.Crash old new
+Does (events.Open name node) old new =
+    (c : Named name old) × (piped : Piped) × ConnectsTo node (next_number old) c.client.piped piped
+    × TakesItem node (items.Opened (port_of (next_number old)) 0) (with_connection c piped node) new
+Does (events.CarryUp number count) old new =
+    (c : Connected number old) × TakesItem c.place.node (items.Bytes (port_of number) (take count c.way.up) 0)
+    (with_piped c.place.client c.client (with_less c.place.at count c.way c.client.piped) old) new
+Does (events.CarryDown number count) old new =
+    (c : Connected number old) × (piped : Piped) × HearsThem count c.client.piped piped
+    × (new ≡ with_piped c.place.client c.client piped old)
+Does (events.Abandon name) old new = ClientDoes name Loses old new
+Does (events.Disconnect name) old new = ClientDoes name Leaves old new
+Does (events.Notice number) old new = (c : Connected number old) × TakesItem c.place.node (items.Ended (port_of number)) old new
+Does (events.Publish name publication) old new = ClientDoes name (Asks (Call.Publishes publication)) old new
+Does (events.Subscribe name filter qos) old new = ClientDoes name (Asks (Call.Subscribes filter qos)) old new
+Does (events.Unsubscribe name filter) old new = ClientDoes name (Asks (Call.Unsubscribes filter)) old new
+
+-- ---- what comes of events
+
+-- Idle comes only where the event cannot happen, and then nothing is changed; else, where nothing was lost, it can happen,
+-- and what it asks was done.
+abbrev pub Happens : Event → WorldState → Result (Unit {0}) Idle → WorldState → Type 0
+Happens event old (Err idle) new = CannotHappen event old × (new ≡ old)
+Happens event old (Ok done) new = LosesNothing old new → (CannotHappen event old → ⊥) × Does event old new
+
+-- events, one behind the other
+abbrev pub Run : List Event → WorldState → WorldState → Type 0
+Run [] old new = new ≡ old
+Run (event ∷ events) old new =
+    (between : WorldState) × (result : Result (Unit {0}) Idle) × Happens event old result between × Run events between new
+
+-- ---- how it begins
+
+abbrev pub new_world_client : List ℕ → WorldClient
+new_world_client name = record { name = name; piped = new_piped name }
+
+-- a world as it opens: no client was ever connected
+pub record Opens (nodes : ℕ) (config : Config) (clients : List Client) (w : WorldState) : Type 0 where
+  pub group : StandsFor (opening_group nodes config) w.nodes
+  pub whole : w.nodes.losses ≡ 0
+  pub is : w ≡ record { nodes = w.nodes; clients = map new_world_client clients; connections = []; losses = 0 }
+
+-- it opens, and then the events happen
+abbrev pub Plays : ℕ → Config → List Client → List Event → WorldState → Type 0
+Plays nodes config clients events new = (opened : WorldState) × Opens nodes config clients opened × Run events opened new
