@@ -5,8 +5,8 @@
 #![tactic(auto)]
 
 mod bell;
-mod connection;
 mod door;
+mod ear;
 mod link;
 mod listening;
 mod node_report;
@@ -19,6 +19,7 @@ mod place;
 mod seat;
 mod serve_error;
 mod served;
+mod serving;
 mod shared;
 mod turns;
 mod writing;

@@ -1,5 +1,6 @@
 // A connection's stream, and who writes on it.
 
+use connection::Unwritten;
 use node::Port;
 use std::alloc::Global;
 use std::net::{Shutdown, TcpStream};
@@ -21,7 +22,7 @@ pub(crate) struct Link {
     pub(crate) stream: TcpStream,
     writer: Mutex<Writer>,
     /// What a full socket did not take yet.
-    pub(crate) rest: Mutex<Vec<u8>>,
+    pub(crate) rest: Mutex<Unwritten>,
 }
 
 impl Link {
@@ -33,7 +34,7 @@ impl Link {
                 busy: false,
                 again: false,
             }),
-            rest: Mutex::new(Vec::new(alloc)),
+            rest: Mutex::new(Unwritten::new(alloc)),
         }
     }
 

@@ -3,7 +3,6 @@
 ghost use denote.Param.Send.{IsSend};
 ghost use Rattle.std.specs.Prelude.{◌≡◌};
 
-use crate::connection::serve_stream;
 use crate::node_report::NodeReport;
 use crate::outcome::Outcome;
 use crate::own_thread;
@@ -13,6 +12,7 @@ use crate::place::{CONNECTIONS, Place};
 use crate::seat::Seat;
 use crate::serve_error::ServeError;
 use crate::served::Served;
+use crate::serving::serve_stream;
 use crate::shared::Shared;
 use mailbox::Inbox;
 use node::{Config, Gate, Item, Memory, NoGate, NodeCore, NodeNaming, NodeState, Report};

@@ -4,7 +4,7 @@
 use crate::served::Served;
 use crate::shared::Shared;
 use crate::turns::{put, send, turn};
-use crate::writing::{is_still_late, leave_late};
+use crate::writing::{is_late, leave_late};
 use mailbox::Lane;
 use node::{Gate, Item, NodeNaming};
 use std::alloc::Global;
@@ -93,7 +93,7 @@ fn write_late<J: NodeNaming, S: Served<J>, G: Gate, R: Wait>(
     let links = mem::replace(&mut *shared.late.lock(rt), Vec::new(alloc));
     let mut late = false;
     for link in links {
-        if is_still_late(rt, alloc, shared, &link) {
+        if is_late(rt, alloc, shared, &link) {
             late = true;
             leave_late(rt, shared, &link);
         }

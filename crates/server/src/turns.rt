@@ -1,5 +1,7 @@
 // A worker's turn, which whoever sent an item does itself.
 
+ghost use Rattle.std.specs.Prelude.{◌≡◌, ◌++◌, ◌∷◌, []};
+
 use crate::served::Served;
 use crate::shared::Shared;
 use crate::writing::flush;
@@ -19,7 +21,9 @@ pub(crate) fn send<J: NodeNaming, S: Served<J>, G: Gate, R: Wait + Clock>(
     shared: &Shared<J, S, G>,
     lane: &mut Lane<Item, J>,
     item: Item,
-) {
+)
+    ensures { lane.new ≡ record lane.old { sent = lane.old.sent ++ item ∷ [] } }
+{
     put(rt, alloc, shared, lane, item);
     turn(rt, alloc, shared);
 }
@@ -31,15 +35,18 @@ pub(crate) fn put<J: NodeNaming, S: Served<J>, G: Gate, R: Wait + Clock>(
     shared: &Shared<J, S, G>,
     lane: &mut Lane<Item, J>,
     item: Item,
-) {
-    let mut item = item;
+)
+    ensures { lane.new ≡ record lane.old { sent = lane.old.sent ++ item ∷ [] } }
+{
+    let mut unsent = item;
     for _ in rt.forever() {
-        match lane.send(rt, item) {
+        match lane.send(rt, unsent) {
             Ok(()) => return,
-            Err(back) => item = back,
+            Err(back) => unsent = back,
         }
         turn(rt, alloc, shared);
     }
+    unreachable!()
 }
 
 /// Takes what waits in the inbox, and then writes what was put out.

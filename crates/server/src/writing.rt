@@ -3,22 +3,28 @@
 use crate::link::Link;
 use crate::served::Served;
 use crate::shared::Shared;
-use node::{Gate, Handed, NodeNaming};
+use connection::{Flow, Outlet, Unwritten, write_out};
+use node::{Gate, Handed, Memory, NodeNaming, Port};
 use std::alloc::Global;
-use std::io::{ErrorKind, Write};
 use std::mem;
-use std::net::TcpStream;
 use std::sync::{Arc, Wait};
 
-/// How far a write came.
+// What the node behind its lock puts out for a port.
 #[derive(Drop)]
-enum Wrote {
-    /// All was written.
-    Whole,
-    /// The socket was full: what is left.
-    Left(Vec<u8>),
-    /// The stream takes nothing more, or there was no memory for what is left.
-    Failed,
+struct Tap<'e, 'a, J: NodeNaming, S: Served<J>, G: Gate> {
+    shared: &'e Shared<'a, J, S, G>,
+    port: Port,
+}
+
+impl<'e, 'a, J: NodeNaming, S: Served<J>, G: Gate> Outlet for Tap<'e, 'a, J, S, G> {
+    ghost use Rattle.server.specs.Serving.{PutsOut};
+
+    ghost hands = { λ tap bytes answer _. PutsOut tap.port bytes answer };
+
+    fn hand_over<R: Wait>(&mut self, rt: &R, out: &mut Vec<u8>) -> Result<Handed, Memory> {
+        let shared = self.shared;
+        shared.node.lock(rt).state().outgoing(self.port, out)
+    }
 }
 
 /// Writes what the node put out for a connection, unless another thread writes there: that one is told
@@ -29,54 +35,52 @@ pub(crate) fn flush<J: NodeNaming, S: Served<J>, G: Gate, R: Wait>(
     shared: &Shared<J, S, G>,
     link: &Arc<Link, Global>,
 ) {
-    if link.begin(rt) {
-        go_on(rt, alloc, shared, link);
+    if link.begin(rt) && is_late(rt, alloc, shared, link) {
+        leave_late(rt, shared, link);
     }
 }
 
-// Writes what was put out, as the one that writes, until nothing more was.
-fn go_on<J: NodeNaming, S: Served<J>, G: Gate, R: Wait>(
+/// Writes what a full socket left and what was put out, as the one that writes, until nothing more was:
+/// whether the socket is full.
+pub(crate) fn is_late<J: NodeNaming, S: Served<J>, G: Gate, R: Wait>(
     rt: &R,
     alloc: Global,
     shared: &Shared<J, S, G>,
     link: &Arc<Link, Global>,
-) {
+) -> bool {
     let mut out = Vec::new(alloc);
     for _ in rt.forever() {
-        if !write_out(rt, alloc, shared, link, &mut out) || !link.goes_on(rt) {
-            return;
+        match write_once(rt, alloc, shared, link, &mut out) {
+            Flow::Open if link.goes_on(rt) => {}
+            Flow::Open => return false,
+            Flow::Late(left) => {
+                *link.rest.lock(rt) = left;
+                return true;
+            }
+            Flow::Closed | Flow::Failed => {
+                link.shut();
+                return false;
+            }
         }
     }
+    unreachable!()
 }
 
-// Takes what the node put out and writes it: whether the stream may take more at once.
-fn write_out<J: NodeNaming, S: Served<J>, G: Gate, R: Wait>(
+// Writes what a full socket left, and then what the node puts out, as far as the socket takes it within its time.
+fn write_once<J: NodeNaming, S: Served<J>, G: Gate, R: Wait>(
     rt: &R,
     alloc: Global,
     shared: &Shared<J, S, G>,
     link: &Arc<Link, Global>,
     out: &mut Vec<u8>,
-) -> bool {
-    out.clear();
-    let handed = shared.node.lock(rt).state().outgoing(link.port, out);
-    match write_some(alloc, &link.stream, out.as_slice()) {
-        Wrote::Whole => {
-            if handed == Ok(Handed::Open) {
-                return true;
-            }
-            link.shut();
-            false
-        }
-        Wrote::Left(left) => {
-            *link.rest.lock(rt) = left;
-            leave_late(rt, shared, link);
-            false
-        }
-        Wrote::Failed => {
-            link.shut();
-            false
-        }
-    }
+) -> Flow {
+    let left = mem::replace(&mut *link.rest.lock(rt), Unwritten::new(alloc));
+    let mut tap = Tap {
+        shared,
+        port: link.port,
+    };
+    let mut device = &link.stream;
+    write_out(rt, alloc, left, &mut tap, out, &mut device)
 }
 
 /// Leaves a connection to the node's own thread.
@@ -93,58 +97,5 @@ pub(crate) fn leave_late<J: NodeNaming, S: Served<J>, G: Gate, R: Wait>(
         shared.seat.node.bell.ring(rt);
     } else {
         link.shut();
-    }
-}
-
-/// Writes more of what a full socket did not take: whether there is still some of it.
-pub(crate) fn is_still_late<J: NodeNaming, S: Served<J>, G: Gate, R: Wait>(
-    rt: &R,
-    alloc: Global,
-    shared: &Shared<J, S, G>,
-    link: &Arc<Link, Global>,
-) -> bool {
-    let rest = mem::replace(&mut *link.rest.lock(rt), Vec::new(alloc));
-    match write_some(alloc, &link.stream, rest.as_slice()) {
-        Wrote::Whole => {
-            go_on(rt, alloc, shared, link);
-            false
-        }
-        Wrote::Left(left) => {
-            *link.rest.lock(rt) = left;
-            true
-        }
-        Wrote::Failed => {
-            link.shut();
-            false
-        }
-    }
-}
-
-// Writes as much as the socket takes within its time.
-fn write_some(alloc: Global, stream: &TcpStream, bytes: &[u8]) -> Wrote {
-    let mut device = stream;
-    let mut rest = bytes;
-    for _ in 0..u64::MAX {
-        if rest.is_empty() {
-            return Wrote::Whole;
-        }
-        match device.write(rest) {
-            Ok(0) => return Wrote::Failed,
-            Ok(count) => match rest.get(count..) {
-                Some(behind) => rest = behind,
-                None => return Wrote::Failed,
-            },
-            Err(error) if error.kind() == ErrorKind::Interrupted => {}
-            Err(error) if error.kind() == ErrorKind::WouldBlock => return left(alloc, rest),
-            Err(_) => return Wrote::Failed,
-        }
-    }
-    Wrote::Failed
-}
-
-fn left(alloc: Global, rest: &[u8]) -> Wrote {
-    match Vec::from_slice(alloc, rest) {
-        Ok(left) => Wrote::Left(left),
-        Err(_) => Wrote::Failed,
     }
 }
