@@ -23,7 +23,7 @@ use Rattle.group_model.proofs.Placed.{get_mapped}
 use Rattle.world_model.specs.Carried.{went_of, went_on}
 use Rattle.world_model.specs.Goes.{Reached, WorldStep}
 use Rattle.world_model.specs.Goes.Reached.{begins, goes_on}
-use Rattle.world_model.specs.Goes.WorldStep.{goes_on as group_goes, calls, connects, comes_up, goes_down, arrives, handles}
+use Rattle.world_model.specs.Goes.WorldStep.{goes_on as group_goes, calls, connects, is_turned_away, comes_up, goes_down, arrives, handles}
 use Rattle.world_model.specs.World.{ClientPipes, World, new_client, opening}
 use Rattle.world_model.proofs.PipesInOrder.{in_order, opens_hold, step_holds}
 use Rattle.world_model.proofs.WorldsHold.{Holds}
@@ -72,6 +72,8 @@ step_goes apart v w went s (group_goes deed d is_apart) holds =
     group_beside apart (record v { group = d.behind }) v.group went s.so d.step (λ agreed is. s.beside agreed is) holds s.piped
 step_goes apart v w went s (calls i c t h at call spelled) holds = calls_so v went i c t h s at call holds
 step_goes apart v w went s (connects i n c port now d core end at unused behind there_so spelled) holds = connects_so apart v went i n c end.name port now d s at holds
+step_goes apart v w went s (is_turned_away n port now d core unused behind none) holds =
+    group_beside apart (record v { group = d.behind }) v.group went s.so d.step (λ agreed is. s.beside agreed is) holds s.piped
 step_goes apart v w went s (comes_up i j c κ p piece rest now d has is) holds = pipe_beside apart v went d.behind i j c (record p { up = rest }) s d.step has.client holds
 step_goes apart v w went s (goes_down i j c κ p d has) holds = pipe_beside apart v went d.behind i j c _ s d.step has.client holds
 step_goes apart v w went s (arrives i j c κ p piece rest has is) holds =

@@ -7,6 +7,8 @@ pub mod OnTheWay
 pub mod PipesHold
 pub mod WorldsHold
 pub mod WorldsKeep
+pub mod OpensUnused
 pub mod WorldsOpen
+pub mod TurnedAway
 pub mod PipesInOrder
 pub mod DeedsCarry

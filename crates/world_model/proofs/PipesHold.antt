@@ -156,6 +156,15 @@ right_true false b e = absurd cc
 pub is_the_port : (port : Port) (d : NodesEnd) → d.port.0 ≡ port.0 → is_at port d ≡ true
 is_the_port port d e = ap (λ k. d.port.0 == k) (sym e) ∙ eq_same d.port.0
 
+-- where a connection is listed at a port, open or not
+pub record IsListed (port : Port) (core : CoreState) (d : NodesEnd) : Type 0 where
+  pub among : In d core.connections
+  pub at : d.port.0 ≡ port.0
+
+pub listed_there : (port : Port) (core : CoreState) (d : NodesEnd) → listed_at port core ≡ Some d → IsListed port core d
+listed_there port core d e =
+    record { among = found_in (is_at port) core.connections d e; at = eq_is d.port.0 port.0 (found_passes (is_at port) core.connections d e) }
+
 -- where an open connection is found at a port
 pub record IsThere (port : Port) (core : CoreState) (d : NodesEnd) : Type 0 where
   pub among : In d core.connections

@@ -18,11 +18,12 @@ use Rattle.connection_model.proofs.CarriedInOrder.{CarriedSo, IsAgreedSo, carrie
 use Rattle.world_model.specs.Carried.{went_of, went_on}
 use Rattle.world_model.specs.Goes.{Reached, WorldStep}
 use Rattle.world_model.specs.Goes.Reached.{begins, goes_on}
-use Rattle.world_model.specs.Goes.WorldStep.{goes_on as group_goes, calls, connects, comes_up, goes_down, arrives, handles}
+use Rattle.world_model.specs.Goes.WorldStep.{goes_on as group_goes, calls, connects, is_turned_away, comes_up, goes_down, arrives, handles}
 use Rattle.world_model.specs.InPipes.{IsInOrder, PipesCarryInOrder}
 use Rattle.world_model.specs.World.{ClientPipes, HasPipe, Pipe, World, new_client, opening, packets_of}
 use Rattle.world_model.proofs.WorldsHold.{Holds, arrives_holds, client_holds, set_at}
 use Rattle.world_model.proofs.WorldsKeep.{call_writes, calls_hold, comes_holds, goes_holds, group_holds, handles_hold}
+use Rattle.world_model.proofs.TurnedAway.{turned_holds}
 use Rattle.world_model.proofs.WorldsOpen.{connects_holds}
 
 -- ---- as it opens
@@ -63,6 +64,7 @@ step_holds v w went h (calls i c t happens at call spelled) =
     let new = call_writes happens call in calls_hold v went i c t.keeper t.connections new.0 at new.1 spelled h
 step_holds v w went h (connects i n c port now d core end at unused behind there_so spelled) =
     connects_holds v went h n port now d core end behind there_so unused i c at spelled
+step_holds v w went h (is_turned_away n port now d core unused behind none) = turned_holds v went h n port now d unused core behind none
 step_holds v w went h (comes_up i j c κ p piece rest now d has is) = comes_holds v went i j c κ p piece rest now d has is h
 step_holds v w went h (goes_down i j c κ p d has) = goes_holds v went i j c κ p d has h
 step_holds v w went h (arrives i j c κ p piece rest has is) =

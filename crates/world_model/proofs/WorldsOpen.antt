@@ -19,7 +19,7 @@ use Rattle.world_base.specs.declared.connection.Connection.{Connection as NodesE
 use Rattle.world_base.specs.declared.item.Item.TheVariants.{Opened}
 use Rattle.world_base.specs.declared.item.Port.{Port}
 use Rattle.world_base.specs.Core.{CoreState}
-use Rattle.world_base.specs.Reading.{open_at}
+use Rattle.world_base.specs.Handing.{listed_at}
 use Rattle.world_base.specs.Step.{next_name}
 use Rattle.node_model.specs.Ends.{IsGiven, Precedes}
 use Rattle.node_model.specs.Moves.{Deed}
@@ -37,28 +37,10 @@ use Rattle.world_model.specs.World.{ClientPipes, HasPipe, Pipe, World, is_used, 
 use Rattle.world_model.proofs.NamesApart.{names_stay_apart}
 use Rattle.world_model.proofs.NodesGoOn.{IsOpened, StoodAs, carries_with, of_each, stood_as}
 use Rattle.world_model.proofs.OnTheWay.{joins_more}
-use Rattle.world_model.proofs.PipesHold.{IsThere, PipeHolds, apart_on, found_there, none_found}
+use Rattle.world_model.proofs.PipesHold.{IsListed, PipeHolds, listed_there, none_found}
+use Rattle.world_model.proofs.OpensUnused.{OpensUnused, opens_unused}
 use Rattle.world_model.proofs.PortsKept.{IsOfOld}
 use Rattle.world_model.proofs.WorldsHold.{Holds, IsKnown, IsUnheard, Leads}
-
--- ---- a port that no pipe leads to
-
-any_at : {X : Type 0} (test : X → Bool) (xs : List X) (i : ℕ) (x : X) → slice_get xs i ≡ Some x → test x ≡ true → list_any test xs ≡ true
-any_at test [] i x e is = cc
-any_at {X = X} test (y ∷ xs) zero x e is = let same : y ≡ x = cc in let now : test y ≡ true = ap test same ∙ is in rw now refl
-any_at test (y ∷ xs) (suc i) x e is = by (test y) (any_at test xs i x e is)
-  where
-    by : (b : Bool) → list_any test xs ≡ true → (b || list_any test xs) ≡ true
-    by true rest = refl
-    by false rest = rest
-
-leads_used : (v : World) (n : ℕ) (port : Port) → Leads v n port → is_used n port v.clients ≡ true
-leads_used v n port l =
-    any_at (λ (c : ClientPipes). list_any (leads_to n port) c.pipes) v.clients l.i l.c l.has.client
-    (any_at (leads_to n port) l.c.pipes l.j l.p l.has.pipe (both (l.p.node == n) (l.p.port.0 == port.0) (ap (λ k. l.p.node == k) (sym l.node) ∙ eq_same l.p.node) (ap (λ k. l.p.port.0 == k) (sym l.at) ∙ eq_same l.p.port.0)))
-  where
-    both : (a b : Bool) → a ≡ true → b ≡ true → (a && b) ≡ true
-    both a b e f = rw (e, f) refl
 
 -- ---- the name is new
 
@@ -74,48 +56,30 @@ named_there x cs d i is = by (find (named x) cs) refl
 same_core : (a b : CoreState) → (let o : Option CoreState = Some a in o) ≡ Some b → a ≡ b
 same_core a b e = cc
 
--- where a deed opens a connection
-abbrev opened_place : Option (ℕ × Deed) → ℕ
-opened_place (Some (n, takes (Opened port now))) = n
-opened_place _ = 0
-
-abbrev opened_port : Option (ℕ × Deed) → ℕ
-opened_port (Some (n, takes (Opened port now))) = port.0
-opened_port _ = 0
-
 module _ {nodes : ℕ} {config : Config} (v : World) (went : Went nodes config v.group) (h : Holds v went) (n : ℕ) (port : Port) (now : ℕ) (d : Does v.group (Some (n, takes (Opened port now))))
-    (core : CoreState) (end : NodesEnd) (stands : slice_get d.behind.nodes n ≡ Some core) (found : open_at port core ≡ Some end) (unused : is_used n port v.clients ≡ false) where
+    (core : CoreState) (end : NodesEnd) (stands : slice_get d.behind.nodes n ≡ Some core) (found : listed_at port core ≡ Some end) (unused : is_used n port v.clients ≡ false) where
   abbrev behind : Went nodes config d.behind
   behind = then_went went d.step
 
-  no_lead : Leads v n port → ⊥
-  no_lead l = both_ways (is_used n port v.clients) unused (leads_used v n port l)
-
-  was : StoodAs v.group d.behind (deed_of d.step) n core
-  was = stood_as v.group d.behind went d.step n core stands
-
-  -- a connection that was there before has a pipe
-  old_led : (m : ℕ) (old : CoreState) (e : NodesEnd) → slice_get v.group.nodes m ≡ Some old → IsOfOld old.connections e → Leads v m e.port
-  old_led m old e at o =
-      let l = h.used m old o.was at o.among in
-      record { i = l.i; c = l.c; j = l.j; κ = l.κ; p = l.p; has = l.has; node = l.node; at = l.at ∙ sym (ap (λ (z : Port). z.0) o.later.port) }
+  facts : OpensUnused v went n port now d
+  facts = opens_unused v went h n port now d unused
 
   led_at : (m : ℕ) (p q : Port) → p.0 ≡ q.0 → Leads v m p → Leads v m q
   led_at m p q same l = record { i = l.i; c = l.c; j = l.j; κ = l.κ; p = l.p; has = l.has; node = l.node; at = l.at ∙ same }
 
-  opened_there : (m : ℕ) (old : CoreState) (e : NodesEnd) → IsOpened (deed_of d.step) m old e → (m ≡ n) × (e.port.0 ≡ port.0)
-  opened_there m old e o = (ap opened_place (sym o.is ∙ d.is), ap (λ (z : Port). z.0) o.new.port_is ∙ ap opened_port (sym o.is ∙ d.is))
+  was : StoodAs v.group d.behind (deed_of d.step) n core
+  was = stood_as v.group d.behind went d.step n core stands
 
   -- at the port there is that connection alone, with the next name
   named_next : (e : NodesEnd) → In e core.connections → e.port.0 ≡ port.0 → e.name ≡ next_name was.core
   named_next e i same = by (was.behind.was e i)
     where
       by : IsOfOld was.core.connections e ⊎ IsOpened (deed_of d.step) n was.core e → e.name ≡ next_name was.core
-      by (inl o) = absurd (no_lead (led_at n e.port port same (old_led n was.core e was.stands o)))
+      by (inl o) = absurd (facts.no_lead (led_at n e.port port same (facts.old_led n was.core e was.stands o)))
       by (inr o) = o.new.name_is
 
-  end_there : IsThere port core end
-  end_there = found_there port core end found
+  end_there : IsListed port core end
+  end_there = listed_there port core end found
 
   has_name : HasName end.name d.behind n
   has_name = let z = named_there end.name core.connections end end_there.among refl in record { core = core; stands = stands; connection = z.0; listed = z.1 }
@@ -131,26 +95,12 @@ module _ {nodes : ℕ} {config : Config} (v : World) (went : Went nodes config v
       not_both was.core.last_name end.name (subst (Precedes was.core.last_name) (sym (named_next end end_there.among end_there.at)) (next_precedes was.core o.within))
       (subst (λ (z : CoreState). IsGiven z.last_name end.name) one (subst (IsGiven placed.core.last_name) k.name placed.given))
 
-  quiet : (x : ConnectionName) → (comes_up x d.step ≡ []) × (goes_down x d.step ≡ [])
-  quiet x = let c = carries_with v.group d.behind d.step n (takes (Opened port now)) d.faithful d.is in (c.up x, c.down x)
-
-  still_unheard : (x : ConnectionName) → IsUnheard went x → IsUnheard behind x
-  still_unheard x none = (ap (λ l. l ++ comes_up x d.step) none.0 ∙ (quiet x).0, ap (λ l. l ++ goes_down x d.step) none.1 ∙ (quiet x).1)
-
   unheard : IsUnheard behind end.name
   unheard = by (h.known end.name)
     where
       by : IsUnheard went end.name ⊎ IsKnown v end.name → IsUnheard behind end.name
-      by (inl none) = still_unheard end.name none
+      by (inl none) = facts.still_unheard end.name none
       by (inr k) = absurd (fresh k)
-
-  -- the pipes that were there go on
-  old_holds : (i : ℕ) (c : ClientPipes) (j : ℕ) (κ : Connection) (p : Pipe) → HasPipe v i c j κ p → PipeHolds behind κ p
-  old_holds i c j κ p has =
-      apart_on went d.step κ p
-      (λ old e at o same. let z = opened_there p.node old e o in
-      no_lead (record { i = i; c = c; j = j; κ = κ; p = p; has = has; node = z.0; at = sym same ∙ z.1 }))
-      (quiet κ.name).0 (quiet κ.name).1 (h.each i c j κ p has)
 
   -- the new one
   module _ (i : ℕ) (c : ClientPipes) (at : slice_get v.clients i ≡ Some c)
@@ -231,7 +181,7 @@ module _ {nodes : ℕ} {config : Config} (v : World) (went : Went nodes config v
 
     each_holds : (k : ℕ) (l : ℕ) (κ : Connection) (p : Pipe) → Place k l κ p → PipeHolds behind κ p
     each_holds k l κ p (new same is one two) = subst (λ (z : Connection). PipeHolds behind z p) (sym one) (subst (λ (z : Pipe). PipeHolds behind κ_new z) (sym two) new_holds)
-    each_holds k l κ p (old m e has is) = old_holds k e m κ p has
+    each_holds k l κ p (old m e has is) = facts.old_holds k e m κ p has
 
     known_of : (k : ℕ) (e : ClientPipes) (m : ℕ) (κ : Connection) (p : Pipe) → HasPipe v k e m κ p → κ.name ≡ end.name → IsKnown v end.name
     known_of k e m κ p has is = record { i = k; c = e; j = m; κ = κ; p = p; has = has; name = is }
@@ -255,12 +205,12 @@ module _ {nodes : ℕ} {config : Config} (v : World) (went : Went nodes config v
     each_led m z e stood j = by (stood_as v.group d.behind went d.step m z stood).core (stood_as v.group d.behind went d.step m z stood).stands ((stood_as v.group d.behind went d.step m z stood).behind.was e j)
       where
         by : (before : CoreState) → slice_get v.group.nodes m ≡ Some before → IsOfOld before.connections e ⊎ IsOpened (deed_of d.step) m before e → Leads w m e.port
-        by before at_before (inl o) = led_on m e.port (old_led m before e at_before o)
+        by before at_before (inl o) = led_on m e.port (facts.old_led m before e at_before o)
         by before at_before (inr o) =
-            let f = opened_there m before e o in record { i = i; c = later; j = 0; κ = κ_new; p = p_new; has = new_there; node = sym f.0; at = sym f.1 }
+            let f = facts.opened_there m before e o in record { i = i; c = later; j = 0; κ = κ_new; p = p_new; has = new_there; node = sym f.0; at = sym f.1 }
 
     each_known : (x : ConnectionName) → IsUnheard went x ⊎ IsKnown v x → IsUnheard behind x ⊎ IsKnown w x
-    each_known x (inl none) = inl (still_unheard x none)
+    each_known x (inl none) = inl (facts.still_unheard x none)
     each_known x (inr k) = let s = forth k.i k.c k.j k.κ k.p k.has in inr (record { i = k.i; c = s.0; j = s.1; κ = k.κ; p = k.p; has = s.2; name = k.name })
 
     pub connects_holds : Holds (with_client i (after_connecting end.name n port c) (record v { group = d.behind })) (then_went went d.step)

@@ -8,13 +8,14 @@ use Rattle.connection_model.specs.Carried.{Carries}
 use Rattle.world_model.specs.World.{World}
 use Rattle.world_model.specs.Goes.{Reached, WorldStep}
 use Rattle.world_model.specs.Goes.Reached.{begins, goes_on}
-use Rattle.world_model.specs.Goes.WorldStep.{goes_on as group_goes, calls, connects, comes_up, goes_down, arrives, handles}
+use Rattle.world_model.specs.Goes.WorldStep.{goes_on as group_goes, calls, connects, is_turned_away, comes_up, goes_down, arrives, handles}
 
 -- where a step of a world has a step of its group, the group goes that one
 abbrev pub went_on : {nodes : ℕ} {config : Config} {v w : World} → Went nodes config v.group → WorldStep v w → Went nodes config w.group
 went_on went (group_goes deed d apart) = then_went went d.step
 went_on went (calls i c t h at call spelled) = went
 went_on went (connects i n c port now d core end at unused behind there spelled) = then_went went d.step
+went_on went (is_turned_away n port now d core unused behind none) = then_went went d.step
 went_on went (comes_up i j c κ p piece rest now d pipe is) = then_went went d.step
 went_on went (goes_down i j c κ p d pipe) = then_went went d.step
 went_on went (arrives i j c κ p piece rest pipe is) = went

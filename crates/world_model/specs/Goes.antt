@@ -130,9 +130,12 @@ pub data WorldStep (w : World) : World → Type 0 where
       CanBeSpelled c.connections t.connections → WorldStep w (with_client i (after_writing t.keeper t.connections c) w)
   -- a client opens a connection to a node, at a port that was never used there, and the node takes it
   connects : (i n : ℕ) (c : ClientPipes) (port : Port) (now : ℕ) (d : Does w.group (Some (n, takes (Opened port now)))) (core : CoreState) (end : NodesEnd) →
-      slice_get w.clients i ≡ Some c → is_used n port w.clients ≡ false → slice_get d.behind.nodes n ≡ Some core → open_at port core ≡ Some end →
+      slice_get w.clients i ≡ Some c → is_used n port w.clients ≡ false → slice_get d.behind.nodes n ≡ Some core → listed_at port core ≡ Some end →
       IsPacket (packets.Connect (record { client = c.keeper.client; clean = false; keep_alive = 0 })) →
       WorldStep w (with_client i (after_connecting end.name n port c) (record w { group = d.behind }))
+  -- the node does not take it, for want of memory, and then the client has none
+  is_turned_away : (n : ℕ) (port : Port) (now : ℕ) (d : Does w.group (Some (n, takes (Opened port now)))) (core : CoreState) → is_used n port w.clients ≡ false →
+      slice_get d.behind.nodes n ≡ Some core → listed_at port core ≡ None → WorldStep w (record w { group = d.behind })
   -- a beginning of the bytes on their way comes to the node
   comes_up : (i j : ℕ) (c : ClientPipes) (κ : Connection) (p : Pipe) (piece rest : List ℕ) (now : ℕ) (d : Does w.group (Some (p.node, takes (Bytes p.port piece now)))) →
       HasPipe w i c j κ p → p.up ≡ piece ++ rest →

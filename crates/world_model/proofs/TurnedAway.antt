@@ -1,0 +1,80 @@
+-- A connection that its node does not take changes nothing for the clients, and what holds of all connections is kept.
+use Rattle.std.proofs.Common.{◌≡◌, ◌⊎◌, inl, inr, ℕ, zero, suc, Bool, true, false, ◌&&◌, ◌||◌, ◌==◌, List, [], ◌∷◌, ◌++◌, Option, Some, None, set, slice_get, refl, sym, ap, ◌∙◌, subst}
+use Rattle.std.specs.List.{find, list_any}
+use Rattle.std.proofs.lemmas.Bool.{both_ways}
+use Rattle.packet.specs.Spelling.{IsPacket}
+use Rattle.packet.specs.declared.packet.Packet.TheVariants as packets
+use Rattle.ballot.specs.Config.{Config}
+use Rattle.broker_base.specs.Connection.{ConnectionName, same_connection}
+use Rattle.client_base.specs.Called.{new_connection}
+use Rattle.lists.specs.Lists.{In}
+use Rattle.lists.specs.Lists.In.{here, there}
+use Rattle.lists.proofs.Places.{get_set, get_set_other}
+use Rattle.lists.proofs.Tests.{eq_same}
+use Rattle.model.proofs.Lists.{same_or_other, set_get}
+use Rattle.pipes.specs.Pipe.{Joins}
+use Rattle.story.specs.Sides.{Connection}
+use Rattle.story.proofs.Takes.{same_name_self}
+use Rattle.world_base.specs.declared.connection.Connection.{Connection as NodesEnd}
+use Rattle.world_base.specs.declared.item.Item.TheVariants.{Opened}
+use Rattle.world_base.specs.declared.item.Port.{Port}
+use Rattle.world_base.specs.Core.{CoreState}
+use Rattle.world_base.specs.Connections.{is_at}
+use Rattle.world_base.specs.Handing.{listed_at}
+use Rattle.world_base.specs.Step.{next_name}
+use Rattle.node_model.specs.Ends.{IsGiven, Precedes}
+use Rattle.node_model.specs.Moves.{Deed}
+use Rattle.node_model.specs.Moves.Deed.{takes}
+use Rattle.node_model.specs.Puts.{spelled}
+use Rattle.node_model.proofs.Kept.{named}
+use Rattle.node_model.proofs.NamesInOrder.{next_precedes, not_both}
+use Rattle.group_model.specs.Goes.{Went}
+use Rattle.group_model.specs.Goes.Went.{then_went}
+use Rattle.group_model.proofs.NamesInGroups.{all_well, each_got}
+use Rattle.connection_model.specs.Streams.{comes_up, goes_down}
+use Rattle.world_model.specs.Apart.{HasName}
+use Rattle.world_model.specs.Goes.{Does, after_connecting, deed_of}
+use Rattle.world_model.specs.World.{ClientPipes, HasPipe, Pipe, World, is_used, leads_to, packets_of, with_client}
+use Rattle.world_model.proofs.NamesApart.{names_stay_apart}
+use Rattle.world_model.proofs.NodesGoOn.{IsOpened, StoodAs, carries_with, of_each, stood_as}
+use Rattle.world_model.proofs.OnTheWay.{joins_more}
+use Rattle.world_model.proofs.PipesHold.{is_the_port, none_found}
+use Rattle.world_model.proofs.OpensUnused.{OpensUnused, opens_unused}
+use Rattle.world_model.proofs.PortsKept.{IsOfOld}
+use Rattle.world_model.proofs.WorldsHold.{Holds, IsKnown, IsUnheard, Leads, holds_on}
+
+same_core : (a b : CoreState) → (let o : Option CoreState = Some a in o) ≡ Some b → a ≡ b
+same_core a b e = cc
+
+module _ {nodes : ℕ} {config : Config} (v : World) (went : Went nodes config v.group) (h : Holds v went) (n : ℕ) (port : Port) (now : ℕ) (d : Does v.group (Some (n, takes (Opened port now))))
+    (unused : is_used n port v.clients ≡ false) (core : CoreState) (stands : slice_get d.behind.nodes n ≡ Some core) (none : listed_at port core ≡ None) where
+  facts : OpensUnused v went n port now d
+  facts = opens_unused v went h n port now d unused
+
+  -- no connection of the node is at that port
+  not_there : (e : NodesEnd) → In e core.connections → e.port.0 ≡ port.0 → ⊥
+  not_there e i same = both_ways (is_at port e) (of_each (λ (z : NodesEnd). is_at port z ≡ false) (none_found (is_at port) core.connections none) i) (is_the_port port e same)
+
+  each_led : (m : ℕ) (z : CoreState) (e : NodesEnd) → slice_get d.behind.nodes m ≡ Some z → In e z.connections → Leads v m e.port
+  each_led m z e stood j = by (stood_as v.group d.behind went d.step m z stood).core (stood_as v.group d.behind went d.step m z stood).stands ((stood_as v.group d.behind went d.step m z stood).behind.was e j)
+    where
+      by : (before : CoreState) → slice_get v.group.nodes m ≡ Some before → IsOfOld before.connections e ⊎ IsOpened (deed_of d.step) m before e → Leads v m e.port
+      by before at (inl o) = facts.old_led m before e at o
+      by before at (inr o) =
+          let f = facts.opened_there m before e o in
+          let one : z ≡ core = same_core z core (sym stood ∙ ap (slice_get d.behind.nodes) f.0 ∙ stands) in
+          absurd (not_there e (subst (λ (k : CoreState). In e k.connections) one j) f.1)
+
+  each_known : (x : ConnectionName) → IsUnheard went x ⊎ IsKnown v x → IsUnheard (then_went went d.step) x ⊎ IsKnown v x
+  each_known x (inl silent) = inl (facts.still_unheard x silent)
+  each_known x (inr k) = inr k
+
+  pub turned_holds : Holds (record v { group = d.behind }) (then_went went d.step)
+  turned_holds =
+      holds_on v (record v { group = d.behind }) went (then_went went d.step) h
+      (λ k c l κ p has.
+      let old : HasPipe v k c l κ p = record { client = has.client; connection = has.connection; pipe = has.pipe } in
+      record { c = c; κ = κ; p = p; has = old; name = refl; holds = facts.old_holds k c l κ p old })
+      (λ k c l κ p has.
+      record { c = c; later = κ; q = p; has = record { client = has.client; connection = has.connection; pipe = has.pipe }; name = refl; node = refl; port = refl })
+      each_led (λ x. each_known x (h.known x))
