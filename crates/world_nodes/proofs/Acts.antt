@@ -1,6 +1,7 @@
 -- What a node does in a step is what a group that stands for the nodes may do.
 use Rattle.std.proofs.Common.{◌≡◌, inl, inr, ◌<◌, ◌^◌, ℕ, zero, suc, ◌-◌, ◌+◌, Bool, true, false, ◌&&◌, if◌then◌else◌, List, ◌++◌, Some, refl, sym, ap, ◌∙◌, subst, arith}
-use Rattle.std.specs.Prelude.{slice_get, slice_set, get_or}
+use Rattle.std.specs.Prelude.{slice_get, slice_set, get_or, OnOk, Result, Ok, Err}
+use Rattle.std.specs.Result.{is_err}
 use Rattle.std.proofs.lemmas.Option.{get_or_from_slice_get}
 use Rattle.ballot.specs.Effect.{Effect}
 use Rattle.ballot.specs.Losses.{one_more}
@@ -25,7 +26,7 @@ use Rattle.world_nodes.specs.Steps.{LosesNothing, TakesIn}
 use Rattle.world_nodes.specs.Inside.{RunsAt, TookItem, WasSent}
 use Rattle.world_nodes.proofs.DeedsRun.{DeedWasSent, deeds_run}
 
-abbrev core_in : CountedCore → CoreState
+abbrev pub core_in : CountedCore → CoreState
 core_in c = c.core
 
 -- ---- a deed
@@ -51,6 +52,13 @@ acts old at node deed there sent g s =
       };
     }
 
+-- ---- results
+
+-- what holds of a result that is not refused
+pub where_ok : {A E : Type 0} (r : Result A E) (P : Type 0) → is_err r ≡ false → OnOk r P → P
+where_ok (Ok a) P e holds = holds
+where_ok (Err why) P e holds = cc
+
 -- ---- counts
 
 pub not_one_more : (losses : ℕ) → losses < 2 ^ 64 - 1 → one_more losses ≡ losses → ⊥
@@ -59,7 +67,7 @@ not_one_more losses low e = omega (arith, low, e)
 -- ---- an item
 
 -- what was sent to the node of a number was sent to the one at its place
-deed_sent : (old : NodesState) (node at : ℕ) (item : Item) → at ≡ node - 1 → 0 < node → WasSent node item old.sent
+pub deed_sent : (old : NodesState) (node at : ℕ) (item : Item) → at ≡ node - 1 → 0 < node → WasSent node item old.sent
     → (g : Group) → StandsFor g old → DeedWasSent g at (takes item)
 deed_sent old zero at item place positive sent g s = absurd (omega (arith, positive))
 deed_sent old (suc n) at (Peer message) place positive sent g s =

@@ -1,4 +1,5 @@
 mod Acts
+mod ActsLosing
 mod HandsOver
 mod InnerRuns
 mod Opens

@@ -1,7 +1,7 @@
 -- What the master does is what it may do in a group that stands for the nodes; and messages that come to it.
-use Rattle.std.proofs.Common.{◌≡◌, ◌+◌, ℕ, Bool, true, false, ◌&&◌, if◌then◌else◌, List, [], ◌∷◌, ◌++◌, Option, Some, None, refl, sym, ap, ◌∙◌, subst}
+use Rattle.std.proofs.Common.{◌≡◌, ◌+◌, ◌-◌, ℕ, zero, suc, Bool, true, false, ◌&&◌, if◌then◌else◌, List, [], ◌∷◌, ◌++◌, Option, Some, None, refl, sym, ap, ◌∙◌, subst, arith}
 use Rattle.std.specs.Prelude.{slice_get}
-use Rattle.std.specs.Bool.{OnTrue}
+use Rattle.std.specs.Bool.{OnTrue, OnFalse}
 use Rattle.lists.specs.Lists.{In}
 use Rattle.lists.proofs.Members.{in_at}
 use Rattle.ballot.specs.Body.{Body}
@@ -11,13 +11,15 @@ use Rattle.ballot.specs.Losses.{one_more}
 use Rattle.ballot.specs.Message.{Message}
 use Rattle.agreement.specs.MasterState.{AssignRefusal, MasterState, activating, assigning, is_granted, master_behind, refusal}
 use Rattle.broker_base.specs.Command.{Command}
+use Rattle.world_base.specs.declared.item.Item.TheVariants.{Peer}
+use Rattle.node_model.specs.Moves.Deed.{takes}
 use Rattle.group_model.specs.Group.{Group, with_master}
 use Rattle.group_model.specs.Goes.{MayGo, behind_assign}
-use Rattle.group_model.specs.Goes.MayGo.{master_assigns, master_hears}
+use Rattle.group_model.specs.Goes.MayGo.{master_assigns, master_hears, assigns_unheard, answers_unheard}
 use Rattle.world_model.specs.Goes.{Does, IsFaithful, deed_of}
 use Rattle.world_nodes.specs.Nodes.{NodesState}
 use Rattle.world_nodes.specs.Goes.{Comes, HeardByMaster, MasterActs, behind_answer, behind_giving}
-use Rattle.world_nodes.specs.Steps.{LosesNothing}
+use Rattle.world_nodes.specs.Steps.{ActsOrRests, ComesOrRests, LosesNothing, MasterGoes, MasterHears}
 use Rattle.master.specs.Inside.{asks_for}
 use Rattle.world_nodes.proofs.Acts.{not_one_more}
 
@@ -125,6 +127,65 @@ pub answers_ballot : (old : NodesState) (from ballot : ℕ) (state : MasterState
 answers_ballot old from ballot state body more told losses sent state_is body_is kept count =
     told_or_counted old (behind_answer from ballot) _ state from body _ more told losses (answers_exactly old from ballot sent) state_is body_is kept count
 
+-- ---- whatever memory does
+
+-- the ballot is given, and its primary is told or not
+gives_unheard : (g : Group) (config : Config) → refusal g.master config ≡ None → ByMaster g (with_master g (assigning g.master config))
+gives_unheard g config e =
+    subst (λ (r : Option AssignRefusal). ByMaster g (with_master g (master_behind g.master config r))) e (record { step = assigns_unheard config; is = refl; faithful = tt })
+
+answers_lost : (g : Group) (from ballot : ℕ) → In (0, record { from = from; body = Activate ballot }) g.sent
+    → ByMaster g (with_master g (activating g.master ballot g.master.waiting))
+answers_lost g from ballot sent = record { step = answers_unheard from ballot sent; is = refl; faithful = tt }
+
+pub gives_or_loses : (old : NodesState) (config : Config) (state : MasterState) (body : Body Command) (more : Sent) (told : Bool) (losses : ℕ)
+    → refusal old.master config ≡ None → state ≡ assigning old.master config
+    → body ≡ NewBallot (old.master.given + 1) config.members old.master.active old.master.members
+    → OnTrue told (more ≡ old.sent ++ (config.primary, record { from = 0; body = body }) ∷ []) → OnFalse told (more ≡ old.sent)
+    → MasterGoes old (master_turn state more losses old)
+unfolding does_by
+gives_or_loses old config state body more true losses none state_is body_is kept lost g s =
+    let z = (gives_exactly old config none g s).0 in
+    record {
+      does = z.does;
+      stands = record {
+        master = z.stands.master ∙ sym state_is;
+        nodes = z.stands.nodes;
+        sent = z.stands.sent ∙ sym (kept ∙ ap (λ (b : Body Command). old.sent ++ (config.primary, record { from = 0; body = b }) ∷ []) body_is);
+      };
+    }
+gives_or_loses old config state body more false losses none state_is body_is kept lost g s =
+    record {
+      does = does_by (gives_unheard g config (ap (λ (m : MasterState). refusal m config) s.master ∙ none));
+      stands = record { master = ap (λ (m : MasterState). assigning m config) s.master ∙ sym state_is; nodes = s.nodes; sent = s.sent ∙ sym lost };
+    }
+
+pub answers_or_loses : (old : NodesState) (from ballot : ℕ) (state : MasterState) (body : Body Command) (more : Sent) (told : Bool) (losses : ℕ)
+    → In (0, record { from = from; body = Activate ballot }) old.sent → state ≡ activating old.master ballot old.master.waiting
+    → body ≡ (if is_granted old.master ballot old.master.waiting then Activated ballot else Superseded ballot)
+    → OnTrue told (more ≡ old.sent ++ (from, record { from = 0; body = body }) ∷ []) → OnFalse told (more ≡ old.sent)
+    → MasterGoes old (master_turn state more losses old)
+unfolding does_by
+answers_or_loses old from ballot state body more true losses sent state_is body_is kept lost g s =
+    let z = (answers_exactly old from ballot sent g s).0 in
+    record {
+      does = z.does;
+      stands = record {
+        master = z.stands.master ∙ sym state_is;
+        nodes = z.stands.nodes;
+        sent = z.stands.sent ∙ sym (kept ∙ ap (λ (b : Body Command). old.sent ++ (from, record { from = 0; body = b }) ∷ []) body_is);
+      };
+    }
+answers_or_loses old from ballot state body more false losses sent state_is body_is kept lost g s =
+    record {
+      does = does_by (answers_lost g from ballot (subst (λ (l : Sent). In (0, record { from = from; body = Activate ballot }) l) (sym s.sent) sent));
+      stands = record {
+        master = ap (λ (m : MasterState). activating m ballot m.waiting) s.master ∙ sym state_is;
+        nodes = s.nodes;
+        sent = s.sent ∙ sym lost;
+      };
+    }
+
 -- ---- messages that come to the master
 
 asks_ballot : (ballot : ℕ) (body : Body Command) → asks_for body ≡ Some ballot → body ≡ Activate ballot
@@ -166,6 +227,28 @@ not_heard from (Superseded b) old new e same = same
 not_heard from (Append b place command) old new e same = same
 not_heard from (Held b held) old new e same = same
 not_heard from (Commit b held) old new e same = same
+
+pub heard_or_lost : (ballot : ℕ) (body : Body Command) (old new : NodesState) → asks_for body ≡ Some ballot → MasterGoes old new → MasterHears body old new
+heard_or_lost ballot body old new asks acts = subst (λ (b : Body Command). MasterHears b old new) (sym (asks_ballot ballot body asks)) acts
+
+pub not_heeded : (body : Body Command) (old new : NodesState) → asks_for body ≡ None → new ≡ old → MasterHears body old new
+not_heeded (Activate b) old new e same = cc
+not_heeded body old new e same = same
+
+pub comes_or_rests : (o : Option (ℕ × Message Command)) (x : ℕ × Message Command) (old new : NodesState) → o ≡ Some x → x.0 ≡ 0 → MasterHears x.1.body old new
+    → ComesOrRests o old new
+comes_or_rests o x old new found zero_is heard =
+    subst (λ (q : Option (ℕ × Message Command)). ComesOrRests q old new)
+    (sym (found ∙ ap (λ (k : ℕ). let y : ℕ × Message Command = (k, x.1) in Some y) zero_is)) heard
+
+-- .. or to a node
+pub comes_to_node : (o : Option (ℕ × Message Command)) (x : ℕ × Message Command) (m : Message Command) (old new : NodesState) → o ≡ Some x → (x.0 ≡ 0 → ⊥) → m ≡ x.1
+    → ActsOrRests (x.0 - 1) (takes (Peer m)) old new → ComesOrRests o old new
+comes_to_node o (zero, message) m old new found positive same acts = absurd (positive refl)
+comes_to_node o (suc at, message) m old new found positive same acts =
+    subst (λ (q : Option (ℕ × Message Command)). ComesOrRests q old new) (sym found)
+    (subst (λ (k : ℕ). ActsOrRests k (takes (Peer message)) old new) (let e : suc at - 1 ≡ at = omega arith in e)
+    (subst (λ (z : Message Command). ActsOrRests (suc at - 1) (takes (Peer z)) old new) same acts))
 
 pub comes_to_master : (o : Option (ℕ × Message Command)) (x : ℕ × Message Command) (old new : NodesState) → o ≡ Some x → x.0 ≡ 0
     → HeardByMaster x.1.from x.1.body old new → Comes o old new

@@ -7,7 +7,7 @@ ghost use Rattle.lists.specs.Lists.{In};
 ghost use Rattle.agreement.specs.MasterState.{refusal};
 ghost use Rattle.node_model.specs.Moves.Deed.{takes};
 ghost use Rattle.world_nodes.specs.Goes.{Acts, MasterActs, behind_answer, behind_giving, running};
-ghost use Rattle.world_nodes.specs.Steps.{LosesNothing, TakesIn, forgetful};
+ghost use Rattle.world_nodes.specs.Steps.{LosesNothing, MasterGoes, TakesIn, forgetful};
 ghost use Rattle.world_nodes.specs.Inside.{RunsAt, WasSent};
 
 use crate::keeping::counted;
@@ -23,6 +23,7 @@ impl Nodes {
         ensures step { OnOk result (TakesIn node item self.old self.new) }
         ensures goes { LosesNothing self.old self.new →
             OnOk result (Acts (node - 1) (takes item) self.old self.new) }
+        ensures acts { OnOk result (Acts (node - 1) (takes item) self.old self.new) }
         ensures rises { self.old.losses ≤ self.new.losses }
         ensures idle { IsErr result ↔ (running self.old.nodes node ≡ None) }
         ensures same { OnErr result (self.new ≡ self.old) }
@@ -66,6 +67,7 @@ impl Nodes {
         requires { refusal self.old.master config.now ≡ None }
         ensures goes { LosesNothing self.old self.new →
             OnOk result (MasterActs (behind_giving config.now) self.old self.new) }
+        ensures acts { OnOk result (MasterGoes self.old self.new) }
         ensures rises { self.old.losses ≤ self.new.losses }
         ensures err { OnErr result (self.new ≡ self.old) }
     {
@@ -88,6 +90,7 @@ impl Nodes {
         requires { In (0, record { from = from; body = Activate ballot }) self.old.sent }
         ensures goes { LosesNothing self.old self.new →
             MasterActs (behind_answer from ballot) self.old self.new }
+        ensures acts { MasterGoes self.old self.new }
         ensures rises { self.old.losses ≤ self.new.losses }
     {
         let (before, _) = self.master.active();

@@ -8,7 +8,7 @@ ghost use Rattle.group_model.specs.Group.{Group, opening_group};
 ghost use Rattle.node_model.specs.Moves.Deed.{takes, gives};
 ghost use Rattle.world_nodes.specs.Nodes.{NodesState, StandsFor};
 ghost use Rattle.world_nodes.specs.Goes.{Acts, AnswersFor, Comes, ComesToNobody, HandsOver, MasterActs, behind_answer, behind_giving, node_of, running};
-ghost use Rattle.world_nodes.specs.Steps.{LosesNothing, TakesIn};
+ghost use Rattle.world_nodes.specs.Steps.{ActsOrRests, ComesOrRests, HandsOrRests, LosesNothing, MasterGoesOrRests, TakesIn};
 
 use crate::counters::Counters;
 use crate::opening::can_open;
@@ -80,6 +80,7 @@ impl Nodes {
     pub fn assign(&mut self, config: &Config) -> Result<(), Idle>
         ensures goes { LosesNothing self.old self.new →
             OnOk result (MasterActs (behind_giving config.now) self.old self.new) }
+        ensures acts { OnOk result (MasterGoesOrRests self.old self.new) }
         ensures rises { self.old.losses ≤ self.new.losses }
         ensures idle { IsErr result ↔ (refusal self.old.master config.now ≡ None → ⊥) }
         ensures same { OnErr result (self.new ≡ self.old) }
@@ -98,6 +99,7 @@ impl Nodes {
     pub fn deliver(&mut self, number: u64) -> Result<(), Idle>
         ensures goes { LosesNothing self.old self.new →
             OnOk result (Comes (slice_get self.old.sent number) self.old self.new) }
+        ensures acts { OnOk result (ComesOrRests (slice_get self.old.sent number) self.old self.new) }
         ensures rises { self.old.losses ≤ self.new.losses }
         ensures idle { IsErr result ↔ ComesToNobody (slice_get self.old.sent number) self.old }
         ensures same { OnErr result (self.new ≡ self.old) }
@@ -132,6 +134,7 @@ impl Nodes {
         ensures step { OnOk result (TakesIn node (Item.Tick 0) self.old self.new) }
         ensures goes { LosesNothing self.old self.new →
             OnOk result (Acts (node - 1) (takes (Item.Tick 0)) self.old self.new) }
+        ensures acts { OnOk result (Acts (node - 1) (takes (Item.Tick 0)) self.old self.new) }
         ensures rises { self.old.losses ≤ self.new.losses }
         ensures idle { IsErr result ↔ (running self.old.nodes node ≡ None) }
         ensures same { OnErr result (self.new ≡ self.old) }
@@ -144,6 +147,7 @@ impl Nodes {
         ensures step { OnOk result (TakesIn node Item.Crash self.old self.new) }
         ensures goes { LosesNothing self.old self.new →
             OnOk result (Acts (node - 1) (takes Item.Crash) self.old self.new) }
+        ensures acts { OnOk result (Acts (node - 1) (takes Item.Crash) self.old self.new) }
         ensures rises { self.old.losses ≤ self.new.losses }
         ensures idle { IsErr result ↔ (running self.old.nodes node ≡ None) }
         ensures same { OnErr result (self.new ≡ self.old) }
@@ -156,6 +160,7 @@ impl Nodes {
         ensures step { OnOk result (TakesIn node (Item.Opened port now) self.old self.new) }
         ensures goes { LosesNothing self.old self.new →
             OnOk result (Acts (node - 1) (takes (Item.Opened port now)) self.old self.new) }
+        ensures acts { OnOk result (Acts (node - 1) (takes (Item.Opened port now)) self.old self.new) }
         ensures rises { self.old.losses ≤ self.new.losses }
         ensures idle { IsErr result ↔ (running self.old.nodes node ≡ None) }
         ensures same { OnErr result (self.new ≡ self.old) }
@@ -168,6 +173,8 @@ impl Nodes {
         ensures step { OnOk result (TakesIn node (Item.Bytes port piece.now 0) self.old self.new) }
         ensures goes { LosesNothing self.old self.new →
             OnOk result (Acts (node - 1) (takes (Item.Bytes port piece.now 0)) self.old self.new) }
+        ensures acts { OnOk result
+            (ActsOrRests (node - 1) (takes (Item.Bytes port piece.now 0)) self.old self.new) }
         ensures rises { self.old.losses ≤ self.new.losses }
         ensures idle { IsErr result ↔ (running self.old.nodes node ≡ None) }
         ensures same { OnErr result (self.new ≡ self.old) }
@@ -189,6 +196,7 @@ impl Nodes {
         ensures step { OnOk result (TakesIn node (Item.Ended port) self.old self.new) }
         ensures goes { LosesNothing self.old self.new →
             OnOk result (Acts (node - 1) (takes (Item.Ended port)) self.old self.new) }
+        ensures acts { OnOk result (Acts (node - 1) (takes (Item.Ended port)) self.old self.new) }
         ensures rises { self.old.losses ≤ self.new.losses }
         ensures idle { IsErr result ↔ (running self.old.nodes node ≡ None) }
         ensures same { OnErr result (self.new ≡ self.old) }
@@ -206,6 +214,8 @@ impl Nodes {
             OnOk result (HandsOver node port self.old out.old.items out.new.items) }
         ensures answer { LosesNothing self.old self.new →
             IfOk result (λ handed. AnswersFor node port self.old handed) }
+        ensures acts { OnOk result
+            (HandsOrRests node port self.old self.new out.old.items out.new.items) }
         ensures rises { self.old.losses ≤ self.new.losses }
         ensures idle { IsErr result ↔ (node_of self.old.nodes node ≡ None) }
         ensures same { OnErr result ((self.new ≡ self.old) × (out.new.items ≡ out.old.items)) }

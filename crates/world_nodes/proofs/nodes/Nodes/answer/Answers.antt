@@ -1,7 +1,7 @@
 use Rattle.agreement.specs.MasterState.{is_granted}
 use Rattle.master.proofs.Groups.{answer_is}
 use Rattle.world_nodes.specs.Nodes.{NodesState}
-use Rattle.world_nodes.proofs.MasterActs.{answers_ballot}
+use Rattle.world_nodes.proofs.MasterActs.{answers_ballot, answers_or_loses}
 use Rattle.world_nodes.proofs.nodes.Nodes.answer.Goals as goal
 
 pub returns-clause-goes : goal.returns-clause-goes
@@ -17,3 +17,17 @@ returns-clause-goes c =
       losses = c.self.inside.losses;
     } in old) c.args.from c.args.ballot c.activate-activation.new.self c.answer_of.result c.tell-told.new.sent.items c.tell-told.result c.counted-self-inside.result
     sent c.activate-activation.ensures.state body c.tell-told.ensures.told c.counted-self-inside.ensures)
+
+pub returns-clause-acts : goal.returns-clause-acts
+returns-clause-acts c =
+    let m = c.self.inside.master in
+    let sent = rw (← c.self.view_is) at c.requires in
+    let body = answer_is c.args.ballot (is_granted m c.args.ballot m.waiting) c.activate-activation.result c.answer_of.result
+    c.activate-activation.ensures.answer c.answer_of.ensures.granted c.answer_of.ensures.refused in
+    rw (← c.self.view_is) (answers_or_loses (let old : NodesState = record {
+      master = m;
+      nodes = c.self.inside.nodes.items;
+      sent = c.self.inside.sent.items;
+      losses = c.self.inside.losses;
+    } in old) c.args.from c.args.ballot c.activate-activation.new.self c.answer_of.result c.tell-told.new.sent.items c.tell-told.result c.counted-self-inside.result
+    sent c.activate-activation.ensures.state body c.tell-told.ensures.told c.tell-told.ensures.lost)

@@ -1,5 +1,5 @@
 use Rattle.std.proofs.Common.{sym, ◌∙◌}
-use Rattle.world_nodes.proofs.MasterActs.{asked_in, comes_to_master, heard_ballot, sent_copy}
+use Rattle.world_nodes.proofs.MasterActs.{asked_in, comes_or_rests, comes_to_master, heard_ballot, heard_or_lost, sent_copy}
 use Rattle.world_nodes.proofs.nodes.Nodes.deliver.Goals as goal
 
 pub answer-requires : goal.answer-requires
@@ -16,3 +16,9 @@ returns-in-Some-asks_for-clause-goes c =
 pub act-requires : goal.act-requires
 act-requires c =
     sent_copy c.args.self.now.sent c.args.number c.in-Some.field-0.now c.in-Ok.message c.in-Some.ensures.some c.in-Ok.ensures
+
+pub returns-in-Some-asks_for-clause-acts : goal.returns-in-Some-asks_for-clause-acts
+returns-in-Some-asks_for-clause-acts c =
+    comes_or_rests _ c.in-Some.field-0.now c.args.self.now c.answer.new.self c.in-Some.ensures.some c.if-receiver-eq0.true
+    (heard_or_lost c.in-Some-asks_for.ballot c.in-Some.field-0.now.1.body c.args.self.now c.answer.new.self
+    (sym c.asks_for.ensures ∙ c.in-Some-asks_for.is) c.answer.ensures.acts)

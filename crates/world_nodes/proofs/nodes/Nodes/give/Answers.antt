@@ -4,7 +4,7 @@ use Rattle.ballot.specs.Config.{Config}
 use Rattle.broker_base.specs.Command.{Command}
 use Rattle.master.proofs.Groups.{new_ballot_is}
 use Rattle.world_nodes.specs.Nodes.{NodesState}
-use Rattle.world_nodes.proofs.MasterActs.{gives_ballot}
+use Rattle.world_nodes.proofs.MasterActs.{gives_ballot, gives_or_loses}
 use Rattle.world_nodes.proofs.nodes.Nodes.give.Goals as goal
 
 pub returns-clause-goes : goal.returns-clause-goes
@@ -25,3 +25,22 @@ returns-clause-goes c =
       losses = c.self.inside.losses;
     } in old) c.args.config.now c.assign.new.self _ c.tell-told.new.sent.items c.tell-told.result c.counted-self-inside.result
     granted state body c.tell-told.ensures.told c.counted-self-inside.ensures)
+
+pub returns-clause-acts : goal.returns-clause-acts
+returns-clause-acts c =
+    let m = c.self.inside.master in
+    let granted = rw (← c.self.view_is) at c.requires in
+    let given : c.in_ok-given.given ≡ c.args.config.now = c.in_ok-given.ensures in
+    let none : refusal m c.in_ok-given.given ≡ None = ap (λ (z : Config). refusal m z) given ∙ granted in
+    let state : c.assign.new.self ≡ assigning m c.args.config.now =
+    c.assign.ensures.state ∙ ap (λ r. master_behind m c.in_ok-given.given r) none ∙ ap (λ (z : Config). assigning m z) given in
+    let body = new_ballot_is {C = Command} c.in-Ok.ballot m c.args.config.now c.in_ok-given.given c.in_ok-members.members c.in_ok-previous_members.previous_members c.active-previous.result.0
+    given (c.in_ok-members.ensures ∙ c.as_slice.ensures) c.in-Ok.ensures.ok c.active-previous.ensures.ballot
+    (c.in_ok-previous_members.ensures ∙ c.active-previous.ensures.members) in
+    rw (← c.self.view_is) (gives_or_loses (let old : NodesState = record {
+      master = m;
+      nodes = c.self.inside.nodes.items;
+      sent = c.self.inside.sent.items;
+      losses = c.self.inside.losses;
+    } in old) c.args.config.now c.assign.new.self _ c.tell-told.new.sent.items c.tell-told.result c.counted-self-inside.result
+    granted state body c.tell-told.ensures.told c.tell-told.ensures.lost)

@@ -1,4 +1,4 @@
-use Rattle.std.proofs.Common.{◌≡◌, ◌≤◌, ◌-◌, length, Some, arith}
+use Rattle.std.proofs.Common.{◌≡◌, ◌≤◌, ◌-◌, inl, length, Some, arith}
 use Rattle.world_nodes.specs.Goes.{node_of}
 use Rattle.world_nodes.specs.Nodes.{NodesState}
 use Rattle.world_nodes.proofs.HandsOver.{answers_so, hands, hands_bytes, is_there, stands_there}
@@ -52,3 +52,23 @@ returns-in-Ok-clause-answer c =
       sent = c.self.inside.sent.items;
       losses = c.self.inside.losses;
     } in old) c.args.node c.args.port c.index_mut-core.result.now c.in-Ok.handed is c.in-Ok.ensures.answer)
+
+pub returns-in-Ok-clause-acts : goal.returns-in-Ok-clause-acts
+returns-in-Ok-clause-acts c =
+    let below : c.args.node ≤ length c.self.inside.nodes.items = omega (arith, c.self.inside.nodes.ok.0, c.len.ensures, c.if-node-len.false) in
+    let found = stands_there c.self.inside.nodes.items c.args.node c.index_mut-core.result.now c.if-node-eq0.false below c.index_mut-core.ensures.value in
+    let is : node_of c.self.inside.nodes.items c.args.node ≡ Some c.index_mut-core.result.now = is_there c.self.inside.nodes.items c.args.node c.index_mut-core.result.now c.if-node-eq0.false found in
+    rw (← c.self.view_is) (inl (
+      hands (let old : NodesState = record {
+        master = c.self.inside.master;
+        nodes = c.self.inside.nodes.items;
+        sent = c.self.inside.sent.items;
+        losses = c.self.inside.losses;
+      } in old) (c.args.node - 1) c.index_mut-core.result.now c.outgoing.new.self c.args.port found c.in-Ok.ensures.left,
+      hands_bytes (let old : NodesState = record {
+        master = c.self.inside.master;
+        nodes = c.self.inside.nodes.items;
+        sent = c.self.inside.sent.items;
+        losses = c.self.inside.losses;
+      } in old) c.args.node c.args.port c.index_mut-core.result.now c.args.out.now.items c.outgoing.new.out.items is c.in-Ok.ensures.bytes,
+    ))
