@@ -107,7 +107,7 @@ turn_takes old node at x new item more false losses t count =
     record {
       core = x.core;
       runs = x.runs;
-      way = inr (inl (
+      way = inr (
           record {
             node = new;
             wanted = t.wanted;
@@ -118,7 +118,7 @@ turn_takes old node at x new item more false losses t count =
                 ∙ ap (λ (l : List (ℕ × Message Command)). behind_turn_of at new l (one_more old.losses) old) t.is
                 ∙ ap (λ (k : ℕ). behind_turn_of k new (old.sent ++ messages t.kept) (one_more old.losses) old) x.place;
           }
-          ));
+          );
     }
 
 pub turn_acts : (old : NodesState) (node at : ℕ) (x : RunsAt old.nodes node at) (new : CountedCore) (item : Item) (more : List (ℕ × Message Command))

@@ -45,8 +45,7 @@ pub record ActsWithLosses (at : ℕ) (item : Item) (core : CountedCore) (old new
 pub record TakesIn (node : ℕ) (item : Item) (old new : NodesState) : Type 0 where
   pub core : CountedCore
   pub runs : running old.nodes node ≡ Some core
-  pub way : (new ≡ behind_deed (node - 1) core (takes item) old)
-      ⊎ (ActsWithLosses (node - 1) item core old new ⊎ (new ≡ forgetful old))
+  pub way : (new ≡ behind_deed (node - 1) core (takes item) old) ⊎ ActsWithLosses (node - 1) item core old new
 
 -- ---- whatever memory does, each group that stands for the nodes goes on so, and then stands for the nodes behind
 

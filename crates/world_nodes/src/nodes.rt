@@ -8,7 +8,7 @@ ghost use Rattle.group_model.specs.Group.{Group, opening_group};
 ghost use Rattle.node_model.specs.Moves.Deed.{takes, gives};
 ghost use Rattle.world_nodes.specs.Nodes.{NodesState, StandsFor};
 ghost use Rattle.world_nodes.specs.Goes.{Acts, AnswersFor, Comes, ComesToNobody, HandsOver, MasterActs, behind_answer, behind_giving, node_of, running};
-ghost use Rattle.world_nodes.specs.Steps.{ActsOrRests, ComesOrRests, HandsOrRests, LosesNothing, MasterGoesOrRests, TakesIn};
+ghost use Rattle.world_nodes.specs.Steps.{ComesOrRests, HandsOrRests, LosesNothing, MasterGoesOrRests, TakesIn};
 
 use crate::counters::Counters;
 use crate::opening::can_open;
@@ -169,26 +169,17 @@ impl Nodes {
     }
 
     /// Bytes come on a stream of a node, at time 0. Idle where the node is unknown or has stopped.
-    pub fn take(&mut self, node: u8, port: Port, piece: &[u8]) -> Result<(), Idle>
-        ensures step { OnOk result (TakesIn node (Item.Bytes port piece.now 0) self.old self.new) }
+    pub fn take(&mut self, node: u8, port: Port, piece: Piece) -> Result<(), Idle>
+        ensures step { OnOk result (TakesIn node (Item.Bytes port piece 0) self.old self.new) }
         ensures goes { LosesNothing self.old self.new →
-            OnOk result (Acts (node - 1) (takes (Item.Bytes port piece.now 0)) self.old self.new) }
+            OnOk result (Acts (node - 1) (takes (Item.Bytes port piece 0)) self.old self.new) }
         ensures acts { OnOk result
-            (ActsOrRests (node - 1) (takes (Item.Bytes port piece.now 0)) self.old self.new) }
+            (Acts (node - 1) (takes (Item.Bytes port piece 0)) self.old self.new) }
         ensures rises { self.old.losses ≤ self.new.losses }
         ensures idle { IsErr result ↔ (running self.old.nodes node ≡ None) }
         ensures same { OnErr result (self.new ≡ self.old) }
     {
-        if self.running(node).is_none() {
-            return Err(Idle);
-        }
-        match Piece::from_slice(self.alloc, piece) {
-            Ok(piece) => self.act(node, Item::Bytes(port, piece, 0)),
-            Err(_) => {
-                self.lose();
-                Ok(())
-            }
-        }
+        self.act(node, Item::Bytes(port, piece, 0))
     }
 
     /// A stream of a node ended. Idle where the node is unknown or has stopped.
