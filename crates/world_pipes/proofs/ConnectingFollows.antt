@@ -9,25 +9,24 @@ use Rattle.packet.specs.declared.packet.Packet.TheVariants as packets
 use Rattle.broker_base.specs.Connection.{ConnectionName}
 use Rattle.client_base.specs.declared.error.ClientError.{ClientError}
 use Rattle.client_base.specs.State.{ClientState, is_open}
-use Rattle.client_base.specs.State as closing
 use Rattle.client_base.specs.Called as called
 use Rattle.client_base.specs.Handled as handling
 use Rattle.client_base.specs.History as history
 use Rattle.client_base.specs.Keeper.{Keeper}
 use Rattle.client_base.specs.Steps.{Call, keeper_step}
-use Rattle.client_base.proofs.FollowsHandled.{lost_stands}
-use Rattle.client.specs.Core.{AppendsAll, Core, Opens, gone}
+use Rattle.client.specs.Core.{AppendsAll, Core, Opens}
 use Rattle.node_model.specs.Puts.{spelled}
 use Rattle.world_base.specs.declared.item.Port.{Port}
 use Rattle.world_model.specs.World.{ClientPipes, new_client}
 use Rattle.world_model.specs.Goes.{after_connecting}
 use Rattle.world_pipes.specs.declared.way.Way.{Way}
-use Rattle.world_pipes.specs.Following.{ConnectingFollows, after_losing}
+use Rattle.world_pipes.specs.Following.{ConnectingFollows, FollowsAll}
 use Rattle.world_pipes.specs.Goes.{ClientGoes}
 use Rattle.world_pipes.specs.Piped.{Connects, Piped, is_holding, new_piped, new_way, piped, sent_up}
 use Rattle.world_pipes.specs.Standing.{AreWays, CanGoOut, StandsFor}
 use Rattle.world_pipes.proofs.PacketsHandled.{appended}
-use Rattle.world_pipes.proofs.Ways.{losing_goes, same_pipes, with_newest}
+use Rattle.world_pipes.proofs.TakenBack.{opened_and_lost}
+use Rattle.world_pipes.proofs.Ways.{with_newest}
 
 -- ---- a client that was never connected
 
@@ -133,18 +132,5 @@ connecting_follows node port old new (Ok done) closed (core, opens, is) = λ m x
 )
 connecting_follows node port old new (Err cause) closed (memory, ways, inl same) = λ m s.
     record { next = m; goes = ClientGoes.stays; stands = subst (λ p. StandsFor p m) (sym (ap₂ piped same ways)) s }
-connecting_follows node port old new (Err cause) closed (memory, ways, inr (core, opens, lost)) = λ m s.
-    let gone-now : new ≡ piped (gone core) old.ways = ap₂ piped lost ways in
-    record {
-      next = after_losing m;
-      goes = losing_goes m;
-      stands = subst (λ p. StandsFor p (after_losing m)) (sym gone-now)
-          (record {
-            keeper = subst (λ state. history.StandsFor (handling.lost m.keeper) (closing.lost state)) (sym opens.0) (lost_stands m.keeper old.core.state s.keeper);
-            fits = subst (λ state. CanGoOut (closing.lost state)) (sym opens.0)
-                (record { keep_alive = s.fits.keep_alive; client = s.fits.client; released = s.fits.released; sent = s.fits.sent; unsent = s.fits.unsent });
-            many = s.many ∙ ap length (sym (same_pipes m));
-            ways = subst (AreWays (reverse old.ways)) (sym (same_pipes m)) s.ways;
-            held = λ up. absurd (both_ways false refl up);
-          });
-    }
+connecting_follows node port old new (Err cause) closed (memory, ways, inr (core, opens, lost)) =
+    subst (λ p. FollowsAll old p) (sym (ap₂ piped lost ways)) (opened_and_lost old core opens.0)

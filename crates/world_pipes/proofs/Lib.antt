@@ -7,6 +7,7 @@ pub mod Spellable
 pub mod PacketsHandled
 pub mod Ways
 pub mod HearingFollows
+pub mod TakenBack
 pub mod ConnectingFollows
 pub mod NotRefused
 pub mod CallsSpellable

@@ -1,5 +1,5 @@
 -- What a `PipedClient` shows: the client, and its connections with the bytes under way, the oldest first.
-use Rattle.std.specs.Prelude.{◌≡◌, ℕ, Bool, true, false, ◌⊎◌, List, [], ◌∷◌, ◌++◌, take, drop, Result, Ok, Err}
+use Rattle.std.specs.Prelude.{◌≡◌, ℕ, ◌-◌, Bool, true, false, ◌⊎◌, List, [], ◌∷◌, ◌++◌, length, take, drop, Result, Ok, Err}
 use Rattle.world_base.specs.declared.item.Port.{Port}
 use Rattle.client_base.specs.declared.error.ClientError.{ClientError}
 use Rattle.client_base.specs.declared.error.ClientError.TheVariants as errors
@@ -68,6 +68,10 @@ Connects node port turn old (Ok done) new =
     (core : Core) × Opens turn old.core (Ok tt) core × (new ≡ sent_up core old.ways (new_way node port))
 Connects node port turn old (Err cause) new = (cause ≡ errors.Memory) × (new.ways ≡ old.ways)
     × ((new.core ≡ old.core) ⊎ ((core : Core) × Opens turn old.core (Ok tt) core × (new.core ≡ gone core)))
+
+-- a connection that its node does not take is taken back: nothing is left of it
+abbrev pub taken_back : Piped → Piped
+taken_back client = piped (gone client.core) (take (length client.ways - 1) client.ways)
 
 -- ---- hearing
 

@@ -3,7 +3,7 @@
 ghost use Rattle.std.specs.Prelude.{◌≡◌, false};
 ghost use Rattle.client_base.specs.Steps.{Call, keeper_step};
 ghost use Rattle.world_pipes.specs.Following.{CallingFollows, ConnectingFollows};
-ghost use Rattle.world_pipes.specs.Piped.{Connects, TakesLeave, is_holding};
+ghost use Rattle.world_pipes.specs.Piped.{Connects, TakesLeave, is_holding, taken_back};
 
 use crate::piped_client::PipedClient;
 use crate::sending::{Sending, send_up};
@@ -37,6 +37,16 @@ impl PipedClient {
         self.ways.push_reserved(way);
         self.holds = true;
         Ok(())
+    }
+
+    /// The connection that was opened last is taken back, since its node does not take it: nothing is left of it, and
+    /// the client holds none.
+    pub fn take_back(&mut self)
+        ensures { self.new ≡ taken_back self.old }
+    {
+        self.ways.pop();
+        self.core.lost();
+        self.holds = false;
     }
 
     /// Ends the connection, with a DISCONNECT where the server has accepted it. `NotActive` comes exactly where there is

@@ -1,0 +1,52 @@
+-- TakenBack.antt: a connection that is opened and lost at once, of which nothing is left.
+use Rattle.std.proofs.Common.{◌≡◌, ◌-◌, List, [], ◌∷◌, ◌++◌, ℕ, false, Ok, length, take, reverse, refl, ap, sym, subst, ◌∙◌, arith}
+use Rattle.std.proofs.lemmas.Bool.{both_ways}
+use Rattle.std.proofs.lemmas.List.{length-append, take_at}
+use Rattle.client_base.specs.Handled.{lost}
+use Rattle.client_base.specs.History as history
+use Rattle.client_base.specs.State as closing
+use Rattle.client_base.specs.Steps.{Call, keeper_step}
+use Rattle.client_base.proofs.FollowsHandled.{lost_stands}
+use Rattle.client.specs.Core.{Core, gone}
+use Rattle.world_base.specs.declared.item.Port.{Port}
+use Rattle.world_pipes.specs.declared.way.Way.{Way}
+use Rattle.world_pipes.specs.Following.{FollowsAll, after_losing}
+use Rattle.world_pipes.specs.Piped.{Connects, Piped, new_way, piped, taken_back}
+use Rattle.world_pipes.specs.Standing.{AreWays, CanGoOut}
+use Rattle.world_pipes.proofs.Ways.{losing_goes, same_pipes}
+
+-- the model's client lost its connection, and opened none
+pub opened_and_lost : (old : Piped) (core : Core) → core.state ≡ (keeper_step Call.Opens old.core.state).state → FollowsAll old (piped (gone core) old.ways)
+opened_and_lost old core opens m s =
+    record {
+      next = after_losing m;
+      goes = losing_goes m;
+      stands = record {
+        keeper = subst (λ state. history.StandsFor (lost m.keeper) (closing.lost state)) (sym opens) (lost_stands m.keeper old.core.state s.keeper);
+        fits = subst (λ state. CanGoOut (closing.lost state)) (sym opens)
+            (record { keep_alive = s.fits.keep_alive; client = s.fits.client; released = s.fits.released; sent = s.fits.sent; unsent = s.fits.unsent });
+        many = s.many ∙ ap length (sym (same_pipes m));
+        ways = subst (AreWays (reverse old.ways)) (sym (same_pipes m)) s.ways;
+        held = λ up. absurd (both_ways false refl up);
+      };
+    }
+
+all_but_last : (ways : List Way) (way : Way) → take (length (ways ++ way ∷ []) - 1) (ways ++ way ∷ []) ≡ ways
+all_but_last ways way =
+    let longer = length-append ways (way ∷ []) in
+    take_at ways (way ∷ []) (length (ways ++ way ∷ []) - 1) (let e : length ways ≡ length (ways ++ way ∷ []) - 1 = omega (arith, longer) in e)
+
+-- one that its node does not take
+pub taking_back_follows : (node : ℕ) (port : Port) (old new : Piped) → Connects node port (keeper_step Call.Opens old.core.state) old (Ok tt) new
+    → FollowsAll old (taken_back new)
+taking_back_follows node port old new (core, opens, is) =
+    let bare : Core = record core { out = [] } in
+    let way : Way = record (new_way node port) { up = core.out } in
+    subst (λ p. FollowsAll old p)
+    (sym (ap taken_back is ∙ ap (λ ways. piped (gone bare) ways) (all_but_last old.ways way))) (opened_and_lost old bare opens.0)
+
+-- behind it connections lead where they led
+pub taken_back_ways : (node : ℕ) (port : Port) (old new : Piped) → Connects node port (keeper_step Call.Opens old.core.state) old (Ok tt) new
+    → (taken_back new).ways ≡ old.ways
+taken_back_ways node port old new (core, opens, is) =
+    ap (λ p. (taken_back p).ways) is ∙ all_but_last old.ways (record (new_way node port) { up = core.out })
