@@ -21,7 +21,7 @@ done_no_err : (result : Result (Unit {0}) Idle) (P : Type 0) → IsOk result →
 done_no_err (Ok done) P ok = tt
 done_no_err (Err idle) P ok = absurd (both_ways false refl ok)
 
-on_err : (result : Result (Unit {0}) Idle) (P : Type 0) → P → OnErr result P
+pub on_err : (result : Result (Unit {0}) Idle) (P : Type 0) → P → OnErr result P
 on_err (Ok done) P p = tt
 on_err (Err idle) P p = p
 

@@ -27,7 +27,7 @@ use Rattle.world.specs.Happening.{Asks, ClientDoes, HoldsNone, Leaves, Loses, Re
 use Rattle.world.specs.Inside.{Counts, IsCall, Meets}
 use Rattle.world.specs.World.{WorldState}
 use Rattle.world.proofs.ClientGoes.{same_piped}
-use Rattle.world.proofs.OpensOn.{counted_loss}
+use Rattle.world.proofs.Joined.{counted_loss}
 use Rattle.world.proofs.StandsThere.{core_found}
 
 -- what comes of something that a client does

@@ -60,7 +60,7 @@ client_goes old i client piped found follows nodes config cs m trail s =
 
 -- only clients change, and no count falls
 pub clients_go_on : (old new : WorldState) → new.nodes ≡ old.nodes → old.losses ≤ new.losses → WorldGoes old new → GoesOn old new
-clients_go_on old new nodes rises goes = record { rises = rises; nodes = nodes_rest old.nodes new.nodes nodes; goes = λ none whole. goes }
+clients_go_on old new nodes rises goes = record { rises = rises; nodes = nodes_rest old.nodes new.nodes nodes; goes = goes }
 
 pub client_goes_on : (old : WorldState) (i : ℕ) (client : WorldClient) (piped : Piped) → slice_get old.clients i ≡ Some client → FollowsAll client.piped piped →
     GoesOn old (with_piped i client piped old)

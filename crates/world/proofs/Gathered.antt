@@ -31,9 +31,6 @@ is_asked number place is_open old mid new at positive h is =
       is = is ∙ ap (marked number place is_open) h.is ∙ ap (λ (b : Bool). marked number place b down) h.told;
     }
 
-pub asked_where : (b : Bool) (number : ℕ) (old new : WorldState) → b ≡ true → IsAsked number old new → AskedWhere b number old new
-asked_where b number old new is asked = subst (λ (z : Bool). AskedWhere z number old new) (sym is) asked
-
 -- ---- the connections of a node
 
 -- what was asked so far, and what is still to come
@@ -73,17 +70,3 @@ pub takes_item : (node : ℕ) (item : Item) (old : WorldState) (between : NodesS
 takes_item node item old between new rises acts goes gathers none =
     let s = nodes_split old.nodes between new.nodes rises goes.nodes.rises none in
     (between, acts s.0, gathers s.1)
-
--- the newest connection is asked first
-pub first_of_all : (node number : ℕ) (item : Item) (old mid new : WorldState) → 0 < node → 0 < number → number ≡ length old.connections → is_open_at node (place_numbered number old.connections) ≡ true
-    → (between : NodesState) → Acts (node - 1) (takes item) old.nodes between → IsAsked number (with_nodes between old) mid → GathersAmong (number - 1) node mid new → TakesItem node item old new
-first_of_all node zero item old mid new high positive newest leads between acts asked more = absurd (omega (arith, positive))
-first_of_all node (suc before) item old mid new high positive newest leads between acts asked more = (
-  between,
-  acts,
-  gathers_all node (with_nodes between old) new (suc before) high newest (
-    mid,
-    asked_where _ (suc before) (with_nodes between old) mid leads asked,
-    subst (λ (k : ℕ). GathersAmong k node mid new) (let e : suc before - 1 ≡ before = omega arith in e) more,
-  ),
-)

@@ -1,6 +1,5 @@
 -- GoesDown.antt: what a node hands over for a connection goes down on it.
-use Rattle.std.proofs.Common.{◌≡◌, ◌⊎◌, inl, inr, ◌-◌, ℕ, suc, Bool, if◌then◌else◌, List, [], ◌++◌, Option, Some, None, set, slice_get, refl, sym, ap, ◌∙◌, subst, arith}
-use Rattle.std.proofs.lemmas.List.{append-nil}
+use Rattle.std.proofs.Common.{◌≡◌, inl, inr, ◌-◌, ℕ, suc, Bool, if◌then◌else◌, List, [], ◌++◌, Option, Some, None, set, slice_get, refl, sym, ap, ◌∙◌, subst, arith}
 use Rattle.std.proofs.lemmas.Option.{same_Some}
 use Rattle.ballot.specs.Config.{Config}
 use Rattle.broker_base.specs.Connection.{ConnectionName, same_connection}
@@ -23,7 +22,7 @@ use Rattle.world_model.specs.Goes.WorldStep.{goes_down}
 use Rattle.world_model.proofs.NodesGoOn.{carries_with}
 use Rattle.world_model.proofs.PipesHold.{found_in}
 use Rattle.world_model.proofs.PipesInOrder.{reached_holds}
-use Rattle.world_nodes.specs.Goes.{Acts, HandsOver, node_of}
+use Rattle.world_nodes.specs.Goes.{Acts, HandsOver}
 use Rattle.world_nodes.specs.Nodes.{NodesState}
 use Rattle.world_pipes.specs.declared.way.Way.{Way}
 use Rattle.world_pipes.specs.Piped.{Piped}
@@ -31,8 +30,7 @@ use Rattle.world.specs.declared.place.Place.{Place}
 use Rattle.world.specs.declared.world.WorldClient.{WorldClient}
 use Rattle.world.specs.Housed.{LeadsThere, leads_of}
 use Rattle.world.specs.Found.{with_down}
-use Rattle.world.specs.Gathering.{Gives, put_out}
-use Rattle.world.specs.Inside.{HandsDown, PutsDown}
+use Rattle.world.specs.Inside.{MayHandDown, MayPutDown, NodesStay}
 use Rattle.world.specs.Standing.{GoesTo, StandsFor, WorldGoes}
 use Rattle.world.specs.Standing.Steps.{rests, goes_on}
 use Rattle.world.specs.World.{WorldState}
@@ -90,42 +88,29 @@ module _ {nodes : ℕ} {config : Config} {cs : List Client} (m : World) (trail :
         };
       }
 
-  -- with none, where the node is unknown
-  hands_nothing : (later : Piped) → slice_get old.clients place.client ≡ Some client → new ≡ old.nodes → later ≡ client.piped → GoesTo m (put_down place.client client later new old)
-  hands_nothing later at same still =
+  -- with none, where the node is unknown, or there is no memory for them
+  hands_nothing : (later : Piped) → slice_get old.clients place.client ≡ Some client → NodesStay old.nodes new → later ≡ client.piped → GoesTo m (put_down place.client client later new old)
+  hands_nothing later at stay still =
       subst (λ (z : Piped). GoesTo m (put_down place.client client z new old)) (sym still)
       (subst (λ (l : List WorldClient). GoesTo m (let w : WorldState = record old { nodes = new; clients = l } in w)) (sym (set_itself old.clients place.client client at))
-      (subst (λ (n : NodesState). GoesTo m (let w : WorldState = record old { nodes = n } in w)) (sym same)
-      (record { behind = m; steps = rests; stands = s })))
-
--- a node that is there hands over, and one that is unknown does nothing
-there_or_not : (node : ℕ) (port : Port) (old new : NodesState) (before behind : List ℕ) → HandsDown node port old before new behind
-    → ((new ≡ old) × (behind ≡ before)) ⊎ (Acts (node - 1) (gives port) old new × HandsOver node port old before behind)
-there_or_not node port old new before behind hands = by (node_of old.nodes node) refl hands.0 hands.1
-  where
-    by : (o : Option CountedCore) → node_of old.nodes node ≡ o → Gives o node port old new → behind ≡ before ++ put_out port o
-        → ((new ≡ old) × (behind ≡ before)) ⊎ (Acts (node - 1) (gives port) old new × HandsOver node port old before behind)
-    by None none same is = inl (same, is ∙ append-nil before)
-    by (Some core) there acts is =
-        inr (acts, λ other e. is ∙ ap (λ (k : CountedCore). before ++ bytes_of (listed_at port k.core)) (same_Some core other (sym there ∙ e)))
+      (record { behind = m; steps = rests; stands = record { nodes = stay m.group s.nodes; clients = s.clients } }))
 
 -- what its node put out for the connection of a number goes down, or nothing does
 pub puts_down : (old : WorldState) (number : ℕ) (place : Place) (client : WorldClient) (new : NodesState) (later : Piped) → LeadsThere (leads_of old.clients) number place
-    → slice_get old.clients place.client ≡ Some client → PutsDown place.at place.node (record { 0 = number }) old.nodes client.piped new later
+    → slice_get old.clients place.client ≡ Some client → MayPutDown place.at place.node (record { 0 = number }) old.nodes client.piped new later
     → WorldGoes old (put_down place.client client later new old)
 puts_down old number place client new later there at puts nodes config cs m trail s =
     let l = led old.clients number place client there at in
     let one = client_at old.clients m.clients place.client client s.clients at in
     let x = pipe_at client.piped one.c place.at l.way one.stands l.found in
-    let p = puts l.way l.found in by l.way one x p.0 l.node l.port l.found
-    (there_or_not place.node (record { 0 = number }) old.nodes new l.way.down p.0 p.1) p.2
+    let p = puts l.way l.found in by l.way one x p.0 l.node l.port l.found p.1 p.2
   where
     by : (way : Way) (one : StandsAt m.clients place.client client.piped) (x : PipeAt client.piped one.c place.at way) (bytes : List ℕ) → suc way.node ≡ place.node → way.port ≡ record { 0 = number }
         → slice_get client.piped.ways place.at ≡ Some way
-        → ((new ≡ old.nodes) × (bytes ≡ way.down)) ⊎ (Acts (place.node - 1) (gives (let q : Port = record { 0 = number } in q)) old.nodes new × HandsOver place.node (record { 0 = number }) old.nodes way.down bytes) → later ≡ with_down place.at way bytes client.piped
+        → MayHandDown place.node (record { 0 = number }) old.nodes way.down new bytes → later ≡ with_down place.at way bytes client.piped
         → GoesTo m (put_down place.client client later new old)
-    by way one x bytes node port found (inl (same, still)) is =
-        hands_nothing m trail old s place client one way x new later at same
+    by way one x bytes node port found (inl (stay, still)) is =
+        hands_nothing m trail old s place client one way x new later at stay
         (is ∙ ap (λ (b : List ℕ). with_down place.at way b client.piped) still
         ∙ ap (λ (ws : List Way). let z : Piped = record client.piped { ways = ws } in z) (set_itself client.piped.ways place.at way found))
     by way one x bytes node port found (inr (acts, over)) is =

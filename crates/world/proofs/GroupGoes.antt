@@ -1,36 +1,52 @@
--- GroupGoes.antt: what nodes and their master do by themselves is a step of the world.
-use Rattle.std.proofs.Common.{◌≡◌, ◌≤◌, ℕ, zero, suc, true, Option, Some, None, Result, Ok, Err, OnOk, OnErr, refl, sym, subst, arith}
+-- GroupGoes.antt: what nodes and their master do by themselves is a step of the world, whatever memory does.
+use Rattle.std.proofs.Common.{◌≡◌, ◌⊎◌, inl, inr, ◌≤◌, ◌-◌, ℕ, zero, suc, true, Option, Some, None, Result, Ok, Err, OnOk, OnErr, refl, arith}
 use Rattle.std.specs.Prelude.{slice_get}
 use Rattle.ballot.specs.Body.{Body}
 use Rattle.ballot.specs.Body.TheVariants.{NewBallot, Join, State, Install, Installed, Activate, Activated, Superseded, Append, Held, Commit}
 use Rattle.ballot.specs.Message.{Message}
 use Rattle.broker_base.specs.Command.{Command}
 use Rattle.master.specs.declared.event.Idle.{Idle}
+use Rattle.world_base.specs.declared.item.Item.TheVariants.{Peer}
 use Rattle.node_model.specs.Moves.{Deed}
+use Rattle.node_model.specs.Moves.Deed.{takes}
 use Rattle.group_model.specs.Group.{Group}
 use Rattle.world_model.specs.World.{World}
 use Rattle.world_model.specs.Goes.{is_apart}
 use Rattle.world_model.specs.Goes.WorldStep.{goes_on as group_goes}
 use Rattle.world_nodes.specs.Nodes.{NodesState, StandsFor as NodesStand}
-use Rattle.world_nodes.specs.Goes.{Acts, Comes, GoesBy, HeardByMaster, MasterActs}
-use Rattle.world_nodes.specs.Steps.{LosesNothing as NodesLoseNothing}
-use Rattle.world.specs.Inside.{GoesOn}
-use Rattle.world.specs.Standing.{WorldGoes}
+use Rattle.world_nodes.specs.Goes.{Acts, GoesBy}
+use Rattle.world_nodes.specs.Steps.{ActsOrRests, ComesOrRests, HandsOrRests, MasterGoes, MasterGoesOrRests, MasterHears, forgetful}
+use Rattle.world.specs.Goes.{NodesGo, NodesGoOn}
+use Rattle.world.specs.Goes.Goes.{rests as stands_still, goes_on as then_goes}
+use Rattle.world.specs.Inside.{GoesOn, NodesStay}
+use Rattle.world.specs.Standing.{StandsFor, WorldGoes}
 use Rattle.world.specs.Standing.Steps.{rests, goes_on}
 use Rattle.world.specs.World.{WorldState}
-use Rattle.world.proofs.Joined.{world_rests}
-use Rattle.world.proofs.NodesGoOn.{by_assign, by_call, by_delivery}
+use Rattle.world.proofs.NodesGoOn.{nodes_forget, nodes_rest, nodes_stay, staying_goes}
 
 abbrev pub with_nodes : NodesState → WorldState → WorldState
 with_nodes nodes w = record w { nodes = nodes }
 
-still_low : (n : ℕ) → n ≤ n
-still_low n = omega arith
+-- ---- what is done by itself
 
--- whichever deed its group does, in which connections have no part
-group_steps : (deed : Option (ℕ × Deed)) (old : WorldState) (new : NodesState) → is_apart deed ≡ true → ((g : Group) → NodesStand g old.nodes → GoesBy deed g new)
-    → WorldGoes old (with_nodes new old)
-group_steps deed old new apart by nodes config cs m trail s =
+-- a deed in which connections have no part, or nothing
+pub data GoesApart (old new : NodesState) : Type 0 where
+  stays : NodesStay old new → GoesApart old new
+  acts : (deed : Option (ℕ × Deed)) → is_apart deed ≡ true → ((g : Group) → NodesStand g old → GoesBy deed g new) → GoesApart old new
+
+pub acts_go : (deed : Option (ℕ × Deed)) (old new : NodesState) → ((g : Group) → NodesStand g old → GoesBy deed g new) → NodesGo old new
+acts_go deed old new by g s = let d = by g s in record { behind = d.does.behind; goes = then_goes stands_still d.does.step; stands = d.stands }
+
+nodes_go : (old new : NodesState) → GoesApart old new → NodesGo old new
+nodes_go old new (stays stay) = staying_goes old new stay
+nodes_go old new (acts deed apart by) = acts_go deed old new by
+
+pub world_stands : (old : WorldState) (new : NodesState) → NodesStay old.nodes new → WorldGoes old (with_nodes new old)
+world_stands old new stay nodes config cs m trail s = record { behind = m; steps = rests; stands = record { nodes = stay m.group s.nodes; clients = s.clients } }
+
+world_goes : (old : WorldState) (new : NodesState) → GoesApart old.nodes new → WorldGoes old (with_nodes new old)
+world_goes old new (stays stay) nodes config cs m trail s = world_stands old new stay nodes config cs m trail s
+world_goes old new (acts deed apart by) nodes config cs m trail s =
     let d = by m.group s.nodes in
     record {
       behind = (let w : World = record m { group = d.does.behind } in w);
@@ -38,54 +54,52 @@ group_steps deed old new apart by nodes config cs m trail s =
       stands = record { nodes = d.stands; clients = s.clients };
     }
 
-nodes_stay : (old : WorldState) (new : NodesState) → new ≡ old.nodes → WorldGoes old (with_nodes new old)
-nodes_stay old new same = subst (λ (n : NodesState). WorldGoes old (with_nodes n old)) (sym same) (world_rests old old refl)
+pub goes_apart : (old : WorldState) (new : NodesState) → old.nodes.losses ≤ new.losses → GoesApart old.nodes new → GoesOn old (with_nodes new old)
+goes_apart old new rises apart =
+    record { rises = omega arith; nodes = record { rises = rises; goes = nodes_go old.nodes new apart }; goes = world_goes old new apart }
 
 -- ---- calls of nodes, done or idle
 
-pub goes_by_call : {X : Type 0} (r : Result X Idle) (old : WorldState) (new : NodesState) (at : ℕ) (deed : Deed) → is_apart (Some (at, deed)) ≡ true → old.nodes.losses ≤ new.losses
-    → (NodesLoseNothing old.nodes new → OnOk r (Acts at deed old.nodes new)) → OnErr r (new ≡ old.nodes) → GoesOn old (with_nodes new old)
-goes_by_call {X = X} r old new at deed apart rises acts same =
-    record { rises = still_low old.losses; nodes = by_call r old.nodes new at deed rises acts same; goes = λ none whole. by r (acts whole) same }
-  where
-    by : (r : Result X Idle) → OnOk r (Acts at deed old.nodes new) → OnErr r (new ≡ old.nodes) → WorldGoes old (with_nodes new old)
-    by (Ok x) does idle = group_steps (Some (at, deed)) old new apart does
-    by (Err e) does idle = nodes_stay old new idle
+pub by_call : {X : Type 0} (r : Result X Idle) (old new : NodesState) (at : ℕ) (deed : Deed) → is_apart (Some (at, deed)) ≡ true → OnOk r (Acts at deed old new)
+    → OnErr r (new ≡ old) → GoesApart old new
+by_call (Ok x) old new at deed apart does same = acts (Some (at, deed)) apart does
+by_call (Err e) old new at deed apart does same = stays (nodes_stay old new same)
 
-pub goes_by_assign : {X : Type 0} (r : Result X Idle) (old : WorldState) (new : NodesState) (next : Group → Group) → old.nodes.losses ≤ new.losses
-    → (NodesLoseNothing old.nodes new → OnOk r (MasterActs next old.nodes new)) → OnErr r (new ≡ old.nodes) → GoesOn old (with_nodes new old)
-goes_by_assign {X = X} r old new next rises acts same =
-    record { rises = still_low old.losses; nodes = by_assign r old.nodes new next rises acts same; goes = λ none whole. by r (acts whole) same }
-  where
-    by : (r : Result X Idle) → OnOk r (MasterActs next old.nodes new) → OnErr r (new ≡ old.nodes) → WorldGoes old (with_nodes new old)
-    by (Ok x) does idle = group_steps None old new refl (λ g s. (does g s).0)
-    by (Err e) does idle = nodes_stay old new idle
+-- also by one that connections have a part in
+pub call_goes : {X : Type 0} (r : Result X Idle) (old new : NodesState) (at : ℕ) (deed : Deed) → old.losses ≤ new.losses → OnOk r (Acts at deed old new) → OnErr r (new ≡ old)
+    → NodesGoOn old new
+call_goes (Ok x) old new at deed rises does same = record { rises = rises; goes = acts_go (Some (at, deed)) old new does }
+call_goes (Err e) old new at deed rises does same = nodes_rest old new same
+
+acts_or_stays : (deed : Option (ℕ × Deed)) (old new : NodesState) → is_apart deed ≡ true → ((g : Group) → NodesStand g old → GoesBy deed g new) ⊎ (new ≡ forgetful old) → GoesApart old new
+acts_or_stays deed old new apart (inl does) = acts deed apart does
+acts_or_stays deed old new apart (inr forgets) = stays (nodes_forget old new forgets)
+
+pub by_assign : {X : Type 0} (r : Result X Idle) (old new : NodesState) → OnOk r (MasterGoesOrRests old new) → OnErr r (new ≡ old) → GoesApart old new
+by_assign (Ok x) old new does same = acts_or_stays None old new refl does
+by_assign (Err e) old new does same = stays (nodes_stay old new same)
 
 -- ---- a message comes
 
-heard : (from : ℕ) (body : Body Command) (old : WorldState) (new : NodesState) → HeardByMaster from body old.nodes new → WorldGoes old (with_nodes new old)
-heard from (Activate ballot) old new acts = group_steps None old new refl (λ g s. (acts g s).0)
-heard from (NewBallot b members a o) old new same = nodes_stay old new same
-heard from (Join b a) old new same = nodes_stay old new same
-heard from (State b log) old new same = nodes_stay old new same
-heard from (Install b log) old new same = nodes_stay old new same
-heard from (Installed b held) old new same = nodes_stay old new same
-heard from (Activated b) old new same = nodes_stay old new same
-heard from (Superseded b) old new same = nodes_stay old new same
-heard from (Append b place command) old new same = nodes_stay old new same
-heard from (Held b held) old new same = nodes_stay old new same
-heard from (Commit b held) old new same = nodes_stay old new same
+heard : (body : Body Command) (old new : NodesState) → MasterHears body old new → GoesApart old new
+heard (Activate ballot) old new does = acts None refl does
+heard (NewBallot b members a o) old new same = stays (nodes_stay old new same)
+heard (Join b a) old new same = stays (nodes_stay old new same)
+heard (State b log) old new same = stays (nodes_stay old new same)
+heard (Install b log) old new same = stays (nodes_stay old new same)
+heard (Installed b held) old new same = stays (nodes_stay old new same)
+heard (Activated b) old new same = stays (nodes_stay old new same)
+heard (Superseded b) old new same = stays (nodes_stay old new same)
+heard (Append b place command) old new same = stays (nodes_stay old new same)
+heard (Held b held) old new same = stays (nodes_stay old new same)
+heard (Commit b held) old new same = stays (nodes_stay old new same)
 
-comes : (o : Option (ℕ × Message Command)) (old : WorldState) (new : NodesState) → Comes o old.nodes new → WorldGoes old (with_nodes new old)
+comes : (o : Option (ℕ × Message Command)) (old new : NodesState) → ComesOrRests o old new → GoesApart old new
 comes None old new does = absurd does
-comes (Some (zero, message)) old new does = heard message.from message.body old new does
-comes (Some (suc at, message)) old new does = group_steps _ old new refl does
+comes (Some (zero, message)) old new does = heard message.body old new does
+comes (Some (suc at, message)) old new does = acts_or_stays (Some (at, takes (Peer message))) old new refl does
 
-pub goes_by_delivery : {X : Type 0} (r : Result X Idle) (old : WorldState) (new : NodesState) (number : ℕ) → old.nodes.losses ≤ new.losses
-    → (NodesLoseNothing old.nodes new → OnOk r (Comes (slice_get old.nodes.sent number) old.nodes new)) → OnErr r (new ≡ old.nodes) → GoesOn old (with_nodes new old)
-goes_by_delivery {X = X} r old new number rises acts same =
-    record { rises = still_low old.losses; nodes = by_delivery r old.nodes new number rises acts same; goes = λ none whole. by r (acts whole) same }
-  where
-    by : (r : Result X Idle) → OnOk r (Comes (slice_get old.nodes.sent number) old.nodes new) → OnErr r (new ≡ old.nodes) → WorldGoes old (with_nodes new old)
-    by (Ok x) does idle = comes (slice_get old.nodes.sent number) old new does
-    by (Err e) does idle = nodes_stay old new idle
+pub by_delivery : {X : Type 0} (r : Result X Idle) (old new : NodesState) (number : ℕ) → OnOk r (ComesOrRests (slice_get old.sent number) old new) → OnErr r (new ≡ old)
+    → GoesApart old new
+by_delivery (Ok x) old new number does same = comes (slice_get old.sent number) old new does
+by_delivery (Err e) old new number does same = stays (nodes_stay old new same)

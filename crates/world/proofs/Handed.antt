@@ -1,5 +1,5 @@
 -- Handed.antt: where bytes are handed over, or come to a node, the world goes on.
-use Rattle.std.proofs.Common.{◌≡◌, ◌<◌, ◌≤◌, ◌-◌, ℕ, Bool, List, Some, None, Result, Ok, Err, OnOk, OnErr, length, slice_get, refl, sym, ap, ◌∙◌, subst, arith}
+use Rattle.std.proofs.Common.{◌≡◌, ◌<◌, ◌≤◌, ◌-◌, ℕ, Bool, true, false, if◌then◌else◌, List, Some, None, Result, Ok, Err, OnErr, length, slice_get, refl, sym, ap, ◌∙◌, subst, arith}
 use Rattle.std.specs.Prelude.{IfSome, drop, take}
 use Rattle.std.proofs.lemmas.Option.{same_Some}
 use Rattle.master.specs.declared.event.Idle.{Idle}
@@ -8,21 +8,19 @@ use Rattle.world_base.specs.declared.item.Port.{Port}
 use Rattle.node_model.specs.Moves.Deed.{takes}
 use Rattle.world_nodes.specs.Goes.{Acts, node_of, running}
 use Rattle.world_nodes.specs.Nodes.{NodesState}
-use Rattle.world_nodes.specs.Steps.{LosesNothing as NodesLoseNothing}
 use Rattle.world_pipes.specs.declared.way.Way.{Way}
 use Rattle.world_pipes.specs.Piped.{Piped}
 use Rattle.world.specs.declared.place.Place.{Place}
 use Rattle.world.specs.declared.world.WorldClient.{WorldClient}
-use Rattle.world.specs.Goes.{NodesGoOn}
+use Rattle.world.specs.Goes.{LosesNothing, NodesGoOn}
 use Rattle.world.specs.Housed.{AreHoused, leads, leads_of}
 use Rattle.world.specs.Found.{port_of, with_down, with_less}
 use Rattle.world.specs.Gathering.{is_told_open}
-use Rattle.world.specs.Inside.{GoesOn, CannotTake, CannotTakeOn, HandsOn, PutsDown, TakesUp, TakesUpOn}
-use Rattle.world.specs.Standing.{WorldGoes}
+use Rattle.world.specs.Inside.{CannotTake, CannotTakeOn, GoesOn, HandsOn, MayPutDown, PutsDown, TakesUp, TakesUpOn, TakesUpWhere, forgetful}
 use Rattle.world.specs.World.{WorldState}
 use Rattle.world.proofs.ComesUp.{takes_up}
 use Rattle.world.proofs.GoesDown.{put_down, puts_down}
-use Rattle.world.proofs.Joined.{world_rests}
+use Rattle.world.proofs.Joined.{counted_loss, goes_on_rest, goes_on_still}
 use Rattle.world.proofs.LeadsKept.{led_there, leads_set}
 use Rattle.world.proofs.Turned.{set_itself, there}
 
@@ -45,30 +43,40 @@ hands old number place client way is_open new later owned stands puts told =
 
 pub hands_on : (old : WorldState) (number : ℕ) (place : Place) (client : WorldClient) (new : NodesState) (later : Piped) → AreHoused (leads_of old.clients) old.connections
     → slice_get old.connections (number - 1) ≡ Some place → 0 < number → slice_get old.clients place.client ≡ Some client → NodesGoOn old.nodes new
-    → (NodesLoseNothing old.nodes new → PutsDown place.at place.node (record { 0 = number }) old.nodes client.piped new later)
-    → GoesOn old (put_down place.client client later new old)
+    → MayPutDown place.at place.node (record { 0 = number }) old.nodes client.piped new later → GoesOn old (put_down place.client client later new old)
 hands_on old number place client new later housed at positive found nodes puts =
     record {
       rises = omega arith;
       nodes = nodes;
-      goes = λ none whole. puts_down old number place client new later (led_there (leads_of old.clients) old.connections number place housed at positive) found (puts whole);
+      goes = puts_down old number place client new later (led_there (leads_of old.clients) old.connections number place housed at positive) found puts;
     }
 
--- bytes come, or the call is idle
-pub takes_on : {X : Type 0} (r : Result X Idle) (old : WorldState) (number count : ℕ) (place : Place) (client : WorldClient) (new : NodesState) (later : Piped)
+-- nothing is changed
+unchanged : (old : WorldState) (i : ℕ) (client : WorldClient) (new : NodesState) (later : Piped) → slice_get old.clients i ≡ Some client → new ≡ old.nodes → later ≡ client.piped
+    → put_down i client later new old ≡ old
+unchanged old i client new later found same still =
+    ap (λ (p : Piped). put_down i client p new old) still ∙ ap (λ (l : List WorldClient). record old { nodes = new; clients = l }) (set_itself old.clients i client found)
+    ∙ ap (λ (n : NodesState). record old { nodes = n }) same
+
+pub takes_nothing : (old : WorldState) (i : ℕ) (client : WorldClient) (new : NodesState) (later : Piped) → slice_get old.clients i ≡ Some client → new ≡ old.nodes → later ≡ client.piped
+    → GoesOn old (put_down i client later new old)
+takes_nothing old i client new later found same still = goes_on_rest old (put_down i client later new old) (unchanged old i client new later found same still)
+
+-- bytes come, or there is no memory for them, which is counted
+pub takes_on : (had : Bool) (old : WorldState) (number count : ℕ) (place : Place) (client : WorldClient) (new : NodesState) (later : Piped) (final : WorldState)
     → AreHoused (leads_of old.clients) old.connections → slice_get old.connections (number - 1) ≡ Some place → 0 < number → slice_get old.clients place.client ≡ Some client
-    → NodesGoOn old.nodes new → (NodesLoseNothing old.nodes new → OnOk r (TakesUp place (record { 0 = number }) count old.nodes client.piped new later))
-    → OnErr r (new ≡ old.nodes) → OnErr r (later ≡ client.piped) → GoesOn old (put_down place.client client later new old)
-takes_on {X = X} r old number count place client new later housed at positive found nodes took same still =
-    record { rises = omega arith; nodes = nodes; goes = λ none whole. by r (took whole) same still }
-  where
-    by : (r : Result X Idle) → OnOk r (TakesUp place (record { 0 = number }) count old.nodes client.piped new later) → OnErr r (new ≡ old.nodes) → OnErr r (later ≡ client.piped)
-        → WorldGoes old (put_down place.client client later new old)
-    by (Ok x) t same still = takes_up old number count place client new later (led_there (leads_of old.clients) old.connections number place housed at positive) found t
-    by (Err e) t same still =
-        world_rests old (put_down place.client client later new old)
-        (ap (λ (p : Piped). put_down place.client client p new old) still ∙ ap (λ (l : List WorldClient). record old { nodes = new; clients = l }) (set_itself old.clients place.client client found)
-        ∙ ap (λ (n : NodesState). record old { nodes = n }) same)
+    → NodesGoOn old.nodes new → TakesUpWhere had place (record { 0 = number }) count old.nodes client.piped new later → old.losses ≤ (forgetful old).losses
+    → final ≡ (if had then put_down place.client client later new old else forgetful (put_down place.client client later new old)) → GoesOn old final
+takes_on true old number count place client new later final housed at positive found nodes took rises is =
+    subst (λ (w : WorldState). GoesOn old w) (sym is)
+    (record {
+      rises = omega arith;
+      nodes = nodes;
+      goes = takes_up old number count place client new later (led_there (leads_of old.clients) old.connections number place housed at positive) found took;
+    })
+takes_on false old number count place client new later final housed at positive found nodes took rises is =
+    subst (λ (w : WorldState). GoesOn old w) (sym (is ∙ ap forgetful (unchanged old place.client client new later found took.0 took.1)))
+    (goes_on_still old (forgetful old) refl refl rises)
 
 -- what comes is what was under way
 pub takes_part : (place : Place) (port : Port) (count : ℕ) (old : NodesState) (client : Piped) (new : NodesState) (later : Piped) (waiting piece : List ℕ)
@@ -102,10 +110,14 @@ less_leads client later at count way found less =
     of_some e i = subst (λ o. IfSome o (λ w. later ≡ with_less at count w client)) e i
 
 -- the same in a world: they come, or they cannot
-pub takes_up_on : {X : Type 0} (r : Result X Idle) (old : WorldState) (number count : ℕ) (place : Place) (client : WorldClient) (new : NodesState) (later : Piped) → slice_get old.clients place.client ≡ Some client
-    → OnOk r (TakesUp place (port_of number) count old.nodes client.piped new later) → OnOk r (TakesUpOn number place count old (put_down place.client client later new old))
-takes_up_on (Ok x) old number count place client new later owned taken = record { client = client; owned = owned; between = new; piped = later; takes = taken; is = refl }
-takes_up_on (Err e) old number count place client new later owned taken = tt
+pub takes_up_on : (had : Bool) (old : WorldState) (number count : ℕ) (place : Place) (client : WorldClient) (new : NodesState) (later : Piped) (final : WorldState)
+    → slice_get old.clients place.client ≡ Some client → TakesUpWhere had place (port_of number) count old.nodes client.piped new later
+    → final ≡ (if had then put_down place.client client later new old else forgetful (put_down place.client client later new old)) → LosesNothing old final
+    → TakesUpOn number place count old final
+takes_up_on true old number count place client new later final owned taken is none =
+    record { client = client; owned = owned; between = new; piped = later; takes = taken; is = is }
+takes_up_on false old number count place client new later final owned taken is none =
+    absurd (counted_loss old final old.losses (omega arith) (ap (λ (w : WorldState). w.losses) is) none)
 
 pub takes_nothing_on : {X : Type 0} (r : Result X Idle) (w : WorldState) (count : ℕ) (place : Place) (client : WorldClient) → slice_get w.clients place.client ≡ Some client
     → OnErr r (CannotTake place count w.nodes client.piped) → OnErr r (CannotTakeOn place count w)

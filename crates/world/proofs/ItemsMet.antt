@@ -24,7 +24,7 @@ use Rattle.world.specs.Housed.{AreHoused, leads_of}
 use Rattle.world.specs.Inside.{CannotHear, CannotTakeOn, GoesOn, HearsOn, Meets, TakesUpOn, forgetful}
 use Rattle.world.specs.World.{WorldState}
 use Rattle.world.proofs.GroupGoes.{with_nodes}
-use Rattle.world.proofs.OpensOn.{counted_loss}
+use Rattle.world.proofs.Joined.{counted_loss}
 use Rattle.world.proofs.StandsThere.{connected, numbered_at, way_found}
 
 -- ---- the master

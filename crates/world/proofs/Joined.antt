@@ -1,6 +1,7 @@
 -- Joined.antt: steps of worlds, one behind the other.
 use Rattle.std.proofs.Common.{◌≡◌, ◌<◌, ◌≤◌, ◌^◌, ◌-◌, ℕ, List, refl, sym, subst, arith}
 use Rattle.ballot.specs.Config.{Config}
+use Rattle.ballot.specs.Losses.{one_more}
 use Rattle.broker_base.specs.Place.{Client}
 use Rattle.exact_model.proofs.WorldsExact.{worlds_are_exact}
 use Rattle.model.specs.World.{AreApart}
@@ -8,14 +9,13 @@ use Rattle.world_model.specs.World.{World}
 use Rattle.world_model.specs.Goes.{Reached}
 use Rattle.world_model.specs.Goes.Reached.{goes_on as reached_more}
 use Rattle.world_nodes.specs.Nodes.{NodesState, StandsFor as NodesStand}
-use Rattle.world_nodes.specs.Steps.{LosesNothing as NodesLoseNothing}
-use Rattle.world.specs.Goes.{LosesNothing, NodesGo, WorldGoesOn}
-use Rattle.world.specs.Inside.{GoesOn, RunsOn}
+use Rattle.world.specs.Goes.{LosesNothing, WorldGoesOn}
+use Rattle.world.specs.Inside.{GoesOn}
 use Rattle.world.specs.declared.world.WorldClient.{WorldClient}
 use Rattle.world.specs.Standing.{ClientsStand, GoesTo, IsReached, KeepsReached, StandsFor, Steps, WorldGoes}
 use Rattle.world.specs.Standing.Steps.{rests, goes_on}
 use Rattle.world.specs.World.{WorldState}
-use Rattle.world.proofs.NodesGoOn.{nodes_go_join, nodes_join, nodes_rest, rest}
+use Rattle.world.proofs.NodesGoOn.{nodes_go_join, nodes_join, nodes_rest}
 
 -- ---- worlds of the model
 
@@ -57,86 +57,36 @@ worlds_split a b c x y none =
       ((let e : c.losses ≡ b.losses = omega (arith, x, y, same) in e), (let l : b.losses < 2 ^ 64 - 1 = omega (arith, x, y, same, low) in l)),
     )
 
+-- a loss is counted
+pub counted_loss : (old new : WorldState) (losses : ℕ) → old.losses ≤ losses → new.losses ≡ one_more losses → LosesNothing old new → ⊥
+counted_loss old new losses rises is none = let same = none.0 in let low = none.1 in omega (arith, rises, is, same, low)
+
 -- ---- parts of a step
 
 pub goes_on_rest : (a b : WorldState) → b ≡ a → GoesOn a b
 goes_on_rest a b same =
-    subst (λ (w : WorldState). GoesOn a w) (sym same)
-    (record { rises = omega arith; nodes = nodes_rest a.nodes a.nodes refl; goes = λ none whole. world_rests a a refl })
+    subst (λ (w : WorldState). GoesOn a w) (sym same) (record { rises = omega arith; nodes = nodes_rest a.nodes a.nodes refl; goes = world_rests a a refl })
 
 pub goes_on_join : (a b c : WorldState) → GoesOn a b → GoesOn b c → GoesOn a c
 goes_on_join a b c one two =
-    let x = one.rises in let y = two.rises in let p = one.nodes.rises in let q = two.nodes.rises in
-    record {
-      rises = omega (arith, x, y);
-      nodes = nodes_join a.nodes b.nodes c.nodes one.nodes two.nodes;
-      goes = λ none whole.
-          let same = none.0 in let low = none.1 in let still = whole.0 in let below = whole.1 in
-          world_goes_join a b c
-          (one.goes ((let e : b.losses ≡ a.losses = omega (arith, x, y, same) in e), low)
-          ((let e : b.nodes.losses ≡ a.nodes.losses = omega (arith, p, q, still) in e), below))
-          (two.goes ((let e : c.losses ≡ b.losses = omega (arith, x, y, same) in e), (let l : b.losses < 2 ^ 64 - 1 = omega (arith, x, y, same, low) in l))
-          ((let e : c.nodes.losses ≡ b.nodes.losses = omega (arith, p, q, still) in e), (let l : b.nodes.losses < 2 ^ 64 - 1 = omega (arith, p, q, still, below) in l)));
-    }
+    let x = one.rises in let y = two.rises in
+    record { rises = omega (arith, x, y); nodes = nodes_join a.nodes b.nodes c.nodes one.nodes two.nodes; goes = world_goes_join a b c one.goes two.goes }
 
-pub goes_on_still : (a b : WorldState) → b.nodes ≡ a.nodes → b.clients ≡ a.clients → b.losses ≡ a.losses → GoesOn a b
-goes_on_still a b nodes clients losses =
-    record { rises = omega (arith, losses); nodes = nodes_rest a.nodes b.nodes nodes; goes = λ none whole. world_stays a b nodes clients }
+pub goes_on_still : (a b : WorldState) → b.nodes ≡ a.nodes → b.clients ≡ a.clients → a.losses ≤ b.losses → GoesOn a b
+goes_on_still a b nodes clients rises = record { rises = rises; nodes = nodes_rest a.nodes b.nodes nodes; goes = world_stays a b nodes clients }
 
 -- ---- whole steps
 
-pub world_rests_on : (a b : WorldState) → b ≡ a → RunsOn a b
-world_rests_on a b same =
-    subst (λ (w : WorldState). RunsOn a w) (sym same)
-    (record {
-      rises = omega arith;
-      goes = λ none. world_rests a a refl;
-      nodes = λ none. rest a.nodes a.nodes refl;
-    })
+pub world_goes_on : (old new : WorldState) → GoesOn old new → WorldGoesOn old new
+world_goes_on old new on = record { rises = on.rises; goes = on.nodes.goes }
 
-pub world_join : (a b c : WorldState) → RunsOn a b → RunsOn b c → RunsOn a c
-world_join a b c one two =
+pub world_on_rest : (a b : WorldState) → b ≡ a → WorldGoesOn a b
+world_on_rest a b same = world_goes_on a b (goes_on_rest a b same)
+
+pub world_on_join : (a b c : WorldState) → WorldGoesOn a b → WorldGoesOn b c → WorldGoesOn a c
+world_on_join a b c one two =
     let x = one.rises in let y = two.rises in
-    record {
-      rises = omega (arith, x, y);
-      goes = λ none.
-          let s = split none in world_goes_join a b c (one.goes s.0) (two.goes s.1);
-      nodes = λ none.
-          let s = split none in nodes_go_join a.nodes b.nodes c.nodes (one.nodes s.0) (two.nodes s.1);
-    }
-  where
-    split : LosesNothing a c → LosesNothing a b × LosesNothing b c
-    split none =
-        let x = one.rises in let y = two.rises in let same = none.0 in let low = none.1 in (
-          ((let e : b.losses ≡ a.losses = omega (arith, x, y, same) in e), low),
-          ((let e : c.losses ≡ b.losses = omega (arith, x, y, same) in e), (let l : b.losses < 2 ^ 64 - 1 = omega (arith, x, y, same, low) in l)),
-        )
-
-pub nodes_run : (old new : WorldState) → RunsOn old new → WorldGoesOn old new
-nodes_run old new on = record { rises = on.rises; goes = on.nodes }
-
-pub runs_on : (old new : WorldState) → WorldGoesOn old new → (LosesNothing old new → WorldGoes old new) → RunsOn old new
-runs_on old new on goes = record { rises = on.rises; goes = goes; nodes = on.goes }
-
--- a step, and its count behind it
-pub step_goes : (old mid new : WorldState) (before : ℕ) → before ≡ old.nodes.losses → GoesOn old mid → new.nodes ≡ mid.nodes → new.clients ≡ mid.clients
-    → mid.losses ≤ new.losses → (LosesNothing mid new → (mid.nodes.losses ≡ before) × (before < 2 ^ 64 - 1)) → RunsOn old new
-step_goes old mid new before is went nodes clients rises whole =
-    let x = went.rises in
-    record {
-      rises = omega (arith, x, rises);
-      goes = λ none. let s = split none in world_goes_join old mid new (went.goes s.0 s.1) (world_stays mid new nodes clients);
-      nodes = λ none. let s = split none in subst (λ (n : NodesState). NodesGo old.nodes n) (sym nodes) (went.nodes.goes s.1);
-    }
-  where
-    split : LosesNothing old new → LosesNothing old mid × NodesLoseNothing old.nodes mid.nodes
-    split none =
-        let x = went.rises in let same = none.0 in let low = none.1 in
-        let w = whole ((let e : new.losses ≡ mid.losses = omega (arith, x, rises, same) in e), (let l : mid.losses < 2 ^ 64 - 1 = omega (arith, x, rises, same, low) in l)) in
-        let below = w.1 in let still = w.0 in (
-          ((let e : mid.losses ≡ old.losses = omega (arith, x, rises, same) in e), low),
-          ((let e : mid.nodes.losses ≡ old.nodes.losses = omega (arith, still, is) in e), (let l : old.nodes.losses < 2 ^ 64 - 1 = omega (arith, is, below) in l)),
-        )
+    record { rises = omega (arith, x, y); goes = nodes_go_join a.nodes b.nodes c.nodes one.goes two.goes }
 
 -- ---- what is promised
 

@@ -15,6 +15,7 @@ mod StandsThere
 mod Gathered
 mod Handed
 mod HousedOpened
+mod Offered
 mod OpensOn
 mod ClientGoes
 mod CallsCounted

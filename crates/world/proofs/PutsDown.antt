@@ -1,5 +1,5 @@
 -- PutsDown.antt: what a node hands over is put behind what is under way down.
-use Rattle.std.proofs.Common.{◌≡◌, ◌↔◌, ◌-◌, ℕ, Bool, true, false, List, ◌++◌, Option, Some, None, Result, Ok, Err, OnOk, OnErr, slice_get, refl, sym, ap, ◌∙◌, subst}
+use Rattle.std.proofs.Common.{◌≡◌, ◌⊎◌, inl, inr, ◌↔◌, ◌≤◌, ◌-◌, ℕ, Bool, true, false, List, ◌++◌, Option, Some, None, Result, Ok, Err, OnOk, OnErr, slice_get, refl, sym, ap, ◌∙◌, subst}
 use Rattle.std.specs.Prelude.{IfSome, IfOk, IsErr}
 use Rattle.std.proofs.lemmas.Bool.{both_ways}
 use Rattle.std.proofs.lemmas.List.{append-nil, set-set}
@@ -12,13 +12,17 @@ use Rattle.world_base.specs.Core.{CountedCore}
 use Rattle.node_model.specs.Moves.Deed.{gives}
 use Rattle.world_nodes.specs.Goes.{Acts, AnswersFor, HandsOver, node_of}
 use Rattle.world_nodes.specs.Nodes.{NodesState}
+use Rattle.world_nodes.specs.Steps.{HandsOrRests}
 use Rattle.world_pipes.specs.declared.way.Way.{Way}
 use Rattle.world_pipes.specs.Piped.{Piped}
 use Rattle.world.specs.Housed.{leads}
 use Rattle.world.specs.Found.{with_down}
 use Rattle.world.specs.Gathering.{Gives, is_more, is_told_open, put_out}
-use Rattle.world.specs.Inside.{HandsDown, PutsDown, Tells}
+use Rattle.world.specs.Goes.{NodesGoOn}
+use Rattle.world.specs.Inside.{HandsDown, MayHandDown, MayPutDown, PutsDown}
+use Rattle.world.proofs.GroupGoes.{acts_go}
 use Rattle.world.proofs.LeadsKept.{leads_set}
+use Rattle.world.proofs.NodesGoOn.{nodes_forget, nodes_stay, staying_goes}
 
 -- ---- one call of a node
 
@@ -35,17 +39,20 @@ handed_down r node port old new before behind idle acts over same = by r (node_o
     by (Ok h) (Some core) e idle acts over same = behind_it (Some core) e acts (over core e)
     by (Err x) o e idle acts over same = behind_it None (idle.0 refl) same.0 (same.1 ∙ sym (append-nil before))
 
-pub told : (r : Result Handed Idle) (node : ℕ) (port : Port) (old : NodesState) → r ≡ Ok answers.Open → IsErr r ↔ (node_of old.nodes node ≡ None)
-    → IfOk r (λ handed. AnswersFor node port old handed) → Tells node port old
-told (Err e) node port old is idle answer = absurd cc
-told (Ok h) node port old is idle answer = by (node_of old.nodes node) refl
+-- whatever memory does
+pub may_hand_down : (r : Result Handed Idle) (node : ℕ) (port : Port) (old new : NodesState) (before behind : List ℕ) → OnOk r (HandsOrRests node port old new before behind)
+    → OnErr r ((new ≡ old) × (behind ≡ before)) → MayHandDown node port old before new behind
+may_hand_down (Ok h) node port old new before behind does same = by does
   where
-    by : (o : Option CountedCore) → node_of old.nodes node ≡ o → Tells node port old
-    by None none = absurd (both_ways false refl (idle.1 none))
-    by (Some core) there = (core, there, sym (answer core there) ∙ opened h is)
-      where
-        opened : (k : Handed) → (let r : Result Handed Idle = Ok k in r) ≡ Ok answers.Open → k ≡ answers.Open
-        opened k e = cc
+    by : HandsOrRests node port old new before behind → MayHandDown node port old before new behind
+    by (inl hands) = inr hands
+    by (inr rests) = inl (nodes_forget old new rests.0, rests.1)
+may_hand_down (Err e) node port old new before behind does same = inl (nodes_stay old new same.0, same.1)
+
+-- and so the nodes go on
+pub handing_goes : (node : ℕ) (port : Port) (old new : NodesState) (before behind : List ℕ) → old.losses ≤ new.losses → MayHandDown node port old before new behind → NodesGoOn old new
+handing_goes node port old new before behind rises (inl stays) = record { rises = rises; goes = staying_goes old new stays.0 }
+handing_goes node port old new before behind rises (inr hands) = record { rises = rises; goes = acts_go (Some (node - 1, gives port)) old new hands.0 }
 
 -- whether its end is open is just what it told
 pub told_exactly : (r : Result Handed Idle) (is_open : Bool) (node : ℕ) (port : Port) (old : NodesState) → (is_open ≡ true) ↔ (r ≡ Ok answers.Open) → IsErr r ↔ (node_of old.nodes node ≡ None)
@@ -88,6 +95,16 @@ pub puts : (node : ℕ) (port : Port) (nodes behind : NodesState) (old mid later
 puts node port nodes behind old mid later at none moved handed first given second hands way found = (
   handed,
   subst (λ (l : List ℕ). HandsDown node port nodes l behind handed) (of_some (λ (w : Way). moved ≡ w.down) (slice_get old.ways at) way found given) hands,
+  exchanged old mid later at none handed first second way found,
+)
+
+pub may_put : (node : ℕ) (port : Port) (nodes behind : NodesState) (old mid later : Piped) (at : ℕ) (none moved handed : List ℕ)
+    → IfSome (slice_get old.ways at) (λ way. mid ≡ with_down at way none old) → IfSome (slice_get old.ways at) (λ way. moved ≡ way.down)
+    → IfSome (slice_get mid.ways at) (λ way. later ≡ with_down at way handed mid) → MayHandDown node port nodes moved behind handed
+    → MayPutDown at node port nodes old behind later
+may_put node port nodes behind old mid later at none moved handed first given second hands way found = (
+  handed,
+  subst (λ (l : List ℕ). MayHandDown node port nodes l behind handed) (of_some (λ (w : Way). moved ≡ w.down) (slice_get old.ways at) way found given) hands,
   exchanged old mid later at none handed first second way found,
 )
 

@@ -10,7 +10,6 @@ use Rattle.group_model.specs.Group.{Group, moment_of}
 use Rattle.group_model.specs.Goes.{MayGo, Went, all_put, groups_of}
 use Rattle.group_model.specs.Order.{KeepsOrder}
 use Rattle.world_nodes.specs.Nodes.{NodesState, StandsFor}
-use Rattle.world_nodes.specs.Steps.{LosesNothing as NodesLoseNothing}
 use Rattle.world.specs.World.{WorldState}
 
 -- ---- steps of a group, one behind the other
@@ -29,10 +28,10 @@ pub record GoesTo (g : Group) (new : NodesState) : Type 0 where
 abbrev pub NodesGo : NodesState → NodesState → Type 0
 NodesGo old new = (g : Group) → StandsFor g old → GoesTo g new
 
--- .. where the nodes count no loss; and their count never falls
+-- and their count of losses never falls
 pub record NodesGoOn (old new : NodesState) : Type 0 where
   pub rises : old.losses ≤ new.losses
-  pub goes : NodesLoseNothing old new → NodesGo old new
+  pub goes : NodesGo old new
 
 -- ---- worlds
 
@@ -40,9 +39,10 @@ pub record NodesGoOn (old new : NodesState) : Type 0 where
 abbrev pub LosesNothing : WorldState → WorldState → Type 0
 LosesNothing old new = (new.losses ≡ old.losses) × (old.losses < 2 ^ 64 - 1)
 
+-- its count never falls, and its nodes go on as a group
 pub record WorldGoesOn (old new : WorldState) : Type 0 where
   pub rises : old.losses ≤ new.losses
-  pub goes : LosesNothing old new → NodesGo old.nodes new.nodes
+  pub goes : NodesGo old.nodes new.nodes
 
 -- ---- agreement
 

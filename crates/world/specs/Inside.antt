@@ -1,45 +1,44 @@
 -- What the parts of a step do.
 use Rattle.std.specs.Prelude.{◌≡◌, ◌⊎◌, ◌-◌, ◌==◌, ◌&&◌, ◌≤◌, ◌<◌, ℕ, suc, Bool, true, false, List, [], ◌∷◌, ◌++◌, Some, None, Result, Ok, Err, IsOk, IsErr, length, set, slice_get, take}
+use Rattle.std.specs.Option.{is_some}
 use Rattle.ballot.specs.Losses.{one_more}
 use Rattle.client_base.specs.Steps.{Call, keeper_step}
 use Rattle.client_base.specs.declared.error.ClientError.{ClientError}
 use Rattle.client_base.specs.declared.error.ClientError.TheVariants as errors
 use Rattle.master.specs.declared.event.Idle.{Idle}
+use Rattle.group_model.specs.Group.{Group}
 use Rattle.world_base.specs.Core.{CountedCore}
-use Rattle.world_base.specs.Handing.{answer_of, listed_at}
-use Rattle.world_base.specs.declared.handed.Handed.TheVariants as answers
+use Rattle.world_base.specs.Handing.{listed_at}
 use Rattle.world_base.specs.declared.item.Port.{Port}
 use Rattle.world_base.specs.declared.item.Item.TheVariants.{Bytes, Opened}
-use Rattle.node_model.specs.Moves.Deed.{takes}
-use Rattle.world_nodes.specs.Goes.{Acts, node_of, running}
-use Rattle.world_nodes.specs.Nodes.{NodesState}
+use Rattle.node_model.specs.Moves.Deed.{takes, gives}
+use Rattle.world_nodes.specs.Goes.{Acts, HandsOver, node_of, running}
+use Rattle.world_nodes.specs.Nodes.{NodesState, StandsFor as NodesStand}
 use Rattle.world_nodes.specs.Steps.{LosesNothing as NodesLoseNothing}
 use Rattle.world_pipes.specs.declared.way.Way.{Way}
 use Rattle.world_pipes.specs.declared.sending.Sending.{Sending}
 use Rattle.world_pipes.specs.declared.sending.Sending.TheVariants as sendings
-use Rattle.world_pipes.specs.Following.{ConnectingFollows}
-use Rattle.world_pipes.specs.Piped.{Calls, Piped, is_holding}
+use Rattle.world_pipes.specs.Following.{ConnectingFollows, FollowsAll}
+use Rattle.world_pipes.specs.Piped.{Calls, Connects as Opens, Piped, is_holding}
 use Rattle.world.specs.declared.place.Place.{Place}
 use Rattle.world.specs.declared.event.Event.{Event}
 use Rattle.world.specs.declared.world.WorldClient.{WorldClient}
 use Rattle.world.specs.Found.{port_of, with_down, with_less, with_piped}
-use Rattle.world.specs.Gathering.{Gives, IsAsked, TakesItem, is_told_open, put_out}
-use Rattle.world.specs.Goes.{LosesNothing, NodesGo, NodesGoOn}
-use Rattle.world.specs.Happening.{CannotHappen, ConnectsTo, Does, HearsThem, IsNoPart, next_number}
+use Rattle.world.specs.Gathering.{Gathers, Gives, is_told_open, put_out}
+use Rattle.world.specs.Goes.{LosesNothing, NodesGoOn}
+use Rattle.world.specs.Happening.{CannotHappen, Does, HearsThem, IsNoPart, next_number}
 use Rattle.world.specs.Standing.{WorldGoes}
 use Rattle.world.specs.World.{WorldState}
 
--- counts do not fall; where neither rises, whichever world stood for it goes on
+-- counts do not fall, and whichever world stood for it goes on
 pub record GoesOn (old new : WorldState) : Type 0 where
   pub rises : old.losses ≤ new.losses
   pub nodes : NodesGoOn old.nodes new.nodes
-  pub goes : LosesNothing old new → NodesLoseNothing old.nodes new.nodes → WorldGoes old new
+  pub goes : WorldGoes old new
 
--- so does a whole step: it counts what its nodes count
-pub record RunsOn (old new : WorldState) : Type 0 where
-  pub rises : old.losses ≤ new.losses
-  pub goes : LosesNothing old new → WorldGoes old new
-  pub nodes : LosesNothing old new → NodesGo old.nodes new.nodes
+-- whichever group stands for the nodes before stands for them still
+abbrev pub NodesStay : NodesState → NodesState → Type 0
+NodesStay old new = (g : Group) → NodesStand g old → NodesStand g new
 
 -- what comes of an event, before the step counts what its nodes count
 abbrev pub Meets : Event → WorldState → Result (Unit {0}) Idle → WorldState → Type 0
@@ -48,16 +47,6 @@ Meets event old (Ok done) new =
     LosesNothing old new → NodesLoseNothing old.nodes new.nodes → (CannotHappen event old → ⊥) × Does event old new
 
 -- ---- what a node put out goes down
-
--- a node tells that it has the connection of this port open
-abbrev pub Tells : ℕ → Port → NodesState → Type 0
-Tells node port n = (core : CountedCore) × (node_of n.nodes node ≡ Some core) × (answer_of (listed_at port core.core) ≡ answers.Open)
-
--- the node of the connection of this number has it open
-pub record HasTaken (number : ℕ) (w : WorldState) : Type 0 where
-  pub place : Place
-  pub stands : slice_get w.connections (number - 1) ≡ Some place
-  pub tells : Tells place.node (port_of number) w.nodes
 
 -- a node hands over what it put out for a port, behind these bytes
 abbrev pub HandsDown : ℕ → Port → NodesState → List ℕ → NodesState → List ℕ → Type 0
@@ -70,7 +59,17 @@ PutsDown at node port old client new later =
     (way : Way) → slice_get client.ways at ≡ Some way →
     (bytes : List ℕ) × HandsDown node port old way.down new bytes × (later ≡ with_down at way bytes client)
 
--- .. on the connection of this number, and this is told of its end
+-- it may find no memory: then it hands over nothing
+abbrev pub MayHandDown : ℕ → Port → NodesState → List ℕ → NodesState → List ℕ → Type 0
+MayHandDown node port old before new behind =
+    (NodesStay old new × (behind ≡ before)) ⊎ (Acts (node - 1) (gives port) old new × HandsOver node port old before behind)
+
+abbrev pub MayPutDown : ℕ → ℕ → Port → NodesState → Piped → NodesState → Piped → Type 0
+MayPutDown at node port old client new later =
+    (way : Way) → slice_get client.ways at ≡ Some way →
+    (bytes : List ℕ) × MayHandDown node port old way.down new bytes × (later ≡ with_down at way bytes client)
+
+-- without losses, on the connection of this number, and this is told of its end
 pub record HandsOn (number : ℕ) (place : Place) (old : WorldState) (is_open : Bool) (new : WorldState) : Type 0 where
   pub client : WorldClient
   pub owned : slice_get old.clients place.client ≡ Some client
@@ -97,6 +96,11 @@ pub record TakesUp (place : Place) (port : Port) (count : ℕ) (old : NodesState
   pub runs : running old.nodes place.node ≡ None → ⊥
   pub acts : Acts (place.node - 1) (takes (Bytes port (take count way.up) 0)) old new
   pub is : later ≡ with_less place.at count way client
+
+-- where there is no memory for them, nothing happens
+abbrev pub TakesUpWhere : Bool → Place → Port → ℕ → NodesState → Piped → NodesState → Piped → Type 0
+TakesUpWhere true place port count old client new later = TakesUp place port count old client new later
+TakesUpWhere false place port count old client new later = (new ≡ old) × (later ≡ client)
 
 -- they cannot: too few wait, or the node has stopped
 abbrev pub CannotTake : Place → ℕ → NodesState → Piped → Type 0
@@ -148,31 +152,43 @@ Counts (Err cause) old result new = IsErr result × (new ≡ old)
 
 -- ---- a new connection
 
--- the client at this place has a new connection to the node, under this number: its CONNECT is on its way
-pub record Connects (i node number : ℕ) (old new : WorldState) : Type 0 where
+-- the node of this number is there, and has a connection at this port or not
+pub record IsKnown (has : Bool) (node : ℕ) (port : Port) (n : NodesState) : Type 0 where
+  pub core : CountedCore
+  pub stands : node_of n.nodes node ≡ Some core
+  pub known : is_some (listed_at port core.core) ≡ has
+
+-- a node hears of a new connection, and has it then; or has none, or does not hear of it
+abbrev pub HearsOfOne : Bool → ℕ → Port → NodesState → NodesState → Type 0
+HearsOfOne true node port old new = Acts (node - 1) (takes (Opened port 0)) old new × IsKnown true node port new
+HearsOfOne false node port old new = (new ≡ old) ⊎ (Acts (node - 1) (takes (Opened port 0)) old new × IsKnown false node port new)
+
+-- a client has a new connection to a node, which takes it
+pub record HasNew (node : ℕ) (port : Port) (old : NodesState) (client : Piped) (new : NodesState) (later : Piped) : Type 0 where
+  pub opens : Opens (node - 1) port (keeper_step Call.Opens client.core.state) client (Ok tt) later
+  pub follows : ConnectingFollows (node - 1) port client (Ok tt) later
+  pub acts : Acts (node - 1) (takes (Opened port 0)) old new
+  pub known : IsKnown true node port new
+
+-- .. or it has none, and at most lost one
+abbrev pub Reaches : Bool → ℕ → Port → NodesState → Piped → NodesState → Piped → Type 0
+Reaches true node port old client new later = HasNew node port old client new later
+Reaches false node port old client new later = FollowsAll client later × HearsOfOne false node port old new
+
+-- the client at this place has a new connection to the node, under the next number, and the node has taken it
+pub record ConnectsAt (i node : ℕ) (old new : WorldState) : Type 0 where
   pub client : WorldClient
   pub found : slice_get old.clients i ≡ Some client
+  pub between : NodesState
   pub piped : Piped
-  pub connects : ConnectsTo node (next_number old) client.piped piped
-  pub goes : ConnectingFollows (node - 1) (port_of number) client.piped (Ok tt) piped
+  pub reaches : HasNew node (port_of (next_number old)) old.nodes client.piped between piped
   pub is : new ≡ record (with_piped i client piped old) {
+    nodes = between;
     connections = old.connections ++ record { client = i; at = length client.piped.ways; node = node; is_open = true } ∷ [];
   }
 
--- the node takes it, what it put out for it at once goes down, and the world goes on
-pub record TakesConnection (node number : ℕ) (old new : WorldState) : Type 0 where
-  pub between : NodesState
-  pub opens : Acts (node - 1) (takes (Opened (port_of number) 0)) old.nodes between
-  pub taken : HasTaken number (record old { nodes = between })
-  pub goes : WorldGoes (record old { nodes = between }) new
-
--- it hears of it, and what it put out for it goes down
-abbrev pub AsksFirst : ℕ → ℕ → WorldState → WorldState → Type 0
-AsksFirst node number old new =
-    (between : NodesState) × Acts (node - 1) (takes (Opened (port_of number) 0)) old.nodes between × IsAsked number (record old { nodes = between }) new
-
--- the client at this place has a new connection to the node, and the node hears of it
+-- and what the node put out then goes down
 pub record OpensAt (i node : ℕ) (old new : WorldState) : Type 0 where
   pub between : WorldState
-  pub connects : Connects i node (next_number old) old between
-  pub item : TakesItem node (Opened (port_of (next_number old)) 0) between new
+  pub connects : ConnectsAt i node old between
+  pub gathers : Gathers node between new

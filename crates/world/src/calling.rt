@@ -1,18 +1,15 @@
 // What clients do in a world.
 
-ghost use Rattle.std.specs.Prelude.{◌≡◌, ◌≤◌, ◌<◌, suc, true, false, length, slice_get, IfSome, OnOk};
+ghost use Rattle.std.specs.Prelude.{◌≡◌, ◌<◌, if◌then◌else◌, true, false, length, slice_get, IfSome};
 ghost use Rattle.client_base.specs.Steps.{Call, keeper_step};
-ghost use Rattle.world_base.specs.declared.item.Item.TheVariants.{Opened};
 ghost use Rattle.world_nodes.specs.Goes.{node_of};
 ghost use Rattle.world_nodes.specs.Steps.{LosesNothing as NodesLoseNothing};
 ghost use Rattle.world_pipes.specs.Following.{CallingFollows, FollowsAll};
-ghost use Rattle.world_pipes.specs.Piped.{TakesLeave, is_holding};
-ghost use Rattle.world.specs.Found.{place_numbered, port_of};
-ghost use Rattle.world.specs.Gathering.{TakesItem, is_open_at};
+ghost use Rattle.world_pipes.specs.Piped.{TakesLeave, is_holding, taken_back};
 ghost use Rattle.world.specs.Goes.{LosesNothing, NodesGoOn};
 ghost use Rattle.world.specs.Happening.{Loses, is_serving};
 ghost use Rattle.world.specs.Housed.{leads};
-ghost use Rattle.world.specs.Inside.{AsksFirst, Connects, Counts, GoesOn, IsCall, Meets, OpensAt, TakesConnection};
+ghost use Rattle.world.specs.Inside.{ConnectsAt, Counts, GoesOn, HearsOfOne, IsCall, Meets, OpensAt, Reaches};
 
 use crate::event::Event;
 use crate::place::Place;
@@ -21,7 +18,7 @@ use packet::{ClientId, QoS};
 use session_base::Publication;
 use topics::Filter;
 use world_base::Port;
-use world_nodes::Idle;
+use world_nodes::{Idle, Nodes};
 use world_pipes::{ClientError, PipedClient, Sending};
 
 impl World {
@@ -42,7 +39,8 @@ impl World {
         Ok(())
     }
 
-    // A client that holds no connection opens one to a node that serves clients. Want of memory is counted.
+    // A client that holds no connection opens one to a node that serves clients. Where there is none behind it, for want
+    // of memory or since the node has no name left for it, that is counted, unless the nodes counted it already.
     fn begin(&mut self, client: usize, node: u8)
         requires some { client < length self.old.clients }
         requires free { IfSome (slice_get self.old.clients client)
@@ -52,77 +50,40 @@ impl World {
         ensures opens { LosesNothing self.old self.new →
             NodesLoseNothing self.old.nodes self.new.nodes → OpensAt client node self.old self.new }
     {
-        let number = (self.connections.len() as u64).saturating_add(1);
-        match self.connect(client, node, number) {
-            Ok(()) => self.accept(node, number),
-            Err(_) => self.lose(),
-        }
-    }
-
-    // A node hears of a new connection, and what it puts out then goes on its way. One that does not take it has no name
-    // left for it, which is counted.
-    fn accept(&mut self, node: u8, number: u64)
-        requires newest { number ≡ length self.old.connections }
-        requires positive { 0 < number }
-        requires node { 0 < node }
-        requires leads { is_open_at node (place_numbered number self.old.connections) ≡ true }
-        ensures rises { self.old.losses ≤ self.new.losses }
-        ensures nodes { NodesGoOn self.old.nodes self.new.nodes }
-        ensures takes { LosesNothing self.old self.new →
-            NodesLoseNothing self.old.nodes self.new.nodes →
-            TakesConnection node number self.old self.new }
-        ensures item { LosesNothing self.old self.new →
-            NodesLoseNothing self.old.nodes self.new.nodes →
-            TakesItem node (Opened (port_of number) 0) self.old self.new }
-    {
-        if self.takes(node, number) {
-            self.gather_among(node, number - 1);
-        } else {
+        let before = self.nodes.losses();
+        if self.connect(client, node) {
+            self.gather(node);
+        } else if self.is_whole(before) {
             self.lose();
         }
     }
 
-    // Whether a node that hears of a new connection takes it. What it puts out for it at once goes on its way.
-    fn takes(&mut self, node: u8, number: u64) -> bool
-        ensures losses { self.old.losses ≤ self.new.losses }
-        ensures nodes { NodesGoOn self.old.nodes self.new.nodes }
-        ensures takes { result ≡ true → LosesNothing self.old self.new →
-            NodesLoseNothing self.old.nodes self.new.nodes →
-            TakesConnection node number self.old self.new }
-        ensures asks { result ≡ true → NodesLoseNothing self.old.nodes self.new.nodes →
-            AsksFirst node number self.old self.new }
-    {
-        if self.nodes.opened(node, Port(number), 0).is_err() {
-            return false;
-        }
-        match self.place(number) {
-            Some(place) => self.ask(place, number),
-            None => false,
-        }
-    }
-
-    // A client has a connection to a node, by which its CONNECT is on its way. `Memory` is the only error.
-    fn connect(&mut self, client: usize, node: u8, number: u64) -> Result<(), ClientError>
-        requires number { number ≡ suc (length self.old.connections) }
+    // A client has a connection to a node, by which its CONNECT is on its way. Whether it has is the result.
+    fn connect(&mut self, client: usize, node: u8) -> bool
         requires some { client < length self.old.clients }
         requires free { IfSome (slice_get self.old.clients client)
             (λ found. is_holding found.piped ≡ false) }
         requires node { 0 < node }
-        ensures connects { OnOk result (Connects client node number self.old self.new) }
-        ensures nodes { self.new.nodes ≡ self.old.nodes }
+        ensures goes { GoesOn self.old self.new }
+        ensures connects { result ≡ true → ConnectsAt client node self.old self.new }
         ensures losses { self.new.losses ≡ self.old.losses }
     {
-        self.connections.reserve(1)?;
-        let found = &mut self.clients[client];
-        let at = found.piped.len();
-        found.piped.open(node as usize - 1, Port(number))?;
+        if self.connections.reserve(1).is_err() {
+            return false;
+        }
+        let number = (self.connections.len() as u64).saturating_add(1);
+        let piped = &mut self.clients[client].piped;
+        let at = piped.len();
+        if !reach(&mut self.nodes, piped, node, Port(number)) {
+            return false;
+        }
         self.connections.push_reserved(Place {
             client,
             at,
             node,
             is_open: true,
         });
-        Ok(())
+        true
     }
 
     pub(crate) fn abandon(&mut self, client: &ClientId) -> Result<(), Idle>
@@ -222,6 +183,47 @@ impl World {
             }
             None => false,
         }
+    }
+}
+
+// A client that holds no connection opens one to a node, which hears of it. Whether it has one then is the result.
+fn reach(nodes: &mut Nodes, piped: &mut PipedClient, node: u8, port: Port) -> bool
+    requires node { 0 < node }
+    requires free { is_holding piped.old ≡ false }
+    ensures nodes { NodesGoOn nodes.old nodes.new }
+    ensures reaches { Reaches result node port nodes.old piped.old nodes.new piped.new }
+    ensures leads { result ≡ false → leads piped.new.ways ≡ leads piped.old.ways }
+{
+    match piped.open(node as usize - 1, port) {
+        Ok(()) => offer(nodes, piped, node, port),
+        Err(_) => false,
+    }
+}
+
+// A node hears of a client's new connection, and one that it does not take is taken back. Whether it takes it is the result.
+fn offer(nodes: &mut Nodes, piped: &mut PipedClient, node: u8, port: Port) -> bool
+    ensures nodes { NodesGoOn nodes.old nodes.new }
+    ensures takes { HearsOfOne result node port nodes.old nodes.new }
+    ensures piped { piped.new ≡ (if result then piped.old else taken_back piped.old) }
+{
+    let taken = takes(nodes, node, port);
+    if !taken {
+        piped.take_back();
+    }
+    taken
+}
+
+// Whether a node that hears of a new connection takes it.
+fn takes(nodes: &mut Nodes, node: u8, port: Port) -> bool
+    ensures nodes { NodesGoOn nodes.old nodes.new }
+    ensures takes { HearsOfOne result node port nodes.old nodes.new }
+{
+    if nodes.opened(node, port, 0).is_err() {
+        return false;
+    }
+    match nodes.node(node) {
+        Some(core) => core.has_port(port),
+        None => false,
     }
 }
 

@@ -1,16 +1,16 @@
 // Bytes come to a node, or to a client.
 
 ghost use Rattle.std.specs.Prelude.{◌≡◌, ◌⊎◌, ◌≤◌, ◌<◌, ◌-◌, true, false, Some, length, slice_get, if◌then◌else◌, IfOk, OnOk, OnErr};
-ghost use Rattle.world_nodes.specs.Steps.{LosesNothing};
 ghost use Rattle.world_pipes.specs.Following.{FollowsAll};
-ghost use Rattle.world.specs.Goes.{NodesGoOn};
+ghost use Rattle.world.specs.Goes.{LosesNothing, NodesGoOn};
 ghost use Rattle.world.specs.Housed.{leads};
-ghost use Rattle.world.specs.Inside.{CannotHear, CannotTake, CannotTakeOn, GoesOn, HearsOn, Meets, TakesUp, TakesUpOn, forgetful};
+ghost use Rattle.world.specs.Inside.{CannotHear, CannotTake, CannotTakeOn, GoesOn, HearsOn, Meets, TakesUpOn, TakesUpWhere, forgetful};
 
 use crate::event::Event;
 use crate::place::Place;
 use crate::world::World;
-use world_base::Port;
+use std::alloc::Global;
+use world_base::{Piece, Port};
 use world_nodes::{Idle, Nodes};
 use world_pipes::{ClientError, PipedClient};
 
@@ -38,18 +38,28 @@ impl World {
         Ok(())
     }
 
-    // The first so many bytes on a connection come to its node.
+    // The first so many bytes on a connection come to its node. Where there is no memory for them they wait on, which is
+    // counted.
     fn take_up(&mut self, place: Place, number: u64, count: u64) -> Result<(), Idle>
         requires stands { slice_get self.old.connections (number - 1) ≡ Some place }
         requires positive { 0 < number }
         ensures goes { GoesOn self.old self.new }
-        ensures takes { LosesNothing self.old.nodes self.new.nodes →
+        ensures takes { LosesNothing self.old self.new →
             OnOk result (TakesUpOn number place count self.old self.new) }
         ensures idle { OnErr result (CannotTakeOn place count self.old) }
         ensures same { OnErr result (self.new ≡ self.old) }
     {
         let piped = &mut self.clients[place.client].piped;
-        take_up(&mut self.nodes, piped, place, Port(number), count)
+        let had = take_up(
+            self.alloc,
+            &mut self.nodes,
+            piped,
+            place,
+            Port(number),
+            count,
+        )?;
+        self.remember(had);
+        Ok(())
     }
 
     pub(crate) fn carry_down(&mut self, number: u64, count: u64) -> Result<(), Idle>
@@ -61,15 +71,15 @@ impl World {
         };
         match hear_on(&mut self.clients[place.client].piped, place.at, count) {
             Ok(had) => {
-                self.heard(had);
+                self.remember(had);
                 Ok(())
             }
             Err(idle) => Err(idle),
         }
     }
 
-    // Behind what a client heard: want of memory is counted.
-    fn heard(&mut self, had_memory: bool)
+    // Want of memory is counted.
+    fn remember(&mut self, had_memory: bool)
         ensures { self.new ≡ (if had_memory then self.old else forgetful self.old) }
     {
         if !had_memory {
@@ -78,18 +88,20 @@ impl World {
     }
 }
 
-// The first so many bytes on a connection come to its node, which knows it by this port.
+// The first so many bytes on a connection come to its node, which knows it by this port. Whether there was memory for them
+// is the result: else they wait on.
 fn take_up(
+    alloc: Global,
     nodes: &mut Nodes,
     piped: &mut PipedClient,
     place: Place,
     port: Port,
     count: u64,
-) -> Result<(), Idle>
+) -> Result<bool, Idle>
     requires { place.at < length piped.old.ways }
     ensures nodes { NodesGoOn nodes.old nodes.new }
-    ensures takes { LosesNothing nodes.old nodes.new →
-        OnOk result (TakesUp place port count nodes.old piped.old nodes.new piped.new) }
+    ensures takes { IfOk result (λ had.
+        TakesUpWhere had place port count nodes.old piped.old nodes.new piped.new) }
     ensures idle { OnErr result (CannotTake place count nodes.old piped.old) }
     ensures leads { leads piped.new.ways ≡ leads piped.old.ways }
     ensures same { OnErr result (nodes.new ≡ nodes.old) }
@@ -100,9 +112,12 @@ fn take_up(
         return Err(Idle);
     }
     let count = count as usize;
-    nodes.take(place.node, port, &waiting[..count])?;
+    let Ok(piece) = Piece::from_slice(alloc, &waiting[..count]) else {
+        return Ok(false);
+    };
+    nodes.take(place.node, port, piece)?;
     piped.take_up(place.at, count);
-    Ok(())
+    Ok(true)
 }
 
 // The first so many bytes that wait on a connection come to its client, where it holds that. Whether there was memory is

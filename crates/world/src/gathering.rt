@@ -8,7 +8,7 @@ ghost use Rattle.world.specs.Found.{place_numbered};
 ghost use Rattle.world.specs.Gathering.{AskedWhere, Gathers, GathersAmong, IsAsked, is_open_at, is_told_open};
 ghost use Rattle.world.specs.Goes.{NodesGoOn};
 ghost use Rattle.world.specs.Housed.{leads};
-ghost use Rattle.world.specs.Inside.{GoesOn, HandsDown, HandsOn, HasTaken, PutsDown, Tells, marked};
+ghost use Rattle.world.specs.Inside.{GoesOn, HandsDown, HandsOn, MayHandDown, MayPutDown, PutsDown, marked};
 
 use crate::place::Place;
 use crate::world::World;
@@ -31,7 +31,7 @@ impl World {
     }
 
     // The same on the first so many connections, from the newest of these to the oldest.
-    pub(crate) fn gather_among(&mut self, node: u8, count: u64)
+    fn gather_among(&mut self, node: u8, count: u64)
         ensures goes { GoesOn self.old self.new }
         ensures gathers { LosesNothing self.old.nodes self.new.nodes →
             GathersAmong count node self.old self.new }
@@ -58,20 +58,16 @@ impl World {
         }
     }
 
-    // What the node of a connection put out for it goes on its way down. Whether its end at the node is open is marked,
-    // and the result.
-    pub(crate) fn ask(&mut self, place: Place, number: u64) -> bool
+    // What the node of a connection put out for it goes on its way down. Whether its end at the node is open is marked.
+    fn ask(&mut self, place: Place, number: u64)
         requires stands { slice_get self.old.connections (number - 1) ≡ Some place }
         requires positive { 0 < number }
         ensures goes { GoesOn self.old self.new }
         ensures asks { LosesNothing self.old.nodes self.new.nodes →
             IsAsked number self.old self.new }
-        ensures taken { result ≡ true →
-            LosesNothing self.old.nodes self.new.nodes → HasTaken number self.old }
     {
         let is_open = self.hand_on(place, number);
         self.mark(place, number, is_open);
-        is_open
     }
 
     // The end of a connection at its node is open, or closed.
@@ -93,8 +89,6 @@ impl World {
         ensures connections { self.new.connections ≡ self.old.connections }
         ensures hands { LosesNothing self.old.nodes self.new.nodes →
             HandsOn number place self.old result self.new }
-        ensures taken { result ≡ true →
-            LosesNothing self.old.nodes self.new.nodes → HasTaken number self.old }
     {
         let piped = &mut self.clients[place.client].piped;
         hand_down(
@@ -119,12 +113,12 @@ fn hand_down(
 ) -> bool
     requires { at < length piped.old.ways }
     ensures nodes { NodesGoOn nodes.old nodes.new }
+    ensures may { MayPutDown at node port nodes.old piped.old nodes.new piped.new }
     ensures puts { LosesNothing nodes.old nodes.new →
         PutsDown at node port nodes.old piped.old nodes.new piped.new }
     ensures leads { leads piped.new.ways ≡ leads piped.old.ways }
     ensures told { LosesNothing nodes.old nodes.new →
         result ≡ is_told_open port (node_of nodes.old.nodes node) }
-    ensures tells { LosesNothing nodes.old nodes.new → result ≡ true → Tells node port nodes.old }
 {
     let mut bytes = Vec::new(alloc);
     piped.swap_down(at, &mut bytes);
@@ -136,11 +130,11 @@ fn hand_down(
 // What a node put out for a port is handed over. Whether its end is open is the result.
 fn hands_over(nodes: &mut Nodes, node: u8, port: Port, bytes: &mut Vec<u8>) -> bool
     ensures nodes { NodesGoOn nodes.old nodes.new }
+    ensures may { MayHandDown node port nodes.old bytes.old.items nodes.new bytes.new.items }
     ensures hands { LosesNothing nodes.old nodes.new →
         HandsDown node port nodes.old bytes.old.items nodes.new bytes.new.items }
     ensures told { LosesNothing nodes.old nodes.new →
         result ≡ is_told_open port (node_of nodes.old.nodes node) }
-    ensures tells { LosesNothing nodes.old nodes.new → result ≡ true → Tells node port nodes.old }
 {
     nodes.hand_over(node, port, bytes) == Ok(Handed::Open)
 }

@@ -20,9 +20,9 @@ pub fn play(
     clients: &[ClientId],
     events: &[Event],
 ) -> Result<World, OpeningError>
-    // Where each client has an identifier of its own, and memory was not wanting, each is exact.
-    ensures headline { AreApart clients.now → IfOk result (λ world.
-        world.losses ≡ 0 → IsReached nodes config clients.now world) }
+    // Where each client has an identifier of its own, each is exact, whatever memory did.
+    ensures headline { AreApart clients.now →
+        IfOk result (λ world. IsReached nodes config clients.now world) }
     // It opens, and then each event has happened, or could not.
     ensures plays { IfOk result (λ world. Plays nodes config clients.now events.now world) }
     ensures bad { IsErrOf result OpeningError.BadMembers ↔ (can_open nodes config ≡ false) }

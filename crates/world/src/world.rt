@@ -1,6 +1,6 @@
 // A world.
 
-ghost use Rattle.std.specs.Prelude.{◌≡◌, ◌≤◌, ◌<◌, ◌^◌, ◌-◌, ◌↔◌, false, Some, length, map, slice_get, IfOk, IfSome, IsErrOf, OnErr};
+ghost use Rattle.std.specs.Prelude.{◌≡◌, ◌≤◌, ◌<◌, ◌^◌, ◌-◌, ◌↔◌, true, false, Some, length, map, slice_get, IfOk, IfSome, IsErrOf, OnErr};
 ghost use Rattle.agreement.specs.World.{can_open};
 ghost use Rattle.ballot.specs.Losses.{one_more};
 ghost use Rattle.model.specs.World.{AreApart};
@@ -92,15 +92,14 @@ impl World {
     /// Lets one thing happen. [`Idle`] comes for what cannot happen now, and changes nothing. Where
     /// memory is wanting, messages are lost, connections are closed, nothing happens, or a node stops.
     pub fn step(&mut self, event: &Event) -> Result<(), Idle>
-        // Whatever led up to here, each client is exact behind the event: the world goes by steps of
-        // the model, or something was lost, which is counted.
-        ensures exact { LosesNothing self.old self.new → KeepsReached self.old self.new }
-        ensures steps { LosesNothing self.old self.new → WorldGoes self.old self.new }
+        // Whatever led up to here, and whatever memory did, each client is exact behind the event:
+        // the world goes by steps of the model, some of them perhaps with losses.
+        ensures exact { KeepsReached self.old self.new }
+        ensures steps { WorldGoes self.old self.new }
         // Its nodes go on as a group, and agree behind the event.
         ensures goes { WorldGoesOn self.old self.new }
-        ensures reached { LosesNothing self.old self.new →
-            StaysReached self.old.nodes self.new.nodes }
-        // What the event asks is done, or it cannot happen.
+        ensures reached { StaysReached self.old.nodes self.new.nodes }
+        // What the event asks is done, or it cannot happen, or something was lost, which is counted.
         ensures happens { Happens event.now self.old result self.new }
         ensures same { OnErr result (self.new ≡ self.old) }
     {
@@ -112,13 +111,12 @@ impl World {
 
     /// Lets events happen one after the other. Idle ones are passed over.
     pub fn run(&mut self, events: &[Event])
-        // Whatever led up to here, each client is exact behind the events.
-        ensures exact { LosesNothing self.old self.new → KeepsReached self.old self.new }
-        ensures steps { LosesNothing self.old self.new → WorldGoes self.old self.new }
+        // Whatever led up to here, and whatever memory did, each client is exact behind the events.
+        ensures exact { KeepsReached self.old self.new }
+        ensures steps { WorldGoes self.old self.new }
         // Its nodes go on as a group, and agree behind them.
         ensures goes { WorldGoesOn self.old self.new }
-        ensures reached { LosesNothing self.old self.new →
-            StaysReached self.old.nodes self.new.nodes }
+        ensures reached { StaysReached self.old.nodes self.new.nodes }
         // Each event has happened, or could not.
         ensures runs { Run events.now self.old self.new }
     {
@@ -171,10 +169,19 @@ impl World {
             (self.old.nodes.losses ≡ before) × (before < 2 ^ 64 - 1) }
         ensures same { LosesNothing self.old self.new → self.new ≡ self.old }
     {
-        let whole = self.nodes.losses() == before && before < u64::MAX;
-        if !whole {
+        if !self.is_whole(before) {
             self.lose();
         }
+    }
+
+    // Whether the nodes counted no step in which memory was wanting since they had counted so many.
+    pub(crate) fn is_whole(&self, before: u64) -> bool
+        ensures yes { result ≡ true →
+            (self.now.nodes.losses ≡ before) × (before < 2 ^ 64 - 1) }
+        ensures no { result ≡ false →
+            (self.now.nodes.losses ≡ before) × (before < 2 ^ 64 - 1) → ⊥ }
+    {
+        self.nodes.losses() == before && before < u64::MAX
     }
 
     fn happen(&mut self, event: &Event) -> Result<(), Idle>

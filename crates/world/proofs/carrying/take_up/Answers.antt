@@ -1,17 +1,21 @@
 use Rattle.std.proofs.Common.{refl}
-use Rattle.world.proofs.NodesGoOn.{by_call, nodes_rest}
+use Rattle.world.proofs.GroupGoes.{call_goes}
 use Rattle.world.proofs.Handed.{less_leads}
+use Rattle.world.proofs.NodesGoOn.{nodes_rest}
 use Rattle.world.proofs.Turned.{there}
 use Rattle.world.proofs.carrying.take_up.Goals as goal
 
 pub returns-then-not-is_part-clause-nodes : goal.returns-then-not-is_part-clause-nodes
 returns-then-not-is_part-clause-nodes c = nodes_rest _ _ refl
 
+pub returns-in_default-clause-nodes : goal.returns-in_default-clause-nodes
+returns-in_default-clause-nodes c = nodes_rest _ _ refl
+
 pub returns-in_err-take-clause-nodes : goal.returns-in_err-take-clause-nodes
-returns-in_err-take-clause-nodes c = by_call c.take.result c.args.nodes.now c.take.new.self _ _ c.take.ensures.rises c.take.ensures.goes c.take.ensures.same
+returns-in_err-take-clause-nodes c = call_goes c.take.result c.args.nodes.now c.take.new.self _ _ c.take.ensures.rises c.take.ensures.acts c.take.ensures.same
 
 pub returns-clause-nodes : goal.returns-clause-nodes
-returns-clause-nodes c = by_call c.take.result c.args.nodes.now c.take.new.self _ _ c.take.ensures.rises c.take.ensures.goes c.take.ensures.same
+returns-clause-nodes c = call_goes c.take.result c.args.nodes.now c.take.new.self _ _ c.take.ensures.rises c.take.ensures.acts c.take.ensures.same
 
 pub returns-clause-leads : goal.returns-clause-leads
 returns-clause-leads c =

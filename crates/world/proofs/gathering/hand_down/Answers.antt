@@ -1,4 +1,4 @@
-use Rattle.world.proofs.PutsDown.{puts, same_leads}
+use Rattle.world.proofs.PutsDown.{may_put, puts, same_leads}
 use Rattle.world.proofs.Turned.{there}
 use Rattle.world.proofs.gathering.hand_down.Goals as goal
 
@@ -7,6 +7,12 @@ returns-clause-puts c =
     λ none. puts c.args.node c.args.port c.args.nodes.now c.hands_over-is_open.new.nodes c.args.piped.now c.swap_down.new.self c.swap_down-2.new.self c.args.at
     c.new-bytes.result.items c.swap_down.new.bytes.items c.hands_over-is_open.new.bytes.items c.swap_down.ensures.left c.swap_down.ensures.given c.swap_down-2.ensures.left
     (c.hands_over-is_open.ensures.hands none)
+
+pub returns-clause-may : goal.returns-clause-may
+returns-clause-may c =
+    may_put c.args.node c.args.port c.args.nodes.now c.hands_over-is_open.new.nodes c.args.piped.now c.swap_down.new.self c.swap_down-2.new.self c.args.at
+    c.new-bytes.result.items c.swap_down.new.bytes.items c.hands_over-is_open.new.bytes.items c.swap_down.ensures.left c.swap_down.ensures.given c.swap_down-2.ensures.left
+    c.hands_over-is_open.ensures.may
 
 pub returns-clause-leads : goal.returns-clause-leads
 returns-clause-leads c =

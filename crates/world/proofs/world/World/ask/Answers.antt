@@ -1,4 +1,4 @@
-use Rattle.std.proofs.Common.{ap, subst}
+use Rattle.std.proofs.Common.{ap, subst, arith}
 use Rattle.world_nodes.specs.Nodes.{NodesState}
 use Rattle.world_nodes.specs.Steps.{LosesNothing}
 use Rattle.world.specs.World.{WorldState}
@@ -9,7 +9,7 @@ use Rattle.world.proofs.world.World.ask.Goals as goal
 pub returns-clause-goes : goal.returns-clause-goes
 returns-clause-goes c =
     goes_on_join _ _ _ c.hand_on-is_open.ensures.goes (goes_on_still _ _ (ap (λ (w : WorldState). w.nodes) c.mark.ensures) (ap (λ (w : WorldState). w.clients) c.mark.ensures)
-    (ap (λ (w : WorldState). w.losses) c.mark.ensures))
+    (let same = ap (λ (w : WorldState). w.losses) c.mark.ensures in omega (arith, same)))
 
 pub returns-clause-asks : goal.returns-clause-asks
 returns-clause-asks c =

@@ -1,18 +1,17 @@
-use Rattle.world_nodes.specs.Goes.{behind_giving}
 use Rattle.world.specs.World.{WorldState}
-use Rattle.world.proofs.GroupGoes.{goes_by_assign}
+use Rattle.world.proofs.GroupGoes.{by_assign, goes_apart}
 use Rattle.world.proofs.ItemsMet.{assign_meets}
 use Rattle.world.proofs.world.World.assign.Goals as goal
 
 pub returns-clause-goes : goal.returns-clause-goes
 returns-clause-goes c =
-    rw (← c.self.view_is) (goes_by_assign c.assign.result (let old : WorldState = record {
+    rw (← c.self.view_is) (goes_apart (let old : WorldState = record {
       nodes = c.self.inside.nodes;
       clients = c.self.inside.clients.items;
       connections = c.self.inside.connections.items;
       losses = c.self.inside.losses;
-    } in old) c.assign.new.self (behind_giving c.args.config.now)
-    c.assign.ensures.rises c.assign.ensures.goes c.assign.ensures.same)
+    } in old) c.assign.new.self c.assign.ensures.rises
+    (by_assign c.assign.result c.self.inside.nodes c.assign.new.self c.assign.ensures.acts c.assign.ensures.same))
 
 pub returns-clause-meets : goal.returns-clause-meets
 returns-clause-meets c =

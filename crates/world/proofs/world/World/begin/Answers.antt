@@ -1,22 +1,30 @@
-use Rattle.std.proofs.Common.{◌≡◌, suc, length, arith}
-use Rattle.world.proofs.OpensOn.{lost_on, opens_at, opens_on}
+use Rattle.std.proofs.Common.{◌≡◌, ◌<◌, ◌^◌, ◌-◌, ℕ, ap, ◌∙◌, subst, sym}
+use Rattle.world.specs.World.{WorldState}
+use Rattle.world.proofs.Joined.{counted_loss, goes_on_join, goes_on_still}
+use Rattle.world.proofs.NodesGoOn.{nodes_split}
 use Rattle.world.proofs.world.World.begin.Goals as goal
 
-pub returns-in-Ok-clause-goes : goal.returns-in-Ok-clause-goes
-returns-in-Ok-clause-goes c =
-    let counted : c.saturating_add-number.result ≡ suc (length c.self.inside.connections.items) = omega arith in
-    opens_on c.args.client c.args.node c.saturating_add-number.result c.args.self.now c.connect.new.self c.accept.new.self (rw (← c.self.view_is) c.self.invariant)
-    (rw (← c.self.view_is) counted) c.in-Ok.ensures.connects c.in-Ok.ensures.nodes c.in-Ok.ensures.losses c.accept.ensures.rises c.accept.ensures.nodes c.accept.ensures.takes
+pub returns-then-connect-clause-goes : goal.returns-then-connect-clause-goes
+returns-then-connect-clause-goes c = goes_on_join _ _ _ c.connect.ensures.goes c.gather.ensures.goes
 
-pub returns-in-Ok-clause-opens : goal.returns-in-Ok-clause-opens
-returns-in-Ok-clause-opens c =
-    let counted : c.saturating_add-number.result ≡ suc (length c.self.inside.connections.items) = omega arith in
-    opens_at c.args.client c.args.node c.saturating_add-number.result c.args.self.now c.connect.new.self c.accept.new.self
-    (rw (← c.self.view_is) counted) c.in-Ok.ensures.connects c.in-Ok.ensures.nodes c.in-Ok.ensures.losses c.accept.ensures.item
+pub returns-then-connect-clause-opens : goal.returns-then-connect-clause-opens
+returns-then-connect-clause-opens c =
+    λ none whole.
+    let s = nodes_split c.args.self.now.nodes c.connect.new.self.nodes c.gather.new.self.nodes c.connect.ensures.goes.nodes.rises c.gather.ensures.goes.nodes.rises whole in
+    record { between = c.connect.new.self; connects = c.connect.ensures.connects c.if-connect.true; gathers = c.gather.ensures.gathers s.1 }
 
-pub returns-in-Err-clause-goes : goal.returns-in-Err-clause-goes
-returns-in-Err-clause-goes c = (lost_on c.args.self.now c.connect.new.self c.lose.new.self c.in-Err.ensures.nodes c.in-Err.ensures.losses c.lose.ensures.rises c.lose.ensures.lost).0
+pub returns-then-is_whole-clause-goes : goal.returns-then-is_whole-clause-goes
+returns-then-is_whole-clause-goes c =
+    goes_on_join _ _ _ c.connect.ensures.goes
+    (goes_on_still _ _ (ap (λ (w : WorldState). w.nodes) c.lose.ensures.lost) (ap (λ (w : WorldState). w.clients) c.lose.ensures.lost) c.lose.ensures.rises)
 
-pub returns-in-Err-clause-opens : goal.returns-in-Err-clause-opens
-returns-in-Err-clause-opens c =
-    λ none whole. absurd ((lost_on c.args.self.now c.connect.new.self c.lose.new.self c.in-Err.ensures.nodes c.in-Err.ensures.losses c.lose.ensures.rises c.lose.ensures.lost).1 none)
+pub returns-then-is_whole-clause-opens : goal.returns-then-is_whole-clause-opens
+returns-then-is_whole-clause-opens c =
+    λ none whole.
+    absurd (counted_loss c.args.self.now c.lose.new.self c.connect.new.self.losses c.connect.ensures.goes.rises (ap (λ (w : WorldState). w.losses) c.lose.ensures.lost) none)
+
+pub returns-else-is_whole-clause-opens : goal.returns-else-is_whole-clause-opens
+returns-else-is_whole-clause-opens c =
+    λ none whole.
+    let before : c.losses-before.result ≡ c.args.self.now.nodes.losses = rw (← c.self.view_is) c.losses-before.ensures in
+    absurd (c.is_whole.ensures.no c.if-is_whole.false (whole.0 ∙ sym before, subst (λ (k : ℕ). k < 2 ^ 64 - 1) (sym before) whole.1))

@@ -78,8 +78,8 @@ returns-in-Ok-clause-goes c =
     } in old) in
     let rises : old.losses ≤ (forgetful old).losses = omega arith in
     rw (← c.self.view_is)
-    (hearing_counted old c.in-Some.place.client c.index_mut.result.now c.hear_on.new.piped c.in-Ok.had c.heard.new.self found c.hear_on.ensures.goes rises
-    c.heard.ensures)
+    (hearing_counted old c.in-Some.place.client c.index_mut.result.now c.hear_on.new.piped c.in-Ok.had c.remember.new.self found c.hear_on.ensures.goes rises
+    c.remember.ensures)
 
 pub returns-in-Ok-clause-meets : goal.returns-in-Ok-clause-meets
 returns-in-Ok-clause-meets c =
@@ -92,5 +92,5 @@ returns-in-Ok-clause-meets c =
       clients = c.self.inside.clients.items;
       connections = c.self.inside.connections.items;
       losses = c.self.inside.losses;
-    } in old) c.index_mut.result.now c.hear_on.new.piped c.heard.new.self c.self.invariant stands.1 stands.0 found c.in-Ok.ensures.hears
-    (omega arith) c.heard.ensures none)
+    } in old) c.index_mut.result.now c.hear_on.new.piped c.remember.new.self c.self.invariant stands.1 stands.0 found c.in-Ok.ensures.hears
+    (omega arith) c.remember.ensures none)

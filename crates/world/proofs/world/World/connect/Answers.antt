@@ -1,54 +1,107 @@
-use Rattle.std.proofs.Common.{◌≡◌, ◌<◌, ◌-◌, ℕ, List, [], ◌∷◌, ◌++◌, Ok, suc, true, length, set, refl, ap, ◌∙◌, subst, arith}
+use Rattle.std.proofs.Common.{◌≡◌, ◌<◌, ◌-◌, ℕ, List, [], ◌∷◌, ◌++◌, Bool, true, false, suc, length, set, refl, ap, ◌∙◌, subst, arith}
 use Rattle.master.proofs.Counting.{get_there}
-use Rattle.client_base.specs.Steps.{Call, keeper_step}
-use Rattle.world_pipes.specs.Piped.{Connects}
 use Rattle.world.specs.Found.{port_of}
+use Rattle.world.specs.Inside.{HearsOfOne, Reaches}
 use Rattle.world.specs.declared.place.Place.{Place}
 use Rattle.world.specs.declared.world.WorldClient.{WorldClient}
-use Rattle.world.specs.Housed.{leads}
 use Rattle.world.specs.World.{WorldState}
 use Rattle.world.proofs.ClientGoes.{housed_still}
 use Rattle.world.proofs.HousedOpened.{housed_opened}
+use Rattle.world.proofs.Joined.{goes_on_still}
+use Rattle.world.proofs.OpensOn.{connects_at, connects_on, of_found, refused_on}
 use Rattle.world.proofs.world.World.connect.Goals as goal
 
-pub invariant_of-self-in_err-open : goal.invariant_of-self-in_err-open
-invariant_of-self-in_err-open c =
+pub returns-then-is_err-clause-goes : goal.returns-then-is_err-clause-goes
+returns-then-is_err-clause-goes c = rw (← c.self.view_is) (goes_on_still (let old : WorldState = record {
+  nodes = c.self.inside.nodes;
+  clients = c.self.inside.clients.items;
+  connections = c.self.inside.connections.items;
+  losses = c.self.inside.losses;
+} in old) (let new : WorldState = record {
+  nodes = c.self.inside.nodes;
+  clients = c.self.inside.clients.items;
+  connections = c.reserve.new.self.items;
+  losses = c.self.inside.losses;
+} in new) refl refl (omega arith))
+
+pub invariant_of-self : goal.invariant_of-self
+invariant_of-self c = rw c.reserve.ensures.items c.self.invariant
+
+pub reach-requires-clause-free : goal.reach-requires-clause-free
+reach-requires-clause-free c =
     let few : c.args.client < length c.self.inside.clients.items = rw (← c.self.view_is) at c.requires.some in
-    let found = get_there c.self.inside.clients.items c.args.client c.index_mut-found.result.now few c.index_mut-found.ensures.value in
-    rw c.in_ok-reserve.ensures.items
-    (housed_still c.self.inside.clients.items c.self.inside.connections.items c.args.client c.index_mut-found.result.now c.open.new.self found
-    (ap leads c.in_err-open.ensures.opens.1) c.self.invariant)
+    let found = get_there c.self.inside.clients.items c.args.client c.index_mut.result.now few c.index_mut.ensures.value in
+    of_found c.self.inside.clients.items c.args.client c.index_mut.result.now found (rw (← c.self.view_is) at c.requires.free)
+
+pub invariant_of-self-then-not-reach : goal.invariant_of-self-then-not-reach
+invariant_of-self-then-not-reach c =
+    let few : c.args.client < length c.self.inside.clients.items = rw (← c.self.view_is) at c.requires.some in
+    let found = get_there c.self.inside.clients.items c.args.client c.index_mut.result.now few c.index_mut.ensures.value in
+    rw c.reserve.ensures.items
+    (housed_still c.self.inside.clients.items c.self.inside.connections.items c.args.client c.index_mut.result.now c.reach.new.piped found
+    (c.reach.ensures.leads c.if-not-reach.true) c.self.invariant)
+
+pub returns-then-not-reach-clause-goes : goal.returns-then-not-reach-clause-goes
+returns-then-not-reach-clause-goes c =
+    let few : c.args.client < length c.self.inside.clients.items = rw (← c.self.view_is) at c.requires.some in
+    let found = get_there c.self.inside.clients.items c.args.client c.index_mut.result.now few c.index_mut.ensures.value in
+    let counted : c.saturating_add-number.result ≡ suc (length c.self.inside.connections.items) = omega arith in
+    let none = subst (λ (b : Bool). Reaches b c.args.node (port_of c.saturating_add-number.result) c.self.inside.nodes c.index_mut.result.now.piped c.reach.new.nodes c.reach.new.piped)
+    c.if-not-reach.true c.reach.ensures.reaches in
+    rw (← c.self.view_is, c.reserve.ensures.items)
+    (refused_on (let old : WorldState = record {
+      nodes = c.self.inside.nodes;
+      clients = c.self.inside.clients.items;
+      connections = c.self.inside.connections.items;
+      losses = c.self.inside.losses;
+    } in old) c.args.client c.args.node c.index_mut.result.now c.reach.new.nodes c.reach.new.piped c.self.invariant found c.reach.ensures.nodes none.0
+    (subst (λ (k : ℕ). HearsOfOne false c.args.node (port_of k) c.self.inside.nodes c.reach.new.nodes) counted none.1))
 
 pub invariant_of-self-2 : goal.invariant_of-self-2
 invariant_of-self-2 c =
     let few : c.args.client < length c.self.inside.clients.items = rw (← c.self.view_is) at c.requires.some in
-    let found = get_there c.self.inside.clients.items c.args.client c.index_mut-found.result.now few c.index_mut-found.ensures.value in
-    let counted = rw (← c.self.view_is) at c.requires.number in
+    let found = get_there c.self.inside.clients.items c.args.client c.index_mut.result.now few c.index_mut.ensures.value in
+    let counted : c.saturating_add-number.result ≡ suc (length c.self.inside.connections.items) = omega arith in
+    let one = subst (λ (b : Bool). Reaches b c.args.node (port_of c.saturating_add-number.result) c.self.inside.nodes c.index_mut.result.now.piped c.reach.new.nodes c.reach.new.piped)
+    c.if-not-reach.false c.reach.ensures.reaches in
     let place : Place = record { client = c.args.client; at = c.len-at.result; node = c.args.node; is_open = true } in
-    rw (c.push_reserved.ensures.items, c.in_ok-reserve.ensures.items)
-    (housed_opened c.self.inside.clients.items c.self.inside.connections.items c.args.client c.index_mut-found.result.now c.open.new.self (c.args.node - 1) c.args.number place
-    c.in_ok-open.ensures.opens.0 found c.in_ok-open.ensures.opens.2 counted refl c.len-at.ensures
+    rw (c.push_reserved.ensures.items, c.reserve.ensures.items)
+    (housed_opened c.self.inside.clients.items c.self.inside.connections.items c.args.client c.index_mut.result.now c.reach.new.piped (c.args.node - 1) c.saturating_add-number.result place
+    one.opens.0 found one.opens.2 counted refl c.len-at.ensures
     (let high = c.requires.node in let e : suc (c.args.node - 1) ≡ c.args.node = omega (arith, high) in e) c.self.invariant)
 
 pub returns-clause-connects : goal.returns-clause-connects
 returns-clause-connects c =
     let few : c.args.client < length c.self.inside.clients.items = rw (← c.self.view_is) at c.requires.some in
-    let found = get_there c.self.inside.clients.items c.args.client c.index_mut-found.result.now few c.index_mut-found.ensures.value in
-    let client : WorldClient = c.index_mut-found.result.now in
-    let counted = rw (← c.self.view_is) at c.requires.number in
+    let found = get_there c.self.inside.clients.items c.args.client c.index_mut.result.now few c.index_mut.ensures.value in
+    let counted : c.saturating_add-number.result ≡ suc (length c.self.inside.connections.items) = omega arith in
+    let one = subst (λ (b : Bool). Reaches b c.args.node (port_of c.saturating_add-number.result) c.self.inside.nodes c.index_mut.result.now.piped c.reach.new.nodes c.reach.new.piped)
+    c.if-not-reach.false c.reach.ensures.reaches in
+    let old : WorldState = record {
+      nodes = c.self.inside.nodes;
+      clients = c.self.inside.clients.items;
+      connections = c.self.inside.connections.items;
+      losses = c.self.inside.losses;
+    } in
     let place : Place = record { client = c.args.client; at = c.len-at.result; node = c.args.node; is_open = true } in
-    rw (← c.self.view_is)
-    (record {
-      client = client;
-      found = found;
-      piped = c.open.new.self;
-      connects = subst (λ (k : ℕ). Connects (c.args.node - 1) (port_of k) (keeper_step Call.Opens client.piped.core.state) client.piped (Ok tt) c.open.new.self) counted c.in_ok-open.ensures.opens;
-      goes = c.in_ok-open.ensures.goes;
-      is = ap (λ (l : List Place). let w : WorldState = record {
-        nodes = c.self.inside.nodes;
-        clients = set c.self.inside.clients.items c.args.client (record client { piped = c.open.new.self });
-        connections = l;
-        losses = c.self.inside.losses;
-      } in w) (c.push_reserved.ensures.items ∙ ap (λ (l : List Place). l ++ place ∷ []) c.in_ok-reserve.ensures.items
-          ∙ ap (λ (k : ℕ). c.self.inside.connections.items ++ record { client = c.args.client; at = k; node = c.args.node; is_open = true } ∷ []) c.len-at.ensures);
-    })
+    let at = connects_at c.args.client c.args.node c.saturating_add-number.result c.len-at.result old c.index_mut.result.now c.reach.new.nodes c.reach.new.piped c.push_reserved.new.self.items
+    found counted c.len-at.ensures (c.push_reserved.ensures.items ∙ ap (λ (l : List Place). l ++ place ∷ []) c.reserve.ensures.items) one in
+    rw (← c.self.view_is) (λ yes. at)
+
+pub returns-clause-goes : goal.returns-clause-goes
+returns-clause-goes c =
+    let few : c.args.client < length c.self.inside.clients.items = rw (← c.self.view_is) at c.requires.some in
+    let found = get_there c.self.inside.clients.items c.args.client c.index_mut.result.now few c.index_mut.ensures.value in
+    let counted : c.saturating_add-number.result ≡ suc (length c.self.inside.connections.items) = omega arith in
+    let one = subst (λ (b : Bool). Reaches b c.args.node (port_of c.saturating_add-number.result) c.self.inside.nodes c.index_mut.result.now.piped c.reach.new.nodes c.reach.new.piped)
+    c.if-not-reach.false c.reach.ensures.reaches in
+    let old : WorldState = record {
+      nodes = c.self.inside.nodes;
+      clients = c.self.inside.clients.items;
+      connections = c.self.inside.connections.items;
+      losses = c.self.inside.losses;
+    } in
+    let place : Place = record { client = c.args.client; at = c.len-at.result; node = c.args.node; is_open = true } in
+    let at = connects_at c.args.client c.args.node c.saturating_add-number.result c.len-at.result old c.index_mut.result.now c.reach.new.nodes c.reach.new.piped c.push_reserved.new.self.items
+    found counted c.len-at.ensures (c.push_reserved.ensures.items ∙ ap (λ (l : List Place). l ++ place ∷ []) c.reserve.ensures.items) one in
+    rw (← c.self.view_is) (connects_on c.args.client c.args.node old _ c.self.invariant refl c.reach.ensures.nodes at)

@@ -3,28 +3,30 @@ use Rattle.std.proofs.lemmas.Bool.{both_ways}
 use Rattle.world_base.specs.declared.item.Item.TheVariants.{Crash}
 use Rattle.world.specs.World.{WorldState}
 use Rattle.world.proofs.Gathered.{takes_item}
-use Rattle.world.proofs.GroupGoes.{goes_by_call}
+use Rattle.world.proofs.GroupGoes.{by_call, goes_apart}
 use Rattle.world.proofs.Joined.{goes_on_join}
 use Rattle.world.proofs.world.World.crash.Goals as goal
 
 pub returns-in_err-crash-clause-goes : goal.returns-in_err-crash-clause-goes
 returns-in_err-crash-clause-goes c =
-    rw (← c.self.view_is) (goes_by_call c.crash.result (let old : WorldState = record {
+    rw (← c.self.view_is) (goes_apart (let old : WorldState = record {
       nodes = c.self.inside.nodes;
       clients = c.self.inside.clients.items;
       connections = c.self.inside.connections.items;
       losses = c.self.inside.losses;
-    } in old) c.crash.new.self _ _ refl c.crash.ensures.rises c.crash.ensures.goes c.crash.ensures.same)
+    } in old) c.crash.new.self c.crash.ensures.rises
+    (by_call c.crash.result c.self.inside.nodes c.crash.new.self _ _ refl c.crash.ensures.acts c.crash.ensures.same))
 
 pub returns-clause-goes : goal.returns-clause-goes
 returns-clause-goes c =
     rw (← c.self.view_is) (goes_on_join _ _ _
-    (goes_by_call c.crash.result (let old : WorldState = record {
+    (goes_apart (let old : WorldState = record {
       nodes = c.self.inside.nodes;
       clients = c.self.inside.clients.items;
       connections = c.self.inside.connections.items;
       losses = c.self.inside.losses;
-    } in old) c.crash.new.self _ _ refl c.crash.ensures.rises c.crash.ensures.goes c.crash.ensures.same) c.gather.ensures.goes)
+    } in old) c.crash.new.self c.crash.ensures.rises
+    (by_call c.crash.result c.self.inside.nodes c.crash.new.self _ _ refl c.crash.ensures.acts c.crash.ensures.same)) c.gather.ensures.goes)
 
 pub returns-clause-meets : goal.returns-clause-meets
 returns-clause-meets c =

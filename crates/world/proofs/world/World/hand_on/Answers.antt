@@ -27,7 +27,7 @@ returns-clause-goes c =
       connections = c.self.inside.connections.items;
       losses = c.self.inside.losses;
     } in old) c.args.number c.args.place c.index_mut.result.now c.hand_down.new.nodes c.hand_down.new.piped c.self.invariant
-    stands c.requires.positive found c.hand_down.ensures.nodes c.hand_down.ensures.puts)
+    stands c.requires.positive found c.hand_down.ensures.nodes c.hand_down.ensures.may)
 
 pub hand_down-requires : goal.hand_down-requires
 hand_down-requires c =

@@ -1,43 +1,34 @@
 use Rattle.world.proofs.ItemsMet.{step_happens}
-use Rattle.world.proofs.Joined.{keeps_reached, nodes_run, step_goes, world_rests_on}
+use Rattle.world.proofs.Joined.{goes_on_join, goes_on_rest, goes_on_still, keeps_reached, world_goes_on}
 use Rattle.world.proofs.NodesGoOn.{stays_reached}
 use Rattle.world.proofs.world.World.step.Goals as goal
 
 pub returns-in_err-happen-clause-exact : goal.returns-in_err-happen-clause-exact
-returns-in_err-happen-clause-exact c =
-    λ none. keeps_reached _ _ ((world_rests_on _ _ c.in_err-happen.ensures.meets.1).goes none)
+returns-in_err-happen-clause-exact c = keeps_reached _ _ (goes_on_rest _ _ c.in_err-happen.ensures.meets.1).goes
 
 pub returns-in_err-happen-clause-steps : goal.returns-in_err-happen-clause-steps
-returns-in_err-happen-clause-steps c =
-    λ none. (world_rests_on _ _ c.in_err-happen.ensures.meets.1).goes none
+returns-in_err-happen-clause-steps c = (goes_on_rest _ _ c.in_err-happen.ensures.meets.1).goes
 
 pub returns-in_err-happen-clause-goes : goal.returns-in_err-happen-clause-goes
-returns-in_err-happen-clause-goes c =
-    nodes_run _ _ (world_rests_on _ _ c.in_err-happen.ensures.meets.1)
+returns-in_err-happen-clause-goes c = world_goes_on _ _ (goes_on_rest _ _ c.in_err-happen.ensures.meets.1)
 
 pub returns-in_err-happen-clause-reached : goal.returns-in_err-happen-clause-reached
-returns-in_err-happen-clause-reached c =
-    λ none. stays_reached _ _ ((world_rests_on _ _ c.in_err-happen.ensures.meets.1).nodes none)
+returns-in_err-happen-clause-reached c = stays_reached _ _ (goes_on_rest _ _ c.in_err-happen.ensures.meets.1).nodes.goes
 
 pub returns-clause-exact : goal.returns-clause-exact
 returns-clause-exact c =
-    λ none. keeps_reached _ _ ((step_goes c.args.self.now c.happen.new.self c.count.new.self c.losses-before.result (rw (← c.self.view_is) c.losses-before.ensures) c.happen.ensures.goes
-    c.count.ensures.nodes c.count.ensures.clients c.count.ensures.rises c.count.ensures.whole).goes none)
+    keeps_reached _ _ (goes_on_join c.args.self.now c.happen.new.self c.count.new.self c.happen.ensures.goes (goes_on_still _ _ c.count.ensures.nodes c.count.ensures.clients c.count.ensures.rises)).goes
 
 pub returns-clause-steps : goal.returns-clause-steps
-returns-clause-steps c =
-    λ none. (step_goes c.args.self.now c.happen.new.self c.count.new.self c.losses-before.result (rw (← c.self.view_is) c.losses-before.ensures) c.happen.ensures.goes
-    c.count.ensures.nodes c.count.ensures.clients c.count.ensures.rises c.count.ensures.whole).goes none
+returns-clause-steps c = (goes_on_join c.args.self.now c.happen.new.self c.count.new.self c.happen.ensures.goes (goes_on_still _ _ c.count.ensures.nodes c.count.ensures.clients c.count.ensures.rises)).goes
 
 pub returns-clause-goes : goal.returns-clause-goes
 returns-clause-goes c =
-    nodes_run _ _ (step_goes c.args.self.now c.happen.new.self c.count.new.self c.losses-before.result (rw (← c.self.view_is) c.losses-before.ensures) c.happen.ensures.goes
-    c.count.ensures.nodes c.count.ensures.clients c.count.ensures.rises c.count.ensures.whole)
+    world_goes_on _ _ (goes_on_join c.args.self.now c.happen.new.self c.count.new.self c.happen.ensures.goes (goes_on_still _ _ c.count.ensures.nodes c.count.ensures.clients c.count.ensures.rises))
 
 pub returns-clause-reached : goal.returns-clause-reached
 returns-clause-reached c =
-    λ none. stays_reached _ _ ((step_goes c.args.self.now c.happen.new.self c.count.new.self c.losses-before.result (rw (← c.self.view_is) c.losses-before.ensures) c.happen.ensures.goes
-    c.count.ensures.nodes c.count.ensures.clients c.count.ensures.rises c.count.ensures.whole).nodes none)
+    stays_reached c.args.self.now.nodes c.count.new.self.nodes (goes_on_join c.args.self.now c.happen.new.self c.count.new.self c.happen.ensures.goes (goes_on_still _ _ c.count.ensures.nodes c.count.ensures.clients c.count.ensures.rises)).nodes.goes
 
 pub returns-clause-happens : goal.returns-clause-happens
 returns-clause-happens c =

@@ -3,28 +3,30 @@ use Rattle.std.proofs.lemmas.Bool.{both_ways}
 use Rattle.world_base.specs.declared.item.Item.TheVariants.{Tick}
 use Rattle.world.specs.World.{WorldState}
 use Rattle.world.proofs.Gathered.{takes_item}
-use Rattle.world.proofs.GroupGoes.{goes_by_call}
+use Rattle.world.proofs.GroupGoes.{by_call, goes_apart}
 use Rattle.world.proofs.Joined.{goes_on_join}
 use Rattle.world.proofs.world.World.tick.Goals as goal
 
 pub returns-in_err-tick-clause-goes : goal.returns-in_err-tick-clause-goes
 returns-in_err-tick-clause-goes c =
-    rw (← c.self.view_is) (goes_by_call c.tick.result (let old : WorldState = record {
+    rw (← c.self.view_is) (goes_apart (let old : WorldState = record {
       nodes = c.self.inside.nodes;
       clients = c.self.inside.clients.items;
       connections = c.self.inside.connections.items;
       losses = c.self.inside.losses;
-    } in old) c.tick.new.self _ _ refl c.tick.ensures.rises c.tick.ensures.goes c.tick.ensures.same)
+    } in old) c.tick.new.self c.tick.ensures.rises
+    (by_call c.tick.result c.self.inside.nodes c.tick.new.self _ _ refl c.tick.ensures.acts c.tick.ensures.same))
 
 pub returns-clause-goes : goal.returns-clause-goes
 returns-clause-goes c =
     rw (← c.self.view_is) (goes_on_join _ _ _
-    (goes_by_call c.tick.result (let old : WorldState = record {
+    (goes_apart (let old : WorldState = record {
       nodes = c.self.inside.nodes;
       clients = c.self.inside.clients.items;
       connections = c.self.inside.connections.items;
       losses = c.self.inside.losses;
-    } in old) c.tick.new.self _ _ refl c.tick.ensures.rises c.tick.ensures.goes c.tick.ensures.same) c.gather.ensures.goes)
+    } in old) c.tick.new.self c.tick.ensures.rises
+    (by_call c.tick.result c.self.inside.nodes c.tick.new.self _ _ refl c.tick.ensures.acts c.tick.ensures.same)) c.gather.ensures.goes)
 
 pub returns-clause-meets : goal.returns-clause-meets
 returns-clause-meets c =
