@@ -9,6 +9,7 @@ use Rattle.world_base.specs.declared.item.Port.{Port}
 use Rattle.world_base.specs.Core.{CountedCore}
 use Rattle.world_base.specs.Handing.{answer_of, bytes_of, hands_over, listed_at}
 use Rattle.node_model.specs.Moves.Deed.{gives}
+use Rattle.group_model.proofs.Placed.{set_same}
 use Rattle.world_nodes.specs.Nodes.{NodesState}
 use Rattle.world_nodes.specs.Goes.{Acts, AnswersFor, HandsOver, node_of}
 use Rattle.world_nodes.proofs.Acts.{acts}
@@ -40,6 +41,11 @@ hands old at z new port found is =
     (ap (λ (l : List (ℕ × Message Command)). record old { nodes = slice_set old.nodes at (record z { core = hands_over port z.core }); sent = l }) (append-nil old.sent)
     ∙ ap (λ (c : CountedCore). with_node at c old) (sym is))
     (acts old at z (gives port) found (λ g s. tt))
+
+-- where nothing is handed over, nothing changes
+pub rests : (old : NodesState) (at : ℕ) (z new : CountedCore) → slice_get old.nodes at ≡ Some z → new ≡ z → with_node at new old ≡ old
+rests old at z new found same =
+    ap (λ (l : List CountedCore). record old { nodes = l }) (ap (slice_set old.nodes at) same ∙ set_same old.nodes at z found)
 
 -- what is read at the place of a number is the node of that number
 pub same_node : (nodes : List CountedCore) (node : ℕ) (z core : CountedCore) → node_of nodes node ≡ Some z → node_of nodes node ≡ Some core → z ≡ core

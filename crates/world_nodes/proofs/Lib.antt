@@ -1,8 +1,11 @@
 mod Acts
 mod ActsLosing
+mod AgreedCounted
+mod CountsGoOn
 mod HandsOver
 mod InnerRuns
 mod Opens
 mod KeepsAll
 mod MasterActs
+mod MasterCounts
 pub mod DeedsRun

@@ -48,7 +48,7 @@ hears_by g from ballot sent = record { step = master_hears from ballot sent; is 
 abbrev pub told_to : MasterState → ℕ → Body Command → NodesState → NodesState
 told_to m receiver body old = record old { master = m; sent = old.sent ++ (receiver, record { from = 0; body = body }) ∷ [] }
 
-gives_exactly : (old : NodesState) (config : Config) → refusal old.master config ≡ None
+pub gives_exactly : (old : NodesState) (config : Config) → refusal old.master config ≡ None
     → MasterActs (behind_giving config) old
     (told_to (assigning old.master config) config.primary (NewBallot (old.master.given + 1) config.members old.master.active old.master.members) old)
 unfolding does_by
@@ -68,7 +68,7 @@ gives_exactly old config none g s = (
     message : MasterState → Message Command
     message m = record { from = 0; body = NewBallot (m.given + 1) config.members m.active m.members }
 
-answers_exactly : (old : NodesState) (from ballot : ℕ) → In (0, record { from = from; body = Activate ballot }) old.sent
+pub answers_exactly : (old : NodesState) (from ballot : ℕ) → In (0, record { from = from; body = Activate ballot }) old.sent
     → MasterActs (behind_answer from ballot) old
     (told_to (activating old.master ballot old.master.waiting) from
     (if is_granted old.master ballot old.master.waiting then Activated ballot else Superseded ballot) old)

@@ -1,7 +1,7 @@
 -- What the helpers of nodes say.
-use Rattle.std.specs.Prelude.{◌≡◌, ◌<◌, ℕ, Bool, true, ◌-◌, ◌++◌, List, Some, length, slice_get}
+use Rattle.std.specs.Prelude.{◌≡◌, ◌<◌, ℕ, Bool, true, ◌-◌, ◌++◌, List, Some, length, map, slice_get}
 use Rattle.lists.specs.Lists.{In}
-use Rattle.agreement.specs.World.{messages}
+use Rattle.agreement.specs.World.{log_of, messages}
 use Rattle.ballot.specs.Effect.{Effect}
 use Rattle.ballot.specs.Losses.{Thinned}
 use Rattle.ballot.specs.Message.{Message}
@@ -9,10 +9,13 @@ use Rattle.broker_base.specs.Command.{Command}
 use Rattle.broker_base.specs.Output.{Output}
 use Rattle.world_base.specs.declared.item.Item.{Item}
 use Rattle.world_base.specs.declared.item.Item.TheVariants.{Peer}
-use Rattle.world_base.specs.Core.{CountedCore}
+use Rattle.world_base.specs.Core.{CountedCore, rules}
 use Rattle.world_base.specs.LossyStep.{RunsOn}
 use Rattle.world_base.specs.Step.{node_step}
+use Rattle.master.specs.Inside.{IsGroup, ToldIn}
+use Rattle.group_model.specs.Group.{Group, moment_of, replica_of}
 use Rattle.world_nodes.specs.Goes.{running}
+use Rattle.world_nodes.specs.Nodes.{NodesState, StandsFor, cores_of}
 
 -- messages were kept behind those that were sent, save some that were lost
 pub record Keeps (given : List (Effect Command Output)) (sent more : List (ℕ × Message Command)) (whole : Bool) : Type 0 where
@@ -43,3 +46,14 @@ pub record TookItem (old : CountedCore) (item : Item) (new : CountedCore) (sent 
   pub thinned : Thinned kept wanted
   pub is : more ≡ sent ++ messages kept
   pub exact : whole ≡ true → (new ≡ record old { core = (node_step item old.core).core }) × (kept ≡ (node_step item old.core).messages)
+
+-- Nodes came to be as a group of the model does, and count what their messages tell: in the active ballot, and in the one
+-- that waits.
+pub record HaveCounted (n : NodesState) (told next : ToldIn) : Type 0 where
+  pub group : Group
+  pub stands : StandsFor group n
+  pub counts : IsGroup rules (moment_of group) told next
+
+-- the log of the node of a number; empty where it is not there
+abbrev pub log_at : List CountedCore → ℕ → List Command
+log_at nodes node = log_of (slice_get (map replica_of (cores_of nodes)) (node - 1))

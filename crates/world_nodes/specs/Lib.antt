@@ -1,4 +1,5 @@
 pub mod Nodes
 pub mod Goes
 pub mod Steps
+pub mod Agreed
 pub mod Inside

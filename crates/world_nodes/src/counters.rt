@@ -1,7 +1,8 @@
 // How many places nodes told in the ballots that matter.
 
-ghost use Rattle.std.specs.Prelude.{◌≡◌, nat_lt};
-ghost use Rattle.std.specs.List.{list_all};
+ghost use Rattle.std.specs.Prelude.{ℕ, ◌≡◌, ◌≤◌, ◌<◌, ◌-◌, ◌^◌, IfOk, get_or, length, take};
+ghost use Rattle.lists.specs.Lists.{In};
+ghost use Rattle.master.specs.Inside.{HasCounted, least_but_one};
 
 use master::{Told, turn_over};
 use std::alloc::Global;
@@ -16,43 +17,58 @@ pub struct Counters {
 
 impl Counters {
     /// Ballot 1 is active, and nothing was told. The only error is want of memory.
-    pub fn new(alloc: Global) -> Result<Counters, Memory> {
+    pub fn new(alloc: Global) -> Result<Counters, Memory>
+        ensures active { IfOk result (λ counters. counters.told.ballot ≡ 1) }
+        ensures untold { IfOk result (λ counters.
+            (m : ℕ) → get_or counters.told.held m 0 ≡ 0) }
+        ensures next { IfOk result (λ counters.
+            (m : ℕ) → get_or counters.next.held m 0 ≡ 0) }
+    {
         let told = Told::new(alloc, 1)?;
         let next = Told::new(alloc, 1)?;
         Ok(Counters { told, next })
     }
 
     /// Another ballot waits, in which nothing was told.
-    pub fn begin(&mut self, ballot: u64) {
+    pub fn begin(&mut self, ballot: u64)
+        ensures waits { self.new.next.ballot ≡ ballot }
+        ensures untold { (m : ℕ) → get_or self.new.next.held m 0 ≡ 0 }
+        ensures same { self.new.told ≡ self.old.told }
+    {
         self.next.begin(ballot);
     }
 
     /// The active ballot was this one, and is that one now.
-    pub fn turn_over(&mut self, before: u64, behind: u64) {
+    pub fn turn_over(&mut self, before: u64, behind: u64)
+        ensures stays { before ≡ behind →
+            (self.new.told ≡ self.old.told) × (self.new.next ≡ self.old.next) }
+        ensures turns { (before ≡ behind → ⊥) →
+            (self.new.told ≡ self.old.next) × (self.new.next ≡ self.old.told) }
+    {
         turn_over(&mut self.told, &mut self.next, before, behind);
     }
 
     /// Counts what the messages from a place on tell.
-    pub fn hear_from(&mut self, sent: &[(u8, Message<Command>)], from: usize) {
-        if from <= sent.len() {
-            self.told.hear_from(sent, from);
-            self.next.hear_from(sent, from);
-        }
+    pub fn hear_from(&mut self, sent: &[(u8, Message<Command>)], from: usize)
+        requires { from ≤ length sent.now }
+        ensures told { HasCounted (take from sent.now) self.old.told →
+            HasCounted sent.now self.new.told }
+        ensures next { HasCounted (take from sent.now) self.old.next →
+            HasCounted sent.now self.new.next }
+        ensures active { self.new.told.ballot ≡ self.old.told.ballot }
+        ensures waits { self.new.next.ballot ≡ self.old.next.ballot }
+    {
+        self.told.hear_from(sent, from);
+        self.next.hear_from(sent, from);
     }
 
     /// How many places all of several members told in the active ballot, its primary apart, which tells by no message.
-    pub fn agreed_by(&self, members: &[u8]) -> u64 {
-        if are_counted(members) {
-            self.told.least_but_one(members)
-        } else {
-            0
-        }
+    pub fn agreed_by(&self, members: &[u8]) -> u64
+        requires { (m : ℕ) → In m members.now → m < 16 }
+        ensures least { result
+            ≡ least_but_one self.now.told.held (2 ^ 64 - 1) (2 ^ 64 - 1) members.now }
+        ensures range { (m : ℕ) → get_or self.now.told.held m 0 < 2 ^ 64 }
+    {
+        self.told.least_but_one(members)
     }
-}
-
-// Whether what these members tell is counted.
-fn are_counted(members: &[u8]) -> bool
-    ensures { result ≡ list_all (λ member. nat_lt member 16) members.now }
-{
-    members.iter().all(|member| *member < 16)
 }

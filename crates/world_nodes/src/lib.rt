@@ -2,6 +2,7 @@
 #![tactic(auto)]
 
 mod acting;
+mod agreeing;
 mod counters;
 mod keeping;
 mod nodes;

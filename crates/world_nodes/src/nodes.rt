@@ -32,6 +32,7 @@ pub struct Nodes {
 }
 
 impl Model for Nodes {
+    ghost use Rattle.world_nodes.specs.Inside.{HaveCounted};
     ghost use Rattle.world_nodes.specs.Nodes.{NodesState};
 
     ghost Value = { NodesState };
@@ -43,6 +44,15 @@ impl Model for Nodes {
           sent = n.sent.items;
           losses = n.losses;
         } };
+
+    // Some past led up to here.
+    ghost invariant = { λ n.
+        HaveCounted (record {
+          master = n.master;
+          nodes = n.nodes.items;
+          sent = n.sent.items;
+          losses = n.losses;
+        }) n.counters.told n.counters.next };
 }
 
 impl Nodes {
@@ -245,23 +255,6 @@ impl Nodes {
         ensures members { result.1.now ≡ self.now.master.members }
     {
         self.master.active()
-    }
-
-    /// The length of the agreed list, found without going through messages.
-    pub fn agreed_len(&self) -> u64 {
-        let (_, members) = self.master.active();
-        if members.len() == 1 {
-            return self.held(members[0]);
-        }
-        self.counters.agreed_by(members)
-    }
-
-    // How many places the log of a node has; 0 where it is not there.
-    fn held(&self, node: u8) -> u64 {
-        match self.node(node) {
-            Some(core) => core.status().held,
-            None => 0,
-        }
     }
 
     /// A node, if it is there.

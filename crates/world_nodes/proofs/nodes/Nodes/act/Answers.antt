@@ -1,5 +1,9 @@
+use Rattle.std.proofs.Common.{◌-◌, refl, ◌∙◌}
+use Rattle.node_model.specs.Moves.Deed.{takes}
+use Rattle.master.proofs.Groups.{more_than}
 use Rattle.world_nodes.specs.Nodes.{NodesState}
 use Rattle.world_nodes.proofs.Acts.{took_by, turn_acts, turn_takes}
+use Rattle.world_nodes.proofs.CountsGoOn.{acts_counting, heard_behind}
 use Rattle.world_nodes.proofs.ActsLosing.{turn_loses}
 use Rattle.world_nodes.proofs.nodes.Nodes.act.Goals as goal
 
@@ -42,3 +46,28 @@ returns-clause-acts c =
       sent = c.self.inside.sent.items;
       losses = c.self.inside.losses;
     } in old) c.args.node c.in-Some.at x c.take_in-whole.new.node c.args.item c.take_in-whole.new.sent.items c.take_in-whole.result c.counted-self-inside.result took sent)
+
+pub hear_from-requires : goal.hear_from-requires
+hear_from-requires c =
+    more_than c.len-from.result c.self.inside.sent.items _ c.take_in-whole.new.sent.items c.deref.result.now c.deref.ensures.value c.take_in-whole.ensures.is
+    (c.len-from.ensures ∙ c.self.inside.sent.ok.0)
+
+pub invariant_of-self : goal.invariant_of-self
+invariant_of-self c =
+    let x = rw (← c.self.view_is) at c.in-Some.ensures.some in
+    let sent = rw (← c.self.view_is) at c.requires in
+    let took = took_by c.self.inside.nodes.items c.in-Some.at x.core c.index_mut-core.result.now c.args.item c.take_in-whole.new.node c.self.inside.sent.items
+    c.take_in-whole.new.sent.items c.take_in-whole.result x.stands c.index_mut-core.ensures.value c.take_in-whole.ensures in
+    let from = c.len-from.ensures ∙ c.self.inside.sent.ok.0 in
+    acts_counting _ _ (c.args.node - 1) (takes c.args.item) c.self.inside.counters.told c.self.inside.counters.next c.hear_from.new.self.told c.hear_from.new.self.next c.self.invariant
+    (turn_loses (let old : NodesState = record {
+      master = c.self.inside.master;
+      nodes = c.self.inside.nodes.items;
+      sent = c.self.inside.sent.items;
+      losses = c.self.inside.losses;
+    } in old) c.args.node c.in-Some.at x c.take_in-whole.new.node c.args.item c.take_in-whole.new.sent.items c.take_in-whole.result c.counted-self-inside.result took sent)
+    refl c.hear_from.ensures.active c.hear_from.ensures.waits
+    (heard_behind c.self.inside.sent.items c.take_in-whole.new.sent.items c.deref.result.now _ c.len-from.result c.self.inside.counters.told c.hear_from.new.self.told
+    c.deref.ensures.value c.take_in-whole.ensures.is from c.hear_from.ensures.told)
+    (heard_behind c.self.inside.sent.items c.take_in-whole.new.sent.items c.deref.result.now _ c.len-from.result c.self.inside.counters.next c.hear_from.new.self.next
+    c.deref.ensures.value c.take_in-whole.ensures.is from c.hear_from.ensures.next)

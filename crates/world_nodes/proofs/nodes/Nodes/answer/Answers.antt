@@ -1,6 +1,8 @@
+use Rattle.std.proofs.Common.{sym, ◌∙◌}
 use Rattle.agreement.specs.MasterState.{is_granted}
-use Rattle.master.proofs.Groups.{answer_is}
+use Rattle.master.proofs.Groups.{answer_is, turned}
 use Rattle.world_nodes.specs.Nodes.{NodesState}
+use Rattle.world_nodes.proofs.MasterCounts.{answers_counting}
 use Rattle.world_nodes.proofs.MasterActs.{answers_ballot, answers_or_loses}
 use Rattle.world_nodes.proofs.nodes.Nodes.answer.Goals as goal
 
@@ -31,3 +33,22 @@ returns-clause-acts c =
       losses = c.self.inside.losses;
     } in old) c.args.from c.args.ballot c.activate-activation.new.self c.answer_of.result c.tell-told.new.sent.items c.tell-told.result c.counted-self-inside.result
     sent c.activate-activation.ensures.state body c.tell-told.ensures.told c.tell-told.ensures.lost)
+
+pub invariant_of-self : goal.invariant_of-self
+invariant_of-self c =
+    let m = c.self.inside.master in
+    let counters = c.self.inside.counters in
+    let turned_to = c.turn_over.new.self in
+    let sent = rw (← c.self.view_is) at c.requires in
+    let body = answer_is c.args.ballot (is_granted m c.args.ballot m.waiting) c.activate-activation.result c.answer_of.result
+    c.activate-activation.ensures.answer c.answer_of.ensures.granted c.answer_of.ensures.refused in
+    answers_counting (let old : NodesState = record {
+      master = m;
+      nodes = c.self.inside.nodes.items;
+      sent = c.self.inside.sent.items;
+      losses = c.self.inside.losses;
+    } in old) c.args.from c.args.ballot c.activate-activation.new.self c.answer_of.result c.tell-told.new.sent.items c.tell-told.result c.counted-self-inside.result
+    counters.told counters.next turned_to.told turned_to.next c.self.invariant sent c.activate-activation.ensures.state body c.tell-told.ensures.told c.tell-told.ensures.lost
+    (turned counters.told counters.next turned_to.told turned_to.next m.active c.activate-activation.new.self.active
+    (λ e. c.turn_over.ensures.stays (c.active-before.ensures.ballot ∙ e ∙ sym c.active-behind.ensures.ballot))
+    (λ ne. c.turn_over.ensures.turns (λ e. ne (sym c.active-before.ensures.ballot ∙ e ∙ c.active-behind.ensures.ballot))))

@@ -1,7 +1,10 @@
-use Rattle.std.proofs.Common.{◌≡◌, ◌≤◌, ◌-◌, inl, length, Some, arith}
+use Rattle.std.proofs.Common.{◌≡◌, ◌≤◌, ◌-◌, ◌∙◌, inl, inr, length, Some, refl, ap, arith}
+use Rattle.node_model.specs.Moves.Deed.{gives}
 use Rattle.world_nodes.specs.Goes.{node_of}
 use Rattle.world_nodes.specs.Nodes.{NodesState}
-use Rattle.world_nodes.proofs.HandsOver.{answers_so, hands, hands_bytes, is_there, stands_there}
+use Rattle.world_nodes.specs.Steps.{forgetful}
+use Rattle.world_nodes.proofs.CountsGoOn.{acts_counting}
+use Rattle.world_nodes.proofs.HandsOver.{answers_so, hands, hands_bytes, is_there, rests, stands_there}
 use Rattle.world_nodes.proofs.nodes.Nodes.hand_over.Goals as goal
 
 pub returns-in-Ok-clause-goes : goal.returns-in-Ok-clause-goes
@@ -72,3 +75,29 @@ returns-in-Ok-clause-acts c =
         losses = c.self.inside.losses;
       } in old) c.args.node c.args.port c.index_mut-core.result.now c.args.out.now.items c.outgoing.new.out.items is c.in-Ok.ensures.bytes,
     ))
+
+pub returns-in-Err-clause-acts : goal.returns-in-Err-clause-acts
+returns-in-Err-clause-acts c =
+    let below : c.args.node ≤ length c.self.inside.nodes.items = omega (arith, c.self.inside.nodes.ok.0, c.len.ensures, c.if-node-len.false) in
+    let found = stands_there c.self.inside.nodes.items c.args.node c.index_mut-core.result.now c.if-node-eq0.false below c.index_mut-core.ensures.value in
+    inr (
+      c.lose.ensures.lost ∙ ap forgetful (rests (let old : NodesState = record {
+        master = c.self.inside.master;
+        nodes = c.self.inside.nodes.items;
+        sent = c.self.inside.sent.items;
+        losses = c.self.inside.losses;
+      } in old) (c.args.node - 1) c.index_mut-core.result.now c.outgoing.new.self found c.in-Err.ensures.same ∙ c.self.view_is),
+      c.in-Err.ensures.err,
+    )
+
+pub invariant_of-self : goal.invariant_of-self
+invariant_of-self c =
+    let below : c.args.node ≤ length c.self.inside.nodes.items = omega (arith, c.self.inside.nodes.ok.0, c.len.ensures, c.if-node-len.false) in
+    let found = stands_there c.self.inside.nodes.items c.args.node c.index_mut-core.result.now c.if-node-eq0.false below c.index_mut-core.ensures.value in
+    acts_counting _ _ (c.args.node - 1) (gives c.args.port) c.self.inside.counters.told c.self.inside.counters.next c.self.inside.counters.told c.self.inside.counters.next c.self.invariant
+    (hands (let old : NodesState = record {
+      master = c.self.inside.master;
+      nodes = c.self.inside.nodes.items;
+      sent = c.self.inside.sent.items;
+      losses = c.self.inside.losses;
+    } in old) (c.args.node - 1) c.index_mut-core.result.now c.outgoing.new.self c.args.port found c.in-Ok.ensures.left) refl refl refl (λ h. h) (λ h. h)

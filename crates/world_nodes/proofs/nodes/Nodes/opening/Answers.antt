@@ -1,4 +1,5 @@
-use Rattle.std.proofs.Common.{◌≡◌, arith}
+use Rattle.std.proofs.Common.{◌≡◌, sym, ◌∙◌, arith}
+use Rattle.world_nodes.proofs.CountsGoOn.{opens_counting}
 use Rattle.world_nodes.proofs.Opens.{opened_all, opened_more}
 use Rattle.world_nodes.proofs.nodes.Nodes.opening.Goals as goal
 
@@ -10,3 +11,10 @@ pub returns-clause-opens : goal.returns-clause-opens
 returns-clause-opens c =
     let count : c.loop-at.at ≡ c.args.nodes = (let a = c.loop-at.auto.at-end in omega (arith, a, c.loop-at-test.false)) in
     opened_all c.args.config c.args.nodes c.loop-at.at c.in-Ok.master c.loop-at.opened.items c.new-4.result.items 0 c.in-Ok.ensures.ok c.loop-at.invariant count c.new-4.ensures.items
+
+pub invariant_of-result : goal.invariant_of-result
+invariant_of-result c =
+    let count : c.loop-at.at ≡ c.args.nodes = (let a = c.loop-at.auto.at-end in omega (arith, a, c.loop-at-test.false)) in
+    opens_counting c.args.nodes c.args.config _ c.in_ok-counters.counters.told c.in_ok-counters.counters.next (sym c.can_open.ensures ∙ c.if-not-can_open.false)
+    (opened_all c.args.config c.args.nodes c.loop-at.at c.in-Ok.master c.loop-at.opened.items c.new-4.result.items 0 c.in-Ok.ensures.ok c.loop-at.invariant count c.new-4.ensures.items)
+    c.in_ok-counters.ensures.active c.in_ok-counters.ensures.untold c.in_ok-counters.ensures.next

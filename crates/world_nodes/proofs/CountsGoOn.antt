@@ -1,0 +1,70 @@
+-- What nodes count stays what their messages tell, behind what nodes do.
+use Rattle.std.proofs.Common.{◌≡◌, ℕ, true, List, ◌++◌, length, take, get_or, refl, sym, ap, ◌∙◌, subst}
+use Rattle.ballot.specs.Config.{Config}
+use Rattle.ballot.specs.Message.{Message}
+use Rattle.agreement.specs.MasterState.{MasterState}
+use Rattle.agreement.specs.World.{can_open}
+use Rattle.broker_base.specs.Command.{Command}
+use Rattle.node_model.specs.Moves.{Deed}
+use Rattle.group_model.specs.Group.{opening_group}
+use Rattle.group_model.specs.Goes.Went.{opened}
+use Rattle.group_model.proofs.GroupsArePasts.{goes_on, groups_are_pasts}
+use Rattle.master.specs.Inside.{HasCounted, ToldIn}
+use Rattle.master.proofs.Groups.{front_of}
+use Rattle.world_nodes.specs.Nodes.{NodesState, StandsFor}
+use Rattle.world_nodes.specs.Goes.{Acts}
+use Rattle.world_nodes.specs.Inside.{HaveCounted}
+
+abbrev pub Sent : Type 0
+Sent = List (ℕ × Message Command)
+
+pub opens_counting : (nodes : ℕ) (config : Config) (n : NodesState) (told next : ToldIn) → can_open nodes config ≡ true → StandsFor (opening_group nodes config) n
+    → told.ballot ≡ 1 → ((m : ℕ) → get_or told.held m 0 ≡ 0) → ((m : ℕ) → get_or next.held m 0 ≡ 0) → HaveCounted n told next
+opens_counting nodes config n told next can stands one untold untold_next =
+    let so_far = groups_are_pasts nodes config (opening_group nodes config) (opened can) in
+    record {
+      group = opening_group nodes config;
+      stands = stands;
+      counts = record {
+        config = config;
+        past = so_far.earlier;
+        came = so_far.past;
+        active = one;
+        counted = λ m low. untold m;
+        waits = λ b c e. cc;
+        counted_next = λ m low. untold_next m;
+      };
+    }
+
+pub loses_counting : (n : NodesState) (losses : ℕ) (told next : ToldIn) → HaveCounted n told next → HaveCounted (record n { losses = losses }) told next
+loses_counting n losses told next c =
+    record { group = c.group; stands = record { master = c.stands.master; nodes = c.stands.nodes; sent = c.stands.sent }; counts = c.counts }
+
+-- a node does something, and what it told is heard
+pub acts_counting : (old new : NodesState) (at : ℕ) (deed : Deed) (told next told' next' : ToldIn) → HaveCounted old told next → Acts at deed old new
+    → new.master ≡ old.master → told'.ballot ≡ told.ballot → next'.ballot ≡ next.ballot
+    → (HasCounted old.sent told → HasCounted new.sent told') → (HasCounted old.sent next → HasCounted new.sent next') → HaveCounted new told' next'
+acts_counting old new at deed told next told' next' c acts same one two counts counts_next =
+    let g = acts c.group c.stands in
+    let on = goes_on c.counts.config c.group g.does.behind g.does.step c.counts.past c.counts.came in
+    let master : c.group.master ≡ g.does.behind.master = c.stands.master ∙ sym same ∙ sym g.stands.master in
+    record {
+      group = g.does.behind;
+      stands = g.stands;
+      counts = record {
+        config = c.counts.config;
+        past = on.before;
+        came = on.past;
+        active = one ∙ c.counts.active ∙ ap (λ (m : MasterState). m.active) master;
+        counted = subst (λ (l : Sent). HasCounted l told') (sym g.stands.sent) (counts (subst (λ (l : Sent). HasCounted l told) c.stands.sent c.counts.counted));
+        waits = λ b config e. two ∙ c.counts.waits b config (ap (λ (m : MasterState). m.waiting) master ∙ e);
+        counted_next = subst (λ (l : Sent). HasCounted l next') (sym g.stands.sent)
+            (counts_next (subst (λ (l : Sent). HasCounted l next) c.stands.sent c.counts.counted_next));
+      };
+    }
+
+-- what stands behind the messages before is heard
+pub heard_behind : (sent more now kept : Sent) (from : ℕ) (t u : ToldIn) → now ≡ more → more ≡ sent ++ kept → from ≡ length sent
+    → (HasCounted (take from now) t → HasCounted now u) → HasCounted sent t → HasCounted more u
+heard_behind sent more now kept from t u same is at hears counted =
+    subst (λ (l : Sent). HasCounted l u) same (hears (subst (λ (l : Sent). HasCounted l t) (sym (front_of from sent kept now (same ∙ is) at)) counted))

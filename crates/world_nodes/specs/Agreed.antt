@@ -1,0 +1,23 @@
+-- The list on which nodes agree.
+use Rattle.std.specs.Prelude.{◌≡◌, ℕ, List, ◌∷◌, length}
+use Rattle.ballot.specs.Config.{Config}
+use Rattle.agreement.specs.Past.{IsAgreed, Moment, Past}
+use Rattle.broker_base.specs.Command.{Command}
+use Rattle.broker_base.specs.Output.{Output}
+use Rattle.broker_base.specs.State.{State}
+use Rattle.world_base.specs.Core.{rules}
+use Rattle.group_model.specs.Group.{Group, moment_of}
+use Rattle.world_nodes.specs.Nodes.{NodesState, StandsFor}
+
+-- whatever led up to a group that stands for the nodes, this is the agreed list there
+abbrev pub AgreeOn : NodesState → List Command → Type 0
+AgreeOn n list =
+    (config : Config) (g : Group) (earlier : List (Moment State Command Output)) → StandsFor g n →
+    Past rules config (moment_of g ∷ earlier) → IsAgreed config (moment_of g ∷ earlier) list
+
+-- and the agreed list has so many commands
+abbrev pub AgreeOnSoMany : NodesState → ℕ → Type 0
+AgreeOnSoMany n count =
+    (config : Config) (g : Group) (earlier : List (Moment State Command Output)) → StandsFor g n →
+    Past rules config (moment_of g ∷ earlier) →
+    (list : List Command) → IsAgreed config (moment_of g ∷ earlier) list → count ≡ length list
