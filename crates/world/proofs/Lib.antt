@@ -21,3 +21,4 @@ mod ClientGoes
 mod CallsCounted
 mod CallsMet
 mod ItemsMet
+mod OneAgreed

@@ -14,6 +14,6 @@ mod world;
 pub use event::Event;
 pub use playing::play;
 pub use world::World;
-pub use world_base::{Config, Members, Memory, OpeningError};
+pub use world_base::{Command, Config, Members, Memory, OpeningError};
 pub use world_nodes::Idle;
 pub use world_pipes::{Accepted, ClientCore};

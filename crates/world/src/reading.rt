@@ -1,12 +1,18 @@
-// What is read of a world's clients and connections.
+// What is read of the agreed list, and of a world's clients and connections.
 
-ghost use Rattle.std.specs.Prelude.{◌≡◌, ◌<◌, ◌-◌, length, [], None, Some, IfSome, slice_get};
+ghost use Rattle.std.specs.Prelude.{ℕ, List, ◌≡◌, ◌<◌, ◌-◌, length, [], None, Some, IfSome, slice_get};
 ghost use Rattle.std.specs.List.{position};
+ghost use Rattle.ballot.specs.Config.{Config};
+ghost use Rattle.broker_base.specs.Place.{Client};
+ghost use Rattle.world_nodes.specs.Agreed.{AgreeOn, AgreeOnSoMany};
 ghost use Rattle.world.specs.Found.{core_named, is_named, place_numbered, way_of};
+ghost use Rattle.world.specs.Goes.{AreReached};
+ghost use Rattle.world.specs.Standing.{IsReached};
 
 use crate::place::Place;
 use crate::world::{World, WorldClient};
 use packet::ClientId;
+use world_base::Command;
 use world_pipes::ClientCore;
 
 impl WorldClient {
@@ -19,6 +25,33 @@ impl WorldClient {
 }
 
 impl World {
+    /// The list on which the nodes agree: the longest that is chosen in a ballot that was active. It takes no longer,
+    /// however much was sent.
+    pub fn agreed(&self) -> &[Command]
+        ensures agreed { AgreeOn self.now.nodes result.now }
+
+        // The nodes that are reached agree on it, and by it each client of a world that is reached is exact.
+        ensures reached { (nodes : ℕ) (config : Config)
+            (reached : AreReached nodes config self.now.nodes) → result.now ≡ reached.list }
+        ensures exact { (nodes : ℕ) (config : Config) (clients : List Client)
+            (reached : IsReached nodes config clients self.now) →
+            result.now ≡ reached.exact.agreed }
+    {
+        self.nodes.agreed()
+    }
+
+    /// Its length. It takes no longer, however much was sent.
+    pub fn agreed_len(&self) -> u64
+        ensures agreed { AgreeOnSoMany self.now.nodes result }
+        ensures reached { (nodes : ℕ) (config : Config)
+            (reached : AreReached nodes config self.now.nodes) → result ≡ length reached.list }
+        ensures exact { (nodes : ℕ) (config : Config) (clients : List Client)
+            (reached : IsReached nodes config clients self.now) →
+            result ≡ length reached.exact.agreed }
+    {
+        self.nodes.agreed_len()
+    }
+
     /// A client, if there is one of this identifier.
     pub fn client(&self, client: &ClientId) -> Option<&ClientCore>
         ensures some { IfSome result

@@ -132,11 +132,6 @@ impl World {
         self.nodes.messages()
     }
 
-    /// The length of the list on which the nodes agree.
-    pub fn agreed_len(&self) -> u64 {
-        self.nodes.agreed_len()
-    }
-
     /// The active ballot and its members.
     pub fn active(&self) -> (u64, &[u8])
         ensures ballot { result.0 ≡ self.now.nodes.master.active }
