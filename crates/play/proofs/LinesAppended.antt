@@ -39,8 +39,9 @@ tells_join a b c one two = rw (two.is) (tells_behind a b one two.lines two.accep
 pub no_step : (world : WorldState) → Steps world world false
 no_step world =
     record {
-      goes = record { rises = omega arith; goes = λ none g s. record { behind = g; goes = rests; stands = s } };
-      reached = λ none nodes config r. r;
+      goes = record { rises = omega arith; goes = λ g s. record { behind = g; goes = rests; stands = s } };
+      reached = λ nodes config r. r;
+      exact = λ nodes config cs r. r;
       nodes = λ same. refl;
       losses = λ same. refl;
     }
@@ -54,6 +55,7 @@ happened_appends index before behind a b c steps (agreed, is) tells =
       step = record {
         goes = steps.goes;
         reached = steps.reached;
+        exact = steps.exact;
         line = line;
         came = happened agreed;
         told = tells.lines;
@@ -71,6 +73,7 @@ idle_appends index before behind a b c steps is tells =
       step = record {
         goes = steps.goes;
         reached = steps.reached;
+        exact = steps.exact;
         line = idle_line index;
         came = idle (steps.nodes refl) (steps.losses refl);
         told = tells.lines;

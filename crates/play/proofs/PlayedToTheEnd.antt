@@ -1,4 +1,4 @@
--- PlayedToTheEnd.antt: events one behind the other make a transcript, and where no memory was wanting, the nodes agree.
+-- PlayedToTheEnd.antt: events one behind the other make a transcript, and at their end the nodes agree, and each client is exact.
 use Rattle.std.proofs.Common.{◌≡◌, ◌<◌, ◌+◌, ℕ, List, [], Result, Ok, Err, OnOk, ◌++◌, length, ap, subst, refl, sym, ◌∙◌, arith}
 use Rattle.std.proofs.lemmas.List.{append-nil, append_assoc}
 use Rattle.ballot.specs.Config.{Config}
@@ -6,6 +6,7 @@ use Rattle.script.specs.Scripts.{IsScript, lines_of}
 use Rattle.script.specs.declared.reading.Script.{Script}
 use Rattle.transcript.specs.Lines.{end_line}
 use Rattle.world.specs.Goes.{AreReached}
+use Rattle.world.specs.Standing.{IsReached}
 use Rattle.world.specs.World.{WorldState}
 use Rattle.play.specs.Transcripts.{Played, Plays}
 use Rattle.play.specs.Transcripts.Played.{opens, goes_on}
@@ -27,16 +28,18 @@ appends_more count first old new a b c before one =
 
 -- ---- agreement
 
--- the count of losses only rises, so where it is 0 at the end it always was
 agrees_on : (nodes : ℕ) (config : Config) (first : WorldState) (count : ℕ) (lines : List ℕ) (last : WorldState)
-    → Played first count lines last → AreReached nodes config first.nodes → last.losses ≡ 0
-    → AreReached nodes config last.nodes
-agrees_on nodes config first _ _ last opens reached none = reached
-agrees_on nodes config first _ _ last (goes_on {count} {lines} {more} {old} played step) reached none =
-    let rises = step.goes.rises in
-    let was : old.losses ≡ 0 = omega (arith, rises, none) in
-    step.reached (none ∙ sym was, omega (arith, was)) nodes config
-    (agrees_on nodes config first count lines old played reached was)
+    → Played first count lines last → AreReached nodes config first.nodes → AreReached nodes config last.nodes
+agrees_on nodes config first _ _ last opens reached = reached
+agrees_on nodes config first _ _ last (goes_on {count} {lines} {more} {old} played step) reached =
+    step.reached nodes config (agrees_on nodes config first count lines old played reached)
+
+-- and each client stays exact
+exact_on : (nodes : ℕ) (config : Config) (cs : List (List ℕ)) (first : WorldState) (count : ℕ) (lines : List ℕ) (last : WorldState)
+    → Played first count lines last → IsReached nodes config cs first → IsReached nodes config cs last
+exact_on nodes config cs first _ _ last opens reached = reached
+exact_on nodes config cs first _ _ last (goes_on {count} {lines} {more} {old} played step) reached =
+    step.exact nodes config cs (exact_on nodes config cs first count lines old played reached)
 
 -- ---- the whole
 
@@ -49,9 +52,10 @@ plays_on (Ok done) count first last old mid new all ends none =
 plays_on (Err error) count first last old mid new all ends none = ends
 
 plays : (text old new : List ℕ) (script : Script) (first : WorldState) (losses : ℕ) → IsScript (lines_of text) script
-    → AreReached script.opening.nodes script.opening.config first.nodes → first.losses ≡ 0
+    → AreReached script.opening.nodes script.opening.config first.nodes
+    → IsReached script.opening.nodes script.opening.config script.opening.clients.items first → first.losses ≡ 0
     → PlaysOn (length script.orders.items) first old new losses → Plays text old new losses
-plays text old new script first losses is opened whole on =
+plays text old new script first losses is opened exact whole on =
     let active = on.last.nodes.master.active in
     let end = end_line on.ends.0 active in
     record {
@@ -62,6 +66,7 @@ plays text old new script first losses is opened whole on =
       is_transcript = record {
         first = first;
         opened = opened;
+        exact = exact;
         whole = whole;
         lines = on.all.lines;
         played = on.all.played;
@@ -70,24 +75,26 @@ plays text old new script first losses is opened whole on =
       };
       appended = on.ends.1 ∙ ap (λ (written : List ℕ). written ++ end) on.all.is ∙ append_assoc old on.all.lines end;
       losses_are = on.are;
-      reached = λ none.
-          agrees_on script.opening.nodes script.opening.config first (length script.orders.items) on.all.lines on.last
-          on.all.played opened (on.are ∙ none);
+      reached = agrees_on script.opening.nodes script.opening.config first (length script.orders.items) on.all.lines on.last on.all.played opened;
+      exact = exact_on script.opening.nodes script.opening.config script.opening.clients.items first (length script.orders.items) on.all.lines on.last
+          on.all.played exact;
     }
 
 pub plays_well : {E : Type 0} (result : Result (Unit {0}) E) (text old new : List ℕ) (script : Script) (first : WorldState)
     (count : ℕ) → IsScript (lines_of text) script
-    → AreReached script.opening.nodes script.opening.config first.nodes → first.losses ≡ 0
+    → AreReached script.opening.nodes script.opening.config first.nodes
+    → IsReached script.opening.nodes script.opening.config script.opening.clients.items first → first.losses ≡ 0
     → count ≡ length script.orders.items → OnOk result (PlaysOn count first old new 0) → OnOk result (Plays text old new 0)
-plays_well (Ok done) text old new script first count is opened whole all on =
-    plays text old new script first 0 is opened whole (subst (λ (n : ℕ). PlaysOn n first old new 0) all on)
-plays_well (Err error) text old new script first count is opened whole all on = on
+plays_well (Ok done) text old new script first count is opened exact whole all on =
+    plays text old new script first 0 is opened exact whole (subst (λ (n : ℕ). PlaysOn n first old new 0) all on)
+plays_well (Err error) text old new script first count is opened exact whole all on = on
 
 pub plays_losing : (text old new : List ℕ) (script : Script) (first : WorldState) (count : ℕ) → IsScript (lines_of text) script
-    → AreReached script.opening.nodes script.opening.config first.nodes → first.losses ≡ 0
+    → AreReached script.opening.nodes script.opening.config first.nodes
+    → IsReached script.opening.nodes script.opening.config script.opening.clients.items first → first.losses ≡ 0
     → count ≡ length script.orders.items → (losses : ℕ) × ((0 < losses) × PlaysOn count first old new losses)
     → (losses : ℕ) × ((0 < losses) × Plays text old new losses)
-plays_losing text old new script first count is opened whole all (losses, (some, on)) = (
+plays_losing text old new script first count is opened exact whole all (losses, (some, on)) = (
   losses,
-  (some, plays text old new script first losses is opened whole (subst (λ (n : ℕ). PlaysOn n first old new losses) all on)),
+  (some, plays text old new script first losses is opened exact whole (subst (λ (n : ℕ). PlaysOn n first old new losses) all on)),
 )

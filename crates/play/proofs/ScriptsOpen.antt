@@ -1,10 +1,14 @@
--- ScriptsOpen.antt: the world of a script may open.
-use Rattle.std.proofs.Common.{◌≡◌, true, false, List, [], ◌∷◌, Result, Ok, Err, IsErrOf, nat_le, ap, refl, sym, ◌∙◌}
+-- ScriptsOpen.antt: the world of a script may open, and its clients are apart.
+use Rattle.std.proofs.Common.{◌≡◌, Bool, true, false, not, ◌||◌, List, [], ◌∷◌, Result, Ok, Err, IsErrOf, nat_le, ap, refl, sym, ◌∙◌}
+use Rattle.std.specs.Prelude.{bytes_eq}
 use Rattle.std.proofs.lemmas.Bool.{and_parts, false≢true}
+use Rattle.std.proofs.lemmas.Slice.Eq.{bytes_eq-Decides}
 use Rattle.agreement.specs.World.{can_open}
 use Rattle.ballot_base.specs.LawfulConfig.{is_lawful}
 use Rattle.script.specs.Fields.{Text, fields_of}
-use Rattle.script.specs.Scripts.{IsOpening, IsScript, are_nodes, is_lawful_opening}
+use Rattle.lists.specs.Lists.{Each}
+use Rattle.model.specs.World.{AreApart}
+use Rattle.script.specs.Scripts.{IsOpening, IsScript, are_distinct, are_nodes, has, is_lawful_opening}
 use Rattle.script.specs.Scripts.IsOpening.{world}
 use Rattle.script.specs.declared.opening.Opening.{Opening}
 use Rattle.script.specs.declared.reading.Script.{Script}
@@ -27,6 +31,34 @@ pub script_opens : (lines : List Text) (script : Script) → IsScript lines scri
 script_opens [] script is bad = absurd is
 script_opens (first ∷ lines) script (opening, orders) bad =
     false≢true (sym bad ∙ opens_so script.opening (lawful (fields_of first) script.opening (opening.1)))
+
+-- ---- its clients are apart
+
+others : (client : Text) (clients : List Text) → has clients client ≡ false → Each (λ (other : Text). client ≡ other → ⊥) clients
+others client [] none = tt
+others client (other ∷ clients) none = by (bytes_eq other client) refl (others client clients) none
+  where
+    by : (b : Bool) → bytes_eq other client ≡ b → (has clients client ≡ false → Each (λ (d : Text). client ≡ d → ⊥) clients) → (b || has clients client) ≡ false
+        → Each (λ (d : Text). client ≡ d → ⊥) (other ∷ clients)
+    by true is rest f = absurd (false≢true (sym f))
+    by false is rest f = (λ same. false≢true (sym is ∙ (bytes_eq-Decides other client).1 (sym same)), rest f)
+
+are_apart : (clients : List Text) → are_distinct clients ≡ true → AreApart clients
+are_apart [] e = tt
+are_apart (client ∷ clients) e =
+    let (alone, more) = and_parts (not (has clients client)) (are_distinct clients) e in
+    (others client clients (is_not (has clients client) alone), are_apart clients more)
+  where
+    is_not : (b : Bool) → not b ≡ true → b ≡ false
+    is_not true f = absurd (false≢true f)
+    is_not false f = refl
+
+clients_apart : (fields : List Text) (opening : Opening) → IsOpening fields opening → AreApart opening.clients.items
+clients_apart _ opening (world nodes members primary clients is distinct) = are_apart opening.clients.items distinct
+
+pub script_apart : (lines : List Text) (script : Script) → IsScript lines script → AreApart script.opening.clients.items
+script_apart [] script is = absurd is
+script_apart (first ∷ lines) script (opening, orders) = clients_apart (fields_of first) script.opening (opening.1)
 
 -- ---- an error is the same, whatever there might have been in its place
 

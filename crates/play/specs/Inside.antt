@@ -1,14 +1,16 @@
 -- Auxiliary words.
 use Rattle.std.specs.Prelude.{◌≡◌, ℕ, Bool, true, false, List, ◌++◌, length}
 use Rattle.transcript.specs.Lines.{done_line, end_line, idle_line}
-use Rattle.world.specs.Goes.{LosesNothing, StaysReached, WorldGoesOn}
+use Rattle.world.specs.Goes.{StaysReached, WorldGoesOn}
+use Rattle.world.specs.Standing.{KeepsReached}
 use Rattle.world.specs.World.{WorldState}
 use Rattle.play.specs.Transcripts.{AreAccepted, Played, Step}
 
 -- an event happened, or could not
 pub record Steps (old new : WorldState) (happened : Bool) : Type 0 where
   pub goes : WorldGoesOn old new
-  pub reached : LosesNothing old new → StaysReached old.nodes new.nodes
+  pub reached : StaysReached old.nodes new.nodes
+  pub exact : KeepsReached old new
   pub nodes : happened ≡ false → new.nodes ≡ old.nodes
   pub losses : happened ≡ false → new.losses ≡ old.losses
 

@@ -4,7 +4,8 @@ use Rattle.client_base.specs.declared.accepted.Accepted.{Accepted}
 use Rattle.script.specs.Scripts.{IsScript, lines_of}
 use Rattle.script.specs.declared.reading.Script.{Script}
 use Rattle.transcript.specs.Lines.{accepted_line, done_line, end_line, idle_line}
-use Rattle.world.specs.Goes.{AreReached, LosesNothing, StaysReached, WorldGoesOn}
+use Rattle.world.specs.Goes.{AreReached, StaysReached, WorldGoesOn}
+use Rattle.world.specs.Standing.{IsReached, KeepsReached}
 use Rattle.world.specs.World.{WorldState}
 
 -- the line of event `index`, which led from the one world to the other
@@ -20,10 +21,11 @@ pub data AreAccepted : List ℕ → Type 0 where
   one_more : {lines : List ℕ} → AreAccepted lines → (client : List ℕ) (accepted : Accepted)
       → AreAccepted (lines ++ accepted_line client accepted)
 
--- one event: where no memory was wanting in it, the nodes did what they may do, and agree as before
+-- one event: whatever memory did in it, the nodes did what they may do, and agree as before, and each client stays exact
 pub record Step (index : ℕ) (old new : WorldState) (lines : List ℕ) : Type 0 where
   pub goes : WorldGoesOn old new
-  pub reached : LosesNothing old new → StaysReached old.nodes new.nodes
+  pub reached : StaysReached old.nodes new.nodes
+  pub exact : KeepsReached old new
   pub line : List ℕ
   pub came : CameOf index old new line
   pub told : List ℕ
@@ -40,14 +42,15 @@ pub data Played (first : WorldState) : ℕ → List ℕ → WorldState → Type 
 pub record IsTranscript (script : Script) (last : WorldState) (transcript : List ℕ) : Type 0 where
   pub first : WorldState
   pub opened : AreReached script.opening.nodes script.opening.config first.nodes
+  pub exact : IsReached script.opening.nodes script.opening.config script.opening.clients.items first
   pub whole : first.losses ≡ 0
   pub lines : List ℕ
   pub played : Played first (length script.orders.items) lines last
   pub agreed : ℕ
   pub is : transcript ≡ lines ++ end_line agreed last.nodes.master.active
 
--- A text is a script that was played to its end, by which its transcript was appended; memory was wanting in so many events,
--- and where in none, the nodes agree at the end.
+-- A text is a script that was played to its end, by which its transcript was appended; memory was wanting in so many events.
+-- Whatever it did, at the end the nodes agree, and the headline holds of each client.
 pub record Plays (text old new : List ℕ) (losses : ℕ) : Type 0 where
   pub script : Script
   pub is_script : IsScript (lines_of text) script
@@ -56,4 +59,5 @@ pub record Plays (text old new : List ℕ) (losses : ℕ) : Type 0 where
   pub is_transcript : IsTranscript script last transcript
   pub appended : new ≡ old ++ transcript
   pub losses_are : last.losses ≡ losses
-  pub reached : losses ≡ 0 → AreReached script.opening.nodes script.opening.config last.nodes
+  pub reached : AreReached script.opening.nodes script.opening.config last.nodes
+  pub exact : IsReached script.opening.nodes script.opening.config script.opening.clients.items last

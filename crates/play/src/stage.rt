@@ -2,7 +2,9 @@
 
 ghost use Rattle.std.specs.Prelude.{◌≡◌, ◌<◌, ℕ, false, IfOk, OnOk, OnErr, IsErrOf};
 ghost use Rattle.agreement.specs.World.{can_open};
+ghost use Rattle.model.specs.World.{AreApart};
 ghost use Rattle.world.specs.Goes.{AreReached};
+ghost use Rattle.world.specs.Standing.{IsReached};
 ghost use Rattle.play.specs.Inside.{Appends, Ends, Steps, Tells, Written};
 
 use crate::error::PlayError;
@@ -33,6 +35,8 @@ impl Stage {
     pub(crate) fn new(alloc: Global, opening: Opening) -> Result<Stage, PlayError>
         ensures opened { IfOk result (λ stage.
             AreReached opening.nodes opening.config stage.world.nodes) }
+        ensures exact { AreApart opening.clients.items → IfOk result (λ stage.
+            IsReached opening.nodes opening.config opening.clients.items stage.world) }
         ensures losses { IfOk result (λ stage. stage.world.losses ≡ 0) }
         ensures bad { (number : ℕ) → IsErrOf result (PlayError.Line number)
             → can_open opening.nodes opening.config ≡ false }

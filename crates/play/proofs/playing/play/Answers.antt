@@ -1,6 +1,6 @@
 use Rattle.std.proofs.Common.{ap, length}
 use Rattle.play.proofs.PlayedToTheEnd.{plays_losing, plays_well}
-use Rattle.play.proofs.ScriptsOpen.{other_err, script_opens}
+use Rattle.play.proofs.ScriptsOpen.{other_err, script_apart, script_opens}
 use Rattle.play.proofs.playing.play.Goals as goal
 
 pub returns-in-Err-clause-refused : goal.returns-in-Err-clause-refused
@@ -11,10 +11,11 @@ pub returns-clause-played : goal.returns-clause-played
 returns-clause-played c =
     plays_well c.play_whole.result c.args.text.now c.args.transcript.now.items c.play_whole.new.transcript.items
     c.in_ok-opening.field-0 c.in-Ok.stage.world _ c.in_ok-opening.ensures.script c.in-Ok.ensures.opened
-    c.in-Ok.ensures.losses (ap length c.as_slice.ensures.value) c.play_whole.ensures.played
+    (c.in-Ok.ensures.exact (script_apart _ c.in_ok-opening.field-0 c.in_ok-opening.ensures.script)) c.in-Ok.ensures.losses (ap length c.as_slice.ensures.value) c.play_whole.ensures.played
 
 pub returns-clause-wanting : goal.returns-clause-wanting
 returns-clause-wanting c = λ is.
     plays_losing c.args.text.now c.args.transcript.now.items c.play_whole.new.transcript.items c.in_ok-opening.field-0
-    c.in-Ok.stage.world _ c.in_ok-opening.ensures.script c.in-Ok.ensures.opened c.in-Ok.ensures.losses
+    c.in-Ok.stage.world _ c.in_ok-opening.ensures.script c.in-Ok.ensures.opened
+    (c.in-Ok.ensures.exact (script_apart _ c.in_ok-opening.field-0 c.in_ok-opening.ensures.script)) c.in-Ok.ensures.losses
     (ap length c.as_slice.ensures.value) (c.play_whole.ensures.wanting is)
