@@ -19,7 +19,7 @@ struct Tap<'e, 'a, J: NodeNaming, S: Served<J>, G: Gate> {
 impl<'e, 'a, J: NodeNaming, S: Served<J>, G: Gate> Outlet for Tap<'e, 'a, J, S, G> {
     ghost use Rattle.server.specs.Serving.{PutsOut};
 
-    ghost hands = { λ tap bytes answer _. PutsOut tap.port bytes answer };
+    ghost hands = { λ tap bytes answer _. PutsOut J.first_of tap.port bytes answer };
 
     fn hand_over<R: Wait>(&mut self, rt: &R, out: &mut Vec<u8>) -> Result<Handed, Memory> {
         let shared = self.shared;
