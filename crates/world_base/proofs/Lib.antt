@@ -8,6 +8,7 @@ mod ConnectionsGoOn
 mod Delivering
 mod EndsRun
 mod Failures
+mod FoundWhere
 mod Fronts
 mod FrontsRun
 mod GapsClosed

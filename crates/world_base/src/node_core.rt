@@ -1,6 +1,7 @@
 // A replica with its connections.
 
 ghost use Rattle.std.specs.Prelude.{◌≡◌, ◌≤◌, ◌↔◌, ◌++◌, false, if◌then◌else◌, IfOk, IsErrOf, OnErr, OnOk};
+ghost use Rattle.std.specs.Option.{is_some};
 ghost use Rattle.ballot.specs.LawfulConfig.{is_lawful};
 ghost use Rattle.ballot.specs.Losses.{one_more};
 ghost use Rattle.ballot.specs.Replica.{status_of};
@@ -56,11 +57,25 @@ impl NodeCore {
         self.serving.status()
     }
 
+    /// The commands of the replica's log, from place 0 on: those that are agreed, and behind them what may become so.
+    pub fn log(&self) -> &[Command]
+        ensures { result.now ≡ self.now.core.replica.state.log }
+    {
+        self.serving.log()
+    }
+
     /// In how many steps memory was wanting. The count stays at 2^64 - 1.
     pub fn losses(&self) -> u64
         ensures { result ≡ self.now.losses }
     {
         self.losses
+    }
+
+    /// Whether the node has a connection at a port: one that is open, or that is closed and has bytes to hand over.
+    pub fn has_port(&self, port: Port) -> bool
+        ensures { result ≡ is_some (listed_at port self.now.core) }
+    {
+        self.serving.has_port(port)
     }
 
     /// Takes an item in and appends the messages to other nodes that follow from it. Where memory

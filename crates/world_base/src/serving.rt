@@ -1,11 +1,11 @@
 // A node during a step.
 
 ghost use Rattle.std.specs.Prelude.{◌≡◌, ◌⊎◌, ◌≤◌, ◌^◌, ◌↔◌, false, true, length, IfOk, IfSome, OnSome, IfNone, IsErrOf};
-ghost use Rattle.std.specs.List.{position};
+ghost use Rattle.std.specs.List.{list_any, position};
 ghost use Rattle.broker_model.specs.Connection.{is_connection_name};
 ghost use Rattle.ballot.specs.LawfulConfig.{is_lawful};
 ghost use Rattle.ballot.specs.Replica.{status_of};
-ghost use Rattle.world_base.specs.Connections.{asked, closed, failing, has_failed, holding, is_open_at, is_open_named, put_out};
+ghost use Rattle.world_base.specs.Connections.{asked, closed, failing, has_failed, holding, is_at, is_open_at, is_open_named, put_out};
 ghost use Rattle.world_base.specs.Core.{opening_core, serves};
 ghost use Rattle.world_base.specs.Inside.{Does};
 ghost use Rattle.world_base.specs.KeepAlive.{lowest_silent};
@@ -19,7 +19,7 @@ use crate::item::Port;
 use crate::listing::{close_each, has_port, keep_listed, lowest_silent, push};
 use ballot::{Config, OpeningError, Replica, Status};
 use broker::BrokerMachine;
-use broker_model::ConnectionId;
+use broker_model::{Command, ConnectionId};
 use packet::{Packet, RefusalCode};
 use piece::Piece;
 use std::alloc::Global;
@@ -97,6 +97,20 @@ impl Serving {
         ensures { result ≡ status_of self.now.core.replica.state }
     {
         self.replica.status()
+    }
+
+    /// The commands of the replica's log, from place 0 on.
+    pub fn log(&self) -> &[Command]
+        ensures { result.now ≡ self.now.core.replica.state.log }
+    {
+        self.replica.log()
+    }
+
+    /// Whether a connection of this port is listed.
+    pub fn has_port(&self, port: Port) -> bool
+        ensures { result ≡ list_any (is_at port) self.now.core.connections }
+    {
+        has_port(&self.connections, port)
     }
 
     /// Whether the node serves clients.
