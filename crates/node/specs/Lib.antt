@@ -1,5 +1,4 @@
 pub mod Report
-pub mod Running
 pub mod State
 pub use Rattle.world_base.specs.Core
 pub use Rattle.world_base.specs.Losses
@@ -11,6 +10,4 @@ pub use Rattle.world_base.specs.Output
 pub use Rattle.world_base.specs.LawfulConfig
 pub use Rattle.world_base.specs.Replica
 pub use Rattle.world_base.specs.declared.item.Item
-pub use Rattle.node_base.specs.Counted
-pub use Rattle.node_base.specs.Engines
 pub use Rattle.lists.specs.Lists

@@ -72,6 +72,10 @@ impl<J: NodeNaming> NodeState<J> {
         ensures took { result ≡ true →
             TakesOne self.old self.new effects.old.items effects.new.items }
 
+        // The node that steps is a replay of all that was taken.
+        ensures replays { Replays
+            (J.first_of self.old.taker.inbox) self.old.taker.taken self.old.node }
+
         // No item waited, and nothing changed.
         ensures empty { result ≡ false → WasEmpty self.old.taker }
         ensures same { result ≡ false → self.new ≡ self.old }
@@ -115,6 +119,10 @@ impl<J: NodeNaming> NodeState<J> {
         ensures left { OnOk result (self.new ≡ record self.old {
           node = record self.old.node { core = hands_over port self.old.node.core };
         }) }
+
+        // The node that hands over is a replay of all that was taken.
+        ensures replays { Replays
+            (J.first_of self.old.taker.inbox) self.old.taker.taken self.old.node }
 
         // Want of memory changes nothing.
         ensures same { OnErr result (self.new ≡ self.old) }

@@ -1,16 +1,10 @@
-// What no clause says: that items are taken while there is memory, and that a connection runs over
-// devices that may fail.
+// What no clause says: that items are taken while there is memory, and that what is left over is told.
 
 ghost use Rattle.std.specs.Prelude.{◌≡◌};
 
 use mailbox::{Inbox, Lane};
-use node::{
-    Config, Counted, Ending, Handed, Item, Members, NodeCore, NodeNaming, NodeState, Piece, Port,
-    Report, run_connection,
-};
+use node::{Config, Handed, Item, Members, NodeCore, NodeNaming, NodeState, Piece, Port, Report};
 use std::alloc::Global;
-use std::io;
-use std::io::{Read, Write};
 use std::marker::Brand;
 use std::sync::Wait;
 use std::test::Fail;
@@ -21,58 +15,6 @@ const CONNECT: [u8; 15] = [
 ];
 
 const ACCEPTED: [u8; 4] = [0x20, 0x02, 0x00, 0x00];
-
-// Gives its bytes, at most 4 a call. The call number `bad_call`, from 1, fails.
-#[derive(Drop)]
-struct Source<'a> {
-    bytes: &'a [u8],
-    calls: u64,
-    bad_call: u64,
-}
-
-impl<'a> Read for Source<'a> {
-    fn read(&mut self, buf: &mut [u8]) -> io::Result<usize> {
-        self.calls = self.calls.saturating_add(1);
-        if self.calls == self.bad_call {
-            return Err(io::Error::from(io::ErrorKind::ConnectionReset));
-        }
-        let count = self.bytes.len().min(4).min(buf.len());
-        buf[..count].copy_from_slice(&self.bytes[..count]);
-        self.bytes = &self.bytes[count..];
-        Ok(count)
-    }
-}
-
-// Keeps what it is given, at most 3 bytes a call. The call number `bad_call`, from 1, fails.
-#[derive(Drop)]
-struct Sink {
-    bytes: Vec<u8>,
-    calls: u64,
-    bad_call: u64,
-}
-
-impl Sink {
-    fn call(&mut self) -> io::Result<()> {
-        self.calls = self.calls.saturating_add(1);
-        if self.calls == self.bad_call {
-            return Err(io::Error::from(io::ErrorKind::BrokenPipe));
-        }
-        Ok(())
-    }
-}
-
-impl Write for Sink {
-    fn write(&mut self, buf: &[u8]) -> io::Result<usize> {
-        self.call()?;
-        let count = buf.len().min(3);
-        self.bytes.extend_from_slice(&buf[..count])?;
-        Ok(count)
-    }
-
-    fn flush(&mut self) -> io::Result<()> {
-        self.call()
-    }
-}
 
 fn sole(alloc: Global) -> Result<NodeCore, Fail> {
     let config = Config {
@@ -206,56 +148,5 @@ fn what_is_not_taken_is_left_over(rt: HostRuntime) -> Result<(), Fail> {
     let core = sole(rt.alloc())?;
     let left = leaves_two::<Brand, HostRuntime>(&rt, rt.alloc(), inbox, core)?;
     assert!(rt; left);
-    Ok(())
-}
-
-// Which calls of the devices fail, how the connection ends, and how many bytes of the answer are
-// written.
-type Row = (u64, u64, Ending, usize);
-
-// Whether a connection of a node whose devices fail so ends so.
-fn ends_so<R: Wait>(rt: &R, alloc: Global, node: &mut NodeCore, row: &Row) -> bool {
-    let (bad_read, bad_write, ending, count) = *row;
-    let mut input = Counted::new(Source {
-        bytes: &CONNECT,
-        calls: 0,
-        bad_call: bad_read,
-    });
-    let mut output = Counted::new(Sink {
-        bytes: Vec::new(alloc),
-        calls: 0,
-        bad_call: bad_write,
-    });
-    let ended = run_connection(rt, alloc, node, &mut input, &mut output);
-    ended == Ok(ending)
-        && input.faults() == u64::from(ending == Ending::ReadFault)
-        && output.faults() == u64::from(ending == Ending::WriteFault)
-        && begins(output.into_device().bytes.as_slice(), count)
-}
-
-// Whether so many bytes of the answer stand there, from its beginning.
-fn begins(written: &[u8], count: usize) -> bool {
-    written.len() == count && ACCEPTED.starts_with(written)
-}
-
-// Four reads bring the CONNECT and the fifth finds the end; nothing is written but the answer, in
-// two writes. Each turn flushes: the answer's calls are the fifth to the seventh.
-#[test]
-fn each_device_fails_in_turn(rt: HostRuntime) -> Result<(), Fail> {
-    let rows: [Row; 8] = [
-        (0, 0, Ending::Ended, 4),
-        (1, 0, Ending::ReadFault, 0),
-        (4, 0, Ending::ReadFault, 0),
-        (5, 0, Ending::ReadFault, 4),
-        (0, 1, Ending::WriteFault, 0),
-        (0, 5, Ending::WriteFault, 0),
-        (0, 6, Ending::WriteFault, 3),
-        (0, 7, Ending::WriteFault, 4),
-    ];
-    for row in &rows {
-        let mut node = sole(rt.alloc())?;
-        assert!(rt; ends_so(&rt, rt.alloc(), &mut node, row), "{row:?}");
-        assert_eq!(rt; node.losses(), 0);
-    }
     Ok(())
 }

@@ -5,19 +5,21 @@ use Rattle.node.specs.declared.Handed.{Handed}
 use Rattle.node.specs.declared.Memory.{Memory}
 use Rattle.node.specs.Core.{CountedCore}
 use Rattle.node.specs.Handing.{answer_of, bytes_of, listed_at}
+use Rattle.node.specs.State.{Replays, Seen}
 use Rattle.connection.specs.Writing.{HandsOver}
 use Rattle.server.specs.Serving.{PutsOut}
 
 pub handed_over :
-    {O : Type 0} (hands : O → List ℕ → Handed → O → Type 0) (tap : O) (port : Port) (node : CountedCore)
+    {O : Type 0} (hands : O → List ℕ → Handed → O → Type 0) (tap : O) (first_of : ℕ → CountedCore) (port : Port) (seen : Seen)
     (gave : Result Handed Memory) (old new : List ℕ)
-    → ((bytes : List ℕ) (answer : Handed) → PutsOut port bytes answer → hands tap bytes answer tap)
-    → OnOk gave (new ≡ old ++ bytes_of (listed_at port node.core))
-    → IfOk gave (λ answer. answer ≡ answer_of (listed_at port node.core))
+    → ((bytes : List ℕ) (answer : Handed) → PutsOut first_of port bytes answer → hands tap bytes answer tap)
+    → Replays (first_of seen.taker.inbox) seen.taker.taken seen.node
+    → OnOk gave (new ≡ old ++ bytes_of (listed_at port seen.node.core))
+    → IfOk gave (λ answer. answer ≡ answer_of (listed_at port seen.node.core))
     → IfOk gave (λ answer. HandsOver hands tap answer tap old new)
-handed_over hands tap port node (Ok answer) old new make bytes is = record {
-  bytes = bytes_of (listed_at port node.core);
-  handed = make _ answer (record { node = node; bytes_are = refl; answer_is = is });
+handed_over hands tap first_of port seen (Ok answer) old new make replays bytes is = record {
+  bytes = bytes_of (listed_at port seen.node.core);
+  handed = make _ answer (record { seen = seen; replays = replays; bytes_are = refl; answer_is = is });
   is = bytes;
 }
-handed_over hands tap port node (Err e) old new make bytes is = tt
+handed_over hands tap first_of port seen (Err e) old new make replays bytes is = tt

@@ -1,1 +1,4 @@
+mod GivenBySteps
 mod HandedOver
+mod OwnSendsJoin
+mod RowsJoin

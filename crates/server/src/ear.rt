@@ -5,7 +5,6 @@ ghost use Rattle.std.specs.Prelude.{◌≡◌, ◌++◌, ◌∷◌, []};
 use crate::link::Link;
 use crate::served::Served;
 use crate::shared::Shared;
-use crate::turns::send;
 use connection::Hearer;
 use mailbox::Lane;
 use node::{Gate, Item, NodeNaming};
@@ -16,7 +15,6 @@ use std::time::Clock;
 /// A connection's lane. What it heard is what the lane sent.
 #[derive(Drop)]
 pub(crate) struct Ear<'e, 'a, J: NodeNaming, S: Served<J>, G: Gate> {
-    pub(crate) alloc: Global,
     pub(crate) shared: &'e Shared<'a, J, S, G>,
     pub(crate) link: &'e Arc<Link, Global>,
     pub(crate) lane: Lane<Item, J>,
@@ -31,15 +29,18 @@ impl<'e, 'a, J: NodeNaming, S: Served<J>, G: Gate> Hearer for Ear<'e, 'a, J, S, 
     }
 
     fn tell<R: Wait + Clock>(&mut self, rt: &R, item: Item) {
-        send(rt, self.alloc, self.shared, &mut self.lane, item);
+        let shared = self.shared;
+        shared.send(rt, &mut self.lane, item);
     }
 
     // A port of which the node has not heard yet is one that it closed, so a link is listed behind that.
     fn lets_in<R: Wait>(&self, rt: &R) -> bool {
+        let Ok(link) = Arc::try_clone(self.link) else {
+            return false;
+        };
         let shared = self.shared;
-        match Arc::try_clone(self.link) {
-            Ok(other) => shared.seat.place.door.enter(rt, other),
-            Err(_) => false,
-        }
+        let door = &shared.seat.place.door;
+        door.list(rt, link);
+        !door.is_closed(rt)
     }
 }

@@ -1,12 +1,13 @@
-//! Nodes that serve clients over TCP, and the master beside them. A thread for each connection reads its bytes,
-//! sends them to the node's inbox by a lane of its own, and then takes what waits there itself, so that no bytes
-//! are handed from thread to thread before they are answered. A thread of each node's own takes what other nodes
-//! and the master have for it.
+//! Nodes that serve clients over TCP, and the master beside them. Each of a node's threads has a lane to its inbox
+//! for good: it accepts a client, reads its bytes, sends them by the lane, and then takes what waits in the inbox
+//! itself, so that no bytes are handed from thread to thread before they are answered. One of them, the node's own,
+//! takes what other nodes and the master have for it.
 #![tactic(auto)]
 
 mod bell;
 mod door;
 mod ear;
+mod letter;
 mod link;
 mod listening;
 mod node_report;
@@ -22,6 +23,7 @@ mod served;
 mod serving;
 mod shared;
 mod turns;
+mod working;
 mod writing;
 
 pub use listening::{serve_gated, serve_while};

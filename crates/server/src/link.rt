@@ -19,6 +19,8 @@ pub(crate) struct Writer {
 #[derive(Drop)]
 pub(crate) struct Link {
     pub(crate) port: Port,
+    /// Its place at the door.
+    pub(crate) place: usize,
     pub(crate) stream: TcpStream,
     writer: Mutex<Writer>,
     /// What a full socket did not take yet.
@@ -26,9 +28,10 @@ pub(crate) struct Link {
 }
 
 impl Link {
-    pub(crate) fn new(alloc: Global, port: Port, stream: TcpStream) -> Link {
+    pub(crate) fn new(alloc: Global, port: Port, place: usize, stream: TcpStream) -> Link {
         Link {
             port,
+            place,
             stream,
             writer: Mutex::new(Writer {
                 busy: false,

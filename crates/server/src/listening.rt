@@ -1,27 +1,26 @@
 // The nodes that serve, and the threads of each.
 
-ghost use denote.Param.Send.{IsSend};
 ghost use Rattle.std.specs.Prelude.{◌≡◌};
+ghost use Rattle.server.specs.Letters.{EachOpens};
 
 use crate::node_report::NodeReport;
 use crate::outcome::Outcome;
-use crate::own_thread;
 use crate::passage::Passage;
 use crate::peers::Peers;
 use crate::place::{CONNECTIONS, Place};
 use crate::seat::Seat;
 use crate::serve_error::ServeError;
 use crate::served::Served;
-use crate::serving::serve_stream;
 use crate::shared::Shared;
-use mailbox::Inbox;
+use crate::working::{Desk, LANES, run};
+use mailbox::{Inbox, Lane};
 use node::{Config, Gate, Item, Memory, NoGate, NodeCore, NodeNaming, NodeState, Report};
 use std::alloc::Global;
-use std::marker::Brand;
+use std::marker::{Brand, PhantomData};
 use std::net::{Net, TcpStream};
 use std::sync::{Mutex, Wait};
 use std::thread;
-use std::thread::{Scope, Threads};
+use std::thread::Threads;
 use std::time::{Clock, Instant};
 
 /// Serves the clients of several nodes, each at its place, while `attend` runs beside it with the nodes in
@@ -109,8 +108,7 @@ fn tell<R: Wait>(rt: &R, told: &Mutex<Outcome>, served: Result<NodeReport, Serve
     told.lock(rt).keep(served);
 }
 
-// Serves the clients that come to a node's place, until the place's door is closed, or where no thread can
-// be started.
+// Serves the clients that come to a node's place, until the place's door is closed.
 fn serve<G: Gate + Sync, R: Threads + Wait + Clock + Sync>(
     rt: &R,
     alloc: Global,
@@ -141,80 +139,41 @@ fn serve_named<J: NodeNaming + Send + Sync, G: Gate + Sync, R: Threads + Wait + 
 ) -> Result<Report, Memory>
     requires named { inbox ≡ J.inbox_of 1 }
     requires first { core ≡ J.first_of 1 }
+    requires opens { EachOpens J.first_of }
 {
-    let (receiver, lanes) = inbox.named::<J>(1, CONNECTIONS + 1)?;
+    let (receiver, lanes) = inbox.named::<J>(1, LANES)?;
     let room = Report::with_room(alloc, lanes.len())?;
+    let mut back = Vec::with_capacity(alloc, lanes.len())?;
+    let mut desks: Vec<Desk<J>> = lanes.into_iter().map(Some).collect(alloc)?;
     let shared = Shared {
+        alloc,
         node: Mutex::new(NodeState::new(receiver, core)),
-        lanes: Mutex::new(lanes),
-        has_own_lane: Mutex::new(false),
         passage: Passage::new(gate, seat.place.number),
         seat,
         late: Mutex::new(Vec::with_capacity(alloc, usize::from(CONNECTIONS))?),
         next_port: Mutex::new(1),
+        naming: PhantomData,
     };
-    run_state(rt, alloc, &shared);
-    shared.close(rt, room)
+    run_state(rt, &shared, desks.as_mut_slice());
+    gather(desks, &mut back);
+    shared.close(rt, back.as_mut_slice(), room)
 }
 
 // The same at the type that a node's state has. That it may be shared by threads is asked here alone.
 fn run_state<J: NodeNaming + Send + Sync, G: Gate + Sync, R: Threads + Wait + Clock + Sync>(
     rt: &R,
-    alloc: Global,
     shared: &Shared<J, NodeState<J>, G>,
+    desks: &mut [Desk<J>],
 ) {
-    run::<J, NodeState<J>, G, R>(rt, alloc, shared);
+    run::<J, NodeState<J>, G, R>(rt, shared, desks);
 }
 
-// Starts the node's own thread, and then a thread for each client that comes.
-fn run<
-    J: NodeNaming + Send + Sync,
-    S: Served<J> + Send,
-    G: Gate + Sync,
-    R: Threads + Wait + Clock + Sync,
->(rt: &R, alloc: Global, shared: &Shared<J, S, G>) {
-    thread::scope(
-        thread::scope_env(),
-        rt,
-        |scope|
-            requires naming { IsSend J.row }
-            requires state { IsSend S.row }
-        {
-            let own = scope.spawn(move || own_thread::run(rt, alloc, shared));
-            if own.is_err() {
-                return;
-            }
-            for stream in shared.seat.place.listener.incoming() {
-                if shared.seat.place.door.is_closed(rt) {
-                    return;
-                }
-                let Ok(stream) = stream else {
-                    continue;
-                };
-                if !begin(scope, rt, alloc, shared, stream) {
-                    return;
-                }
-            }
-        },
-    );
-}
-
-// Starts the thread of a client: whether there was one.
-fn begin<
-    's,
-    'a: 's,
-    E,
-    J: NodeNaming + Send + Sync,
-    S: Served<J> + Send,
-    G: Gate + Sync,
-    R: Threads + Wait + Clock + Sync,
->(
-    scope: &Scope<'s, E>,
-    rt: &'s R,
-    alloc: Global,
-    shared: &'s Shared<'a, J, S, G>,
-    stream: TcpStream,
-) -> bool {
-    let served = scope.spawn(move || serve_stream(rt, alloc, shared, stream));
-    served.is_ok()
+// Collects the lanes that came back.
+fn gather<J: NodeNaming>(desks: Vec<Desk<J>>, back: &mut Vec<Lane<Item, J>>) {
+    for desk in desks {
+        if let Some(lane) = desk {
+            // There is room for it.
+            let _ = back.push(lane);
+        }
+    }
 }

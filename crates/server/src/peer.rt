@@ -1,6 +1,9 @@
 // A node as the other nodes of its server see it.
 
+ghost use Rattle.server.specs.Letters.{IsLetter};
+
 use crate::bell::Bell;
+use crate::letter::Letter;
 use node::{Item, Status};
 use std::alloc::Global;
 use std::mem;
@@ -11,7 +14,7 @@ use std::sync::{Mutex, Wait};
 pub(crate) struct Peer {
     pub(crate) number: u8,
     /// What the other nodes and the master have for it, in the order of sending.
-    waiting: Mutex<Vec<Item>>,
+    waiting: Mutex<Vec<Letter>>,
     /// Somebody asks how it stands.
     asked: Mutex<bool>,
     /// How it stands, once it was asked and has told.
@@ -32,13 +35,16 @@ impl Peer {
     }
 
     /// Leaves an item for the node. Where there is no memory for it, it is lost.
-    pub(crate) fn leave<R: Wait>(&self, rt: &R, item: Item) {
-        let _ = self.waiting.lock(rt).push(item);
+    pub(crate) fn leave<R: Wait>(&self, rt: &R, item: Item)
+        requires { IsLetter self.now.number item }
+    {
+        let letter = Letter::new(self.number, item);
+        let _ = self.waiting.lock(rt).push(letter);
         self.bell.ring(rt);
     }
 
     /// All that waits, in its order.
-    pub(crate) fn take_waiting<R: Wait>(&self, rt: &R, alloc: Global) -> Vec<Item> {
+    pub(crate) fn take_waiting<R: Wait>(&self, rt: &R, alloc: Global) -> Vec<Letter> {
         mem::replace(&mut *self.waiting.lock(rt), Vec::new(alloc))
     }
 

@@ -1,5 +1,9 @@
 // The nodes of a server, and the master beside them.
 
+ghost use Rattle.std.specs.Prelude.{◌≡◌, IfSome};
+ghost use Rattle.node.specs.Lists.{Each};
+ghost use Rattle.server.specs.Letters.{IsLetter, WasGiven};
+
 use crate::peer::Peer;
 use crate::place::Place;
 use crate::serve_error::ServeError;
@@ -132,18 +136,24 @@ impl Peers {
     }
 
     /// The node of a number.
-    pub(crate) fn node(&self, number: u8) -> Option<&Peer> {
+    pub(crate) fn node(&self, number: u8) -> Option<&Peer>
+        ensures { IfSome result (λ node. node.now.number ≡ number) }
+    {
         self.nodes.iter().find(|node| node.number == number)
     }
 
     /// Hands on what a node has for others, in its order. What goes to nobody is lost.
-    pub(crate) fn hand_on<R: Wait>(&self, rt: &R, effects: Vec<Effect<Command, Output>>) {
+    pub(crate) fn hand_on<R: Wait>(&self, rt: &R, effects: Vec<Effect<Command, Output>>)
+        requires { Each WasGiven effects.items }
+    {
         for effect in effects {
             self.carry(rt, effect);
         }
     }
 
-    fn carry<R: Wait>(&self, rt: &R, effect: Effect<Command, Output>) {
+    fn carry<R: Wait>(&self, rt: &R, effect: Effect<Command, Output>)
+        requires { WasGiven effect }
+    {
         let Effect::To(number, message) = effect else {
             return;
         };
@@ -155,7 +165,9 @@ impl Peers {
     }
 
     // Leaves a message for a node.
-    fn leave<R: Wait>(&self, rt: &R, number: u8, message: Message<Command>) {
+    fn leave<R: Wait>(&self, rt: &R, number: u8, message: Message<Command>)
+        requires { IsLetter number (Item.Peer message) }
+    {
         if let Some(node) = self.node(number) {
             node.leave(rt, Item::Peer(message));
         }

@@ -3,18 +3,25 @@
 use crate::door::Door;
 use node::Memory;
 use std::alloc::Global;
-use std::io;
 use std::net::{Net, SocketAddr, TcpListener, TcpStream};
 use std::sync::Wait;
+use std::time::{Clock, Duration};
+use std::{io, thread};
 
 /// How many connections a node serves at once.
 pub const CONNECTIONS: u8 = 12;
+
+/// How long a thread sleeps before it tries to accept, or to wake those that do, once more, in milliseconds.
+const PAUSE_MILLIS: u64 = 1;
+
+/// How often those are woken that wait for clients when the door is closed.
+const WAKES: u32 = 10_000;
 
 /// Where a node serves its clients.
 #[derive(Drop)]
 pub struct Place {
     pub(crate) number: u8,
-    pub(crate) listener: TcpListener,
+    listener: TcpListener,
     /// The connections that are served.
     pub(crate) door: Door,
 }
@@ -26,7 +33,7 @@ impl Place {
         Ok(Place {
             number,
             listener,
-            door: Door::new(alloc, CONNECTIONS)?,
+            door: Door::new(alloc)?,
         })
     }
 
@@ -35,12 +42,36 @@ impl Place {
         self.listener.local_addr()
     }
 
-    /// Ends all connections, and lets nobody in any more: the call that serves the listener returns.
-    pub(crate) fn close<R: Wait + Net<Stream = TcpStream>>(&self, rt: &R) {
+    /// The stream of the next client. There is none once the door is closed.
+    pub(crate) fn accept<R: Wait + Clock>(&self, rt: &R) -> Option<TcpStream> {
+        for _ in rt.forever() {
+            if !self.door.begin_wait(rt) {
+                return None;
+            }
+            let came = self.listener.accept();
+            if !self.door.end_wait(rt) {
+                return None;
+            }
+            match came {
+                Ok((stream, _)) => return Some(stream),
+                Err(_) => thread::sleep(rt, Duration::from_millis(PAUSE_MILLIS)),
+            }
+        }
+        unreachable!()
+    }
+
+    /// Ends all connections, and lets nobody in any more: the threads that wait for clients go on.
+    pub(crate) fn close<R: Wait + Clock + Net<Stream = TcpStream>>(&self, rt: &R) {
         self.door.close(rt);
-        if let Ok(address) = self.address() {
-            // Where the listener cannot be woken, the next client that comes wakes it.
-            let _ = TcpStream::connect(rt, address);
+        for _ in 0..WAKES {
+            if !self.door.is_waited_at(rt) {
+                return;
+            }
+            if let Ok(address) = self.address() {
+                // Where the listener cannot be reached, the next client that comes wakes a thread.
+                let _ = TcpStream::connect(rt, address);
+            }
+            thread::sleep(rt, Duration::from_millis(PAUSE_MILLIS));
         }
     }
 }

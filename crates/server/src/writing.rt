@@ -19,7 +19,7 @@ struct Tap<'e, 'a, J: NodeNaming, S: Served<J>, G: Gate> {
 impl<'e, 'a, J: NodeNaming, S: Served<J>, G: Gate> Outlet for Tap<'e, 'a, J, S, G> {
     ghost use Rattle.server.specs.Serving.{PutsOut};
 
-    ghost hands = { λ tap bytes answer _. PutsOut tap.port bytes answer };
+    ghost hands = { λ tap bytes answer _. PutsOut J.first_of tap.port bytes answer };
 
     fn hand_over<R: Wait>(&mut self, rt: &R, out: &mut Vec<u8>) -> Result<Handed, Memory> {
         let shared = self.shared;
@@ -27,75 +27,58 @@ impl<'e, 'a, J: NodeNaming, S: Served<J>, G: Gate> Outlet for Tap<'e, 'a, J, S, 
     }
 }
 
-/// Writes what the node put out for a connection, unless another thread writes there: that one is told
-/// to look again. What a full socket does not take is left to the node's own thread.
-pub(crate) fn flush<J: NodeNaming, S: Served<J>, G: Gate, R: Wait>(
-    rt: &R,
-    alloc: Global,
-    shared: &Shared<J, S, G>,
-    link: &Arc<Link, Global>,
-) {
-    if link.begin(rt) && is_late(rt, alloc, shared, link) {
-        leave_late(rt, shared, link);
-    }
-}
-
-/// Writes what a full socket left and what was put out, as the one that writes, until nothing more was:
-/// whether the socket is full.
-pub(crate) fn is_late<J: NodeNaming, S: Served<J>, G: Gate, R: Wait>(
-    rt: &R,
-    alloc: Global,
-    shared: &Shared<J, S, G>,
-    link: &Arc<Link, Global>,
-) -> bool {
-    let mut out = Vec::new(alloc);
-    for _ in rt.forever() {
-        match write_once(rt, alloc, shared, link, &mut out) {
-            Flow::Open if link.goes_on(rt) => {}
-            Flow::Open => return false,
-            Flow::Late(left) => {
-                *link.rest.lock(rt) = left;
-                return true;
-            }
-            Flow::Closed | Flow::Failed => {
-                link.shut();
-                return false;
-            }
+impl<'a, J: NodeNaming, S: Served<J>, G: Gate> Shared<'a, J, S, G> {
+    /// Writes what the node put out for a connection, unless another thread writes there: that one is told
+    /// to look again. What a full socket does not take is left to the node's own thread.
+    pub(crate) fn flush<R: Wait>(&self, rt: &R, link: &Arc<Link, Global>) {
+        if link.begin(rt) && self.is_late(rt, link) {
+            self.leave_late(rt, link);
         }
     }
-    unreachable!()
-}
 
-// Writes what a full socket left, and then what the node puts out, as far as the socket takes it within its time.
-fn write_once<J: NodeNaming, S: Served<J>, G: Gate, R: Wait>(
-    rt: &R,
-    alloc: Global,
-    shared: &Shared<J, S, G>,
-    link: &Arc<Link, Global>,
-    out: &mut Vec<u8>,
-) -> Flow {
-    let left = mem::replace(&mut *link.rest.lock(rt), Unwritten::new(alloc));
-    let mut tap = Tap {
-        shared,
-        port: link.port,
-    };
-    let mut device = &link.stream;
-    write_out(rt, alloc, left, &mut tap, out, &mut device)
-}
+    /// Writes what a full socket left and what was put out, as the one that writes, until nothing more was:
+    /// whether the socket is full.
+    pub(crate) fn is_late<R: Wait>(&self, rt: &R, link: &Arc<Link, Global>) -> bool {
+        let mut out = Vec::new(self.alloc);
+        for _ in rt.forever() {
+            match self.write_once(rt, link, &mut out) {
+                Flow::Open if link.goes_on(rt) => {}
+                Flow::Open => return false,
+                Flow::Late(left) => {
+                    *link.rest.lock(rt) = left;
+                    return true;
+                }
+                Flow::Closed | Flow::Failed => {
+                    link.shut();
+                    return false;
+                }
+            }
+        }
+        unreachable!()
+    }
 
-/// Leaves a connection to the node's own thread.
-pub(crate) fn leave_late<J: NodeNaming, S: Served<J>, G: Gate, R: Wait>(
-    rt: &R,
-    shared: &Shared<J, S, G>,
-    link: &Arc<Link, Global>,
-) {
-    let kept = match Arc::try_clone(link) {
-        Ok(other) => shared.late.lock(rt).push(other).is_ok(),
-        Err(_) => false,
-    };
-    if kept {
-        shared.seat.node.bell.ring(rt);
-    } else {
-        link.shut();
+    // Writes what a full socket left, and then what the node puts out, as far as the socket takes it within
+    // its time.
+    fn write_once<R: Wait>(&self, rt: &R, link: &Arc<Link, Global>, out: &mut Vec<u8>) -> Flow {
+        let left = mem::replace(&mut *link.rest.lock(rt), Unwritten::new(self.alloc));
+        let mut tap = Tap {
+            shared: self,
+            port: link.port,
+        };
+        let mut device = &link.stream;
+        write_out(rt, self.alloc, left, &mut tap, out, &mut device)
+    }
+
+    /// Leaves a connection to the node's own thread.
+    pub(crate) fn leave_late<R: Wait>(&self, rt: &R, link: &Arc<Link, Global>) {
+        let kept = match Arc::try_clone(link) {
+            Ok(other) => self.late.lock(rt).push(other).is_ok(),
+            Err(_) => false,
+        };
+        if kept {
+            self.seat.node.bell.ring(rt);
+        } else {
+            link.shut();
+        }
     }
 }

@@ -1,0 +1,35 @@
+-- GivenBySteps.antt: what the steps of a node give was given by one of them.
+use Rattle.std.proofs.Common.{◌≡◌, ℕ, List, [], ◌∷◌, ◌++◌, sym, subst}
+use Rattle.node.specs.Command.{Command}
+use Rattle.node.specs.Output.{Output}
+use Rattle.node.specs.Effect.{Effect}
+use Rattle.node.specs.Core.{CountedCore}
+use Rattle.node.specs.Lists.{Each, In}
+use Rattle.node.specs.Lists.In.{here, there}
+use Rattle.node.specs.State.{Replays, Seen, TakesOne}
+use Rattle.lists.proofs.OfEach.{each_append}
+use Rattle.server.specs.Letters.{EachOpens, WasGiven}
+
+-- what holds of whatever stands in a list holds of each
+each_in : {X : Type 0} (P : X → Type 0) (xs : List X) → ((x : X) → In x xs → P x) → Each P xs
+each_in P [] f = tt
+each_in P (x ∷ xs) f = (f x here, each_in P xs (λ y i. f y (there i)))
+
+pub given_more : (first_of : ℕ → CountedCore) (old new : Seen) (before behind : List (Effect Command Output))
+    → EachOpens first_of → Replays (first_of old.taker.inbox) old.taker.taken old.node
+    → TakesOne old new before behind → Each WasGiven before → Each WasGiven behind
+given_more first_of old new before behind opens replays takes given =
+    subst (λ (effects : List (Effect Command Output)). Each WasGiven effects) (sym takes.stepped.appended)
+    (each_append WasGiven before takes.stepped.given given (each_in WasGiven takes.stepped.given (λ effect gives. record {
+      first = first_of old.taker.inbox;
+      opens = opens old.taker.inbox;
+      history = old.taker.taken;
+      core = old.node;
+      replays = replays;
+      item = takes.item;
+      next = new.node;
+      before = before;
+      behind = behind;
+      step = takes.stepped;
+      gives = gives;
+    })))

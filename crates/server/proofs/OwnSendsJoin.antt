@@ -1,0 +1,25 @@
+-- OwnSendsJoin.antt: what a node's own thread sends at first and then is what it sends.
+use Rattle.std.proofs.Common.{◌≡◌, ℕ, List, [], ◌∷◌, ◌++◌, sym, subst}
+use Rattle.node.specs.declared.Item.{Item}
+use Rattle.node.specs.declared.Item.TheVariants.{Tick}
+use Rattle.server.specs.Letters.{IsLetter}
+use Rattle.server.specs.Serving.{SendsOwn}
+use Rattle.server.specs.Serving.SendsOwn.{starts, ticks, hands}
+
+pub own_join : (node : ℕ) (before sent behind : List Item)
+    → SendsOwn node before sent → SendsOwn node sent behind → SendsOwn node before behind
+own_join node before sent _ first starts = first
+own_join node before sent _ first (ticks now rest) = ticks now (own_join node before sent _ first rest)
+own_join node before sent _ first (hands item rest letter) = hands item (own_join node before sent _ first rest) letter
+
+-- the time was told
+pub own_tick : (node now : ℕ) (before behind : List Item) → behind ≡ before ++ Tick now ∷ [] → SendsOwn node before behind
+own_tick node now before behind sent =
+    subst (λ (items : List Item). SendsOwn node before items) (sym sent) (ticks now starts)
+
+-- a letter with the node's number on it was sent
+pub own_letter : (node receiver : ℕ) (item : Item) (before behind : List Item)
+    → receiver ≡ node → ∥ IsLetter receiver item ∥₁ → behind ≡ before ++ item ∷ [] → SendsOwn node before behind
+own_letter node receiver item before behind is letter sent =
+    subst (λ (items : List Item). SendsOwn node before items) (sym sent)
+    (hands item starts (subst (λ (n : ℕ). ∥ IsLetter n item ∥₁) is letter))

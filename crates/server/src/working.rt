@@ -1,0 +1,65 @@
+// The threads of a node, each with a lane for good.
+
+ghost use Rattle.std.specs.Prelude.{ℕ, ◌<◌, length, slice_index_or};
+ghost use Rattle.server.specs.Working.{ComesBack, SendsSo};
+
+use crate::place::CONNECTIONS;
+use crate::served::Served;
+use crate::shared::Shared;
+use mailbox::Lane;
+use node::{Gate, Item, NodeNaming};
+use std::sync::Wait;
+use std::thread;
+use std::thread::Threads;
+use std::time::Clock;
+
+/// The lane of the node's own thread.
+const OWN_LANE: u8 = 0;
+
+/// A lane for the node's own thread, for each connection, and for the thread that closes what comes on top.
+pub(crate) const LANES: u8 = CONNECTIONS + 2;
+
+/// A lane, unless its thread has it in hand.
+pub(crate) type Desk<J> = Option<Lane<Item, J>>;
+
+/// Works with each lane by a thread of its own, until the door is closed. Where threads are wanting lanes
+/// wait until others come back, the node's own before all the others.
+pub(crate) fn run<J, S, G, R>(rt: &R, shared: &Shared<J, S, G>, desks: &mut [Desk<J>])
+where
+    J: NodeNaming + Send + Sync,
+    S: Served<J> + Send,
+    G: Gate + Sync,
+    R: Threads + Wait + Clock + Sync,
+    ensures { (place : ℕ) (other : _) → place < length desks.old →
+        ComesBack shared.now.seat.node.now.number
+        (slice_index_or desks.old place other) (slice_index_or desks.new place other) }
+{
+    thread::for_each_mut(
+        rt,
+        desks,
+        usize::from(LANES),
+        &|_, desk| shared.sit(rt, desk),
+    );
+}
+
+impl<'a, J: NodeNaming, S: Served<J>, G: Gate> Shared<'a, J, S, G> {
+    // Works with the lane of a desk, and puts it back.
+    fn sit<R: Wait + Clock>(&self, rt: &R, desk: &mut Desk<J>)
+        ensures { ComesBack self.now.seat.node.now.number desk.old desk.new }
+    {
+        if let Some(lane) = desk.take() {
+            *desk = Some(self.work(rt, lane));
+        }
+    }
+
+    // Works with a lane, until the door is closed.
+    fn work<R: Wait + Clock>(&self, rt: &R, lane: Lane<Item, J>) -> Lane<Item, J>
+        ensures { SendsSo self.now.seat.node.now.number lane.lane lane.sent result.sent }
+    {
+        if lane.lane() == OWN_LANE {
+            self.keep_going(rt, lane)
+        } else {
+            self.serve_lane(rt, lane)
+        }
+    }
+}
