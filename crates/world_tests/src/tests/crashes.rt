@@ -1,6 +1,6 @@
 // A primary that crashes.
 
-use crate::tests::hand::{Deed, Row, goes_well};
+use crate::tests::hand::{Deed, Row, Said, goes_well};
 
 // The packets behind the takeover, as MQTT 3.1.1 spells them. CONNECT (3.1): 13 bytes follow, the protocol's name, its
 // level 4, no flag, so that the session is kept, no keep alive, and the Client Identifier.
@@ -24,6 +24,22 @@ const PUBREL: &[u8] = b"\x62\x02\x00\x01";
 
 const NOTHING: &[u8] = b"";
 
+// What is agreed while the primary holds a publication that its backup does not hold yet: both CONNECTs, and the
+// SUBSCRIBE between them.
+const BEFORE: &[Said] = &[Said::Connect("b"), Said::Packet, Said::Connect("a")];
+
+// What is agreed at the end: the publication, the backup's ballot, both CONNECTs, and the publication sent again.
+const BEHIND: &[Said] = &[
+    Said::Connect("b"),
+    Said::Packet,
+    Said::Connect("a"),
+    Said::Packet,
+    Said::Start(2),
+    Said::Connect("a"),
+    Said::Packet,
+    Said::Connect("b"),
+];
+
 // The events of the script `primary_crashes` of the folder `examples`, and idle ones among them, with all that waits
 // on connections 3 and 4. The primary holds a publication that its backup holds too, and crashes before it says so.
 // The backup takes over alone: the publisher sends its PUBLISH again, with DUP, and is answered, and the subscriber
@@ -45,6 +61,7 @@ const CRASHED: &[Row] = &[
     Row::Does(Deed::Down(2), 9, 3),
     Row::Does(Deed::Publish("a"), 9, 3),
     Row::Does(Deed::Up(2), 10, 3),
+    Row::Agrees(BEFORE),
     Row::HasDown(2, b""),
     Row::Does(Deed::Deliver(9), 11, 4),
     Row::HasDown(2, b""),
@@ -93,6 +110,7 @@ const CRASHED: &[Row] = &[
     Row::HasDown(4, NOTHING),
     Row::HasUp(3, PUBREL),
     Row::HasDown(3, NOTHING),
+    Row::Agrees(BEHIND),
 ];
 
 #[test]

@@ -4,7 +4,7 @@ use packet::{ClientId, Payload, QoS};
 use session_base::Publication;
 use std::alloc::Global;
 use topics::{Filter, TopicName};
-use world::{Config, Event, Members, Memory, World};
+use world::{Command, Config, Event, Members, Memory, World};
 
 /// What happens.
 pub enum Deed {
@@ -28,6 +28,16 @@ pub enum Deed {
     Subscribe(&'static str),
 }
 
+/// What a command of the agreed list is.
+pub enum Said {
+    /// The CONNECT of a client.
+    Connect(&'static str),
+    /// Another packet of a client.
+    Packet,
+    /// A ballot begins.
+    Start(u64),
+}
+
 /// A row of what happens.
 pub enum Row {
     /// It does, and then so many messages were sent, and so many commands are agreed.
@@ -41,6 +51,8 @@ pub enum Row {
     Took(&'static str, usize, u64),
     /// This ballot is active.
     Active(u64),
+    /// These commands are agreed, in this order.
+    Agrees(&'static [Said]),
 }
 
 /// A world of so many nodes, these members of ballot 1 with node 1 as primary, and clients `a` and `b`.
@@ -98,6 +110,28 @@ fn goes_by(alloc: Global, world: &mut World, row: &Row) -> bool {
         Row::HasDown(connection, bytes) => has_down(world, *connection, bytes),
         Row::Took(client, count, session) => took(alloc, world, client, *count, *session),
         Row::Active(ballot) => world.active().0 == *ballot,
+        Row::Agrees(list) => agrees_on(world, list),
+    }
+}
+
+// Whether these commands are agreed, in this order.
+fn agrees_on(world: &World, list: &[Said]) -> bool {
+    let agreed = world.agreed();
+    for (command, said) in agreed.iter().zip(list.iter()) {
+        if !is_said(command, said) {
+            return false;
+        }
+    }
+    agreed.len() == list.len()
+}
+
+// Whether a command is this one.
+fn is_said(command: &Command, said: &Said) -> bool {
+    match (command, said) {
+        (Command::Connect(_, client, false), Said::Connect(name)) => client.as_str() == *name,
+        (Command::Packet(_, _), Said::Packet) => true,
+        (Command::Start(ballot), Said::Start(number)) => *ballot == *number,
+        _ => false,
     }
 }
 
