@@ -6,7 +6,7 @@ use mailbox::{Inbox, Lane};
 use node::{Config, Handed, Item, Members, NodeCore, NodeNaming, NodeState, Piece, Port, Report};
 use std::alloc::Global;
 use std::marker::Brand;
-use std::sync::Wait;
+use std::sync::{Mutex, Wait};
 use std::test::Fail;
 
 // Client `a`, keep alive 60, CleanSession 0.
@@ -104,6 +104,65 @@ fn left_at(report: &Report, place: usize) -> Option<(u8, u64)> {
         Some((lane, Item::Tick(now))) => Some((*lane, *now)),
         _ => None,
     }
+}
+
+// Whether a lane sends three items while somebody else has the node, of which two are taken then, and the third
+// is left over.
+fn sends_beside<J: NodeNaming, R: Wait>(
+    rt: &R,
+    alloc: Global,
+    inbox: Inbox<Item>,
+    core: NodeCore,
+) -> Result<bool, Fail>
+    requires inbox { inbox ≡ J.inbox_of 1 }
+    requires first { core ≡ J.first_of 1 }
+{
+    let (receiver, mut lanes) = inbox.named::<J>(1, 1)?;
+    let node = Mutex::new(NodeState::new(receiver, core));
+    let counts = counts_beside(rt, alloc, &node, lanes.as_mut_slice());
+    let state = node.into_inner();
+    let room = Report::with_room(alloc, state.lanes())?;
+    if room.taken.len() != state.lanes() || !state.has_all(lanes.as_slice()) {
+        return Ok(false);
+    }
+    let report = state.close(rt, lanes.as_mut_slice(), room, 0);
+    Ok(counts == Some((0, 2)) && tells_one(&report))
+}
+
+// How many items of a lane were taken once it has sent three, and how many behind two takings. The node's lock is
+// held all the while: were one to wait for it, it would wait for ever.
+fn counts_beside<J: NodeNaming, R: Wait>(
+    rt: &R,
+    alloc: Global,
+    node: &Mutex<NodeState<J>>,
+    lanes: &mut [Lane<Item, J>],
+) -> Option<(u64, u64)> {
+    let mut state = node.lock(rt);
+    let sent = (1..=3).all(|now| ticks(rt, lanes, 0, now));
+    let before = met(&mut state, lanes)?;
+    let mut effects = Vec::new(alloc);
+    let taken = state.take_one(rt, &mut effects) && state.take_one(rt, &mut effects);
+    if sent && taken {
+        Some((before, met(&mut state, lanes)?))
+    } else {
+        None
+    }
+}
+
+// Whether a report tells of two items taken, and of the third left over.
+fn tells_one(report: &Report) -> bool {
+    report.taken.as_slice() == [2].as_slice()
+        && report.left.len() == 1
+        && left_at(report, 0) == Some((0, 3))
+}
+
+#[test]
+fn send_waits_for_no_lock(rt: HostRuntime) -> Result<(), Fail> {
+    let inbox = Inbox::new(rt.alloc())?;
+    let core = sole(rt.alloc())?;
+    let sent = sends_beside::<Brand, HostRuntime>(&rt, rt.alloc(), inbox, core)?;
+    assert!(rt; sent);
+    Ok(())
 }
 
 // Whether of two lanes' items two are taken, and the others left over.
