@@ -8,7 +8,7 @@ use Rattle.node.specs.Lists.{Each, In}
 use Rattle.node.specs.Lists.In.{here, there}
 use Rattle.node.specs.State.{Replays, Seen, TakesOne}
 use Rattle.lists.proofs.OfEach.{each_append}
-use Rattle.server.specs.Letters.{EachOpens, WasGiven}
+use Rattle.post.specs.Letters.{EachOpens, WasGiven}
 
 -- what holds of whatever stands in a list holds of each
 each_in : {X : Type 0} (P : X → Type 0) (xs : List X) → ((x : X) → In x xs → P x) → Each P xs

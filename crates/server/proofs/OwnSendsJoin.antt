@@ -2,7 +2,7 @@
 use Rattle.std.proofs.Common.{◌≡◌, ℕ, List, [], ◌∷◌, ◌++◌, sym, subst}
 use Rattle.node.specs.declared.Item.{Item}
 use Rattle.node.specs.declared.Item.TheVariants.{Tick}
-use Rattle.server.specs.Letters.{IsLetter}
+use Rattle.post.specs.Letters.{IsLeft}
 use Rattle.server.specs.Serving.{SendsOwn}
 use Rattle.server.specs.Serving.SendsOwn.{starts, ticks, hands}
 
@@ -17,9 +17,8 @@ pub own_tick : (node now : ℕ) (before behind : List Item) → behind ≡ befor
 own_tick node now before behind sent =
     subst (λ (items : List Item). SendsOwn node before items) (sym sent) (ticks now starts)
 
--- a letter with the node's number on it was sent
-pub own_letter : (node receiver : ℕ) (item : Item) (before behind : List Item)
-    → receiver ≡ node → ∥ IsLetter receiver item ∥₁ → behind ≡ before ++ item ∷ [] → SendsOwn node before behind
-own_letter node receiver item before behind is letter sent =
-    subst (λ (items : List Item). SendsOwn node before items) (sym sent)
-    (hands item starts (subst (λ (n : ℕ). ∥ IsLetter n item ∥₁) is letter))
+-- what was left for the node was sent
+pub own_letter : (node : ℕ) (item : Item) (before behind : List Item)
+    → IsLeft node item → behind ≡ before ++ item ∷ [] → SendsOwn node before behind
+own_letter node item before behind letter sent =
+    subst (λ (items : List Item). SendsOwn node before items) (sym sent) (hands item starts letter)

@@ -9,7 +9,7 @@ use Rattle.node.specs.Handing.{answer_of, bytes_of, listed_at}
 use Rattle.node.specs.State.{Replays, Seen}
 use Rattle.connection.specs.declared.ending.Ending.{Ending}
 use Rattle.connection.specs.Hearing.{Hears}
-use Rattle.server.specs.Letters.{IsLetter}
+use Rattle.post.specs.Letters.{IsLeft}
 
 -- A lane that had sent these items sent all that is told of one connection, and nothing else. Of a socket no bytes are
 -- known but those that came.
@@ -29,7 +29,7 @@ pub data SendsOwn (node : ℕ) (before : List Item) : List Item → Type 0 where
   starts : SendsOwn node before before
   ticks : {sent : List Item} (now : ℕ) → SendsOwn node before sent → SendsOwn node before (sent ++ Tick now ∷ [])
   hands : {sent : List Item} (item : Item)
-      → SendsOwn node before sent → ∥ IsLetter node item ∥₁
+      → SendsOwn node before sent → IsLeft node item
       → SendsOwn node before (sent ++ item ∷ [])
 
 -- These bytes, with this answer, are what a node hands over for a port that is what its first state became by one step for

@@ -4,18 +4,14 @@
 //! takes what other nodes and the master have for it.
 #![tactic(auto)]
 
-mod bell;
 mod door;
 mod ear;
-mod letter;
 mod link;
 mod listening;
 mod node_report;
 mod outcome;
 mod own_thread;
 mod passage;
-mod peer;
-mod peers;
 mod place;
 mod seat;
 mod serve_error;
@@ -28,6 +24,6 @@ mod writing;
 
 pub use listening::{serve_gated, serve_while};
 pub use node_report::NodeReport;
-pub use peers::{OrderError, Peers};
 pub use place::{CONNECTIONS, Place};
+pub use post::{OrderError, Peers};
 pub use serve_error::ServeError;

@@ -3,15 +3,24 @@
 use connection::Unwritten;
 use node::Port;
 use std::alloc::Global;
+use std::mem;
 use std::net::{Shutdown, TcpStream};
-use std::sync::{Mutex, Wait};
+use std::sync::{Arc, Mutex, Wait};
 
-/// Who writes on a stream: one thread at a time, so that bytes keep their order.
+/// What a thread has to hold to write on a connection's stream. A connection has one, made with it, so one thread at a
+/// time writes, and its bytes keep their order.
 #[derive(Drop)]
-pub(crate) struct Writer {
-    /// Some thread writes, or the stream takes no more for good.
-    busy: bool,
-    /// More may have been put out since that thread looked.
+pub(crate) struct Pen {
+    /// What a full socket did not take yet.
+    pub(crate) rest: Unwritten,
+}
+
+/// Where a connection's pen lies while nobody writes.
+#[derive(Drop)]
+struct PenCase {
+    /// None while a thread writes, and for good once the stream takes no more.
+    pen: Option<Pen>,
+    /// More may have been put out since the thread that writes looked.
     again: bool,
 }
 
@@ -22,9 +31,14 @@ pub(crate) struct Link {
     /// Its place at the door.
     pub(crate) place: usize,
     pub(crate) stream: TcpStream,
-    writer: Mutex<Writer>,
-    /// What a full socket did not take yet.
-    pub(crate) rest: Mutex<Unwritten>,
+    case: Mutex<PenCase>,
+}
+
+/// A connection whose socket was full, and its pen.
+#[derive(Drop)]
+pub(crate) struct Late {
+    pub(crate) link: Arc<Link, Global>,
+    pub(crate) pen: Pen,
 }
 
 impl Link {
@@ -33,32 +47,32 @@ impl Link {
             port,
             place,
             stream,
-            writer: Mutex::new(Writer {
-                busy: false,
+            case: Mutex::new(PenCase {
+                pen: Some(Pen {
+                    rest: Unwritten::new(alloc),
+                }),
                 again: false,
             }),
-            rest: Mutex::new(Unwritten::new(alloc)),
         }
     }
 
-    /// Whether the caller is the one that writes now. Where another thread does, that one goes on.
-    pub(crate) fn begin<R: Wait>(&self, rt: &R) -> bool {
-        let mut writer = self.writer.lock(rt);
-        if writer.busy {
-            writer.again = true;
-            return false;
-        }
-        writer.busy = true;
-        true
+    /// The pen, with which the caller writes. Where another thread has it, that one looks again.
+    pub(crate) fn take_pen<R: Wait>(&self, rt: &R) -> Option<Pen> {
+        let mut case = self.case.lock(rt);
+        let pen = mem::replace(&mut case.pen, None);
+        case.again = pen.is_none();
+        pen
     }
 
-    /// Whether the one that writes has to look again. Where not, it writes no more.
-    pub(crate) fn goes_on<R: Wait>(&self, rt: &R) -> bool {
-        let mut writer = self.writer.lock(rt);
-        let again = writer.again;
-        writer.again = false;
-        writer.busy = again;
-        again
+    /// Lays the pen back. Where more may have been put out meanwhile the caller keeps it, and looks again.
+    pub(crate) fn lay_back<R: Wait>(&self, rt: &R, pen: Pen) -> Option<Pen> {
+        let mut case = self.case.lock(rt);
+        if case.again {
+            case.again = false;
+            return Some(pen);
+        }
+        case.pen = Some(pen);
+        None
     }
 
     /// Ends the stream, which wakes the thread that reads it. Nothing more is written on it.

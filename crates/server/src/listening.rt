@@ -1,12 +1,11 @@
 // The nodes that serve, and the threads of each.
 
 ghost use Rattle.std.specs.Prelude.{◌≡◌};
-ghost use Rattle.server.specs.Letters.{EachOpens};
+ghost use Rattle.post.specs.Letters.{EachOpens};
 
 use crate::node_report::NodeReport;
 use crate::outcome::Outcome;
 use crate::passage::Passage;
-use crate::peers::Peers;
 use crate::place::{CONNECTIONS, Place};
 use crate::seat::Seat;
 use crate::serve_error::ServeError;
@@ -14,7 +13,10 @@ use crate::served::Served;
 use crate::shared::Shared;
 use crate::working::{Desk, LANES, run};
 use mailbox::{Inbox, Lane};
-use node::{Config, Gate, Item, Memory, NoGate, NodeCore, NodeNaming, NodeState, Report};
+use node::{
+    Config, Gate, Item, Memory, NoGate, NodeCore, NodeNaming, NodeState, OpeningError, Report,
+};
+use post::Peers;
 use std::alloc::Global;
 use std::marker::{Brand, PhantomData};
 use std::net::{Net, TcpStream};
@@ -65,7 +67,7 @@ where
     F: FnOnce(&Peers) -> T,
     requires { F.IsAlwaysCallable attend }
 {
-    let peers = Peers::new(alloc, places, config)?;
+    let peers = open_post(alloc, places, config)?;
     let Ok(start) = Instant::now(rt) else {
         return Err(ServeError::Clock);
     };
@@ -101,6 +103,12 @@ where
         },
     );
     Ok((answer, outcome.into_inner().into_reports()?))
+}
+
+// What the nodes of these places will have for one another, and their master.
+fn open_post(alloc: Global, places: &[Place], config: &Config) -> Result<Peers, OpeningError> {
+    let numbers: Vec<u8> = places.iter().map(|place| place.number).collect(alloc)?;
+    Peers::new(alloc, numbers.as_slice(), config)
 }
 
 // Keeps what became of a node.

@@ -1,9 +1,10 @@
 // The node's own thread: it takes what other nodes have for it, tells the time, and writes what full
 // sockets did not take.
 
+ghost use Rattle.post.specs.Letters.{IsLeft};
 ghost use Rattle.server.specs.Serving.{SendsOwn};
 
-use crate::letter::Letter;
+use crate::link::Late;
 use crate::served::Served;
 use crate::shared::Shared;
 use mailbox::Lane;
@@ -56,42 +57,40 @@ impl<'a, J: NodeNaming, S: Served<J>, G: Gate> Shared<'a, J, S, G> {
     fn take_letters<R: Wait + Clock>(&self, rt: &R, lane: &mut Lane<Item, J>)
         ensures { SendsOwn self.now.seat.node.now.number lane.old.sent lane.new.sent }
     {
-        let letters = self.seat.node.take_waiting(rt, self.alloc);
-        if letters.is_empty() {
+        let items = self.seat.node.take_waiting(rt, self.alloc);
+        if items.is_empty() {
             return;
         }
-        for letter in letters {
-            self.put_letter(rt, lane, letter);
+        for item in items {
+            self.put_letter(rt, lane, item);
         }
         self.turn(rt);
     }
 
-    // Sends a letter for the node by its lane. One for another node, which does not come here, is lost.
-    fn put_letter<R: Wait + Clock>(&self, rt: &R, lane: &mut Lane<Item, J>, letter: Letter)
+    // Sends what was left for the node by its lane.
+    fn put_letter<R: Wait + Clock>(&self, rt: &R, lane: &mut Lane<Item, J>, item: Item)
+        requires { IsLeft self.now.seat.node.now.number item }
         ensures { SendsOwn self.now.seat.node.now.number lane.old.sent lane.new.sent }
     {
-        if letter.receiver == self.seat.node.number {
-            self.put(rt, lane, letter.item);
-        }
+        self.put(rt, lane, item);
     }
 
     // Sleeps until something comes, or it is time for a tick.
     fn rest<R: Wait>(&self, rt: &R) {
-        self.seat.node.bell.doze(rt);
-        if !self.seat.node.has_waiting(rt) && self.late.lock(rt).is_empty() {
-            let time = Duration::from_millis(TICK);
-            self.seat.node.bell.sleep(rt, time);
+        let waits = self.seat.node.doze(rt);
+        if !waits && self.late.lock(rt).is_empty() {
+            self.seat.node.sleep(rt, Duration::from_millis(TICK));
         }
     }
 
     // Goes over the connections whose sockets were full: whether there are still some.
     fn write_late<R: Wait>(&self, rt: &R) -> bool {
-        let links = mem::replace(&mut *self.late.lock(rt), Vec::new(self.alloc));
+        let left = mem::replace(&mut *self.late.lock(rt), Vec::new(self.alloc));
         let mut late = false;
-        for link in links {
-            if self.is_late(rt, &link) {
+        for Late { link, pen } in left {
+            if let Some(pen) = self.write(rt, &link, pen) {
                 late = true;
-                self.leave_late(rt, &link);
+                self.leave_late(rt, &link, pen);
             }
         }
         late

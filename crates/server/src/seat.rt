@@ -1,8 +1,7 @@
 // A place with its node among the others.
 
-use crate::peer::Peer;
-use crate::peers::Peers;
 use crate::place::Place;
+use post::{Peer, Peers};
 use std::time::{Clock, Instant};
 
 /// A place with its node among the others.

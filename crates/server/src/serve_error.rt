@@ -1,6 +1,5 @@
 // Why nodes are not served.
 
-use master::AssignError;
 use node::{Memory, OpeningError};
 use std::error::Error;
 use std::fmt;
@@ -41,12 +40,5 @@ impl From<OpeningError> for ServeError {
             OpeningError::BadMembers => ServeError::BadMembers,
             OpeningError::Memory => ServeError::Memory,
         }
-    }
-}
-
-impl From<AssignError> for ServeError {
-    // A new master gives no ballot but the first.
-    fn from(_error: AssignError) -> ServeError {
-        ServeError::BadMembers
     }
 }

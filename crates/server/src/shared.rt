@@ -2,9 +2,9 @@
 
 ghost use Rattle.std.specs.Prelude.{length};
 ghost use Rattle.node.specs.Report.{HasRoom};
-ghost use Rattle.server.specs.Letters.{EachOpens};
+ghost use Rattle.post.specs.Letters.{EachOpens};
 
-use crate::link::Link;
+use crate::link::Late;
 use crate::passage::Passage;
 use crate::seat::Seat;
 use crate::served::Served;
@@ -12,7 +12,7 @@ use mailbox::Lane;
 use node::{Gate, Item, Memory, NodeNaming, NodeState, Port, Report};
 use std::alloc::Global;
 use std::marker::PhantomData;
-use std::sync::{Arc, Mutex, Wait};
+use std::sync::{Mutex, Wait};
 
 /// What the threads of a node share. No thread holds one of the locks while it waits.
 #[derive(Drop)]
@@ -22,7 +22,7 @@ pub(crate) struct Shared<'a, J: NodeNaming, S: Served<J>, G: Gate> {
     pub(crate) seat: Seat<'a>,
     pub(crate) passage: Passage<'a, G>,
     /// The connections whose sockets were full.
-    pub(crate) late: Mutex<Vec<Arc<Link, Global>>>,
+    pub(crate) late: Mutex<Vec<Late>>,
     /// The port of the next connection. None comes twice.
     pub(crate) next_port: Mutex<u64>,
     pub(crate) naming: PhantomData<J>,

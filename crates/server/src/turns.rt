@@ -2,7 +2,7 @@
 
 ghost use Rattle.std.specs.Prelude.{◌≡◌, ◌++◌, ◌∷◌, []};
 ghost use Rattle.node.specs.Lists.{Each};
-ghost use Rattle.server.specs.Letters.{EachOpens, WasGiven};
+ghost use Rattle.post.specs.Letters.{EachOpens, WasGiven};
 
 use crate::place::CONNECTIONS;
 use crate::served::Served;

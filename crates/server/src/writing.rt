@@ -1,6 +1,6 @@
 // What the node put out for a connection, onto its stream.
 
-use crate::link::Link;
+use crate::link::{Late, Link, Pen};
 use crate::served::Served;
 use crate::shared::Shared;
 use connection::{Flow, Outlet, Unwritten, write_out};
@@ -31,26 +31,29 @@ impl<'a, J: NodeNaming, S: Served<J>, G: Gate> Shared<'a, J, S, G> {
     /// Writes what the node put out for a connection, unless another thread writes there: that one is told
     /// to look again. What a full socket does not take is left to the node's own thread.
     pub(crate) fn flush<R: Wait>(&self, rt: &R, link: &Arc<Link, Global>) {
-        if link.begin(rt) && self.is_late(rt, link) {
-            self.leave_late(rt, link);
+        let Some(pen) = link.take_pen(rt) else {
+            return;
+        };
+        if let Some(pen) = self.write(rt, link, pen) {
+            self.leave_late(rt, link, pen);
         }
     }
 
-    /// Writes what a full socket left and what was put out, as the one that writes, until nothing more was:
-    /// whether the socket is full.
-    pub(crate) fn is_late<R: Wait>(&self, rt: &R, link: &Arc<Link, Global>) -> bool {
+    /// Writes what a full socket left and what was put out, until nothing more was, and lays the pen back: the pen,
+    /// where the socket is full. A stream that takes no more is ended, and its pen is gone with it.
+    pub(crate) fn write<R: Wait>(&self, rt: &R, link: &Arc<Link, Global>, pen: Pen) -> Option<Pen> {
         let mut out = Vec::new(self.alloc);
+        let mut pen = pen;
         for _ in rt.forever() {
-            match self.write_once(rt, link, &mut out) {
-                Flow::Open if link.goes_on(rt) => {}
-                Flow::Open => return false,
+            match self.write_once(rt, link, &mut pen, &mut out) {
+                Flow::Open => pen = link.lay_back(rt, pen)?,
                 Flow::Late(left) => {
-                    *link.rest.lock(rt) = left;
-                    return true;
+                    pen.rest = left;
+                    return Some(pen);
                 }
                 Flow::Closed | Flow::Failed => {
                     link.shut();
-                    return false;
+                    return None;
                 }
             }
         }
@@ -59,8 +62,14 @@ impl<'a, J: NodeNaming, S: Served<J>, G: Gate> Shared<'a, J, S, G> {
 
     // Writes what a full socket left, and then what the node puts out, as far as the socket takes it within
     // its time.
-    fn write_once<R: Wait>(&self, rt: &R, link: &Arc<Link, Global>, out: &mut Vec<u8>) -> Flow {
-        let left = mem::replace(&mut *link.rest.lock(rt), Unwritten::new(self.alloc));
+    fn write_once<R: Wait>(
+        &self,
+        rt: &R,
+        link: &Arc<Link, Global>,
+        pen: &mut Pen,
+        out: &mut Vec<u8>,
+    ) -> Flow {
+        let left = mem::replace(&mut pen.rest, Unwritten::new(self.alloc));
         let mut tap = Tap {
             shared: self,
             port: link.port,
@@ -70,13 +79,13 @@ impl<'a, J: NodeNaming, S: Served<J>, G: Gate> Shared<'a, J, S, G> {
     }
 
     /// Leaves a connection to the node's own thread.
-    pub(crate) fn leave_late<R: Wait>(&self, rt: &R, link: &Arc<Link, Global>) {
+    pub(crate) fn leave_late<R: Wait>(&self, rt: &R, link: &Arc<Link, Global>, pen: Pen) {
         let kept = match Arc::try_clone(link) {
-            Ok(other) => self.late.lock(rt).push(other).is_ok(),
+            Ok(link) => self.late.lock(rt).push(Late { link, pen }).is_ok(),
             Err(_) => false,
         };
         if kept {
-            self.seat.node.bell.ring(rt);
+            self.seat.node.wake(rt);
         } else {
             link.shut();
         }

@@ -1,5 +1,5 @@
 use Rattle.node.specs.Lists.{Each}
-use Rattle.server.specs.Letters.{WasGiven}
+use Rattle.post.specs.Letters.{WasGiven}
 use Rattle.server.proofs.turns.take_up_to.Given as goal
 
 abbrev pub invariant-loop : goal.invariant-loop

@@ -1,3 +1,4 @@
+use Rattle.std.proofs.Common.{rules}
 use Rattle.server.specs.Serving.SendsOwn.{starts}
 use Rattle.server.proofs.OwnSendsJoin.{own_join}
 use Rattle.server.proofs.shared.Shared.take_letters.Goals as goal
@@ -5,8 +6,11 @@ use Rattle.server.proofs.shared.Shared.take_letters.Goals as goal
 pub returns-then-is_empty : goal.returns-then-is_empty
 returns-then-is_empty g c = starts
 
-pub loop-letter-init : goal.loop-letter-init
-loop-letter-init g c = starts
+pub loop-item-init : goal.loop-item-init
+loop-item-init g c = record { left = search rules; own = starts }
 
-pub loop-letter-preserved : goal.loop-letter-preserved
-loop-letter-preserved g c = own_join _ _ _ _ c.loop-letter.invariant c.put_letter.ensures
+pub loop-item-preserved : goal.loop-item-preserved
+loop-item-preserved g c = record {
+  left = search rules;
+  own = own_join _ _ _ _ c.loop-item.invariant.own c.put_letter.ensures;
+}

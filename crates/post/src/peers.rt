@@ -1,19 +1,18 @@
-// The nodes of a server, and the master beside them.
+// The nodes of a program, and the master beside them.
 
 ghost use Rattle.std.specs.Prelude.{◌≡◌, IfSome};
 ghost use Rattle.node.specs.Lists.{Each};
-ghost use Rattle.server.specs.Letters.{IsLetter, WasGiven};
+ghost use Rattle.post.specs.Letters.{IsLeft, WasGiven};
 
+use crate::carrier::{Carrier, carry_all};
+use crate::order_error::OrderError;
 use crate::peer::Peer;
-use crate::place::Place;
-use crate::serve_error::ServeError;
 use master::{Activation, AssignError, Master};
-use node::{Body, Command, Config, Effect, Item, Members, Memory, Message, Output, Status};
+use node::{Body, Command, Config, Effect, Item, Members, Message, OpeningError, Output, Status};
 use std::alloc::Global;
-use std::error::Error;
 use std::sync::{Mutex, Wait};
+use std::thread;
 use std::time::{Clock, Duration};
-use std::{fmt, thread};
 
 /// The number by which nodes name the master.
 const MASTER: u8 = 0;
@@ -32,49 +31,20 @@ pub struct Peers {
     alloc: Global,
 }
 
-/// Why an order was not done.
-#[derive(Clone, Copy, Debug, PartialEq, Eq)]
-pub enum OrderError {
-    /// The master refuses the configuration.
-    Refused(AssignError),
-    /// A growth was refused. Nothing was changed.
-    Memory,
-}
-
-impl fmt::Display for OrderError {
-    fn fmt<W: fmt::Write>(&self, f: &mut fmt::Formatter<W>) -> fmt::Result {
-        match self {
-            OrderError::Refused(error) => error.fmt(f),
-            OrderError::Memory => Memory.fmt(f),
-        }
-    }
-}
-
-impl Error for OrderError {}
-
-impl From<Memory> for OrderError {
-    fn from(_error: Memory) -> OrderError {
-        OrderError::Memory
-    }
-}
-
 impl Peers {
-    /// The nodes of these places, and a master whose ballot 1 has this configuration.
-    pub(crate) fn new(
-        alloc: Global,
-        places: &[Place],
-        config: &Config,
-    ) -> Result<Peers, ServeError> {
-        let mut nodes = Vec::new(alloc);
-        for place in places {
-            if nodes.push(Peer::new(alloc, place.number)).is_err() {
-                return Err(ServeError::Memory);
-            }
+    /// The nodes of these numbers, and a master whose ballot 1 has this configuration. `BadMembers` comes where no
+    /// ballot may have it.
+    pub fn new(alloc: Global, numbers: &[u8], config: &Config) -> Result<Peers, OpeningError> {
+        let mut nodes = Vec::with_capacity(alloc, numbers.len())?;
+        for number in numbers {
+            nodes.push(Peer::new(alloc, *number))?;
         }
-        let master = Master::new(Config {
+        let Ok(master) = Master::new(Config {
             members: Members::from_slice(alloc, config.members.as_slice())?,
             primary: config.primary,
-        })?;
+        }) else {
+            return Err(OpeningError::BadMembers);
+        };
         Ok(Peers {
             nodes,
             master: Mutex::new(master),
@@ -136,37 +106,22 @@ impl Peers {
     }
 
     /// The node of a number.
-    pub(crate) fn node(&self, number: u8) -> Option<&Peer>
+    pub fn node(&self, number: u8) -> Option<&Peer>
         ensures { IfSome result (λ node. node.now.number ≡ number) }
     {
         self.nodes.iter().find(|node| node.number == number)
     }
 
-    /// Hands on what a node has for others, in its order. What goes to nobody is lost.
-    pub(crate) fn hand_on<R: Wait>(&self, rt: &R, effects: Vec<Effect<Command, Output>>)
+    /// Hands on what steps of a node gave for others, in its order. What goes to nobody is lost.
+    pub fn hand_on<R: Wait>(&self, rt: &R, effects: Vec<Effect<Command, Output>>)
         requires { Each WasGiven effects.items }
     {
-        for effect in effects {
-            self.carry(rt, effect);
-        }
-    }
-
-    fn carry<R: Wait>(&self, rt: &R, effect: Effect<Command, Output>)
-        requires { WasGiven effect }
-    {
-        let Effect::To(number, message) = effect else {
-            return;
-        };
-        if number == MASTER {
-            self.ask_master(rt, message);
-        } else {
-            self.leave(rt, number, message);
-        }
+        carry_all(rt, &mut Round { peers: self }, effects);
     }
 
     // Leaves a message for a node.
     fn leave<R: Wait>(&self, rt: &R, number: u8, message: Message<Command>)
-        requires { IsLetter number (Item.Peer message) }
+        requires { IsLeft number (Item.Peer message) }
     {
         if let Some(node) = self.node(number) {
             node.leave(rt, Item::Peer(message));
@@ -187,5 +142,25 @@ impl Peers {
 
     fn tell_as_master<R: Wait>(&self, rt: &R, number: u8, body: Body<Command>) {
         self.leave(rt, number, Message { from: MASTER, body });
+    }
+}
+
+/// The nodes and the master, as those to whom messages are carried.
+#[derive(Drop)]
+struct Round<'a> {
+    peers: &'a Peers,
+}
+
+impl<'a> Carrier for Round<'a> {
+    // Of what stands behind a lock no clause tells.
+    ghost carries = { λ _ _ _ _. Unit {0} };
+
+    fn carry<R: Wait>(&mut self, rt: &R, receiver: u8, message: Message<Command>) {
+        let peers = self.peers;
+        if receiver == MASTER {
+            peers.ask_master(rt, message);
+        } else {
+            peers.leave(rt, receiver, message);
+        }
     }
 }

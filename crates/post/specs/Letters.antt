@@ -43,3 +43,7 @@ pub data IsLetter (receiver : ℕ) : Item → Type 0 where
   of_node : (message : Message Command) → WasGiven (To receiver message) → IsLetter receiver (Peer message)
   of_master : (message : Message Command) → message.from ≡ 0 → IsLetter receiver (Peer message)
   order : IsLetter receiver Crash
+
+-- there is such a reason: an item that is left says no more, whoever left it
+abbrev pub IsLeft : ℕ → Item → Type 0
+IsLeft receiver item = ∥ IsLetter receiver item ∥₁

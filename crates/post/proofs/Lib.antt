@@ -1,0 +1,2 @@
+mod CarriesJoin
+mod TrayKept

@@ -1,0 +1,4 @@
+pub mod Carrying
+pub mod Letters
+pub mod Waiting
+pub mod Waking

@@ -1,0 +1,50 @@
+// What steps of a node gave for others, carried message by message in its order.
+
+ghost use Rattle.std.specs.Prelude.{[], ◌∷◌};
+ghost use Rattle.node.specs.Effect.TheVariants.{To};
+ghost use Rattle.node.specs.Lists.{Each};
+ghost use Rattle.post.specs.Carrying.{CarriesAll, letters_of};
+ghost use Rattle.post.specs.Letters.{WasGiven};
+
+use node::{Command, Effect, Message, Output};
+use std::sync::Wait;
+
+/// Who carries messages to the nodes, or to the master, that they are for.
+pub trait Carrier {
+    ghost use Rattle.std.specs.Prelude.{ℕ};
+    ghost use Rattle.node.specs.Command.{Command};
+    ghost use Rattle.node.specs.Message.{Message};
+
+    // Before a call, whom the message is for, the message, and behind it.
+    ghost carries: { Self → ℕ → Message Command → Self → Type 0 };
+
+    /// Carries a message that a step of a node gave to the node of this number; 0 is the master.
+    fn carry<R: Wait>(&mut self, rt: &R, receiver: u8, message: Message<Command>)
+        requires { WasGiven (To receiver message) }
+        ensures { carries self.old receiver message self.new };
+}
+
+/// Carries all that steps of a node gave for others, in its order, each message once. Outputs are for no other node.
+pub fn carry_all<C: Carrier, R: Wait>(
+    rt: &R,
+    carrier: &mut C,
+    effects: Vec<Effect<Command, Output>>,
+)
+    requires { Each WasGiven effects.items }
+    ensures { CarriesAll C.carries carrier.old (letters_of effects.items) carrier.new }
+{
+    for effect in effects {
+        carry_one(rt, carrier, effect);
+    }
+}
+
+// Carries what one effect has for another node.
+fn carry_one<C: Carrier, R: Wait>(rt: &R, carrier: &mut C, effect: Effect<Command, Output>)
+    requires { WasGiven effect }
+    ensures { CarriesAll C.carries carrier.old (letters_of (effect ∷ [])) carrier.new }
+{
+    match effect {
+        Effect::To(receiver, message) => carrier.carry(rt, receiver, message),
+        Effect::Out(_, _) => {}
+    }
+}

@@ -1,0 +1,16 @@
+//! What the nodes of one program and their master have for one another: messages that steps of nodes gave, messages of
+//! the master, and orders. Each node has a tray where they wait for it, and a bell that wakes the thread that takes them.
+#![tactic(auto)]
+
+mod bell;
+mod carrier;
+mod order_error;
+mod peer;
+mod peers;
+mod tray;
+mod waking;
+
+pub use carrier::{Carrier, carry_all};
+pub use order_error::OrderError;
+pub use peer::Peer;
+pub use peers::Peers;

@@ -1,0 +1,32 @@
+// Why an order was not done.
+
+use master::AssignError;
+use node::Memory;
+use std::error::Error;
+use std::fmt;
+
+/// Why an order was not done.
+#[derive(Clone, Copy, Debug, PartialEq, Eq)]
+pub enum OrderError {
+    /// The master refuses the configuration.
+    Refused(AssignError),
+    /// A growth was refused. Nothing was changed.
+    Memory,
+}
+
+impl fmt::Display for OrderError {
+    fn fmt<W: fmt::Write>(&self, f: &mut fmt::Formatter<W>) -> fmt::Result {
+        match self {
+            OrderError::Refused(error) => error.fmt(f),
+            OrderError::Memory => Memory.fmt(f),
+        }
+    }
+}
+
+impl Error for OrderError {}
+
+impl From<Memory> for OrderError {
+    fn from(_error: Memory) -> OrderError {
+        OrderError::Memory
+    }
+}

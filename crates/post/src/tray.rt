@@ -1,0 +1,75 @@
+// What waits for a node.
+
+ghost use Rattle.std.specs.Prelude.{◌≡◌, ◌↔◌, ◌++◌, ◌∷◌, [], true, false};
+ghost use Rattle.node.specs.Lists.{Each};
+ghost use Rattle.post.specs.Letters.{IsLeft};
+
+use node::Item;
+use std::alloc::Global;
+use std::marker::Model;
+use std::mem;
+
+/// What the other nodes and the master have for a node, in the order of leaving. It stands behind a lock, so its type
+/// says where each item is from.
+#[derive(Drop)]
+pub(crate) struct Tray {
+    number: u8,
+    items: Vec<Item>,
+}
+
+impl Model for Tray {
+    ghost use Rattle.node.specs.Lists.{Each};
+    ghost use Rattle.post.specs.Letters.{IsLeft};
+    ghost use Rattle.post.specs.Waiting.{Waiting};
+
+    ghost Value = { Waiting };
+
+    ghost view = { λ tray. record { number = tray.number; items = tray.items.items } };
+
+    ghost invariant = { λ tray. Each (IsLeft tray.number) tray.items.items };
+}
+
+impl Tray {
+    /// The tray of the node of this number, empty.
+    pub(crate) fn new(alloc: Global, number: u8) -> Tray
+        ensures { result ≡ record { number = number; items = [] } }
+    {
+        Tray {
+            number,
+            items: Vec::new(alloc),
+        }
+    }
+
+    /// The number of the node that it is for.
+    pub(crate) fn number(&self) -> u8
+        ensures { result ≡ self.now.number }
+    {
+        self.number
+    }
+
+    /// Whether nothing waits.
+    pub(crate) fn is_empty(&self) -> bool
+        ensures { (result ≡ true) ↔ (self.now.items ≡ []) }
+    {
+        self.items.is_empty()
+    }
+
+    /// Leaves an item behind all that waits: whether there was memory for it. Where not, it is lost.
+    pub(crate) fn leave(&mut self, item: Item) -> bool
+        requires { IsLeft self.old.number item }
+        ensures left { result ≡ true →
+            self.new ≡ record self.old { items = self.old.items ++ item ∷ [] } }
+        ensures lost { result ≡ false → self.new ≡ self.old }
+    {
+        self.items.push(item).is_ok()
+    }
+
+    /// Takes all that waits, in its order.
+    pub(crate) fn take(&mut self, alloc: Global) -> Vec<Item>
+        ensures all { result.items ≡ self.old.items }
+        ensures left { Each (IsLeft self.old.number) result.items }
+        ensures empty { self.new ≡ record self.old { items = [] } }
+    {
+        mem::replace(&mut self.items, Vec::new(alloc))
+    }
+}

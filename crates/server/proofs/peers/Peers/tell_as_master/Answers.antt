@@ -1,6 +1,0 @@
-use Rattle.std.proofs.Common.{refl}
-use Rattle.server.specs.Letters.IsLetter.{of_master}
-use Rattle.server.proofs.peers.Peers.tell_as_master.Goals as goal
-
-pub leave-requires : goal.leave-requires
-leave-requires g c = of_master _ refl
