@@ -1,0 +1,32 @@
+// Clients that come one after the other.
+
+use crate::client::join;
+use crate::host::Host;
+use crate::nodes::beside;
+use anyhow::Result;
+use std::net::SocketAddr;
+use std::time::Instant;
+
+/// How many clients come.
+const CLIENTS: u8 = 200;
+
+/// Prints how long a client of one node takes from opening its stream to its CONNACK.
+pub fn run<R: Host>(rt: &R) -> Result<()> {
+    let times = beside(rt, &[1], |address| connect_all(rt, address))??;
+    let median = times.get(times.len() / 2).copied().unwrap_or(0);
+    let longest = times.last().copied().unwrap_or(0);
+    println!(rt; "{CLIENTS} clients: median {median} us, longest {longest} us")?;
+    Ok(())
+}
+
+// The times of all clients in microseconds, the shortest first.
+fn connect_all<R: Host>(rt: &R, address: SocketAddr) -> Result<Vec<u128>> {
+    let mut times = Vec::new(rt.alloc());
+    for client in 0..CLIENTS {
+        let start = Instant::now(rt)?;
+        let _stream = join(rt, address, 0x41 + client % 26)?;
+        times.push(start.elapsed(rt)?.as_micros())?;
+    }
+    times.sort_unstable();
+    Ok(times)
+}

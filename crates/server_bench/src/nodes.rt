@@ -1,0 +1,50 @@
+// Nodes on free ports of the loopback, and what is done beside them.
+
+use crate::host::Host;
+use anyhow::{Result, bail};
+use node::{Config, Members};
+use server::{Place, serve_while};
+use std::net::{SocketAddr, TcpListener};
+
+/// What is done beside these nodes, all members of ballot 1, by the address of node 1, which is the primary.
+pub fn beside<R, T, F>(rt: &R, members: &[u8], attend: F) -> Result<T>
+where
+    R: Host,
+    T: Drop,
+    F: FnOnce(SocketAddr) -> T,
+    requires { F.IsAlwaysCallable attend }
+{
+    let config = Config {
+        members: Members::from_slice(rt.alloc(), members)?,
+        primary: 1,
+    };
+    let places = places(rt, members)?;
+    let address = first_address(places.as_slice())?;
+    let came = serve_while(
+        rt,
+        rt.alloc(),
+        places.as_slice(),
+        &config,
+        |_peers|
+            requires callable { F.IsAlwaysCallable attend }
+        { attend(address) },
+    )?;
+    Ok(came)
+}
+
+// The places of these nodes, each on a free port.
+fn places<R: Host>(rt: &R, numbers: &[u8]) -> Result<Vec<Place>> {
+    let mut places = Vec::new(rt.alloc());
+    for number in numbers {
+        let listener = TcpListener::bind(rt, "127.0.0.1:0")?;
+        places.push(Place::new(rt.alloc(), *number, listener)?)?;
+    }
+    Ok(places)
+}
+
+fn first_address(places: &[Place]) -> Result<SocketAddr> {
+    match places.first() {
+        Some(place) => Ok(place.address()?),
+        None => bail!("there is no node"),
+    }
+}
