@@ -12,7 +12,9 @@ mod OpensReached
 mod HousedOn
 mod PutsDown
 mod StandsThere
+mod OpenEnds
 mod Gathered
+mod Walked
 mod Handed
 mod HousedOpened
 mod Offered

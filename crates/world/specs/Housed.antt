@@ -1,5 +1,5 @@
 -- What holds of every `World`, by its fields.
-use Rattle.std.specs.Prelude.{◌≡◌, ◌≤◌, ℕ, suc, List, Some, length, map, slice_get}
+use Rattle.std.specs.Prelude.{◌≡◌, ◌≤◌, ℕ, suc, List, [], ◌∷◌, Some, if◌then◌else◌, length, map, slice_get}
 use Rattle.world_base.specs.declared.item.Port.{Port}
 use Rattle.world_pipes.specs.declared.way.Way.{Way}
 use Rattle.world.specs.declared.place.Place.{Place}
@@ -27,3 +27,11 @@ pub record AreHoused (all : List (List (ℕ × Port))) (connections : List Place
   -- no port beyond the number of connections was used
   pub used : (i at node : ℕ) (port : Port) (ways : List (ℕ × Port)) → slice_get all i ≡ Some ways → slice_get ways at ≡ Some (node, port)
       → port.0 ≤ length connections
+
+-- ---- whose end is open
+
+-- the numbers of those of these connections whose end at their node is open, rising; the first of them has this number
+abbrev pub open_from : ℕ → List Place → List ℕ
+open_from number [] = []
+open_from number (place ∷ places) =
+    if place.is_open then number ∷ open_from (suc number) places else open_from (suc number) places

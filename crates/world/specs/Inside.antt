@@ -23,10 +23,11 @@ use Rattle.world_pipes.specs.Piped.{Calls, Connects as Opens, Piped, is_holding}
 use Rattle.world.specs.declared.place.Place.{Place}
 use Rattle.world.specs.declared.event.Event.{Event}
 use Rattle.world.specs.declared.world.WorldClient.{WorldClient}
-use Rattle.world.specs.Found.{port_of, with_down, with_less, with_piped}
-use Rattle.world.specs.Gathering.{Gathers, Gives, is_told_open, put_out}
+use Rattle.world.specs.Found.{place_numbered, port_of, with_down, with_less, with_piped}
+use Rattle.world.specs.Gathering.{AskedWhere, Gathers, Gives, is_open_at, is_told_open, put_out}
 use Rattle.world.specs.Goes.{LosesNothing, NodesGoOn}
 use Rattle.world.specs.Happening.{CannotHappen, Does, HearsThem, IsNoPart, next_number}
+use Rattle.world.specs.Housed.{open_from}
 use Rattle.world.specs.Standing.{WorldGoes}
 use Rattle.world.specs.World.{WorldState}
 
@@ -84,6 +85,17 @@ pub record HandsOn (number : ℕ) (place : Place) (old : WorldState) (is_open : 
 -- its end counts as open, or as closed
 abbrev pub marked : ℕ → Place → Bool → WorldState → WorldState
 marked number place is_open w = record w { connections = set w.connections (number - 1) (record place { is_open = is_open }) }
+
+-- ---- a walk over the connections whose end is open
+
+-- the one at this place among them was asked, where it leads to the node, and those that were opened before it stand as they did
+pub record AsksAt (node at : ℕ) (old new : WorldState) : Type 0 where
+  pub number : ℕ
+  pub stands : slice_get (open_from 1 old.connections) at ≡ Some number
+  pub asks : NodesLoseNothing old.nodes new.nodes →
+      AskedWhere (is_open_at node (place_numbered number old.connections)) number old new
+  pub others : take (number - 1) new.connections ≡ take (number - 1) old.connections
+  pub many : length new.connections ≡ length old.connections
 
 -- ---- bytes come to a node
 

@@ -71,6 +71,9 @@ impl World {
         if self.connections.reserve(1).is_err() {
             return false;
         }
+        if self.open_ends.reserve(1).is_err() {
+            return false;
+        }
         let number = (self.connections.len() as u64).saturating_add(1);
         let piped = &mut self.clients[client].piped;
         let at = piped.len();
@@ -83,6 +86,7 @@ impl World {
             node,
             is_open: true,
         });
+        self.open_ends.push_reserved(number);
         true
     }
 

@@ -1,14 +1,13 @@
 // What a node put out goes on its way.
 
-ghost use Rattle.std.specs.Prelude.{◌≡◌, ◌<◌, ◌-◌, true, Some, length, slice_get};
+ghost use Rattle.std.specs.Prelude.{◌≡◌, ◌<◌, ◌-◌, true, false, Some, length, slice_get};
 ghost use Rattle.world_nodes.specs.Nodes.{NodesState};
 ghost use Rattle.world_nodes.specs.Goes.{node_of};
 ghost use Rattle.world_nodes.specs.Steps.{LosesNothing};
-ghost use Rattle.world.specs.Found.{place_numbered};
-ghost use Rattle.world.specs.Gathering.{AskedWhere, Gathers, GathersAmong, IsAsked, is_open_at, is_told_open};
+ghost use Rattle.world.specs.Gathering.{Gathers, GathersAmong, is_told_open};
 ghost use Rattle.world.specs.Goes.{NodesGoOn};
-ghost use Rattle.world.specs.Housed.{leads};
-ghost use Rattle.world.specs.Inside.{GoesOn, HandsDown, HandsOn, MayHandDown, MayPutDown, PutsDown, marked};
+ghost use Rattle.world.specs.Housed.{leads, open_from};
+ghost use Rattle.world.specs.Inside.{AsksAt, GoesOn, HandsDown, HandsOn, MayHandDown, MayPutDown, PutsDown, marked};
 
 use crate::place::Place;
 use crate::world::World;
@@ -25,60 +24,67 @@ impl World {
             Gathers node self.old self.new }
     {
         if node != 0 {
-            let count = self.connections.len() as u64;
-            self.gather_among(node, count);
+            self.gather_open(node);
         }
     }
 
-    // The same on the first so many connections, from the newest of these to the oldest.
-    fn gather_among(&mut self, node: u8, count: u64)
+    // The same on the connections whose end is open, whichever node that is at, from the newest to the oldest.
+    fn gather_open(&mut self, node: u8)
         ensures goes { GoesOn self.old self.new }
         ensures gathers { LosesNothing self.old.nodes self.new.nodes →
-            GathersAmong count node self.old self.new }
+            GathersAmong (length self.old.connections) node self.old self.new }
     {
-        let mut number = count;
-        while number > 0 {
-            self.ask_at(node, number);
-            number -= 1;
+        let mut at = self.open_len();
+        while at > 0 {
+            at -= 1;
+            self.ask_at(node, at);
         }
     }
 
-    // The same on one connection, where it leads to the node and its end there is open.
-    fn ask_at(&mut self, node: u8, number: u64)
+    // The same on the one at this place among those whose end is open, where it leads to the node.
+    fn ask_at(&mut self, node: u8, at: usize)
+        requires { at < length (open_from 1 self.old.connections) }
         ensures goes { GoesOn self.old self.new }
-        ensures asks { LosesNothing self.old.nodes self.new.nodes →
-            AskedWhere (is_open_at node (place_numbered number self.old.connections)) number
-            self.old self.new }
+        ensures asks { AsksAt node at self.old self.new }
     {
-        let Some(place) = self.place(number) else {
+        let (number, place) = self.open_at(at);
+        if place.node != node {
             return;
-        };
-        if place.node == node && place.is_open {
-            self.ask(place, number);
+        }
+        if !self.hand_on(place, number) {
+            self.close(at, place, number);
         }
     }
 
-    // What the node of a connection put out for it goes on its way down. Whether its end at the node is open is marked.
-    fn ask(&mut self, place: Place, number: u64)
-        requires stands { slice_get self.old.connections (number - 1) ≡ Some place }
-        requires positive { 0 < number }
-        ensures goes { GoesOn self.old self.new }
-        ensures asks { LosesNothing self.old.nodes self.new.nodes →
-            IsAsked number self.old self.new }
+    // How many connections have an open end at their node.
+    fn open_len(&self) -> usize
+        ensures { result ≡ length (open_from 1 self.now.connections) }
     {
-        let is_open = self.hand_on(place, number);
-        self.mark(place, number, is_open);
+        self.open_ends.len()
     }
 
-    // The end of a connection at its node is open, or closed.
-    fn mark(&mut self, place: Place, number: u64, is_open: bool)
-        requires stands { slice_get self.old.connections (number - 1) ≡ Some place }
-        requires positive { 0 < number }
-        ensures { self.new ≡ marked number place is_open self.old }
+    // The connection at this place among those whose end is open: its number, and where it stands.
+    fn open_at(&self, at: usize) -> (u64, Place)
+        requires { at < length (open_from 1 self.now.connections) }
+        ensures number { slice_get (open_from 1 self.now.connections) at ≡ Some result.0 }
+        ensures positive { 0 < result.0 }
+        ensures place { slice_get self.now.connections (result.0 - 1) ≡ Some result.1 }
+        ensures up { result.1.is_open ≡ true }
     {
-        let mut marked = place;
-        marked.is_open = is_open;
-        self.connections[number as usize - 1] = marked;
+        let number = self.open_ends[at];
+        (number, self.connections[number as usize - 1])
+    }
+
+    // The end of the connection at this place among those whose end is open is closed.
+    fn close(&mut self, at: usize, place: Place, number: u64)
+        requires number { slice_get (open_from 1 self.old.connections) at ≡ Some number }
+        requires place { slice_get self.old.connections (number - 1) ≡ Some place }
+        ensures { self.new ≡ marked number place false self.old }
+    {
+        let mut closed = place;
+        closed.is_open = false;
+        self.connections[number as usize - 1] = closed;
+        self.open_ends.remove(at);
     }
 
     // What its node put out for a connection goes on its way down. Whether its end there is open is the result.

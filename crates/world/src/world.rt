@@ -38,11 +38,14 @@ pub struct World {
     pub(crate) clients: Vec<WorldClient>,
     // Connection n + 1 stands at place n.
     pub(crate) connections: Vec<Place>,
+    // The numbers of those whose end at the node is open, rising.
+    pub(crate) open_ends: Vec<u64>,
     pub(crate) losses: u64,
 }
 
 impl Model for World {
-    ghost use Rattle.world.specs.Housed.{AreHoused, leads_of};
+    ghost use Rattle.std.specs.Prelude.{◌≡◌};
+    ghost use Rattle.world.specs.Housed.{AreHoused, leads_of, open_from};
     ghost use Rattle.world.specs.World.{WorldState};
 
     ghost Value = { WorldState };
@@ -55,7 +58,8 @@ impl Model for World {
           losses = w.losses;
         } };
 
-    ghost invariant = { λ w. AreHoused (leads_of w.clients.items) w.connections.items };
+    ghost invariant = { λ w. AreHoused (leads_of w.clients.items) w.connections.items
+        × (w.open_ends.items ≡ open_from 1 w.connections.items) };
 }
 
 impl World {
@@ -85,6 +89,7 @@ impl World {
             nodes: opened,
             clients: keepers,
             connections: Vec::new(alloc),
+            open_ends: Vec::new(alloc),
             losses: 0,
         })
     }

@@ -18,9 +18,11 @@ returns-then-not-is_open-clause-goes c = goes_on_rest _ _ refl
 pub invariant_of-self : goal.invariant_of-self
 invariant_of-self c =
     let few : c.in-Some.at < length c.self.inside.clients.items = rw (← c.self.view_is) at c.in-Some.ensures.below in
-    let found = get_there c.self.inside.clients.items c.in-Some.at c.index_mut.result.now few c.index_mut.ensures.value in
-    housed_still c.self.inside.clients.items c.self.inside.connections.items c.in-Some.at c.index_mut.result.now c.lose.new.piped found
-    c.lose.ensures.leads c.self.invariant
+    let found = get_there c.self.inside.clients.items c.in-Some.at c.index_mut.result.now few c.index_mut.ensures.value in (
+      housed_still c.self.inside.clients.items c.self.inside.connections.items c.in-Some.at c.index_mut.result.now c.lose.new.piped found
+          c.lose.ensures.leads c.self.invariant.0,
+      c.self.invariant.1,
+    )
 
 pub returns-clause-goes : goal.returns-clause-goes
 returns-clause-goes c =

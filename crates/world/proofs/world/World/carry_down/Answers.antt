@@ -15,20 +15,20 @@ returns-in_default-clause-goes c = goes_on_rest _ _ refl
 pub index_mut-requires : goal.index_mut-requires
 index_mut-requires c =
     let stands = rw (← c.self.view_is) at c.in-Some.ensures.stands in
-    let few = client_within c.self.inside.clients.items c.self.inside.connections.items c.args.number c.in-Some.place c.self.invariant stands.1 stands.0 in
+    let few = client_within c.self.inside.clients.items c.self.inside.connections.items c.args.number c.in-Some.place c.self.invariant.0 stands.1 stands.0 in
     omega (arith, few)
 
 pub hear_on-requires : goal.hear_on-requires
 hear_on-requires c =
     let stands = rw (← c.self.view_is) at c.in-Some.ensures.stands in
-    let few = client_within c.self.inside.clients.items c.self.inside.connections.items c.args.number c.in-Some.place c.self.invariant stands.1 stands.0 in
+    let few = client_within c.self.inside.clients.items c.self.inside.connections.items c.args.number c.in-Some.place c.self.invariant.0 stands.1 stands.0 in
     let found = get_there c.self.inside.clients.items c.in-Some.place.client c.index_mut.result.now few c.index_mut.ensures.value in
-    way_within c.self.inside.clients.items c.self.inside.connections.items c.args.number c.in-Some.place c.index_mut.result.now c.self.invariant stands.1 stands.0 found
+    way_within c.self.inside.clients.items c.self.inside.connections.items c.args.number c.in-Some.place c.index_mut.result.now c.self.invariant.0 stands.1 stands.0 found
 
 pub returns-in-Err-clause-goes : goal.returns-in-Err-clause-goes
 returns-in-Err-clause-goes c =
     let stands = rw (← c.self.view_is) at c.in-Some.ensures.stands in
-    let few = client_within c.self.inside.clients.items c.self.inside.connections.items c.args.number c.in-Some.place c.self.invariant stands.1 stands.0 in
+    let few = client_within c.self.inside.clients.items c.self.inside.connections.items c.args.number c.in-Some.place c.self.invariant.0 stands.1 stands.0 in
     let found = get_there c.self.inside.clients.items c.in-Some.place.client c.index_mut.result.now few c.index_mut.ensures.value in
     rw (← c.self.view_is) (client_goes_on (let old : WorldState = record {
       nodes = c.self.inside.nodes;
@@ -40,7 +40,7 @@ returns-in-Err-clause-goes c =
 pub returns-in-Err-clause-meets : goal.returns-in-Err-clause-meets
 returns-in-Err-clause-meets c =
     let stands = rw (← c.self.view_is) at c.in-Some.ensures.stands in
-    let few = client_within c.self.inside.clients.items c.self.inside.connections.items c.args.number c.in-Some.place c.self.invariant stands.1 stands.0 in
+    let few = client_within c.self.inside.clients.items c.self.inside.connections.items c.args.number c.in-Some.place c.self.invariant.0 stands.1 stands.0 in
     let found = get_there c.self.inside.clients.items c.in-Some.place.client c.index_mut.result.now few c.index_mut.ensures.value in
     rw (← c.self.view_is) (
       hears_nothing c.args.number c.in-Some.place c.args.count (let old : WorldState = record {
@@ -48,7 +48,7 @@ returns-in-Err-clause-meets c =
         clients = c.self.inside.clients.items;
         connections = c.self.inside.connections.items;
         losses = c.self.inside.losses;
-      } in old) c.index_mut.result.now c.self.invariant stands.1 stands.0 found c.in-Err.ensures.idle,
+      } in old) c.index_mut.result.now c.self.invariant.0 stands.1 stands.0 found c.in-Err.ensures.idle,
       same_piped (let old : WorldState = record {
         nodes = c.self.inside.nodes;
         clients = c.self.inside.clients.items;
@@ -60,15 +60,17 @@ returns-in-Err-clause-meets c =
 pub invariant_of-self : goal.invariant_of-self
 invariant_of-self c =
     let stands = rw (← c.self.view_is) at c.in-Some.ensures.stands in
-    let few = client_within c.self.inside.clients.items c.self.inside.connections.items c.args.number c.in-Some.place c.self.invariant stands.1 stands.0 in
-    let found = get_there c.self.inside.clients.items c.in-Some.place.client c.index_mut.result.now few c.index_mut.ensures.value in
-    housed_still c.self.inside.clients.items c.self.inside.connections.items c.in-Some.place.client c.index_mut.result.now c.hear_on.new.piped found
-    c.hear_on.ensures.leads c.self.invariant
+    let few = client_within c.self.inside.clients.items c.self.inside.connections.items c.args.number c.in-Some.place c.self.invariant.0 stands.1 stands.0 in
+    let found = get_there c.self.inside.clients.items c.in-Some.place.client c.index_mut.result.now few c.index_mut.ensures.value in (
+      housed_still c.self.inside.clients.items c.self.inside.connections.items c.in-Some.place.client c.index_mut.result.now c.hear_on.new.piped found
+          c.hear_on.ensures.leads c.self.invariant.0,
+      c.self.invariant.1,
+    )
 
 pub returns-in-Ok-clause-goes : goal.returns-in-Ok-clause-goes
 returns-in-Ok-clause-goes c =
     let stands = rw (← c.self.view_is) at c.in-Some.ensures.stands in
-    let few = client_within c.self.inside.clients.items c.self.inside.connections.items c.args.number c.in-Some.place c.self.invariant stands.1 stands.0 in
+    let few = client_within c.self.inside.clients.items c.self.inside.connections.items c.args.number c.in-Some.place c.self.invariant.0 stands.1 stands.0 in
     let found = get_there c.self.inside.clients.items c.in-Some.place.client c.index_mut.result.now few c.index_mut.ensures.value in
     let old : WorldState = (let old : WorldState = record {
       nodes = c.self.inside.nodes;
@@ -84,7 +86,7 @@ returns-in-Ok-clause-goes c =
 pub returns-in-Ok-clause-meets : goal.returns-in-Ok-clause-meets
 returns-in-Ok-clause-meets c =
     let stands = rw (← c.self.view_is) at c.in-Some.ensures.stands in
-    let few = client_within c.self.inside.clients.items c.self.inside.connections.items c.args.number c.in-Some.place c.self.invariant stands.1 stands.0 in
+    let few = client_within c.self.inside.clients.items c.self.inside.connections.items c.args.number c.in-Some.place c.self.invariant.0 stands.1 stands.0 in
     let found = get_there c.self.inside.clients.items c.in-Some.place.client c.index_mut.result.now few c.index_mut.ensures.value in
     rw (← c.self.view_is) (λ none whole.
     heard_meets c.args.number c.in-Some.place c.args.count c.in-Ok.had (let old : WorldState = record {
@@ -92,5 +94,5 @@ returns-in-Ok-clause-meets c =
       clients = c.self.inside.clients.items;
       connections = c.self.inside.connections.items;
       losses = c.self.inside.losses;
-    } in old) c.index_mut.result.now c.hear_on.new.piped c.remember.new.self c.self.invariant stands.1 stands.0 found c.in-Ok.ensures.hears
+    } in old) c.index_mut.result.now c.hear_on.new.piped c.remember.new.self c.self.invariant.0 stands.1 stands.0 found c.in-Ok.ensures.hears
     (omega arith) c.remember.ensures none)

@@ -1,6 +1,7 @@
-use Rattle.std.proofs.Common.{◌≡◌, ◌<◌, ◌-◌, ℕ, List, [], ◌∷◌, ◌++◌, Bool, true, false, suc, length, set, refl, ap, ◌∙◌, subst, arith}
+use Rattle.std.proofs.Common.{◌≡◌, ◌<◌, ◌-◌, ℕ, List, [], ◌∷◌, ◌++◌, Bool, true, false, suc, length, set, refl, sym, ap, ◌∙◌, subst, arith}
 use Rattle.master.proofs.Counting.{get_there}
 use Rattle.world.specs.Found.{port_of}
+use Rattle.world.specs.Housed.{open_from}
 use Rattle.world.specs.Inside.{HearsOfOne, Reaches}
 use Rattle.world.specs.declared.place.Place.{Place}
 use Rattle.world.specs.declared.world.WorldClient.{WorldClient}
@@ -8,6 +9,7 @@ use Rattle.world.specs.World.{WorldState}
 use Rattle.world.proofs.ClientGoes.{housed_still}
 use Rattle.world.proofs.HousedOpened.{housed_opened}
 use Rattle.world.proofs.Joined.{goes_on_still}
+use Rattle.world.proofs.OpenEnds.{one_opened}
 use Rattle.world.proofs.OpensOn.{connects_at, connects_on, of_found, refused_on}
 use Rattle.world.proofs.world.World.connect.Goals as goal
 
@@ -25,7 +27,25 @@ returns-then-is_err-clause-goes c = rw (← c.self.view_is) (goes_on_still (let 
 } in new) refl refl (omega arith))
 
 pub invariant_of-self : goal.invariant_of-self
-invariant_of-self c = rw c.reserve.ensures.items c.self.invariant
+invariant_of-self c =
+    (rw c.reserve.ensures.items c.self.invariant.0, rw c.reserve.ensures.items c.self.invariant.1)
+
+pub returns-then-is_err-2-clause-goes : goal.returns-then-is_err-2-clause-goes
+returns-then-is_err-2-clause-goes c = rw (← c.self.view_is) (goes_on_still (let old : WorldState = record {
+  nodes = c.self.inside.nodes;
+  clients = c.self.inside.clients.items;
+  connections = c.self.inside.connections.items;
+  losses = c.self.inside.losses;
+} in old) (let new : WorldState = record {
+  nodes = c.self.inside.nodes;
+  clients = c.self.inside.clients.items;
+  connections = c.reserve.new.self.items;
+  losses = c.self.inside.losses;
+} in new) refl refl (omega arith))
+
+pub invariant_of-self-then-is_err-2 : goal.invariant_of-self-then-is_err-2
+invariant_of-self-then-is_err-2 c =
+    (rw c.reserve.ensures.items c.self.invariant.0, rw (c.reserve-2.ensures.items, c.reserve.ensures.items) c.self.invariant.1)
 
 pub reach-requires-clause-free : goal.reach-requires-clause-free
 reach-requires-clause-free c =
@@ -36,10 +56,12 @@ reach-requires-clause-free c =
 pub invariant_of-self-then-not-reach : goal.invariant_of-self-then-not-reach
 invariant_of-self-then-not-reach c =
     let few : c.args.client < length c.self.inside.clients.items = rw (← c.self.view_is) at c.requires.some in
-    let found = get_there c.self.inside.clients.items c.args.client c.index_mut.result.now few c.index_mut.ensures.value in
-    rw c.reserve.ensures.items
-    (housed_still c.self.inside.clients.items c.self.inside.connections.items c.args.client c.index_mut.result.now c.reach.new.piped found
-    (c.reach.ensures.leads c.if-not-reach.true) c.self.invariant)
+    let found = get_there c.self.inside.clients.items c.args.client c.index_mut.result.now few c.index_mut.ensures.value in (
+      rw c.reserve.ensures.items
+          (housed_still c.self.inside.clients.items c.self.inside.connections.items c.args.client c.index_mut.result.now c.reach.new.piped found
+          (c.reach.ensures.leads c.if-not-reach.true) c.self.invariant.0),
+      rw (c.reserve-2.ensures.items, c.reserve.ensures.items) c.self.invariant.1,
+    )
 
 pub returns-then-not-reach-clause-goes : goal.returns-then-not-reach-clause-goes
 returns-then-not-reach-clause-goes c =
@@ -54,7 +76,7 @@ returns-then-not-reach-clause-goes c =
       clients = c.self.inside.clients.items;
       connections = c.self.inside.connections.items;
       losses = c.self.inside.losses;
-    } in old) c.args.client c.args.node c.index_mut.result.now c.reach.new.nodes c.reach.new.piped c.self.invariant found c.reach.ensures.nodes none.0
+    } in old) c.args.client c.args.node c.index_mut.result.now c.reach.new.nodes c.reach.new.piped c.self.invariant.0 found c.reach.ensures.nodes none.0
     (subst (λ (k : ℕ). HearsOfOne false c.args.node (port_of k) c.self.inside.nodes c.reach.new.nodes) counted none.1))
 
 pub invariant_of-self-2 : goal.invariant_of-self-2
@@ -64,11 +86,16 @@ invariant_of-self-2 c =
     let counted : c.saturating_add-number.result ≡ suc (length c.self.inside.connections.items) = omega arith in
     let one = subst (λ (b : Bool). Reaches b c.args.node (port_of c.saturating_add-number.result) c.self.inside.nodes c.index_mut.result.now.piped c.reach.new.nodes c.reach.new.piped)
     c.if-not-reach.false c.reach.ensures.reaches in
-    let place : Place = record { client = c.args.client; at = c.len-at.result; node = c.args.node; is_open = true } in
-    rw (c.push_reserved.ensures.items, c.reserve.ensures.items)
-    (housed_opened c.self.inside.clients.items c.self.inside.connections.items c.args.client c.index_mut.result.now c.reach.new.piped (c.args.node - 1) c.saturating_add-number.result place
-    one.opens.0 found one.opens.2 counted refl c.len-at.ensures
-    (let high = c.requires.node in let e : suc (c.args.node - 1) ≡ c.args.node = omega (arith, high) in e) c.self.invariant)
+    let place : Place = record { client = c.args.client; at = c.len-at.result; node = c.args.node; is_open = true } in (
+      rw (c.push_reserved.ensures.items, c.reserve.ensures.items)
+          (housed_opened c.self.inside.clients.items c.self.inside.connections.items c.args.client c.index_mut.result.now c.reach.new.piped (c.args.node - 1) c.saturating_add-number.result place
+          one.opens.0 found one.opens.2 counted refl c.len-at.ensures
+          (let high = c.requires.node in let e : suc (c.args.node - 1) ≡ c.args.node = omega (arith, high) in e) c.self.invariant.0),
+      c.push_reserved-2.ensures.items ∙ ap (λ (l : List ℕ). l ++ c.saturating_add-number.result ∷ []) (c.reserve-2.ensures.items ∙ c.self.invariant.1)
+          ∙ one_opened c.self.inside.connections.items c.saturating_add-number.result place counted refl
+          ∙ ap (λ (l : List Place). open_from 1 (l ++ place ∷ [])) (sym c.reserve.ensures.items)
+          ∙ ap (open_from 1) (sym c.push_reserved.ensures.items),
+    )
 
 pub returns-clause-connects : goal.returns-clause-connects
 returns-clause-connects c =
@@ -104,4 +131,4 @@ returns-clause-goes c =
     let place : Place = record { client = c.args.client; at = c.len-at.result; node = c.args.node; is_open = true } in
     let at = connects_at c.args.client c.args.node c.saturating_add-number.result c.len-at.result old c.index_mut.result.now c.reach.new.nodes c.reach.new.piped c.push_reserved.new.self.items
     found counted c.len-at.ensures (c.push_reserved.ensures.items ∙ ap (λ (l : List Place). l ++ place ∷ []) c.reserve.ensures.items) one in
-    rw (← c.self.view_is) (connects_on c.args.client c.args.node old _ c.self.invariant refl c.reach.ensures.nodes at)
+    rw (← c.self.view_is) (connects_on c.args.client c.args.node old _ c.self.invariant.0 refl c.reach.ensures.nodes at)

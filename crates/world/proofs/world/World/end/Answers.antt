@@ -47,7 +47,7 @@ returns-clause-meets c =
           clients = c.self.inside.clients.items;
           connections = c.self.inside.connections.items;
           losses = c.self.inside.losses;
-        } in old) c.args.number c.args.place c.self.invariant stands c.requires.positive,
+        } in old) c.args.number c.args.place c.self.invariant.0 stands c.requires.positive,
         takes_item c.args.place.node (Ended (port_of c.args.number)) (let old : WorldState = record {
           nodes = c.self.inside.nodes;
           clients = c.self.inside.clients.items;

@@ -1,3 +1,4 @@
+use Rattle.std.proofs.Common.{refl}
 use Rattle.group_model.specs.Group.{opening_group}
 use Rattle.group_model.specs.Goes.Went.{opened}
 use Rattle.world.proofs.NodesGoOn.{are_reached}
@@ -13,4 +14,7 @@ returns-clause-exact c =
     λ apart. opens_reached c.args.nodes c.args.config c.args.clients.now _ c.in_ok-opened.ensures.can c.in_ok-opened.ensures.opens c.in_ok-keepers.ensures.stand apart
 
 pub invariant_of-result : goal.invariant_of-result
-invariant_of-result c = rw c.new.ensures.items (housed_none c.in_ok-keepers.keepers.items c.args.clients.now c.in_ok-keepers.ensures.stand)
+invariant_of-result c = (
+  rw c.new.ensures.items (housed_none c.in_ok-keepers.keepers.items c.args.clients.now c.in_ok-keepers.ensures.stand),
+  rw (c.new-2.ensures.items, c.new.ensures.items) refl,
+)
