@@ -1,7 +1,13 @@
--- The exit status of a program that ends with a fault, and how the fault of a script becomes the program's.
+-- The exit status of a program that ends with a fault, and how the faults of its parts become the program's.
 use Rattle.std.specs.Prelude.{ℕ}
 use Rattle.play.specs.declared.error.PlayError.{PlayError}
 use Rattle.play.specs.declared.error.PlayError.TheVariants as plays
+use Rattle.server.specs.declared.serve_error.ServeError.{ServeError}
+use Rattle.server.specs.declared.serve_error.ServeError.TheVariants as serves
+use Rattle.command_line.specs.declared.fault.TableFault.{TableFault}
+use Rattle.command_line.specs.declared.fault.TableFault.TheVariants as tables
+use Rattle.user_client.specs.declared.fault.ClientFault.{ClientFault}
+use Rattle.user_client.specs.declared.fault.ClientFault.TheVariants as clients
 use Rattle.jobs.specs.declared.fault.Fault.{Fault}
 use Rattle.jobs.specs.declared.fault.Fault.TheVariants as faults
 
@@ -26,3 +32,22 @@ abbrev pub played_fault_of : PlayError → Fault
 played_fault_of (plays.Line number) = faults.Script number
 played_fault_of plays.Memory = faults.Memory
 played_fault_of plays.Losses = faults.Losses
+
+-- of nodes that were not served
+abbrev pub served_fault_of : ServeError → Fault
+served_fault_of serves.BadMembers = faults.Config
+served_fault_of serves.Memory = faults.Memory
+served_fault_of serves.Clock = faults.Clock
+
+-- of a table of nodes that was not read
+abbrev pub table_fault_of : TableFault → Fault
+table_fault_of tables.Shape = faults.Config
+table_fault_of tables.Memory = faults.Memory
+
+-- of a client that did not do what it was to do
+abbrev pub client_fault_of : ClientFault → Fault
+client_fault_of (clients.Refused number) = faults.Refused number
+client_fault_of clients.SessionPresent = faults.SessionPresent
+client_fault_of clients.Lost = faults.Lost
+client_fault_of clients.Memory = faults.Memory
+client_fault_of clients.Output = faults.Output

@@ -97,6 +97,10 @@ impl From<Memory> for Fault {
 }
 
 impl From<ServeError> for Fault {
+    ghost use Rattle.jobs.specs.Faults.{served_fault_of};
+
+    ghost from_gives = { λ error fault. fault ≡ served_fault_of error };
+
     fn from(error: ServeError) -> Fault {
         match error {
             ServeError::BadMembers => Fault::Config,
@@ -107,6 +111,10 @@ impl From<ServeError> for Fault {
 }
 
 impl From<TableFault> for Fault {
+    ghost use Rattle.jobs.specs.Faults.{table_fault_of};
+
+    ghost from_gives = { λ error fault. fault ≡ table_fault_of error };
+
     fn from(fault: TableFault) -> Fault {
         match fault {
             TableFault::Shape => Fault::Config,
@@ -116,6 +124,10 @@ impl From<TableFault> for Fault {
 }
 
 impl From<ClientFault> for Fault {
+    ghost use Rattle.jobs.specs.Faults.{client_fault_of};
+
+    ghost from_gives = { λ error fault. fault ≡ client_fault_of error };
+
     fn from(fault: ClientFault) -> Fault {
         match fault {
             ClientFault::Refused(number) => Fault::Refused(number),

@@ -1,2 +1,4 @@
 mod CarriesJoin
+mod CountsStand
+mod NoneAmong
 mod TrayKept

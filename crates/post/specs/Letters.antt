@@ -7,7 +7,7 @@ use Rattle.node.specs.Effect.TheVariants.{To}
 use Rattle.node.specs.Message.{Message}
 use Rattle.node.specs.declared.Config.{Config}
 use Rattle.node.specs.declared.Item.{Item}
-use Rattle.node.specs.declared.Item.TheVariants.{Peer, Tick, Crash}
+use Rattle.node.specs.declared.Item.TheVariants.{Peer, Crash}
 use Rattle.node.specs.Core.{CountedCore, opening_core}
 use Rattle.node.specs.Losses.{Stepped}
 use Rattle.node.specs.Lists.{In}

@@ -4,13 +4,16 @@
 
 mod bell;
 mod carrier;
+mod laws;
 mod order_error;
 mod peer;
 mod peers;
+mod superseding;
 mod tray;
 mod waking;
 
 pub use carrier::{Carrier, carry_all};
+pub use laws::greater_counts_stand;
 pub use order_error::OrderError;
 pub use peer::Peer;
 pub use peers::Peers;

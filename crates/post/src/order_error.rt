@@ -1,5 +1,7 @@
 // Why an order was not done.
 
+ghost use Rattle.std.specs.Prelude.{◌≡◌};
+
 use master::AssignError;
 use node::Memory;
 use std::error::Error;
@@ -26,6 +28,10 @@ impl fmt::Display for OrderError {
 impl Error for OrderError {}
 
 impl From<Memory> for OrderError {
+    ghost use Rattle.post.specs.declared.order_error.OrderError.TheVariants.{Memory};
+
+    ghost from_gives = { λ _ error. error ≡ Memory };
+
     fn from(_error: Memory) -> OrderError {
         OrderError::Memory
     }

@@ -1,5 +1,6 @@
 // A node as the other nodes of its program see it.
 
+ghost use Rattle.std.specs.Prelude.{◌≡◌};
 ghost use Rattle.node.specs.Lists.{Each};
 ghost use Rattle.post.specs.Letters.{IsLeft};
 
@@ -28,7 +29,9 @@ pub struct Peer {
 }
 
 impl Peer {
-    pub(crate) fn new(alloc: Global, number: u8) -> Peer {
+    pub(crate) fn new(alloc: Global, number: u8) -> Peer
+        ensures { result.number ≡ number }
+    {
         Peer {
             number,
             tray: Mutex::new(Tray::new(alloc, number)),
@@ -72,16 +75,21 @@ impl Peer {
         tray.take(alloc)
     }
 
+    /// Whether something waits for the node, or somebody asks how it stands.
+    pub fn is_wanted<R: Wait>(&self, rt: &R) -> bool {
+        !self.tray.lock(rt).is_empty() || *self.asked.lock(rt)
+    }
+
     /// Wakes the node's own thread, if it sleeps or is about to.
     pub fn wake<R: Wait>(&self, rt: &R) {
         self.bell.ring(rt);
     }
 
     /// The node's own thread is about to sleep: it looks once more for what there is behind this call. Whether
-    /// something waits for the node already.
+    /// it is wanted already.
     pub fn doze<R: Wait>(&self, rt: &R) -> bool {
         self.bell.doze(rt);
-        !self.tray.lock(rt).is_empty()
+        self.is_wanted(rt)
     }
 
     /// Sleeps until the node is woken, at most so long.

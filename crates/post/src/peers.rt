@@ -1,8 +1,10 @@
 // The nodes of a program, and the master beside them.
 
-ghost use Rattle.std.specs.Prelude.{◌≡◌, IfSome};
+ghost use Rattle.std.specs.Prelude.{◌≡◌, IfOk, IfSome, None, false};
+ghost use Rattle.lists.specs.Lists.{has_id};
 ghost use Rattle.node.specs.Lists.{Each};
 ghost use Rattle.post.specs.Letters.{IsLeft, WasGiven};
+ghost use Rattle.post.specs.Numbers.{numbers_of};
 
 use crate::carrier::{Carrier, carry_all};
 use crate::order_error::OrderError;
@@ -10,6 +12,7 @@ use crate::peer::Peer;
 use master::{Activation, AssignError, Master};
 use node::{Body, Command, Config, Effect, Item, Members, Message, OpeningError, Output, Status};
 use std::alloc::Global;
+use std::marker::Model;
 use std::sync::{Mutex, Wait};
 use std::thread;
 use std::time::{Clock, Duration};
@@ -31,14 +34,22 @@ pub struct Peers {
     alloc: Global,
 }
 
+impl Model for Peers {
+    ghost use Rattle.std.specs.Prelude.{ℕ, List};
+    ghost use Rattle.post.specs.Numbers.{numbers_of};
+
+    ghost Value = { List ℕ };
+
+    ghost view = { λ peers. numbers_of peers.nodes.items };
+}
+
 impl Peers {
     /// The nodes of these numbers, and a master whose ballot 1 has this configuration. `BadMembers` comes where no
     /// ballot may have it.
-    pub fn new(alloc: Global, numbers: &[u8], config: &Config) -> Result<Peers, OpeningError> {
-        let mut nodes = Vec::with_capacity(alloc, numbers.len())?;
-        for number in numbers {
-            nodes.push(Peer::new(alloc, *number))?;
-        }
+    pub fn new(alloc: Global, numbers: &[u8], config: &Config) -> Result<Peers, OpeningError>
+        ensures { IfOk result (λ peers. peers ≡ numbers.now) }
+    {
+        let nodes = peers_of(alloc, numbers)?;
         let Ok(master) = Master::new(Config {
             members: Members::from_slice(alloc, config.members.as_slice())?,
             primary: config.primary,
@@ -107,7 +118,8 @@ impl Peers {
 
     /// The node of a number.
     pub fn node(&self, number: u8) -> Option<&Peer>
-        ensures { IfSome result (λ node. node.now.number ≡ number) }
+        ensures some { IfSome result (λ node. node.now.number ≡ number) }
+        ensures none { result ≡ None → has_id number self.now ≡ false }
     {
         self.nodes.iter().find(|node| node.number == number)
     }
@@ -143,6 +155,17 @@ impl Peers {
     fn tell_as_master<R: Wait>(&self, rt: &R, number: u8, body: Body<Command>) {
         self.leave(rt, number, Message { from: MASTER, body });
     }
+}
+
+// A peer for each number.
+fn peers_of(alloc: Global, numbers: &[u8]) -> Result<Vec<Peer>, OpeningError>
+    ensures { IfOk result (λ nodes. numbers_of nodes.items ≡ numbers.now) }
+{
+    let mut nodes = Vec::with_capacity(alloc, numbers.len())?;
+    for number in numbers {
+        nodes.push(Peer::new(alloc, *number))?;
+    }
+    Ok(nodes)
 }
 
 /// The nodes and the master, as those to whom messages are carried.

@@ -3,7 +3,9 @@
 ghost use Rattle.std.specs.Prelude.{◌≡◌, ◌↔◌, ◌++◌, ◌∷◌, [], true, false};
 ghost use Rattle.node.specs.Lists.{Each};
 ghost use Rattle.post.specs.Letters.{IsLeft};
+ghost use Rattle.post.specs.Superseding.{newest, still_waiting, supersedes_one};
 
+use crate::superseding::supersedes;
 use node::Item;
 use std::alloc::Global;
 use std::marker::Model;
@@ -54,14 +56,36 @@ impl Tray {
         self.items.is_empty()
     }
 
-    /// Leaves an item behind all that waits: whether there was memory for it. Where not, it is lost.
+    /// Leaves an item behind all that waits, in the place of the newest where it supersedes that one: whether there was
+    /// memory for it. Where not, it is lost.
     pub(crate) fn leave(&mut self, item: Item) -> bool
         requires { IsLeft self.old.number item }
         ensures left { result ≡ true →
-            self.new ≡ record self.old { items = self.old.items ++ item ∷ [] } }
-        ensures lost { result ≡ false → self.new ≡ self.old }
+            self.new ≡ record self.old { items = still_waiting item self.old.items ++ item ∷ [] } }
+        ensures lost { result ≡ false →
+            self.new ≡ record self.old { items = still_waiting item self.old.items } }
     {
+        self.drop_superseded(&item);
         self.items.push(item).is_ok()
+    }
+
+    // Drops the newest of the items that wait, where this one supersedes it.
+    fn drop_superseded(&mut self, item: &Item)
+        ensures { self.new ≡ record self.old { items = still_waiting item.now self.old.items } }
+    {
+        if self.is_newest_superseded(item) {
+            let _ = self.items.pop();
+        }
+    }
+
+    // Whether this item supersedes the newest that waits.
+    fn is_newest_superseded(&self, item: &Item) -> bool
+        ensures { result ≡ supersedes_one item.now (newest self.now.items) }
+    {
+        match self.items.last() {
+            Some(newest) => supersedes(item, newest),
+            None => false,
+        }
     }
 
     /// Takes all that waits, in its order.

@@ -1,5 +1,5 @@
 -- GivenBySteps.antt: what the steps of a node give was given by one of them.
-use Rattle.std.proofs.Common.{◌≡◌, ℕ, List, [], ◌∷◌, ◌++◌, sym, subst}
+use Rattle.std.proofs.Common.{ℕ, List, [], ◌∷◌, sym, subst}
 use Rattle.node.specs.Command.{Command}
 use Rattle.node.specs.Output.{Output}
 use Rattle.node.specs.Effect.{Effect}

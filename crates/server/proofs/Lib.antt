@@ -1,4 +1,4 @@
 mod GivenBySteps
 mod HandedOver
 mod OwnSendsJoin
-mod RowsJoin
+mod PortsApart

@@ -1,5 +1,5 @@
 -- What a lane tells of a connection, and what a node puts out for it.
-use Rattle.std.specs.Prelude.{◌≡◌, ℕ, List, [], ◌∷◌, ◌++◌, None}
+use Rattle.std.specs.Prelude.{◌≡◌, ℕ, ◌+◌, ◌*◌, List, [], ◌∷◌, ◌++◌, None}
 use Rattle.node.specs.declared.Item.{Item}
 use Rattle.node.specs.declared.Item.TheVariants.{Tick}
 use Rattle.node.specs.declared.Port.{Port}
@@ -17,12 +17,26 @@ pub record SendsWhole (port : Port) (before behind : List Item) : Type 0 where
   pub ending : Ending
   pub hears : Hears port before behind ending None None
 
--- A lane that had sent these items sent for one connection after the other all that is told of it, and nothing else.
-pub data SendsRow (before : List Item) : List Item → Type 0 where
-  begins : SendsRow before before
-  goes_on : {sent : List Item} (port : Port) (behind : List Item)
-      → SendsRow before sent → SendsWhole port sent behind
-      → SendsRow before behind
+-- the port of the connection that a lane comes to behind so many others
+abbrev pub port_of : ℕ → ℕ → Port
+port_of lane count = record { 0 = 256 * count + lane }
+
+-- A lane that had sent these items sent all that is told of one connection, or nothing where that was closed at once.
+pub data TellsOne (port : Port) (before : List Item) : List Item → Type 0 where
+  closed_at_once : TellsOne port before before
+  served : {behind : List Item} → SendsWhole port before behind → TellsOne port before behind
+
+-- A lane that had sent these items sent for so many connections, one behind the other, what is told of each, and nothing else.
+pub data TellsEach (lane : ℕ) (before : List Item) : ℕ → List Item → Type 0 where
+  begins : TellsEach lane before 0 before
+  goes_on : {count : ℕ} {sent : List Item} (behind : List Item)
+      → TellsEach lane before count sent → TellsOne (port_of lane count) sent behind
+      → TellsEach lane before (count + 1) behind
+
+-- the same, for as many as there were
+pub record SendsRow (lane : ℕ) (before behind : List Item) : Type 0 where
+  pub count : ℕ
+  pub tells : TellsEach lane before count behind
 
 -- The own thread's lane of a node of this number, which had sent these items, sent the time and letters for the node.
 pub data SendsOwn (node : ℕ) (before : List Item) : List Item → Type 0 where

@@ -7,7 +7,7 @@ use Rattle.server.specs.Serving.{SendsOwn, SendsRow}
 -- what the thread of a lane of a node sends, by the lane's number: lane 0 is the node's own
 pub record SendsSo (node lane : ℕ) (before behind : List Item) : Type 0 where
   pub own : lane ≡ 0 → SendsOwn node before behind
-  pub row : 0 < lane → SendsRow before behind
+  pub row : 0 < lane → SendsRow lane before behind
 
 -- a lane went to its thread and came back
 abbrev pub ComesBack : ℕ → Option (Sender Item) → Option (Sender Item) → Type 0

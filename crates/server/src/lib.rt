@@ -6,6 +6,7 @@
 
 mod door;
 mod ear;
+mod laws;
 mod link;
 mod listening;
 mod node_report;
@@ -22,6 +23,7 @@ mod turns;
 mod working;
 mod writing;
 
+pub use laws::ports_differ;
 pub use listening::{serve_gated, serve_while};
 pub use node_report::NodeReport;
 pub use place::{CONNECTIONS, Place};

@@ -1,5 +1,7 @@
 // A connection's stream, and who writes on it.
 
+ghost use Rattle.std.specs.Prelude.{◌≡◌};
+
 use connection::Unwritten;
 use node::Port;
 use std::alloc::Global;
@@ -42,7 +44,9 @@ pub(crate) struct Late {
 }
 
 impl Link {
-    pub(crate) fn new(alloc: Global, port: Port, place: usize, stream: TcpStream) -> Link {
+    pub(crate) fn new(alloc: Global, port: Port, place: usize, stream: TcpStream) -> Link
+        ensures { result.port ≡ port }
+    {
         Link {
             port,
             place,

@@ -159,7 +159,6 @@ fn serve_named<J: NodeNaming + Send + Sync, G: Gate + Sync, R: Threads + Wait + 
         passage: Passage::new(gate, seat.place.number),
         seat,
         late: Mutex::new(Vec::with_capacity(alloc, usize::from(CONNECTIONS))?),
-        next_port: Mutex::new(1),
         naming: PhantomData,
     };
     run_state(rt, &shared, desks.as_mut_slice());

@@ -9,12 +9,16 @@ use crate::served::Served;
 use crate::shared::Shared;
 use mailbox::Lane;
 use node::{Gate, Item, NodeNaming};
-use std::mem;
 use std::sync::Wait;
 use std::time::{Clock, Duration};
+use std::{mem, thread};
 
 /// How often the node is told the time, in milliseconds.
 const TICK: u64 = 200;
+
+/// How often the thread looks for what comes before it sleeps, and gives way to others in between: for about as long as it
+/// takes to wake a thread that sleeps.
+const LOOKS: u32 = 32;
 
 impl<'a, J: NodeNaming, S: Served<J>, G: Gate> Shared<'a, J, S, G> {
     /// Does the work of the node's own thread by its lane, until the door is closed: the lane.
@@ -75,12 +79,26 @@ impl<'a, J: NodeNaming, S: Served<J>, G: Gate> Shared<'a, J, S, G> {
         self.put(rt, lane, item);
     }
 
-    // Sleeps until something comes, or it is time for a tick.
+    // Sleeps until something comes, or it is time for a tick, where nothing comes at once.
     fn rest<R: Wait>(&self, rt: &R) {
-        let waits = self.seat.node.doze(rt);
-        if !waits && self.late.lock(rt).is_empty() {
+        if self.comes_at_once(rt) {
+            return;
+        }
+        let is_wanted = self.seat.node.doze(rt) || self.seat.place.door.is_closed(rt);
+        if !is_wanted && self.late.lock(rt).is_empty() {
             self.seat.node.sleep(rt, Duration::from_millis(TICK));
         }
+    }
+
+    // Looks whether other nodes have something for the node, for a while.
+    fn comes_at_once<R: Wait>(&self, rt: &R) -> bool {
+        for _ in 0..LOOKS {
+            if self.seat.node.is_wanted(rt) {
+                return true;
+            }
+            thread::yield_now();
+        }
+        false
     }
 
     // Goes over the connections whose sockets were full: whether there are still some.

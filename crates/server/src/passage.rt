@@ -1,5 +1,7 @@
 // A node's way through its gate, before each taking.
 
+ghost use Rattle.std.specs.Prelude.{◌≡◌, IfSome};
+
 use node::Gate;
 use std::sync::{Mutex, Wait};
 use std::thread;
@@ -10,6 +12,18 @@ use std::time::{Clock, Duration};
 const ASKS: u32 = 10_000;
 
 const ASK_MILLIS: u64 = 1;
+
+/// How many items may be taken at once, where there is no gate.
+const AT_ONCE: u32 = 16;
+
+/// Leave to take items. Nobody but a passage gives it: where there is a gate behind asking it, for one item.
+#[derive(Drop)]
+pub(crate) struct Leave {
+    /// The taking's number at the gate, where there is one.
+    taking: Option<u64>,
+    /// How many items may be taken.
+    pub(crate) most: u32,
+}
 
 /// A node's way through its gate, before each taking. A thread that waits on it holds none of the locks.
 #[derive(Drop)]
@@ -32,27 +46,40 @@ impl<'a, G: Gate> Passage<'a, G> {
         }
     }
 
-    /// Whether nobody has to wait here.
-    pub(crate) fn is_free(&self) -> bool {
-        self.gate.is_always_open()
+    /// Begins a taking. Where there is a gate it waits until that opens for it, if it does so in time.
+    pub(crate) fn pass<R: Wait + Clock>(&self, rt: &R) -> Leave
+        ensures { IfSome result.taking (λ _. result.most ≡ 1) }
+    {
+        if self.gate.is_always_open() {
+            return Leave {
+                taking: None,
+                most: AT_ONCE,
+            };
+        }
+        let taking = count(rt, &self.begun);
+        self.ask(rt, taking);
+        Leave {
+            taking: Some(taking),
+            most: 1,
+        }
     }
 
-    /// Begins a taking, and waits until the gate opens for it, if it does so in time: its number.
-    pub(crate) fn pass<R: Wait + Clock>(&self, rt: &R) -> u64 {
-        let taking = count(rt, &self.begun);
+    // Waits until the gate opens for a taking. One that does not in time is counted.
+    fn ask<R: Wait + Clock>(&self, rt: &R, taking: u64) {
         for _ in 0..ASKS {
             if self.gate.open(rt, self.node, taking) {
-                return taking;
+                return;
             }
             thread::sleep(rt, Duration::from_millis(ASK_MILLIS));
         }
         count(rt, &self.missed);
-        taking
     }
 
-    /// The taking of this number is done.
-    pub(crate) fn answered<R: Wait>(&self, rt: &R, taking: u64) {
-        self.gate.answered(rt, self.node, taking);
+    /// A taking is done: the gate hears of it.
+    pub(crate) fn done<R: Wait>(&self, rt: &R, leave: Leave) {
+        if let Some(taking) = leave.taking {
+            self.gate.answered(rt, self.node, taking);
+        }
     }
 
     /// How many takings the gate did not open for.

@@ -1,5 +1,7 @@
 // Why nodes are not served.
 
+ghost use Rattle.std.specs.Prelude.{◌≡◌};
+
 use node::{Memory, OpeningError};
 use std::error::Error;
 use std::fmt;
@@ -29,12 +31,20 @@ impl fmt::Display for ServeError {
 impl Error for ServeError {}
 
 impl From<Memory> for ServeError {
+    ghost use Rattle.server.specs.declared.serve_error.ServeError.TheVariants.{Memory};
+
+    ghost from_gives = { λ _ error. error ≡ Memory };
+
     fn from(_error: Memory) -> ServeError {
         ServeError::Memory
     }
 }
 
 impl From<OpeningError> for ServeError {
+    ghost use Rattle.server.specs.Refusals.{serve_error_of};
+
+    ghost from_gives = { λ opening error. error ≡ serve_error_of opening };
+
     fn from(error: OpeningError) -> ServeError {
         match error {
             OpeningError::BadMembers => ServeError::BadMembers,

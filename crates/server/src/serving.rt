@@ -1,7 +1,8 @@
 // The thread of a lane, and one connection after the other that it serves.
 
+ghost use Rattle.std.specs.Prelude.{◌≡◌, ◌<◌, ◌^◌, IfSome};
 ghost use Rattle.std.specs.Arc.{arc_value};
-ghost use Rattle.server.specs.Serving.{SendsRow, SendsWhole};
+ghost use Rattle.server.specs.Serving.{SendsRow, SendsWhole, TellsOne, port_of};
 
 use crate::ear::Ear;
 use crate::link::Link;
@@ -18,20 +19,27 @@ use std::time::{Clock, Duration};
 /// How long a write may wait before the rest is left to the node's own thread, in milliseconds.
 const WRITE_MILLIS: u64 = 1;
 
+/// How many connections a lane serves, each at a port of its own.
+const CONNECTIONS_OF_LANE: u64 = 1 << 56;
+
+/// By this the ports of a lane's connections rise. A lane's number is below it.
+const PORTS_APART: u64 = 256;
+
 impl<'a, J: NodeNaming, S: Served<J>, G: Gate> Shared<'a, J, S, G> {
     /// Serves one client after the other by a lane, until the door is closed: the lane, which sent for each
-    /// in turn all that is told of its connection, and nothing else.
+    /// in turn all that is told of its connection, at a port that no other has, and nothing else.
     pub(crate) fn serve_lane<R: Wait + Clock>(&self, rt: &R, lane: Lane<Item, J>) -> Lane<Item, J>
-        ensures { SendsRow lane.sent result.sent }
+        ensures { SendsRow lane.lane lane.sent result.sent }
     {
+        let number = lane.lane();
         let mut lane = lane;
-        for _ in rt.forever() {
+        for count in 0..CONNECTIONS_OF_LANE {
             let Some(stream) = self.seat.place.accept(rt) else {
                 return lane;
             };
-            lane = self.serve_stream(rt, lane, stream);
+            lane = self.serve_stream(rt, lane, stream, port_of(number, count));
         }
-        unreachable!()
+        lane
     }
 
     // Serves a stream until its client or the node ends it. Where as many are served as may be, or there is
@@ -41,14 +49,15 @@ impl<'a, J: NodeNaming, S: Served<J>, G: Gate> Shared<'a, J, S, G> {
         rt: &R,
         lane: Lane<Item, J>,
         stream: TcpStream,
+        port: Port,
     ) -> Lane<Item, J>
-        ensures { SendsRow lane.sent result.sent }
+        ensures { TellsOne port lane.sent result.sent }
     {
         let door = &self.seat.place.door;
         let Some(place) = door.take_place(rt) else {
             return lane;
         };
-        let lane = match self.link(rt, place, stream) {
+        let lane = match self.link(port, place, stream) {
             Some(link) => self.serve_link(rt, lane, link),
             None => lane,
         };
@@ -57,12 +66,13 @@ impl<'a, J: NodeNaming, S: Served<J>, G: Gate> Shared<'a, J, S, G> {
     }
 
     // The connection of a stream. Its bytes leave at once, and a write does not wait for long.
-    fn link<R: Wait>(&self, rt: &R, place: usize, stream: TcpStream) -> Option<Arc<Link, Global>> {
+    fn link(&self, port: Port, place: usize, stream: TcpStream) -> Option<Arc<Link, Global>>
+        ensures { IfSome result (λ link. (arc_value link).port ≡ port) }
+    {
         stream.set_nodelay(true).ok()?;
         stream
             .set_write_timeout(Some(Duration::from_millis(WRITE_MILLIS)))
             .ok()?;
-        let port = self.new_port(rt);
         Arc::new(self.alloc, Link::new(self.alloc, port, place, stream)).ok()
     }
 
@@ -109,4 +119,12 @@ impl<'a, J: NodeNaming, S: Served<J>, G: Gate> Shared<'a, J, S, G> {
         // Where there is no memory for it the node keeps it.
         let _ = self.node.lock(rt).state().outgoing(port, &mut left);
     }
+}
+
+// The port of the connection that a lane comes to behind so many others.
+fn port_of(lane: u8, count: u64) -> Port
+    requires { count < 2 ^ 56 }
+    ensures { result ≡ port_of lane count }
+{
+    Port(PORTS_APART * count + u64::from(lane))
 }

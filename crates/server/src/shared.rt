@@ -1,6 +1,7 @@
 // What the threads of a node share.
 
-ghost use Rattle.std.specs.Prelude.{length};
+ghost use Rattle.std.specs.Prelude.{◌≡◌, All, IfOk, OnOk, length, map};
+ghost use Rattle.mailbox.specs.Ends.{ArrivesWhole, unmet};
 ghost use Rattle.node.specs.Report.{HasRoom};
 ghost use Rattle.post.specs.Letters.{EachOpens};
 
@@ -9,7 +10,7 @@ use crate::passage::Passage;
 use crate::seat::Seat;
 use crate::served::Served;
 use mailbox::Lane;
-use node::{Gate, Item, Memory, NodeNaming, NodeState, Port, Report};
+use node::{Gate, Item, Memory, NodeNaming, NodeState, Report};
 use std::alloc::Global;
 use std::marker::PhantomData;
 use std::sync::{Mutex, Wait};
@@ -23,20 +24,8 @@ pub(crate) struct Shared<'a, J: NodeNaming, S: Served<J>, G: Gate> {
     pub(crate) passage: Passage<'a, G>,
     /// The connections whose sockets were full.
     pub(crate) late: Mutex<Vec<Late>>,
-    /// The port of the next connection. None comes twice.
-    pub(crate) next_port: Mutex<u64>,
     pub(crate) naming: PhantomData<J>,
     pub(crate) ghost opens: { EachOpens J.first_of },
-}
-
-impl<'a, J: NodeNaming, S: Served<J>, G: Gate> Shared<'a, J, S, G> {
-    /// A number that no connection of the node had before.
-    pub(crate) fn new_port<R: Wait>(&self, rt: &R) -> Port {
-        let mut next = self.next_port.lock(rt);
-        let port = *next;
-        *next = port.wrapping_add(1);
-        Port(port)
-    }
 }
 
 impl<'a, J: NodeNaming, G: Gate> Shared<'a, J, NodeState<J>, G> {
@@ -49,6 +38,11 @@ impl<'a, J: NodeNaming, G: Gate> Shared<'a, J, NodeState<J>, G> {
         room: Report,
     ) -> Result<Report, Memory>
         requires { HasRoom (length room.taken.items) room }
+
+        // What was taken and what is left over are, lane by lane and in order, all that was sent.
+        ensures whole { IfOk result (λ report.
+            All (ArrivesWhole report.taken.items report.left.items) lanes.new) }
+        ensures lanes { OnOk result (map unmet lanes.new ≡ map unmet lanes.old) }
     {
         let Shared { node, passage, .. } = self;
         let state = node.into_inner();

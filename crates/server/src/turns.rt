@@ -4,6 +4,7 @@ ghost use Rattle.std.specs.Prelude.{◌≡◌, ◌++◌, ◌∷◌, []};
 ghost use Rattle.node.specs.Lists.{Each};
 ghost use Rattle.post.specs.Letters.{EachOpens, WasGiven};
 
+use crate::passage::Leave;
 use crate::place::CONNECTIONS;
 use crate::served::Served;
 use crate::shared::Shared;
@@ -11,9 +12,6 @@ use mailbox::Lane;
 use node::{Command, Effect, Gate, Item, NodeNaming, NodeState, Output, Port};
 use std::sync::Wait;
 use std::time::Clock;
-
-/// How many items are taken under one lock, where there is no gate.
-const AT_ONCE: u32 = 16;
 
 impl<'a, J: NodeNaming, S: Served<J>, G: Gate> Shared<'a, J, S, G> {
     /// Sends an item by a lane, and takes what waits in the inbox, that item with it.
@@ -69,38 +67,35 @@ impl<'a, J: NodeNaming, S: Served<J>, G: Gate> Shared<'a, J, S, G> {
     // Takes some items: whether more may wait. Where there is a gate it is asked before each, while no lock
     // is held.
     fn take_some<R: Wait + Clock>(&self, rt: &R) -> bool {
-        if self.passage.is_free() {
-            return self.take_locked(rt, AT_ONCE);
-        }
-        let taking = self.passage.pass(rt);
-        let more = self.take_locked(rt, 1);
-        self.passage.answered(rt, taking);
+        let leave = self.passage.pass(rt);
+        let more = self.take_locked(rt, &leave);
+        self.passage.done(rt, leave);
         more
     }
 
-    // Takes at most so many items under one lock: whether more may wait. What the node has for others is
-    // handed on while the lock is held, so that it keeps the order of the node's steps.
-    fn take_locked<R: Wait>(&self, rt: &R, most: u32) -> bool {
+    // Takes items under one lock, as many as there is leave for: whether more may wait. What the node has for
+    // others is handed on while the lock is held, so that it keeps the order of the node's steps.
+    fn take_locked<R: Wait>(&self, rt: &R, leave: &Leave) -> bool {
         let mut effects = Vec::new(self.alloc);
         let mut node = self.node.lock(rt);
-        let more = take_up_to(rt, node.state(), most, &mut effects);
+        let more = take_up_to(rt, node.state(), leave, &mut effects);
         self.seat.peers.hand_on(rt, effects);
         more
     }
 }
 
-// Takes items until the inbox is empty, at most so many: whether more may wait.
+// Takes items until the inbox is empty, as many as there is leave for: whether more may wait.
 fn take_up_to<J: NodeNaming, R: Wait>(
     rt: &R,
     node: &mut NodeState<J>,
-    most: u32,
+    leave: &Leave,
     effects: &mut Vec<Effect<Command, Output>>,
 ) -> bool
     requires opens { EachOpens J.first_of }
     requires before { Each WasGiven effects.old.items }
     ensures { Each WasGiven effects.new.items }
 {
-    for _ in 0..most {
+    for _ in 0..leave.most {
         if !node.take_one(rt, effects) {
             return false;
         }

@@ -1,9 +1,14 @@
-use Rattle.server.specs.Serving.SendsRow.{begins}
-use Rattle.server.proofs.RowsJoin.{rows_join}
+use Rattle.std.proofs.Common.{ℕ, ◌∙◌, ap, subst}
+use Rattle.node.specs.declared.Port.{Port}
+use Rattle.server.specs.Serving.{TellsOne, port_of}
+use Rattle.server.specs.Serving.TellsEach.{begins, goes_on}
 use Rattle.server.proofs.shared.Shared.serve_lane.Goals as goal
 
-pub loop-init : goal.loop-init
-loop-init g c = record { can = tt; ends = tt; row = begins }
+pub loop-count-init : goal.loop-count-init
+loop-count-init g c = begins
 
-pub loop-preserved : goal.loop-preserved
-loop-preserved g c = record { can = tt; ends = tt; row = rows_join _ _ _ c.loop.invariant.row c.serve_stream-lane.ensures }
+pub loop-count-preserved : goal.loop-count-preserved
+loop-count-preserved g c = goes_on _ c.loop-count.invariant
+    (subst (λ (port : Port). TellsOne port c.loop-count.lane.sent c.serve_stream-lane.result.sent)
+    (c.port_of.ensures ∙ ap (λ (lane : ℕ). port_of lane c.loop-count.count) c.lane-number.ensures)
+    c.serve_stream-lane.ensures)

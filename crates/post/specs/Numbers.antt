@@ -1,0 +1,6 @@
+-- The numbers of a program's nodes.
+use Rattle.std.specs.Prelude.{ℕ, List, map}
+use Rattle.post.specs.declared.peer.Peer.{Peer}
+
+abbrev pub numbers_of : List Peer → List ℕ
+numbers_of = map (λ (peer : Peer). peer.number)

@@ -1,0 +1,9 @@
+-- Why nodes are not served, by why a node did not open.
+use Rattle.node.specs.declared.OpeningError.{OpeningError}
+use Rattle.node.specs.declared.OpeningError.TheVariants as opening
+use Rattle.server.specs.declared.serve_error.ServeError.{ServeError}
+use Rattle.server.specs.declared.serve_error.ServeError.TheVariants.{BadMembers, Memory}
+
+abbrev pub serve_error_of : OpeningError → ServeError
+serve_error_of opening.BadMembers = BadMembers
+serve_error_of opening.Memory = Memory
