@@ -11,14 +11,16 @@ use mailbox::Lane;
 use node::{Gate, Item, NodeNaming};
 use std::sync::Wait;
 use std::time::{Clock, Duration};
-use std::{mem, thread};
+use std::{hint, mem, thread};
 
 /// How often the node is told the time, in milliseconds.
 const TICK: u64 = 200;
 
-/// How often the thread looks for what comes before it sleeps, and gives way to others in between: for about as long as it
-/// takes to wake a thread that sleeps.
-const LOOKS: u32 = 32;
+/// How often the thread looks for what comes before it sleeps, and how many steps it waits between two looks: all in all
+/// for about as long as it takes to wake a thread.
+const LOOKS: u32 = 64;
+
+const STEPS: u32 = 8;
 
 impl<'a, J: NodeNaming, S: Served<J>, G: Gate> Shared<'a, J, S, G> {
     /// Does the work of the node's own thread by its lane, until the door is closed: the lane.
@@ -96,7 +98,7 @@ impl<'a, J: NodeNaming, S: Served<J>, G: Gate> Shared<'a, J, S, G> {
             if self.seat.node.is_wanted(rt) {
                 return true;
             }
-            thread::yield_now();
+            pause();
         }
         false
     }
@@ -112,5 +114,12 @@ impl<'a, J: NodeNaming, S: Served<J>, G: Gate> Shared<'a, J, S, G> {
             }
         }
         late
+    }
+}
+
+// Waits for less than a microsecond.
+fn pause() {
+    for _ in 0..STEPS {
+        hint::spin_loop();
     }
 }
