@@ -30,7 +30,8 @@ impl<'e, 'a, J: NodeNaming, S: Served<J>, G: Gate> Hearer for Ear<'e, 'a, J, S, 
 
     fn tell<R: Wait + Clock>(&mut self, rt: &R, item: Item) {
         let shared = self.shared;
-        shared.send(rt, &mut self.lane, item);
+        let place = self.link.place;
+        shared.send(rt, &mut self.lane, item, place);
     }
 
     // A port of which the node has not heard yet is one that it closed, so a link is listed behind that.

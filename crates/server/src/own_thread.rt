@@ -55,7 +55,7 @@ impl<'a, J: NodeNaming, S: Served<J>, G: Gate> Shared<'a, J, S, G> {
         if now.saturating_sub(told) < TICK {
             return told;
         }
-        self.send(rt, lane, Item::Tick(now));
+        self.send(rt, lane, Item::Tick(now), 0);
         now
     }
 
@@ -70,7 +70,7 @@ impl<'a, J: NodeNaming, S: Served<J>, G: Gate> Shared<'a, J, S, G> {
         for item in items {
             self.put_letter(rt, lane, item);
         }
-        self.turn(rt);
+        self.turn(rt, 0);
     }
 
     // Sends what was left for the node by its lane.

@@ -14,12 +14,19 @@ use std::sync::Wait;
 use std::time::Clock;
 
 impl<'a, J: NodeNaming, S: Served<J>, G: Gate> Shared<'a, J, S, G> {
-    /// Sends an item by a lane, and takes what waits in the inbox, that item with it.
-    pub(crate) fn send<R: Wait + Clock>(&self, rt: &R, lane: &mut Lane<Item, J>, item: Item)
+    /// Sends an item by a lane, and takes what waits in the inbox, that item with it. The connection at this place is
+    /// written to first.
+    pub(crate) fn send<R: Wait + Clock>(
+        &self,
+        rt: &R,
+        lane: &mut Lane<Item, J>,
+        item: Item,
+        first: usize,
+    )
         ensures { lane.new ≡ record lane.old { sent = lane.old.sent ++ item ∷ [] } }
     {
         self.put(rt, lane, item);
-        self.turn(rt);
+        self.turn(rt, first);
     }
 
     /// Sends an item by a lane. Where the inbox is full a turn is done first.
@@ -32,13 +39,13 @@ impl<'a, J: NodeNaming, S: Served<J>, G: Gate> Shared<'a, J, S, G> {
                 Ok(()) => return,
                 Err(back) => unsent = back,
             }
-            self.turn(rt);
+            self.turn(rt, 0);
         }
         unreachable!()
     }
 
-    /// Takes what waits in the inbox, and then writes what was put out.
-    pub(crate) fn turn<R: Wait + Clock>(&self, rt: &R) {
+    /// Takes what waits in the inbox, and then writes what was put out, to the connection at this place first.
+    pub(crate) fn turn<R: Wait + Clock>(&self, rt: &R, first: usize) {
         for _ in rt.forever() {
             if !self.take_some(rt) {
                 break;
@@ -47,16 +54,21 @@ impl<'a, J: NodeNaming, S: Served<J>, G: Gate> Shared<'a, J, S, G> {
         let mut idle = Vec::new(self.alloc);
         // Where there is no memory for them all are looked at.
         let _ = self.node.lock(rt).state().idle_ports(&mut idle);
-        self.write_all(rt, &idle);
+        self.write_between(rt, first, usize::from(CONNECTIONS), &idle);
+        self.write_between(rt, 0, first, &idle);
     }
 
-    // Writes what was put out for the connections that are listed, but for those of these ports.
-    fn write_all<R: Wait>(&self, rt: &R, idle: &Vec<Port>) {
-        let mut place = 0;
-        for _ in 0..CONNECTIONS {
+    // Writes what was put out for the connections that are listed from one place up to another, but for those of these
+    // ports.
+    fn write_between<R: Wait>(&self, rt: &R, first: usize, end: usize, idle: &Vec<Port>) {
+        let mut place = first;
+        for _ in first..end {
             let Some((behind, link)) = self.seat.place.door.link_from(rt, place) else {
                 return;
             };
+            if behind > end {
+                return;
+            }
             if !idle.contains(&link.port) {
                 self.flush(rt, &link);
             }
