@@ -1,6 +1,7 @@
 // The nodes of a program, and the master beside them.
 
-ghost use Rattle.std.specs.Prelude.{◌≡◌, IfOk, IfSome, None, false};
+ghost use Rattle.std.specs.Prelude.{◌≡◌, IfOk, IfSome, IsErrOf, IsOk, None, false, true};
+ghost use Rattle.ballot_base.specs.LawfulConfig.{is_lawful};
 ghost use Rattle.lists.specs.Lists.{has_id};
 ghost use Rattle.node.specs.Lists.{Each};
 ghost use Rattle.post.specs.Letters.{IsLeft, WasGiven};
@@ -10,7 +11,9 @@ use crate::carrier::{Carrier, carry_all};
 use crate::order_error::OrderError;
 use crate::peer::Peer;
 use master::{Activation, AssignError, Master};
-use node::{Body, Command, Config, Effect, Item, Members, Message, OpeningError, Output, Status};
+use node::{
+    Body, Command, Config, Effect, Item, Members, Memory, Message, OpeningError, Output, Status,
+};
 use std::alloc::Global;
 use std::marker::Model;
 use std::sync::{Mutex, Wait};
@@ -45,9 +48,12 @@ impl Model for Peers {
 
 impl Peers {
     /// The nodes of these numbers, and a master whose ballot 1 has this configuration. `BadMembers` comes where no
-    /// ballot may have it.
+    /// ballot may have it; the other error is want of memory.
     pub fn new(alloc: Global, numbers: &[u8], config: &Config) -> Result<Peers, OpeningError>
-        ensures { IfOk result (λ peers. peers ≡ numbers.now) }
+        ensures ok { IfOk result (λ peers. peers ≡ numbers.now) }
+        ensures lawful { IsOk result → is_lawful config.now.members config.now.primary ≡ true }
+        ensures bad { IsErrOf result OpeningError.BadMembers →
+            is_lawful config.now.members config.now.primary ≡ false }
     {
         let nodes = peers_of(alloc, numbers)?;
         let Ok(master) = Master::new(Config {
@@ -158,7 +164,7 @@ impl Peers {
 }
 
 // A peer for each number.
-fn peers_of(alloc: Global, numbers: &[u8]) -> Result<Vec<Peer>, OpeningError>
+fn peers_of(alloc: Global, numbers: &[u8]) -> Result<Vec<Peer>, Memory>
     ensures { IfOk result (λ nodes. numbers_of nodes.items ≡ numbers.now) }
 {
     let mut nodes = Vec::with_capacity(alloc, numbers.len())?;
