@@ -30,13 +30,6 @@ impl<C: Drop> Log<C> {
         }
     }
 
-    /// The log of these places.
-    pub fn from_places(places: Vec<C>) -> Self
-        ensures { result ≡ places.items }
-    {
-        Log { places }
-    }
-
     /// Gives its places out.
     pub fn into_places(self) -> Vec<C>
         ensures { result.items ≡ self }

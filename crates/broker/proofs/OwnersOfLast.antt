@@ -7,8 +7,8 @@ use Rattle.broker_model.specs.Past.{any_connection}
 use Rattle.broker_base.specs.ClientSession.{ClientSession}
 use Rattle.broker_base.specs.State.{Sessions, owner_in}
 use Rattle.broker_base.proofs.ConnectionsOfSessions.{same_turned}
-use Rattle.broker_rows.specs.Owners.{owners_in, owned_by}
-use Rattle.broker_rows.proofs.OwnersRow.{on_is}
+use Rattle.broker_form.specs.broker_rows.Owners.{owners_in, owned_by}
+use Rattle.broker_form.proofs.of_broker_rows.OwnersRow.{on_is}
 use Rattle.session_form.specs.Counted.{last_of}
 use Rattle.broker_form.specs.Form.{is_behind, is_taken, row_follows}
 

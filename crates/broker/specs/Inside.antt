@@ -5,7 +5,7 @@ use Rattle.retained.specs.Retained.{RetainedTopics}
 use Rattle.session_form.specs.FormLaws.{HasForm}
 use Rattle.broker_model.specs.Connection.{ConnectionName}
 use Rattle.broker_base.specs.State.{Sessions, State}
-use Rattle.broker_rows.specs.Owners.{owners_in}
+use Rattle.broker_form.specs.broker_rows.Owners.{owners_in}
 use Rattle.broker_tables.specs.Tables.{owners_at}
 use Rattle.broker.specs.declared.rows.Rows.{Rows}
 

@@ -5,7 +5,7 @@ ghost use Rattle.packet_base.specs.Outcome.{Reads};
 ghost use Rattle.packet_base.specs.Reading.{number_at};
 ghost use Rattle.session_form.specs.Counted.{counted_at, items_behind, last_of, Adds};
 ghost use Rattle.broker_model.specs.Connection.{ConnectionName};
-ghost use Rattle.broker_rows.specs.Owners.{owned_by};
+ghost use Rattle.broker_form.specs.broker_rows.Owners.{owned_by};
 ghost use Rattle.broker_form.specs.Form.{is_behind, is_taken, row_at, row_follows};
 ghost use Rattle.broker_tables.specs.Tables.{owners_at};
 ghost use Rattle.broker.specs.Inside.{AreOwned};

@@ -6,7 +6,7 @@ ghost use Rattle.packet_base.specs.Reading.{number_at};
 ghost use Rattle.session_form.specs.Counted.{counted_at, items_behind, last_of, Adds};
 ghost use Rattle.subs_base.specs.Content.{no_subscriptions};
 ghost use Rattle.subs_base.specs.ListIndex.{content_of};
-ghost use Rattle.broker_rows.specs.Indexed.{all_set, all_told};
+ghost use Rattle.broker_form.specs.broker_rows.Indexed.{all_set, all_told};
 ghost use Rattle.broker_form.specs.Form.{broker_at, is_behind, retained_at, topic_follows};
 ghost use Rattle.broker_tables.specs.Tables.{IsTied, state_in};
 ghost use Rattle.retained.specs.Retained.{IsRising};

@@ -13,3 +13,4 @@ pub mod RowsAgain
 pub mod RowsFollow
 pub mod Thawing
 pub mod UsualStates
+pub use Rattle.broker_rows.proofs as of_broker_rows

@@ -3,3 +3,4 @@ pub mod RangeLaws
 pub mod Form
 pub mod FormLaws
 pub mod FormRows
+pub use Rattle.broker_rows.specs as broker_rows

@@ -18,6 +18,3 @@ pub use laws::{
 };
 pub use request::Request;
 pub use stage::Stage;
-
-#[cfg(test)]
-mod tests;

@@ -4,15 +4,15 @@ use Rattle.ballot.specs.Replica.{ReplicaState}
 use Rattle.broker_base.specs.State.{State}
 use Rattle.broker_base.specs.Command.{Command}
 use Rattle.broker_base.specs.Command.TheVariants as commands
-use Rattle.world_base.specs.Connections.{asked, closed, failing, left_with}
-use Rattle.world_base.specs.Core.{CoreState, Turn, rules}
-use Rattle.world_base.specs.Lossy.{Account, Takes}
-use Rattle.world_base.specs.Reading.{changes}
-use Rattle.node_model.specs.LossyMoves.{LossyMoves, hears_in}
-use Rattle.node_model.specs.LossyMoves.LossyMoves.{exactly, hears_losing, first_losing, later_losing, tells_losing, forgets, halts, fails, unheard, drops}
-use Rattle.node_model.proofs.LossyOutputs.{delivers_replica}
-use Rattle.node_model.proofs.MovesOfReplica.{move_same}
-use Rattle.node_model.proofs.ReplicaStays.{added_same}
+use Rattle.group_model.specs.world_base.Connections.{asked, closed, failing, left_with}
+use Rattle.group_model.specs.world_base.Core.{CoreState, Turn, rules}
+use Rattle.group_model.specs.world_base.Lossy.{Account, Takes}
+use Rattle.group_model.specs.world_base.Reading.{changes}
+use Rattle.group_model.specs.node_model.LossyMoves.{LossyMoves, hears_in}
+use Rattle.group_model.specs.node_model.LossyMoves.LossyMoves.{exactly, hears_losing, first_losing, later_losing, tells_losing, forgets, halts, fails, unheard, drops}
+use Rattle.group_model.proofs.of_node_model.LossyOutputs.{delivers_replica}
+use Rattle.group_model.proofs.of_node_model.MovesOfReplica.{move_same}
+use Rattle.group_model.proofs.of_node_model.ReplicaStays.{added_same}
 use Rattle.group_model.specs.Group.{replica_of}
 use Rattle.group_model.proofs.MovesHappen.{changed_state, state_of}
 

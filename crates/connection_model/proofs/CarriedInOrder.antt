@@ -19,12 +19,12 @@ use Rattle.agreement.specs.Past.{IsAgreed, Moment, Past}
 use Rattle.agreement.specs.Proposals.{commands_of as commands_in}
 use Rattle.agreement.specs.World.{can_open}
 use Rattle.agreement.proofs.Agreed.PastAgrees.{has_agreed}
-use Rattle.world_base.specs.Core.{CoreState, opening_core, rules}
-use Rattle.node_model.specs.Ends.{bytes_on, commands_of}
-use Rattle.node_model.specs.LossyMoves.{came_with}
-use Rattle.node_model.specs.LossyMoves.{bytes_on as bytes_losing}
-use Rattle.node_model.proofs.Kept.{named}
-use Rattle.node_model.proofs.ProposesInOrder.{commands_join, front_of}
+use Rattle.group_model.specs.world_base.Core.{CoreState, opening_core, rules}
+use Rattle.group_model.specs.node_model.Ends.{bytes_on, commands_of}
+use Rattle.group_model.specs.node_model.LossyMoves.{came_with}
+use Rattle.group_model.specs.node_model.LossyMoves.{bytes_on as bytes_losing}
+use Rattle.group_model.proofs.of_node_model.Kept.{named}
+use Rattle.group_model.proofs.of_node_model.ProposesInOrder.{commands_join, front_of}
 use Rattle.group_model.specs.Group.{Group, behind_turn, moment_of, opening_cores, opening_group, with_master}
 use Rattle.group_model.specs.Goes.{MayGo, Went, all_put, behind_assign, groups_of, put_in_run, put_in_step}
 use Rattle.group_model.specs.Goes.MayGo.{node_acts, node_loses, master_assigns, master_hears, assigns_unheard, answers_unheard}

@@ -10,10 +10,10 @@ use Rattle.lists.specs.Lists.{IsPrefixOf}
 use Rattle.lists.proofs.Beginnings.{prefix_length, prefix_take, prefix_then, take_prefix}
 use Rattle.agreement.specs.Giving.{gives_from}
 use Rattle.agreement.proofs.Given.StepGives.{from_active}
-use Rattle.world_base.specs.declared.connection.Connection.{Connection}
-use Rattle.world_base.specs.Handing.{bytes_of}
-use Rattle.node_model.proofs.Kept.{live}
-use Rattle.node_model.proofs.Views.{some_none}
+use Rattle.group_model.specs.world_base.declared.connection.Connection.{Connection}
+use Rattle.group_model.specs.world_base.Handing.{bytes_of}
+use Rattle.group_model.proofs.of_node_model.Kept.{live}
+use Rattle.group_model.proofs.of_node_model.Views.{some_none}
 use Rattle.connection_model.specs.Carried.{answers_to}
 use Rattle.connection_model.proofs.Flows.{Flows}
 use Rattle.connection_model.proofs.Flows.Flows.{away, begins, flows, ebbs, dries}

@@ -11,22 +11,22 @@ use Rattle.broker_base.specs.Command.TheVariants as commands
 use Rattle.broker_base.specs.Connection.{ConnectionName, same_connection}
 use Rattle.pipes.specs.Pipe.{Joins}
 use Rattle.story.specs.Story.{is_packet_of}
-use Rattle.world_base.specs.declared.item.Port.{Port}
-use Rattle.world_base.specs.declared.connection.Connection.{Connection}
-use Rattle.world_base.specs.Core.{CoreState, Turn, serves}
-use Rattle.world_base.specs.Reading.{open_at}
-use Rattle.node_model.specs.Closed.{refusal_in as exactly_refusal}
-use Rattle.node_model.specs.Ends.{IsEnd, IsGiven, IsOrderly, open_named, piece_on}
-use Rattle.node_model.specs.Ends.{came_on as exactly_came, proposal_of as exactly_proposed}
-use Rattle.node_model.specs.Ends.IsEnd.{not_yet, is_open, is_over}
-use Rattle.node_model.specs.LossyMoves.{LossyMoves, came_on, proposal_of, refusal_in}
-use Rattle.node_model.specs.LossyMoves.LossyMoves.{exactly, first_losing, later_losing, drops}
-use Rattle.node_model.specs.Moves.{Moves}
-use Rattle.node_model.specs.Moves.Moves.{holds, reads_first, reads_later, refuses, loses_one, loses_next}
-use Rattle.node_model.proofs.Kept.{named}
-use Rattle.node_model.proofs.NamesInOrder.{not_both}
-use Rattle.node_model.proofs.ReadsInOrder.{found_given, found_open}
-use Rattle.node_model.proofs.Views.{some_none}
+use Rattle.group_model.specs.world_base.declared.item.Port.{Port}
+use Rattle.group_model.specs.world_base.declared.connection.Connection.{Connection}
+use Rattle.group_model.specs.world_base.Core.{CoreState, Turn, serves}
+use Rattle.group_model.specs.world_base.Reading.{open_at}
+use Rattle.group_model.specs.node_model.Closed.{refusal_in as exactly_refusal}
+use Rattle.group_model.specs.node_model.Ends.{IsEnd, IsGiven, IsOrderly, open_named, piece_on}
+use Rattle.group_model.specs.node_model.Ends.{came_on as exactly_came, proposal_of as exactly_proposed}
+use Rattle.group_model.specs.node_model.Ends.IsEnd.{not_yet, is_open, is_over}
+use Rattle.group_model.specs.node_model.LossyMoves.{LossyMoves, came_on, proposal_of, refusal_in}
+use Rattle.group_model.specs.node_model.LossyMoves.LossyMoves.{exactly, first_losing, later_losing, drops}
+use Rattle.group_model.specs.node_model.Moves.{Moves}
+use Rattle.group_model.specs.node_model.Moves.Moves.{holds, reads_first, reads_later, refuses, loses_one, loses_next}
+use Rattle.group_model.proofs.of_node_model.Kept.{named}
+use Rattle.group_model.proofs.of_node_model.NamesInOrder.{not_both}
+use Rattle.group_model.proofs.of_node_model.ReadsInOrder.{found_given, found_open}
+use Rattle.group_model.proofs.of_node_model.Views.{some_none}
 use Rattle.broker_model.proofs.ConnectionNames.{same_name}
 use Rattle.group_model.specs.Goes.{commands_put as exactly_put}
 use Rattle.group_model.specs.Losing.{commands_put}

@@ -6,26 +6,26 @@ use Rattle.std.proofs.lemmas.List.{append-nil}
 use Rattle.broker_base.specs.Connection.{ConnectionName, is_connection_name}
 use Rattle.lists.specs.Lists.{IsPrefixOf}
 use Rattle.lists.proofs.Beginnings.{prefix_same}
-use Rattle.world_base.specs.declared.item.Port.{Port}
-use Rattle.world_base.specs.declared.connection.Connection.{Connection}
-use Rattle.world_base.specs.Connections.{changed, closed, fresh, handed, is_at, is_listed}
-use Rattle.world_base.specs.Core.{CoreState, Turn, serves}
-use Rattle.world_base.specs.Handing.{hands_over, left_by}
-use Rattle.world_base.specs.Step.{next_name, opens, settled}
-use Rattle.node_model.specs.Closed.{listed_named}
-use Rattle.node_model.specs.Ends.{IsOrderly}
-use Rattle.node_model.specs.LossyMoves.{LossyMoves}
-use Rattle.node_model.specs.LossyMoves.LossyMoves.{exactly, hears_losing, first_losing, later_losing, tells_losing, forgets, halts, fails, unheard, drops}
-use Rattle.node_model.specs.Moves.{Moves}
-use Rattle.node_model.specs.Moves.Moves.{hears, opens_one, holds, reads_first, reads_later, closes, refuses, loses_one, loses_next, crashes, settles, hands}
-use Rattle.node_model.proofs.Kept.{live, named, named_kept}
-use Rattle.node_model.proofs.LossyShuts.{lossy_shuts, sent_in}
-use Rattle.node_model.proofs.NothingOnClosed.{found_pushed, move_shuts}
-use Rattle.node_model.proofs.NothingOnClosed.{sent_in as exactly_sent}
-use Rattle.node_model.proofs.OpenBehind.{found_front}
-use Rattle.node_model.proofs.Shut.{Shuts, all, found_filtered, found_mapped, shuts_same}
-use Rattle.node_model.proofs.Shut.Shuts.{nobody, stays_open, is_shut, was_shut}
-use Rattle.node_model.proofs.Views.{one_changed, one_mapped, same_some, some_none, view, view_of_changed, view_of_others}
+use Rattle.group_model.specs.world_base.declared.item.Port.{Port}
+use Rattle.group_model.specs.world_base.declared.connection.Connection.{Connection}
+use Rattle.group_model.specs.world_base.Connections.{changed, closed, fresh, handed, is_at, is_listed}
+use Rattle.group_model.specs.world_base.Core.{CoreState, Turn, serves}
+use Rattle.group_model.specs.world_base.Handing.{hands_over, left_by}
+use Rattle.group_model.specs.world_base.Step.{next_name, opens, settled}
+use Rattle.group_model.specs.node_model.Closed.{listed_named}
+use Rattle.group_model.specs.node_model.Ends.{IsOrderly}
+use Rattle.group_model.specs.node_model.LossyMoves.{LossyMoves}
+use Rattle.group_model.specs.node_model.LossyMoves.LossyMoves.{exactly, hears_losing, first_losing, later_losing, tells_losing, forgets, halts, fails, unheard, drops}
+use Rattle.group_model.specs.node_model.Moves.{Moves}
+use Rattle.group_model.specs.node_model.Moves.Moves.{hears, opens_one, holds, reads_first, reads_later, closes, refuses, loses_one, loses_next, crashes, settles, hands}
+use Rattle.group_model.proofs.of_node_model.Kept.{live, named, named_kept}
+use Rattle.group_model.proofs.of_node_model.LossyShuts.{lossy_shuts, sent_in}
+use Rattle.group_model.proofs.of_node_model.NothingOnClosed.{found_pushed, move_shuts}
+use Rattle.group_model.proofs.of_node_model.NothingOnClosed.{sent_in as exactly_sent}
+use Rattle.group_model.proofs.of_node_model.OpenBehind.{found_front}
+use Rattle.group_model.proofs.of_node_model.Shut.{Shuts, all, found_filtered, found_mapped, shuts_same}
+use Rattle.group_model.proofs.of_node_model.Shut.Shuts.{nobody, stays_open, is_shut, was_shut}
+use Rattle.group_model.proofs.of_node_model.Views.{one_changed, one_mapped, same_some, some_none, view, view_of_changed, view_of_others}
 use Rattle.connection_model.specs.Streams.{bytes_named}
 use Rattle.connection_model.specs.Streams.{handed_on as exactly_handed}
 use Rattle.connection_model.proofs.Handed.{handed_on}

@@ -4,24 +4,24 @@ use Rattle.std.specs.List.{list_any}
 use Rattle.broker_base.specs.Command.{Command}
 use Rattle.broker_base.specs.Command.TheVariants as commands
 use Rattle.broker_base.specs.Connection.{ConnectionName, is_connection_name}
-use Rattle.world_base.specs.declared.item.Port.{Port}
-use Rattle.world_base.specs.declared.connection.Connection.{Connection}
-use Rattle.world_base.specs.Connections.{asked, closed, failing, fresh, is_at, left_with}
-use Rattle.world_base.specs.Core.{CoreState, Turn, serves}
-use Rattle.world_base.specs.Failing.{closes_failed}
-use Rattle.world_base.specs.Lossy.{Account, Takes}
-use Rattle.world_base.specs.Reading.{changes}
-use Rattle.world_base.specs.Step.{next_name, opens}
-use Rattle.world_base.specs.Turns.{proposes}
-use Rattle.node_model.specs.Ends.{IsGiven, IsOrderly}
-use Rattle.node_model.specs.LossyMoves.{LossyMoves}
-use Rattle.node_model.specs.LossyMoves.LossyMoves.{exactly, hears_losing, first_losing, later_losing, tells_losing, forgets, halts, fails, unheard, drops}
-use Rattle.node_model.specs.Moves.{Moves}
-use Rattle.node_model.specs.Moves.Moves.{hears, opens_one, holds, reads_first, reads_later, closes, refuses, loses_one, loses_next, crashes, settles, hands}
-use Rattle.node_model.proofs.Kept.{stays_crashed, stays_driven, stays_failed, stays_handed, stays_proposed, stays_settled}
-use Rattle.node_model.proofs.LossyReads.{stays_drives, stays_takes}
-use Rattle.node_model.proofs.NamesInOrder.{given_later, next_precedes}
-use Rattle.node_model.proofs.ShutByChanges.{at_orderly}
+use Rattle.group_model.specs.world_base.declared.item.Port.{Port}
+use Rattle.group_model.specs.world_base.declared.connection.Connection.{Connection}
+use Rattle.group_model.specs.world_base.Connections.{asked, closed, failing, fresh, is_at, left_with}
+use Rattle.group_model.specs.world_base.Core.{CoreState, Turn, serves}
+use Rattle.group_model.specs.world_base.Failing.{closes_failed}
+use Rattle.group_model.specs.world_base.Lossy.{Account, Takes}
+use Rattle.group_model.specs.world_base.Reading.{changes}
+use Rattle.group_model.specs.world_base.Step.{next_name, opens}
+use Rattle.group_model.specs.world_base.Turns.{proposes}
+use Rattle.group_model.specs.node_model.Ends.{IsGiven, IsOrderly}
+use Rattle.group_model.specs.node_model.LossyMoves.{LossyMoves}
+use Rattle.group_model.specs.node_model.LossyMoves.LossyMoves.{exactly, hears_losing, first_losing, later_losing, tells_losing, forgets, halts, fails, unheard, drops}
+use Rattle.group_model.specs.node_model.Moves.{Moves}
+use Rattle.group_model.specs.node_model.Moves.Moves.{hears, opens_one, holds, reads_first, reads_later, closes, refuses, loses_one, loses_next, crashes, settles, hands}
+use Rattle.group_model.proofs.of_node_model.Kept.{stays_crashed, stays_driven, stays_failed, stays_handed, stays_proposed, stays_settled}
+use Rattle.group_model.proofs.of_node_model.LossyReads.{stays_drives, stays_takes}
+use Rattle.group_model.proofs.of_node_model.NamesInOrder.{given_later, next_precedes}
+use Rattle.group_model.proofs.of_node_model.ShutByChanges.{at_orderly}
 
 same_last : (port : Port) (f : Connection → Connection) (core : CoreState) → (changes port f core).last_name ≡ core.last_name
 unfolding changes

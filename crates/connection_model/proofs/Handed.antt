@@ -1,14 +1,14 @@
 -- What is handed over in a run of moves in which something may be lost.
 use Rattle.std.proofs.Common.{◌≡◌, ℕ, false, List, [], ◌++◌, refl, ap, ◌∙◌}
 use Rattle.broker_base.specs.Connection.{ConnectionName}
-use Rattle.world_base.specs.Core.{CoreState, Turn}
-use Rattle.node_model.specs.LossyMoves.{HandsNothing, LossyMoves, LossyRuns, is_handing}
-use Rattle.node_model.specs.LossyMoves.LossyMoves.{exactly}
-use Rattle.node_model.specs.LossyMoves.LossyRuns.{rests as rests_losing, goes_on as goes_losing}
-use Rattle.node_model.specs.Moves.{Moves, Runs}
-use Rattle.node_model.specs.Moves.Moves.{hands}
-use Rattle.node_model.specs.Moves.Runs.{rests, goes_on}
-use Rattle.node_model.specs.Puts.{is_handing as exactly_handing}
+use Rattle.group_model.specs.world_base.Core.{CoreState, Turn}
+use Rattle.group_model.specs.node_model.LossyMoves.{HandsNothing, LossyMoves, LossyRuns, is_handing}
+use Rattle.group_model.specs.node_model.LossyMoves.LossyMoves.{exactly}
+use Rattle.group_model.specs.node_model.LossyMoves.LossyRuns.{rests as rests_losing, goes_on as goes_losing}
+use Rattle.group_model.specs.node_model.Moves.{Moves, Runs}
+use Rattle.group_model.specs.node_model.Moves.Moves.{hands}
+use Rattle.group_model.specs.node_model.Moves.Runs.{rests, goes_on}
+use Rattle.group_model.specs.node_model.Puts.{is_handing as exactly_handing}
 use Rattle.group_model.proofs.LosingNone.{losing_none}
 use Rattle.connection_model.specs.Streams.{handed_in_run}
 use Rattle.connection_model.specs.Streams.{handed_on as exactly_handed}

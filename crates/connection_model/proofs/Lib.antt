@@ -9,3 +9,5 @@ pub mod States
 pub mod MovesKeep
 pub mod RunsKeep
 pub mod CarriedInOrder
+pub use Rattle.group_model.proofs as of_group_model
+pub use Rattle.group_model.proofs.of_node_model as of_node_model

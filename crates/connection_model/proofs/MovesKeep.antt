@@ -21,20 +21,20 @@ use Rattle.pipes.specs.Pipe.{IsPiped}
 use Rattle.story.specs.Sends.{sends_to}
 use Rattle.model.proofs.Answers.{counted_in, nothing_put}
 use Rattle.model.proofs.Lists.{same_or_other}
-use Rattle.world_base.specs.declared.connection.Connection.{Connection}
-use Rattle.world_base.specs.Core.{CoreState, Turn, rules}
-use Rattle.node_model.specs.Closed.{listed_named}
-use Rattle.node_model.specs.Ends.{IsEnd, IsGiven, IsOrderly, commands_of, open_named, stream_of}
-use Rattle.node_model.specs.Ends.IsEnd.{not_yet}
-use Rattle.node_model.specs.LossyLaws.{ReadsOn}
-use Rattle.node_model.specs.LossyMoves.{LossyMoves, came_on, given_in, proposal_of, refusal_in}
-use Rattle.node_model.specs.Puts.{outputs_of, spelled}
-use Rattle.node_model.proofs.Kept.{live}
-use Rattle.node_model.proofs.NamesInOrder.{not_both}
-use Rattle.node_model.proofs.LossyClosed.{lossy_names_are_of_the_ballot}
-use Rattle.node_model.proofs.LossyReads.{losses_read_in_order}
-use Rattle.node_model.proofs.LossyShuts.{sent_in}
-use Rattle.node_model.proofs.ProposesInOrder.{commands_join}
+use Rattle.group_model.specs.world_base.declared.connection.Connection.{Connection}
+use Rattle.group_model.specs.world_base.Core.{CoreState, Turn, rules}
+use Rattle.group_model.specs.node_model.Closed.{listed_named}
+use Rattle.group_model.specs.node_model.Ends.{IsEnd, IsGiven, IsOrderly, commands_of, open_named, stream_of}
+use Rattle.group_model.specs.node_model.Ends.IsEnd.{not_yet}
+use Rattle.group_model.specs.node_model.LossyLaws.{ReadsOn}
+use Rattle.group_model.specs.node_model.LossyMoves.{LossyMoves, came_on, given_in, proposal_of, refusal_in}
+use Rattle.group_model.specs.node_model.Puts.{outputs_of, spelled}
+use Rattle.group_model.proofs.of_node_model.Kept.{live}
+use Rattle.group_model.proofs.of_node_model.NamesInOrder.{not_both}
+use Rattle.group_model.proofs.of_node_model.LossyClosed.{lossy_names_are_of_the_ballot}
+use Rattle.group_model.proofs.of_node_model.LossyReads.{losses_read_in_order}
+use Rattle.group_model.proofs.of_node_model.LossyShuts.{sent_in}
+use Rattle.group_model.proofs.of_node_model.ProposesInOrder.{commands_join}
 use Rattle.group_model.specs.Group.{Group, behind_turn, moment_of, replica_of}
 use Rattle.group_model.specs.Goes.{keeping}
 use Rattle.group_model.specs.Losing.{commands_put, put_in_move}

@@ -14,17 +14,17 @@ use Rattle.lists.proofs.OfEach.{each_left}
 use Rattle.agreement.specs.Past.{Moment, Past, IsAgreed}
 use Rattle.agreement.specs.Proposals.{commands_of as commands_in, proposals_of, taken_of}
 use Rattle.agreement.proofs.Agreed.PastAgrees.{has_agreed}
-use Rattle.world_base.specs.Connections.{is_over}
-use Rattle.world_base.specs.Core.{CoreState, Turn, rules}
-use Rattle.world_base.specs.Turns.{quiet}
-use Rattle.node_model.specs.Ends.{IsOrderly}
-use Rattle.node_model.specs.Keeping.{AreOfTheBallot}
-use Rattle.node_model.specs.LossyMoves.{HearsAtFirst, IsCalm, LossyMoves, LossyRuns, all_inputs, bytes_on, came_on, given_in, hears_in, inputs_in}
-use Rattle.node_model.specs.LossyMoves.LossyRuns.{rests, goes_on}
-use Rattle.node_model.specs.Moves.{and_then}
-use Rattle.node_model.proofs.Kept.{left_true}
-use Rattle.node_model.proofs.LossyReads.{losses_read_in_order}
-use Rattle.node_model.proofs.OpenBehind.{open_if}
+use Rattle.group_model.specs.world_base.Connections.{is_over}
+use Rattle.group_model.specs.world_base.Core.{CoreState, Turn, rules}
+use Rattle.group_model.specs.world_base.Turns.{quiet}
+use Rattle.group_model.specs.node_model.Ends.{IsOrderly}
+use Rattle.group_model.specs.node_model.Keeping.{AreOfTheBallot}
+use Rattle.group_model.specs.node_model.LossyMoves.{HearsAtFirst, IsCalm, LossyMoves, LossyRuns, all_inputs, bytes_on, came_on, given_in, hears_in, inputs_in}
+use Rattle.group_model.specs.node_model.LossyMoves.LossyRuns.{rests, goes_on}
+use Rattle.group_model.specs.node_model.Moves.{and_then}
+use Rattle.group_model.proofs.of_node_model.Kept.{left_true}
+use Rattle.group_model.proofs.of_node_model.LossyReads.{losses_read_in_order}
+use Rattle.group_model.proofs.of_node_model.OpenBehind.{open_if}
 use Rattle.group_model.specs.Ballots.{IsInItsBallot}
 use Rattle.group_model.specs.Group.{Group, behind_turn, moment_of, replica_of}
 use Rattle.group_model.specs.Goes.{keeping}

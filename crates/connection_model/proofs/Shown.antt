@@ -22,8 +22,8 @@ use Rattle.model.specs.PutOut.{answered, broker_rules}
 use Rattle.model.proofs.Answers.{put_front, put_push}
 use Rattle.model.proofs.Lists.{take_next, there_is}
 use Rattle.model.proofs.PutOut.{between, given_more}
-use Rattle.world_base.specs.Core.{rules}
-use Rattle.node_model.specs.Puts.{outputs_of, spelled}
+use Rattle.group_model.specs.world_base.Core.{rules}
+use Rattle.group_model.specs.node_model.Puts.{outputs_of, spelled}
 use Rattle.connection_model.specs.Carried.{answers_to}
 
 -- ---- spellings of lists

@@ -16,16 +16,16 @@ use Rattle.story.specs.Story.{is_packet_of}
 use Rattle.agreement.specs.Past.{Moment}
 use Rattle.agreement.specs.Primaries.{IsPrimary}
 use Rattle.agreement.specs.Proposals.{commands_of as commands_in}
-use Rattle.world_base.specs.declared.connection.Connection.{Connection}
-use Rattle.world_base.specs.Core.{CoreState, Turn}
-use Rattle.world_base.specs.Step.{next_name}
-use Rattle.node_model.specs.Closed.{listed_named}
-use Rattle.node_model.specs.Ends.{IsEnd, IsGiven, IsOrderly, Precedes, commands_of, open_named, stream_of}
-use Rattle.node_model.specs.LossyMoves.{LossyMoves}
-use Rattle.node_model.specs.Names.{IsNextName}
-use Rattle.node_model.proofs.Kept.{left_true, live, named}
-use Rattle.node_model.proofs.NamesInOrder.{next_precedes}
-use Rattle.node_model.proofs.Views.{and_no, found_each, found_passes, some_none}
+use Rattle.group_model.specs.world_base.declared.connection.Connection.{Connection}
+use Rattle.group_model.specs.world_base.Core.{CoreState, Turn}
+use Rattle.group_model.specs.world_base.Step.{next_name}
+use Rattle.group_model.specs.node_model.Closed.{listed_named}
+use Rattle.group_model.specs.node_model.Ends.{IsEnd, IsGiven, IsOrderly, Precedes, commands_of, open_named, stream_of}
+use Rattle.group_model.specs.node_model.LossyMoves.{LossyMoves}
+use Rattle.group_model.specs.node_model.Names.{IsNextName}
+use Rattle.group_model.proofs.of_node_model.Kept.{left_true, live, named}
+use Rattle.group_model.proofs.of_node_model.NamesInOrder.{next_precedes}
+use Rattle.group_model.proofs.of_node_model.Views.{and_no, found_each, found_passes, some_none}
 use Rattle.group_model.specs.Group.{Group, moment_of, replica_of}
 use Rattle.group_model.specs.Losing.{commands_put, put_in_move}
 use Rattle.group_model.specs.Order.{packets_of}

@@ -9,8 +9,8 @@ use Rattle.lists.specs.Lists.{IsPrefixOf}
 use Rattle.pipes.specs.Pipe.{Joins}
 use Rattle.story.specs.Sends.{put_to}
 use Rattle.agreement.specs.Past.{IsAgreed}
-use Rattle.node_model.specs.Ends.{commands_of}
-use Rattle.node_model.specs.Puts.{spelled}
+use Rattle.group_model.specs.node_model.Ends.{commands_of}
+use Rattle.group_model.specs.node_model.Puts.{spelled}
 use Rattle.group_model.specs.Group.{Group, moment_of}
 use Rattle.group_model.specs.Goes.{Went, all_put, groups_of}
 use Rattle.group_model.specs.Order.{packets_of}

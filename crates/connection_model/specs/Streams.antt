@@ -2,14 +2,14 @@
 use Rattle.std.specs.Prelude.{ℕ, if◌then◌else◌, List, [], ◌++◌, Option, Some, None}
 use Rattle.ballot.specs.Config.{Config}
 use Rattle.broker_base.specs.Connection.{ConnectionName, same_connection}
-use Rattle.world_base.specs.declared.connection.Connection.{Connection}
-use Rattle.world_base.specs.Core.{CoreState, Turn}
-use Rattle.world_base.specs.Handing.{listed_at}
-use Rattle.node_model.specs.Ends.{bytes_on}
-use Rattle.node_model.specs.LossyMoves.{came_with}
-use Rattle.node_model.specs.Moves.{Moves, Runs}
-use Rattle.node_model.specs.Moves.Moves.{hands}
-use Rattle.node_model.specs.Moves.Runs.{rests, goes_on}
+use Rattle.group_model.specs.world_base.declared.connection.Connection.{Connection}
+use Rattle.group_model.specs.world_base.Core.{CoreState, Turn}
+use Rattle.group_model.specs.world_base.Handing.{listed_at}
+use Rattle.group_model.specs.node_model.Ends.{bytes_on}
+use Rattle.group_model.specs.node_model.LossyMoves.{came_with}
+use Rattle.group_model.specs.node_model.Moves.{Moves, Runs}
+use Rattle.group_model.specs.node_model.Moves.Moves.{hands}
+use Rattle.group_model.specs.node_model.Moves.Runs.{rests, goes_on}
 use Rattle.group_model.specs.Group.{Group}
 use Rattle.group_model.specs.Goes.{MayGo, Went}
 use Rattle.group_model.specs.Goes.MayGo.{node_acts, node_loses, master_assigns, master_hears, assigns_unheard, answers_unheard}

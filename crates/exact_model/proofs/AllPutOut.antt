@@ -20,7 +20,7 @@ use Rattle.model.proofs.Holds.{HasPipes}
 use Rattle.model.proofs.Lists.{each_get}
 use Rattle.model.proofs.PutOut.{given_is_put_out}
 use Rattle.model.proofs.WorldsExact.{reached_holds}
-use Rattle.group_model.proofs.Placed.{set_same, set_twice}
+use Rattle.world_model.proofs.of_group_model.Placed.{set_same, set_twice}
 use Rattle.exact_model.proofs.Places.{in_turn, take_whole}
 
 -- the open end of a connection of which all is read, whose node has applied this list and put out all the answers

@@ -16,7 +16,7 @@ use Rattle.model.specs.Served.{IsOfPipe, IsServed, untaken}
 use Rattle.model.proofs.Answers.{of_name}
 use Rattle.model.proofs.Lists.{each_by, each_get}
 use Rattle.model.proofs.Serving.{worlds_are_served}
-use Rattle.group_model.proofs.Placed.{get_mapped}
+use Rattle.world_model.proofs.of_group_model.Placed.{get_mapped}
 use Rattle.exact_model.proofs.Untaken.{AreSameUntaken, untaken_connection}
 use Rattle.exact_model.proofs.AllPutOut.{IsFull, all_put_out, end_of, ends_of, filled}
 use Rattle.exact_model.proofs.Places.{each_of_made, map_back, map_twice, same_place, take_whole}

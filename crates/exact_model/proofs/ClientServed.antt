@@ -10,11 +10,11 @@ use Rattle.client_base.specs.Handled.{lost}
 use Rattle.client_base.specs.Keeper.{Keeper, new_keeper}
 use Rattle.story.specs.Rows.{first_name, writer}
 use Rattle.story.specs.Sides.{Connection}
-use Rattle.world_base.specs.declared.item.Item.TheVariants.{Opened}
-use Rattle.world_base.specs.Connections.{fresh}
-use Rattle.group_model.specs.Group.{opening_group}
-use Rattle.node_model.specs.Moves.Deed.{takes}
-use Rattle.node_model.specs.Puts.{spelled}
+use Rattle.world_model.specs.world_base.declared.item.Item.TheVariants.{Opened}
+use Rattle.world_model.specs.world_base.Connections.{fresh}
+use Rattle.world_model.specs.group_model.Group.{opening_group}
+use Rattle.world_model.specs.node_model.Moves.Deed.{takes}
+use Rattle.world_model.specs.node_model.Puts.{spelled}
 use Rattle.world_model.specs.Goes.{Reached}
 use Rattle.world_model.specs.Goes.Reached.{begins, goes_on}
 use Rattle.world_model.specs.Goes.WorldStep.{connects}

@@ -10,7 +10,7 @@ use Rattle.client_base.specs.Called.{new_connection}
 use Rattle.client_base.specs.Handled.{handled, lost}
 use Rattle.client_base.specs.Keeper.{Keeper, Written}
 use Rattle.client_base.specs.Written.{writes, writes_first}
-use Rattle.group_model.proofs.Placed.{get_of_set, set_mapped, set_twice}
+use Rattle.world_model.proofs.of_group_model.Placed.{get_of_set, set_mapped, set_twice}
 use Rattle.lists.specs.Lists.{Each}
 use Rattle.lists.proofs.OfEach.{each_then}
 use Rattle.story.specs.Sends.{put_to}

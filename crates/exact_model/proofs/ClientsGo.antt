@@ -24,15 +24,15 @@ use Rattle.story.specs.Story.{Happens, Story, any_named, is_packet_of}
 use Rattle.model.specs.World.{AreApart}
 use Rattle.model.specs.Goes.{is_call, is_of_connection}
 use Rattle.model.proofs.Lists.{each_by, each_get, each_set, same_or_other, stands_within, there_is}
-use Rattle.node_model.specs.Moves.Deed.{takes}
-use Rattle.node_model.specs.Puts.{spelled}
-use Rattle.group_model.specs.Group.{Group}
-use Rattle.group_model.specs.Goes.{Went}
-use Rattle.group_model.specs.Goes.Went.{then_went}
-use Rattle.group_model.proofs.Placed.{get_mapped, set_mapped}
-use Rattle.connection_model.specs.Carried.{answers_to}
-use Rattle.world_base.specs.declared.item.Item.TheVariants.{Opened}
-use Rattle.world_base.specs.declared.item.Port.{Port}
+use Rattle.world_model.specs.node_model.Moves.Deed.{takes}
+use Rattle.world_model.specs.node_model.Puts.{spelled}
+use Rattle.world_model.specs.group_model.Group.{Group}
+use Rattle.world_model.specs.group_model.Goes.{Went}
+use Rattle.world_model.specs.group_model.Goes.Went.{then_went}
+use Rattle.world_model.proofs.of_group_model.Placed.{get_mapped, set_mapped}
+use Rattle.world_model.specs.connection_model.Carried.{answers_to}
+use Rattle.world_model.specs.world_base.declared.item.Item.TheVariants.{Opened}
+use Rattle.world_model.specs.world_base.declared.item.Port.{Port}
 use Rattle.world_model.specs.Goes.{Does, after_connecting, after_packet, story_alone}
 use Rattle.world_model.specs.World.{ClientPipes, HasPipe, Pipe, World, after_writing, newly_written, packets_of, sent_up, with_client}
 use Rattle.world_model.proofs.WorldsHold.{Holds}
@@ -42,7 +42,7 @@ use Rattle.exact_model.proofs.Beside.{Alone, Beside, alone}
 use Rattle.exact_model.proofs.ClientsBeside.{IsFreshAlone, calls_beside, handles_beside, named_untaken, opens_beside}
 use Rattle.exact_model.proofs.CommandsFit.{IsWritten, list_fits}
 use Rattle.exact_model.proofs.GoesBeside.{GoesBeside, group_beside}
-use Rattle.connection_model.proofs.CarriedInOrder.{IsAgreedSo, carries_each}
+use Rattle.world_model.proofs.of_connection_model.CarriedInOrder.{IsAgreedSo, carries_each}
 use Rattle.exact_model.proofs.NamesGiven.{names_fit}
 use Rattle.exact_model.proofs.NextAnswer.{next_answer}
 use Rattle.exact_model.proofs.Places.{each_of_made}

@@ -10,14 +10,14 @@ use Rattle.agreement.proofs.Agreed.PastAgrees.{has_agreed}
 use Rattle.model.specs.World.{AreApart}
 use Rattle.model.proofs.Lists.{each_get, each_set}
 use Rattle.model.proofs.TakenOn.{map_set}
-use Rattle.world_base.specs.Core.{rules}
-use Rattle.group_model.specs.Group.{Group, moment_of}
-use Rattle.group_model.specs.Goes.{MayGo, Went}
-use Rattle.group_model.specs.Goes.Went.{then_went}
+use Rattle.world_model.specs.world_base.Core.{rules}
+use Rattle.world_model.specs.group_model.Group.{Group, moment_of}
+use Rattle.world_model.specs.group_model.Goes.{MayGo, Went}
+use Rattle.world_model.specs.group_model.Goes.Went.{then_went}
 use Rattle.world_model.specs.World.{ClientPipes, Pipe, World, with_client, with_pipe}
 use Rattle.world_model.proofs.WorldsHold.{Holds}
 use Rattle.exact_model.proofs.Beside.{Beside, grows_beside}
-use Rattle.connection_model.proofs.CarriedInOrder.{CarriedSo, IsAgreedSo, carried_on}
+use Rattle.world_model.proofs.of_connection_model.CarriedInOrder.{CarriedSo, IsAgreedSo, carried_on}
 use Rattle.exact_model.proofs.WorldsWrite.{HasAllPipes, clients_alone, is_of_written, pipes_alone}
 
 -- of all that went on in its group a past, and for each list that is agreed at its end a world of `model`

@@ -12,25 +12,25 @@ use Rattle.lists.specs.Lists.In.{here, there}
 use Rattle.lists.proofs.OfEach.{each_append, each_then}
 use Rattle.agreement.specs.MasterState.{refusal}
 use Rattle.model.proofs.Lists.{each_set}
-use Rattle.world_base.specs.declared.connection.Connection.{Connection}
-use Rattle.world_base.specs.declared.item.Item.{Item}
-use Rattle.world_base.specs.declared.item.Item.TheVariants.{Peer, Tick, Opened, Bytes, Ended, Crash}
-use Rattle.world_base.specs.declared.item.Port.{Port}
-use Rattle.world_base.specs.Connections.{fresh, is_at}
-use Rattle.world_base.specs.Core.{CoreState, Turn, serves}
-use Rattle.world_base.specs.LossyStep.{RunsOn}
-use Rattle.world_base.specs.Step.{acts_on, next_name, opens, takes_in}
-use Rattle.node_model.specs.Moves.{Deed, done}
-use Rattle.node_model.specs.Moves.Deed.{takes, gives}
-use Rattle.node_model.proofs.EachKept.{IsKept, each_repeated, each_settled}
-use Rattle.node_model.proofs.Kept.{named, put_out_name}
-use Rattle.node_model.proofs.Views.{found_each, found_passes}
-use Rattle.group_model.specs.Group.{Group, opening_cores}
-use Rattle.group_model.specs.Goes.{MayGo, Went, groups_of}
-use Rattle.group_model.specs.Goes.MayGo.{node_acts, node_loses, master_assigns, master_hears, assigns_unheard, answers_unheard}
-use Rattle.group_model.specs.Goes.Went.{opened, then_went}
-use Rattle.group_model.proofs.NamesInGroups.{each_got}
-use Rattle.connection_model.proofs.CarriedInOrder.{assigned_nodes, no_connections}
+use Rattle.world_model.specs.world_base.declared.connection.Connection.{Connection}
+use Rattle.world_model.specs.world_base.declared.item.Item.{Item}
+use Rattle.world_model.specs.world_base.declared.item.Item.TheVariants.{Peer, Tick, Opened, Bytes, Ended, Crash}
+use Rattle.world_model.specs.world_base.declared.item.Port.{Port}
+use Rattle.world_model.specs.world_base.Connections.{fresh, is_at}
+use Rattle.world_model.specs.world_base.Core.{CoreState, Turn, serves}
+use Rattle.world_model.specs.world_base.LossyStep.{RunsOn}
+use Rattle.world_model.specs.world_base.Step.{acts_on, next_name, opens, takes_in}
+use Rattle.world_model.specs.node_model.Moves.{Deed, done}
+use Rattle.world_model.specs.node_model.Moves.Deed.{takes, gives}
+use Rattle.world_model.proofs.of_node_model.EachKept.{IsKept, each_repeated, each_settled}
+use Rattle.world_model.proofs.of_node_model.Kept.{named, put_out_name}
+use Rattle.world_model.proofs.of_node_model.Views.{found_each, found_passes}
+use Rattle.world_model.specs.group_model.Group.{Group, opening_cores}
+use Rattle.world_model.specs.group_model.Goes.{MayGo, Went, groups_of}
+use Rattle.world_model.specs.group_model.Goes.MayGo.{node_acts, node_loses, master_assigns, master_hears, assigns_unheard, answers_unheard}
+use Rattle.world_model.specs.group_model.Goes.Went.{opened, then_went}
+use Rattle.world_model.proofs.of_group_model.NamesInGroups.{each_got}
+use Rattle.world_model.proofs.of_connection_model.CarriedInOrder.{assigned_nodes, no_connections}
 use Rattle.world_model.specs.Apart.{HasName}
 use Rattle.world_model.proofs.PortsKept.{IsLater, each_done}
 use Rattle.world_model.proofs.PortsLosing.{each_lost}

@@ -2,7 +2,7 @@
 use Rattle.std.proofs.Common.{◌≡◌, ℕ, zero, suc, List, [], ◌∷◌, length, map, set, take, Some, refl, sym, ap, ◌∙◌}
 use Rattle.std.specs.Prelude.{slice_get}
 use Rattle.lists.specs.Lists.{Each}
-use Rattle.group_model.proofs.Placed.{get_mapped, set_mapped}
+use Rattle.world_model.proofs.of_group_model.Placed.{get_mapped, set_mapped}
 
 pub take_whole : {X : Type 0} (xs : List X) → take (length xs) xs ≡ xs
 take_whole [] = refl

@@ -13,17 +13,17 @@ use Rattle.story.specs.Rows.{writer}
 use Rattle.story.specs.Sides.{Connection, Side}
 use Rattle.story.specs.Story.{Happens, Story}
 use Rattle.model.specs.Goes.{is_call}
-use Rattle.world_base.specs.declared.item.Item.TheVariants.{Bytes}
-use Rattle.world_base.specs.declared.item.Port.{Port}
-use Rattle.world_base.specs.Core.{CoreState}
-use Rattle.node_model.specs.Moves.{Deed, done}
-use Rattle.node_model.specs.Moves.Deed.{takes, gives}
-use Rattle.node_model.specs.Puts.{spelled}
-use Rattle.group_model.specs.Group.{Group, behind_turn}
-use Rattle.group_model.specs.Goes.{all_given}
-use Rattle.group_model.specs.Goes.MayGo.{node_acts}
-use Rattle.group_model.proofs.Placed.{get_of_set}
-use Rattle.connection_model.specs.Streams.{goes_down}
+use Rattle.world_model.specs.world_base.declared.item.Item.TheVariants.{Bytes}
+use Rattle.world_model.specs.world_base.declared.item.Port.{Port}
+use Rattle.world_model.specs.world_base.Core.{CoreState}
+use Rattle.world_model.specs.node_model.Moves.{Deed, done}
+use Rattle.world_model.specs.node_model.Moves.Deed.{takes, gives}
+use Rattle.world_model.specs.node_model.Puts.{spelled}
+use Rattle.world_model.specs.group_model.Group.{Group, behind_turn}
+use Rattle.world_model.specs.group_model.Goes.{all_given}
+use Rattle.world_model.specs.group_model.Goes.MayGo.{node_acts}
+use Rattle.world_model.proofs.of_group_model.Placed.{get_of_set}
+use Rattle.world_model.specs.connection_model.Streams.{goes_down}
 use Rattle.world_model.specs.Deeds.{DeedWasSent}
 use Rattle.world_model.specs.Goes.{CanBeSpelled, Does, Reached, going_with, story_alone}
 use Rattle.world_model.specs.Goes.Reached.{goes_on}

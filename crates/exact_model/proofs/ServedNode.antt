@@ -21,17 +21,17 @@ use Rattle.ballot.specs.Serving.{added, commit, commit_at, proposed}
 use Rattle.machine.specs.Machine.{replay}
 use Rattle.broker_base.specs.Command.{Command}
 use Rattle.broker_base.specs.Command.TheVariants as commands
-use Rattle.world_base.specs.declared.connection.Stage.TheVariants.{Proposed}
-use Rattle.world_base.specs.declared.item.Item.TheVariants.{Opened, Bytes}
-use Rattle.world_base.specs.Connections.{fresh}
-use Rattle.world_base.specs.Core.{CoreState, opening_core, rules}
-use Rattle.world_base.specs.Failing.{loses_failed}
-use Rattle.world_base.specs.Handing.{hands_over}
-use Rattle.world_base.specs.Reading.{changes, reads_next}
-use Rattle.world_base.specs.Step.{opens, settled}
-use Rattle.world_base.specs.Turns.{changes_named, proposes, repeated}
-use Rattle.node_model.specs.Moves.{done}
-use Rattle.node_model.specs.Moves.Deed.{takes, gives}
+use Rattle.world_model.specs.world_base.declared.connection.Stage.TheVariants.{Proposed}
+use Rattle.world_model.specs.world_base.declared.item.Item.TheVariants.{Opened, Bytes}
+use Rattle.world_model.specs.world_base.Connections.{fresh}
+use Rattle.world_model.specs.world_base.Core.{CoreState, opening_core, rules}
+use Rattle.world_model.specs.world_base.Failing.{loses_failed}
+use Rattle.world_model.specs.world_base.Handing.{hands_over}
+use Rattle.world_model.specs.world_base.Reading.{changes, reads_next}
+use Rattle.world_model.specs.world_base.Step.{opens, settled}
+use Rattle.world_model.specs.world_base.Turns.{changes_named, proposes, repeated}
+use Rattle.world_model.specs.node_model.Moves.{done}
+use Rattle.world_model.specs.node_model.Moves.Deed.{takes, gives}
 use Rattle.story.specs.Rows.{asks_for_news, first_name, news, writer}
 use Rattle.exact_model.specs.Rows.{list_done, one_node, said}
 use Rattle.exact_model.proofs.RowGoes.{the_port}

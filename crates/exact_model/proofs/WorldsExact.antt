@@ -15,11 +15,11 @@ use Rattle.model.specs.World as model
 use Rattle.model.specs.Goes.Reached.{begins as begins_beside}
 use Rattle.model.proofs.Lists.{each_by, each_get}
 use Rattle.model.proofs.WorldsExact.{worlds_are_exact as worlds_beside_are_exact}
-use Rattle.world_base.specs.Core.{rules}
-use Rattle.group_model.specs.Group.{moment_of}
-use Rattle.group_model.specs.Goes.{Went}
-use Rattle.group_model.specs.Goes.Went.{opened}
-use Rattle.group_model.proofs.Placed.{get_mapped}
+use Rattle.world_model.specs.world_base.Core.{rules}
+use Rattle.world_model.specs.group_model.Group.{moment_of}
+use Rattle.world_model.specs.group_model.Goes.{Went}
+use Rattle.world_model.specs.group_model.Goes.Went.{opened}
+use Rattle.world_model.proofs.of_group_model.Placed.{get_mapped}
 use Rattle.world_model.specs.Carried.{went_of, went_on}
 use Rattle.world_model.specs.Goes.{Reached, WorldStep}
 use Rattle.world_model.specs.Goes.Reached.{begins, goes_on}
@@ -33,7 +33,7 @@ use Rattle.exact_model.proofs.Beside.{Alone, Beside, ends_alone, grows_beside}
 use Rattle.exact_model.proofs.ClientsGo.{calls_so, connects_so, handles_so}
 use Rattle.exact_model.proofs.ExactUntaken.{exactly_once_untaken}
 use Rattle.exact_model.proofs.GoesBeside.{GoesBeside, group_beside, pipe_beside, pipe_rests}
-use Rattle.connection_model.proofs.CarriedInOrder.{IsAgreedSo, carried_at_first}
+use Rattle.world_model.proofs.of_connection_model.CarriedInOrder.{IsAgreedSo, carried_at_first}
 use Rattle.exact_model.proofs.Places.{each_of_made, map_back, map_twice}
 use Rattle.exact_model.proofs.WorldsWrite.{HasAllPipes, clients_alone, is_of_written, pipes_alone}
 

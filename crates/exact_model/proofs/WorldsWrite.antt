@@ -16,15 +16,15 @@ use Rattle.model.specs.Exact.{commands_from}
 use Rattle.model.specs.Goes.{is_of_connection}
 use Rattle.model.proofs.Answers.{of_name}
 use Rattle.model.proofs.Lists.{each_get, stands_within, there_is}
-use Rattle.node_model.specs.Ends.{commands_of}
-use Rattle.group_model.specs.Goes.{Went}
-use Rattle.group_model.specs.Order.{packets_of as packets_in_list}
-use Rattle.group_model.proofs.Placed.{get_mapped}
+use Rattle.world_model.specs.node_model.Ends.{commands_of}
+use Rattle.world_model.specs.group_model.Goes.{Went}
+use Rattle.world_model.specs.group_model.Order.{packets_of as packets_in_list}
+use Rattle.world_model.proofs.of_group_model.Placed.{get_mapped}
 use Rattle.world_model.specs.World.{ClientPipes, HasPipe, Pipe, World, packets_of}
 use Rattle.world_model.proofs.WorldsHold.{Holds, IsKnown, IsUnheard}
 use Rattle.exact_model.proofs.Untaken.{untaken_connection}
 use Rattle.exact_model.proofs.Beside.{Alone, IsOfWritten, alone}
-use Rattle.connection_model.proofs.CarriedInOrder.{CarriedSo, IsAgreedSo, carries_each}
+use Rattle.world_model.proofs.of_connection_model.CarriedInOrder.{CarriedSo, IsAgreedSo, carries_each}
 use Rattle.exact_model.proofs.Places.{map_back}
 
 abbrev pub pipes_alone : ClientPipes → Alone

@@ -12,9 +12,9 @@ use Rattle.story.specs.Sides.{Connection}
 use Rattle.story.specs.Story.{Story}
 use Rattle.agreement.specs.Past.{IsAgreed}
 use Rattle.model.specs.World.{AreApart}
-use Rattle.group_model.specs.Group.{moment_of}
-use Rattle.group_model.specs.Goes.{all_put, groups_of}
-use Rattle.group_model.specs.Pasts.{HasPast}
+use Rattle.world_model.specs.group_model.Group.{moment_of}
+use Rattle.world_model.specs.group_model.Goes.{all_put, groups_of}
+use Rattle.world_model.specs.group_model.Pasts.{HasPast}
 use Rattle.world_model.specs.World.{ClientPipes, HasPipe, Pipe, World}
 use Rattle.world_model.specs.Carried.{went_of}
 use Rattle.world_model.specs.Goes.{Reached}

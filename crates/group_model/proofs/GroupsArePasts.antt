@@ -12,7 +12,7 @@ use Rattle.agreement.specs.Past.Past.{began}
 use Rattle.agreement.specs.Steps.{world_behind}
 use Rattle.agreement.specs.Steps.MayHappen.{master_assigns, master_hears, assignment_lost, answer_lost}
 use Rattle.agreement.specs.World.{World}
-use Rattle.world_base.specs.Core.{rules}
+use Rattle.node_model.specs.world_base.Core.{rules}
 use Rattle.group_model.specs.Group.{Group, behind_turn, moment_of, opening_group, with_master}
 use Rattle.group_model.specs.Goes.{MayGo, all_given, all_put, behind_assign, groups_of, put_in_step}
 use Rattle.group_model.specs.Goes.MayGo.{node_acts, node_loses, master_assigns as assigns, master_hears as hears_master, assigns_unheard, answers_unheard}

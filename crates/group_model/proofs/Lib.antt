@@ -10,3 +10,4 @@ pub mod GroupsArePasts
 pub mod PutsInBallot
 pub mod NamesInGroups
 pub mod Ordered
+pub use Rattle.node_model.proofs as of_node_model

@@ -15,11 +15,11 @@ use Rattle.broker_base.specs.Command.TheVariants as commands
 use Rattle.broker_base.specs.Output.{Output}
 use Rattle.agreement.specs.Past.{Moment, Past}
 use Rattle.agreement.specs.World.{messages, outputs}
-use Rattle.world_base.specs.Connections.{asked, closed, failing, left_with}
-use Rattle.world_base.specs.Core.{CoreState, Turn, rules, serves}
-use Rattle.world_base.specs.Lossy.{Account, Drives, Takes}
-use Rattle.world_base.specs.Reading.{changes}
-use Rattle.world_base.specs.Turns.{has_room, heard}
+use Rattle.node_model.specs.world_base.Connections.{asked, closed, failing, left_with}
+use Rattle.node_model.specs.world_base.Core.{CoreState, Turn, rules, serves}
+use Rattle.node_model.specs.world_base.Lossy.{Account, Drives, Takes}
+use Rattle.node_model.specs.world_base.Reading.{changes}
+use Rattle.node_model.specs.world_base.Turns.{has_room, heard}
 use Rattle.node_model.specs.LossyMoves.{LossyMoves, given_in, inputs_in, turn_of}
 use Rattle.node_model.specs.LossyMoves.LossyMoves.{exactly, hears_losing, first_losing, later_losing, tells_losing, forgets, halts, fails, unheard, drops}
 use Rattle.node_model.specs.Moves.{is_proposal}

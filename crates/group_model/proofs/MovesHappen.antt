@@ -35,16 +35,16 @@ use Rattle.agreement.proofs.Agreed.PastKnown.{past_known}
 use Rattle.agreement.proofs.Given.NextPlaces.{answers_at_the_next_places}
 use Rattle.agreement.proofs.Given.Places.{none_between}
 use Rattle.agreement.proofs.Given.StepGives.{from_active}
-use Rattle.world_base.specs.declared.connection.Connection.{Connection}
-use Rattle.world_base.specs.declared.item.Port.{Port}
-use Rattle.world_base.specs.Core.{CoreState, Turn, rules, serves}
-use Rattle.world_base.specs.Failing.{closes_failed}
-use Rattle.world_base.specs.Reading.{changes}
-use Rattle.world_base.specs.Turns.{drives, has_room, heard, moved, proposes, quiet}
-use Rattle.world_base.specs.Connections.{asked, closed, holding, left_with}
-use Rattle.world_base.specs.Handing.{hands_over}
-use Rattle.world_base.specs.Reading.{refused}
-use Rattle.world_base.specs.Step.{opens, settled}
+use Rattle.node_model.specs.world_base.declared.connection.Connection.{Connection}
+use Rattle.node_model.specs.world_base.declared.item.Port.{Port}
+use Rattle.node_model.specs.world_base.Core.{CoreState, Turn, rules, serves}
+use Rattle.node_model.specs.world_base.Failing.{closes_failed}
+use Rattle.node_model.specs.world_base.Reading.{changes}
+use Rattle.node_model.specs.world_base.Turns.{drives, has_room, heard, moved, proposes, quiet}
+use Rattle.node_model.specs.world_base.Connections.{asked, closed, holding, left_with}
+use Rattle.node_model.specs.world_base.Handing.{hands_over}
+use Rattle.node_model.specs.world_base.Reading.{refused}
+use Rattle.node_model.specs.world_base.Step.{opens, settled}
 use Rattle.node_model.specs.Moves.{Moves, is_proposal}
 use Rattle.node_model.specs.Moves.Moves.{hears, opens_one, holds, reads_first, reads_later, closes, refuses, loses_one, loses_next, crashes, settles, hands}
 use Rattle.node_model.specs.Puts.{given_in}

@@ -7,12 +7,12 @@ use Rattle.lists.proofs.OfEach.{each_append}
 use Rattle.ballot.specs.Config.{Config}
 use Rattle.agreement.specs.MasterState.{AssignRefusal, master_behind, refusal}
 use Rattle.broker_base.specs.Connection.{ConnectionName}
-use Rattle.world_base.specs.declared.connection.Connection.{Connection}
-use Rattle.world_base.specs.Connections.{closed, is_listed, is_over}
-use Rattle.world_base.specs.declared.item.Item.{Item}
-use Rattle.world_base.specs.Core.{CoreState, Turn, opening_core, serves}
-use Rattle.world_base.specs.LossyStep.{RunsOn}
-use Rattle.world_base.specs.Step.{acts_on, settled}
+use Rattle.node_model.specs.world_base.declared.connection.Connection.{Connection}
+use Rattle.node_model.specs.world_base.Connections.{closed, is_listed, is_over}
+use Rattle.node_model.specs.world_base.declared.item.Item.{Item}
+use Rattle.node_model.specs.world_base.Core.{CoreState, Turn, opening_core, serves}
+use Rattle.node_model.specs.world_base.LossyStep.{RunsOn}
+use Rattle.node_model.specs.world_base.Step.{acts_on, settled}
 use Rattle.node_model.specs.Closed.{listed_named}
 use Rattle.node_model.specs.Ends.{IsOrderly}
 use Rattle.node_model.specs.Keeping.{AreOfTheBallot}

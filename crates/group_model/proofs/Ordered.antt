@@ -15,7 +15,7 @@ use Rattle.agreement.specs.Proposals.IsPartOf.{nothing_left, with_one, without_o
 use Rattle.agreement.proofs.Agreed.PastAgrees.{nodes_agree}
 use Rattle.agreement.proofs.Agreed.PastOrder.{keeps_the_order}
 use Rattle.agreement.proofs.Orders.NamesInLists.{filter_prefix}
-use Rattle.world_base.specs.Core.{rules}
+use Rattle.node_model.specs.world_base.Core.{rules}
 use Rattle.group_model.specs.Ballots.{IsInItsBallot}
 use Rattle.group_model.specs.Group.{Group, moment_of, replica_of}
 use Rattle.group_model.specs.Goes.{all_put, groups_of}

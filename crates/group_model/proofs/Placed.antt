@@ -8,8 +8,8 @@ use Rattle.ballot.specs.Replica.{opening}
 use Rattle.broker_base.specs.Command.{Command}
 use Rattle.broker_base.specs.Output.{Output}
 use Rattle.agreement.specs.World.{messages, opening_nodes}
-use Rattle.world_base.specs.Core.{opening_core, rules}
-use Rattle.world_base.specs.Turns.{is_message}
+use Rattle.node_model.specs.world_base.Core.{opening_core, rules}
+use Rattle.node_model.specs.world_base.Turns.{is_message}
 use Rattle.std.specs.List.{filter}
 use Rattle.group_model.specs.Group.{opening_cores, replica_of}
 

@@ -9,10 +9,10 @@ use Rattle.broker_base.specs.Command.{Command}
 use Rattle.broker_base.specs.Command.TheVariants as commands
 use Rattle.broker_base.specs.Connection.{ConnectionName}
 use Rattle.story.specs.Story.{is_packet_of}
-use Rattle.world_base.specs.Connections.{asked, left_with}
-use Rattle.world_base.specs.Core.{CoreState, Turn, serves}
-use Rattle.world_base.specs.Lossy.{Account, Takes}
-use Rattle.world_base.specs.Reading.{changes}
+use Rattle.node_model.specs.world_base.Connections.{asked, left_with}
+use Rattle.node_model.specs.world_base.Core.{CoreState, Turn, serves}
+use Rattle.node_model.specs.world_base.Lossy.{Account, Takes}
+use Rattle.node_model.specs.world_base.Reading.{changes}
 use Rattle.node_model.specs.Ends.{IsOrderly}
 use Rattle.node_model.specs.Keeping.{AreOfTheBallot}
 use Rattle.node_model.specs.LossyLaws.{AreWhereItServes}

@@ -11,14 +11,14 @@ use Rattle.broker_base.specs.Command.{Command}
 use Rattle.broker_base.specs.Output.{Output}
 use Rattle.broker_base.specs.Output.TheVariants as outputs
 use Rattle.broker_base.specs.Connection.{ConnectionName}
-use Rattle.world_base.specs.declared.item.Port.{Port}
-use Rattle.world_base.specs.declared.connection.Connection.{Connection}
-use Rattle.world_base.specs.Connections.{closed, put_out}
-use Rattle.world_base.specs.Core.{CoreState, serves}
-use Rattle.world_base.specs.Handing.{hands_over, left_by, listed_at}
-use Rattle.world_base.specs.Reading.{changes}
-use Rattle.world_base.specs.Step.{opens, settled}
-use Rattle.world_base.specs.Turns.{changes_named, moved, served}
+use Rattle.node_model.specs.world_base.declared.item.Port.{Port}
+use Rattle.node_model.specs.world_base.declared.connection.Connection.{Connection}
+use Rattle.node_model.specs.world_base.Connections.{closed, put_out}
+use Rattle.node_model.specs.world_base.Core.{CoreState, serves}
+use Rattle.node_model.specs.world_base.Handing.{hands_over, left_by, listed_at}
+use Rattle.node_model.specs.world_base.Reading.{changes}
+use Rattle.node_model.specs.world_base.Step.{opens, settled}
+use Rattle.node_model.specs.world_base.Turns.{changes_named, moved, served}
 use Rattle.group_model.specs.Group.{replica_of}
 
 -- ---- moves that leave it as it is

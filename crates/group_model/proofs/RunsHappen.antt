@@ -12,7 +12,7 @@ use Rattle.broker_base.specs.Output.{Output}
 use Rattle.agreement.specs.Past.{Moment, Past}
 use Rattle.agreement.specs.Proposals.{proposals_of, taken_of}
 use Rattle.agreement.specs.World.{messages, outputs}
-use Rattle.world_base.specs.Core.{CoreState, Turn, rules}
+use Rattle.node_model.specs.world_base.Core.{CoreState, Turn, rules}
 use Rattle.node_model.specs.LossyMoves.{LossyRuns, all_inputs, given_in, inputs_in}
 use Rattle.node_model.specs.LossyMoves.LossyRuns.{rests, goes_on}
 use Rattle.node_model.specs.Moves.{and_then}

@@ -11,10 +11,10 @@ use Rattle.broker_base.specs.State.{State}
 use Rattle.broker_base.specs.Command.{Command}
 use Rattle.broker_base.specs.Output.{Output}
 use Rattle.agreement.specs.World.{messages, outputs}
-use Rattle.world_base.specs.Core.{CoreState, rules}
-use Rattle.world_base.specs.Lossy.{Delivers}
-use Rattle.world_base.specs.Lossy.Delivers.{nothing, does, tells, loses as loses_one}
-use Rattle.world_base.specs.Turns.{is_message}
+use Rattle.node_model.specs.world_base.Core.{CoreState, rules}
+use Rattle.node_model.specs.world_base.Lossy.{Delivers}
+use Rattle.node_model.specs.world_base.Lossy.Delivers.{nothing, does, tells, loses as loses_one}
+use Rattle.node_model.specs.world_base.Turns.{is_message}
 
 abbrev pub Given : Type 0
 Given = List (Effect Command Output)

@@ -9,9 +9,9 @@ use Rattle.broker_base.specs.Command.{Command}
 use Rattle.broker_base.specs.Output.{Output}
 use Rattle.agreement.specs.MasterState.{AssignRefusal, activated, assigned, master_behind, refusal}
 use Rattle.agreement.specs.World.{can_open}
-use Rattle.world_base.specs.Core.{CoreState, Turn}
-use Rattle.world_base.specs.declared.item.Item.{Item}
-use Rattle.world_base.specs.LossyStep.{RunsOn}
+use Rattle.node_model.specs.world_base.Core.{CoreState, Turn}
+use Rattle.node_model.specs.world_base.declared.item.Item.{Item}
+use Rattle.node_model.specs.world_base.LossyStep.{RunsOn}
 use Rattle.node_model.specs.Hearing.{HearsAtFirst}
 use Rattle.node_model.specs.LossyMoves.{IsRunOn, heard_with}
 use Rattle.node_model.specs.Moves.{Deed, Runs, done}

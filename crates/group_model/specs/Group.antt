@@ -11,7 +11,7 @@ use Rattle.broker_base.specs.Output.{Output}
 use Rattle.agreement.specs.MasterState.{MasterState, MasterOutcome, opening_master}
 use Rattle.agreement.specs.Past.{Moment}
 use Rattle.agreement.specs.World.{messages, outputs}
-use Rattle.world_base.specs.Core.{CoreState, Turn, opening_core}
+use Rattle.node_model.specs.world_base.Core.{CoreState, Turn, opening_core}
 
 -- Node n + 1 stands at place n. All messages that were ever sent stay, each with its receiver: any may come late, again
 -- or never. So do the outputs that replicas gave, with their places in the log.

@@ -5,3 +5,5 @@ pub mod Goes
 pub mod Pasts
 pub mod Ballots
 pub mod Order
+pub use Rattle.node_model.specs as node_model
+pub use Rattle.node_model.specs.world_base as world_base

@@ -4,7 +4,7 @@ use Rattle.ballot.specs.Effect.{Effect}
 use Rattle.ballot.specs.Protocol.{Input}
 use Rattle.broker_base.specs.Command.{Command}
 use Rattle.broker_base.specs.Output.{Output}
-use Rattle.world_base.specs.Core.{CoreState, Turn}
+use Rattle.node_model.specs.world_base.Core.{CoreState, Turn}
 use Rattle.node_model.specs.LossyMoves.{LossyMoves, LossyRuns, given_in, proposal_of}
 use Rattle.node_model.specs.LossyMoves.LossyMoves.{exactly}
 use Rattle.node_model.specs.LossyMoves.LossyRuns.{rests, goes_on}

@@ -7,7 +7,7 @@ use Rattle.broker_base.specs.Connection.{ConnectionName}
 use Rattle.story.specs.Story.{is_packet_of}
 use Rattle.agreement.specs.Past.{IsAgreed}
 use Rattle.agreement.specs.Proposals.{commands_of}
-use Rattle.world_base.specs.Core.{CoreState}
+use Rattle.node_model.specs.world_base.Core.{CoreState}
 use Rattle.group_model.specs.Group.{Group, moment_of, replica_of}
 use Rattle.group_model.specs.Goes.{Went, all_put, groups_of}
 use Rattle.group_model.specs.Pasts.{HasPast}

@@ -9,7 +9,7 @@ use Rattle.broker_base.specs.Connection.{ConnectionName}
 use Rattle.story.specs.Story.{is_packet_of}
 use Rattle.agreement.specs.Past.{Moment, Past}
 use Rattle.agreement.specs.Proposals.{proposals_of, taken_of}
-use Rattle.world_base.specs.Core.{rules}
+use Rattle.node_model.specs.world_base.Core.{rules}
 use Rattle.group_model.specs.Group.{Group, moment_of}
 use Rattle.group_model.specs.Goes.{Went, all_put, groups_of}
 

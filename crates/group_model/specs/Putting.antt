@@ -7,7 +7,7 @@ use Rattle.ballot.specs.Protocol.Input.{Receives, Proposes, Ticks}
 use Rattle.broker_base.specs.Command.{Command}
 use Rattle.broker_base.specs.Command.TheVariants as commands
 use Rattle.broker_base.specs.Output.{Output}
-use Rattle.world_base.specs.Core.{CoreState, Turn, serves}
+use Rattle.node_model.specs.world_base.Core.{CoreState, Turn, serves}
 use Rattle.node_model.specs.Moves.{Moves, Runs}
 use Rattle.node_model.specs.Moves.Runs.{rests, goes_on}
 use Rattle.node_model.specs.Moves.Moves.{hears, reads_first, reads_later, loses_one, loses_next}

@@ -1,5 +1,5 @@
 -- Machine.antt: a machine by its rules alone, and what a list of commands does to it.
-use Rattle.std.specs.Prelude.{ℕ, List, [], ◌∷◌, Option, Some, None, slice_get, take}
+use Rattle.std.specs.Prelude.{ℕ, List, [], ◌∷◌}
 use Rattle.machine.specs.declared.error.ThawFault.{ThawFault}
 use Rattle.machine.specs.declared.error.ThawFault.TheVariants.{Shape, Memory}
 
@@ -19,16 +19,6 @@ replay_from rules s (command ∷ commands) = replay_from rules (rules.after s co
 -- the state after commands that were done one after the other from the beginning
 abbrev pub replay : {S C O : Type 0} → Rules S C O → List C → S
 replay rules commands = replay_from rules rules.opening commands
-
--- what one command gives behind the commands in front of it, if there is one
-abbrev pub answers_behind : {S C O : Type 0} → Rules S C O → List C → Option C → List O
-answers_behind rules front None = []
-answers_behind rules front (Some command) = rules.gives (replay rules front) command
-
--- the answers at a place of a list of commands: what the command there gives behind those before it
-abbrev pub answers_at : {S C O : Type 0} → Rules S C O → List C → ℕ → List O
-answers_at rules commands place =
-    answers_behind rules (take place commands) (slice_get commands place)
 
 -- the numbers of the refusals, as they stand in the table of refusals
 abbrev pub thaw_number : ThawFault → ℕ

@@ -4,8 +4,6 @@
 mod error;
 mod machine;
 mod tally;
-#[cfg(test)]
-mod tests;
 
 pub use error::{Halted, Memory, ThawFault};
 pub use machine::Machine;

@@ -1,5 +1,5 @@
 -- Inside.antt: what the helpers of a group say of nodes, effects, turns and counters.
-use Rattle.std.specs.Prelude.{ℕ, Bool, true, false, ◌^◌, ◌-◌, ◌<◌, ◌≤◌, ◌≡◌, ◌⊎◌, List, [], ◌∷◌, ◌++◌, length, map, min, get_or, slice_get, Option, Some, None, nat_lt, if◌then◌else◌}
+use Rattle.std.specs.Prelude.{ℕ, Bool, true, false, ◌-◌, ◌<◌, ◌≡◌, ◌⊎◌, List, [], ◌∷◌, ◌++◌, length, map, min, get_or, slice_get, Option, Some, None, nat_lt, if◌then◌else◌}
 use Rattle.machine.specs.Machine.{Rules}
 use Rattle.ballot.specs.Body.{Body}
 use Rattle.ballot.specs.Body.TheVariants.{Activate}
@@ -16,7 +16,7 @@ use Rattle.agreement.specs.Inside.ToldLengths.{most_told}
 use Rattle.agreement.specs.MasterState.{MasterState, MasterOutcome}
 use Rattle.agreement.specs.Past.{Moment, Past}
 use Rattle.agreement.specs.Steps.{tells_from_master}
-use Rattle.agreement.specs.World.{World, log_of, messages, outputs, moved}
+use Rattle.agreement.specs.World.{World, messages, outputs, moved}
 use Rattle.master.specs.declared.turning.Taken.{Taken}
 use Rattle.master.specs.declared.turning.Taken.TheVariants.{Received, Proposed, Ticked}
 use Rattle.master.specs.Group.{GroupState}
@@ -114,11 +114,6 @@ pub record IsGroup {S C O : Type 0} (rules : Rules S C O) (a : Moment S C O) (to
   pub waits : (b : ℕ) (c : Config) → a.master.waiting ≡ Some (b, c) → next.ballot ≡ b
   pub counted_next : HasCounted a.world.sent next
 
--- each replica counted no more losses than its group
-abbrev pub AreCounted : {S C : Type 0} → List (CountedReplica S C) → ℕ → Type 0
-AreCounted {S} {C} nodes losses =
-    (n : ℕ) (r : CountedReplica S C) → slice_get nodes n ≡ Some r → r.losses ≤ losses
-
 -- the least and the next of two numbers and one more
 abbrev pub next_least : ℕ → ℕ → ℕ → ℕ × ℕ
 next_least least next held = if nat_lt held least then (held, least) else (least, min next held)
@@ -130,13 +125,6 @@ least_but_one told least next [] = next
 least_but_one told least next (member ∷ members) =
     let pair = next_least least next (get_or told member 0) in
     least_but_one told pair.0 pair.1 members
-
--- how many places are agreed: a sole member's log, and else what all others told
-abbrev pub agreed_length : {S C O : Type 0} → Moment S C O → List ℕ → List ℕ → ℕ
-agreed_length a told [] = 0
-agreed_length a told (member ∷ []) = length (log_of (slice_get a.world.nodes (member - 1)))
-agreed_length a told (member ∷ (other ∷ members)) =
-    least_but_one told (2 ^ 64 - 1) (2 ^ 64 - 1) (member ∷ (other ∷ members))
 
 -- the ballot that a message asks the master to activate, if it does
 abbrev pub asks_for : {C : Type 0} → Body C → Option ℕ

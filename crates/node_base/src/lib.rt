@@ -6,8 +6,6 @@
 mod counted;
 mod gate;
 mod read_outcome;
-#[cfg(test)]
-mod tests;
 mod written;
 
 pub use counted::{Counted, PIECE_BYTES};

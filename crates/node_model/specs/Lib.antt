@@ -9,3 +9,4 @@ pub mod Keeping
 pub mod Hearing
 pub mod LossyMoves
 pub mod LossyLaws
+pub use Rattle.world_base.specs as world_base

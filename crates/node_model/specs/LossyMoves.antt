@@ -1,5 +1,5 @@
 -- What a node may do in a step where memory may be wanting, move by move: one of its moves, or one in which something is lost.
-use Rattle.std.specs.Prelude.{◌≡◌, ◌⊎◌, ℕ, Bool, true, false, List, [], ◌∷◌, ◌++◌, Some, Ok}
+use Rattle.std.specs.Prelude.{◌≡◌, ℕ, Bool, true, false, List, [], ◌∷◌, ◌++◌, Some, Ok}
 use Rattle.packet.specs.declared.packet.Packet.{Packet}
 use Rattle.packet.specs.declared.packet.Packet.TheVariants as packets
 use Rattle.packet.specs.declared.connect.Connect.{Connect}
@@ -26,7 +26,7 @@ use Rattle.world_base.specs.Turns.{quiet}
 use Rattle.node_model.specs.Closed.{refusal_in as exact_refusal}
 use Rattle.node_model.specs.Ends.{came_on as exact_came, is_read as exact_read, piece_on, proposal_of as exact_proposal}
 use Rattle.node_model.specs.Keeping.{moves_replica}
-use Rattle.node_model.specs.Moves.{Deed, Moves, and_then, done, is_proposal}
+use Rattle.node_model.specs.Moves.{Moves, and_then, is_proposal}
 use Rattle.node_model.specs.Moves.Deed.{takes, gives}
 use Rattle.node_model.specs.Moves.Moves.{hears}
 use Rattle.node_model.specs.Puts.{given_in as exact_given, is_handing as exact_handing}
@@ -173,11 +173,6 @@ HandsNothing (goes_on m run) = (is_handing m ≡ false) × HandsNothing run
 
 -- ---- what a node does at the wish of others
 
--- an item is taken with losses; handing over has none
-abbrev pub MayLose : Deed → CoreState → Turn → Type 0
-MayLose (takes item) core turn = RunsOn item core turn.core turn.messages
-MayLose (gives port) core turn = ⊥
-
 -- what the replica hears with an item, and the bytes that come with it on the connection of a name
 abbrev pub heard_with : Item → List (Input Command)
 heard_with (Peer message) = Receives message ∷ []
@@ -200,7 +195,3 @@ pub record IsRunOn (item : Item) (core : CoreState) (turn : Turn) : Type 0 where
 abbrev pub LossesAreMoves : Type 0
 LossesAreMoves = (item : Item) (core later : CoreState) (messages : List (Effect Command Output)) → RunsOn item core later messages →
     IsRunOn item core (record { core = later; messages = messages })
-
--- a deed is done exactly, or so
-abbrev pub MayDo : Deed → CoreState → Turn → Type 0
-MayDo deed core turn = (turn ≡ done deed core) ⊎ MayLose deed core turn

@@ -1,6 +1,6 @@
 -- Quality of Service (MQTT 4.3).
 use Rattle.std.specs.Prelude.{ℕ, ◌==◌, if◌then◌else◌, Result, Ok}
-use Rattle.topics.specs.declared.malformed.MalformedKind.TheVariants as kinds
+use Rattle.packet_base.specs.topics.declared.malformed.MalformedKind.TheVariants as kinds
 use Rattle.packet_base.specs.declared.stop.Stop.{Stop}
 use Rattle.packet_base.specs.Reading.{malformed}
 use Rattle.packet.specs.declared.qos.QoS.{QoS}

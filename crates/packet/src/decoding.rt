@@ -6,9 +6,9 @@ ghost use Rattle.packet.specs.Verdict.{verdict, Decodes, IsWithin, IsSpelledSo, 
 
 use crate::error::DecodeFault;
 use crate::packet::{MAX_REMAINING, Packet};
+use packet_base::topics::MalformedKind;
 use packet_base::{Header, Reader, Stop, take_length};
 use std::alloc::Global;
-use topics::MalformedKind;
 
 /// What stands at the front of a slice.
 #[derive(Debug, PartialEq, Eq, Drop)]

@@ -4,7 +4,7 @@ ghost use Rattle.std.specs.Prelude.{◌≡◌};
 ghost use Rattle.packet.specs.QoS.{qos_number, qos_of};
 
 use packet_base::Stop;
-use topics::MalformedKind;
+use packet_base::topics::MalformedKind;
 
 /// Quality of Service: how surely a publication is delivered (MQTT 4.3). The levels are ordered by
 /// their numbers.

@@ -15,9 +15,9 @@ ghost use Rattle.packet_base.specs.Outcome.{Gives, WantsMemory};
 ghost use Rattle.packet_base.specs.Reading.{id_at};
 ghost use Rattle.packet.specs.Unsubscribe.{unsubscribe, unsubscribe_of, FitsUnsubscribe};
 
+use packet_base::topics::Filter;
 use packet_base::{PacketId, PacketList, Reader, Stop, put_number};
 use std::alloc::Global;
-use topics::Filter;
 
 /// A client gives up subscriptions (MQTT 3.10). The list is not empty in a packet that is read, and
 /// has not to be in one that is written.

@@ -5,3 +5,4 @@ pub mod Reading
 pub mod Outcome
 pub mod Lists
 pub mod Inside
+pub use Rattle.topics.specs as topics

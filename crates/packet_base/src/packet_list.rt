@@ -52,13 +52,6 @@ impl<T> PacketList<T> {
     {
         self.items.as_slice()
     }
-
-    /// The vector of the items.
-    pub fn into_vec(self) -> Vec<T>
-        ensures { result.items ≡ self }
-    {
-        self.items
-    }
 }
 
 impl<T: Item> PacketList<T> {

@@ -1,10 +1,20 @@
--- What readers may want to know of these words.
-use Rattle.std.specs.Prelude.{◌≡◌, ℕ, ◌≤◌, List}
+-- Laws.antt: which waiting messages may be left out.
+use Rattle.std.specs.Prelude.{◌≡◌, ℕ, true, List, max}
 use Rattle.ballot_base.specs.declared.status.Progress.{Progress}
 use Rattle.ballot_base.specs.Serving.{raised}
+use Rattle.node.specs.declared.Body.TheVariants.{Held, Commit}
+use Rattle.post.specs.Superseding.{covers}
 
--- A member's count of places says all that a smaller one said: heard behind that or alone, it leaves the same progress.
-abbrev pub GreaterCountsStand : Type 0
-GreaterCountsStand =
-    (member fewer held : ℕ) (progress : List Progress) → fewer ≤ held →
-    raised member held (raised member fewer progress) ≡ raised member held progress
+-- A Held that replaces an earlier one is of the same ballot, and a primary that hears it alone knows as much as one that hears both.
+abbrev pub LaterCountsSuffice : Type 0
+LaterCountsSuffice =
+    (ballot held earlier fewer member : ℕ) (progress : List Progress) →
+    covers (Held ballot held) (Held earlier fewer) ≡ true →
+    (ballot ≡ earlier) × (raised member held (raised member fewer progress) ≡ raised member held progress)
+
+-- A Commit that replaces an earlier one is of the same ballot, and a backup applies as many places by it alone as by both.
+abbrev pub LaterCommitsSuffice : Type 0
+LaterCommitsSuffice =
+    (ballot held earlier fewer committed : ℕ) →
+    covers (Commit ballot held) (Commit earlier fewer) ≡ true →
+    (ballot ≡ earlier) × (max (max committed fewer) held ≡ max committed held)

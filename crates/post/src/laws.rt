@@ -1,8 +1,14 @@
-// A law of the words on messages. The call does nothing; its contract is the law.
+// Laws about messages that are left out because a later one says all they said. The calls do nothing; their contracts are the
+// laws.
 
-ghost use Rattle.post.specs.Laws.{GreaterCountsStand};
+ghost use Rattle.post.specs.Laws.{LaterCommitsSuffice, LaterCountsSuffice};
 
-/// To a primary a member's count of places says all that a smaller one said.
-pub fn greater_counts_stand()
-    ensures { GreaterCountsStand }
+/// States that a member's later count of places tells a primary all that the count it replaces told.
+pub fn later_counts_suffice()
+    ensures { LaterCountsSuffice }
+{}
+
+/// States that a backup applies as many places by a primary's later count as by both counts.
+pub fn later_commits_suffice()
+    ensures { LaterCommitsSuffice }
 {}

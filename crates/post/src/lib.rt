@@ -13,7 +13,7 @@ mod tray;
 mod waking;
 
 pub use carrier::{Carrier, carry_all};
-pub use laws::greater_counts_stand;
+pub use laws::{later_commits_suffice, later_counts_suffice};
 pub use order_error::OrderError;
 pub use peer::Peer;
 pub use peers::Peers;

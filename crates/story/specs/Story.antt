@@ -1,5 +1,5 @@
 -- One client's story: the list of commands, its connections as packets, what it keeps; and what may happen.
-use Rattle.std.specs.Prelude.{◌≡◌, ℕ, zero, suc, Bool, true, false, ◌||◌, if◌then◌else◌, List, [], ◌∷◌, ◌++◌, Option, Some, None, slice_get}
+use Rattle.std.specs.Prelude.{◌≡◌, ℕ, zero, suc, Bool, true, false, ◌||◌, if◌then◌else◌, List, [], ◌∷◌, ◌++◌, Some, slice_get}
 use Rattle.packet.specs.declared.subscribe.Subscribe.{Subscribe}
 use Rattle.packet.specs.declared.unsubscribe.Unsubscribe.{Unsubscribe}
 use Rattle.packet.specs.declared.packet.Packet.{Packet}
@@ -36,12 +36,6 @@ no_story c = record { past = []; connections = []; keeper = new_keeper c }
 abbrev pub command_of : ConnectionName → ℕ → Packet → Command
 command_of x zero (packets.Connect c) = commands.Connect x c.client c.clean
 command_of x taken packet = commands.Packet x packet
-
--- the next written packet of a connection becomes the next command
-abbrev pub taken_by : Limits → Connection → Story → Option Written → Story
-taken_by limits κ s None = s
-taken_by limits κ s (Some w) =
-    record s { past = place_of limits s.past (command_of κ.name κ.taken w.packet) ∷ s.past }
 
 -- the connection of this place in the list, one more packet of it taken
 abbrev pub counted_at : ℕ → List Connection → List Connection

@@ -3,7 +3,5 @@
 #![tactic(auto)]
 
 mod laws;
-mod rows;
 
 pub use laws::{stories_accept_in_order, stories_are_exact, stories_enter, stories_publish_once};
-pub use rows::accepts_once_over_a_takeover;

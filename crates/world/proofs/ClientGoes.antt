@@ -2,7 +2,7 @@
 use Rattle.std.proofs.Common.{◌≡◌, ◌≤◌, ℕ, List, Some, set, slice_get, refl, sym, ap, ◌∙◌, subst, arith}
 use Rattle.std.proofs.lemmas.List.{set-set}
 use Rattle.lists.proofs.Places.{get_set}
-use Rattle.world_model.specs.World.{ClientPipes, World, with_client}
+use Rattle.exact_model.specs.world_model.World.{ClientPipes, World, with_client}
 use Rattle.world_pipes.specs.Following.{FollowsAll, FollowsLosing, after_losing}
 use Rattle.world_pipes.specs.Goes.{ClientGoes}
 use Rattle.world_pipes.specs.Piped.{Piped}

@@ -7,21 +7,21 @@ use Rattle.broker_base.specs.Place.{Client}
 use Rattle.lists.specs.Lists.{In}
 use Rattle.lists.proofs.Tests.{eq_is}
 use Rattle.story.proofs.Takes.{same_name_self}
-use Rattle.world_base.specs.declared.connection.Connection.{Connection as NodesEnd}
-use Rattle.world_base.specs.declared.item.Port.{Port}
-use Rattle.world_base.specs.Connections.{is_at}
-use Rattle.world_base.specs.Core.{CoreState, CountedCore}
-use Rattle.world_base.specs.Handing.{bytes_of, listed_at}
-use Rattle.node_model.specs.Moves.Deed.{gives}
-use Rattle.node_model.proofs.Views.{found_passes}
-use Rattle.connection_model.specs.Streams.{bytes_named}
-use Rattle.connection_model.specs.Streams.{goes_down as goes_down_in}
-use Rattle.world_model.specs.World.{HasPipe, Pipe, World, with_client, with_pipe}
-use Rattle.world_model.specs.Goes.{Reached}
-use Rattle.world_model.specs.Goes.WorldStep.{goes_down}
-use Rattle.world_model.proofs.NodesGoOn.{carries_with}
-use Rattle.world_model.proofs.PipesHold.{found_in}
-use Rattle.world_model.proofs.PipesInOrder.{reached_holds}
+use Rattle.exact_model.specs.world_base.declared.connection.Connection.{Connection as NodesEnd}
+use Rattle.exact_model.specs.world_base.declared.item.Port.{Port}
+use Rattle.exact_model.specs.world_base.Connections.{is_at}
+use Rattle.exact_model.specs.world_base.Core.{CoreState, CountedCore}
+use Rattle.exact_model.specs.world_base.Handing.{bytes_of, listed_at}
+use Rattle.exact_model.specs.node_model.Moves.Deed.{gives}
+use Rattle.exact_model.proofs.of_node_model.Views.{found_passes}
+use Rattle.exact_model.specs.connection_model.Streams.{bytes_named}
+use Rattle.exact_model.specs.connection_model.Streams.{goes_down as goes_down_in}
+use Rattle.exact_model.specs.world_model.World.{HasPipe, Pipe, World, with_client, with_pipe}
+use Rattle.exact_model.specs.world_model.Goes.{Reached}
+use Rattle.exact_model.specs.world_model.Goes.WorldStep.{goes_down}
+use Rattle.exact_model.proofs.of_world_model.NodesGoOn.{carries_with}
+use Rattle.exact_model.proofs.of_world_model.PipesHold.{found_in}
+use Rattle.exact_model.proofs.of_world_model.PipesInOrder.{reached_holds}
 use Rattle.world_nodes.specs.Goes.{Acts, HandsOver}
 use Rattle.world_nodes.specs.Nodes.{NodesState}
 use Rattle.world_pipes.specs.declared.way.Way.{Way}

@@ -6,13 +6,13 @@ use Rattle.ballot.specs.Body.TheVariants.{NewBallot, Join, State, Install, Insta
 use Rattle.ballot.specs.Message.{Message}
 use Rattle.broker_base.specs.Command.{Command}
 use Rattle.master.specs.declared.event.Idle.{Idle}
-use Rattle.world_base.specs.declared.item.Item.TheVariants.{Peer}
-use Rattle.node_model.specs.Moves.{Deed}
-use Rattle.node_model.specs.Moves.Deed.{takes}
-use Rattle.group_model.specs.Group.{Group}
-use Rattle.world_model.specs.World.{World}
-use Rattle.world_model.specs.Goes.{is_apart}
-use Rattle.world_model.specs.Goes.WorldStep.{goes_on as group_goes}
+use Rattle.exact_model.specs.world_base.declared.item.Item.TheVariants.{Peer}
+use Rattle.exact_model.specs.node_model.Moves.{Deed}
+use Rattle.exact_model.specs.node_model.Moves.Deed.{takes}
+use Rattle.exact_model.specs.group_model.Group.{Group}
+use Rattle.exact_model.specs.world_model.World.{World}
+use Rattle.exact_model.specs.world_model.Goes.{is_apart}
+use Rattle.exact_model.specs.world_model.Goes.WorldStep.{goes_on as group_goes}
 use Rattle.world_nodes.specs.Nodes.{NodesState, StandsFor as NodesStand}
 use Rattle.world_nodes.specs.Goes.{Acts, GoesBy}
 use Rattle.world_nodes.specs.Steps.{ActsOrRests, ComesOrRests, HandsOrRests, MasterGoes, MasterGoesOrRests, MasterHears, forgetful}

@@ -5,9 +5,9 @@ use Rattle.ballot.specs.Losses.{one_more}
 use Rattle.broker_base.specs.Place.{Client}
 use Rattle.exact_model.proofs.WorldsExact.{worlds_are_exact}
 use Rattle.model.specs.World.{AreApart}
-use Rattle.world_model.specs.World.{World}
-use Rattle.world_model.specs.Goes.{Reached}
-use Rattle.world_model.specs.Goes.Reached.{goes_on as reached_more}
+use Rattle.exact_model.specs.world_model.World.{World}
+use Rattle.exact_model.specs.world_model.Goes.{Reached}
+use Rattle.exact_model.specs.world_model.Goes.Reached.{goes_on as reached_more}
 use Rattle.world_nodes.specs.Nodes.{NodesState, StandsFor as NodesStand}
 use Rattle.world.specs.Goes.{LosesNothing, WorldGoesOn}
 use Rattle.world.specs.Inside.{GoesOn}

@@ -2,11 +2,11 @@
 use Rattle.std.proofs.Common.{◌≡◌, ◌<◌, ◌≤◌, ◌^◌, ◌-◌, ℕ, sym, subst, arith}
 use Rattle.ballot.specs.Config.{Config}
 use Rattle.agreement.proofs.Agreed.PastAgrees.{has_agreed, nodes_agree}
-use Rattle.world_base.specs.Core.{rules}
-use Rattle.group_model.specs.Group.{Group, moment_of}
-use Rattle.group_model.specs.Goes.{Went}
-use Rattle.group_model.specs.Goes.Went.{then_went}
-use Rattle.group_model.proofs.Ordered.{groups_keep_the_order}
+use Rattle.exact_model.specs.world_base.Core.{rules}
+use Rattle.exact_model.specs.group_model.Group.{Group, moment_of}
+use Rattle.exact_model.specs.group_model.Goes.{Went}
+use Rattle.exact_model.specs.group_model.Goes.Went.{then_went}
+use Rattle.exact_model.proofs.of_group_model.Ordered.{groups_keep_the_order}
 use Rattle.world_nodes.specs.Nodes.{NodesState, StandsFor}
 use Rattle.world_nodes.specs.Steps.{LosesNothing as NodesLoseNothing, forgetful}
 use Rattle.world.specs.Goes.{AreReached, Goes, GoesTo, NodesGo, NodesGoOn, StaysReached}

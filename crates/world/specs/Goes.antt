@@ -5,10 +5,10 @@ use Rattle.agreement.specs.Agreement.{Agrees, Holds}
 use Rattle.agreement.specs.Leaving.{LeftInOrder}
 use Rattle.agreement.specs.Past.{IsAgreed}
 use Rattle.broker_base.specs.Command.{Command}
-use Rattle.world_base.specs.Core.{rules}
-use Rattle.group_model.specs.Group.{Group, moment_of}
-use Rattle.group_model.specs.Goes.{MayGo, Went, all_put, groups_of}
-use Rattle.group_model.specs.Order.{KeepsOrder}
+use Rattle.exact_model.specs.world_base.Core.{rules}
+use Rattle.exact_model.specs.group_model.Group.{Group, moment_of}
+use Rattle.exact_model.specs.group_model.Goes.{MayGo, Went, all_put, groups_of}
+use Rattle.exact_model.specs.group_model.Order.{KeepsOrder}
 use Rattle.world_nodes.specs.Nodes.{NodesState, StandsFor}
 use Rattle.world.specs.World.{WorldState}
 

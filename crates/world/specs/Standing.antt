@@ -4,8 +4,8 @@ use Rattle.ballot.specs.Config.{Config}
 use Rattle.broker_base.specs.Place.{Client}
 use Rattle.model.specs.World.{AreApart}
 use Rattle.exact_model.specs.Exact.{IsExact}
-use Rattle.world_model.specs.World.{ClientPipes, World}
-use Rattle.world_model.specs.Goes.{Reached, WorldStep}
+use Rattle.exact_model.specs.world_model.World.{ClientPipes, World}
+use Rattle.exact_model.specs.world_model.Goes.{Reached, WorldStep}
 use Rattle.world_nodes.specs.Nodes.{StandsFor as NodesStand}
 use Rattle.world_pipes.specs.Standing.{StandsFor as ClientStands}
 use Rattle.world.specs.World.{WorldState}

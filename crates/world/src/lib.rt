@@ -7,13 +7,11 @@ mod event;
 mod gathering;
 mod going_on;
 mod place;
-mod playing;
 mod reading;
 mod world;
 
 pub use event::Event;
-pub use playing::play;
+pub use exact_model::world_base::{Command, Config, Members, Memory, OpeningError};
 pub use world::World;
-pub use world_base::{Command, Config, Members, Memory, OpeningError};
 pub use world_nodes::Idle;
 pub use world_pipes::{Accepted, ClientCore};

@@ -4,7 +4,7 @@ ghost use Rattle.std.specs.Prelude.{◌≡◌, ◌≤◌, ◌<◌, ◌^◌, ◌-
 ghost use Rattle.agreement.specs.World.{can_open};
 ghost use Rattle.ballot.specs.Losses.{one_more};
 ghost use Rattle.model.specs.World.{AreApart};
-ghost use Rattle.world_model.specs.World.{new_client};
+ghost use Rattle.exact_model.specs.world_model.World.{new_client};
 ghost use Rattle.world_pipes.specs.Standing.{StandsFor};
 ghost use Rattle.world.specs.Goes.{AreReached, LosesNothing, StaysReached, WorldGoesOn};
 ghost use Rattle.world.specs.Happening.{Happens, Opens, Run, new_world_client};
@@ -13,10 +13,10 @@ ghost use Rattle.world.specs.Standing.{ClientsStand, IsReached, KeepsReached, Wo
 
 use crate::event::Event;
 use crate::place::Place;
+use exact_model::world_base::{Config, Memory, OpeningError};
 use packet::ClientId;
 use std::alloc::Global;
 use std::marker::Model;
-use world_base::{Config, Memory, OpeningError};
 use world_nodes::{Idle, Nodes};
 use world_pipes::PipedClient;
 

@@ -46,13 +46,6 @@ is_open_at port c = not (is_over c.stage) && is_at port c
 abbrev pub is_open_named : ConnectionName → Connection → Bool
 is_open_named name c = not (is_over c.stage) && same_connection c.name name
 
--- the open connection of a port, whose first packet is awaited, or whose Connect was proposed
-abbrev pub is_first_at : Port → Connection → Bool
-is_first_at port c = is_first c.stage && is_at port c
-
-abbrev pub is_proposed_at : Port → Connection → Bool
-is_proposed_at port c = is_proposed c.stage && is_at port c
-
 -- a connection is listed while it is open, and until all that was put out for it was handed over
 abbrev pub is_listed : Connection → Bool
 is_listed c = not (is_over c.stage) || not (length c.pending == 0)

@@ -4,21 +4,21 @@ use Rattle.std.proofs.lemmas.List.{append-nil}
 use Rattle.lists.specs.Lists.{In}
 use Rattle.ballot.specs.Protocol.Input.{Receives, Proposes, Ticks}
 use Rattle.broker_base.specs.Connection.{ConnectionName}
-use Rattle.world_base.specs.declared.item.Item.TheVariants.{Peer, Tick, Opened, Bytes, Ended, Crash}
-use Rattle.world_base.specs.Core.{CoreState, Turn}
-use Rattle.world_base.specs.Handing.{listed_at}
-use Rattle.world_base.specs.Reading.{open_at}
-use Rattle.node_model.specs.Ends.{bytes_on, came_on, piece_on}
-use Rattle.node_model.specs.Moves.{Deed, Moves, Runs, done}
-use Rattle.node_model.specs.Moves.Deed.{takes, gives}
-use Rattle.node_model.specs.Moves.Moves.{hears, opens_one, holds, reads_first, reads_later, closes, refuses, loses_one, loses_next, crashes, settles, hands}
-use Rattle.node_model.specs.Moves.Runs.{rests, goes_on}
-use Rattle.node_model.proofs.PartsOfMoves.{BeginsWith, IsBare, Part, begins_hearing, part_in, part_of}
-use Rattle.node_model.proofs.PartsOfMoves.Part.{heard, bytes_in, bytes_out}
-use Rattle.node_model.proofs.StepsMove.{deeds_begin}
-use Rattle.group_model.specs.Group.{Group, behind_turn}
-use Rattle.group_model.specs.Goes.{AllWasSent, WasSent, all_given}
-use Rattle.group_model.specs.Goes.MayGo.{node_acts}
+use Rattle.connection_model.specs.world_base.declared.item.Item.TheVariants.{Peer, Tick, Opened, Bytes, Ended, Crash}
+use Rattle.connection_model.specs.world_base.Core.{CoreState, Turn}
+use Rattle.connection_model.specs.world_base.Handing.{listed_at}
+use Rattle.connection_model.specs.world_base.Reading.{open_at}
+use Rattle.connection_model.specs.node_model.Ends.{bytes_on, came_on, piece_on}
+use Rattle.connection_model.specs.node_model.Moves.{Deed, Moves, Runs, done}
+use Rattle.connection_model.specs.node_model.Moves.Deed.{takes, gives}
+use Rattle.connection_model.specs.node_model.Moves.Moves.{hears, opens_one, holds, reads_first, reads_later, closes, refuses, loses_one, loses_next, crashes, settles, hands}
+use Rattle.connection_model.specs.node_model.Moves.Runs.{rests, goes_on}
+use Rattle.connection_model.proofs.of_node_model.PartsOfMoves.{BeginsWith, IsBare, Part, begins_hearing, part_in, part_of}
+use Rattle.connection_model.proofs.of_node_model.PartsOfMoves.Part.{heard, bytes_in, bytes_out}
+use Rattle.connection_model.proofs.of_node_model.StepsMove.{deeds_begin}
+use Rattle.connection_model.specs.group_model.Group.{Group, behind_turn}
+use Rattle.connection_model.specs.group_model.Goes.{AllWasSent, WasSent, all_given}
+use Rattle.connection_model.specs.group_model.Goes.MayGo.{node_acts}
 use Rattle.connection_model.specs.Streams.{bytes_named, handed_in_run, handed_on}
 use Rattle.world_model.specs.Deeds.{DeedWasSent, DeedsCarryTheirBytes, GroupsDoEachDeed}
 use Rattle.world_model.specs.Goes.{coming_with, going_with}

@@ -12,3 +12,6 @@ pub mod WorldsOpen
 pub mod TurnedAway
 pub mod PipesInOrder
 pub mod DeedsCarry
+pub use Rattle.connection_model.proofs as of_connection_model
+pub use Rattle.connection_model.proofs.of_group_model as of_group_model
+pub use Rattle.connection_model.proofs.of_node_model as of_node_model

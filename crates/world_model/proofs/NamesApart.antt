@@ -12,31 +12,31 @@ use Rattle.broker_base.specs.Connection.{ConnectionName}
 use Rattle.agreement.specs.MasterState.{refusal}
 use Rattle.agreement.specs.Past.{Moment, Past}
 use Rattle.agreement.proofs.Agreed.OnePrimary.{one_primary_a_ballot}
-use Rattle.world_base.specs.declared.connection.Connection.{Connection}
-use Rattle.world_base.specs.Core.{CoreState, Turn, rules}
-use Rattle.world_base.specs.Turns.{quiet}
-use Rattle.node_model.specs.Closed.{listed_named}
-use Rattle.node_model.specs.Ends.{IsOrderly}
-use Rattle.node_model.specs.LossyMoves.{LossyMoves, LossyRuns, all_inputs, given_in, inputs_in}
-use Rattle.node_model.specs.LossyMoves.LossyRuns.{rests, goes_on}
-use Rattle.node_model.proofs.Kept.{named}
-use Rattle.node_model.proofs.LossyClosed.{lossy_names_are_of_the_ballot}
-use Rattle.node_model.proofs.LossyReads.{losses_read_in_order}
-use Rattle.node_model.proofs.Views.{some_none}
+use Rattle.connection_model.specs.world_base.declared.connection.Connection.{Connection}
+use Rattle.connection_model.specs.world_base.Core.{CoreState, Turn, rules}
+use Rattle.connection_model.specs.world_base.Turns.{quiet}
+use Rattle.connection_model.specs.node_model.Closed.{listed_named}
+use Rattle.connection_model.specs.node_model.Ends.{IsOrderly}
+use Rattle.connection_model.specs.node_model.LossyMoves.{LossyMoves, LossyRuns, all_inputs, given_in, inputs_in}
+use Rattle.connection_model.specs.node_model.LossyMoves.LossyRuns.{rests, goes_on}
+use Rattle.connection_model.proofs.of_node_model.Kept.{named}
+use Rattle.connection_model.proofs.of_node_model.LossyClosed.{lossy_names_are_of_the_ballot}
+use Rattle.connection_model.proofs.of_node_model.LossyReads.{losses_read_in_order}
+use Rattle.connection_model.proofs.of_node_model.Views.{some_none}
 use Rattle.world_model.specs.Apart.{HasName, NamesStayApart}
-use Rattle.group_model.specs.Group.{Group, behind_turn, moment_of, opening_cores}
-use Rattle.group_model.specs.Goes.{MayGo, Went, groups_of, keeping, put_in_step}
-use Rattle.group_model.specs.Losing.{WereSent, all_given, put_in_move, put_in_run}
-use Rattle.group_model.specs.Goes.MayGo.{node_acts, node_loses, master_assigns as assigns, master_hears as hears_master, assigns_unheard, answers_unheard}
-use Rattle.group_model.specs.Goes.Went.{opened, then_went}
-use Rattle.group_model.proofs.GroupsArePasts.{goes_on as step_goes_on, groups_are_pasts}
-use Rattle.group_model.proofs.LosingNone.{losing_none, same_given, same_put, sent_losing}
-use Rattle.group_model.proofs.LossesHappen.{losses_happen}
-use Rattle.group_model.proofs.MovesHappen.{Further, unchanged}
-use Rattle.group_model.proofs.NamesInGroups.{all_well, each_got}
-use Rattle.group_model.proofs.Placed.{get_of_set}
-use Rattle.group_model.proofs.RunsHappen.{both, kept_turns, were_both, were_still}
-use Rattle.group_model.proofs.Thinning.{Given, all_kept, kept_of_both, nothing_kept}
+use Rattle.connection_model.specs.group_model.Group.{Group, behind_turn, moment_of, opening_cores}
+use Rattle.connection_model.specs.group_model.Goes.{MayGo, Went, groups_of, keeping, put_in_step}
+use Rattle.connection_model.specs.group_model.Losing.{WereSent, all_given, put_in_move, put_in_run}
+use Rattle.connection_model.specs.group_model.Goes.MayGo.{node_acts, node_loses, master_assigns as assigns, master_hears as hears_master, assigns_unheard, answers_unheard}
+use Rattle.connection_model.specs.group_model.Goes.Went.{opened, then_went}
+use Rattle.connection_model.proofs.of_group_model.GroupsArePasts.{goes_on as step_goes_on, groups_are_pasts}
+use Rattle.connection_model.proofs.of_group_model.LosingNone.{losing_none, same_given, same_put, sent_losing}
+use Rattle.connection_model.proofs.of_group_model.LossesHappen.{losses_happen}
+use Rattle.connection_model.proofs.of_group_model.MovesHappen.{Further, unchanged}
+use Rattle.connection_model.proofs.of_group_model.NamesInGroups.{all_well, each_got}
+use Rattle.connection_model.proofs.of_group_model.Placed.{get_of_set}
+use Rattle.connection_model.proofs.of_group_model.RunsHappen.{both, kept_turns, were_both, were_still}
+use Rattle.connection_model.proofs.of_group_model.Thinning.{Given, all_kept, kept_of_both, nothing_kept}
 use Rattle.connection_model.proofs.CarriedInOrder.{assigned_nodes, no_connections}
 use Rattle.connection_model.proofs.RunsKeep.{same_group}
 use Rattle.connection_model.proofs.States.{Led, leads_now, set_back}

@@ -10,25 +10,25 @@ use Rattle.lists.specs.Lists.{Each, In}
 use Rattle.lists.specs.Lists.In.{here, there}
 use Rattle.agreement.specs.MasterState.{refusal}
 use Rattle.model.proofs.Lists.{same_or_other}
-use Rattle.world_base.specs.declared.connection.Connection.{Connection}
-use Rattle.world_base.specs.declared.item.Item.{Item}
-use Rattle.world_base.specs.declared.item.Item.TheVariants.{Peer, Tick, Opened, Bytes, Ended, Crash}
-use Rattle.world_base.specs.declared.item.Port.{Port}
-use Rattle.world_base.specs.Core.{CoreState, Turn}
-use Rattle.world_base.specs.LossyStep.{RunsOn}
-use Rattle.world_base.specs.Step.{next_name}
-use Rattle.node_model.specs.Ends.{IsGiven, IsOrderly}
-use Rattle.node_model.specs.Moves.{Deed, Runs, done}
-use Rattle.node_model.specs.Moves.Deed.{takes, gives}
-use Rattle.node_model.specs.LossyMoves.{IsRunOn, LossyRuns, came_with}
-use Rattle.node_model.specs.LossyMoves.LossyRuns.{rests, goes_on}
-use Rattle.node_model.proofs.LossyReads.{losses_read_in_order}
-use Rattle.group_model.specs.Group.{Group}
-use Rattle.group_model.specs.Goes.{MayGo, Went}
-use Rattle.group_model.specs.Goes.MayGo.{node_acts, node_loses, master_assigns, master_hears, assigns_unheard, answers_unheard}
-use Rattle.group_model.proofs.LosingNone.{losing_none}
-use Rattle.group_model.proofs.NamesInGroups.{all_well, each_got}
-use Rattle.group_model.proofs.Placed.{get_of_set}
+use Rattle.connection_model.specs.world_base.declared.connection.Connection.{Connection}
+use Rattle.connection_model.specs.world_base.declared.item.Item.{Item}
+use Rattle.connection_model.specs.world_base.declared.item.Item.TheVariants.{Peer, Tick, Opened, Bytes, Ended, Crash}
+use Rattle.connection_model.specs.world_base.declared.item.Port.{Port}
+use Rattle.connection_model.specs.world_base.Core.{CoreState, Turn}
+use Rattle.connection_model.specs.world_base.LossyStep.{RunsOn}
+use Rattle.connection_model.specs.world_base.Step.{next_name}
+use Rattle.connection_model.specs.node_model.Ends.{IsGiven, IsOrderly}
+use Rattle.connection_model.specs.node_model.Moves.{Deed, Runs, done}
+use Rattle.connection_model.specs.node_model.Moves.Deed.{takes, gives}
+use Rattle.connection_model.specs.node_model.LossyMoves.{IsRunOn, LossyRuns, came_with}
+use Rattle.connection_model.specs.node_model.LossyMoves.LossyRuns.{rests, goes_on}
+use Rattle.connection_model.proofs.of_node_model.LossyReads.{losses_read_in_order}
+use Rattle.connection_model.specs.group_model.Group.{Group}
+use Rattle.connection_model.specs.group_model.Goes.{MayGo, Went}
+use Rattle.connection_model.specs.group_model.Goes.MayGo.{node_acts, node_loses, master_assigns, master_hears, assigns_unheard, answers_unheard}
+use Rattle.connection_model.proofs.of_group_model.LosingNone.{losing_none}
+use Rattle.connection_model.proofs.of_group_model.NamesInGroups.{all_well, each_got}
+use Rattle.connection_model.proofs.of_group_model.Placed.{get_of_set}
 use Rattle.connection_model.specs.Streams.{comes_up, goes_down}
 use Rattle.connection_model.proofs.CarriedInOrder.{assigned_nodes}
 use Rattle.connection_model.proofs.Given.{stays_given}

@@ -14,22 +14,22 @@ use Rattle.lists.proofs.Tests.{eq_is, eq_same}
 use Rattle.pipes.specs.Pipe.{Joins}
 use Rattle.story.specs.Sides.{Connection}
 use Rattle.story.proofs.Takes.{same_name_self}
-use Rattle.world_base.specs.declared.connection.Connection.{Connection as NodesEnd}
-use Rattle.world_base.specs.declared.item.Item.TheVariants.{Peer, Tick, Opened, Bytes, Ended, Crash}
-use Rattle.world_base.specs.declared.item.Port.{Port}
-use Rattle.world_base.specs.Connections.{is_at, is_open_at}
-use Rattle.world_base.specs.Core.{CoreState}
-use Rattle.world_base.specs.Handing.{listed_at}
-use Rattle.world_base.specs.Reading.{open_at}
-use Rattle.node_model.specs.Ends.{IsGiven, piece_on}
-use Rattle.node_model.specs.Moves.{Deed}
-use Rattle.node_model.specs.Moves.Deed.{takes, gives}
-use Rattle.node_model.specs.Puts.{spelled}
-use Rattle.node_model.proofs.Kept.{left_true, live}
-use Rattle.node_model.proofs.Views.{found_each, found_passes, some_none}
-use Rattle.group_model.specs.Group.{Group}
-use Rattle.group_model.specs.Goes.{MayGo, Went, groups_of}
-use Rattle.group_model.specs.Goes.Went.{then_went}
+use Rattle.connection_model.specs.world_base.declared.connection.Connection.{Connection as NodesEnd}
+use Rattle.connection_model.specs.world_base.declared.item.Item.TheVariants.{Peer, Tick, Opened, Bytes, Ended, Crash}
+use Rattle.connection_model.specs.world_base.declared.item.Port.{Port}
+use Rattle.connection_model.specs.world_base.Connections.{is_at, is_open_at}
+use Rattle.connection_model.specs.world_base.Core.{CoreState}
+use Rattle.connection_model.specs.world_base.Handing.{listed_at}
+use Rattle.connection_model.specs.world_base.Reading.{open_at}
+use Rattle.connection_model.specs.node_model.Ends.{IsGiven, piece_on}
+use Rattle.connection_model.specs.node_model.Moves.{Deed}
+use Rattle.connection_model.specs.node_model.Moves.Deed.{takes, gives}
+use Rattle.connection_model.specs.node_model.Puts.{spelled}
+use Rattle.connection_model.proofs.of_node_model.Kept.{left_true, live}
+use Rattle.connection_model.proofs.of_node_model.Views.{found_each, found_passes, some_none}
+use Rattle.connection_model.specs.group_model.Group.{Group}
+use Rattle.connection_model.specs.group_model.Goes.{MayGo, Went, groups_of}
+use Rattle.connection_model.specs.group_model.Goes.Went.{then_went}
 use Rattle.connection_model.specs.Streams.{bytes_named, came_up, comes_up, goes_down, went_down}
 use Rattle.world_model.specs.Apart.{HasName}
 use Rattle.world_model.specs.Goes.{coming_with, deed_of, going_with}

@@ -5,12 +5,12 @@ use Rattle.broker_base.specs.Command.{Command}
 use Rattle.broker_base.specs.Place.{Client}
 use Rattle.lists.specs.Lists.{In, IsPrefixOf}
 use Rattle.story.specs.Sides.{Connection}
-use Rattle.world_base.specs.declared.connection.Connection.{Connection as NodesEnd}
-use Rattle.world_base.specs.Core.{CoreState}
-use Rattle.group_model.specs.Group.{opening_cores}
-use Rattle.group_model.specs.Goes.{Went}
-use Rattle.group_model.specs.Goes.Went.{opened}
-use Rattle.group_model.proofs.NamesInGroups.{each_got}
+use Rattle.connection_model.specs.world_base.declared.connection.Connection.{Connection as NodesEnd}
+use Rattle.connection_model.specs.world_base.Core.{CoreState}
+use Rattle.connection_model.specs.group_model.Group.{opening_cores}
+use Rattle.connection_model.specs.group_model.Goes.{Went}
+use Rattle.connection_model.specs.group_model.Goes.Went.{opened}
+use Rattle.connection_model.proofs.of_group_model.NamesInGroups.{each_got}
 use Rattle.broker_base.specs.Connection.{ConnectionName}
 use Rattle.connection_model.specs.Carried.{answers_to}
 use Rattle.connection_model.specs.Streams.{came_up, went_down}

@@ -21,22 +21,22 @@ use Rattle.broker_base.specs.Output.TheVariants as outputs
 use Rattle.lists.specs.Lists.{Each, In}
 use Rattle.lists.specs.Lists.In.{here, there}
 use Rattle.lists.proofs.OfEach.{each_append, each_then}
-use Rattle.world_base.specs.declared.connection.Connection.{Connection}
-use Rattle.world_base.specs.declared.item.Item.{Item}
-use Rattle.world_base.specs.declared.item.Item.TheVariants.{Peer, Tick, Opened, Bytes, Ended, Crash}
-use Rattle.world_base.specs.declared.item.Port.{Port}
-use Rattle.world_base.specs.Connections.{asked, changed, closed, failing, fresh, handed, holding, is_at, is_first, is_listed, is_open_at, is_open_named, is_proposed, left_with, most_pending, put_out, putting}
-use Rattle.world_base.specs.Core.{CoreState, Turn, serves}
-use Rattle.world_base.specs.Handing.{hands_over, left_by, listed_at}
-use Rattle.world_base.specs.KeepAlive.{ends_if, ends_silent, lowest_silent}
-use Rattle.world_base.specs.Reading.{begins, changes, ends, loses, loses_open, open_at, reads, reads_next, reads_of, refused, says, unread_of}
-use Rattle.world_base.specs.Step.{acts_on, next_name, opens, takes_in}
-use Rattle.world_base.specs.Turns.{changes_named, drives, has_room, heard, proposes, quiet, repeated, served}
-use Rattle.node_model.specs.Moves.{Deed, done}
-use Rattle.node_model.specs.Moves.Deed.{takes, gives}
-use Rattle.node_model.proofs.EachKept.{IsKept, each_proposed, each_repeated, each_settled}
-use Rattle.node_model.proofs.Kept.{failing_over, left_true, live, put_out_name}
-use Rattle.node_model.proofs.Views.{each_filtered}
+use Rattle.connection_model.specs.world_base.declared.connection.Connection.{Connection}
+use Rattle.connection_model.specs.world_base.declared.item.Item.{Item}
+use Rattle.connection_model.specs.world_base.declared.item.Item.TheVariants.{Peer, Tick, Opened, Bytes, Ended, Crash}
+use Rattle.connection_model.specs.world_base.declared.item.Port.{Port}
+use Rattle.connection_model.specs.world_base.Connections.{asked, changed, closed, failing, fresh, handed, holding, is_at, is_first, is_listed, is_open_at, is_open_named, is_proposed, left_with, most_pending, put_out, putting}
+use Rattle.connection_model.specs.world_base.Core.{CoreState, Turn, serves}
+use Rattle.connection_model.specs.world_base.Handing.{hands_over, left_by, listed_at}
+use Rattle.connection_model.specs.world_base.KeepAlive.{ends_if, ends_silent, lowest_silent}
+use Rattle.connection_model.specs.world_base.Reading.{begins, changes, ends, loses, loses_open, open_at, reads, reads_next, reads_of, refused, says, unread_of}
+use Rattle.connection_model.specs.world_base.Step.{acts_on, next_name, opens, takes_in}
+use Rattle.connection_model.specs.world_base.Turns.{changes_named, drives, has_room, heard, proposes, quiet, repeated, served}
+use Rattle.connection_model.specs.node_model.Moves.{Deed, done}
+use Rattle.connection_model.specs.node_model.Moves.Deed.{takes, gives}
+use Rattle.connection_model.proofs.of_node_model.EachKept.{IsKept, each_proposed, each_repeated, each_settled}
+use Rattle.connection_model.proofs.of_node_model.Kept.{failing_over, left_true, live, put_out_name}
+use Rattle.connection_model.proofs.of_node_model.Views.{each_filtered}
 
 -- the same connection later: it has its port and its name, and is not open where it was closed
 pub record IsLater (c d : Connection) : Type 0 where

@@ -14,25 +14,25 @@ use Rattle.broker_base.specs.Output.{Output}
 use Rattle.broker_base.specs.Output.TheVariants as outputs
 use Rattle.lists.specs.Lists.{Each}
 use Rattle.lists.proofs.OfEach.{each_then}
-use Rattle.world_base.specs.declared.connection.Connection.{Connection}
-use Rattle.world_base.specs.declared.item.Item.{Item}
-use Rattle.world_base.specs.declared.item.Item.TheVariants.{Peer, Tick, Opened, Bytes, Ended, Crash}
-use Rattle.world_base.specs.declared.item.Port.{Port}
-use Rattle.world_base.specs.Connections.{asked, closed, failing, has_failed, holding, is_at, left_with, put_out}
-use Rattle.world_base.specs.Core.{CoreState}
-use Rattle.world_base.specs.Failing.{closes_failed}
-use Rattle.world_base.specs.Lossy.{Account, Declines, Delivers, Drives, Proposes, Repeated, Serves, Takes, Then, quietly}
-use Rattle.world_base.specs.Lossy.Declines.{no_room, forgets, stops}
-use Rattle.world_base.specs.Lossy.Delivers.{nothing, does, tells, loses}
-use Rattle.world_base.specs.LossyStep.{ActsOn, Asks, Begins, Closes, Ends, EndsSilent, Holds, LosesAllFailed, LosesFailed, Opens, ReadsAll, ReadsNext, RunsOn, Shuts, TakesIn}
-use Rattle.world_base.specs.LossyStep.Ends.{none_open, untold, told}
-use Rattle.world_base.specs.LossyStep.EndsSilent.{none_silent, ends_one}
-use Rattle.world_base.specs.LossyStep.LosesFailed.{none_failed, tells_one}
-use Rattle.world_base.specs.LossyStep.ReadsNext.{waits, first, later, refuses, ends}
-use Rattle.world_base.specs.Reading.{changes, open_at, refused, unread_of}
-use Rattle.world_base.specs.Step.{opens}
-use Rattle.node_model.proofs.EachKept.{each_settled}
-use Rattle.node_model.proofs.Kept.{failing_over, left_true, live}
+use Rattle.connection_model.specs.world_base.declared.connection.Connection.{Connection}
+use Rattle.connection_model.specs.world_base.declared.item.Item.{Item}
+use Rattle.connection_model.specs.world_base.declared.item.Item.TheVariants.{Peer, Tick, Opened, Bytes, Ended, Crash}
+use Rattle.connection_model.specs.world_base.declared.item.Port.{Port}
+use Rattle.connection_model.specs.world_base.Connections.{asked, closed, failing, has_failed, holding, is_at, left_with, put_out}
+use Rattle.connection_model.specs.world_base.Core.{CoreState}
+use Rattle.connection_model.specs.world_base.Failing.{closes_failed}
+use Rattle.connection_model.specs.world_base.Lossy.{Account, Declines, Delivers, Drives, Proposes, Repeated, Serves, Takes, Then, quietly}
+use Rattle.connection_model.specs.world_base.Lossy.Declines.{no_room, forgets, stops}
+use Rattle.connection_model.specs.world_base.Lossy.Delivers.{nothing, does, tells, loses}
+use Rattle.connection_model.specs.world_base.LossyStep.{ActsOn, Asks, Begins, Closes, Ends, EndsSilent, Holds, LosesAllFailed, LosesFailed, Opens, ReadsAll, ReadsNext, RunsOn, Shuts, TakesIn}
+use Rattle.connection_model.specs.world_base.LossyStep.Ends.{none_open, untold, told}
+use Rattle.connection_model.specs.world_base.LossyStep.EndsSilent.{none_silent, ends_one}
+use Rattle.connection_model.specs.world_base.LossyStep.LosesFailed.{none_failed, tells_one}
+use Rattle.connection_model.specs.world_base.LossyStep.ReadsNext.{waits, first, later, refuses, ends}
+use Rattle.connection_model.specs.world_base.Reading.{changes, open_at, refused, unread_of}
+use Rattle.connection_model.specs.world_base.Step.{opens}
+use Rattle.connection_model.proofs.of_node_model.EachKept.{each_settled}
+use Rattle.connection_model.proofs.of_node_model.Kept.{failing_over, left_true, live}
 use Rattle.world_model.proofs.PortsKept.{AllOf, Comes, IsFollowed, IsLater, IsOfOld, all_old, comes_later, each_at, each_changed, each_named, each_opened, is_put_out, is_shut, kept, old_later, shut_at}
 
 fails_later : (c : Connection) → IsLater c (failing c)

@@ -10,12 +10,12 @@ use Rattle.lists.specs.Lists.{Each, In}
 use Rattle.lists.proofs.Places.{get_set, get_set_other}
 use Rattle.model.proofs.Lists.{same_or_other, set_get}
 use Rattle.story.specs.Sides.{Connection}
-use Rattle.world_base.specs.declared.connection.Connection.{Connection as NodesEnd}
-use Rattle.world_base.specs.declared.item.Port.{Port}
-use Rattle.world_base.specs.Core.{CoreState}
-use Rattle.node_model.specs.Puts.{spelled}
-use Rattle.group_model.specs.Group.{Group}
-use Rattle.group_model.specs.Goes.{Went}
+use Rattle.connection_model.specs.world_base.declared.connection.Connection.{Connection as NodesEnd}
+use Rattle.connection_model.specs.world_base.declared.item.Port.{Port}
+use Rattle.connection_model.specs.world_base.Core.{CoreState}
+use Rattle.connection_model.specs.node_model.Puts.{spelled}
+use Rattle.connection_model.specs.group_model.Group.{Group}
+use Rattle.connection_model.specs.group_model.Goes.{Went}
 use Rattle.connection_model.specs.Streams.{came_up, went_down}
 use Rattle.world_model.specs.World.{ClientPipes, HasPipe, Pipe, World, packets_of, with_client, with_pipe}
 use Rattle.world_model.proofs.OnTheWay.{IsHandled, packets_behind, piece_down}

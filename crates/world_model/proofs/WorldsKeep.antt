@@ -17,22 +17,22 @@ use Rattle.cutter.specs.Stream.{Stream, Takes}
 use Rattle.lists.specs.Lists.{Each, In}
 use Rattle.lists.proofs.Places.{get_set_other}
 use Rattle.model.proofs.Lists.{same_or_other, set_get}
-use Rattle.world_base.specs.declared.item.Port.{Port}
+use Rattle.connection_model.specs.world_base.declared.item.Port.{Port}
 use Rattle.model.specs.Goes.{is_call}
 use Rattle.story.specs.Sides.{Connection, Side}
 use Rattle.story.specs.Story.{Happens, Story}
 use Rattle.story.specs.Story.Happens.{takes as takes_next, others_take, receives, opens_anew, loses, disconnects, publishes_one, subscribes, unsubscribes}
 use Rattle.story.proofs.Takes.{same_name_self}
 use Rattle.story.proofs.publishing.Grown.{handled_grows}
-use Rattle.world_base.specs.declared.connection.Connection.{Connection as NodesEnd}
-use Rattle.world_base.specs.declared.item.Item.TheVariants.{Peer, Tick, Opened, Bytes, Ended, Crash}
-use Rattle.world_base.specs.Core.{CoreState}
-use Rattle.node_model.specs.Moves.{Deed}
-use Rattle.node_model.specs.Moves.Deed.{takes, gives}
-use Rattle.node_model.specs.Puts.{spelled}
-use Rattle.group_model.specs.Group.{Group}
-use Rattle.group_model.specs.Goes.{MayGo, Went}
-use Rattle.group_model.specs.Goes.Went.{then_went}
+use Rattle.connection_model.specs.world_base.declared.connection.Connection.{Connection as NodesEnd}
+use Rattle.connection_model.specs.world_base.declared.item.Item.TheVariants.{Peer, Tick, Opened, Bytes, Ended, Crash}
+use Rattle.connection_model.specs.world_base.Core.{CoreState}
+use Rattle.connection_model.specs.node_model.Moves.{Deed}
+use Rattle.connection_model.specs.node_model.Moves.Deed.{takes, gives}
+use Rattle.connection_model.specs.node_model.Puts.{spelled}
+use Rattle.connection_model.specs.group_model.Group.{Group}
+use Rattle.connection_model.specs.group_model.Goes.{MayGo, Went}
+use Rattle.connection_model.specs.group_model.Goes.Went.{then_went}
 use Rattle.connection_model.specs.Streams.{comes_up, goes_down, went_down}
 use Rattle.world_model.specs.Goes.{CanBeSpelled, Does, after_packet, deed_of, is_apart}
 use Rattle.world_model.specs.World.{ClientPipes, HasPipe, Pipe, World, after_writing, newly_written, packets_of, sent_up, with_client, with_pipe}

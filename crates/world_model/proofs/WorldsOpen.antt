@@ -15,21 +15,21 @@ use Rattle.model.proofs.Lists.{same_or_other, set_get}
 use Rattle.pipes.specs.Pipe.{Joins}
 use Rattle.story.specs.Sides.{Connection}
 use Rattle.story.proofs.Takes.{same_name_self}
-use Rattle.world_base.specs.declared.connection.Connection.{Connection as NodesEnd}
-use Rattle.world_base.specs.declared.item.Item.TheVariants.{Opened}
-use Rattle.world_base.specs.declared.item.Port.{Port}
-use Rattle.world_base.specs.Core.{CoreState}
-use Rattle.world_base.specs.Handing.{listed_at}
-use Rattle.world_base.specs.Step.{next_name}
-use Rattle.node_model.specs.Ends.{IsGiven, Precedes}
-use Rattle.node_model.specs.Moves.{Deed}
-use Rattle.node_model.specs.Moves.Deed.{takes}
-use Rattle.node_model.specs.Puts.{spelled}
-use Rattle.node_model.proofs.Kept.{named}
-use Rattle.node_model.proofs.NamesInOrder.{next_precedes, not_both}
-use Rattle.group_model.specs.Goes.{Went}
-use Rattle.group_model.specs.Goes.Went.{then_went}
-use Rattle.group_model.proofs.NamesInGroups.{all_well, each_got}
+use Rattle.connection_model.specs.world_base.declared.connection.Connection.{Connection as NodesEnd}
+use Rattle.connection_model.specs.world_base.declared.item.Item.TheVariants.{Opened}
+use Rattle.connection_model.specs.world_base.declared.item.Port.{Port}
+use Rattle.connection_model.specs.world_base.Core.{CoreState}
+use Rattle.connection_model.specs.world_base.Handing.{listed_at}
+use Rattle.connection_model.specs.world_base.Step.{next_name}
+use Rattle.connection_model.specs.node_model.Ends.{IsGiven, Precedes}
+use Rattle.connection_model.specs.node_model.Moves.{Deed}
+use Rattle.connection_model.specs.node_model.Moves.Deed.{takes}
+use Rattle.connection_model.specs.node_model.Puts.{spelled}
+use Rattle.connection_model.proofs.of_node_model.Kept.{named}
+use Rattle.connection_model.proofs.of_node_model.NamesInOrder.{next_precedes, not_both}
+use Rattle.connection_model.specs.group_model.Goes.{Went}
+use Rattle.connection_model.specs.group_model.Goes.Went.{then_went}
+use Rattle.connection_model.proofs.of_group_model.NamesInGroups.{all_well, each_got}
 use Rattle.connection_model.specs.Streams.{comes_up, goes_down}
 use Rattle.world_model.specs.Apart.{HasName}
 use Rattle.world_model.specs.Goes.{Does, after_connecting, deed_of}

@@ -3,11 +3,11 @@ use Rattle.std.specs.Prelude.{◌≡◌, ℕ, slice_get, Some}
 use Rattle.lists.specs.Lists.{In}
 use Rattle.ballot.specs.Config.{Config}
 use Rattle.broker_base.specs.Connection.{ConnectionName}
-use Rattle.world_base.specs.declared.connection.Connection.{Connection}
-use Rattle.world_base.specs.Core.{CoreState}
-use Rattle.node_model.specs.Closed.{listed_named}
-use Rattle.group_model.specs.Group.{Group}
-use Rattle.group_model.specs.Goes.{Went, groups_of}
+use Rattle.connection_model.specs.world_base.declared.connection.Connection.{Connection}
+use Rattle.connection_model.specs.world_base.Core.{CoreState}
+use Rattle.connection_model.specs.node_model.Closed.{listed_named}
+use Rattle.connection_model.specs.group_model.Group.{Group}
+use Rattle.connection_model.specs.group_model.Goes.{Went, groups_of}
 
 -- a node has a connection of this name, open or with bytes to hand over
 pub record HasName (x : ConnectionName) (g : Group) (n : ℕ) : Type 0 where

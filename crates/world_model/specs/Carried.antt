@@ -2,8 +2,8 @@
 use Rattle.std.specs.Prelude.{ℕ, List}
 use Rattle.ballot.specs.Config.{Config}
 use Rattle.broker_base.specs.Place.{Client}
-use Rattle.group_model.specs.Goes.{Went}
-use Rattle.group_model.specs.Goes.Went.{opened, then_went}
+use Rattle.connection_model.specs.group_model.Goes.{Went}
+use Rattle.connection_model.specs.group_model.Goes.Went.{opened, then_went}
 use Rattle.connection_model.specs.Carried.{Carries}
 use Rattle.world_model.specs.World.{World}
 use Rattle.world_model.specs.Goes.{Reached, WorldStep}

@@ -4,13 +4,13 @@ use Rattle.lists.specs.Lists.{In}
 use Rattle.ballot.specs.Effect.{Effect}
 use Rattle.broker_base.specs.Command.{Command}
 use Rattle.broker_base.specs.Output.{Output}
-use Rattle.world_base.specs.declared.item.Item.TheVariants.{Peer}
-use Rattle.world_base.specs.Core.{CoreState, Turn}
-use Rattle.node_model.specs.Hearing.{HearsAtFirst}
-use Rattle.node_model.specs.Moves.{Deed, Runs, done}
-use Rattle.node_model.specs.Moves.Deed.{takes}
-use Rattle.group_model.specs.Group.{Group, behind_turn}
-use Rattle.group_model.specs.Goes.{AllWasSent}
+use Rattle.connection_model.specs.world_base.declared.item.Item.TheVariants.{Peer}
+use Rattle.connection_model.specs.world_base.Core.{CoreState, Turn}
+use Rattle.connection_model.specs.node_model.Hearing.{HearsAtFirst}
+use Rattle.connection_model.specs.node_model.Moves.{Deed, Runs, done}
+use Rattle.connection_model.specs.node_model.Moves.Deed.{takes}
+use Rattle.connection_model.specs.group_model.Group.{Group, behind_turn}
+use Rattle.connection_model.specs.group_model.Goes.{AllWasSent}
 use Rattle.world_model.specs.Goes.{CarriesItsBytes, Does}
 
 -- what a node takes in of others was sent to it

@@ -15,19 +15,19 @@ use Rattle.lists.specs.Lists.{Each}
 use Rattle.story.specs.Sides.{Connection, Side}
 use Rattle.story.specs.Story.{Story, Happens}
 use Rattle.model.specs.Goes.{is_call}
-use Rattle.world_base.specs.declared.connection.Connection.{Connection as NodesEnd}
-use Rattle.world_base.specs.declared.item.Port.{Port}
-use Rattle.world_base.specs.declared.item.Item.TheVariants.{Peer, Tick, Opened, Bytes, Ended, Crash}
-use Rattle.world_base.specs.Core.{CoreState, Turn}
-use Rattle.world_base.specs.Handing.{listed_at}
-use Rattle.world_base.specs.Reading.{open_at}
-use Rattle.node_model.specs.Ends.{bytes_on, piece_on}
-use Rattle.node_model.specs.Moves.{Deed, Runs}
-use Rattle.node_model.specs.Moves.Deed.{takes, gives}
-use Rattle.node_model.specs.Puts.{spelled}
-use Rattle.group_model.specs.Group.{Group}
-use Rattle.group_model.specs.Goes.{MayGo}
-use Rattle.group_model.specs.Goes.MayGo.{node_acts, node_loses, master_assigns, master_hears, assigns_unheard, answers_unheard}
+use Rattle.connection_model.specs.world_base.declared.connection.Connection.{Connection as NodesEnd}
+use Rattle.connection_model.specs.world_base.declared.item.Port.{Port}
+use Rattle.connection_model.specs.world_base.declared.item.Item.TheVariants.{Peer, Tick, Opened, Bytes, Ended, Crash}
+use Rattle.connection_model.specs.world_base.Core.{CoreState, Turn}
+use Rattle.connection_model.specs.world_base.Handing.{listed_at}
+use Rattle.connection_model.specs.world_base.Reading.{open_at}
+use Rattle.connection_model.specs.node_model.Ends.{bytes_on, piece_on}
+use Rattle.connection_model.specs.node_model.Moves.{Deed, Runs}
+use Rattle.connection_model.specs.node_model.Moves.Deed.{takes, gives}
+use Rattle.connection_model.specs.node_model.Puts.{spelled}
+use Rattle.connection_model.specs.group_model.Group.{Group}
+use Rattle.connection_model.specs.group_model.Goes.{MayGo}
+use Rattle.connection_model.specs.group_model.Goes.MayGo.{node_acts, node_loses, master_assigns, master_hears, assigns_unheard, answers_unheard}
 use Rattle.connection_model.specs.Streams.{bytes_named, handed_in_run}
 use Rattle.connection_model.specs.Streams.{goes_down as goes_down_in}
 use Rattle.world_model.specs.World.{ClientPipes, HasPipe, Pipe, World, after_writing, is_used, newly_written, opening, packets_of, sent_up, with_client, with_pipe}

@@ -8,12 +8,12 @@ use Rattle.broker_base.specs.Place.{Client}
 use Rattle.lists.specs.Lists.{Each, IsPrefixOf}
 use Rattle.story.specs.Sides.{Connection}
 use Rattle.agreement.specs.Past.{IsAgreed}
-use Rattle.node_model.specs.Ends.{commands_of}
-use Rattle.node_model.specs.Puts.{spelled}
-use Rattle.group_model.specs.Group.{moment_of}
-use Rattle.group_model.specs.Goes.{all_put, groups_of}
-use Rattle.group_model.specs.Order.{packets_of as packets_in_list}
-use Rattle.group_model.specs.Pasts.{HasPast}
+use Rattle.connection_model.specs.node_model.Ends.{commands_of}
+use Rattle.connection_model.specs.node_model.Puts.{spelled}
+use Rattle.connection_model.specs.group_model.Group.{moment_of}
+use Rattle.connection_model.specs.group_model.Goes.{all_put, groups_of}
+use Rattle.connection_model.specs.group_model.Order.{packets_of as packets_in_list}
+use Rattle.connection_model.specs.group_model.Pasts.{HasPast}
 use Rattle.connection_model.specs.Carried.{answers_to}
 use Rattle.world_model.specs.Carried.{went_of}
 use Rattle.world_model.specs.World.{ClientPipes, HasPipe, Pipe, World, packets_of}

@@ -7,9 +7,9 @@ use Rattle.ballot.specs.Config.{Config}
 use Rattle.broker_base.specs.Place.{Client}
 use Rattle.client_base.specs.Keeper.{Keeper, Written, new_keeper}
 use Rattle.story.specs.Sides.{Connection}
-use Rattle.world_base.specs.declared.item.Port.{Port}
-use Rattle.node_model.specs.Puts.{spelled}
-use Rattle.group_model.specs.Group.{Group, opening_group}
+use Rattle.connection_model.specs.world_base.declared.item.Port.{Port}
+use Rattle.connection_model.specs.node_model.Puts.{spelled}
+use Rattle.connection_model.specs.group_model.Group.{Group, opening_group}
 
 -- where a connection leads, and the bytes on their way
 pub record Pipe : Type 0 where

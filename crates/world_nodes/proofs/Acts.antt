@@ -10,21 +10,22 @@ use Rattle.lists.specs.Lists.{In}
 use Rattle.agreement.specs.World.{messages}
 use Rattle.broker_base.specs.Command.{Command}
 use Rattle.broker_base.specs.Output.{Output}
-use Rattle.world_base.specs.declared.item.Item.{Item}
-use Rattle.world_base.specs.declared.item.Item.TheVariants.{Peer, Tick, Opened, Bytes, Ended, Crash}
-use Rattle.world_base.specs.Core.{CoreState, CountedCore}
-use Rattle.world_base.specs.Step.{node_step}
-use Rattle.node_model.specs.Moves.{Deed, done}
-use Rattle.node_model.specs.Moves.Deed.{takes}
-use Rattle.group_model.specs.Group.{Group, behind_turn}
-use Rattle.group_model.specs.Goes.{all_given}
-use Rattle.group_model.specs.Goes.MayGo.{node_acts}
-use Rattle.group_model.proofs.Placed.{get_mapped, set_mapped}
+use Rattle.world_model.specs.world_base.declared.item.Item.{Item}
+use Rattle.world_model.specs.world_base.declared.item.Item.TheVariants.{Peer, Tick, Opened, Bytes, Ended, Crash}
+use Rattle.world_model.specs.world_base.Core.{CoreState, CountedCore}
+use Rattle.world_model.specs.world_base.Step.{node_step}
+use Rattle.world_model.specs.node_model.Moves.{Deed, done}
+use Rattle.world_model.specs.node_model.Moves.Deed.{takes}
+use Rattle.world_model.specs.group_model.Group.{Group, behind_turn}
+use Rattle.world_model.specs.group_model.Goes.{all_given}
+use Rattle.world_model.specs.group_model.Goes.MayGo.{node_acts}
+use Rattle.world_model.specs.Deeds.{DeedWasSent}
+use Rattle.world_model.proofs.DeedsCarry.{deeds_carry_their_bytes}
+use Rattle.world_model.proofs.of_group_model.Placed.{get_mapped, set_mapped}
 use Rattle.world_nodes.specs.Nodes.{NodesState, StandsFor}
 use Rattle.world_nodes.specs.Goes.{Acts, behind_deed}
 use Rattle.world_nodes.specs.Steps.{LosesNothing, TakesIn}
 use Rattle.world_nodes.specs.Inside.{RunsAt, TookItem, WasSent}
-use Rattle.world_nodes.proofs.DeedsRun.{DeedWasSent, deeds_run}
 
 abbrev pub core_in : CountedCore → CoreState
 core_in c = c.core
@@ -34,7 +35,7 @@ core_in c = c.core
 pub acts : (old : NodesState) (at : ℕ) (node : CountedCore) (deed : Deed) → slice_get old.nodes at ≡ Some node
     → ((g : Group) → StandsFor g old → DeedWasSent g at deed) → Acts at deed old (behind_deed at node deed old)
 acts old at node deed there sent g s =
-    let r = deeds_run g at deed node.core (sent g s) in
+    let r = deeds_carry_their_bytes g at deed node.core (sent g s) in
     let turn = done deed node.core in
     let found : slice_get g.nodes at ≡ Some node.core = ap (λ (l : List CoreState). slice_get l at) s.nodes ∙ get_mapped core_in old.nodes at node there in
     record {

@@ -4,22 +4,22 @@ use Rattle.std.specs.Prelude.{slice_get, slice_set}
 use Rattle.ballot.specs.Message.{Message}
 use Rattle.agreement.specs.World.{messages}
 use Rattle.broker_base.specs.Command.{Command}
-use Rattle.world_base.specs.declared.item.Item.{Item}
-use Rattle.world_base.specs.declared.item.Item.TheVariants.{Peer, Tick, Opened, Bytes, Ended, Crash}
-use Rattle.world_base.specs.Core.{CoreState, CountedCore, Turn}
-use Rattle.node_model.specs.LossyMoves.{IsRunOn, heard_with}
-use Rattle.node_model.specs.Moves.Deed.{takes}
-use Rattle.node_model.proofs.LossesAreMoves.{losses_are_moves}
-use Rattle.group_model.specs.Group.{Group, behind_turn}
-use Rattle.group_model.specs.Goes.{keeping}
-use Rattle.group_model.specs.Goes.MayGo.{node_loses}
-use Rattle.group_model.specs.Losing.{WereSent, all_given}
-use Rattle.group_model.proofs.Placed.{get_mapped, set_mapped}
+use Rattle.world_model.specs.world_base.declared.item.Item.{Item}
+use Rattle.world_model.specs.world_base.declared.item.Item.TheVariants.{Peer, Tick, Opened, Bytes, Ended, Crash}
+use Rattle.world_model.specs.world_base.Core.{CoreState, CountedCore, Turn}
+use Rattle.world_model.specs.node_model.LossyMoves.{IsRunOn, heard_with}
+use Rattle.world_model.specs.node_model.Moves.Deed.{takes}
+use Rattle.world_model.proofs.of_node_model.LossesAreMoves.{losses_are_moves}
+use Rattle.world_model.specs.group_model.Group.{Group, behind_turn}
+use Rattle.world_model.specs.group_model.Goes.{keeping}
+use Rattle.world_model.specs.group_model.Goes.MayGo.{node_loses}
+use Rattle.world_model.specs.group_model.Losing.{WereSent, all_given}
+use Rattle.world_model.specs.Deeds.{DeedWasSent}
+use Rattle.world_model.proofs.of_group_model.Placed.{get_mapped, set_mapped}
 use Rattle.world_nodes.specs.Nodes.{NodesState}
 use Rattle.world_nodes.specs.Goes.{Acts}
 use Rattle.world_nodes.specs.Inside.{RunsAt, TookItem, WasSent}
 use Rattle.world_nodes.proofs.Acts.{behind_turn_of, core_in, deed_sent}
-use Rattle.world_nodes.proofs.DeedsRun.{DeedWasSent}
 
 were_sent : (g : Group) (at : ℕ) (item : Item) → DeedWasSent g at (takes item) → WereSent g at (heard_with item)
 were_sent g at (Peer message) sent = (sent, tt)

@@ -5,10 +5,10 @@ use Rattle.ballot.specs.Message.{Message}
 use Rattle.agreement.specs.MasterState.{MasterState}
 use Rattle.agreement.specs.World.{can_open}
 use Rattle.broker_base.specs.Command.{Command}
-use Rattle.node_model.specs.Moves.{Deed}
-use Rattle.group_model.specs.Group.{opening_group}
-use Rattle.group_model.specs.Goes.Went.{opened}
-use Rattle.group_model.proofs.GroupsArePasts.{goes_on, groups_are_pasts}
+use Rattle.world_model.specs.node_model.Moves.{Deed}
+use Rattle.world_model.specs.group_model.Group.{opening_group}
+use Rattle.world_model.specs.group_model.Goes.Went.{opened}
+use Rattle.world_model.proofs.of_group_model.GroupsArePasts.{goes_on, groups_are_pasts}
 use Rattle.master.specs.Inside.{HasCounted, ToldIn}
 use Rattle.master.proofs.Groups.{front_of}
 use Rattle.world_nodes.specs.Nodes.{NodesState, StandsFor}

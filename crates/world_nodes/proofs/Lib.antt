@@ -3,9 +3,7 @@ mod ActsLosing
 mod AgreedCounted
 mod CountsGoOn
 mod HandsOver
-mod InnerRuns
 mod Opens
 mod KeepsAll
 mod MasterActs
 mod MasterCounts
-pub mod DeedsRun

@@ -11,11 +11,11 @@ use Rattle.ballot.specs.Losses.{one_more}
 use Rattle.ballot.specs.Message.{Message}
 use Rattle.agreement.specs.MasterState.{AssignRefusal, MasterState, activating, assigning, is_granted, master_behind, refusal}
 use Rattle.broker_base.specs.Command.{Command}
-use Rattle.world_base.specs.declared.item.Item.TheVariants.{Peer}
-use Rattle.node_model.specs.Moves.Deed.{takes}
-use Rattle.group_model.specs.Group.{Group, with_master}
-use Rattle.group_model.specs.Goes.{MayGo, behind_assign}
-use Rattle.group_model.specs.Goes.MayGo.{master_assigns, master_hears, assigns_unheard, answers_unheard}
+use Rattle.world_model.specs.world_base.declared.item.Item.TheVariants.{Peer}
+use Rattle.world_model.specs.node_model.Moves.Deed.{takes}
+use Rattle.world_model.specs.group_model.Group.{Group, with_master}
+use Rattle.world_model.specs.group_model.Goes.{MayGo, behind_assign}
+use Rattle.world_model.specs.group_model.Goes.MayGo.{master_assigns, master_hears, assigns_unheard, answers_unheard}
 use Rattle.world_model.specs.Goes.{Does, IsFaithful, deed_of}
 use Rattle.world_nodes.specs.Nodes.{NodesState}
 use Rattle.world_nodes.specs.Goes.{Comes, HeardByMaster, MasterActs, behind_answer, behind_giving}

@@ -5,7 +5,7 @@ ghost use Rattle.ballot.specs.Body.TheVariants.{Activate};
 ghost use Rattle.ballot.specs.Losses.{one_more};
 ghost use Rattle.lists.specs.Lists.{In};
 ghost use Rattle.agreement.specs.MasterState.{refusal};
-ghost use Rattle.node_model.specs.Moves.Deed.{takes};
+ghost use Rattle.world_model.specs.node_model.Moves.Deed.{takes};
 ghost use Rattle.world_nodes.specs.Goes.{Acts, MasterActs, behind_answer, behind_giving, running};
 ghost use Rattle.world_nodes.specs.Steps.{LosesNothing, MasterGoes, TakesIn, forgetful};
 ghost use Rattle.world_nodes.specs.Inside.{RunsAt, WasSent};
@@ -14,7 +14,7 @@ use crate::keeping::counted;
 use crate::nodes::Nodes;
 use crate::turning::take_in;
 use master::{Idle, answer_of, config_of, tell};
-use world_base::{Body, Command, Config, Item, Members, Memory, Message};
+use world_model::world_base::{Body, Command, Config, Item, Members, Memory, Message};
 
 impl Nodes {
     // A node that runs takes an item in.

@@ -4,8 +4,8 @@ ghost use Rattle.std.specs.Prelude.{◌≡◌, ◌≤◌, ◌-◌, ◌↔◌, �
 ghost use Rattle.ballot.specs.Losses.{one_more};
 ghost use Rattle.agreement.specs.MasterState.{refusal};
 ghost use Rattle.agreement.specs.World.{can_open};
-ghost use Rattle.group_model.specs.Group.{Group, opening_group};
-ghost use Rattle.node_model.specs.Moves.Deed.{takes, gives};
+ghost use Rattle.world_model.specs.group_model.Group.{Group, opening_group};
+ghost use Rattle.world_model.specs.node_model.Moves.Deed.{takes, gives};
 ghost use Rattle.world_nodes.specs.Nodes.{NodesState, StandsFor};
 ghost use Rattle.world_nodes.specs.Goes.{Acts, AnswersFor, Comes, ComesToNobody, HandsOver, MasterActs, behind_answer, behind_giving, node_of, running};
 ghost use Rattle.world_nodes.specs.Steps.{ComesOrRests, HandsOrRests, LosesNothing, MasterGoesOrRests, TakesIn};
@@ -16,7 +16,9 @@ use broker::BrokerMachine;
 use master::{Idle, Master, asks_for, copy_of};
 use std::alloc::Global;
 use std::marker::Model;
-use world_base::{Command, Config, Handed, Item, Message, NodeCore, OpeningError, Piece, Port};
+use world_model::world_base::{
+    Command, Config, Handed, Item, Message, NodeCore, OpeningError, Piece, Port,
+};
 
 /// Nodes with the connections of their clients, their master, and all messages that they ever sent:
 /// any may come late, again or never. Nodes are numbered from 1, messages from 0 in the order of

@@ -9,7 +9,7 @@ use Rattle.client_base.specs.Answered.{Turn}
 use Rattle.client_base.specs.History as history
 use Rattle.client_base.specs.Written.{writes, writes_first}
 use Rattle.client.specs.Core.{AppendsAll, Core, gone}
-use Rattle.node_model.specs.Puts.{spelled}
+use Rattle.world_model.specs.node_model.Puts.{spelled}
 use Rattle.story.specs.Sides.{Connection}
 use Rattle.world_model.specs.World.{ClientPipes, Pipe, after_writing, newly_written, sent_up}
 use Rattle.world_model.specs.Goes.{CanBeSpelled}

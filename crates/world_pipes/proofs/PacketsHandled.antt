@@ -15,7 +15,7 @@ use Rattle.client_base.proofs.FollowsHandled.{handled_follows}
 use Rattle.client_base.proofs.FollowsPackets.{Same}
 use Rattle.client.specs.Core.{AppendsAll, Core, IsDone}
 use Rattle.client.specs.Reading.{Handles, Reads, turn_of}
-use Rattle.node_model.specs.Puts.{spelled}
+use Rattle.world_model.specs.node_model.Puts.{spelled}
 use Rattle.story.specs.Sides.{Connection, Side}
 use Rattle.world_model.specs.World.{ClientPipes, Pipe, newly_written}
 use Rattle.world_model.specs.Goes.{after_packet}

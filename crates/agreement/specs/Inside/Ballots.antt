@@ -113,12 +113,6 @@ pub data Applied {S C O : Type 0} (w : World S C O) (h : History C)
   in_ballot : (b k : ℕ) (l : Line C) → In b h.activated → b ≤ r.joined → h.line b ≡ Some l →
       IsChosenIn w h b k → IsPrefixOf (take r.committed r.log) (take k l.list) → Applied w h r
 
--- a message that tells
-abbrev pub Tells : {S C O : Type 0} → World S C O → ℕ → ℕ → ℕ → Type 0
-Tells w m b k =
-    (receiver : ℕ) × (In (receiver, record { from = m; body = Held b k }) w.sent
-    ⊎ In (receiver, record { from = m; body = Installed b k }) w.sent)
-
 -- a later world: what was given and told stays, nobody goes back to a lower ballot, and nobody
 -- tells in a
 -- ballot that it has left

@@ -87,10 +87,6 @@ abbrev pub NamesApart : List Connection → Type 0
 NamesApart (κ ∷ connections) = (any_named (same_connection κ.name) connections ≡ false) × NamesApart connections
 NamesApart [] = Unit {0}
 
-abbrev pub NoneNamed : ConnectionName → Option Connection → Type 0
-NoneNamed x (Some κ) = same_connection x κ.name ≡ false
-NoneNamed x None = Unit {0}
-
 -- a connection that was confirmed, and is not the last one, is not current
 abbrev pub LastIsCurrent : Option ConnectionName → List Connection → Type 0
 LastIsCurrent None connections = Unit {0}

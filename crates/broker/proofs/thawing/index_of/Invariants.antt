@@ -1,7 +1,7 @@
 use Rattle.std.proofs.Common.{◌≡◌}
 use Rattle.subs_base.specs.Content.{no_subscriptions}
 use Rattle.subs_base.specs.ListIndex.{content_of}
-use Rattle.broker_rows.specs.Indexed.{all_told}
+use Rattle.broker_form.specs.broker_rows.Indexed.{all_told}
 use Rattle.broker.proofs.thawing.index_of.Given as goal
 
 abbrev pub invariant-loop-client : goal.invariant-loop-client

@@ -1,7 +1,7 @@
 use Rattle.std.proofs.Common.{◌≡◌}
 use Rattle.std.specs.Prelude.{drop}
 use Rattle.subs_base.specs.ListIndex.{content_of}
-use Rattle.broker_rows.specs.Indexed.{all_set}
+use Rattle.broker_form.specs.broker_rows.Indexed.{all_set}
 use Rattle.broker.proofs.thawing.set_all.Given as goal
 
 abbrev pub invariant-loop-filter : goal.invariant-loop-filter

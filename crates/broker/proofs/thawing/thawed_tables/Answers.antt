@@ -1,6 +1,6 @@
 use Rattle.std.proofs.Common.{◌∙◌, sym, arith}
 use Rattle.std.proofs.lemmas.Result.{IfOk-at_ok}
-use Rattle.broker_rows.proofs.maps.MadeAnew.{index_made_anew}
+use Rattle.broker_form.proofs.of_broker_rows.maps.MadeAnew.{index_made_anew}
 use Rattle.broker_form.specs.FormLaws.{IsUsualState}
 use Rattle.broker.proofs.thawing.thawed_tables.Goals as goal
 

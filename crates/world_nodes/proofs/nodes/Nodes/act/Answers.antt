@@ -1,5 +1,5 @@
 use Rattle.std.proofs.Common.{◌-◌, refl, ◌∙◌}
-use Rattle.node_model.specs.Moves.Deed.{takes}
+use Rattle.world_model.specs.node_model.Moves.Deed.{takes}
 use Rattle.master.proofs.Groups.{more_than}
 use Rattle.world_nodes.specs.Nodes.{NodesState}
 use Rattle.world_nodes.proofs.Acts.{took_by, turn_acts, turn_takes}
