@@ -26,7 +26,7 @@ pub(crate) fn id<'a>(alloc: Global) -> Arg<'a>
         .long("id")
         .value_name("ID")
         .required(true)
-        .help("The client identifier, 1 to 64 bytes; one that no other client uses")
+        .help("The client identifier, 1 to 64 bytes, used by no other client")
 }
 
 /// `--topic T`.
@@ -48,7 +48,7 @@ pub(crate) fn filter<'a>(alloc: Global) -> Arg<'a>
         .long("filter")
         .value_name("F")
         .required(true)
-        .help("Which topics: `+` is one level, `#` at the end all that follow")
+        .help("Which topics: `+` stands for one level, `#` at the end for all further ones")
 }
 
 /// `--qos Q`.
@@ -71,7 +71,7 @@ pub(crate) fn message<'a>(alloc: Global) -> Arg<'a>
         .long("message")
         .value_name("TEXT")
         .required(true)
-        .help("The payload; one that begins with a hyphen is written --message=-5")
+        .help("The payload; write one that begins with a hyphen as --message=-5")
 }
 
 /// `--retain`.
@@ -81,7 +81,7 @@ pub(crate) fn retain<'a>(alloc: Global) -> Arg<'a>
     Arg::new(alloc, "retain")
         .long("retain")
         .action(ArgAction::SetTrue)
-        .help("The broker keeps it for later subscribers; an empty message clears what it kept")
+        .help("Has the broker keep it for later subscribers; an empty message clears it")
 }
 
 /// `--count N`.
@@ -93,7 +93,7 @@ pub(crate) fn count<'a>(alloc: Global) -> Arg<'a>
         .value_name("N")
         .required(true)
         .value_parser(ValueParser::signed(1, 1_000_000))
-        .help("How many messages are printed, 1 to 1000000")
+        .help("How many messages to print, 1 to 1000000")
 }
 
 /// `--tries N`.
@@ -105,7 +105,7 @@ pub(crate) fn tries<'a>(alloc: Global) -> Arg<'a>
         .value_name("N")
         .value_parser(ValueParser::signed(1, 1000))
         .default_value("10")
-        .help("How many connections are opened at most, 1 to 1000")
+        .help("How many connections to open at most, 1 to 1000")
 }
 
 /// `ADDR...`.
@@ -116,7 +116,7 @@ pub(crate) fn addresses<'a>(alloc: Global) -> Arg<'a>
         .value_name("ADDR")
         .required(true)
         .action(ArgAction::Append)
-        .help("Servers, as 127.0.0.1:1883; each opening takes the next in turn")
+        .help("Servers, as 127.0.0.1:1883, tried in turn")
 }
 
 /// `[FILE]`.
@@ -125,5 +125,5 @@ pub(crate) fn file<'a>(alloc: Global) -> Arg<'a>
 {
     Arg::new(alloc, "file")
         .value_name("FILE")
-        .help("The script; standard input where it is left out")
+        .help("The script (default: standard input)")
 }

@@ -9,17 +9,17 @@ use clap::{Arg, Command};
 use std::alloc::{AllocError, Global};
 
 const AFTER_HELP: &str = "Exit status: 0 done; 1 a fault of file, network or memory;
-2 a command line that was refused, or help; 3 a refused table, script, topic or other argument.
+2 a refused command line, or help; 3 a refused table, script, topic or other argument.
 
 Example:
   vbroker serve --config examples/one.toml";
 
-const AFTER_SERVE: &str = "It serves until the end of standard input, or the line `quit`.
+const AFTER_SERVE: &str = "It serves until standard input ends or brings the line `quit`.
 
 Example:
   vbroker serve --config examples/one.toml";
 
-const AFTER_PUBLISH: &str = "It writes nothing where all went well.
+const AFTER_PUBLISH: &str = "It prints nothing if all goes well.
 
 Example:
   vbroker pub --id switch --topic house/lamp --qos 2 --message on 127.0.0.1:1883";
@@ -30,8 +30,8 @@ Example:
   vbroker sub --id meter --filter 'house/#' --qos 2 --count 3 127.0.0.1:1883";
 
 const AFTER_PLAY: &str =
-    "The first line opens the world: nodes, members, primary, clients. Each line
-behind it lets one event happen, and is answered by what came of it.
+    "The first line opens the world: nodes, members, primary, clients. Each later
+line is one event, and is answered by what came of it.
 
 Example:
   vbroker play examples/primary_crashes.script";
@@ -113,7 +113,7 @@ fn publish<'a>(alloc: Global) -> Result<Command<'a>, AllocError>
 fn subscribe<'a>(alloc: Global) -> Result<Command<'a>, AllocError>
     ensures { IfOk result (IsCommand subscribe_app) }
 {
-    let about = "Prints messages as they come, and ends behind the last";
+    let about = "Prints messages as they come, and ends after the last";
     let command = bare(alloc, "sub", about, AFTER_SUBSCRIBE);
     let command = add(command, arguments::id(alloc))?;
     let command = add(command, arguments::filter(alloc))?;

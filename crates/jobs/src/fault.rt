@@ -42,8 +42,8 @@ pub enum Fault {
     /// A text is no script, by this line of it, counted from 1.
     #[error("script line {0}")]
     Script(u64),
-    /// A script was played to its end, and its transcript was written; in the world memory was wanting.
-    #[error("out of memory: the transcript is of a world in which memory was wanting")]
+    /// A script was played to its end and its transcript was written, but its world ran out of memory.
+    #[error("out of memory: the transcript shows a world that lost something")]
     Losses,
     /// A client's identifier, topic, filter or message was refused.
     #[error("refused {0}")]
