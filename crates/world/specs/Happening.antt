@@ -181,7 +181,3 @@ pub record Opens (nodes : ℕ) (config : Config) (clients : List Client) (w : Wo
   pub group : StandsFor (opening_group nodes config) w.nodes
   pub whole : w.nodes.losses ≡ 0
   pub is : w ≡ record { nodes = w.nodes; clients = map new_world_client clients; connections = []; losses = 0 }
-
--- it opens, and then the events happen
-abbrev pub Plays : ℕ → Config → List Client → List Event → WorldState → Type 0
-Plays nodes config clients events new = (opened : WorldState) × Opens nodes config clients opened × Run events opened new
