@@ -4,5 +4,4 @@
 
 mod laws;
 
-pub use group_model::world_base;
 pub use laws::groups_carry_in_order;

@@ -7,4 +7,3 @@ mod rows;
 
 pub use laws::worlds_are_exact;
 pub use rows::{a_client_is_served, a_publication_is_accepted};
-pub use world_model::world_base;

@@ -6,11 +6,11 @@ use Rattle.std.proofs.lemmas.Bool.{both_ways, ne_eqb}
 use Rattle.std.proofs.lemmas.List.{reverse-reverse}
 use Rattle.std.proofs.lemmas.Option.{none-some}
 use Rattle.lists.proofs.Tests.{none_or}
-use Rattle.exact_model.specs.world_base.declared.connection.Connection.{Connection as NodesEnd}
-use Rattle.exact_model.specs.world_base.declared.item.Item.TheVariants.{Opened}
-use Rattle.exact_model.specs.world_base.declared.item.Port.{Port}
-use Rattle.exact_model.specs.world_base.Core.{CoreState, CountedCore}
-use Rattle.exact_model.specs.world_base.Handing.{listed_at}
+use Rattle.world_base.specs.declared.connection.Connection.{Connection as NodesEnd}
+use Rattle.world_base.specs.declared.item.Item.TheVariants.{Opened}
+use Rattle.world_base.specs.declared.item.Port.{Port}
+use Rattle.world_base.specs.Core.{CoreState, CountedCore}
+use Rattle.world_base.specs.Handing.{listed_at}
 use Rattle.exact_model.specs.node_model.Moves.Deed.{takes}
 use Rattle.exact_model.proofs.of_group_model.Placed.{get_mapped}
 use Rattle.exact_model.specs.world_model.World.{ClientPipes, Pipe, World, is_used, leads_to, with_client}

@@ -1,6 +1,6 @@
 -- Gathered.antt: connections are asked one behind the other, from the newest to the oldest.
 use Rattle.std.proofs.Common.{◌≡◌, ◌<◌, ◌≤◌, ◌-◌, ℕ, zero, suc, Bool, true, ◌++◌, Some, length, slice_get, refl, sym, ap, ◌∙◌, subst, arith}
-use Rattle.exact_model.specs.world_base.declared.item.Item.{Item}
+use Rattle.world_base.specs.declared.item.Item.{Item}
 use Rattle.exact_model.specs.node_model.Moves.Deed.{takes}
 use Rattle.world_nodes.specs.Goes.{Acts, node_of}
 use Rattle.world_nodes.specs.Nodes.{NodesState}

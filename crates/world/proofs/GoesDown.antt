@@ -7,11 +7,11 @@ use Rattle.broker_base.specs.Place.{Client}
 use Rattle.lists.specs.Lists.{In}
 use Rattle.lists.proofs.Tests.{eq_is}
 use Rattle.story.proofs.Takes.{same_name_self}
-use Rattle.exact_model.specs.world_base.declared.connection.Connection.{Connection as NodesEnd}
-use Rattle.exact_model.specs.world_base.declared.item.Port.{Port}
-use Rattle.exact_model.specs.world_base.Connections.{is_at}
-use Rattle.exact_model.specs.world_base.Core.{CoreState, CountedCore}
-use Rattle.exact_model.specs.world_base.Handing.{bytes_of, listed_at}
+use Rattle.world_base.specs.declared.connection.Connection.{Connection as NodesEnd}
+use Rattle.world_base.specs.declared.item.Port.{Port}
+use Rattle.world_base.specs.Connections.{is_at}
+use Rattle.world_base.specs.Core.{CoreState, CountedCore}
+use Rattle.world_base.specs.Handing.{bytes_of, listed_at}
 use Rattle.exact_model.specs.node_model.Moves.Deed.{gives}
 use Rattle.exact_model.proofs.of_node_model.Views.{found_passes}
 use Rattle.exact_model.specs.connection_model.Streams.{bytes_named}

@@ -6,7 +6,7 @@ use Rattle.ballot.specs.Body.TheVariants.{NewBallot, Join, State, Install, Insta
 use Rattle.ballot.specs.Message.{Message}
 use Rattle.broker_base.specs.Command.{Command}
 use Rattle.master.specs.declared.event.Idle.{Idle}
-use Rattle.exact_model.specs.world_base.declared.item.Item.TheVariants.{Peer}
+use Rattle.world_base.specs.declared.item.Item.TheVariants.{Peer}
 use Rattle.exact_model.specs.node_model.Moves.{Deed}
 use Rattle.exact_model.specs.node_model.Moves.Deed.{takes}
 use Rattle.exact_model.specs.group_model.Group.{Group}

@@ -3,8 +3,8 @@ use Rattle.std.proofs.Common.{◌≡◌, ◌<◌, ◌≤◌, ◌-◌, ℕ, Bool,
 use Rattle.std.specs.Prelude.{IfSome, drop, take}
 use Rattle.std.proofs.lemmas.Option.{same_Some}
 use Rattle.master.specs.declared.event.Idle.{Idle}
-use Rattle.exact_model.specs.world_base.declared.item.Item.TheVariants.{Bytes}
-use Rattle.exact_model.specs.world_base.declared.item.Port.{Port}
+use Rattle.world_base.specs.declared.item.Item.TheVariants.{Bytes}
+use Rattle.world_base.specs.declared.item.Port.{Port}
 use Rattle.exact_model.specs.node_model.Moves.Deed.{takes}
 use Rattle.world_nodes.specs.Goes.{Acts, node_of, running}
 use Rattle.world_nodes.specs.Nodes.{NodesState}

@@ -2,7 +2,7 @@
 use Rattle.std.proofs.Common.{◌≡◌, ◌<◌, ◌≤◌, ◌^◌, ◌-◌, ℕ, sym, subst, arith}
 use Rattle.ballot.specs.Config.{Config}
 use Rattle.agreement.proofs.Agreed.PastAgrees.{has_agreed, nodes_agree}
-use Rattle.exact_model.specs.world_base.Core.{rules}
+use Rattle.world_base.specs.Core.{rules}
 use Rattle.exact_model.specs.group_model.Group.{Group, moment_of}
 use Rattle.exact_model.specs.group_model.Goes.{Went}
 use Rattle.exact_model.specs.group_model.Goes.Went.{then_went}

@@ -6,11 +6,11 @@ use Rattle.std.specs.Result.{is_err}
 use Rattle.std.proofs.lemmas.Bool.{both_ways}
 use Rattle.std.proofs.lemmas.Option.{none-some}
 use Rattle.master.specs.declared.event.Idle.{Idle}
-use Rattle.exact_model.specs.world_base.declared.item.Item.{Item}
-use Rattle.exact_model.specs.world_base.declared.item.Item.TheVariants.{Opened}
-use Rattle.exact_model.specs.world_base.declared.item.Port.{Port}
-use Rattle.exact_model.specs.world_base.Core.{CountedCore}
-use Rattle.exact_model.specs.world_base.Handing.{listed_at}
+use Rattle.world_base.specs.declared.item.Item.{Item}
+use Rattle.world_base.specs.declared.item.Item.TheVariants.{Opened}
+use Rattle.world_base.specs.declared.item.Port.{Port}
+use Rattle.world_base.specs.Core.{CountedCore}
+use Rattle.world_base.specs.Handing.{listed_at}
 use Rattle.exact_model.specs.node_model.Moves.Deed.{takes}
 use Rattle.exact_model.proofs.of_group_model.Placed.{get_of_set}
 use Rattle.world_nodes.specs.Goes.{Acts, behind_deed, node_of, running, unless_stopped}

@@ -5,10 +5,10 @@ use Rattle.std.specs.List.{position}
 use Rattle.std.specs.Option.{is_some}
 use Rattle.std.proofs.lemmas.Bool.{both_ways}
 use Rattle.std.proofs.lemmas.Option.{none-some}
-use Rattle.exact_model.specs.world_base.declared.item.Item.TheVariants.{Opened}
-use Rattle.exact_model.specs.world_base.declared.item.Port.{Port}
-use Rattle.exact_model.specs.world_base.Core.{CoreState, CountedCore}
-use Rattle.exact_model.specs.world_base.Handing.{listed_at}
+use Rattle.world_base.specs.declared.item.Item.TheVariants.{Opened}
+use Rattle.world_base.specs.declared.item.Port.{Port}
+use Rattle.world_base.specs.Core.{CoreState, CountedCore}
+use Rattle.world_base.specs.Handing.{listed_at}
 use Rattle.exact_model.specs.node_model.Moves.Deed.{takes}
 use Rattle.exact_model.proofs.of_group_model.Placed.{get_mapped}
 use Rattle.exact_model.specs.world_model.World.{World}

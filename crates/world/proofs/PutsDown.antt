@@ -5,10 +5,10 @@ use Rattle.std.proofs.lemmas.Bool.{both_ways}
 use Rattle.std.proofs.lemmas.List.{append-nil, set-set}
 use Rattle.lists.proofs.Places.{get_set}
 use Rattle.master.specs.declared.event.Idle.{Idle}
-use Rattle.exact_model.specs.world_base.declared.handed.Handed.{Handed}
-use Rattle.exact_model.specs.world_base.declared.handed.Handed.TheVariants as answers
-use Rattle.exact_model.specs.world_base.declared.item.Port.{Port}
-use Rattle.exact_model.specs.world_base.Core.{CountedCore}
+use Rattle.world_base.specs.declared.handed.Handed.{Handed}
+use Rattle.world_base.specs.declared.handed.Handed.TheVariants as answers
+use Rattle.world_base.specs.declared.item.Port.{Port}
+use Rattle.world_base.specs.Core.{CountedCore}
 use Rattle.exact_model.specs.node_model.Moves.Deed.{gives}
 use Rattle.world_nodes.specs.Goes.{Acts, AnswersFor, HandsOver, node_of}
 use Rattle.world_nodes.specs.Nodes.{NodesState}

@@ -1,12 +1,12 @@
 -- What a node put out goes down on its connections.
 use Rattle.std.specs.Prelude.{◌≡◌, ℕ, zero, suc, ◌-◌, ◌==◌, ◌&&◌, Bool, true, false, List, [], ◌++◌, Option, Some, None, length, set}
 use Rattle.exact_model.specs.node_model.Moves.Deed.{takes, gives}
-use Rattle.exact_model.specs.world_base.Core.{CountedCore}
-use Rattle.exact_model.specs.world_base.Handing.{answer_of, bytes_of, listed_at}
-use Rattle.exact_model.specs.world_base.declared.handed.Handed.{Handed}
-use Rattle.exact_model.specs.world_base.declared.handed.Handed.TheVariants as answers
-use Rattle.exact_model.specs.world_base.declared.item.Item.{Item}
-use Rattle.exact_model.specs.world_base.declared.item.Port.{Port}
+use Rattle.world_base.specs.Core.{CountedCore}
+use Rattle.world_base.specs.Handing.{answer_of, bytes_of, listed_at}
+use Rattle.world_base.specs.declared.handed.Handed.{Handed}
+use Rattle.world_base.specs.declared.handed.Handed.TheVariants as answers
+use Rattle.world_base.specs.declared.item.Item.{Item}
+use Rattle.world_base.specs.declared.item.Port.{Port}
 use Rattle.world_nodes.specs.Goes.{Acts, node_of}
 use Rattle.world_nodes.specs.Nodes.{NodesState}
 use Rattle.world.specs.declared.place.Place.{Place}

@@ -5,7 +5,7 @@ use Rattle.agreement.specs.Agreement.{Agrees, Holds}
 use Rattle.agreement.specs.Leaving.{LeftInOrder}
 use Rattle.agreement.specs.Past.{IsAgreed}
 use Rattle.broker_base.specs.Command.{Command}
-use Rattle.exact_model.specs.world_base.Core.{rules}
+use Rattle.world_base.specs.Core.{rules}
 use Rattle.exact_model.specs.group_model.Group.{Group, moment_of}
 use Rattle.exact_model.specs.group_model.Goes.{MayGo, Went, all_put, groups_of}
 use Rattle.exact_model.specs.group_model.Order.{KeepsOrder}

@@ -12,8 +12,8 @@ use Rattle.client_base.specs.declared.error.ClientError.{ClientError}
 use Rattle.client_base.specs.declared.error.ClientError.TheVariants as errors
 use Rattle.exact_model.specs.group_model.Group.{opening_group}
 use Rattle.master.specs.declared.event.Idle.{Idle}
-use Rattle.exact_model.specs.world_base.Core.{CountedCore, serves}
-use Rattle.exact_model.specs.world_base.declared.item.Item.TheVariants as items
+use Rattle.world_base.specs.Core.{CountedCore, serves}
+use Rattle.world_base.specs.declared.item.Item.TheVariants as items
 use Rattle.world_nodes.specs.Goes.{Comes, ComesToNobody, MasterActs, behind_giving, node_of, running}
 use Rattle.world_nodes.specs.Nodes.{NodesState, StandsFor}
 use Rattle.world_pipes.specs.declared.sending.Sending.TheVariants as sendings

@@ -7,10 +7,10 @@ use Rattle.client_base.specs.declared.error.ClientError.{ClientError}
 use Rattle.client_base.specs.declared.error.ClientError.TheVariants as errors
 use Rattle.master.specs.declared.event.Idle.{Idle}
 use Rattle.exact_model.specs.group_model.Group.{Group}
-use Rattle.exact_model.specs.world_base.Core.{CountedCore}
-use Rattle.exact_model.specs.world_base.Handing.{listed_at}
-use Rattle.exact_model.specs.world_base.declared.item.Port.{Port}
-use Rattle.exact_model.specs.world_base.declared.item.Item.TheVariants.{Bytes, Opened}
+use Rattle.world_base.specs.Core.{CountedCore}
+use Rattle.world_base.specs.Handing.{listed_at}
+use Rattle.world_base.specs.declared.item.Port.{Port}
+use Rattle.world_base.specs.declared.item.Item.TheVariants.{Bytes, Opened}
 use Rattle.exact_model.specs.node_model.Moves.Deed.{takes, gives}
 use Rattle.world_nodes.specs.Goes.{Acts, HandsOver, node_of, running}
 use Rattle.world_nodes.specs.Nodes.{NodesState, StandsFor as NodesStand}

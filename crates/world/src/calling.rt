@@ -14,10 +14,10 @@ ghost use Rattle.world.specs.Inside.{ConnectsAt, Counts, GoesOn, HearsOfOne, IsC
 use crate::event::Event;
 use crate::place::Place;
 use crate::world::World;
-use exact_model::world_base::Port;
 use packet::{ClientId, QoS};
 use session_base::Publication;
 use topics::Filter;
+use world_base::Port;
 use world_nodes::{Idle, Nodes};
 use world_pipes::{ClientError, PipedClient, Sending};
 

@@ -9,8 +9,8 @@ ghost use Rattle.world.specs.Inside.{CannotHear, CannotTake, CannotTakeOn, GoesO
 use crate::event::Event;
 use crate::place::Place;
 use crate::world::World;
-use exact_model::world_base::{Piece, Port};
 use std::alloc::Global;
+use world_base::{Piece, Port};
 use world_nodes::{Idle, Nodes};
 use world_pipes::{ClientError, PipedClient};
 

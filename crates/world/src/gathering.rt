@@ -11,8 +11,8 @@ ghost use Rattle.world.specs.Inside.{AsksAt, GoesOn, HandsDown, HandsOn, MayHand
 
 use crate::place::Place;
 use crate::world::World;
-use exact_model::world_base::{Handed, Port};
 use std::alloc::Global;
+use world_base::{Handed, Port};
 use world_nodes::Nodes;
 use world_pipes::PipedClient;
 

@@ -7,7 +7,7 @@ ghost use Rattle.world.specs.Inside.{GoesOn, Meets};
 use crate::event::Event;
 use crate::place::Place;
 use crate::world::World;
-use exact_model::world_base::{Config, Port};
+use world_base::{Config, Port};
 use world_nodes::Idle;
 
 impl World {

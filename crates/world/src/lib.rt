@@ -11,7 +11,7 @@ mod reading;
 mod world;
 
 pub use event::Event;
-pub use exact_model::world_base::{Command, Config, Members, Memory, OpeningError};
 pub use world::World;
+pub use world_base::{Command, Config, Members, Memory, OpeningError};
 pub use world_nodes::Idle;
 pub use world_pipes::{Accepted, ClientCore};

@@ -11,8 +11,8 @@ ghost use Rattle.world.specs.Standing.{IsReached};
 
 use crate::place::Place;
 use crate::world::{World, WorldClient};
-use exact_model::world_base::Command;
 use packet::ClientId;
+use world_base::Command;
 use world_pipes::ClientCore;
 
 impl WorldClient {

@@ -13,10 +13,10 @@ ghost use Rattle.world.specs.Standing.{ClientsStand, IsReached, KeepsReached, Wo
 
 use crate::event::Event;
 use crate::place::Place;
-use exact_model::world_base::{Config, Memory, OpeningError};
 use packet::ClientId;
 use std::alloc::Global;
 use std::marker::Model;
+use world_base::{Config, Memory, OpeningError};
 use world_nodes::{Idle, Nodes};
 use world_pipes::PipedClient;
 

@@ -4,7 +4,6 @@
 
 mod laws;
 
-pub use connection_model::world_base;
 pub use laws::{
     deeds_carry_their_bytes, groups_do_each_deed, names_stay_apart, pipes_carry_in_order,
     worlds_carry_in_order,

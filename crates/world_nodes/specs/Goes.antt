@@ -7,11 +7,11 @@ use Rattle.ballot.specs.Message.{Message}
 use Rattle.agreement.specs.MasterState.{activated, assigned}
 use Rattle.agreement.specs.World.{messages}
 use Rattle.broker_base.specs.Command.{Command}
-use Rattle.world_model.specs.world_base.Core.{CountedCore}
-use Rattle.world_model.specs.world_base.declared.handed.Handed.{Handed}
-use Rattle.world_model.specs.world_base.declared.item.Item.TheVariants.{Peer}
-use Rattle.world_model.specs.world_base.declared.item.Port.{Port}
-use Rattle.world_model.specs.world_base.Handing.{answer_of, bytes_of, listed_at}
+use Rattle.world_base.specs.Core.{CountedCore}
+use Rattle.world_base.specs.declared.handed.Handed.{Handed}
+use Rattle.world_base.specs.declared.item.Item.TheVariants.{Peer}
+use Rattle.world_base.specs.declared.item.Port.{Port}
+use Rattle.world_base.specs.Handing.{answer_of, bytes_of, listed_at}
 use Rattle.world_model.specs.node_model.Moves.{Deed, done}
 use Rattle.world_model.specs.node_model.Moves.Deed.{takes}
 use Rattle.world_model.specs.group_model.Group.{Group, told_by_master, with_master}

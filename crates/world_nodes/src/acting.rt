@@ -14,7 +14,7 @@ use crate::keeping::counted;
 use crate::nodes::Nodes;
 use crate::turning::take_in;
 use master::{Idle, answer_of, config_of, tell};
-use world_model::world_base::{Body, Command, Config, Item, Members, Memory, Message};
+use world_base::{Body, Command, Config, Item, Members, Memory, Message};
 
 impl Nodes {
     // A node that runs takes an item in.

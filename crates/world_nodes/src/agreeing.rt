@@ -6,7 +6,7 @@ ghost use Rattle.world_nodes.specs.Agreed.{AgreeOn, AgreeOnSoMany};
 ghost use Rattle.world_nodes.specs.Inside.{log_at};
 
 use crate::nodes::Nodes;
-use world_model::world_base::{Command, NodeCore};
+use world_base::{Command, NodeCore};
 
 impl Nodes {
     /// The agreed list: the longest that is chosen in a ballot that was active. It takes no longer, however much was

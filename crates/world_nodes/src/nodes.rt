@@ -16,9 +16,7 @@ use broker::BrokerMachine;
 use master::{Idle, Master, asks_for, copy_of};
 use std::alloc::Global;
 use std::marker::Model;
-use world_model::world_base::{
-    Command, Config, Handed, Item, Message, NodeCore, OpeningError, Piece, Port,
-};
+use world_base::{Command, Config, Handed, Item, Message, NodeCore, OpeningError, Piece, Port};
 
 /// Nodes with the connections of their clients, their master, and all messages that they ever sent:
 /// any may come late, again or never. Nodes are numbered from 1, messages from 0 in the order of

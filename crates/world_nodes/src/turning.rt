@@ -5,7 +5,7 @@ ghost use Rattle.world_nodes.specs.Inside.{TookItem};
 
 use crate::keeping::keep_all;
 use std::alloc::Global;
-use world_model::world_base::{Command, Item, Message, NodeCore};
+use world_base::{Command, Item, Message, NodeCore};
 
 /// A node takes an item in, and its messages are kept behind those that were sent. Whether memory
 /// sufficed is the result.
