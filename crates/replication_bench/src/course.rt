@@ -41,10 +41,16 @@ impl Course {
 /// A world of three nodes, all members of ballot 1, with node 1 as primary.
 pub fn opened(alloc: Global) -> Result<World> {
     let mut clients = Vec::new(alloc);
+    put_all(alloc, &mut clients)?;
+    Ok(World::opening(alloc, 3, config(alloc, 1)?, clients.as_slice())?)
+}
+
+// The list is lent, so that no way out of the loop has to drop it.
+fn put_all(alloc: Global, clients: &mut Vec<ClientId>) -> Result<()> {
     for name in &CLIENTS {
         clients.push(ClientId::new(alloc, name)?)?;
     }
-    Ok(World::opening(alloc, 3, config(alloc, 1)?, clients.as_slice())?)
+    Ok(())
 }
 
 /// All three nodes with this primary.
@@ -71,10 +77,15 @@ pub fn all_come(world: &mut World, course: &mut Course) -> Result<()> {
         if course.next >= world.messages() {
             return Ok(());
         }
-        happens(world, course, &Event::Deliver(course.next))?;
-        course.next = course.next.saturating_add(1);
+        comes_next(world, course)?;
     }
     bail!("the messages do not end")
+}
+
+fn comes_next(world: &mut World, course: &mut Course) -> Result<()> {
+    let next = course.next;
+    course.next = next.saturating_add(1);
+    happens(world, course, &Event::Deliver(next))
 }
 
 /// What waits on the connection of a client goes up, and the nodes agree on it.
@@ -99,10 +110,15 @@ pub fn connects(
     course: &mut Course,
     client: usize,
 ) -> Result<()> {
-    let event = Event::Open(named(alloc, client)?, course.primary);
-    happens(world, course, &event)?;
+    opens(alloc, world, course, client)?;
     course.opened = course.opened.saturating_add(1);
     course.last[client % 4] = course.opened;
     goes_up(world, course, client)?;
     comes_down(world, course, client)
+}
+
+// The event is owned where nothing comes after it.
+fn opens(alloc: Global, world: &mut World, course: &mut Course, client: usize) -> Result<()> {
+    let event = Event::Open(named(alloc, client)?, course.primary);
+    happens(world, course, &event)
 }

@@ -1,11 +1,10 @@
-// Groups of machines that add numbers, and the processor time that their steps take.
+// Groups of machines that add numbers.
 
 use anyhow::{Result, bail};
 use ballot::{Config, Members};
 use machine::{Tally, TallyCommand};
 use master::{Event, Group};
 use std::alloc::Global;
-use std::time::{CpuClock, Duration};
 
 /// A group of three nodes in ballot 1, with these members and node 1 as primary.
 pub fn opened(alloc: Global, members: &[u8]) -> Result<Group<Tally>> {
@@ -30,9 +29,4 @@ pub fn agreed_at_last(group: &Group<Tally>) -> Result<u64> {
         bail!("memory was wanting");
     }
     Ok(group.agreed_len())
-}
-
-/// The processor time since a moment.
-pub fn time_since(rt: &HostRuntime, start: Duration) -> Result<Duration> {
-    Ok(rt.process_cpu_time()?.saturating_sub(start))
 }

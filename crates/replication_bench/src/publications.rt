@@ -52,11 +52,22 @@ pub fn begin(alloc: Global, world: &mut World, course: &mut Course) -> Result<()
 
 fn subscribes(alloc: Global, world: &mut World, course: &mut Course, pair: usize) -> Result<()> {
     let subscriber = pair.saturating_mul(2).saturating_add(1);
-    let filter = Filter::new(alloc, TOPICS[pair % 2])?;
-    let event = Event::Subscribe(named(alloc, subscriber)?, filter, QoS::ExactlyOnce);
-    happens(world, course, &event)?;
+    asks(alloc, world, course, pair, subscriber)?;
     goes_up(world, course, subscriber)?;
     comes_down(world, course, subscriber)
+}
+
+// The event is owned where nothing comes after it.
+fn asks(
+    alloc: Global,
+    world: &mut World,
+    course: &mut Course,
+    pair: usize,
+    subscriber: usize,
+) -> Result<()> {
+    let filter = Filter::new(alloc, TOPICS[pair % 2])?;
+    let event = Event::Subscribe(named(alloc, subscriber)?, filter, QoS::ExactlyOnce);
+    happens(world, course, &event)
 }
 
 /// A publication of each publisher, with all handshakes.

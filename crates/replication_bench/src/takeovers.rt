@@ -17,13 +17,18 @@ pub enum Ends {
 /// The next node in turn takes over.
 pub fn take_over(alloc: Global, world: &mut World, course: &mut Course, ends: Ends) -> Result<()> {
     let primary = course.primary % 3 + 1;
-    happens(world, course, &Event::Assign(config(alloc, primary)?))?;
+    assigns(alloc, world, course, primary)?;
     all_come(world, course)?;
     course.primary = primary;
     for client in 0..4 {
         goes_over(alloc, world, course, client, ends)?;
     }
     Ok(())
+}
+
+fn assigns(alloc: Global, world: &mut World, course: &mut Course, primary: u8) -> Result<()> {
+    let event = Event::Assign(config(alloc, primary)?);
+    happens(world, course, &event)
 }
 
 /// A client loses its connection and connects to the new primary.
@@ -35,11 +40,16 @@ fn goes_over(
     ends: Ends,
 ) -> Result<()> {
     let before = course.last[client % 4];
-    happens(world, course, &Event::Abandon(named(alloc, client)?))?;
+    abandons(alloc, world, course, client)?;
     if ends == Ends::Seen {
         // Idle where the node has closed it before.
         let _ = world.step(&Event::Notice(before));
         course.events = course.events.saturating_add(1);
     }
     connects(alloc, world, course, client)
+}
+
+fn abandons(alloc: Global, world: &mut World, course: &mut Course, client: usize) -> Result<()> {
+    let event = Event::Abandon(named(alloc, client)?);
+    happens(world, course, &event)
 }

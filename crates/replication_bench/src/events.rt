@@ -4,7 +4,7 @@ use crate::course::{Course, opened};
 use crate::publications::{Publications, begin, both_publish};
 use crate::takeovers::{Ends, take_over};
 use anyhow::{Result, ensure};
-use std::fs;
+use bench_base::{print_memory, time_since};
 use std::time::{CpuClock, Duration};
 use world::World;
 
@@ -85,7 +85,7 @@ fn time(
             next(rt, world, course, ends, &mut times)?;
         }
     }
-    times.whole = since(rt, start)?;
+    times.whole = time_since(rt, start)?;
     Ok(times)
 }
 
@@ -102,15 +102,10 @@ fn next(
     };
     let start = rt.process_cpu_time()?;
     take_over(rt.alloc(), world, course, ends)?;
-    times.last = since(rt, start)?;
+    times.last = time_since(rt, start)?;
     times.takeovers = times.takeovers.saturating_add(times.last);
     times.count = times.count.saturating_add(1);
     Ok(())
-}
-
-/// The processor time since a moment.
-fn since(rt: &HostRuntime, start: Duration) -> Result<Duration> {
-    Ok(rt.process_cpu_time()?.saturating_sub(start))
 }
 
 fn print(rt: &HostRuntime, course: &Course, times: Times) -> Result<()> {
@@ -133,11 +128,5 @@ fn print_world(rt: &HostRuntime, world: &World) -> Result<()> {
     let agreed = world.agreed_len();
     let messages = world.messages();
     println!(rt; "  {agreed} places agreed, {messages} messages")?;
-    let status = fs::read_to_string(rt, "/proc/self/status")?;
-    for line in status.as_str().lines() {
-        if line.starts_with("VmRSS") || line.starts_with("VmHWM") {
-            println!(rt; "  {line}")?;
-        }
-    }
-    Ok(())
+    print_memory(rt, "  ")
 }

@@ -1,0 +1,36 @@
+//! What the benchmarks share: the list of their names, the processor's clock, and what the process holds of memory.
+#![tactic(auto)]
+
+use anyhow::Result;
+use std::fs;
+use std::rt::Files;
+use std::time::{CpuClock, Duration};
+
+/// Prints the names of a program's benchmarks, a line each.
+pub fn list<R: Print>(rt: &R, names: &[&str]) -> Result<()> {
+    for name in names {
+        println!(rt; "{name}")?;
+    }
+    Ok(())
+}
+
+/// Returns the processor time since a moment.
+pub fn time_since<R: CpuClock>(rt: &R, start: Duration) -> Result<Duration> {
+    Ok(rt.process_cpu_time()?.saturating_sub(start))
+}
+
+/// Prints what the process holds of memory and the most it ever held, as Linux tells it, each line with this text before it.
+pub fn print_memory<R: Files + Print + AllocGlobal>(rt: &R, before: &str) -> Result<()> {
+    let status = fs::read_to_string(rt, "/proc/self/status")?;
+    print_lines(rt, before, status.as_str())
+}
+
+// The text is lent, so that no way out of the loop has to drop it.
+fn print_lines<R: Print>(rt: &R, before: &str, status: &str) -> Result<()> {
+    for line in status.lines() {
+        if line.starts_with("VmRSS") || line.starts_with("VmHWM") {
+            println!(rt; "{before}{line}")?;
+        }
+    }
+    Ok(())
+}
