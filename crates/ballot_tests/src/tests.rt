@@ -1,5 +1,6 @@
 mod changes;
 mod commands;
+mod counting;
 mod opening;
 mod pairs;
 mod replicas;

@@ -1,0 +1,80 @@
+// The machine that counts, on worked rows: no clause says that its calls succeed while there is
+// memory.
+
+use machine::{Machine, Tally, TallyCommand};
+use std::alloc::Global;
+use std::test::*;
+
+const ROWS: &[(TallyCommand, &[u64])] = &[
+    (TallyCommand::Add(2), &[2]),
+    (TallyCommand::Start(2), &[]),
+    (TallyCommand::Add(3), &[5]),
+];
+
+// Whether a copy of a command gives these numbers.
+fn gives(alloc: Global, tally: &mut Tally, command: &TallyCommand, wanted: &[u64]) -> bool {
+    let mut out = Vec::new(alloc);
+    match Tally::copy(alloc, command) {
+        Ok(copied) => tally.apply(&copied, &mut out).is_ok() && out.as_slice() == wanted,
+        Err(_) => false,
+    }
+}
+
+// The first row whose command gives something else, if there is one.
+fn other_row(alloc: Global, tally: &mut Tally) -> Option<usize> {
+    for (row, (command, wanted)) in ROWS.iter().enumerate() {
+        if !gives(alloc, tally, command, wanted) {
+            return Some(row);
+        }
+    }
+    None
+}
+
+fn counts(alloc: Global) -> bool {
+    match Tally::fresh(alloc) {
+        Ok(mut tally) => other_row(alloc, &mut tally).is_none(),
+        Err(_) => false,
+    }
+}
+
+#[test]
+fn tally_counts(rt: HostRuntime) {
+    assert!(rt; counts(rt.alloc()));
+}
+
+// Whether these bytes stand for the machine.
+fn is_thawed(alloc: Global, tally: &Tally, bytes: &[u8]) -> bool {
+    match Tally::thaw(alloc, bytes) {
+        Ok(thawed) => thawed == *tally,
+        Err(_) => false,
+    }
+}
+
+fn is_refused(alloc: Global, bytes: &[u8]) -> bool {
+    Tally::thaw(alloc, bytes).is_err()
+}
+
+// Whether the machine is frozen to 258, which stands for it, and not without its first byte.
+fn is_frozen(alloc: Global, tally: &Tally) -> bool {
+    let mut bytes = Vec::new(alloc);
+    tally.freeze(&mut bytes).is_ok()
+        && bytes.as_slice() == [0, 0, 0, 0, 0, 0, 1, 2].as_slice()
+        && is_thawed(alloc, tally, bytes.as_slice())
+        && is_refused(alloc, &bytes.as_slice()[1..])
+}
+
+fn freezes(alloc: Global) -> bool {
+    match Tally::fresh(alloc) {
+        Ok(mut tally) => {
+            gives(alloc, &mut tally, &TallyCommand::Add(258), &[258]) && is_frozen(alloc, &tally)
+        }
+        Err(_) => false,
+    }
+}
+
+// Frozen is the total, most significant byte first; nothing else thaws.
+#[test]
+fn tally_freezes(rt: HostRuntime) {
+    assert!(rt; freezes(rt.alloc()));
+    assert!(rt; Tally::start(7) == TallyCommand::Start(7));
+}
