@@ -26,7 +26,15 @@ const ONE_TOPIC: &[Call<'static>] = &[
     Clear("b", "t/#", false),
 ];
 
-/// No wildcard at the front matches a topic that begins with `$`; one behind it does.
+/// Of three clients, `$a/b` is granted to the one whose filter names `$a`, and to nobody else.
+const THREE_CLIENTS: &[Call<'static>] = &[
+    Set("a", "#", AtMostOnce),
+    Set("b", "+/b", AtLeastOnce),
+    Set("c", "$a/#", ExactlyOnce),
+    Granted("$a/b", &[("c", ExactlyOnce)]),
+];
+
+/// No wildcard at the front matches a topic that begins with `$`; one after `$a` does.
 const DOLLAR: &[Call<'static>] = &[
     Set("a", "#", AtMostOnce),
     Set("b", "+/b", AtLeastOnce),
@@ -103,6 +111,7 @@ const EMPTY_LEVELS: &[Call<'static>] = &[
 
 const ROWS: &[&[Call<'static>]] = &[
     ONE_TOPIC,
+    THREE_CLIENTS,
     DOLLAR,
     REPLACED,
     ONE_FRONT,

@@ -1,5 +1,5 @@
-//! Tests of the parts of the broker through their public calls: sessions, the indexes of
-//! subscriptions, retained publications, and the functions that carry laws. Tests alone stand here.
+//! Tests of what a broker stores, through public calls: sessions, the indexes of subscriptions,
+//! retained publications, and the functions that carry laws. Only tests and three laws stand here.
 #![tactic(auto)]
 
 #[cfg(test)]

@@ -2,7 +2,7 @@ use Rattle.std.proofs.Common.{◌≡◌, true, Option, Some, None, refl, is_some
 use Rattle.broker_model.specs.Owner.{owner_of}
 use Rattle.broker_model.specs.Place.{Client}
 use Rattle.broker_model.proofs.OwnersAreServed.{owner_is_served}
-use Rattle.parts_tests.proofs.readings.live_connections_are_current.Goals as goal
+use Rattle.storage_tests.proofs.readings.live_connections_are_current.Goals as goal
 
 is_there : (owner : Option Client) → is_some owner ≡ true → (c : Client) × (owner ≡ Some c)
 is_there None live = cc
