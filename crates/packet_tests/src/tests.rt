@@ -1,7 +1,6 @@
-//! Byte strings written by hand from the standard, what each fault is, and what memory that is
-//! refused does.
+//! Byte strings written by hand from the standard, what each fault is, and what happens out of memory.
 
-mod asking;
+mod answers;
 mod connecting;
 mod cutting;
 mod faults;
@@ -9,3 +8,4 @@ mod fields;
 mod listing;
 mod memory;
 mod publishing;
+mod spelling;

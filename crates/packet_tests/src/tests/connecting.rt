@@ -1,6 +1,7 @@
 // CONNECT and CONNACK, and the texts and numbers around them.
 
-use super::asking::*;
+use super::answers::*;
+use super::spelling::{Made, other_spelling};
 use packet::*;
 use std::alloc::Global;
 use std::test::*;
@@ -14,36 +15,18 @@ const CONNECT: [u8; 15] = [
 /// The first front of the bytes that is not less than a packet, by its length.
 fn finished_front(alloc: Global, bytes: &[u8]) -> Option<usize> {
     for len in 0..bytes.len() {
-        let Some(front) = bytes.get(..len) else {
-            return Some(len);
-        };
-        if !is_unfinished(alloc, front) {
+        if answer_to(alloc, &bytes[..len]) != Answer::More {
             return Some(len);
         }
     }
     None
 }
 
-/// A CONNECT that goes on with a session.
-fn connect(client: ClientId, keep_alive: u16) -> Packet {
-    Packet::Connect(Connect {
-        client,
-        clean: false,
-        keep_alive,
-    })
-}
-
-/// Whether these bytes spell that CONNECT of a client.
-fn is_connect(alloc: Global, name: &str, keep_alive: u16, bytes: &[u8]) -> bool {
-    match ClientId::new(alloc, name) {
-        Ok(client) => is_spelled(alloc, &connect(client, keep_alive), bytes),
-        Err(_) => false,
-    }
-}
+const CONNECTS: &[(Made<'static>, &[u8])] = &[(Made::Connect("a", 60), &CONNECT)];
 
 #[test]
 fn connect_is_read_and_written(rt: HostRuntime) {
-    assert!(rt; is_connect(rt.alloc(), "a", 60, &CONNECT));
+    assert_eq!(rt; other_spelling(rt.alloc(), CONNECTS), None);
     assert_eq!(rt; finished_front(rt.alloc(), &CONNECT), None);
 }
 
@@ -56,10 +39,13 @@ fn changed(at: usize, byte: u8) -> [u8; 15] {
     bytes
 }
 
-/// The first row whose CONNECT is not refused with its kind.
-fn other_fault(alloc: Global, rows: &[(usize, u8, MalformedKind)]) -> Option<usize> {
-    for (row, (at, byte, kind)) in rows.iter().enumerate() {
-        if !is_malformed(alloc, &changed(*at, *byte), *kind) {
+/// A place of that CONNECT, the byte there, and what it is then.
+type Change = (usize, u8, Answer);
+
+/// The first row whose CONNECT is answered otherwise.
+fn other_change(alloc: Global, rows: &[Change]) -> Option<usize> {
+    for (row, (at, byte, wanted)) in rows.iter().enumerate() {
+        if answer_to(alloc, &changed(*at, *byte)) != *wanted {
             return Some(row);
         }
     }
@@ -67,76 +53,99 @@ fn other_fault(alloc: Global, rows: &[(usize, u8, MalformedKind)]) -> Option<usi
 }
 
 // MQTT 3.1.2: protocol name, level, connect flags; then the Client Identifier of 3.1.3.1.
+const MALFORMED_CHANGES: &[Change] = &[
+    (7, 0x55, Answer::Malformed(MalformedKind::Protocol)),
+    (9, 0x01, Answer::Malformed(MalformedKind::Protocol)),
+    (14, 0x00, Answer::Malformed(MalformedKind::Text)),
+    (14, 0xC3, Answer::Malformed(MalformedKind::Text)),
+    (0, 0x11, Answer::Malformed(MalformedKind::Flags)),
+    (0, 0x00, Answer::Malformed(MalformedKind::PacketType)),
+];
+
+const NO_FLAGS: &[(&[u8], Answer)] = &[(
+    &[0x10, 0x07, 0, 4, 0x4D, 0x51, 0x54, 0x54, 3],
+    Answer::Malformed(MalformedKind::Shape),
+)];
+
 #[test]
 fn connect_is_malformed(rt: HostRuntime) {
-    let rows = [
-        (7, 0x55, MalformedKind::Protocol),
-        (9, 0x01, MalformedKind::Protocol),
-        (14, 0x00, MalformedKind::Text),
-        (14, 0xC3, MalformedKind::Text),
-        (0, 0x11, MalformedKind::Flags),
-        (0, 0x00, MalformedKind::PacketType),
-    ];
-    assert_eq!(rt; other_fault(rt.alloc(), &rows), None);
-    let no_flags = [0x10, 0x07, 0, 4, 0x4D, 0x51, 0x54, 0x54, 3];
-    assert!(rt; is_malformed(rt.alloc(), &no_flags, MalformedKind::Shape));
+    assert_eq!(rt; other_change(rt.alloc(), MALFORMED_CHANGES), None);
+    assert_eq!(rt; other_answer(rt.alloc(), NO_FLAGS), None);
 }
+
+const REFUSED_CHANGES: &[Change] = &[
+    (8, 0x03, Answer::Refused(RefusalCode::ProtocolVersion)),
+    (9, 0x80, Answer::Refused(RefusalCode::NotAuthorized)),
+];
+
+const NO_CLIENT: &[(&[u8], Answer)] = &[(
+    &[
+        0x10, 0x0C, 0, 4, 0x4D, 0x51, 0x54, 0x54, 4, 0, 0, 0x3C, 0, 0,
+    ],
+    Answer::Refused(RefusalCode::IdentifierRejected),
+)];
 
 #[test]
 fn connect_is_refused(rt: HostRuntime) {
-    let alloc = rt.alloc();
-    let no_client = [
-        0x10, 0x0C, 0, 4, 0x4D, 0x51, 0x54, 0x54, 4, 0, 0, 0x3C, 0, 0,
-    ];
-    assert!(rt; is_answered(alloc, &changed(8, 0x03), RefusalCode::ProtocolVersion));
-    assert!(rt; is_answered(alloc, &changed(9, 0x80), RefusalCode::NotAuthorized));
-    assert!(rt; is_answered(alloc, &no_client, RefusalCode::IdentifierRejected));
+    assert_eq!(rt; other_change(rt.alloc(), REFUSED_CHANGES), None);
+    assert_eq!(rt; other_answer(rt.alloc(), NO_CLIENT), None);
 }
 
-/// Whether a CONNACK is spelled by these two bytes.
-fn is_connack(alloc: Global, connack: Connack, flags: u8, code: u8) -> bool {
-    is_spelled(alloc, &Packet::Connack(connack), &[0x20, 0x02, flags, code])
-}
-
-/// The first row whose CONNACK is not spelled by its two bytes.
-fn other_connack(alloc: Global, rows: &[(Connack, u8, u8)]) -> Option<usize> {
-    for (row, (connack, flags, code)) in rows.iter().enumerate() {
-        if !is_connack(alloc, *connack, *flags, *code) {
-            return Some(row);
-        }
-    }
-    None
-}
+const CONNACKS: &[(Made<'static>, &[u8])] = &[
+    (
+        Made::Connack(Connack::Accepted(false)),
+        &[0x20, 0x02, 0x00, 0x00],
+    ),
+    (
+        Made::Connack(Connack::Accepted(true)),
+        &[0x20, 0x02, 0x01, 0x00],
+    ),
+    (
+        Made::Connack(Connack::Refused(RefusalCode::ProtocolVersion)),
+        &[0x20, 0x02, 0x00, 0x01],
+    ),
+    (
+        Made::Connack(Connack::Refused(RefusalCode::IdentifierRejected)),
+        &[0x20, 0x02, 0x00, 0x02],
+    ),
+    (
+        Made::Connack(Connack::Refused(RefusalCode::ServerUnavailable)),
+        &[0x20, 0x02, 0x00, 0x03],
+    ),
+    (
+        Made::Connack(Connack::Refused(RefusalCode::BadUserNameOrPassword)),
+        &[0x20, 0x02, 0x00, 0x04],
+    ),
+    (
+        Made::Connack(Connack::Refused(RefusalCode::NotAuthorized)),
+        &[0x20, 0x02, 0x00, 0x05],
+    ),
+];
 
 // MQTT 3.2.2: session present goes with code 0 alone.
 #[test]
 fn connack_in_both_directions(rt: HostRuntime) {
-    let rows = [
-        (Connack::Accepted(false), 0x00, 0x00),
-        (Connack::Accepted(true), 0x01, 0x00),
-        (Connack::Refused(RefusalCode::ProtocolVersion), 0x00, 0x01),
-        (
-            Connack::Refused(RefusalCode::IdentifierRejected),
-            0x00,
-            0x02,
-        ),
-        (Connack::Refused(RefusalCode::ServerUnavailable), 0x00, 0x03),
-        (
-            Connack::Refused(RefusalCode::BadUserNameOrPassword),
-            0x00,
-            0x04,
-        ),
-        (Connack::Refused(RefusalCode::NotAuthorized), 0x00, 0x05),
-    ];
-    assert_eq!(rt; other_connack(rt.alloc(), &rows), None);
+    assert_eq!(rt; other_spelling(rt.alloc(), CONNACKS), None);
 }
+
+const NO_CONNACKS: &[(&[u8], Answer)] = &[
+    (
+        &[0x20, 0x02, 0x01, 0x01],
+        Answer::Malformed(MalformedKind::Shape),
+    ),
+    (
+        &[0x20, 0x02, 0x02, 0x00],
+        Answer::Malformed(MalformedKind::Shape),
+    ),
+    (
+        &[0x20, 0x02, 0x00, 0x06],
+        Answer::Malformed(MalformedKind::Shape),
+    ),
+];
 
 #[test]
 fn connack_is_malformed(rt: HostRuntime) {
-    let alloc = rt.alloc();
-    assert!(rt; is_malformed(alloc, &[0x20, 0x02, 0x01, 0x01], MalformedKind::Shape));
-    assert!(rt; is_malformed(alloc, &[0x20, 0x02, 0x02, 0x00], MalformedKind::Shape));
-    assert!(rt; is_malformed(alloc, &[0x20, 0x02, 0x00, 0x06], MalformedKind::Shape));
+    assert_eq!(rt; other_answer(rt.alloc(), NO_CONNACKS), None);
 }
 
 /// The kind with which a text is refused as a Client Identifier.
@@ -184,11 +193,20 @@ fn client_identifiers(rt: HostRuntime) {
     assert!(rt; is_client(rt.alloc(), longest, "b"));
 }
 
-/// The first text that is not refused with its kind.
-fn first_client<'a>(alloc: Global, rows: &[(&'a str, MalformedKind)]) -> Option<&'a str> {
-    for (text, kind) in rows {
+const NO_CLIENTS: &[(&str, MalformedKind)] = &[
+    ("", MalformedKind::Identifier),
+    (
+        "01234567890123456789012345678901234567890123456789012345678901234",
+        MalformedKind::Identifier,
+    ),
+    ("a\0", MalformedKind::Text),
+];
+
+/// The first row whose text is not refused with its kind.
+fn other_fault(alloc: Global) -> Option<usize> {
+    for (row, (text, kind)) in NO_CLIENTS.iter().enumerate() {
         if client_fault(alloc, text) != Some(*kind) {
-            return Some(text);
+            return Some(row);
         }
     }
     None
@@ -196,25 +214,25 @@ fn first_client<'a>(alloc: Global, rows: &[(&'a str, MalformedKind)]) -> Option<
 
 #[test]
 fn no_client_identifiers(rt: HostRuntime) {
-    let longer = "01234567890123456789012345678901234567890123456789012345678901234";
-    let rows = [
-        ("", MalformedKind::Identifier),
-        (longer, MalformedKind::Identifier),
-        ("a\0", MalformedKind::Text),
-    ];
-    assert_eq!(rt; first_client(rt.alloc(), &rows), None);
+    assert_eq!(rt; other_fault(rt.alloc()), None);
+}
+
+const MALFORMED: DecodeFault = DecodeFault::Malformed(MalformedKind::Shape);
+
+const REFUSED: DecodeFault = DecodeFault::Refused(RefusalCode::IdentifierRejected);
+
+fn are_numbered() -> bool {
+    MALFORMED.number() == Some(10)
+        && REFUSED.number().is_none()
+        && EncodeFault::TooLarge.number() == 4
+        && EncodeFault::Memory.number() == 12
+        && QoS::ExactlyOnce.number() == 2
+        && QoS::AtMostOnce < QoS::AtLeastOnce
 }
 
 #[test]
 fn numbers_of_refusals(rt: HostRuntime) {
-    let malformed = DecodeFault::Malformed(MalformedKind::Shape);
-    let refused = DecodeFault::Refused(RefusalCode::IdentifierRejected);
-    assert_eq!(rt; malformed.number(), Some(10));
-    assert_eq!(rt; refused.number(), None);
-    assert_eq!(rt; EncodeFault::TooLarge.number(), 4);
-    assert_eq!(rt; EncodeFault::Memory.number(), 12);
-    assert_eq!(rt; QoS::ExactlyOnce.number(), 2);
-    assert!(rt; QoS::AtMostOnce < QoS::AtLeastOnce);
+    assert!(rt; are_numbered());
 }
 
 fn is_decode_fault_printed(alloc: Global, fault: DecodeFault, wanted: &str) -> bool {
@@ -231,15 +249,14 @@ fn is_encode_fault_printed(alloc: Global, fault: EncodeFault, wanted: &str) -> b
     }
 }
 
+fn are_printed(alloc: Global) -> bool {
+    is_decode_fault_printed(alloc, MALFORMED, "malformed packet: shape of the packet")
+        && is_decode_fault_printed(alloc, REFUSED, "connection refused: identifier rejected")
+        && is_encode_fault_printed(alloc, EncodeFault::TooLarge, "packet too large")
+        && is_encode_fault_printed(alloc, EncodeFault::Memory, "out of memory")
+}
+
 #[test]
 fn texts_of_refusals(rt: HostRuntime) {
-    let alloc = rt.alloc();
-    let malformed = DecodeFault::Malformed(MalformedKind::Shape);
-    let refused = DecodeFault::Refused(RefusalCode::IdentifierRejected);
-    let shape = "malformed packet: shape of the packet";
-    assert!(rt; is_decode_fault_printed(alloc, malformed, shape));
-    let rejected = "connection refused: identifier rejected";
-    assert!(rt; is_decode_fault_printed(alloc, refused, rejected));
-    assert!(rt; is_encode_fault_printed(alloc, EncodeFault::TooLarge, "packet too large"));
-    assert!(rt; is_encode_fault_printed(alloc, EncodeFault::Memory, "out of memory"));
+    assert!(rt; are_printed(rt.alloc()));
 }

@@ -1,7 +1,8 @@
 // A stream that comes in pieces (MQTT 2.2, 4.8).
 
+use super::spelling::write;
 use cutter::{CutError, Cutter};
-use packet::{DecodeFault, Packet, encode};
+use packet::DecodeFault;
 use std::alloc::Global;
 use topics::MalformedKind;
 
@@ -10,11 +11,6 @@ const STREAM: [u8; 27] = [
     0x10, 0x0D, 0x00, 0x04, 0x4D, 0x51, 0x54, 0x54, 0x04, 0x00, 0x00, 0x3C, 0x00, 0x01, 0x61, 0x34,
     0x08, 0x00, 0x03, 0x74, 0x2F, 0x31, 0x00, 0x01, 0x78, 0xC0, 0x00,
 ];
-
-// Appends the spelling of a packet, and tells whether there was memory for it.
-fn is_spelled(packet: &Packet, out: &mut Vec<u8>) -> bool {
-    packet.has_no_empty_list() && encode(packet, out).is_ok()
-}
 
 // What became of one try to take a packet.
 #[derive(Clone, Copy, PartialEq)]
@@ -29,7 +25,7 @@ enum Taken {
 fn take(cutter: &mut Cutter, out: &mut Vec<u8>) -> Taken {
     match &cutter.next() {
         Ok(Some(packet)) => {
-            if is_spelled(packet, out) {
+            if write(packet, out).is_none() {
                 Taken::One
             } else {
                 Taken::Unspelled
@@ -131,7 +127,7 @@ fn stops_at_a_fault(alloc: Global) -> bool {
 }
 
 #[test]
-fn a_fault_behind_good_packets(rt: HostRuntime) {
+fn a_fault_after_good_packets(rt: HostRuntime) {
     assert!(rt; stops_at_a_fault(rt.alloc()));
     assert_eq!(rt; FAULT.number(), Some(1));
 }

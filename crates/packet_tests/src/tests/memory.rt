@@ -1,7 +1,7 @@
 // Memory that is refused. Run with each allocation failing in turn: a call answers `Memory`, or the
 // answer that it gives with memory, and nothing else.
 
-use super::asking::write;
+use super::spelling::write;
 use packet::*;
 use std::alloc::Global;
 use std::test::*;
@@ -14,8 +14,8 @@ const PUBLISH: [u8; 7] = [0x30, 0x05, 0x00, 0x01, 0x74, 0x68, 0x69];
 
 /// Copies a packet and writes the copy; the number with which one of these is refused.
 fn write_copy(packet: &Packet, out: &mut Vec<u8>) -> Option<u8> {
-    match packet.copy() {
-        Ok(copy) => write(&copy, out),
+    match &packet.copy() {
+        Ok(copy) => write(copy, out),
         Err(_) => Some(12),
     }
 }
@@ -29,7 +29,7 @@ fn round(alloc: Global, bytes: &[u8], out: &mut Vec<u8>) -> Option<u8> {
     }
 }
 
-/// Whether these bytes come back, or memory was wanting and none came.
+/// Whether these bytes come back, or it ran out of memory and none came.
 fn is_free_or_same(alloc: Global, bytes: &[u8]) -> bool {
     let mut out = Vec::new(alloc);
     match round(alloc, bytes, &mut out) {

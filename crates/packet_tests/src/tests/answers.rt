@@ -1,0 +1,38 @@
+// What `decode` answers to bytes.
+
+use packet::*;
+use std::alloc::Global;
+use topics::MalformedKind;
+
+/// What bytes are.
+#[derive(Clone, Copy, PartialEq)]
+pub enum Answer {
+    /// A packet of this many bytes, at their front.
+    Whole(usize),
+    /// Less than a packet.
+    More,
+    /// Refused with this kind.
+    Malformed(MalformedKind),
+    /// A CONNECT that is answered with this code.
+    Refused(RefusalCode),
+}
+
+/// Tells what bytes are.
+pub fn answer_to(alloc: Global, bytes: &[u8]) -> Answer {
+    match &decode(alloc, bytes) {
+        Ok(Step::Whole(_, len)) => Answer::Whole(*len),
+        Ok(Step::More) => Answer::More,
+        Err(DecodeFault::Malformed(kind)) => Answer::Malformed(*kind),
+        Err(DecodeFault::Refused(code)) => Answer::Refused(*code),
+    }
+}
+
+/// Finds the first row whose bytes are something else.
+pub fn other_answer(alloc: Global, rows: &[(&[u8], Answer)]) -> Option<usize> {
+    for (row, (bytes, wanted)) in rows.iter().enumerate() {
+        if answer_to(alloc, bytes) != *wanted {
+            return Some(row);
+        }
+    }
+    None
+}
