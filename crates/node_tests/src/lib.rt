@@ -1,4 +1,4 @@
-//! A node and one connection of it. Tests alone stand here.
+//! Nodes, the inboxes that their items come by, their connections, and devices that fail. Tests alone stand here.
 #![tactic(auto)]
 
 #[cfg(test)]

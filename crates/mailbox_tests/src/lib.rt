@@ -1,5 +1,0 @@
-//! An inbox between threads. Tests alone stand here.
-#![tactic(auto)]
-
-#[cfg(test)]
-mod tests;

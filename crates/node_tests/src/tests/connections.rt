@@ -1,0 +1,258 @@
+// What no clause says: that a connection runs over devices of which a call fails, or that are full for a while.
+
+ghost use Rattle.std.specs.Prelude.{◌≡◌};
+
+use super::fakes::{Sink, Source};
+use connection::{Ending, Flow, Hearer, Outlet, Unwritten, listen, write_out};
+use mailbox::{Inbox, Lane, Naming, Receiver};
+use node::{Config, Handed, Item, Members, Memory, NodeCore, Piece, Port};
+use std::alloc::Global;
+use std::io::ErrorKind;
+use std::marker::Brand;
+use std::sync::Wait;
+use std::test::Fail;
+use std::time::Clock;
+
+// Client `a`, keep alive 60, CleanSession 0.
+const CONNECT: &[u8] = &[
+    0x10, 0x0D, 0x00, 0x04, 0x4D, 0x51, 0x54, 0x54, 0x04, 0x00, 0x00, 0x3C, 0x00, 0x01, 0x61,
+];
+
+const PORT: Port = Port(7);
+
+// A lane that hears of a connection, which it lets in or not.
+#[derive(Drop)]
+struct Ear<J: Naming> {
+    lane: Lane<Item, J>,
+    is_open: bool,
+}
+
+impl<J: Naming> Hearer for Ear<J> {
+    ghost heard = { λ ear. ear.lane.sent };
+
+    fn now<R: Clock>(&self, _rt: &R) -> u64 {
+        5
+    }
+
+    fn tell<R: Wait + Clock>(&mut self, rt: &R, item: Item) {
+        let mut unsent = item;
+        for _ in rt.forever() {
+            match self.lane.send(rt, unsent) {
+                Ok(()) => return,
+                Err(back) => unsent = back,
+            }
+        }
+        unreachable!()
+    }
+
+    fn lets_in<R: Wait>(&self, _rt: &R) -> bool {
+        self.is_open
+    }
+}
+
+// A node, and what it puts out for the port.
+#[derive(Drop)]
+struct Tap {
+    node: NodeCore,
+}
+
+impl Outlet for Tap {
+    ghost hands = { λ _ _ _ _. Unit {0} };
+
+    fn hand_over<R: Wait>(&mut self, _rt: &R, out: &mut Vec<u8>) -> Result<Handed, Memory> {
+        self.node.outgoing(PORT, out)
+    }
+}
+
+// Whether the connection is let in, which read fails, how it ends, and how many bytes are told.
+type Row = (bool, u64, Ending, usize);
+
+// Four reads bring the CONNECT, and the fifth finds the end.
+const ROWS: &[Row] = &[
+    (true, 0, Ending::End, 15),
+    (true, 1, Ending::Fault, 0),
+    (true, 2, Ending::Fault, 4),
+    (true, 3, Ending::Fault, 8),
+    (true, 4, Ending::Fault, 12),
+    (true, 5, Ending::Fault, 15),
+    (true, 6, Ending::End, 15),
+    (false, 0, Ending::Refused, 0),
+];
+
+// Whether a connection that runs so is told so.
+fn hears<J: Naming, R: Wait + Clock>(rt: &R, alloc: Global, inbox: Inbox<Item>, row: &Row) -> bool
+    requires { inbox ≡ J.inbox_of 1 }
+{
+    match inbox.named::<J>(1, 1) {
+        Ok((mut receiver, mut lanes)) => {
+            ends(rt, alloc, lanes.pop(), row) && tells(rt, alloc, &mut receiver, row.3)
+        }
+        Err(_) => false,
+    }
+}
+
+// Whether a connection that is told to this lane ends so.
+fn ends<J: Naming, R: Wait + Clock>(
+    rt: &R,
+    alloc: Global,
+    lane: Option<Lane<Item, J>>,
+    row: &Row,
+) -> bool {
+    let (is_open, bad_call, ending, _) = *row;
+    match lane {
+        Some(lane) => {
+            let mut source = Source::new(CONNECT, 4, bad_call);
+            listen(rt, alloc, PORT, &mut source, &mut Ear { lane, is_open }) == ending
+        }
+        None => false,
+    }
+}
+
+// Takes an item of the connection, and keeps its bytes: whether it is not the last. None where it is no such item.
+fn take<J: Naming, R: Wait>(
+    rt: &R,
+    receiver: &mut Receiver<Item, J>,
+    came: &mut Vec<u8>,
+) -> Option<bool> {
+    match receiver.take(rt) {
+        Some((_, Item::Bytes(PORT, piece, 5))) => {
+            came.extend_from_slice(piece.as_slice()).ok()?;
+            Some(true)
+        }
+        Some((_, Item::Ended(PORT))) => Some(false),
+        _ => None,
+    }
+}
+
+// Takes the items of the connection up to the last, at most ten: whether it came.
+fn take_all<J: Naming, R: Wait>(
+    rt: &R,
+    receiver: &mut Receiver<Item, J>,
+    came: &mut Vec<u8>,
+) -> bool {
+    for _ in 0..10 {
+        match take(rt, receiver, came) {
+            Some(true) => {}
+            Some(false) => return true,
+            None => return false,
+        }
+    }
+    false
+}
+
+// Whether a connection was opened, these many first bytes of the CONNECT came, and it ended, and no more was told.
+fn tells<J: Naming, R: Wait>(
+    rt: &R,
+    alloc: Global,
+    receiver: &mut Receiver<Item, J>,
+    count: usize,
+) -> bool {
+    let mut came = Vec::new(alloc);
+    let opened = matches!(receiver.take(rt), Some((_, Item::Opened(PORT, 5))));
+    opened
+        && take_all(rt, receiver, &mut came)
+        && receiver.take(rt).is_none()
+        && came.len() == count
+        && CONNECT.starts_with(came.as_slice())
+}
+
+#[test]
+fn a_connection_is_told_whole(rt: HostRuntime) -> Result<(), Fail> {
+    for row in ROWS {
+        let inbox = Inbox::new(rt.alloc())?;
+        let told = hears::<Brand, HostRuntime>(&rt, rt.alloc(), inbox, row);
+        assert!(rt; told, "{row:?}");
+    }
+    Ok(())
+}
+
+// Which write fails and how, how often the device is full, whether the connection is open then, and how many bytes
+// stand written.
+type WriteRow = (u64, ErrorKind, u64, bool, usize);
+
+// Five bytes are two writes, and the answer's four are two.
+const WRITE_ROWS: &[WriteRow] = &[
+    (0, ErrorKind::BrokenPipe, 0, true, 9),
+    (1, ErrorKind::BrokenPipe, 0, false, 0),
+    (2, ErrorKind::BrokenPipe, 0, false, 3),
+    (3, ErrorKind::BrokenPipe, 0, false, 5),
+    (4, ErrorKind::BrokenPipe, 0, false, 8),
+    (2, ErrorKind::WouldBlock, 1, true, 9),
+    (3, ErrorKind::WouldBlock, 1, true, 9),
+    (4, ErrorKind::TimedOut, 1, true, 9),
+    (3, ErrorKind::Interrupted, 0, true, 9),
+];
+
+// What was left before, and that with the node's answer after it, CONNACK 0.
+const LEFT: &[u8] = b"01234";
+
+const ALL: &[u8] = &[b'0', b'1', b'2', b'3', b'4', 0x20, 0x02, 0x00, 0x00];
+
+// A node, the sole member of ballot 1.
+fn sole(alloc: Global) -> Option<Tap> {
+    let config = Config {
+        members: Members::from_slice(alloc, &[1]).ok()?,
+        primary: 1,
+    };
+    let node = NodeCore::new(alloc, 1, &config).ok()?;
+    Some(Tap { node })
+}
+
+// Whether the node has an answer to a CONNECT for the port.
+fn connects(alloc: Global, tap: &mut Tap) -> bool {
+    let mut effects = Vec::new(alloc);
+    tap.node.step(Item::Opened(PORT, 0), &mut effects);
+    match Piece::from_slice(alloc, CONNECT) {
+        Ok(piece) => {
+            tap.node.step(Item::Bytes(PORT, piece, 0), &mut effects);
+            true
+        }
+        Err(_) => false,
+    }
+}
+
+// Writes what is left and what the node puts out, as often as the device is full: how often it was, and whether the
+// connection is open then. None where that does not end.
+fn write_all<R: Wait>(
+    rt: &R,
+    alloc: Global,
+    tap: &mut Tap,
+    sink: &mut Sink,
+) -> Option<(u64, bool)> {
+    let mut left = Unwritten::from_slice(alloc, LEFT).ok()?;
+    let mut out = Vec::new(alloc);
+    for times in 0..9u64 {
+        match write_out(rt, alloc, left, tap, &mut out, sink) {
+            Flow::Late(more) => left = more,
+            flow => return Some((times, matches!(flow, Flow::Open))),
+        }
+    }
+    None
+}
+
+// Whether what was left before and then the node's answer are written so.
+fn writes<R: Wait>(rt: &R, alloc: Global, tap: &mut Tap, row: &WriteRow) -> bool {
+    let (bad_call, fault, late, open, count) = *row;
+    let mut sink = Sink::new(alloc, 3, bad_call, fault);
+    connects(alloc, tap)
+        && write_all(rt, alloc, tap, &mut sink) == Some((late, open))
+        && sink.bytes().len() == count
+        && ALL.starts_with(sink.bytes())
+}
+
+// Whether a row comes out with a fresh node as it says.
+fn comes_out<R: Wait>(rt: &R, alloc: Global, row: &WriteRow) -> bool {
+    match sole(alloc) {
+        Some(mut tap) => writes(rt, alloc, &mut tap, row),
+        None => false,
+    }
+}
+
+#[test]
+fn what_was_left_is_written_first(rt: HostRuntime) {
+    let alloc = rt.alloc();
+    let fault = WRITE_ROWS
+        .iter()
+        .position(|row| !comes_out(&rt, alloc, row));
+    assert_eq!(rt; fault, None);
+}

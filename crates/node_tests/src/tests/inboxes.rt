@@ -1,0 +1,353 @@
+// An inbox: each call with its answer, two inboxes in one run, and threads that send together.
+
+ghost use Rattle.std.specs.Prelude.{◌≡◌, ◌≤◌};
+
+use mailbox::{INBOX_ITEMS, Inbox, Lane, Naming, Receiver};
+use std::alloc::Global;
+use std::marker::Brand;
+use std::process::Abort;
+use std::sync::{Mutex, Wait};
+use std::test::Fail;
+use std::thread;
+use std::thread::Threads;
+
+// What is done with an inbox, and what comes of it. A lane is meant by its place.
+#[derive(Clone, Copy)]
+enum Act<'a> {
+    // A lane sends this item.
+    Send(usize, u64),
+    // A lane sends the numbers from 0 on, so many.
+    SendMany(usize, u64),
+    // This item of a lane comes back.
+    HandBack(usize, u64),
+    // How many items a lane has sent.
+    Count(usize, u64),
+    // What is taken.
+    Take(Option<(u8, u64)>),
+    // How many lanes there are.
+    Lanes(usize),
+    // The lanes are all of the inbox, and without the first they are not.
+    HasAll,
+    // How many items of each lane were taken before, and those that are left over.
+    Settle(&'a [u64], &'a [(u8, u64)]),
+}
+
+// Sends an item: what comes back, or none without that lane.
+fn send<J: Naming, R: Wait>(
+    rt: &R,
+    lanes: &mut [Lane<u64, J>],
+    place: usize,
+    item: u64,
+) -> Option<Result<(), u64>> {
+    Some(lanes.get_mut(place)?.send(rt, item))
+}
+
+// Whether an item is sent, or comes back.
+fn sends<J: Naming, R: Wait>(
+    rt: &R,
+    lanes: &mut [Lane<u64, J>],
+    place: usize,
+    item: u64,
+    wanted: Result<(), u64>,
+) -> bool {
+    send(rt, lanes, place, item) == Some(wanted)
+}
+
+// Whether all lanes but the first are not all of the inbox.
+fn lacks_one<J: Naming>(receiver: &Receiver<u64, J>, lanes: &[Lane<u64, J>]) -> bool {
+    match lanes {
+        [_, rest @ ..] => !receiver.has_all(rest),
+        [] => false,
+    }
+}
+
+// Whether the inbox is settled so.
+fn settles<J: Naming, R: Wait>(
+    rt: &R,
+    alloc: Global,
+    receiver: &mut Receiver<u64, J>,
+    lanes: &mut [Lane<u64, J>],
+    counts: &[u64],
+    left: &[(u8, u64)],
+) -> bool {
+    let Ok(mut counted) = Vec::from_elem(alloc, 0u64, receiver.lanes()) else {
+        return false;
+    };
+    let Ok(mut over) = Vec::with_capacity(alloc, INBOX_ITEMS) else {
+        return false;
+    };
+    if !receiver.has_all(lanes) {
+        return false;
+    }
+    receiver.settle(rt, lanes, counted.as_mut_slice(), &mut over);
+    counted.as_slice() == counts && over.as_slice() == left
+}
+
+fn is_right<J: Naming, R: Wait>(
+    rt: &R,
+    alloc: Global,
+    receiver: &mut Receiver<u64, J>,
+    lanes: &mut [Lane<u64, J>],
+    act: Act<'_>,
+) -> bool {
+    match act {
+        Act::Send(place, item) => sends(rt, lanes, place, item, Ok(())),
+        Act::SendMany(place, count) => {
+            (0..count).all(|item| sends(rt, lanes, place, item, Ok(())))
+        }
+        Act::HandBack(place, item) => sends(rt, lanes, place, item, Err(item)),
+        Act::Count(place, count) => lanes.get(place).map(Lane::count) == Some(count),
+        Act::Take(wanted) => receiver.take(rt) == wanted,
+        Act::Lanes(count) => receiver.lanes() == count && lanes.len() == count,
+        Act::HasAll => receiver.has_all(lanes) && lacks_one(receiver, lanes),
+        Act::Settle(counts, left) => settles(rt, alloc, receiver, lanes, counts, left),
+    }
+}
+
+// Goes through the rows with an inbox of so many lanes: the first that comes out otherwise.
+fn first_fault<J: Naming, R: Wait>(
+    rt: &R,
+    alloc: Global,
+    inbox: Inbox<u64>,
+    lanes: u8,
+    rows: &[Act<'_>],
+) -> Option<usize>
+    requires named { inbox ≡ J.inbox_of 1 }
+    requires lanes { (1 ≤ lanes) × (lanes ≤ 16) }
+{
+    match inbox.named::<J>(1, lanes) {
+        Ok((mut receiver, mut lanes)) => rows.iter().position(|row| {
+            !is_right(rt, alloc, &mut receiver, lanes.as_mut_slice(), *row)
+        }),
+        Err(_) => Some(0),
+    }
+}
+
+const FULL: &[Act<'static>] = &[
+    Act::SendMany(0, 1_024),
+    Act::HandBack(0, 5),
+    Act::Take(Some((0, 0))),
+    Act::Send(0, 5),
+    Act::Count(0, 1_025),
+];
+
+#[test]
+fn a_full_inbox_hands_back(rt: HostRuntime) -> Result<(), Fail> {
+    let inbox = Inbox::new(rt.alloc())?;
+    let fault = first_fault::<Brand, HostRuntime>(&rt, rt.alloc(), inbox, 1, FULL);
+    assert_eq!(rt; fault, None);
+    Ok(())
+}
+
+const LEFT: &[Act<'static>] = &[
+    Act::Lanes(3),
+    Act::Send(0, 10),
+    Act::Send(2, 20),
+    Act::Send(0, 11),
+    Act::Send(2, 21),
+    Act::Send(2, 22),
+    Act::Take(Some((0, 10))),
+    Act::Take(Some((2, 20))),
+    Act::HasAll,
+    Act::Settle(&[1, 0, 1], &[(0, 11), (2, 21), (2, 22)]),
+];
+
+#[test]
+fn what_is_left_over_is_listed(rt: HostRuntime) -> Result<(), Fail> {
+    let inbox = Inbox::new(rt.alloc())?;
+    let fault = first_fault::<Brand, HostRuntime>(&rt, rt.alloc(), inbox, 3, LEFT);
+    assert_eq!(rt; fault, None);
+    Ok(())
+}
+
+// What is done with two inboxes, meant by their places, of one lane each, and what comes of it.
+#[derive(Clone, Copy)]
+enum Deed {
+    // The lane of an inbox sends an item.
+    Send(usize, u64),
+    // What is taken from an inbox.
+    Take(usize, Option<(u8, u64)>),
+    // What the receiver of an inbox and the lane of another, or the same, meet at.
+    Meet(usize, usize, Option<u64>),
+}
+
+// What a receiver and the first lane meet at, if they are of one inbox, as their numbers tell.
+fn meet<J: Naming>(receiver: &mut Receiver<u64, J>, lanes: &mut [Lane<u64, J>]) -> Option<u64> {
+    let lane = lanes.first_mut()?;
+    if receiver.number() == lane.number() {
+        Some(receiver.meet(lane))
+    } else {
+        None
+    }
+}
+
+// The receivers and the lanes of two inboxes, each with a lock of its own.
+#[derive(Drop)]
+struct Two<J: Naming> {
+    receivers: [Mutex<Receiver<u64, J>>; 2],
+    lanes: [Mutex<Vec<Lane<u64, J>>>; 2],
+}
+
+impl<J: Naming> Two<J> {
+    fn send<R: Wait>(&self, rt: &R, at: usize, item: u64) -> bool {
+        match self.lanes.get(at) {
+            Some(lanes) => sends(rt, lanes.lock(rt).as_mut_slice(), 0, item, Ok(())),
+            None => false,
+        }
+    }
+
+    fn take<R: Wait>(&self, rt: &R, at: usize) -> Option<(u8, u64)> {
+        self.receivers.get(at)?.lock(rt).take(rt)
+    }
+
+    fn meet<R: Wait>(&self, rt: &R, at: usize, lane_at: usize) -> Option<u64> {
+        let mut receiver = self.receivers.get(at)?.lock(rt);
+        let mut lanes = self.lanes.get(lane_at)?.lock(rt);
+        meet(&mut receiver, lanes.as_mut_slice())
+    }
+
+    fn is_right<R: Wait>(&self, rt: &R, deed: Deed) -> bool {
+        match deed {
+            Deed::Send(at, item) => self.send(rt, at, item),
+            Deed::Take(at, wanted) => self.take(rt, at) == wanted,
+            Deed::Meet(at, lane_at, wanted) => self.meet(rt, at, lane_at) == wanted,
+        }
+    }
+}
+
+// Goes through the rows with two inboxes: the first that comes out otherwise.
+fn first_fault_of_two<J: Naming, R: Wait>(
+    rt: &R,
+    first: Inbox<u64>,
+    second: Inbox<u64>,
+    rows: &[Deed],
+) -> Option<usize>
+    requires first { first ≡ J.inbox_of 1 }
+    requires second { second ≡ J.inbox_of 2 }
+{
+    let Ok((first, first_lanes)) = first.named::<J>(1, 1) else {
+        return Some(0);
+    };
+    let Ok((second, second_lanes)) = second.named::<J>(2, 1) else {
+        return Some(0);
+    };
+    let two = Two {
+        receivers: [Mutex::new(first), Mutex::new(second)],
+        lanes: [Mutex::new(first_lanes), Mutex::new(second_lanes)],
+    };
+    rows.iter().position(|deed| !two.is_right(rt, *deed))
+}
+
+const MET: &[Deed] = &[
+    Deed::Send(0, 7),
+    Deed::Send(0, 8),
+    Deed::Send(0, 9),
+    Deed::Send(1, 70),
+    Deed::Take(0, Some((0, 7))),
+    Deed::Take(0, Some((0, 8))),
+    Deed::Meet(0, 0, Some(2)),
+    Deed::Meet(1, 1, Some(0)),
+    Deed::Meet(0, 1, None),
+    Deed::Meet(1, 0, None),
+    Deed::Take(0, Some((0, 9))),
+    Deed::Take(0, None),
+    Deed::Take(1, Some((0, 70))),
+];
+
+#[test]
+fn a_lane_meets_its_items(rt: HostRuntime) -> Result<(), Fail> {
+    let first = Inbox::new(rt.alloc())?;
+    let second = Inbox::new(rt.alloc())?;
+    let fault = first_fault_of_two::<Brand, HostRuntime>(&rt, first, second, MET);
+    assert_eq!(rt; fault, None);
+    Ok(())
+}
+
+const POURED: u64 = 100_000;
+
+// Sends the numbers from 0 on, each again until there is room for it.
+fn pour<J: Naming, R: Wait>(rt: &R, lane: &mut Lane<u64, J>) {
+    let mut item = 0;
+    for _ in rt.forever() {
+        if item == POURED {
+            return;
+        }
+        if lane.send(rt, item).is_ok() {
+            item = item.wrapping_add(1);
+        } else {
+            thread::yield_now();
+        }
+    }
+}
+
+// Whether each of four lanes' numbers come from 0 on, with none left out.
+fn come_in_order<J: Naming, R: Wait>(rt: &R, receiver: &mut Receiver<u64, J>) -> bool {
+    let mut next = [0u64; 4];
+    for _ in rt.forever() {
+        if next == [POURED; 4] {
+            break;
+        }
+        let Some((lane, item)) = receiver.take(rt) else {
+            thread::yield_now();
+            continue;
+        };
+        let Some(wanted) = next.get_mut(usize::from(lane)) else {
+            return false;
+        };
+        if *wanted != item {
+            return false;
+        }
+        *wanted = wanted.wrapping_add(1);
+    }
+    receiver.take(rt).is_none()
+}
+
+fn pour_two<J: Naming + Send, R: Threads + Wait + Sync>(
+    rt: &R,
+    first: &mut Lane<u64, J>,
+    second: &mut Lane<u64, J>,
+) {
+    thread::join(rt, || pour(rt, first), || pour(rt, second));
+}
+
+// Two lanes send, and what four send is taken: whether it comes in order.
+fn pour_and_take<J: Naming + Send, R: Threads + Wait + Sync>(
+    rt: &R,
+    receiver: &mut Receiver<u64, J>,
+    first: &mut Lane<u64, J>,
+    second: &mut Lane<u64, J>,
+) -> bool {
+    let ((), whole) = thread::join(
+        rt,
+        || pour_two(rt, first, second),
+        || come_in_order(rt, receiver),
+    );
+    whole
+}
+
+// Whether what four lanes send at once, each in a thread of its own, comes in order.
+fn pour_four<J: Naming + Send, R: Threads + Wait + Sync + Abort>(rt: &R, inbox: Inbox<u64>) -> bool
+    requires { inbox ≡ J.inbox_of 1 }
+{
+    let Ok((mut receiver, mut lanes)) = inbox.named::<J>(1, 4) else {
+        return false;
+    };
+    let mut fourth = lanes.pop().expect(rt, "four lanes");
+    let mut third = lanes.pop().expect(rt, "four lanes");
+    let mut second = lanes.pop().expect(rt, "four lanes");
+    let mut first = lanes.pop().expect(rt, "four lanes");
+    let ((), whole) = thread::join(
+        rt,
+        || pour_two(rt, &mut first, &mut second),
+        || pour_and_take(rt, &mut receiver, &mut third, &mut fourth),
+    );
+    whole
+}
+
+#[test]
+fn four_lanes_arrive_whole_once_and_in_order(rt: HostRuntime) -> Result<(), Fail> {
+    let inbox = Inbox::new(rt.alloc())?;
+    let whole = pour_four::<Brand, HostRuntime>(&rt, inbox);
+    assert!(rt; whole);
+    Ok(())
+}
