@@ -7,5 +7,6 @@ mod crowds;
 mod gates;
 mod heard;
 mod nodes;
+mod row;
 mod takeovers;
 mod visits;

@@ -1,47 +1,100 @@
 // What one client is answered, and when it is closed.
 
 use super::client::{connect, fills, join, open};
-use super::nodes::beside;
-use super::visits::visits;
+use super::nodes::fault_in;
+use super::row::{Row, Table};
 use server::Place;
 use std::alloc::{AllocError, Global};
-use std::io::{Read, Write};
+use std::io::Read;
 use std::net::{Net, TcpStream};
-use std::test::Fail;
 use std::time::{Clock, Instant};
 
+// A flood to several members: each packet is a place of the log of each.
+const TABLES: &[Table] = &[
+    Table {
+        name: "a client is answered",
+        members: &[1],
+        row: Row::Visits,
+    },
+    Table {
+        name: "a silent client is closed",
+        members: &[1],
+        row: Row::Silence,
+    },
+    Table {
+        name: "a flood is answered by one member",
+        members: &[1],
+        row: Row::Flood,
+    },
+    Table {
+        name: "by two",
+        members: &[1, 2],
+        row: Row::Flood,
+    },
+    Table {
+        name: "by three",
+        members: &[1, 2, 3],
+        row: Row::Flood,
+    },
+];
+
 #[test]
-fn a_client_is_answered(rt: HostRuntime) -> Result<(), Fail> {
-    let answered = beside(&rt, &[1], |_peers, places| visits(&rt, places.first()))?;
-    assert!(rt; answered);
-    Ok(())
+fn one_client_is_answered(rt: HostRuntime) {
+    assert_eq!(rt; fault_in(&rt, TABLES), None);
 }
 
-// How many bytes come behind the answer to a CONNECT with keep alive 1 whose client then falls silent, none at
-// the end of the stream; and after how many milliseconds.
-fn silence<R>(rt: &R, place: Option<&Place>) -> Option<(usize, u128)>
+/// Whether a client with keep alive 1 that falls silent is closed after one and a half seconds (MQTT 3.1.2.10), and
+/// nothing more was sent to it.
+pub(super) fn is_silence_ended<R>(rt: &R, place: Option<&Place>) -> bool
 where
     R: Clock + Net<Stream = TcpStream>,
 {
-    let mut sent = connect(b'a', false);
-    sent[11] = 1;
-    let start = Instant::now(rt).ok()?;
-    let mut stream = open(rt, place)?;
-    let mut room = [0; 4];
-    stream.write_all(&sent).ok()?;
-    stream.read_exact(&mut room).ok()?;
-    let count = stream.read(&mut room).ok()?;
-    Some((count, start.elapsed(rt).ok()?.as_millis()))
+    let Ok(start) = Instant::now(rt) else {
+        return false;
+    };
+    match open(rt, place) {
+        Some(mut stream) => is_ended(&mut stream) && has_taken(rt, start),
+        None => false,
+    }
 }
 
-// A keep alive of a second ends behind one and a half (MQTT 3.1.2.10).
-#[test]
-fn a_silent_client_is_closed(rt: HostRuntime) -> Result<(), Fail> {
-    let came = beside(&rt, &[1], |_peers, places| silence(&rt, places.first()))?;
-    let (count, took) = came.ok_or("not answered")?;
-    assert_eq!(rt; count, 0);
-    assert!(rt; took > 1_500 && took < 5_000);
-    Ok(())
+// Whether the CONNECT is answered, and then the stream ends.
+fn is_ended(stream: &mut TcpStream) -> bool {
+    let mut sent = connect(b'a', false);
+    sent[11] = 1;
+    let mut room = [0; 4];
+    fills(stream, &sent, &mut room) && matches!(stream.read(&mut room), Ok(0))
+}
+
+// Whether 1.5 to 5 seconds have gone by.
+fn has_taken<R: Clock>(rt: &R, start: Instant) -> bool {
+    match start.elapsed(rt) {
+        Ok(took) => took.as_millis() > 1_500 && took.as_millis() < 5_000,
+        Err(_) => false,
+    }
+}
+
+// What is sent in a flood, what has to be answered, and room for what is.
+#[derive(Drop)]
+struct Flood {
+    sent: Vec<u8>,
+    wanted: Vec<u8>,
+    room: Vec<u8>,
+}
+
+impl Flood {
+    // 32,768 PINGREQ, and as many PINGRESP.
+    fn new(alloc: Global) -> Result<Flood, AllocError> {
+        Ok(Flood {
+            sent: packets(alloc, 0xC0)?,
+            wanted: packets(alloc, 0xD0)?,
+            room: packets(alloc, 0)?,
+        })
+    }
+
+    fn is_answered(&mut self, stream: &mut TcpStream) -> bool {
+        fills(stream, self.sent.as_slice(), self.room.as_mut_slice()) && self.room == self.wanted
+    }
 }
 
 // 64 KiB of packets of this first byte, with nothing in them.
@@ -53,30 +106,23 @@ fn packets(alloc: Global, first: u8) -> Result<Vec<u8>, AllocError> {
     Ok(bytes)
 }
 
-// Whether 32,768 PINGREQ in one write are answered by as many PINGRESP and nothing else.
-fn is_flood_answered<R>(rt: &R, place: Option<&Place>) -> bool
+/// Whether 32,768 PINGREQ in one write are answered by as many PINGRESP and nothing else.
+pub(super) fn is_flood_answered<R>(rt: &R, place: Option<&Place>) -> bool
 where
     R: AllocGlobal + Net<Stream = TcpStream>,
 {
-    let (Some(mut stream), Ok(sent), Ok(wanted), Ok(mut room)) = (
-        join(rt, place, b'a', false),
-        packets(rt.alloc(), 0xC0),
-        packets(rt.alloc(), 0xD0),
-        packets(rt.alloc(), 0),
-    ) else {
-        return false;
-    };
-    fills(&mut stream, sent.as_slice(), room.as_mut_slice()) && room == wanted
+    match Flood::new(rt.alloc()) {
+        Ok(mut flood) => floods(rt, place, &mut flood),
+        Err(_) => false,
+    }
 }
 
-// Each packet is a place of the log of each member.
-#[test]
-fn a_flood_is_answered_by_all_members(rt: HostRuntime) -> Result<(), Fail> {
-    for members in [[1].as_slice(), [1, 2].as_slice(), [1, 2, 3].as_slice()] {
-        let answered = beside(&rt, members, |_peers, places| {
-            is_flood_answered(&rt, places.first())
-        })?;
-        assert!(rt; answered, "{members:?}");
+fn floods<R>(rt: &R, place: Option<&Place>, flood: &mut Flood) -> bool
+where
+    R: Net<Stream = TcpStream>,
+{
+    match join(rt, place, b'a', false) {
+        Some(mut stream) => flood.is_answered(&mut stream),
+        None => false,
     }
-    Ok(())
 }

@@ -23,17 +23,28 @@ pub(super) fn publish(first: u8, id: u8, payload: u8) -> [u8; 10] {
     [first, 8, 0, 3, 0x74, 0x2F, 0x31, 0, id, payload]
 }
 
-/// A stream to a place. A read ends behind ten seconds.
+/// Opens a stream to a place. A read of it ends after ten seconds.
 pub(super) fn open<R>(rt: &R, place: Option<&Place>) -> Option<TcpStream>
 where
     R: Net<Stream = TcpStream>,
 {
     let stream = TcpStream::connect(rt, place?.address().ok()?).ok()?;
-    stream.set_read_timeout(Some(Duration::from_secs(10))).ok()?;
-    Some(stream)
+    if waits_for(&stream, 10_000) {
+        Some(stream)
+    } else {
+        None
+    }
 }
 
-/// A stream of the client of this letter, if it is accepted and told so of its session.
+// Whether a read of this stream ends after so many milliseconds from now on.
+fn waits_for(stream: &TcpStream, milliseconds: u64) -> bool {
+    stream
+        .set_read_timeout(Some(Duration::from_millis(milliseconds)))
+        .is_ok()
+}
+
+/// Opens a stream of the client of this letter. There is none unless its CONNECT is accepted, and the CONNACK says so
+/// of its session.
 pub(super) fn join<R>(
     rt: &R,
     place: Option<&Place>,
@@ -49,6 +60,32 @@ where
         Some(stream)
     } else {
         None
+    }
+}
+
+/// The streams of a subscriber, client `h`, and a publisher, client `s`.
+#[derive(Drop)]
+pub(super) struct Pair {
+    pub(super) hearer: TcpStream,
+    pub(super) speaker: TcpStream,
+}
+
+impl Pair {
+    /// Opens both, as `join` does.
+    pub(super) fn join<R>(rt: &R, place: Option<&Place>, has_session: bool) -> Option<Pair>
+    where
+        R: Net<Stream = TcpStream>,
+    {
+        let hearer = join(rt, place, b'h', has_session)?;
+        match join(rt, place, b's', has_session) {
+            Some(speaker) => Some(Pair { hearer, speaker }),
+            None => None,
+        }
+    }
+
+    /// Whether the subscriber subscribes to `t/#` at QoS 2.
+    pub(super) fn subscribes(&mut self) -> bool {
+        is_answered(&mut self.hearer, &SUBSCRIBE, &SUBSCRIBED)
     }
 }
 
@@ -70,11 +107,11 @@ pub(super) fn fills(stream: &mut TcpStream, sent: &[u8], room: &mut [u8]) -> boo
 /// Whether nothing comes for a third of a second, and the stream stays open.
 pub(super) fn is_silent(stream: &mut TcpStream) -> bool {
     let mut room = [0; 1];
-    stream
-        .set_read_timeout(Some(Duration::from_millis(333)))
-        .is_ok()
-        && stream.read(&mut room).is_err()
-        && stream
-            .set_read_timeout(Some(Duration::from_secs(10)))
-            .is_ok()
+    waits_for(stream, 333) && stream.read(&mut room).is_err() && waits_for(stream, 10_000)
+}
+
+/// Whether the server ends the stream within two seconds, and sends nothing.
+pub(super) fn is_closed(stream: &mut TcpStream) -> bool {
+    let mut room = [0; 1];
+    waits_for(stream, 2_000) && matches!(stream.read(&mut room), Ok(0))
 }

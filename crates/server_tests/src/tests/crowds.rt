@@ -1,32 +1,64 @@
-// Many clients, side by side and one after the other.
+// Many clients, at the same time and one after the other.
 
-use super::client::{SUBSCRIBE, SUBSCRIBED, connect, is_answered, join, open};
-use super::nodes::beside;
+use super::client::{Pair, SUBSCRIBE, SUBSCRIBED, connect, is_answered, is_closed, join, open};
+use super::nodes::fault_in;
+use super::row::{Row, Table};
 use server::Place;
 use std::alloc::{AllocError, Global};
 use std::io::{Read, Write};
 use std::net::{Net, TcpStream};
-use std::test::Fail;
-use std::time::Duration;
 
-// Whether twelve clients are answered by PINGRESP while they are connected and a thirteenth has come.
-fn are_twelve_answered<R>(rt: &R, place: Option<&Place>) -> bool
+const TABLES: &[Table] = &[
+    Table {
+        name: "a thirteenth client is closed",
+        members: &[1],
+        row: Row::Twelve,
+    },
+    Table {
+        name: "clients come and go",
+        members: &[1],
+        row: Row::ComeAndGo,
+    },
+];
+
+#[test]
+fn crowds_are_served(rt: HostRuntime) {
+    assert_eq!(rt; fault_in(&rt, TABLES), None);
+}
+
+const NEVER_READS: &[Table] = &[Table {
+    name: "50 MB",
+    members: &[1],
+    row: Row::NeverReads,
+}];
+
+#[test]
+fn a_client_that_never_reads_keeps_nobody_waiting(rt: HostRuntime) {
+    assert_eq!(rt; fault_in(&rt, NEVER_READS), None);
+}
+
+/// Whether twelve clients are answered by PINGRESP while they are connected and a thirteenth has come.
+pub(super) fn are_twelve_answered<R>(rt: &R, place: Option<&Place>) -> bool
 where
     R: AllocGlobal + Net<Stream = TcpStream>,
 {
     let mut streams = Vec::new(rt.alloc());
-    for letter in b'a'..b'm' {
-        let Some(stream) = join(rt, place, letter, false) else {
-            return false;
-        };
-        if streams.push(stream).is_err() {
-            return false;
-        }
-    }
-    is_turned_away(rt, place)
+    (b'a'..b'm').all(|letter| joins(rt, place, letter, &mut streams))
+        && is_turned_away(rt, place)
         && streams
             .iter_mut()
             .all(|stream| is_answered(stream, &[0xC0, 0], &[0xD0, 0]))
+}
+
+// Whether the client of this letter joins those of the streams.
+fn joins<R>(rt: &R, place: Option<&Place>, letter: u8, streams: &mut Vec<TcpStream>) -> bool
+where
+    R: Net<Stream = TcpStream>,
+{
+    match join(rt, place, letter, false) {
+        Some(stream) => streams.push(stream).is_ok(),
+        None => false,
+    }
 }
 
 // Whether the next connection is closed within two seconds.
@@ -34,35 +66,18 @@ fn is_turned_away<R>(rt: &R, place: Option<&Place>) -> bool
 where
     R: Net<Stream = TcpStream>,
 {
-    let mut room = [0; 1];
     match open(rt, place) {
-        Some(mut stream) => {
-            stream
-                .set_read_timeout(Some(Duration::from_secs(2)))
-                .is_ok()
-                && matches!(stream.read(&mut room), Ok(0))
-        }
+        Some(mut stream) => is_closed(&mut stream),
         None => false,
     }
 }
 
-#[test]
-fn a_thirteenth_client_is_closed(rt: HostRuntime) -> Result<(), Fail> {
-    let answered = beside(&rt, &[1], |_peers, places| {
-        are_twelve_answered(&rt, places.first())
-    })?;
-    assert!(rt; answered);
-    Ok(())
-}
-
-// How many of 200 clients that come one after the other, each once the one before has left, are accepted.
-fn accepted<R>(rt: &R, place: Option<&Place>) -> usize
+/// Whether 200 clients that come one after the other, each once the one before has left, are all accepted.
+pub(super) fn are_all_accepted<R>(rt: &R, place: Option<&Place>) -> bool
 where
     R: Net<Stream = TcpStream>,
 {
-    (0..200u8)
-        .filter(|count| is_accepted(rt, place, b'a' + count % 26))
-        .count()
+    (0..200u8).all(|count| is_accepted(rt, place, b'a' + count % 26))
 }
 
 // Whether the client of this letter, which wants no session, is accepted. Then it leaves.
@@ -76,14 +91,33 @@ where
     }
 }
 
-#[test]
-fn clients_come_and_go(rt: HostRuntime) -> Result<(), Fail> {
-    let count = beside(&rt, &[1], |_peers, places| accepted(&rt, places.first()))?;
-    assert_eq!(rt; count, 200);
-    Ok(())
+// A PUBLISH, and room for what comes of it.
+#[derive(Drop)]
+struct Large {
+    sent: Vec<u8>,
+    room: Vec<u8>,
 }
 
-// A PUBLISH at QoS 0 on `t/1` with 1,000,000 bytes of payload. The 1,000,005 behind its length are 69 + 128 * (4 +
+impl Large {
+    fn new(alloc: Global) -> Result<Large, AllocError> {
+        Ok(Large {
+            sent: large_publish(alloc)?,
+            room: large_publish(alloc)?,
+        })
+    }
+
+    // Whether the PUBLISH, with this last byte, comes to the subscriber as it was sent.
+    fn passes(&mut self, pair: &mut Pair, last: u8) -> bool {
+        if let Some(byte) = self.sent.last_mut() {
+            *byte = last;
+        }
+        pair.speaker.write_all(self.sent.as_slice()).is_ok()
+            && pair.hearer.read_exact(self.room.as_mut_slice()).is_ok()
+            && self.room == self.sent
+    }
+}
+
+// A PUBLISH at QoS 0 on `t/1` with 1,000,000 bytes of payload. The 1,000,005 bytes after its length are 69 + 128 * (4 +
 // 128 * 61).
 fn large_publish(alloc: Global) -> Result<Vec<u8>, AllocError> {
     let mut bytes = Vec::from_elem(alloc, 0u8, 1_000_009)?;
@@ -93,45 +127,31 @@ fn large_publish(alloc: Global) -> Result<Vec<u8>, AllocError> {
     Ok(bytes)
 }
 
-// Whether a subscriber gets 50 MB beside another one that has the same subscription and never reads.
-fn is_heard_beside<R>(rt: &R, place: Option<&Place>) -> bool
+/// Whether a subscriber gets 50 MB beside another one that has the same subscription and never reads.
+pub(super) fn is_heard_beside<R>(rt: &R, place: Option<&Place>) -> bool
 where
     R: AllocGlobal + Net<Stream = TcpStream>,
 {
-    let (Some(mut deaf), Some(mut hearer), Some(mut speaker), Ok(mut sent), Ok(mut room)) = (
-        join(rt, place, b'd', false),
-        join(rt, place, b'h', false),
-        join(rt, place, b's', false),
-        large_publish(rt.alloc()),
-        large_publish(rt.alloc()),
-    ) else {
-        return false;
-    };
-    is_answered(&mut deaf, &SUBSCRIBE, &SUBSCRIBED)
-        && is_answered(&mut hearer, &SUBSCRIBE, &SUBSCRIBED)
-        && (0..50).all(|count| {
-            if let Some(last) = sent.last_mut() {
-                *last = count;
-            }
-            passes(
-                &mut speaker,
-                &mut hearer,
-                sent.as_slice(),
-                room.as_mut_slice(),
-            )
-        })
+    match join(rt, place, b'd', false) {
+        Some(mut deaf) => { is_answered(&mut deaf, &SUBSCRIBE, &SUBSCRIBED) && is_heard(rt, place) }
+        None => false,
+    }
 }
 
-// Whether a PUBLISH comes to its subscriber as it was sent.
-fn passes(speaker: &mut TcpStream, hearer: &mut TcpStream, sent: &[u8], room: &mut [u8]) -> bool {
-    speaker.write_all(sent).is_ok() && hearer.read_exact(room).is_ok() && *room == *sent
+// Whether a subscriber gets 50 MB.
+fn is_heard<R>(rt: &R, place: Option<&Place>) -> bool
+where
+    R: AllocGlobal + Net<Stream = TcpStream>,
+{
+    match Pair::join(rt, place, false) {
+        Some(mut pair) => pair.subscribes() && are_fifty_heard(rt.alloc(), &mut pair),
+        None => false,
+    }
 }
 
-#[test]
-fn a_client_that_never_reads_keeps_nobody_waiting(rt: HostRuntime) -> Result<(), Fail> {
-    let heard = beside(&rt, &[1], |_peers, places| {
-        is_heard_beside(&rt, places.first())
-    })?;
-    assert!(rt; heard);
-    Ok(())
+fn are_fifty_heard(alloc: Global, pair: &mut Pair) -> bool {
+    match Large::new(alloc) {
+        Ok(mut large) => (0..50).all(|count| large.passes(pair, count)),
+        Err(_) => false,
+    }
 }

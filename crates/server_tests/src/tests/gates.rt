@@ -1,17 +1,74 @@
 // Nodes that are held at a gate.
 
-use super::client::{SUBSCRIBE, SUBSCRIBED, is_answered, is_silent, join, publish};
+use super::client::{Pair, is_answered, is_silent, publish};
 use super::heard::Heard;
-use super::nodes::beside_gate;
+use super::nodes::{listen_all, opening};
 use super::visits::visits;
 use node::Gate;
-use server::{NodeReport, Place};
+use server::{NodeReport, Place, serve_gated};
 use std::io::Write;
-use std::net::{Net, TcpStream};
+use std::net::{Net, TcpListener, TcpStream};
 use std::sync::{Mutex, Wait};
-use std::test::Fail;
 use std::thread;
+use std::thread::Threads;
 use std::time::{Clock, Duration};
+
+// A gate, and what is done while nodes ask it.
+trait Watched: Gate {
+    fn attend<R>(&self, rt: &R, place: Option<&Place>) -> bool
+    where
+        R: AllocGlobal + Wait + Clock + Net<Stream = TcpStream>;
+}
+
+// Whether that goes well beside these nodes, the members of ballot 1, of which node 1 is the primary, and each node
+// took what was sent to it.
+fn goes_well<R, G>(rt: &R, members: &[u8], gate: &G) -> bool
+where
+    R: AllocGlobal
+        + Threads
+        + Wait
+        + Clock
+        + Sync
+        + Net<Listener = TcpListener, Stream = TcpStream>,
+    G: Watched + Sync,
+{
+    let mut places = Vec::new(rt.alloc());
+    listen_all(rt, members, &mut places) && serve(rt, members, places.as_slice(), gate)
+}
+
+fn serve<R, G>(rt: &R, members: &[u8], places: &[Place], gate: &G) -> bool
+where
+    R: AllocGlobal + Threads + Wait + Clock + Sync + Net<Stream = TcpStream>,
+    G: Watched + Sync,
+{
+    let Ok(config) = opening(rt.alloc(), members) else {
+        return false;
+    };
+    let served = serve_gated(
+        rt,
+        rt.alloc(),
+        places,
+        &config,
+        gate,
+        |_peers| gate.attend(rt, places.first()),
+    );
+    match served {
+        Ok((went_well, reports)) => went_well && are_through(reports.as_slice(), places.len()),
+        Err(_) => false,
+    }
+}
+
+// Whether each of so many nodes took what was sent to it.
+fn are_through(reports: &[NodeReport], count: usize) -> bool {
+    reports.len() == count && reports.iter().all(|report| is_through(report))
+}
+
+// Whether a node took what was sent to it, and never went on though the gate was shut.
+fn is_through(report: &NodeReport) -> bool {
+    report.report.gate_missed == 0
+        && report.report.left.is_empty()
+        && report.report.taken.iter().any(|count| *count > 0)
+}
 
 // At this gate nodes 1, 2, .. wait for each other: it opens once all are there at the same time.
 #[derive(Drop)]
@@ -62,40 +119,29 @@ impl Gate for Meeting {
     }
 }
 
-// Whether the nodes meet within ten seconds, and client `a` is answered then.
-fn visits_behind<R>(rt: &R, meeting: &Meeting, place: Option<&Place>) -> bool
-where
-    R: Wait + Clock + Net<Stream = TcpStream>,
-{
-    for _ in 0..1_000 {
-        if meeting.has_met(rt) {
-            return visits(rt, place);
+impl Watched for Meeting {
+    // Whether the nodes meet within ten seconds, and client `a` is answered then.
+    fn attend<R>(&self, rt: &R, place: Option<&Place>) -> bool
+    where
+        R: AllocGlobal + Wait + Clock + Net<Stream = TcpStream>,
+    {
+        for _ in 0..1_000 {
+            if self.has_met(rt) {
+                return visits(rt, place);
+            }
+            thread::sleep(rt, Duration::from_millis(10));
         }
-        thread::sleep(rt, Duration::from_millis(10));
+        false
     }
-    false
-}
-
-// Whether a node took what was sent to it, and never went on though the gate was shut.
-fn is_through(report: &NodeReport) -> bool {
-    report.report.gate_missed == 0
-        && report.report.left.is_empty()
-        && report.report.taken.iter().any(|count| *count > 0)
 }
 
 // Were one thread to run all nodes in turn, or a lock round them all be held at the gate, they would not meet.
 #[test]
-fn nodes_run_apart(rt: HostRuntime) -> Result<(), Fail> {
+fn nodes_run_apart(rt: HostRuntime) {
     for members in [[1, 2].as_slice(), [1, 2, 3].as_slice()] {
         let meeting = Meeting::new(members.len());
-        let (answered, reports) = beside_gate(&rt, members, &meeting, |places| {
-            visits_behind(&rt, &meeting, places.first())
-        })?;
-        assert!(rt; answered, "{members:?}");
-        assert_eq!(rt; reports.len(), members.len());
-        assert!(rt; reports.iter().all(|report| is_through(report)));
+        assert!(rt; goes_well(&rt, members, &meeting), "{members:?}");
     }
-    Ok(())
 }
 
 // A gate that is shut for node 3 alone, for a while.
@@ -107,6 +153,21 @@ struct Bar {
 impl Bar {
     fn set<R: Wait>(&self, rt: &R, shut: bool) {
         *self.shut.lock(rt) = shut;
+    }
+
+    // Whether a publication at QoS 2 is answered, and comes to its subscriber, but neither while node 3 is held.
+    fn holds<R: Wait>(&self, rt: &R, pair: &mut Pair, heard: &mut Heard) -> bool {
+        let subscribed = pair.subscribes();
+        self.set(rt, true);
+        let held = pair.speaker.write_all(&publish(0x34, 1, b'x')).is_ok()
+            && is_silent(&mut pair.speaker)
+            && is_silent(&mut pair.hearer);
+        self.set(rt, false);
+        subscribed
+            && held
+            && is_answered(&mut pair.speaker, &[], &[0x50, 2, 0, 1])
+            && heard.answers(&mut pair.hearer)
+            && heard.payloads.as_slice() == [b'x'].as_slice()
     }
 }
 
@@ -122,40 +183,23 @@ impl Gate for Bar {
     fn answered<R: Wait>(&self, _rt: &R, _node: u8, _taking: u64) {}
 }
 
-// Whether a publication at QoS 2 is answered, and comes to its subscriber, but neither while node 3 is held.
-fn waits_for_all<R>(rt: &R, bar: &Bar, place: Option<&Place>) -> bool
-where
-    R: AllocGlobal + Wait + Net<Stream = TcpStream>,
-{
-    let (Some(mut hearer), Some(mut speaker)) = (
-        join(rt, place, b'h', false),
-        join(rt, place, b's', false),
-    ) else {
-        return false;
-    };
-    let mut heard = Heard::new(rt);
-    let subscribed = is_answered(&mut hearer, &SUBSCRIBE, &SUBSCRIBED);
-    bar.set(rt, true);
-    let held = speaker.write_all(&publish(0x34, 1, b'x')).is_ok()
-        && is_silent(&mut speaker)
-        && is_silent(&mut hearer);
-    bar.set(rt, false);
-    subscribed
-        && held
-        && is_answered(&mut speaker, &[], &[0x50, 2, 0, 1])
-        && heard.answers(&mut hearer)
-        && heard.payloads.as_slice() == [b'x'].as_slice()
+impl Watched for Bar {
+    fn attend<R>(&self, rt: &R, place: Option<&Place>) -> bool
+    where
+        R: AllocGlobal + Wait + Clock + Net<Stream = TcpStream>,
+    {
+        let mut heard = Heard::new(rt);
+        match Pair::join(rt, place, false) {
+            Some(mut pair) => self.holds(rt, &mut pair, &mut heard),
+            None => false,
+        }
+    }
 }
 
 #[test]
-fn an_answer_waits_for_all_members(rt: HostRuntime) -> Result<(), Fail> {
+fn an_answer_waits_for_all_members(rt: HostRuntime) {
     let bar = Bar {
         shut: Mutex::new(false),
     };
-    let (waits, reports) = beside_gate(&rt, &[1, 2, 3], &bar, |places| {
-        waits_for_all(&rt, &bar, places.first())
-    })?;
-    assert!(rt; waits);
-    assert!(rt; reports.iter().all(|report| is_through(report)));
-    Ok(())
+    assert!(rt; goes_well(&rt, &[1, 2, 3], &bar));
 }

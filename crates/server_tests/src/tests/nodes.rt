@@ -1,38 +1,51 @@
-// Nodes on free ports of the loopback, and what a test does beside them.
+// Nodes on free ports of the loopback, and the rows that run beside them.
 
-use node::{Config, Gate, Members, Memory};
-use server::{NodeReport, Peers, Place, serve_gated, serve_while};
+use super::row::{Row, Table, holds};
+use node::{Config, Members, Memory};
+use server::{Peers, Place, serve_while};
 use std::alloc::Global;
 use std::net::{Net, TcpListener, TcpStream};
 use std::sync::Wait;
-use std::test::Fail;
 use std::thread;
 use std::thread::Threads;
 use std::time::{Clock, Duration};
 
 /// Ballot 1 of these members, the first of whom is the primary.
-fn opening(alloc: Global, members: &[u8]) -> Result<Config, Memory> {
+pub(super) fn opening(alloc: Global, members: &[u8]) -> Result<Config, Memory> {
     Ok(Config {
         members: Members::from_slice(alloc, members)?,
         primary: 1,
     })
 }
 
-// The places of these nodes, each on a free port.
-fn places<R>(rt: &R, numbers: &[u8]) -> Result<Vec<Place>, Fail>
+/// Adds a place for each of these nodes, on a free port. False where one cannot be had.
+pub(super) fn listen_all<R>(rt: &R, numbers: &[u8], places: &mut Vec<Place>) -> bool
 where
     R: AllocGlobal + Net<Listener = TcpListener, Stream = TcpStream>,
 {
-    let mut places = Vec::new(rt.alloc());
     for number in numbers {
-        let listener = TcpListener::bind(rt, "127.0.0.1:0")?;
-        places.push(Place::new(rt.alloc(), *number, listener)?)?;
+        if !listens(rt, *number, places) {
+            return false;
+        }
     }
-    Ok(places)
+    true
 }
 
-/// What is done beside these nodes, the members of ballot 1, of which node 1 is the primary.
-pub(super) fn beside<R, T, F>(rt: &R, members: &[u8], attend: F) -> Result<T, Fail>
+fn listens<R>(rt: &R, number: u8, places: &mut Vec<Place>) -> bool
+where
+    R: AllocGlobal + Net<Listener = TcpListener, Stream = TcpStream>,
+{
+    let Ok(listener) = TcpListener::bind(rt, "127.0.0.1:0") else {
+        return false;
+    };
+    match Place::new(rt.alloc(), number, listener) {
+        Ok(place) => places.push(place).is_ok(),
+        Err(_) => false,
+    }
+}
+
+/// The first of these tables whose row does not hold, each beside nodes of its own.
+pub(super) fn fault_in<R>(rt: &R, tables: &[Table]) -> Option<&'static str>
 where
     R: AllocGlobal
         + Threads
@@ -40,32 +53,17 @@ where
         + Clock
         + Sync
         + Net<Listener = TcpListener, Stream = TcpStream>,
-    T: Drop,
-    F: FnOnce(&Peers, &[Place]) -> T,
-    requires { F.IsAlwaysCallable attend }
 {
-    let config = opening(rt.alloc(), members)?;
-    let places = places(rt, members)?;
-    let all = places.as_slice();
-    let came = serve_while(
-        rt,
-        rt.alloc(),
-        all,
-        &config,
-        |peers|
-            requires callable { F.IsAlwaysCallable attend }
-        { attend(peers, all) },
-    )?;
-    Ok(came)
+    for table in tables {
+        if !holds_beside(rt, table.members, table.row) {
+            return Some(table.name);
+        }
+    }
+    None
 }
 
-/// The same, where each node asks a gate before it takes an item; and what the nodes tell at the end.
-pub(super) fn beside_gate<R, G, T, F>(
-    rt: &R,
-    members: &[u8],
-    gate: &G,
-    attend: F,
-) -> Result<(T, Vec<NodeReport>), Fail>
+// Whether a row holds beside these nodes, the members of ballot 1, of which node 1 is the primary.
+fn holds_beside<R>(rt: &R, members: &[u8], row: Row) -> bool
 where
     R: AllocGlobal
         + Threads
@@ -73,25 +71,31 @@ where
         + Clock
         + Sync
         + Net<Listener = TcpListener, Stream = TcpStream>,
-    G: Gate + Sync,
-    T: Drop,
-    F: FnOnce(&[Place]) -> T,
-    requires { F.IsAlwaysCallable attend }
 {
-    let config = opening(rt.alloc(), members)?;
-    let places = places(rt, members)?;
-    let all = places.as_slice();
-    let came = serve_gated(
+    let mut places = Vec::new(rt.alloc());
+    listen_all(rt, members, &mut places) && serve(rt, members, places.as_slice(), row)
+}
+
+fn serve<R>(rt: &R, members: &[u8], places: &[Place], row: Row) -> bool
+where
+    R: AllocGlobal
+        + Threads
+        + Wait
+        + Clock
+        + Sync
+        + Net<Listener = TcpListener, Stream = TcpStream>,
+{
+    let Ok(config) = opening(rt.alloc(), members) else {
+        return false;
+    };
+    let held = serve_while(
         rt,
         rt.alloc(),
-        all,
+        places,
         &config,
-        gate,
-        |_peers|
-            requires callable { F.IsAlwaysCallable attend }
-        { attend(all) },
-    )?;
-    Ok(came)
+        |peers| holds(rt, peers, places, row),
+    );
+    held.unwrap_or(false)
 }
 
 /// Whether the next ballot is given to these members, and their primary becomes the active one.

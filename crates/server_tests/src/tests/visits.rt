@@ -14,8 +14,8 @@ const SENT: [u8; 35] = [
 // CONNACK, SUBACK, and PUBREC with the PUBLISH in either order.
 const ANSWERED: usize = 4 + 5 + 4 + 10;
 
-/// Whether these are the CONNACK, the SUBACK, and a PUBREC with the PUBLISH.
-fn are_answers(got: &[u8; ANSWERED]) -> bool {
+// Whether these are the CONNACK, the SUBACK, and a PUBREC with the PUBLISH.
+fn are_answers(got: &[u8]) -> bool {
     got.starts_with([0x20, 2, 0, 0, 0x90, 3, 0, 1, 2].as_slice())
         && got.contains(&0x50)
         && got.contains(&0x34)

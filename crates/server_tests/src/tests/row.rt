@@ -1,0 +1,56 @@
+// Rows: what clients do beside nodes that serve them.
+
+use super::answers::{is_flood_answered, is_silence_ended};
+use super::crowds::{are_all_accepted, are_twelve_answered, is_heard_beside};
+use super::takeovers::{moves, takes_over};
+use super::visits::visits;
+use server::{Peers, Place};
+use std::net::{Net, TcpStream};
+use std::sync::Wait;
+use std::time::Clock;
+
+/// What clients do, and what they are answered.
+#[derive(Clone, Copy)]
+pub(super) enum Row {
+    /// A client that sends all at once is answered.
+    Visits,
+    /// A client with keep alive 1 that falls silent is closed.
+    Silence,
+    /// 32,768 PINGREQ in one write are all answered.
+    Flood,
+    /// Twelve clients are answered, and a thirteenth is closed.
+    Twelve,
+    /// 200 clients, one after the other, are all accepted.
+    ComeAndGo,
+    /// A subscriber gets 50 MB beside another one that never reads.
+    NeverReads,
+    /// A client finds its session at node 2, after a crash of node 1.
+    Moves,
+    /// Node 1 crashes during three handshakes, which end at node 2.
+    TakesOver,
+}
+
+/// A row, and the members of ballot 1 beside which it runs.
+pub(super) struct Table {
+    pub(super) name: &'static str,
+    pub(super) members: &'static [u8],
+    pub(super) row: Row,
+}
+
+/// Whether a row holds beside the nodes of these places.
+pub(super) fn holds<R>(rt: &R, peers: &Peers, places: &[Place], row: Row) -> bool
+where
+    R: AllocGlobal + Wait + Clock + Net<Stream = TcpStream>,
+{
+    let first = places.first();
+    match row {
+        Row::Visits => visits(rt, first),
+        Row::Silence => is_silence_ended(rt, first),
+        Row::Flood => is_flood_answered(rt, first),
+        Row::Twelve => are_twelve_answered(rt, first),
+        Row::ComeAndGo => are_all_accepted(rt, first),
+        Row::NeverReads => is_heard_beside(rt, first),
+        Row::Moves => moves(rt, peers, places),
+        Row::TakesOver => takes_over(rt, peers, places),
+    }
+}
