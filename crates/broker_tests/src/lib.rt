@@ -5,4 +5,6 @@
 #[cfg(test)]
 mod row;
 #[cfg(test)]
+mod story;
+#[cfg(test)]
 mod tests;

@@ -1,4 +1,4 @@
-// Rows: what comes to a broker, and what is to go out for it.
+// Rows: what comes to a broker, and what goes out for it.
 
 use broker::BrokerMachine;
 use broker_model::{Command, ConnectionId, Output, SizedPacket};
@@ -22,37 +22,27 @@ pub(crate) enum Event<'a> {
 /// The bytes that go out on a connection; none where it is closed.
 pub(crate) type Answer<'a> = (u64, &'a [u8]);
 
+/// An event, and what goes out for it.
+pub(crate) type Row<'a> = (Event<'a>, &'a [Answer<'a>]);
+
 /// What goes out where a connection is closed.
 pub(crate) const CLOSED: &[u8] = &[];
 
 /// Nothing goes out.
 pub(crate) const NOTHING: &[Answer<'static>] = &[];
 
-/// A broker that begins.
-pub(crate) fn fresh(alloc: Global) -> Option<BrokerMachine> {
-    BrokerMachine::fresh(alloc).ok()
-}
-
-/// Which event of a row a broker does not answer as wanted, if there is one.
+/// Finds the first row that a broker does not answer as wanted.
 pub(crate) fn other_answer(
     alloc: Global,
     broker: &mut BrokerMachine,
-    row: &[(Event<'_>, &[Answer<'_>])],
+    rows: &[Row<'_>],
 ) -> Option<usize> {
-    for (place, (event, wanted)) in row.iter().enumerate() {
+    for (place, (event, wanted)) in rows.iter().enumerate() {
         if !is_answered(alloc, broker, *event, wanted) {
             return Some(place);
         }
     }
     None
-}
-
-/// Which event of a row a broker that begins does not answer as wanted, if there is one.
-pub(crate) fn first_fault(alloc: Global, row: &[(Event<'_>, &[Answer<'_>])]) -> Option<usize> {
-    match fresh(alloc) {
-        Some(mut broker) => other_answer(alloc, &mut broker, row),
-        None => Some(0),
-    }
 }
 
 /// Whether a broker answers an event as wanted.

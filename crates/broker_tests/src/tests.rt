@@ -1,11 +1,11 @@
 // What a client sees is told by MQTT 3.1.1; each expected byte stands there.
 
 mod connections;
-mod forms;
+pub(crate) mod forms;
 mod handshakes;
 mod memory;
 mod publications;
-mod queues;
-mod random;
+pub(crate) mod queues;
+pub(crate) mod random;
 mod shapes;
-mod windows;
+pub(crate) mod windows;

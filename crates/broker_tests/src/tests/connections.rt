@@ -1,6 +1,7 @@
 // Connections: CONNECT, PINGREQ, UNSUBSCRIBE, and what a client may not send.
 
-use crate::row::{Answer, CLOSED, Event, NOTHING, first_fault};
+use crate::row::{CLOSED, Event, NOTHING, Row};
+use crate::story::{Start, Story, first_fault};
 use std::test::*;
 
 const UNSUBSCRIBE: &[u8] = &[0xA2, 7, 0, 3, 0, 3, 0x74, 0x2F, 0x23];
@@ -11,51 +12,75 @@ const CONNECT: &[u8] = &[
 
 // A session begins on the first connection, and goes on on the second, which closes the first
 // (MQTT 3.1.4, 3.2.2.2).
+const A_SECOND_CONNECTION_TAKES_OVER: &[Row<'static>] = &[
+    (Event::Connect(1, "a", false), &[(1, &[0x20, 2, 0, 0])]),
+    (
+        Event::Connect(2, "a", false),
+        &[(1, CLOSED), (2, &[0x20, 2, 1, 0])],
+    ),
+    (Event::Bytes(1, &[0xC0, 0]), NOTHING),
+];
+
 #[test]
 fn a_second_connection_takes_over(rt: HostRuntime) {
-    let row: [(Event<'static>, &'static [Answer<'static>]); 3] = [
-        (Event::Connect(1, "a", false), &[(1, &[0x20, 2, 0, 0])]),
-        (
-            Event::Connect(2, "a", false),
-            &[(1, CLOSED), (2, &[0x20, 2, 1, 0])],
+    assert_eq!(rt;
+        first_fault(
+            rt.alloc(),
+            Start::Fresh,
+            Story::Rows(A_SECOND_CONNECTION_TAKES_OVER)
         ),
-        (Event::Bytes(1, &[0xC0, 0]), NOTHING),
-    ];
-    assert_eq!(rt; first_fault(rt.alloc(), &row), None);
+        None
+    );
 }
 
 // PINGREQ is answered by PINGRESP, UNSUBSCRIBE by UNSUBACK with or without the subscription, and a
 // second CONNECT closes the connection (MQTT 3.1.0, 3.10.4, 3.12.4).
+const PING_UNSUBSCRIBE_AND_VIOLATIONS: &[Row<'static>] = &[
+    (Event::Connect(2, "b", false), &[(2, &[0x20, 2, 0, 0])]),
+    (Event::Bytes(2, &[0xC0, 0]), &[(2, &[0xD0, 0])]),
+    (Event::Bytes(2, UNSUBSCRIBE), &[(2, &[0xB0, 2, 0, 3])]),
+    (
+        Event::Bytes(2, &[0x82, 8, 0, 1, 0, 3, 0x74, 0x2F, 0x23, 2]),
+        &[(2, &[0x90, 3, 0, 1, 2])],
+    ),
+    (Event::Bytes(2, UNSUBSCRIBE), &[(2, &[0xB0, 2, 0, 3])]),
+    (Event::Bytes(2, CONNECT), &[(2, CLOSED)]),
+    (Event::Bytes(2, &[0xC0, 0]), NOTHING),
+    (Event::Connect(3, "b", false), &[(3, &[0x20, 2, 1, 0])]),
+];
+
 #[test]
 fn ping_unsubscribe_and_violations(rt: HostRuntime) {
-    let row: [(Event<'static>, &'static [Answer<'static>]); 8] = [
-        (Event::Connect(2, "b", false), &[(2, &[0x20, 2, 0, 0])]),
-        (Event::Bytes(2, &[0xC0, 0]), &[(2, &[0xD0, 0])]),
-        (Event::Bytes(2, UNSUBSCRIBE), &[(2, &[0xB0, 2, 0, 3])]),
-        (
-            Event::Bytes(2, &[0x82, 8, 0, 1, 0, 3, 0x74, 0x2F, 0x23, 2]),
-            &[(2, &[0x90, 3, 0, 1, 2])],
+    assert_eq!(rt;
+        first_fault(
+            rt.alloc(),
+            Start::Fresh,
+            Story::Rows(PING_UNSUBSCRIBE_AND_VIOLATIONS)
         ),
-        (Event::Bytes(2, UNSUBSCRIBE), &[(2, &[0xB0, 2, 0, 3])]),
-        (Event::Bytes(2, CONNECT), &[(2, CLOSED)]),
-        (Event::Bytes(2, &[0xC0, 0]), NOTHING),
-        (Event::Connect(3, "b", false), &[(3, &[0x20, 2, 1, 0])]),
-    ];
-    assert_eq!(rt; first_fault(rt.alloc(), &row), None);
+        None
+    );
 }
 
 // A clean session ends with its connection, and each with a Start (MQTT 3.1.2.4): the session that is
 // not clean is found again.
+const SESSIONS_END_AND_GO_ON: &[Row<'static>] = &[
+    (Event::Connect(1, "a", true), &[(1, &[0x20, 2, 0, 0])]),
+    (Event::Lost(1), NOTHING),
+    (Event::Connect(2, "a", false), &[(2, &[0x20, 2, 0, 0])]),
+    (Event::Connect(3, "b", true), &[(3, &[0x20, 2, 0, 0])]),
+    (Event::Start(2), NOTHING),
+    (Event::Connect(4, "a", false), &[(4, &[0x20, 2, 1, 0])]),
+    (Event::Connect(5, "b", false), &[(5, &[0x20, 2, 0, 0])]),
+];
+
 #[test]
 fn sessions_end_and_go_on(rt: HostRuntime) {
-    let row: [(Event<'static>, &'static [Answer<'static>]); 7] = [
-        (Event::Connect(1, "a", true), &[(1, &[0x20, 2, 0, 0])]),
-        (Event::Lost(1), NOTHING),
-        (Event::Connect(2, "a", false), &[(2, &[0x20, 2, 0, 0])]),
-        (Event::Connect(3, "b", true), &[(3, &[0x20, 2, 0, 0])]),
-        (Event::Start(2), NOTHING),
-        (Event::Connect(4, "a", false), &[(4, &[0x20, 2, 1, 0])]),
-        (Event::Connect(5, "b", false), &[(5, &[0x20, 2, 0, 0])]),
-    ];
-    assert_eq!(rt; first_fault(rt.alloc(), &row), None);
+    assert_eq!(rt;
+        first_fault(
+            rt.alloc(),
+            Start::Fresh,
+            Story::Rows(SESSIONS_END_AND_GO_ON)
+        ),
+        None
+    );
 }

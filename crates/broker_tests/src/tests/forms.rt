@@ -1,9 +1,10 @@
 // Frozen brokers: each expected byte is written by hand from the description of form 1.
 
 use super::handshakes::{PUBLISH, SUBSCRIBE};
-use crate::row::{Answer, CLOSED, Event, fresh, is_answered, other_answer};
+use crate::row::{Answer, CLOSED, Event, Row, is_answered};
+use crate::story::{Start, Story, first_fault};
 use broker::BrokerMachine;
-use machine::{Machine, ThawFault};
+use machine::Machine;
 use std::alloc::Global;
 use std::test::*;
 
@@ -32,20 +33,9 @@ pub(crate) fn is_frozen(broker: &BrokerMachine, bytes: &mut Vec<u8>) -> bool {
     broker.freeze(bytes).is_ok()
 }
 
-pub(crate) fn thawed(alloc: Global, bytes: &[u8]) -> Result<BrokerMachine, ThawFault> {
-    BrokerMachine::thaw(alloc, bytes)
-}
-
-fn has_bytes(alloc: Global, broker: &BrokerMachine, wanted: &[u8]) -> bool {
+pub(crate) fn has_bytes(alloc: Global, broker: &BrokerMachine, wanted: &[u8]) -> bool {
     let mut bytes = Vec::new(alloc);
     is_frozen(broker, &mut bytes) && bytes.as_slice() == wanted
-}
-
-fn is_thawed_again(alloc: Global, bytes: &[u8]) -> bool {
-    match thawed(alloc, bytes) {
-        Ok(broker) => has_bytes(alloc, &broker, bytes),
-        Err(_) => false,
-    }
 }
 
 /// What comes to a broker, what goes out for it, and the bytes that the broker has then, if they are
@@ -87,26 +77,32 @@ fn other_bytes(alloc: Global, broker: &mut BrokerMachine, steps: &[Step<'_>]) ->
     None
 }
 
-/// Whether a broker begins with its bytes, and has those of each step behind it.
-fn has_forms(alloc: Global) -> bool {
-    match fresh(alloc) {
-        Some(mut broker) => {
-            has_bytes(alloc, &broker, FRESH) && other_bytes(alloc, &mut broker, STEPS).is_none()
-        }
-        None => false,
+/// Finds the first step at which a broker that begins has other bytes, or answers in another way.
+pub(crate) fn other_form(alloc: Global, broker: &mut BrokerMachine) -> Option<usize> {
+    if !has_bytes(alloc, broker, FRESH) {
+        return Some(0);
     }
+    other_bytes(alloc, broker, STEPS)
+}
+
+/// Finds what is wrong with the broker that these bytes stand for, if it is not frozen to them again.
+fn other_again(alloc: Global, bytes: &[u8]) -> Option<usize> {
+    first_fault(alloc, Start::Thawed(bytes), Story::HasBytes(bytes))
 }
 
 #[test]
 fn frozen_forms(rt: HostRuntime) {
-    assert!(rt; has_forms(rt.alloc()));
-    assert!(rt; is_thawed_again(rt.alloc(), FRESH));
-    assert!(rt; is_thawed_again(rt.alloc(), ONE_SESSION));
-    assert!(rt; is_thawed_again(rt.alloc(), ONE_ENTRY));
+    assert_eq!(rt;
+        first_fault(rt.alloc(), Start::Fresh, Story::HasForms),
+        None
+    );
+    assert_eq!(rt; other_again(rt.alloc(), FRESH), None);
+    assert_eq!(rt; other_again(rt.alloc(), ONE_SESSION), None);
+    assert_eq!(rt; other_again(rt.alloc(), ONE_ENTRY), None);
 }
 
 // The repeat is known, and the client that comes back is sent its entry again.
-const GOES_ON: &[(Event<'static>, &[Answer<'static>])] = &[
+const GOES_ON: &[Row<'static>] = &[
     (
         Event::Bytes(1, &[0x3D, 8, 0, 3, 0x74, 0x2F, 0x31, 0, 1, 0x78]),
         &[(1, &[0x50, 2, 0, 1])],
@@ -121,16 +117,11 @@ const GOES_ON: &[(Event<'static>, &[Answer<'static>])] = &[
     ),
 ];
 
-/// Which event of a row the broker that these bytes stand for does not answer as wanted.
-fn thawed_fault(alloc: Global, bytes: &[u8]) -> Option<usize> {
-    match thawed(alloc, bytes) {
-        Ok(mut broker) => other_answer(alloc, &mut broker, GOES_ON),
-        Err(_) => Some(0),
-    }
-}
-
 // A thawed broker goes on where the frozen one was.
 #[test]
 fn a_thawed_broker_goes_on(rt: HostRuntime) {
-    assert_eq!(rt; thawed_fault(rt.alloc(), ONE_ENTRY), None);
+    assert_eq!(rt;
+        first_fault(rt.alloc(), Start::Thawed(ONE_ENTRY), Story::Rows(GOES_ON)),
+        None
+    );
 }

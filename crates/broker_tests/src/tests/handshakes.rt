@@ -1,6 +1,7 @@
 // A publication at QoS 2 on its way from one client to another (MQTT 4.3.3).
 
-use crate::row::{Answer, Event, first_fault};
+use crate::row::{Event, Row};
+use crate::story::{Start, Story, first_fault};
 use std::test::*;
 
 /// PUBLISH of `x` on `t/1` at QoS 2 with identifier 1.
@@ -17,19 +18,27 @@ pub(crate) const BEGINS: &[u8] = &[0x20, 2, 0, 0];
 
 // SUBACK says the QoS that is granted; the publication is received once, another try is answered and
 // not delivered, and PUBREL is answered each time.
+const PUBLISH_REACHES_THE_SUBSCRIBER_ONCE: &[Row<'static>] = &[
+    (Event::Connect(1, "a", false), &[(1, BEGINS)]),
+    (Event::Connect(2, "b", false), &[(2, BEGINS)]),
+    (Event::Bytes(2, SUBSCRIBE), &[(2, &[0x90, 3, 0, 1, 2])]),
+    (
+        Event::Bytes(1, PUBLISH),
+        &[(1, &[0x50, 2, 0, 1]), (2, PUBLISH)],
+    ),
+    (Event::Bytes(1, AGAIN), &[(1, &[0x50, 2, 0, 1])]),
+    (Event::Bytes(1, &[0x62, 2, 0, 1]), &[(1, &[0x70, 2, 0, 1])]),
+    (Event::Bytes(1, &[0x62, 2, 0, 1]), &[(1, &[0x70, 2, 0, 1])]),
+];
+
 #[test]
 fn publish_reaches_the_subscriber_once(rt: HostRuntime) {
-    let row: [(Event<'static>, &'static [Answer<'static>]); 7] = [
-        (Event::Connect(1, "a", false), &[(1, BEGINS)]),
-        (Event::Connect(2, "b", false), &[(2, BEGINS)]),
-        (Event::Bytes(2, SUBSCRIBE), &[(2, &[0x90, 3, 0, 1, 2])]),
-        (
-            Event::Bytes(1, PUBLISH),
-            &[(1, &[0x50, 2, 0, 1]), (2, PUBLISH)],
+    assert_eq!(rt;
+        first_fault(
+            rt.alloc(),
+            Start::Fresh,
+            Story::Rows(PUBLISH_REACHES_THE_SUBSCRIBER_ONCE)
         ),
-        (Event::Bytes(1, AGAIN), &[(1, &[0x50, 2, 0, 1])]),
-        (Event::Bytes(1, &[0x62, 2, 0, 1]), &[(1, &[0x70, 2, 0, 1])]),
-        (Event::Bytes(1, &[0x62, 2, 0, 1]), &[(1, &[0x70, 2, 0, 1])]),
-    ];
-    assert_eq!(rt; first_fault(rt.alloc(), &row), None);
+        None
+    );
 }

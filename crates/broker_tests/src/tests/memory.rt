@@ -1,11 +1,11 @@
-// Memory that is refused. Run with each allocation failing in turn: a call says that memory was
-// wanting or answers as it does with memory, and what it was to append to is as it was.
+// Memory that is refused. Run with each allocation failing in turn: a call reports that it
+// is out of memory or answers as it does with memory, and what it was to append to is as it was.
 
-use super::forms::{ONE_ENTRY, ONE_SESSION, RETAINED, is_frozen, thawed};
+use super::forms::{ONE_ENTRY, ONE_SESSION, RETAINED, is_frozen};
 use super::handshakes::SUBSCRIBE;
 use crate::row::{Event, is_given};
 use broker::BrokerMachine;
-use machine::ThawFault;
+use machine::{Machine, ThawFault};
 use std::alloc::Global;
 use std::test::*;
 
@@ -17,7 +17,7 @@ enum Outcome {
     Wrong,
 }
 
-/// The client's packet, done behind one output; with memory as many stand there as wanted.
+/// The client's packet, done after one output; with memory as many stand there as wanted.
 fn outcome_of(alloc: Global, broker: &mut BrokerMachine, packet: &[u8], wanted: usize) -> Outcome {
     let mut out = Vec::new(alloc);
     if !is_given(alloc, broker, Event::Bytes(1, &[0xC0, 0]), &mut out) {
@@ -48,7 +48,7 @@ fn outcome_of_two(alloc: Global, broker: &mut BrokerMachine, bytes: &mut Vec<u8>
 
 /// A broker that is thawed, does two commands, and is frozen.
 fn outcome_of_all(alloc: Global, bytes: &mut Vec<u8>) -> Outcome {
-    match thawed(alloc, ONE_SESSION) {
+    match BrokerMachine::thaw(alloc, ONE_SESSION) {
         Ok(mut broker) => outcome_of_two(alloc, &mut broker, bytes),
         Err(ThawFault::Memory) => Outcome::NoMemory,
         Err(ThawFault::Shape) => Outcome::Wrong,

@@ -1,40 +1,139 @@
 // What a session keeps for its client (MQTT 4.4, 4.6).
 
 use super::handshakes::{AGAIN, BEGINS, PUBLISH, SUBSCRIBE};
-use crate::row::{CLOSED, Event, fresh, is_answered};
+use crate::row::{CLOSED, Event, NOTHING, Row, other_answer};
+use crate::story::{Start, Story, first_fault};
 use broker::BrokerMachine;
 use std::alloc::Global;
+use std::test::*;
 
 /// CONNACK of a session that goes on.
 pub(crate) const GOES_ON: &[u8] = &[0x20, 2, 1, 0];
 
-/// PUBLISH of one byte on `t/1` with this first byte and identifier.
-pub(crate) fn publish(first: u8, id: u8, payload: u8) -> [u8; 10] {
-    [first, 8, 0, 3, 0x74, 0x2F, 0x31, 0, id, payload]
-}
+/// Rows, and how many times they come.
+pub(crate) type Part<'a> = (u32, &'a [Row<'a>]);
 
-/// Client `a` publishes `x` at QoS 1 with this identifier; `b` is sent it, or not yet.
-pub(crate) fn is_routed(alloc: Global, broker: &mut BrokerMachine, id: u8, sent: bool) -> bool {
-    let packet = publish(0x32, id, 0x78);
-    let puback = [0x40, 2, 0, id];
-    let event = Event::Bytes(1, &packet);
-    if sent {
-        is_answered(alloc, broker, event, &[(1, &puback), (2, &packet)])
-    } else {
-        is_answered(alloc, broker, event, &[(1, &puback)])
+/// The publisher `a` and the subscriber `b` come, and `b` goes.
+const BEFORE: &[Row<'static>] = &[
+    (Event::Connect(1, "a", false), &[(1, BEGINS)]),
+    (Event::Connect(2, "b", false), &[(2, BEGINS)]),
+    (Event::Bytes(2, SUBSCRIBE), &[(2, &[0x90, 3, 0, 1, 2])]),
+    (Event::Lost(2), NOTHING),
+];
+
+/// `a` publishes `x` at QoS 1 with identifier 9, which `b` is not sent yet.
+const WAITS: &[Row<'static>] = &[(
+    Event::Bytes(1, &[0x32, 8, 0, 3, 0x74, 0x2F, 0x31, 0, 9, 0x78]),
+    &[(1, &[0x40, 2, 0, 9])],
+)];
+
+/// The last place is taken, and then there is none.
+const REFUSED: &[Row<'static>] = &[
+    (Event::Bytes(1, PUBLISH), &[(1, &[0x50, 2, 0, 1])]),
+    (
+        Event::Bytes(1, &[0x34, 8, 0, 3, 0x74, 0x2F, 0x31, 0, 2, 0x79]),
+        &[(1, CLOSED)],
+    ),
+    (
+        Event::Bytes(1, &[0x34, 8, 0, 3, 0x74, 0x2F, 0x31, 0, 3, 0x7A]),
+        NOTHING,
+    ),
+];
+
+/// The subscriber comes back, and the first sixteen entries are sent.
+const COMES_BACK: &[Row<'static>] = &[(
+    Event::Connect(3, "b", false),
+    &[
+        (3, GOES_ON),
+        (3, &[0x32, 8, 0, 3, 0x74, 0x2F, 0x31, 0, 1, 0x78]),
+        (3, &[0x32, 8, 0, 3, 0x74, 0x2F, 0x31, 0, 2, 0x78]),
+        (3, &[0x32, 8, 0, 3, 0x74, 0x2F, 0x31, 0, 3, 0x78]),
+        (3, &[0x32, 8, 0, 3, 0x74, 0x2F, 0x31, 0, 4, 0x78]),
+        (3, &[0x32, 8, 0, 3, 0x74, 0x2F, 0x31, 0, 5, 0x78]),
+        (3, &[0x32, 8, 0, 3, 0x74, 0x2F, 0x31, 0, 6, 0x78]),
+        (3, &[0x32, 8, 0, 3, 0x74, 0x2F, 0x31, 0, 7, 0x78]),
+        (3, &[0x32, 8, 0, 3, 0x74, 0x2F, 0x31, 0, 8, 0x78]),
+        (3, &[0x32, 8, 0, 3, 0x74, 0x2F, 0x31, 0, 9, 0x78]),
+        (3, &[0x32, 8, 0, 3, 0x74, 0x2F, 0x31, 0, 10, 0x78]),
+        (3, &[0x32, 8, 0, 3, 0x74, 0x2F, 0x31, 0, 11, 0x78]),
+        (3, &[0x32, 8, 0, 3, 0x74, 0x2F, 0x31, 0, 12, 0x78]),
+        (3, &[0x32, 8, 0, 3, 0x74, 0x2F, 0x31, 0, 13, 0x78]),
+        (3, &[0x32, 8, 0, 3, 0x74, 0x2F, 0x31, 0, 14, 0x78]),
+        (3, &[0x32, 8, 0, 3, 0x74, 0x2F, 0x31, 0, 15, 0x78]),
+        (3, &[0x32, 8, 0, 3, 0x74, 0x2F, 0x31, 0, 16, 0x78]),
+    ],
+)];
+
+/// It finishes an entry of QoS 1, and is sent the next one of QoS 1.
+const FINISHES: &[Row<'static>] = &[(
+    Event::Bytes(3, &[0x40, 2, 0, 1]),
+    &[(3, &[0x32, 8, 0, 3, 0x74, 0x2F, 0x31, 0, 1, 0x78])],
+)];
+
+/// The publisher sends all three again.
+const SENDS_AGAIN: &[Row<'static>] = &[
+    (Event::Connect(4, "a", false), &[(4, GOES_ON)]),
+    (Event::Bytes(4, AGAIN), &[(4, &[0x50, 2, 0, 1])]),
+    (
+        Event::Bytes(4, &[0x3C, 8, 0, 3, 0x74, 0x2F, 0x31, 0, 2, 0x79]),
+        &[(4, &[0x50, 2, 0, 2])],
+    ),
+    (
+        Event::Bytes(4, &[0x3C, 8, 0, 3, 0x74, 0x2F, 0x31, 0, 3, 0x7A]),
+        &[(4, &[0x50, 2, 0, 3])],
+    ),
+];
+
+/// After the entries of QoS 1 come `x`, `y` and `z` at QoS 2.
+const LAST: &[Row<'static>] = &[
+    (Event::Bytes(3, &[0x40, 2, 0, 1]), &[(3, PUBLISH)]),
+    (
+        Event::Bytes(3, &[0x40, 2, 0, 2]),
+        &[(3, &[0x34, 8, 0, 3, 0x74, 0x2F, 0x31, 0, 2, 0x79])],
+    ),
+    (
+        Event::Bytes(3, &[0x40, 2, 0, 3]),
+        &[(3, &[0x34, 8, 0, 3, 0x74, 0x2F, 0x31, 0, 3, 0x7A])],
+    ),
+    (Event::Bytes(3, &[0x40, 2, 0, 4]), NOTHING),
+];
+
+/// All places but one are taken by 4,095 entries of QoS 1. Of these 4,093 are left once there is room for
+/// `y` and `z`, sixteen of them sent, so 4,077 are to follow.
+const FULL: &[Part<'static>] = &[
+    (1, BEFORE),
+    (4095, WAITS),
+    (1, REFUSED),
+    (1, COMES_BACK),
+    (2, FINISHES),
+    (1, SENDS_AGAIN),
+    (4077, FINISHES),
+    (1, LAST),
+];
+
+// Whether a broker answers rows as wanted, as many times as they come.
+fn is_part_answered(alloc: Global, broker: &mut BrokerMachine, part: Part<'_>) -> bool {
+    let (times, rows) = part;
+    for _ in 0..times {
+        if other_answer(alloc, broker, rows).is_some() {
+            return false;
+        }
     }
+    true
 }
 
-pub(crate) fn is_connected(alloc: Global, broker: &mut BrokerMachine, qos: u8) -> bool {
-    let subscribe = [0x82, 8, 0, 1, 0, 3, 0x74, 0x2F, 0x23, qos];
-    is_answered(alloc, broker, Event::Connect(1, "a", false), &[(1, BEGINS)])
-        && is_answered(alloc, broker, Event::Connect(2, "b", false), &[(2, BEGINS)])
-        && is_answered(
-            alloc,
-            broker,
-            Event::Bytes(2, &subscribe),
-            &[(2, &[0x90, 3, 0, 1, qos])],
-        )
+/// Finds the first part that a broker does not answer as wanted.
+pub(crate) fn other_part(
+    alloc: Global,
+    broker: &mut BrokerMachine,
+    parts: &[Part<'_>],
+) -> Option<usize> {
+    for (place, part) in parts.iter().enumerate() {
+        if !is_part_answered(alloc, broker, *part) {
+            return Some(place);
+        }
+    }
+    None
 }
 
 // A queue of 4,096 entries is full. The publication for which there is no room closes its
@@ -42,134 +141,8 @@ pub(crate) fn is_connected(alloc: Global, broker: &mut BrokerMachine, qos: u8) -
 // order.
 #[test]
 fn a_full_queue_keeps_the_order(rt: HostRuntime) {
-    assert!(rt; goes(rt.alloc(), Story::IsFull));
-}
-
-/// What a broker that begins is to go through.
-#[derive(Clone, Copy)]
-pub(crate) enum Story {
-    /// A queue is full, and keeps the order.
-    IsFull,
-    /// A PUBACK frees its identifier.
-    FreesItsIdentifier,
-}
-
-/// Whether a broker that begins goes through a story. It is made here and lent from here.
-pub(crate) fn goes(alloc: Global, story: Story) -> bool {
-    match fresh(alloc) {
-        Some(mut broker) => is_told(alloc, &mut broker, story),
-        None => false,
-    }
-}
-
-fn is_told(alloc: Global, broker: &mut BrokerMachine, story: Story) -> bool {
-    match story {
-        Story::IsFull => keeps_the_order(alloc, broker),
-        Story::FreesItsIdentifier => super::windows::frees_its_identifier(alloc, broker),
-    }
-}
-
-fn keeps_the_order(alloc: Global, broker: &mut BrokerMachine) -> bool {
-    is_connected(alloc, broker, 2)
-        && is_answered(alloc, broker, Event::Lost(2), &[])
-        && is_filled(alloc, broker)
-        && is_refused_when_full(alloc, broker)
-        && takes_up_again(alloc, broker)
-        && ends_in_order(alloc, broker)
-}
-
-// All places but one are taken.
-fn is_filled(alloc: Global, broker: &mut BrokerMachine) -> bool {
-    for _ in 0..4095 {
-        if !is_routed(alloc, broker, 9, false) {
-            return false;
-        }
-    }
-    true
-}
-
-// The last place is taken, and then there is none.
-fn is_refused_when_full(alloc: Global, broker: &mut BrokerMachine) -> bool {
-    let second = publish(0x34, 2, 0x79);
-    let third = publish(0x34, 3, 0x7A);
-    is_answered(
-        alloc,
-        broker,
-        Event::Bytes(1, PUBLISH),
-        &[(1, &[0x50, 2, 0, 1])],
-    ) && is_answered(alloc, broker, Event::Bytes(1, &second), &[(1, CLOSED)])
-        && is_answered(alloc, broker, Event::Bytes(1, &third), &[])
-}
-
-// The subscriber comes back and finishes two entries; then the publisher sends all three again.
-fn takes_up_again(alloc: Global, broker: &mut BrokerMachine) -> bool {
-    let second = publish(0x3C, 2, 0x79);
-    let third = publish(0x3C, 3, 0x7A);
-    comes_back(alloc, broker)
-        && finishes(alloc, broker, 1, 0x78)
-        && finishes(alloc, broker, 1, 0x78)
-        && is_answered(
-            alloc,
-            broker,
-            Event::Connect(4, "a", false),
-            &[(4, GOES_ON)],
-        )
-        && is_answered(
-            alloc,
-            broker,
-            Event::Bytes(4, AGAIN),
-            &[(4, &[0x50, 2, 0, 1])],
-        )
-        && is_answered(
-            alloc,
-            broker,
-            Event::Bytes(4, &second),
-            &[(4, &[0x50, 2, 0, 2])],
-        )
-        && is_answered(
-            alloc,
-            broker,
-            Event::Bytes(4, &third),
-            &[(4, &[0x50, 2, 0, 3])],
-        )
-}
-
-// The first sixteen entries are sent.
-fn comes_back(alloc: Global, broker: &mut BrokerMachine) -> bool {
-    let order = [1, 2, 3, 4, 5, 6, 7, 8, 9, 10, 11, 12, 13, 14, 15, 16];
-    let first = order.map(|id| publish(0x32, id, 0x78));
-    let mut wanted = [(3, GOES_ON); 17];
-    for place in 0..16 {
-        wanted[place + 1] = (3, first[place].as_slice());
-    }
-    is_answered(alloc, broker, Event::Connect(3, "b", false), &wanted)
-}
-
-// The subscriber finishes an entry of QoS 1, and is sent the next one of QoS 1.
-fn finishes(alloc: Global, broker: &mut BrokerMachine, id: u8, payload: u8) -> bool {
-    let puback = [0x40, 2, 0, id];
-    let next = publish(0x32, id, payload);
-    is_answered(alloc, broker, Event::Bytes(3, &puback), &[(3, &next)])
-}
-
-// 4,093 entries of QoS 1 are left, sixteen of them sent; behind them come `x`, `y` and `z` at QoS 2.
-fn ends_in_order(alloc: Global, broker: &mut BrokerMachine) -> bool {
-    for _ in 0..4077 {
-        if !finishes(alloc, broker, 1, 0x78) {
-            return false;
-        }
-    }
-    let last = [
-        publish(0x34, 1, 0x78),
-        publish(0x34, 2, 0x79),
-        publish(0x34, 3, 0x7A),
-    ];
-    for place in 0..3 {
-        let id = [1, 2, 3][place];
-        let wanted = [(3, last[place].as_slice())];
-        if !is_answered(alloc, broker, Event::Bytes(3, &[0x40, 2, 0, id]), &wanted) {
-            return false;
-        }
-    }
-    is_answered(alloc, broker, Event::Bytes(3, &[0x40, 2, 0, 4]), &[])
+    assert_eq!(rt;
+        first_fault(rt.alloc(), Start::Fresh, Story::Parts(FULL)),
+        None
+    );
 }

@@ -1,12 +1,14 @@
 // A long list of commands by a fixed rule.
 
-use crate::row::{Event, fresh, is_given};
+use super::forms::has_bytes;
+use crate::row::{Event, is_given};
+use crate::story::{Start, Story, first_fault, fresh};
 use broker::BrokerMachine;
 use machine::Machine;
 use std::alloc::Global;
 use std::test::*;
 
-/// How many commands, and behind how many of them the broker is frozen and thawed.
+/// How many commands, and after how many of them the broker is frozen and thawed.
 const COMMANDS: u64 = 20_000;
 
 const FROZEN: u64 = 1_000;
@@ -29,7 +31,7 @@ impl Numbers {
 
 const CLIENTS: [&str; 4] = ["a", "b", "c", "d"];
 
-/// The bytes of a packet; what stands behind them is not read.
+/// The bytes of a packet; what comes after them is not read.
 fn packet_of(numbers: &mut Numbers) -> [u8; 10] {
     let id = (numbers.next() % 4) as u8 + 1;
     let qos = (numbers.next() % 3) as u8;
@@ -61,12 +63,6 @@ fn answer_alike(
     is_given(alloc, one, event, &mut here)
         && is_given(alloc, other, event, &mut there)
         && here.as_slice() == there.as_slice()
-}
-
-/// Whether a broker is frozen to these bytes.
-fn has_bytes(alloc: Global, broker: &BrokerMachine, wanted: &[u8]) -> bool {
-    let mut bytes = Vec::new(alloc);
-    broker.freeze(&mut bytes).is_ok() && bytes.as_slice() == wanted
 }
 
 /// Puts the broker that the bytes stand for in the place of one, and tells whether there is such a
@@ -126,34 +122,30 @@ fn other_answer(
     alloc: Global,
     whole: &mut BrokerMachine,
     thawed: &mut BrokerMachine,
-) -> Option<u64> {
+) -> Option<usize> {
     let mut numbers = Numbers { state: 17 };
     let mut last = [1; 4];
     for count in 1..=COMMANDS {
         if !is_next_alike(alloc, whole, thawed, &mut numbers, count, &mut last) {
-            return Some(count);
+            return Some(count as usize);
         }
     }
     None
 }
 
 /// The first command that a broker and one that is frozen and thawed answer otherwise.
-fn first_fault(alloc: Global, whole: &mut BrokerMachine) -> Option<u64> {
+pub(crate) fn first_difference(alloc: Global, whole: &mut BrokerMachine) -> Option<usize> {
     match fresh(alloc) {
         Some(mut thawed) => other_answer(alloc, whole, &mut thawed),
         None => Some(0),
     }
 }
 
-fn first_difference(alloc: Global) -> Option<u64> {
-    match fresh(alloc) {
-        Some(mut whole) => first_fault(alloc, &mut whole),
-        None => Some(0),
-    }
-}
-
-// A broker that is frozen and thawed behind each of the first commands answers as one that is not.
+// A broker that is frozen and thawed after each of the first commands answers as one that is not.
 #[test]
 fn a_long_list_of_commands(rt: HostRuntime) {
-    assert_eq!(rt; first_difference(rt.alloc()), None);
+    assert_eq!(rt;
+        first_fault(rt.alloc(), Start::Fresh, Story::AnswersAlike),
+        None
+    );
 }

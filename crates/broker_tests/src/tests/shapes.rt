@@ -1,7 +1,8 @@
 // Bytes that are not of form 1 are refused.
 
-use super::forms::{ONE_ENTRY, thawed};
-use machine::ThawFault;
+use super::forms::ONE_ENTRY;
+use broker::BrokerMachine;
+use machine::{Machine, ThawFault};
 use std::alloc::Global;
 use std::test::*;
 
@@ -42,10 +43,7 @@ const ONE_CONNECTION: &[u8] = &[
 ];
 
 fn is_refused(alloc: Global, bytes: &[u8]) -> bool {
-    match thawed(alloc, bytes) {
-        Ok(_) => false,
-        Err(fault) => fault == ThawFault::Shape,
-    }
+    BrokerMachine::thaw(alloc, bytes).err() == Some(ThawFault::Shape)
 }
 
 /// Puts another byte at a place of bytes, and tells whether there is such a place.

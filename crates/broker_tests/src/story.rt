@@ -1,0 +1,69 @@
+// Stories: what a broker goes through. Each is made in one place, and lent from there.
+
+use crate::row::{Row, other_answer};
+use crate::tests::queues::{Part, other_part};
+use crate::tests::{forms, random, windows};
+use broker::BrokerMachine;
+use machine::Machine;
+use std::alloc::Global;
+
+/// The broker with which a story begins.
+#[derive(Clone, Copy)]
+pub(crate) enum Start<'a> {
+    Fresh,
+    /// The one that these bytes stand for.
+    Thawed(&'a [u8]),
+}
+
+/// What a broker goes through.
+#[derive(Clone, Copy)]
+pub(crate) enum Story<'a> {
+    /// It answers these rows.
+    Rows(&'a [Row<'a>]),
+    /// It is frozen to these bytes.
+    HasBytes(&'a [u8]),
+    /// It has the bytes of each step.
+    HasForms,
+    /// It answers these rows, as many times as they come.
+    Parts(&'a [Part<'a>]),
+    /// A PUBACK frees its identifier.
+    FreesItsIdentifier,
+    /// It answers a long list of commands as one that is frozen and thawed.
+    AnswersAlike,
+}
+
+/// A broker that begins, if there is memory.
+pub(crate) fn fresh(alloc: Global) -> Option<BrokerMachine> {
+    BrokerMachine::fresh(alloc).ok()
+}
+
+fn started(alloc: Global, start: Start<'_>) -> Option<BrokerMachine> {
+    match start {
+        Start::Fresh => fresh(alloc),
+        Start::Thawed(bytes) => BrokerMachine::thaw(alloc, bytes).ok(),
+    }
+}
+
+// A fault of a story that is one step.
+fn fault_unless(is_right: bool) -> Option<usize> {
+    if is_right { None } else { Some(0) }
+}
+
+fn fault_of(alloc: Global, broker: &mut BrokerMachine, story: Story<'_>) -> Option<usize> {
+    match story {
+        Story::Rows(rows) => other_answer(alloc, broker, rows),
+        Story::HasBytes(bytes) => fault_unless(forms::has_bytes(alloc, broker, bytes)),
+        Story::HasForms => forms::other_form(alloc, broker),
+        Story::Parts(parts) => other_part(alloc, broker, parts),
+        Story::FreesItsIdentifier => fault_unless(windows::frees_its_identifier(alloc, broker)),
+        Story::AnswersAlike => random::first_difference(alloc, broker),
+    }
+}
+
+/// Finds the first step at which a broker goes through a story in another way.
+pub(crate) fn first_fault(alloc: Global, start: Start<'_>, story: Story<'_>) -> Option<usize> {
+    match started(alloc, start) {
+        Some(mut broker) => fault_of(alloc, &mut broker, story),
+        None => Some(0),
+    }
+}
