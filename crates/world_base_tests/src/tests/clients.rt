@@ -147,6 +147,22 @@ fn two_filters_one_publication(rt: HostRuntime) {
     assert_eq!(rt; first_fault(rt.alloc(), &rows), None);
 }
 
+// UNSUBSCRIBE from `t/#` with identifier 3, and its UNSUBACK.
+const UNSUBSCRIBE: &[u8] = &[0xA2, 0x07, 0x00, 0x03, 0x00, 0x03, 0x74, 0x2F, 0x23];
+
+const UNSUBACK: &[u8] = &[0xB0, 0x02, 0x00, 0x03];
+
+// An UNSUBSCRIBE is answered where nothing was subscribed, too (MQTT 3.10.4).
+#[test]
+fn unsubscribe_without_a_subscription(rt: HostRuntime) {
+    let rows: [Row<'static>; 3] = [
+        (0, 1, Act::Open, NOTHING, true),
+        (0, 1, Act::Bytes(CONNECT_B), ACCEPTED, true),
+        (0, 1, Act::Bytes(UNSUBSCRIBE), UNSUBACK, true),
+    ];
+    assert_eq!(rt; first_fault(rt.alloc(), &rows), None);
+}
+
 #[test]
 fn ping_unsubscribe_and_violations(rt: HostRuntime) {
     let rows: [Row<'static>; 10] = [
@@ -156,13 +172,7 @@ fn ping_unsubscribe_and_violations(rt: HostRuntime) {
         (0, 2, Act::Open, NOTHING, true),
         (0, 2, Act::Bytes(CONNECT_A), ACCEPTED, true),
         (0, 1, Act::Bytes(&[0xC0, 0x00]), &[0xD0, 0x00], true),
-        (
-            0,
-            1,
-            Act::Bytes(&[0xA2, 0x07, 0x00, 0x03, 0x00, 0x03, 0x74, 0x2F, 0x23]),
-            &[0xB0, 0x02, 0x00, 0x03],
-            true,
-        ),
+        (0, 1, Act::Bytes(UNSUBSCRIBE), UNSUBACK, true),
         (
             0,
             2,

@@ -1,46 +1,79 @@
 // Names: the connections of a ballot are numbered from 1.
 
-use super::row::{CONNECT_A, CONNECT_B, bring, connecting, give, primary, take, tell};
+use super::row::{CONNECT_A, CONNECT_B, Effects, bring, connecting, give, primary, take, tell};
 use std::alloc::Global;
-use world_base::{Body, Item, Members, NodeCore, Port};
+use world_base::{Body, Command, Item, Members, NodeCore, Port};
 
-// Node 1, the sole member of ballot 1, accepted a connection there.
-fn served(alloc: Global) -> Option<NodeCore> {
-    let mut node = primary(alloc, &[1])?;
-    take(alloc, &mut node, Item::Opened(Port(1), 0));
-    bring(alloc, &mut node, 1, CONNECT_A, 0)?;
-    Some(node)
+// Whether a connection is accepted by the node, the sole member of ballot 1.
+fn serves(alloc: Global, node: &mut NodeCore) -> bool {
+    take(alloc, node, Item::Opened(Port(1), 0));
+    bring(alloc, node, 1, CONNECT_A, 0).is_some()
 }
 
-// It becomes the primary of ballot 2, whose other member is node 2.
-fn changed(alloc: Global, node: &mut NodeCore) -> Option<()> {
+// Ballot 2 has node 2 as its other member, and node 1 as its primary.
+fn ballot_2(alloc: Global) -> Option<Body<Command>> {
     let members = Members::from_slice(alloc, &[1, 2]).ok()?;
     let before = Members::from_slice(alloc, &[1]).ok()?;
-    let joins = tell(alloc, node, 0, Body::NewBallot(2, members, 1, before));
+    Some(Body::NewBallot(2, members, 1, before))
+}
+
+// Tells the node of the ballot, until it is its primary.
+fn change(alloc: Global, node: &mut NodeCore, ballot: Body<Command>) {
+    let joins = tell(alloc, node, 0, ballot);
     let states = give(alloc, node, 1, joins);
     give(alloc, node, 1, states);
     tell(alloc, node, 2, Body::Installed(2, 1));
     tell(alloc, node, 0, Body::Activated(2));
-    Some(())
 }
 
-// The ballot and the number that a connection gets by its CONNECT.
-fn named(alloc: Global, node: &mut NodeCore, port: u64, connect: &[u8]) -> Option<(u64, u64)> {
-    take(alloc, node, Item::Opened(Port(port), 0));
-    let effects = bring(alloc, node, port, connect, 0)?;
+// Whether the node becomes the primary of ballot 2.
+fn changes(alloc: Global, node: &mut NodeCore) -> bool {
+    match ballot_2(alloc) {
+        Some(ballot) => {
+            change(alloc, node, ballot);
+            true
+        }
+        None => false,
+    }
+}
+
+// The ballot and the number of the first connection whose CONNECT is sent.
+fn first_name(effects: &Effects) -> Option<(u64, u64)> {
     let name = effects.iter().find_map(connecting)?;
     Some((name.ballot(), name.count()))
 }
 
-fn names(alloc: Global) -> Option<[(u64, u64); 2]> {
-    let mut node = served(alloc)?;
-    changed(alloc, &mut node)?;
-    let first = named(alloc, &mut node, 2, CONNECT_A)?;
-    let second = named(alloc, &mut node, 3, CONNECT_B)?;
-    Some([first, second])
+// Whether a connection gets this ballot and number by its CONNECT.
+fn is_named(
+    alloc: Global,
+    node: &mut NodeCore,
+    port: u64,
+    connect: &[u8],
+    wanted: (u64, u64),
+) -> bool {
+    take(alloc, node, Item::Opened(Port(port), 0));
+    match bring(alloc, node, port, connect, 0) {
+        Some(effects) => first_name(&effects) == Some(wanted),
+        None => false,
+    }
+}
+
+fn begins_anew(alloc: Global, node: &mut NodeCore) -> bool {
+    serves(alloc, node)
+        && changes(alloc, node)
+        && is_named(alloc, node, 2, CONNECT_A, (2, 1))
+        && is_named(alloc, node, 3, CONNECT_B, (2, 2))
+}
+
+// The same with a fresh node.
+fn begin_anew(alloc: Global) -> bool {
+    match primary(alloc, &[1]) {
+        Some(mut node) => begins_anew(alloc, &mut node),
+        None => false,
+    }
 }
 
 #[test]
 fn names_begin_anew_in_a_ballot(rt: HostRuntime) {
-    assert_eq!(rt; names(rt.alloc()), Some([(2, 1), (2, 2)]));
+    assert!(rt; begin_anew(rt.alloc()));
 }

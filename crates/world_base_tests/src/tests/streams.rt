@@ -56,7 +56,7 @@ fn each_length_is_read(rt: HostRuntime) {
     );
 }
 
-// Bytes behind a CONNECT, and whether the connection stays open: less than a packet, a packet over the size limit, no
+// Bytes after a CONNECT, and whether the connection stays open: less than a packet, a packet over the size limit, no
 // length.
 const FRONTS: [(&[u8], bool); 7] = [
     (&[], true),

@@ -39,25 +39,54 @@ fn commits(effects: &Effects) -> bool {
     }
 }
 
-// Whether the messages and bytes of a CONNECT are these.
-fn waits_for_both(alloc: Global, primary: &mut NodeCore, backup: &mut NodeCore) -> Option<bool> {
-    let opened = take(alloc, primary, Item::Opened(Port(1), 0));
+// Brings the CONNECT to the primary: what it hands out, where that is its first place and no answer goes out yet.
+fn append(alloc: Global, primary: &mut NodeCore) -> Option<Effects> {
+    if !take(alloc, primary, Item::Opened(Port(1), 0)).is_empty() {
+        return None;
+    }
     let appended = bring(alloc, primary, 1, CONNECT_A, 0)?;
-    let first = opened.is_empty()
-        && appends(&appended)
-        && hands_over(alloc, primary, 1, NOTHING, true);
+    if appends(&appended) && hands_over(alloc, primary, 1, NOTHING, true) {
+        Some(appended)
+    } else {
+        None
+    }
+}
+
+// Gives the backup what the primary appended: what it hands out, where it holds it then.
+fn hold(alloc: Global, backup: &mut NodeCore, appended: Effects) -> Option<Effects> {
     let held = give(alloc, backup, 2, appended);
-    let second = holds(&held);
+    if holds(&held) { Some(held) } else { None }
+}
+
+// Tells the primary so: what it hands out, where that commits the place, and the answer goes out.
+fn commit(alloc: Global, primary: &mut NodeCore, held: Effects) -> Option<Effects> {
     let committed = give(alloc, primary, 1, held);
-    let third = commits(&committed) && hands_over(alloc, primary, 1, ACCEPTED, true);
-    let last = give(alloc, backup, 2, committed).is_empty();
-    Some(first && second && third && last && primary.losses() == 0 && backup.losses() == 0)
+    if commits(&committed) && hands_over(alloc, primary, 1, ACCEPTED, true) {
+        Some(committed)
+    } else {
+        None
+    }
+}
+
+// Whether the backup has nothing to say to that.
+fn is_silent(alloc: Global, backup: &mut NodeCore, committed: Effects) -> bool {
+    give(alloc, backup, 2, committed).is_empty()
+}
+
+// Whether the messages and bytes of a CONNECT are these.
+fn waits_for_both(alloc: Global, primary: &mut NodeCore, backup: &mut NodeCore) -> bool {
+    append(alloc, primary)
+        .and_then(|appended| hold(alloc, backup, appended))
+        .and_then(|held| commit(alloc, primary, held))
+        .is_some_and(|committed| is_silent(alloc, backup, committed))
+        && primary.losses() == 0
+        && backup.losses() == 0
 }
 
 fn is_told(alloc: Global) -> Option<bool> {
     let mut primary = node_of(alloc, 1, &[1, 2])?;
     let mut backup = node_of(alloc, 2, &[1, 2])?;
-    waits_for_both(alloc, &mut primary, &mut backup)
+    Some(waits_for_both(alloc, &mut primary, &mut backup))
 }
 
 #[test]
