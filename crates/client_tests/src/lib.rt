@@ -1,4 +1,4 @@
-//! A client on worked rows: calls and bytes of the server in, bytes out, as MQTT 3.1.1 spells them. Tests alone stand here.
+//! Clients on worked rows: calls and bytes of servers in, bytes out, as MQTT 3.1.1 spells them. Tests alone stand here.
 #![tactic(auto)]
 
 #[cfg(test)]

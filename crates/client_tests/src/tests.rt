@@ -1,5 +1,9 @@
+// Clients: one as a state that bytes come to, and two that run over servers in memory.
+
 mod connections;
 mod handshakes;
 mod memory;
 mod publications;
 mod row;
+mod shared;
+mod user_clients;

@@ -97,7 +97,7 @@ const DISCONNECT: &[u8] = &[0xE0, 0];
 // SUBSCRIBE to `t/#` at QoS 2.
 const SUBSCRIBE: &[u8] = &[0x82, 8, 0, 1, 0, 3, b't', b'/', b'#', 2];
 
-// Whether these bytes are the packets, one behind the other.
+// Whether these bytes are the packets, one after the other.
 fn is_written(bytes: &[u8], packets: &[&[u8]]) -> bool {
     let mut rest = bytes;
     for packet in packets {

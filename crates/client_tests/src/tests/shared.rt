@@ -1,0 +1,53 @@
+// What the parts of a client share: refusals, requests and laws.
+
+use client_base::{
+    ClientError, Request, Stage, accepted_once_an_identifier, history_is_followed,
+    identifiers_are_distinct, publishing_order_is_kept,
+};
+use packet::PacketId;
+use std::test::Fail;
+use topics::MalformedKind;
+
+// Each refusal has its number in the table of refusals.
+#[test]
+fn refusals_have_their_numbers(rt: HostRuntime) -> Result<(), Fail> {
+    assert_eq!(rt; ClientError::TooLarge.number(), 4);
+    assert_eq!(rt; ClientError::Protocol.number(), 11);
+    assert_eq!(rt; ClientError::Memory.number(), 12);
+    assert_eq!(rt; ClientError::NotActive.number(), 18);
+    assert_eq!(rt; ClientError::WindowFull.number(), 22);
+    assert_eq!(rt; ClientError::SessionLost.number(), 23);
+    assert_eq!(rt; ClientError::Malformed(MalformedKind::Flags).number(), 2);
+    Ok(())
+}
+
+// A request differs from one of the other kind, and from one with another identifier.
+#[test]
+fn requests_are_compared(rt: HostRuntime) -> Result<(), Fail> {
+    let one = PacketId::new(1);
+    assert!(rt; Request::Subscribes(one) != Request::Unsubscribes(one));
+    assert!(rt; Request::Subscribes(one) != Request::Subscribes(PacketId::new(2)));
+    assert!(rt; Stage::Opened != Stage::Online);
+    Ok(())
+}
+
+// The laws are calls that do nothing.
+#[test]
+fn laws_are_called() -> Result<(), Fail> {
+    accepted_once_an_identifier();
+    history_is_followed();
+    identifiers_are_distinct();
+    publishing_order_is_kept();
+    Ok(())
+}
+
+// What a fault says to a user.
+#[test]
+fn refusals_have_their_texts(rt: HostRuntime) -> Result<(), Fail> {
+    let text = format!(in rt.alloc(); "{}; {}", ClientError::WindowFull, ClientError::NotActive)?;
+    assert_eq!(rt;
+        text.as_str(),
+        "too many publications under way; not connected"
+    );
+    Ok(())
+}
