@@ -147,7 +147,7 @@ fn faults_are_told_so(rt: HostRuntime) -> Result<(), Fail> {
         (Fault::Script(3), "vbroker: script line 3\n", 3),
         (
             Fault::Losses,
-            "vbroker: out of memory: the transcript is of a world in which memory was wanting\n",
+            "vbroker: out of memory: the transcript shows a world that lost something\n",
             1,
         ),
         (Fault::SessionPresent, "vbroker: session present\n", 1),
