@@ -1,4 +1,5 @@
 -- Runs.antt: whatever happens, a group stays sound.
+pub mod Learning
 pub mod OpeningTold
 pub mod OpeningNodes
 pub mod OpeningServes

@@ -5,8 +5,8 @@ use Rattle.ballot.specs.Applying.{outputs_between}
 use Rattle.ballot.specs.Config.{Config}
 use Rattle.ballot.specs.Replica.{ReplicaState, is_active}
 use Rattle.agreement.specs.MasterState.{MasterState}
-use Rattle.agreement.specs.Past.{Moment, Past}
-use Rattle.agreement.specs.Past.Past.{began, went_on}
+use Rattle.agreement.specs.Past.{Learns, Moment, Past}
+use Rattle.agreement.specs.Past.Past.{began, went_on, learned}
 use Rattle.agreement.specs.Primaries.{IsPrimary}
 use Rattle.agreement.specs.Steps.{MayHappen}
 use Rattle.agreement.specs.Steps.MayHappen.{node_takes, node_stops, master_assigns, master_hears, assignment_lost, answer_lost}
@@ -28,6 +28,7 @@ abbrev pub given_of : {S C O : Type 0} {rules : Rules S C O} {config : Config}
     {past : List (Moment S C O)} → ℕ → Past rules config past → List (ℕ × O)
 given_of n (began nodes lawful is) = []
 given_of n (went_on came step) = given_of n came ++ given_in n step
+given_of n (learned came learns) = given_of n came
 
 -- the place from which a node gives: how far it has applied its log, if it is the active primary;
 -- one that becomes it applies its whole log first, and gives nothing for that
@@ -44,8 +45,8 @@ pub record GivesNext {S C O : Type 0} (rules : Rules S C O) (old new : ReplicaSt
   pub next : is_active new.role ≡ true →
       given ≡ outputs (outputs_between rules xs (gives_from old) new.committed)
 
--- a past goes on from a moment, and the node at place n is the active primary of a ballot at that
--- moment and at each later one
+-- a past goes on from a moment, by steps and by nodes that learn, and the node at place n is the active
+-- primary of a ballot at that moment and at each later one
 pub data LeadsOn {S C O : Type 0} {rules : Rules S C O} {config : Config} (n ballot : ℕ)
     {a : Moment S C O} {past : List (Moment S C O)} (came : Past rules config (a ∷ past)) :
     (b : Moment S C O) (later : List (Moment S C O)) → Past rules config (b ∷ later) →
@@ -55,3 +56,7 @@ pub data LeadsOn {S C O : Type 0} {rules : Rules S C O} {config : Config} (n bal
       {more : Past rules config (b ∷ later)} → LeadsOn n ballot came b later more →
       (step : MayHappen rules b.master b.world c.master c.world) → IsPrimary c.world n ballot →
       LeadsOn n ballot came c (b ∷ later) (went_on more step)
+  leads_beside : {b c : Moment S C O} {later : List (Moment S C O)}
+      {more : Past rules config (b ∷ later)} → LeadsOn n ballot came b later more →
+      (learns : Learns rules (b ∷ later) b c) → IsPrimary c.world n ballot →
+      LeadsOn n ballot came c (b ∷ later) (learned more learns)

@@ -1,14 +1,15 @@
 -- Past.antt: the moments of a group from its opening on, and what its members have told in each
 -- ballot.
-use Rattle.std.specs.Prelude.{ℕ, true, ◌+◌, ◌≡◌, ◌⊎◌, List, [], ◌∷◌, length, slice_get, Some}
+use Rattle.std.specs.Prelude.{ℕ, true, false, ◌+◌, ◌≤◌, ◌≡◌, ◌⊎◌, List, [], ◌∷◌, length, slice_get, take, Some}
 use Rattle.lists.specs.Lists.{In, IsPrefixOf}
 use Rattle.machine.specs.Machine.{Rules}
 use Rattle.ballot.specs.Body.TheVariants.{Held, Installed}
+use Rattle.ballot.specs.Applying.{applied_to}
 use Rattle.ballot.specs.Config.{Config}
-use Rattle.ballot.specs.Replica.{ReplicaState}
+use Rattle.ballot.specs.Replica.{ReplicaState, is_active}
 use Rattle.agreement.specs.Steps.{MayHappen}
 use Rattle.agreement.specs.MasterState.{MasterState, opening_master}
-use Rattle.agreement.specs.World.{World, can_open, opening_world}
+use Rattle.agreement.specs.World.{World, can_open, moved, opening_world}
 
 -- the master and the world
 pub record Moment (S C O : Type 0) : Type 0 where
@@ -20,6 +21,31 @@ abbrev pub opening_moment : {S C O : Type 0} → Rules S C O → ℕ → Config 
 opening_moment rules nodes config =
     record { master = opening_master config; world = opening_world rules nodes config }
 
+-- A node that is no active primary applies places of its log that some node had applied at an earlier
+-- moment, and gives no output for them. That node had joined no higher ballot then than this one now.
+-- A replica that takes over a snapshot in place of these commands does so
+pub record Learns {S C O : Type 0} (rules : Rules S C O) (past : List (Moment S C O))
+    (a b : Moment S C O) : Type 0 where
+  pub node : ℕ
+  pub replica : ReplicaState S C
+  pub stands : slice_get a.world.nodes node ≡ Some replica
+  pub runs : replica.stopped ≡ false
+  pub passive : is_active replica.role ≡ false
+  -- it applies its log up to here
+  pub places : ℕ
+  pub more : replica.committed ≤ places
+  pub within : places ≤ length replica.log
+  -- as the other had applied it
+  pub earlier : Moment S C O
+  pub was : In earlier past
+  pub other : ℕ
+  pub teacher : ReplicaState S C
+  pub stood : slice_get earlier.world.nodes other ≡ Some teacher
+  pub joined : teacher.joined ≤ replica.joined
+  pub applied : places ≤ teacher.committed
+  pub same : take places teacher.log ≡ take places replica.log
+  pub becomes : b ≡ record a { world = moved a.world node (applied_to rules replica places) [] }
+
 -- the moments that were, the present one first -- history: no field keeps it
 pub data Past {S C O : Type 0} (rules : Rules S C O) (config : Config) :
     List (Moment S C O) → Type 0 where
@@ -27,6 +53,8 @@ pub data Past {S C O : Type 0} (rules : Rules S C O) (config : Config) :
       a ≡ opening_moment rules nodes config → Past rules config (a ∷ [])
   went_on : {a b : Moment S C O} {past : List (Moment S C O)} → Past rules config (a ∷ past) →
       MayHappen rules a.master a.world b.master b.world → Past rules config (b ∷ a ∷ past)
+  learned : {a b : Moment S C O} {past : List (Moment S C O)} → Past rules config (a ∷ past) →
+      Learns rules (a ∷ past) a b → Past rules config (b ∷ a ∷ past)
 
 -- the configuration of a ballot: that of the opening for ballot 1, and else the one with which the
 -- master let the ballot wait

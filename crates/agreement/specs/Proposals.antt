@@ -9,7 +9,7 @@ use Rattle.ballot.specs.Protocol.Input.{Receives, Proposes, Ticks}
 use Rattle.ballot.specs.Replica.{ReplicaState}
 use Rattle.agreement.specs.MasterState.{MasterState}
 use Rattle.agreement.specs.Past.{Moment, Past}
-use Rattle.agreement.specs.Past.Past.{began, went_on}
+use Rattle.agreement.specs.Past.Past.{began, went_on, learned}
 use Rattle.agreement.specs.Primaries.{IsPrimary}
 use Rattle.agreement.specs.Steps.{MayHappen}
 use Rattle.agreement.specs.Steps.MayHappen.{node_takes, node_stops, master_assigns, master_hears, assignment_lost, answer_lost}
@@ -35,6 +35,7 @@ abbrev pub proposals_of : {S C O : Type 0} {rules : Rules S C O} {config : Confi
     {past : List (Moment S C O)} → Past rules config past → List (ℕ × C)
 proposals_of (began nodes lawful is) = []
 proposals_of (went_on came step) = proposals_of came ++ proposal_of step
+proposals_of (learned came learns) = proposals_of came
 
 -- of it what the node takes: its log is longer behind the step
 abbrev pub taken_by : {S C : Type 0} → ReplicaState S C → ReplicaState S C → Input C → List (ℕ × C)
@@ -56,6 +57,7 @@ abbrev pub taken_of : {S C O : Type 0} {rules : Rules S C O} {config : Config}
     {past : List (Moment S C O)} → Past rules config past → List (ℕ × C)
 taken_of (began nodes lawful is) = []
 taken_of (went_on came step) = taken_of came ++ taken_in step
+taken_of (learned came learns) = taken_of came
 
 -- and what the node at place n took of it
 abbrev pub takes_at : {S C O : Type 0} {rules : Rules S C O} {m : MasterState} {w : World S C O}
@@ -72,6 +74,7 @@ abbrev pub taken_at : {S C O : Type 0} {rules : Rules S C O} {config : Config}
     {past : List (Moment S C O)} → ℕ → Past rules config past → List (ℕ × C)
 taken_at n (began nodes lawful is) = []
 taken_at n (went_on came step) = taken_at n came ++ takes_at n step
+taken_at n (learned came learns) = taken_at n came
 
 -- the rows of one ballot
 abbrev pub rows_in : {C : Type 0} → ℕ → List (ℕ × C) → List (ℕ × C)

@@ -10,7 +10,7 @@ use Rattle.ballot.specs.Config.{Config}
 use Rattle.ballot.specs.LawfulConfig.{are_rising, is_lawful}
 use Rattle.agreement.specs.MasterState.{AssignRefusal, MasterState, activated, refusal, master_behind}
 use Rattle.agreement.specs.Past.{Moment, Past}
-use Rattle.agreement.specs.Past.Past.{began, went_on}
+use Rattle.agreement.specs.Past.Past.{began, went_on, learned}
 use Rattle.agreement.specs.Steps.{MayHappen}
 use Rattle.agreement.specs.Steps.MayHappen.{node_takes, node_stops, master_assigns, master_hears, assignment_lost, answer_lost}
 use Rattle.agreement.specs.World.{World}
@@ -62,6 +62,8 @@ past_lawful {S = S} {C = C} {O = O} rules config a past (began nodes lawful is) 
     (record { active = rises config (can_open_is nodes config lawful).0; waiting = λ b c f. cc })
 past_lawful rules config v (a ∷ past) (went_on came step) =
     lawful_step rules a.master a.world v.master v.world step (past_lawful rules config a past came)
+past_lawful {S = S} {C = C} {O = O} rules config v (a ∷ past) (learned came learns) =
+    subst (λ (u : Moment S C O). AreLawful u.master) (sym learns.becomes) (past_lawful rules config a past came)
 
 -- members that rise lie above what they rise from, are at most 15, and each stands once
 pub rising_above : (last : ℕ) (members : List ℕ) (m : ℕ) → are_rising last members ≡ true → In m members → (last < m) × (m < 16)

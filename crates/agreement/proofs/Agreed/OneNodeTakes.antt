@@ -16,7 +16,7 @@ use Rattle.ballot.proofs.StepRows.{added-log}
 use Rattle.agreement.specs.Laws.{OneNodeTakesABallot}
 use Rattle.agreement.specs.MasterState.{MasterState}
 use Rattle.agreement.specs.Past.{Moment, Past}
-use Rattle.agreement.specs.Past.Past.{began, went_on}
+use Rattle.agreement.specs.Past.Past.{began, went_on, learned}
 use Rattle.agreement.specs.Primaries.{IsPrimary}
 use Rattle.agreement.specs.Proposals.{rows_in, taken_at, taken_by, taken_in, taken_of, takes_at}
 use Rattle.agreement.specs.Steps.{MayHappen}
@@ -78,6 +78,8 @@ past_takes {S = S} {C = C} {O = O} rules config (b ∷ (a ∷ past)) (went_on ca
     ∙ ap₂ (λ (xs ys : List (ℕ × C)). xs ++ ys) (past_takes rules config (a ∷ past) came n ballot (λ c i. one c (there i)))
     (step_takes rules a.master a.world b.master b.world step n ballot (one a (there here)))
     ∙ sym (filter-append (λ (row : ℕ × C). row.0 == ballot) (taken_at n came) (takes_at n step))
+past_takes rules config (b ∷ (a ∷ past)) (learned came learns) n ballot one =
+    past_takes rules config (a ∷ past) came n ballot (λ c i. one c (there i))
 
 pub one_node_takes_a_ballot : {S C O : Type 0} (rules : Rules S C O) → OneNodeTakesABallot rules
 one_node_takes_a_ballot rules config a past came c n ballot i p =

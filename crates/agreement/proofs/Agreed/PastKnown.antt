@@ -8,13 +8,16 @@ use Rattle.agreement.specs.Inside.Ballots.{Given, History, Extends}
 use Rattle.agreement.specs.Inside.GroupSteps.{adds_of, GroupStep}
 use Rattle.agreement.specs.Inside.Serves.{Serves}
 use Rattle.agreement.specs.Inside.OpeningHistory.{opening_history}
-use Rattle.agreement.specs.Past.{Moment, Past, WasActive, opening_moment}
-use Rattle.agreement.specs.Past.Past.{began, went_on}
+use Rattle.agreement.specs.Past.{Learns, Moment, Past, WasActive, opening_moment}
+use Rattle.agreement.specs.Past.Past.{began, went_on, learned}
 use Rattle.agreement.specs.Past.HasConfig.{opened_with}
 use Rattle.agreement.specs.Proposals.{proposal_of}
 use Rattle.agreement.specs.World.{can_open}
 use Rattle.agreement.proofs.Masters.Assigns.{can_open_is, lawful_is}
+use Rattle.agreement.proofs.Frame.Framing.{within_of}
 use Rattle.agreement.proofs.Frame.Going.{goes_same}
+use Rattle.agreement.proofs.Frame.Later.{applied_kept}
+use Rattle.agreement.proofs.Runs.Learning.{Teaches, learned_goes_on, learned_serves}
 use Rattle.agreement.proofs.Runs.OpeningServes.{opening_is_serving}
 use Rattle.agreement.proofs.Runs.OpeningTold.{first_given, told_opens}
 use Rattle.agreement.proofs.Runs.RunsGoOn.{group_goes_on}
@@ -52,6 +55,23 @@ known_opening {S = S} {C = C} {O = O} rules config nodes lawful =
     active b here = (opening_moment rules nodes config, here, refl)
     active b (there i) = elim i [ ]
 
+-- a node that learns
+known_learned : {S C O : Type 0} (rules : Rules S C O) (config : Config) (a v : Moment S C O) (past : List (Moment S C O)) →
+    (q : IsKnown rules config a past) → Learns rules (a ∷ past) a v → IsKnown rules config v (a ∷ past)
+known_learned {S = S} {C = C} {O = O} rules config a v past q y =
+    let s = q.serves in
+    let z = q.moments y.earlier y.was in
+    let teaches : Teaches a.world q.history y.replica y.teacher y.places = record {
+      applied = applied_kept y.earlier.world a.world z.0 q.history y.teacher z.2 z.3 (within_of rules y.earlier.world z.0 z.1.sound)
+          (z.1.sound.nodes y.other y.teacher y.stood).applied;
+      joined = y.joined;
+      had = y.applied;
+      same = y.same;
+    } in
+    let x = learned_goes_on rules a.master a.world q.history y.node y.replica y.teacher y.places s y.stands y.runs y.passive y.more y.within teaches in
+    subst (λ (u : Moment S C O). IsKnown rules config u (a ∷ past)) (sym y.becomes)
+    (known_step rules config a _ past [] q x (learned_serves rules a.master a.world q.history y.node y.replica y.places s y.stands x))
+
 -- every past is known
 pub past_known : {S C O : Type 0} (rules : Rules S C O) (config : Config) (a : Moment S C O) (past : List (Moment S C O)) →
     Past rules config (a ∷ past) → IsKnown rules config a past
@@ -72,3 +92,5 @@ past_known {S = S} {C = C} {O = O} rules config v (a ∷ past) (went_on came ste
         let s = q.serves in
         let x = group_goes_on rules a.master v.master a.world v.world q.history s.sound s.long s.replays s.master goes in
         known_step rules config a v past (adds_of goes) q x (serves_then rules a.master v.master a.world v.world q.history (adds_of goes) s x step)
+past_known rules config v (a ∷ past) (learned came learns) =
+    known_learned rules config a v past (past_known rules config a past came) learns

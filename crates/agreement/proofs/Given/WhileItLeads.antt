@@ -1,16 +1,18 @@
 -- WhileItLeads.antt: while a node leads a ballot it gives the answers at all places of the agreed list, from where it was to where it is.
-use Rattle.std.proofs.Common.{◌≡◌, ℕ, ◌≤◌, List, ◌∷◌, ◌++◌, length, Some, ap, sym, ◌∙◌, append_assoc, arith}
+use Rattle.std.proofs.Common.{◌≡◌, ℕ, ◌≤◌, ◌⊎◌, inl, inr, true, List, ◌∷◌, ◌++◌, length, set, Some, ap, sym, ◌∙◌, append_assoc, arith}
 use Rattle.std.specs.Prelude.{Option, slice_get}
+use Rattle.std.proofs.lemmas.Bool.{cases_eq}
 use Rattle.std.proofs.lemmas.List.{append-nil, length-take-le}
 use Rattle.machine.specs.Machine.{Rules}
 use Rattle.lists.proofs.Beginnings.{prefix_length, take_prefix}
-use Rattle.ballot.specs.Applying.{outputs_between}
+use Rattle.lists.proofs.Places.{get_set_other}
+use Rattle.ballot.specs.Applying.{applied_to, outputs_between}
 use Rattle.ballot.specs.Config.{Config}
 use Rattle.ballot.specs.Replica.{ReplicaState, is_active}
 use Rattle.agreement.specs.Giving.{LeadsOn, given_in, given_of}
-use Rattle.agreement.specs.Giving.LeadsOn.{leads_there, leads_still}
+use Rattle.agreement.specs.Giving.LeadsOn.{leads_there, leads_still, leads_beside}
 use Rattle.agreement.specs.Laws.{AnswersWhileItLeads}
-use Rattle.agreement.specs.Past.{Moment, Past, IsAgreed}
+use Rattle.agreement.specs.Past.{Learns, Moment, Past, IsAgreed}
 use Rattle.agreement.specs.Primaries.{IsPrimary}
 use Rattle.agreement.specs.World.{outputs}
 use Rattle.agreement.proofs.Agreed.PastAgrees.{has_agreed, nodes_agree}
@@ -26,6 +28,7 @@ leads_now : {S C O : Type 0} {rules : Rules S C O} {config : Config} {n ballot :
     {came : Past rules config (a ∷ past)} {more : Past rules config (b ∷ later)} → LeadsOn n ballot came b later more → IsPrimary b.world n ballot
 leads_now (leads_there p) = p
 leads_now (leads_still leads step p) = p
+leads_now (leads_beside leads learns p) = p
 
 -- what a node applied lies within the agreed list
 applied_inside : {S C O : Type 0} (rules : Rules S C O) (config : Config) (a : Moment S C O) (past : List (Moment S C O)) (xs : List C) →
@@ -38,6 +41,22 @@ applied_inside rules config a past xs came agreed n r stands =
 
 one_node : {X : Type 0} (o : Option X) (x y : X) → o ≡ Some x → o ≡ Some y → x ≡ y
 one_node o x y e f = cc
+
+-- an active primary learns nothing, so it stays as it was while another does
+stays_beside : {S C O : Type 0} {rules : Rules S C O} {past : List (Moment S C O)} {b c : Moment S C O} (n : ℕ) (old new : ReplicaState S C) →
+    Learns rules past b c → slice_get b.world.nodes n ≡ Some old → slice_get c.world.nodes n ≡ Some new → is_active old.role ≡ true →
+    new ≡ old
+stays_beside {S = S} {C = C} {O = O} {rules = rules} {b = b} {c = c} n old new y stood stands active = by_place (cases_eq n y.node)
+  where
+    there_now : slice_get (set b.world.nodes y.node (applied_to rules y.replica y.places)) n ≡ Some new
+    there_now = ap (λ (u : Moment S C O). slice_get u.world.nodes n) (sym y.becomes) ∙ stands
+
+    by_place : (n ≡ y.node) ⊎ (n ≡ y.node → ⊥) → new ≡ old
+    by_place (inl e) =
+        let f = one_node (slice_get b.world.nodes n) old y.replica stood (ap (slice_get b.world.nodes) e ∙ y.stands) in
+        let g = ap (λ (r : ReplicaState S C). is_active r.role) f in let p = y.passive in cc
+    by_place (inr other) =
+        one_node (slice_get b.world.nodes n) new old (sym (get_set_other b.world.nodes y.node n (applied_to rules y.replica y.places) other) ∙ there_now) stood
 
 -- by the moments in between
 gave_between : {S C O : Type 0} (rules : Rules S C O) (config : Config) (a : Moment S C O) (past : List (Moment S C O)) →
@@ -76,6 +95,23 @@ gave_between {S = S} {C = C} {O = O} rules config a past came n ballot old stood
           ∙ append_assoc (given_of n came) (outputs (outputs_between rules xs old.committed r.committed)) (outputs (outputs_between rules xs r.committed new.committed))
           ∙ ap (λ us. given_of n came ++ us)
           (between_joins rules xs old.committed r.committed new.committed low (omega (arith, up, from)) (omega (arith, inside, longer))),
+    )
+gave_between {S = S} {C = C} {O = O} rules config a past came n ballot old stood c later xs more agreed
+    (leads_beside {b = b} {later = earlier} {more = before} leads learns p) new stands =
+    let mid = leads_now leads in
+    let r = mid.replica in
+    let ys = has_agreed rules config b earlier before in
+    let first = gave_between rules config a past came n ballot old stood b earlier ys.0 before ys.1 leads r mid.stands in
+    let same = stays_beside n r new learns mid.stands stands mid.active in
+    let e = ap (λ (x : ReplicaState S C). x.committed) same in
+    let low = first.0 in
+    let inside = applied_inside rules config b earlier ys.0 before ys.1 n r mid.stands in
+    let grown = agreed_grows rules config c (b ∷ earlier) ys.0 xs ys.1 agreed in (
+      omega (arith, low, e),
+      first.1
+          ∙ ap (λ us. given_of n came ++ outputs us)
+          (same_outputs rules ys.0 xs old.committed r.committed low (sym (take_prefix r.committed grown inside)))
+          ∙ ap (λ k. given_of n came ++ outputs (outputs_between rules xs old.committed k)) (sym e),
     )
 
 -- in the words of the law

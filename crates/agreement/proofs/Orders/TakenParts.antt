@@ -7,7 +7,7 @@ use Rattle.lists.proofs.Members.{in_append, in_left, in_right}
 use Rattle.ballot.specs.Config.{Config}
 use Rattle.agreement.specs.MasterState.{MasterState}
 use Rattle.agreement.specs.Past.{Moment, Past}
-use Rattle.agreement.specs.Past.Past.{began, went_on}
+use Rattle.agreement.specs.Past.Past.{began, went_on, learned}
 use Rattle.agreement.specs.Proposals.{IsPartOf, proposal_of, proposals_of, taken_at, taken_by, taken_in, taken_of, takes_at}
 use Rattle.agreement.specs.Proposals.IsPartOf.{nothing_left, with_one, without_one}
 use Rattle.agreement.specs.Steps.{MayHappen}
@@ -48,6 +48,7 @@ pub taken_are_part : {S C O : Type 0} (rules : Rules S C O) (config : Config) (p
 taken_are_part rules config past (began nodes lawful is) = nothing_left
 taken_are_part rules config (b ∷ (a ∷ past)) (went_on came step) =
     parts_join (taken_are_part rules config (a ∷ past) came) (step_takes_part rules a.master a.world b.master b.world step)
+taken_are_part rules config (b ∷ (a ∷ past)) (learned came learns) = taken_are_part rules config (a ∷ past) came
 
 -- what one node took was taken
 takes_at_in : {S C O : Type 0} (rules : Rules S C O) (m : MasterState) (w : World S C O) (k : MasterState) (v : World S C O) →
@@ -72,3 +73,4 @@ taken_at_in {rules = rules} {config = config} {past = b ∷ (a ∷ past)} n (wen
     by : In row (taken_at n came) ⊎ In row (takes_at n step) → (In row (taken_at n came) → In row (taken_of came)) → In row (taken_of came ++ taken_in step)
     by (inl i) before = in_left (taken_in step) (before i)
     by (inr i) before = in_right (taken_of came) (takes_at_in rules a.master a.world b.master b.world step n row i)
+taken_at_in n (learned came learns) row j = taken_at_in n came row j

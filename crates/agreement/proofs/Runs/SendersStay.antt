@@ -42,7 +42,7 @@ loses_from {C = C} {O = O} rules r input new given (inr (inr (e, f))) to m i =
     elim (subst (λ (us : List (Effect C O)). In (to, m) (messages us)) f i) [ ]
 
 -- a node's move
-moved_senders : {S C O : Type 0} (rules : Rules S C O) (w : World S C O) (h : History C) (n : ℕ) (r new : ReplicaState S C) (given : List (Effect C O)) →
+pub moved_senders : {S C O : Type 0} (rules : Rules S C O) (w : World S C O) (h : History C) (n : ℕ) (r new : ReplicaState S C) (given : List (Effect C O)) →
     IsSound rules w h → slice_get w.nodes n ≡ Some r → ((to : ℕ) (m : Message C) → In (to, m) (messages given) → m.from ≡ r.id) →
     AreSenders w → AreSenders (moved w n new given)
 moved_senders {S = S} {C = C} {O = O} rules w h n r new given s stands from senders to m i = by_age (in_append w.sent (messages given) i)
