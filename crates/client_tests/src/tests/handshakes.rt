@@ -1,7 +1,7 @@
 // The handshakes of a client, as tables of bytes.
 
 use super::row::*;
-use client::ClientCore;
+use client::{Accepted, ClientCore};
 use packet::QoS;
 use std::test::*;
 
@@ -108,4 +108,57 @@ const LOWER: &[Row<'static>] = &[
 #[test]
 fn lower_qos_is_accepted_each_time(rt: HostRuntime) {
     assert_eq!(rt; first_fault(rt.alloc(), LOWER), None);
+}
+
+// PUBLISH of `x` on `t/1` at QoS 2 with RETAIN, of `y` on `t/2` at QoS 1, and of nothing on `t/1` at
+// QoS 0 with RETAIN (MQTT 3.3.1).
+const RETAINED: &[u8] = &[0x35, 0x08, 0x00, 0x03, 0x74, 0x2F, 0x31, 0x00, 0x01, 0x78];
+
+const OTHER: &[u8] = &[0x32, 0x08, 0x00, 0x03, 0x74, 0x2F, 0x32, 0x00, 0x07, 0x79];
+
+const EMPTY: &[u8] = &[0x31, 0x05, 0x00, 0x03, 0x74, 0x2F, 0x31];
+
+const SENT: &[Row<'static>] = &[
+    (Act::Open, None, CONNECT, 0, 0),
+    (Act::Bytes(ACCEPTED), None, NOTHING, 0, 0),
+    (Act::Bytes(RETAINED), None, PUBREC, 0, 1),
+    (Act::Bytes(OTHER), None, PUBACK, 0, 2),
+    (Act::Bytes(EMPTY), None, NOTHING, 0, 3),
+];
+
+/// What an accepted publication shows besides its session: QoS, RETAIN, topic and payload.
+type Shown<'a> = (QoS, bool, &'a str, &'a [u8]);
+
+/// Returns whether a publication of the first session shows these fields.
+fn shows(one: &Accepted, shown: Shown<'_>) -> bool {
+    let (qos, retain, topic, payload) = shown;
+    one.session == 1
+        && one.qos == qos
+        && one.retain == retain
+        && one.topic.as_str() == topic
+        && one.payload.as_slice() == payload
+}
+
+/// Returns whether just these were accepted, in this order.
+fn all_show(accepted: &[Accepted], wanted: &[Shown<'_>]) -> bool {
+    let mut all = accepted.len() == wanted.len();
+    for (one, shown) in accepted.iter().zip(wanted) {
+        all = shows(one, *shown) && all;
+    }
+    all
+}
+
+// What was accepted shows the five fields of its PUBLISH.
+#[test]
+fn accepted_as_it_was_sent(rt: HostRuntime) {
+    let wanted: [Shown<'_>; 3] = [
+        (QoS::ExactlyOnce, true, "t/1", b"x"),
+        (QoS::AtLeastOnce, false, "t/2", b"y"),
+        (QoS::AtMostOnce, true, "t/1", b""),
+    ];
+    let shown = match play(rt.alloc(), SENT) {
+        Ok(client) => all_show(client.accepted(), &wanted),
+        Err(_) => false,
+    };
+    assert!(rt; shown);
 }
