@@ -84,14 +84,14 @@ connects_goes i node old new housed one nodes config cs m trail s = by node refl
     port = record { 0 = number }
 
     has : IsKnown true node port one.between
-    has = one.reaches.known
+    has = one.reaches.hears.known
 
     by : (k : ℕ) → node ≡ k → GoesTo m new
     by zero is = absurd (none-some has.core (sym (ap (node_of one.between.nodes) is) ∙ has.stands))
     by (suc n) is =
         let low : node - 1 ≡ n = omega (arith, is) in
         let c = client_at old.clients m.clients i one.client s.clients one.found in
-        let acts = subst (λ (k : ℕ). Acts k (takes (Opened port 0)) old.nodes one.between) low one.reaches.acts in
+        let acts = subst (λ (k : ℕ). Acts k (takes (Opened port 0)) old.nodes one.between) low one.reaches.hears.acts in
         let d = acts m.group s.nodes in
         let found : slice_get one.between.nodes n ≡ Some has.core = sym (ap (node_of one.between.nodes) is) ∙ has.stands in
         let stands = ap (λ (l : List CoreState). slice_get l n) d.stands.nodes ∙ get_mapped (λ (z : CountedCore). z.core) one.between.nodes n has.core found in

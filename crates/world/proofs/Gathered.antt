@@ -1,8 +1,7 @@
 -- Gathered.antt: connections are asked one behind the other, from the newest to the oldest.
 use Rattle.std.proofs.Common.{◌≡◌, ◌<◌, ◌≤◌, ◌-◌, ℕ, zero, suc, Bool, true, ◌++◌, Some, length, slice_get, refl, sym, ap, ◌∙◌, subst, arith}
 use Rattle.world_base.specs.declared.item.Item.{Item}
-use Rattle.exact_model.specs.node_model.Moves.Deed.{takes}
-use Rattle.world_nodes.specs.Goes.{Acts, node_of}
+use Rattle.world_nodes.specs.Goes.{TakesExactly, node_of}
 use Rattle.world_nodes.specs.Nodes.{NodesState}
 use Rattle.world_nodes.specs.Steps.{LosesNothing as NodesLoseNothing}
 use Rattle.world.specs.declared.place.Place.{Place}
@@ -65,8 +64,8 @@ gathers_none node old none = subst (λ (k : ℕ). Gathers k old old) (sym none) 
 -- ---- an item at a node
 
 pub takes_item : (node : ℕ) (item : Item) (old : WorldState) (between : NodesState) (new : WorldState) → old.nodes.losses ≤ between.losses
-    → (NodesLoseNothing old.nodes between → Acts (node - 1) (takes item) old.nodes between) → GoesOn (with_nodes between old) new
+    → (NodesLoseNothing old.nodes between → TakesExactly node item old.nodes between) → GoesOn (with_nodes between old) new
     → (NodesLoseNothing between new.nodes → Gathers node (with_nodes between old) new) → NodesLoseNothing old.nodes new.nodes → TakesItem node item old new
-takes_item node item old between new rises acts goes gathers none =
+takes_item node item old between new rises exact goes gathers none =
     let s = nodes_split old.nodes between new.nodes rises goes.nodes.rises none in
-    (between, acts s.0, gathers s.1)
+    (between, exact s.0, gathers s.1)

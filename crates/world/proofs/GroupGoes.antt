@@ -15,7 +15,7 @@ use Rattle.exact_model.specs.world_model.Goes.{is_apart}
 use Rattle.exact_model.specs.world_model.Goes.WorldStep.{goes_on as group_goes}
 use Rattle.world_nodes.specs.Nodes.{NodesState, StandsFor as NodesStand}
 use Rattle.world_nodes.specs.Goes.{Acts, GoesBy}
-use Rattle.world_nodes.specs.Steps.{ActsOrRests, ComesOrRests, HandsOrRests, MasterGoes, MasterGoesOrRests, MasterHears, forgetful}
+use Rattle.world_nodes.specs.Steps.{ActsOrRests, ComesOrRests, MasterGoes, MasterGoesOrRests, MasterHears, forgetful}
 use Rattle.world.specs.Goes.{NodesGo, NodesGoOn}
 use Rattle.world.specs.Goes.Goes.{rests as stands_still, goes_on as then_goes}
 use Rattle.world.specs.Inside.{GoesOn, NodesStay}

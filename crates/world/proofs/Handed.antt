@@ -8,6 +8,7 @@ use Rattle.world_base.specs.declared.item.Port.{Port}
 use Rattle.exact_model.specs.node_model.Moves.Deed.{takes}
 use Rattle.world_nodes.specs.Goes.{Acts, node_of, running}
 use Rattle.world_nodes.specs.Nodes.{NodesState}
+use Rattle.world_nodes.specs.Steps.{TakesIn}
 use Rattle.world_pipes.specs.declared.way.Way.{Way}
 use Rattle.world_pipes.specs.Piped.{Piped}
 use Rattle.world.specs.declared.place.Place.{Place}
@@ -82,9 +83,9 @@ takes_on false old number count place client new later final housed at positive 
 pub takes_part : (place : Place) (port : Port) (count : ℕ) (old : NodesState) (client : Piped) (new : NodesState) (later : Piped) (waiting piece : List ℕ)
     → place.at < length client.ways → IfSome (slice_get client.ways place.at) (λ way. waiting ≡ way.up) → 0 < count → count ≤ length waiting
     → (running old.nodes place.node ≡ None → ⊥) → piece ≡ take count waiting
-    → IfSome (slice_get client.ways place.at) (λ way. later ≡ with_less place.at count way client) → Acts (place.node - 1) (takes (Bytes port piece 0)) old new
-    → TakesUp place port count old client new later
-takes_part place port count old client new later waiting piece below up some part runs is less acts =
+    → IfSome (slice_get client.ways place.at) (λ way. later ≡ with_less place.at count way client) → TakesIn place.node (Bytes port piece 0) old new
+    → Acts (place.node - 1) (takes (Bytes port piece 0)) old new → TakesUp place port count old client new later
+takes_part place port count old client new later waiting piece below up some part runs is less step acts =
     let w = there client.ways place.at below in
     let waits : waiting ≡ w.0.up = of_some (λ (way : Way). waiting ≡ way.up) w.0 w.1 up in
     record {
@@ -93,6 +94,7 @@ takes_part place port count old client new later waiting piece below up some par
       some = some;
       runs = runs;
       part = (let e = ap length waits in omega (arith, e, part));
+      step = subst (λ (l : List ℕ). TakesIn place.node (Bytes port l 0) old new) (is ∙ ap (take count) waits) step;
       acts = subst (λ (l : List ℕ). Acts (place.node - 1) (takes (Bytes port l 0)) old new) (is ∙ ap (take count) waits) acts;
       is = of_some (λ (way : Way). later ≡ with_less place.at count way client) w.0 w.1 less;
     }

@@ -7,16 +7,18 @@ use Rattle.std.proofs.lemmas.Option.{same_Some}
 use Rattle.agreement.specs.MasterState.{refusal}
 use Rattle.ballot.specs.Config.{Config}
 use Rattle.master.specs.declared.event.Idle.{Idle}
-use Rattle.world_nodes.specs.Goes.{MasterActs, behind_giving, running}
+use Rattle.world_base.specs.declared.item.Item.TheVariants.{Bytes}
+use Rattle.world_nodes.specs.Goes.{behind_giving, running}
 use Rattle.world_nodes.specs.Nodes.{NodesState}
 use Rattle.world_nodes.specs.Steps.{LosesNothing as NodesLoseNothing}
+use Rattle.world_nodes.proofs.Exactly.{exactly}
 use Rattle.world_pipes.specs.declared.way.Way.{Way}
 use Rattle.world_pipes.specs.Piped.{Piped, is_holding}
 use Rattle.world.specs.declared.event.Event.{Event}
 use Rattle.world.specs.declared.event.Event.TheVariants as events
 use Rattle.world.specs.declared.place.Place.{Place}
 use Rattle.world.specs.declared.world.WorldClient.{WorldClient}
-use Rattle.world.specs.Found.{Connected, place_numbered, with_piped}
+use Rattle.world.specs.Found.{Connected, place_numbered, port_of, with_piped}
 use Rattle.world.specs.Gathering.{Gathers}
 use Rattle.world.specs.Goes.{LosesNothing}
 use Rattle.world.specs.Happening.{CannotHappen, Does, Happens, IsClosed, IsNoPart, Run, down_of, is_held, is_held_by, up_of}
@@ -29,9 +31,9 @@ use Rattle.world.proofs.StandsThere.{connected, numbered_at, way_found}
 
 -- ---- the master
 
-pub assign_meets : (r : Result (Unit {0}) Idle) (config : Config) (old : WorldState) (new : NodesState) → (NodesLoseNothing old.nodes new → OnOk r (MasterActs (behind_giving config) old.nodes new))
+pub assign_meets : (r : Result (Unit {0}) Idle) (config : Config) (old : WorldState) (new : NodesState) → (NodesLoseNothing old.nodes new → OnOk r (new ≡ behind_giving config old.nodes))
     → IsErr r ↔ (refusal old.nodes.master config ≡ None → ⊥) → OnErr r (new ≡ old.nodes) → Meets (events.Assign config) old r (with_nodes new old)
-assign_meets (Ok x) config old new acts idle same = λ none whole. (λ refused. both_ways false refl (idle.1 refused), (new, acts whole, refl))
+assign_meets (Ok x) config old new acts idle same = λ none whole. (λ refused. both_ways false refl (idle.1 refused), ap (λ (n : NodesState). with_nodes n old) (acts whole))
 assign_meets (Err e) config old new acts idle same = (idle.0 refl, ap (λ (n : NodesState). with_nodes n old) same)
 
 -- ---- a connection's end at its node
@@ -59,8 +61,9 @@ no_part count waiting some part (inr more) = omega (arith, part, more)
 -- ---- bytes come up
 
 pub carries_up : (number : ℕ) (place : Place) (count : ℕ) (old mid new : WorldState) → slice_get old.connections (number - 1) ≡ Some place → 0 < number → place.is_open ≡ true
-    → TakesUpOn number place count old mid → Gathers place.node mid new → (CannotHappen (events.CarryUp number count) old → ⊥) × Does (events.CarryUp number count) old new
-carries_up number place count old mid new at positive up t gathers = (can, done)
+    → TakesUpOn number place count old mid → NodesLoseNothing old.nodes mid.nodes → Gathers place.node mid new
+    → (CannotHappen (events.CarryUp number count) old → ⊥) × Does (events.CarryUp number count) old new
+carries_up number place count old mid new at positive up t none gathers = (can, done)
   where
     c : Connected number old
     c = record {
@@ -81,7 +84,8 @@ carries_up number place count old mid new at positive up t gathers = (can, done)
       c,
       (
         t.between,
-        t.takes.acts,
+        exactly place.node (Bytes (port_of number) (take count t.takes.way.up) 0) old.nodes t.between t.takes.step
+            (subst (λ (n : NodesState). NodesLoseNothing old.nodes n) (ap (λ (w : WorldState). w.nodes) t.is) none),
         subst (λ (w : WorldState). Gathers place.node w new)
             (t.is ∙ ap (λ (p : Piped). let w : WorldState = record (with_piped place.client t.client p old) { nodes = t.between } in w) t.takes.is) gathers,
       ),
@@ -158,17 +162,20 @@ never_opened number count w none = inl (ap (λ (o : Option Place). is_held o w.c
 -- ---- whole steps
 
 -- where nothing is counted behind it, what comes of an event is what came of it
-pub step_happens : (event : Event) (old mid new : WorldState) (before : ℕ) → before ≡ old.nodes.losses → GoesOn old mid → Meets event old (Ok tt) mid → mid.losses ≤ new.losses
-    → (LosesNothing mid new → (mid.nodes.losses ≡ before) × (before < 2 ^ 64 - 1)) → (LosesNothing mid new → new ≡ mid) → Happens event old (Ok tt) new
-step_happens event old mid new before is went meets rises whole same =
-    λ none.
-    let x = went.rises in let still = none.0 in let low = none.1 in
-    let one : LosesNothing old mid = ((let e : mid.losses ≡ old.losses = omega (arith, x, rises, still) in e), low) in
-    let two : LosesNothing mid new = ((let e : new.losses ≡ mid.losses = omega (arith, x, rises, still) in e), (let l : mid.losses < 2 ^ 64 - 1 = omega (arith, x, rises, still, low) in l)) in
-    let w = whole two in let kept = w.0 in let below = w.1 in
-    let nodes : NodesLoseNothing old.nodes mid.nodes =
-    ((let e : mid.nodes.losses ≡ old.nodes.losses = omega (arith, kept, is) in e), (let l : old.nodes.losses < 2 ^ 64 - 1 = omega (arith, is, below) in l)) in
-    subst (λ (w : WorldState). (CannotHappen event old → ⊥) × Does event old w) (sym (same two)) (meets one nodes)
+pub step_happens : (event : Event) (old mid new : WorldState) (before counted : ℕ) → before ≡ old.nodes.losses → counted ≡ old.losses → GoesOn old mid → Meets event old (Ok tt) mid
+    → mid.losses ≤ new.losses → (mid.losses ≡ counted → LosesNothing mid new → (mid.nodes.losses ≡ before) × (before < 2 ^ 64 - 1)) → (LosesNothing mid new → new ≡ mid)
+    → Happens event old (Ok tt) new
+step_happens event old mid new before counted is so_many went meets rises whole same = (
+  (let x = went.rises in let l : old.losses ≤ new.losses = omega (arith, x, rises) in l),
+  λ none.
+      let x = went.rises in let still = none.0 in let low = none.1 in
+      let one : LosesNothing old mid = ((let e : mid.losses ≡ old.losses = omega (arith, x, rises, still) in e), low) in
+      let two : LosesNothing mid new = ((let e : new.losses ≡ mid.losses = omega (arith, x, rises, still) in e), (let l : mid.losses < 2 ^ 64 - 1 = omega (arith, x, rises, still, low) in l)) in
+      let w = whole (one.0 ∙ sym so_many) two in let kept = w.0 in let below = w.1 in
+      let nodes : NodesLoseNothing old.nodes mid.nodes =
+      ((let e : mid.nodes.losses ≡ old.nodes.losses = omega (arith, kept, is) in e), (let l : old.nodes.losses < 2 ^ 64 - 1 = omega (arith, is, below) in l)) in
+      subst (λ (w : WorldState). (CannotHappen event old → ⊥) × Does event old w) (sym (same two)) (meets one nodes),
+)
 
 -- one more event
 pub run_more : (events : List Event) (event : Event) (old mid new : WorldState) (result : Result (Unit {0}) Idle) → Run events old mid → Happens event mid result new → Run (events ++ event ∷ []) old new

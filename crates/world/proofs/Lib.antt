@@ -24,3 +24,5 @@ mod CallsCounted
 mod CallsMet
 mod ItemsMet
 mod OneAgreed
+mod AgreedOnlyGrows
+mod CountedOnce

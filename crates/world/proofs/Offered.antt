@@ -62,9 +62,12 @@ was_heard (Err e) P ok does = absurd (both_ways true ok refl)
 
 -- it has it then, or not
 pub hears_of_one : (has : Bool) (node : ℕ) (port : Port) (old new : NodesState) (core : CountedCore) → node_of new.nodes node ≡ Some core
-    → has ≡ is_some (listed_at port core.core) → Acts (node - 1) (takes (Opened port 0)) old new → HearsOfOne has node port old new
-hears_of_one true node port old new core stands known acts = (acts, record { core = core; stands = stands; known = sym known })
-hears_of_one false node port old new core stands known acts = inr (acts, record { core = core; stands = stands; known = sym known })
+    → has ≡ is_some (listed_at port core.core) → TakesIn node (Opened port 0) old new → Acts (node - 1) (takes (Opened port 0)) old new
+    → HearsOfOne has node port old new
+hears_of_one true node port old new core stands known step acts =
+    record { step = step; acts = acts; known = record { core = core; stands = stands; known = sym known } }
+hears_of_one false node port old new core stands known step acts =
+    inr (record { step = step; acts = acts; known = record { core = core; stands = stands; known = sym known } })
 
 -- ---- the client's part
 
@@ -74,7 +77,7 @@ pub reaches : (taken : Bool) (node : ℕ) (port : Port) (old new : NodesState) (
     → HearsOfOne taken node port old new → later ≡ (if taken then mid else taken_back mid) → Reaches taken node port old client new later
 reaches true node port old new client mid later opens follows hears is =
     subst (λ (p : Piped). Reaches true node port old client new p) (sym is)
-    (record { opens = opens; follows = follows; acts = hears.0; known = hears.1 })
+    (record { opens = opens; follows = follows; hears = hears })
 reaches false node port old new client mid later opens follows hears is =
     subst (λ (p : Piped). Reaches false node port old client new p) (sym is) (taking_back_follows (node - 1) port client mid opens, hears)
 

@@ -25,7 +25,7 @@ use Rattle.world.specs.declared.place.Place.{Place}
 use Rattle.world.specs.Found.{core_named, is_named, port_of, with_piped}
 use Rattle.world.specs.Happening.{Does as HappenDoes, IsTaken, is_serving, next_number}
 use Rattle.world.specs.Gathering.{Gathers}
-use Rattle.world.specs.Inside.{ConnectsAt, GoesOn, HasNew, HearsOfOne, OpensAt}
+use Rattle.world.specs.Inside.{ConnectsAt, GoesOn, HasNew, HearsOfOne, IsKnown, OpensAt}
 use Rattle.world.specs.Standing.{GoesTo, WorldGoes}
 use Rattle.world.specs.Standing.Steps.{rests, goes_on}
 use Rattle.world.specs.World.{WorldState}
@@ -68,13 +68,16 @@ connects_at i node number at old client between piped after found counted last i
 turned : (old : WorldState) (new : NodesState) (node : ℕ) (port : Port) → AreHoused (leads_of old.clients) old.connections → length old.connections < port.0
     → HearsOfOne false node port old.nodes new → WorldGoes old (with_nodes new old)
 turned old new node port housed beyond (inl same) nodes config cs m trail s = world_stands old new (nodes_stay old.nodes new same) nodes config cs m trail s
-turned old new node port housed beyond (inr (acts, has)) nodes config cs m trail s = by node refl
+turned old new node port housed beyond (inr hears) nodes config cs m trail s = by node refl
   where
+    has : IsKnown false node port new
+    has = hears.known
+
     by : (k : ℕ) → node ≡ k → GoesTo m (with_nodes new old)
     by zero is = absurd (none-some has.core (sym (ap (node_of new.nodes) is) ∙ has.stands))
     by (suc n) is =
         let low : node - 1 ≡ n = omega (arith, is) in
-        let does = subst (λ (k : ℕ). Acts k (takes (Opened port 0)) old.nodes new) low acts in
+        let does = subst (λ (k : ℕ). Acts k (takes (Opened port 0)) old.nodes new) low hears.acts in
         let d = does m.group s.nodes in
         let found : slice_get new.nodes n ≡ Some has.core = sym (ap (node_of new.nodes) is) ∙ has.stands in
         let stands = ap (λ (l : List CoreState). slice_get l n) d.stands.nodes ∙ get_mapped (λ (c : CountedCore). c.core) new.nodes n has.core found in
@@ -113,7 +116,7 @@ open_meets name at node old new client first stands free serving o = (can, done)
       record { at = at; first = first; client = o.connects.client; stands = o.connects.found },
       o.connects.piped,
       o.connects.reaches.opens,
-      (o.connects.between, o.connects.reaches.acts, subst (λ (w : WorldState). Gathers node w new) o.connects.is o.gathers),
+      (o.connects.between, o.exact, subst (λ (w : WorldState). Gathers node w new) o.connects.is o.gathers),
     )
 
 -- a client that holds a connection opens none

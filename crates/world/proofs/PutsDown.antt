@@ -3,6 +3,7 @@ use Rattle.std.proofs.Common.{◌≡◌, ◌⊎◌, inl, inr, ◌↔◌, ◌≤�
 use Rattle.std.specs.Prelude.{IfSome, IfOk, IsErr}
 use Rattle.std.proofs.lemmas.Bool.{both_ways}
 use Rattle.std.proofs.lemmas.List.{append-nil, set-set}
+use Rattle.std.proofs.lemmas.Option.{same_Some}
 use Rattle.lists.proofs.Places.{get_set}
 use Rattle.master.specs.declared.event.Idle.{Idle}
 use Rattle.world_base.specs.declared.handed.Handed.{Handed}
@@ -10,9 +11,10 @@ use Rattle.world_base.specs.declared.handed.Handed.TheVariants as answers
 use Rattle.world_base.specs.declared.item.Port.{Port}
 use Rattle.world_base.specs.Core.{CountedCore}
 use Rattle.exact_model.specs.node_model.Moves.Deed.{gives}
-use Rattle.world_nodes.specs.Goes.{Acts, AnswersFor, HandsOver, node_of}
+use Rattle.world_nodes.specs.Goes.{AnswersFor, GivesExactly, HandsOver, behind_deed, node_of}
 use Rattle.world_nodes.specs.Nodes.{NodesState}
-use Rattle.world_nodes.specs.Steps.{HandsOrRests}
+use Rattle.world_nodes.specs.Steps.{HandsIn}
+use Rattle.world_nodes.proofs.Exactly.{gives_acts}
 use Rattle.world_pipes.specs.declared.way.Way.{Way}
 use Rattle.world_pipes.specs.Piped.{Piped}
 use Rattle.world.specs.Housed.{leads}
@@ -27,25 +29,26 @@ use Rattle.world.proofs.NodesGoOn.{nodes_forget, nodes_stay, staying_goes}
 -- ---- one call of a node
 
 pub handed_down : (r : Result Handed Idle) (node : ℕ) (port : Port) (old new : NodesState) (before behind : List ℕ) → IsErr r ↔ (node_of old.nodes node ≡ None)
-    → OnOk r (Acts (node - 1) (gives port) old new) → OnOk r (HandsOver node port old before behind) → OnErr r ((new ≡ old) × (behind ≡ before)) → HandsDown node port old before new behind
-handed_down r node port old new before behind idle acts over same = by r (node_of old.nodes node) refl idle acts over same
+    → OnOk r (GivesExactly node port old new) → OnOk r (HandsOver node port old before behind) → OnErr r ((new ≡ old) × (behind ≡ before)) → HandsDown node port old before new behind
+handed_down r node port old new before behind idle exact over same = by r (node_of old.nodes node) refl idle exact over same
   where
     behind_it : (o : Option CountedCore) → node_of old.nodes node ≡ o → Gives o node port old new → behind ≡ before ++ put_out port o → HandsDown node port old before new behind
     behind_it o e handed is = subst (λ (z : Option CountedCore). Gives z node port old new × (behind ≡ before ++ put_out port z)) (sym e) (handed, is)
 
-    by : (r : Result Handed Idle) (o : Option CountedCore) → node_of old.nodes node ≡ o → IsErr r ↔ (node_of old.nodes node ≡ None) → OnOk r (Acts (node - 1) (gives port) old new)
+    by : (r : Result Handed Idle) (o : Option CountedCore) → node_of old.nodes node ≡ o → IsErr r ↔ (node_of old.nodes node ≡ None) → OnOk r (GivesExactly node port old new)
         → OnOk r (HandsOver node port old before behind) → OnErr r ((new ≡ old) × (behind ≡ before)) → HandsDown node port old before new behind
-    by (Ok h) None e idle acts over same = absurd (both_ways false refl (idle.1 e))
-    by (Ok h) (Some core) e idle acts over same = behind_it (Some core) e acts (over core e)
-    by (Err x) o e idle acts over same = behind_it None (idle.0 refl) same.0 (same.1 ∙ sym (append-nil before))
+    by (Ok h) None e idle exact over same = absurd (both_ways false refl (idle.1 e))
+    by (Ok h) (Some core) e idle exact over same =
+        behind_it (Some core) e (exact.is ∙ ap (λ (z : CountedCore). behind_deed (node - 1) z (gives port) old) (same_Some exact.core core (sym exact.there ∙ e))) (over core e)
+    by (Err x) o e idle exact over same = behind_it None (idle.0 refl) same.0 (same.1 ∙ sym (append-nil before))
 
 -- whatever memory does
-pub may_hand_down : (r : Result Handed Idle) (node : ℕ) (port : Port) (old new : NodesState) (before behind : List ℕ) → OnOk r (HandsOrRests node port old new before behind)
+pub may_hand_down : (r : Result Handed Idle) (node : ℕ) (port : Port) (old new : NodesState) (before behind : List ℕ) → IfOk r (λ handed. HandsIn node port old new before behind handed)
     → OnErr r ((new ≡ old) × (behind ≡ before)) → MayHandDown node port old before new behind
 may_hand_down (Ok h) node port old new before behind does same = by does
   where
-    by : HandsOrRests node port old new before behind → MayHandDown node port old before new behind
-    by (inl hands) = inr hands
+    by : HandsIn node port old new before behind h → MayHandDown node port old before new behind
+    by (inl hands) = inr (gives_acts node port old new hands.0, hands.1)
     by (inr rests) = inl (nodes_forget old new rests.0, rests.1)
 may_hand_down (Err e) node port old new before behind does same = inl (nodes_stay old new same.0, same.1)
 

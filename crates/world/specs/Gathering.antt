@@ -1,13 +1,13 @@
 -- What a node put out goes down on its connections.
 use Rattle.std.specs.Prelude.{◌≡◌, ℕ, zero, suc, ◌-◌, ◌==◌, ◌&&◌, Bool, true, false, List, [], ◌++◌, Option, Some, None, length, set}
-use Rattle.exact_model.specs.node_model.Moves.Deed.{takes, gives}
+use Rattle.exact_model.specs.node_model.Moves.Deed.{gives}
 use Rattle.world_base.specs.Core.{CountedCore}
 use Rattle.world_base.specs.Handing.{answer_of, bytes_of, listed_at}
 use Rattle.world_base.specs.declared.handed.Handed.{Handed}
 use Rattle.world_base.specs.declared.handed.Handed.TheVariants as answers
 use Rattle.world_base.specs.declared.item.Item.{Item}
 use Rattle.world_base.specs.declared.item.Port.{Port}
-use Rattle.world_nodes.specs.Goes.{Acts, node_of}
+use Rattle.world_nodes.specs.Goes.{TakesExactly, behind_deed, node_of}
 use Rattle.world_nodes.specs.Nodes.{NodesState}
 use Rattle.world.specs.declared.place.Place.{Place}
 use Rattle.world.specs.Found.{Connected, place_numbered, port_of, with_down, with_piped}
@@ -32,7 +32,7 @@ is_told_open port (Some node) = is_more (answer_of (listed_at port node.core))
 -- it hands these bytes over
 abbrev pub Gives : Option CountedCore → ℕ → Port → NodesState → NodesState → Type 0
 Gives None node port old new = new ≡ old
-Gives (Some core) node port old new = Acts (node - 1) (gives port) old new
+Gives (Some core) node port old new = new ≡ behind_deed (node - 1) core (gives port) old
 
 -- ---- one connection
 
@@ -73,7 +73,7 @@ abbrev pub Gathers : ℕ → WorldState → WorldState → Type 0
 Gathers zero old new = new ≡ old
 Gathers (suc at) old new = GathersAmong (length old.connections) (suc at) old new
 
--- a node takes an item in, and what it put out then goes down
+-- a node takes just this item, and what it put out then goes down
 abbrev pub TakesItem : ℕ → Item → WorldState → WorldState → Type 0
 TakesItem node item old new =
-    (between : NodesState) × Acts (node - 1) (takes item) old.nodes between × Gathers node (record old { nodes = between }) new
+    (between : NodesState) × TakesExactly node item old.nodes between × Gathers node (record old { nodes = between }) new

@@ -1,5 +1,7 @@
 -- What the nodes of a world do is what may happen in a group, and so they agree.
-use Rattle.std.specs.Prelude.{◌≡◌, ◌<◌, ◌≤◌, ◌^◌, ◌-◌, ℕ, List, ◌∷◌}
+use Rattle.std.specs.Prelude.{◌≡◌, ◌⊎◌, ◌<◌, ◌≤◌, ◌^◌, ◌-◌, ℕ, List, ◌∷◌}
+use Rattle.lists.specs.Lists.{IsPrefixOf}
+use Rattle.ballot.specs.Losses.{one_more}
 use Rattle.ballot.specs.Config.{Config}
 use Rattle.agreement.specs.Agreement.{Agrees, Holds}
 use Rattle.agreement.specs.Leaving.{LeftInOrder}
@@ -39,6 +41,10 @@ pub record NodesGoOn (old new : NodesState) : Type 0 where
 abbrev pub LosesNothing : WorldState → WorldState → Type 0
 LosesNothing old new = (new.losses ≡ old.losses) × (old.losses < 2 ^ 64 - 1)
 
+-- the count rises by one, or not at all
+abbrev pub CountsOnce : WorldState → WorldState → Type 0
+CountsOnce old new = (new.losses ≡ old.losses) ⊎ (new.losses ≡ one_more old.losses)
+
 -- its count never falls, and its nodes go on as a group
 pub record WorldGoesOn (old new : WorldState) : Type 0 where
   pub rises : old.losses ≤ new.losses
@@ -63,3 +69,9 @@ pub record AreReached (nodes : ℕ) (config : Config) (new : NodesState) : Type 
 -- nodes that are reached still are behind it
 abbrev pub StaysReached : NodesState → NodesState → Type 0
 StaysReached old new = (nodes : ℕ) (config : Config) → AreReached nodes config old → AreReached nodes config new
+
+-- .. and the list on which they agreed before is a beginning of the list on which they agree then
+abbrev pub AgreedGrows : NodesState → NodesState → Type 0
+AgreedGrows old new =
+    (nodes : ℕ) (config : Config) (before : AreReached nodes config old) →
+    (after : AreReached nodes config new) × IsPrefixOf before.list after.list

@@ -1,5 +1,5 @@
 -- What happens in a world: each event, when it cannot happen, and what it does.
-use Rattle.std.specs.Prelude.{◌≡◌, ◌⊎◌, ◌<◌, ℕ, suc, ◌-◌, ◌==◌, ◌&&◌, Bool, true, false, List, [], ◌∷◌, ◌++◌, Option, Some, None, Result, Ok, Err, length, map, slice_get, take}
+use Rattle.std.specs.Prelude.{◌≡◌, ◌⊎◌, ◌<◌, ◌≤◌, ℕ, suc, ◌-◌, ◌==◌, ◌&&◌, Bool, true, false, List, [], ◌∷◌, ◌++◌, Option, Some, None, Result, Ok, Err, length, map, slice_get, take}
 use Rattle.agreement.specs.MasterState.{refusal}
 use Rattle.ballot.specs.Config.{Config}
 use Rattle.ballot.specs.Message.{Message}
@@ -14,7 +14,7 @@ use Rattle.exact_model.specs.group_model.Group.{opening_group}
 use Rattle.master.specs.declared.event.Idle.{Idle}
 use Rattle.world_base.specs.Core.{CountedCore, serves}
 use Rattle.world_base.specs.declared.item.Item.TheVariants as items
-use Rattle.world_nodes.specs.Goes.{Comes, ComesToNobody, MasterActs, behind_giving, node_of, running}
+use Rattle.world_nodes.specs.Goes.{Comes, ComesToNobody, behind_giving, node_of, running}
 use Rattle.world_nodes.specs.Nodes.{NodesState, StandsFor}
 use Rattle.world_pipes.specs.declared.sending.Sending.TheVariants as sendings
 use Rattle.world_pipes.specs.declared.way.Way.{Way}
@@ -134,8 +134,7 @@ with_connection {w = w} c piped node =
     }
 
 abbrev pub Does : Event → WorldState → WorldState → Type 0
-Does (events.Assign config) old new =
-    (between : NodesState) × MasterActs (behind_giving config) old.nodes between × (new ≡ record old { nodes = between })
+Does (events.Assign config) old new = new ≡ record old { nodes = behind_giving config old.nodes }
 Does (events.Deliver number) old new =
     (between : NodesState) × Comes (slice_get old.nodes.sent number) old.nodes between
     × Gathers (receiver_of (slice_get old.nodes.sent number)) (record old { nodes = between }) new
@@ -159,11 +158,12 @@ Does (events.Unsubscribe name filter) old new = ClientDoes name (Asks (Call.Unsu
 
 -- ---- what comes of events
 
--- Idle comes only where the event cannot happen, and then nothing is changed; else, where nothing was lost, it can happen,
--- and what it asks was done.
+-- Idle comes only where the event cannot happen, and then nothing is changed. Else the count of losses does not fall. If nothing
+-- was lost, the event can happen, and what it asks was done.
 abbrev pub Happens : Event → WorldState → Result (Unit {0}) Idle → WorldState → Type 0
 Happens event old (Err idle) new = CannotHappen event old × (new ≡ old)
-Happens event old (Ok done) new = LosesNothing old new → (CannotHappen event old → ⊥) × Does event old new
+Happens event old (Ok done) new =
+    (old.losses ≤ new.losses) × (LosesNothing old new → (CannotHappen event old → ⊥) × Does event old new)
 
 -- events, one behind the other
 abbrev pub Run : List Event → WorldState → WorldState → Type 0

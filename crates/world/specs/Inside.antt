@@ -12,9 +12,9 @@ use Rattle.world_base.specs.Handing.{listed_at}
 use Rattle.world_base.specs.declared.item.Port.{Port}
 use Rattle.world_base.specs.declared.item.Item.TheVariants.{Bytes, Opened}
 use Rattle.exact_model.specs.node_model.Moves.Deed.{takes, gives}
-use Rattle.world_nodes.specs.Goes.{Acts, HandsOver, node_of, running}
+use Rattle.world_nodes.specs.Goes.{Acts, HandsOver, TakesExactly, node_of, running}
 use Rattle.world_nodes.specs.Nodes.{NodesState, StandsFor as NodesStand}
-use Rattle.world_nodes.specs.Steps.{LosesNothing as NodesLoseNothing}
+use Rattle.world_nodes.specs.Steps.{LosesNothing as NodesLoseNothing, TakesIn}
 use Rattle.world_pipes.specs.declared.way.Way.{Way}
 use Rattle.world_pipes.specs.declared.sending.Sending.{Sending}
 use Rattle.world_pipes.specs.declared.sending.Sending.TheVariants as sendings
@@ -106,6 +106,7 @@ pub record TakesUp (place : Place) (port : Port) (count : ℕ) (old : NodesState
   pub some : 0 < count
   pub part : count ≤ length way.up
   pub runs : running old.nodes place.node ≡ None → ⊥
+  pub step : TakesIn place.node (Bytes port (take count way.up) 0) old new
   pub acts : Acts (place.node - 1) (takes (Bytes port (take count way.up) 0)) old new
   pub is : later ≡ with_less place.at count way client
 
@@ -170,17 +171,22 @@ pub record IsKnown (has : Bool) (node : ℕ) (port : Port) (n : NodesState) : Ty
   pub stands : node_of n.nodes node ≡ Some core
   pub known : is_some (listed_at port core.core) ≡ has
 
--- a node hears of a new connection, and has it then; or has none, or does not hear of it
+-- a node hears of a new connection, and has it then or not
+pub record HearsAndHas (has : Bool) (node : ℕ) (port : Port) (old new : NodesState) : Type 0 where
+  pub step : TakesIn node (Opened port 0) old new
+  pub acts : Acts (node - 1) (takes (Opened port 0)) old new
+  pub known : IsKnown has node port new
+
+-- .. or does not hear of it
 abbrev pub HearsOfOne : Bool → ℕ → Port → NodesState → NodesState → Type 0
-HearsOfOne true node port old new = Acts (node - 1) (takes (Opened port 0)) old new × IsKnown true node port new
-HearsOfOne false node port old new = (new ≡ old) ⊎ (Acts (node - 1) (takes (Opened port 0)) old new × IsKnown false node port new)
+HearsOfOne true node port old new = HearsAndHas true node port old new
+HearsOfOne false node port old new = (new ≡ old) ⊎ HearsAndHas false node port old new
 
 -- a client has a new connection to a node, which takes it
 pub record HasNew (node : ℕ) (port : Port) (old : NodesState) (client : Piped) (new : NodesState) (later : Piped) : Type 0 where
   pub opens : Opens (node - 1) port (keeper_step Call.Opens client.core.state) client (Ok tt) later
   pub follows : ConnectingFollows (node - 1) port client (Ok tt) later
-  pub acts : Acts (node - 1) (takes (Opened port 0)) old new
-  pub known : IsKnown true node port new
+  pub hears : HearsAndHas true node port old new
 
 -- .. or it has none, and at most lost one
 abbrev pub Reaches : Bool → ℕ → Port → NodesState → Piped → NodesState → Piped → Type 0
@@ -203,4 +209,5 @@ pub record ConnectsAt (i node : ℕ) (old new : WorldState) : Type 0 where
 pub record OpensAt (i node : ℕ) (old new : WorldState) : Type 0 where
   pub between : WorldState
   pub connects : ConnectsAt i node old between
+  pub exact : TakesExactly node (Opened (port_of (next_number old)) 0) old.nodes connects.between
   pub gathers : Gathers node between new

@@ -6,7 +6,7 @@ ghost use Rattle.world_nodes.specs.Goes.{node_of};
 ghost use Rattle.world_nodes.specs.Steps.{LosesNothing as NodesLoseNothing};
 ghost use Rattle.world_pipes.specs.Following.{CallingFollows, FollowsAll};
 ghost use Rattle.world_pipes.specs.Piped.{TakesLeave, is_holding, taken_back};
-ghost use Rattle.world.specs.Goes.{LosesNothing, NodesGoOn};
+ghost use Rattle.world.specs.Goes.{CountsOnce, LosesNothing, NodesGoOn};
 ghost use Rattle.world.specs.Happening.{Loses, is_serving};
 ghost use Rattle.world.specs.Housed.{leads};
 ghost use Rattle.world.specs.Inside.{ConnectsAt, Counts, GoesOn, HearsOfOne, IsCall, Meets, OpensAt, Reaches};
@@ -25,6 +25,7 @@ impl World {
     pub(crate) fn open(&mut self, client: &ClientId, node: u8) -> Result<(), Idle>
         ensures goes { GoesOn self.old self.new }
         ensures meets { Meets (Event.Open client.now node) self.old result self.new }
+        ensures once { CountsOnce self.old self.new }
     {
         let Some(at) = self.place_of(client) else {
             return Err(Idle);
@@ -49,6 +50,7 @@ impl World {
         ensures goes { GoesOn self.old self.new }
         ensures opens { LosesNothing self.old self.new →
             NodesLoseNothing self.old.nodes self.new.nodes → OpensAt client node self.old self.new }
+        ensures once { CountsOnce self.old self.new }
     {
         let before = self.nodes.losses();
         if self.connect(client, node) {
@@ -94,6 +96,7 @@ impl World {
         ensures goes { GoesOn self.old self.new }
         ensures meets { Meets (Event.Abandon client.now)
             self.old result self.new }
+        ensures still { self.new.losses ≡ self.old.losses }
     {
         let Some(at) = self.place_of(client) else {
             return Err(Idle);
@@ -109,6 +112,7 @@ impl World {
         ensures goes { GoesOn self.old self.new }
         ensures meets { Meets (Event.Disconnect client.now)
             self.old result self.new }
+        ensures once { CountsOnce self.old self.new }
     {
         let Some(at) = self.place_of(client) else {
             return Err(Idle);
@@ -125,6 +129,7 @@ impl World {
         ensures goes { GoesOn self.old self.new }
         ensures meets { Meets (Event.Publish client.now publication.now)
             self.old result self.new }
+        ensures once { CountsOnce self.old self.new }
     {
         let Some(at) = self.place_of(client) else {
             return Err(Idle);
@@ -142,6 +147,7 @@ impl World {
         ensures goes { GoesOn self.old self.new }
         ensures meets { Meets (Event.Subscribe client.now filter.now qos)
             self.old result self.new }
+        ensures once { CountsOnce self.old self.new }
     {
         let Some(at) = self.place_of(client) else {
             return Err(Idle);
@@ -154,6 +160,7 @@ impl World {
         ensures goes { GoesOn self.old self.new }
         ensures meets { Meets (Event.Unsubscribe client.now filter.now)
             self.old result self.new }
+        ensures once { CountsOnce self.old self.new }
     {
         let Some(at) = self.place_of(client) else {
             return Err(Idle);

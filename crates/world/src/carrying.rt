@@ -2,7 +2,7 @@
 
 ghost use Rattle.std.specs.Prelude.{◌≡◌, ◌⊎◌, ◌≤◌, ◌<◌, ◌-◌, true, false, Some, length, slice_get, if◌then◌else◌, IfOk, OnOk, OnErr};
 ghost use Rattle.world_pipes.specs.Following.{FollowsAll};
-ghost use Rattle.world.specs.Goes.{LosesNothing, NodesGoOn};
+ghost use Rattle.world.specs.Goes.{CountsOnce, LosesNothing, NodesGoOn};
 ghost use Rattle.world.specs.Housed.{leads};
 ghost use Rattle.world.specs.Inside.{CannotHear, CannotTake, CannotTakeOn, GoesOn, HearsOn, Meets, TakesUpOn, TakesUpWhere, forgetful};
 
@@ -18,6 +18,7 @@ impl World {
     pub(crate) fn carry_up(&mut self, number: u64, count: u64) -> Result<(), Idle>
         ensures goes { GoesOn self.old self.new }
         ensures meets { Meets (Event.CarryUp number count) self.old result self.new }
+        ensures once { CountsOnce self.old self.new }
     {
         match self.place(number) {
             Some(place) if place.is_open => self.bring_up(place, number, count),
@@ -32,6 +33,7 @@ impl World {
         requires up { place.is_open ≡ true }
         ensures goes { GoesOn self.old self.new }
         ensures meets { Meets (Event.CarryUp number count) self.old result self.new }
+        ensures once { CountsOnce self.old self.new }
     {
         self.take_up(place, number, count)?;
         self.gather(place.node);
@@ -46,6 +48,7 @@ impl World {
         ensures goes { GoesOn self.old self.new }
         ensures takes { LosesNothing self.old self.new →
             OnOk result (TakesUpOn number place count self.old self.new) }
+        ensures once { CountsOnce self.old self.new }
         ensures idle { OnErr result (CannotTakeOn place count self.old) }
         ensures same { OnErr result (self.new ≡ self.old) }
     {
@@ -65,6 +68,7 @@ impl World {
     pub(crate) fn carry_down(&mut self, number: u64, count: u64) -> Result<(), Idle>
         ensures goes { GoesOn self.old self.new }
         ensures meets { Meets (Event.CarryDown number count) self.old result self.new }
+        ensures once { CountsOnce self.old self.new }
     {
         let Some(place) = self.place(number) else {
             return Err(Idle);

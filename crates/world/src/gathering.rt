@@ -22,6 +22,7 @@ impl World {
         ensures goes { GoesOn self.old self.new }
         ensures gathers { LosesNothing self.old.nodes self.new.nodes →
             Gathers node self.old self.new }
+        ensures still { self.new.losses ≡ self.old.losses }
     {
         if node != 0 {
             self.gather_open(node);
@@ -33,6 +34,7 @@ impl World {
         ensures goes { GoesOn self.old self.new }
         ensures gathers { LosesNothing self.old.nodes self.new.nodes →
             GathersAmong (length self.old.connections) node self.old self.new }
+        ensures still { self.new.losses ≡ self.old.losses }
     {
         let mut at = self.open_len();
         while at > 0 {
@@ -46,6 +48,7 @@ impl World {
         requires { at < length (open_from 1 self.old.connections) }
         ensures goes { GoesOn self.old self.new }
         ensures asks { AsksAt node at self.old self.new }
+        ensures still { self.new.losses ≡ self.old.losses }
     {
         let (number, place) = self.open_at(at);
         if place.node != node {
@@ -95,6 +98,7 @@ impl World {
         ensures connections { self.new.connections ≡ self.old.connections }
         ensures hands { LosesNothing self.old.nodes self.new.nodes →
             HandsOn number place self.old result self.new }
+        ensures still { self.new.losses ≡ self.old.losses }
     {
         let piped = &mut self.clients[place.client].piped;
         hand_down(

@@ -14,6 +14,7 @@ impl World {
     pub(crate) fn deliver(&mut self, number: u64) -> Result<(), Idle>
         ensures goes { GoesOn self.old self.new }
         ensures meets { Meets (Event.Deliver number) self.old result self.new }
+        ensures still { self.new.losses ≡ self.old.losses }
     {
         let receiver = self.receiver(number);
         self.nodes.deliver(number)?;
@@ -34,6 +35,7 @@ impl World {
     pub(crate) fn tick(&mut self, node: u8) -> Result<(), Idle>
         ensures goes { GoesOn self.old self.new }
         ensures meets { Meets (Event.Tick node) self.old result self.new }
+        ensures still { self.new.losses ≡ self.old.losses }
     {
         self.nodes.tick(node)?;
         self.gather(node);
@@ -43,6 +45,7 @@ impl World {
     pub(crate) fn crash(&mut self, node: u8) -> Result<(), Idle>
         ensures goes { GoesOn self.old self.new }
         ensures meets { Meets (Event.Crash node) self.old result self.new }
+        ensures still { self.new.losses ≡ self.old.losses }
     {
         self.nodes.crash(node)?;
         self.gather(node);
@@ -52,6 +55,7 @@ impl World {
     pub(crate) fn assign(&mut self, config: &Config) -> Result<(), Idle>
         ensures goes { GoesOn self.old self.new }
         ensures meets { Meets (Event.Assign config.now) self.old result self.new }
+        ensures still { self.new.losses ≡ self.old.losses }
     {
         self.nodes.assign(config)
     }
@@ -59,6 +63,7 @@ impl World {
     pub(crate) fn notice(&mut self, number: u64) -> Result<(), Idle>
         ensures goes { GoesOn self.old self.new }
         ensures meets { Meets (Event.Notice number) self.old result self.new }
+        ensures still { self.new.losses ≡ self.old.losses }
     {
         match self.place(number) {
             Some(place) if place.is_open => self.end(place, number),
@@ -73,6 +78,7 @@ impl World {
         requires positive { 0 < number }
         ensures goes { GoesOn self.old self.new }
         ensures meets { Meets (Event.Notice number) self.old result self.new }
+        ensures still { self.new.losses ≡ self.old.losses }
     {
         self.nodes.ended(place.node, Port(number))?;
         self.gather(place.node);

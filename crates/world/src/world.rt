@@ -1,12 +1,12 @@
 // A world.
 
-ghost use Rattle.std.specs.Prelude.{◌≡◌, ◌≤◌, ◌<◌, ◌^◌, ◌-◌, ◌↔◌, true, false, Some, length, map, slice_get, IfOk, IfSome, IsErrOf, OnErr};
+ghost use Rattle.std.specs.Prelude.{◌≡◌, ◌⊎◌, ◌≤◌, ◌<◌, ◌^◌, ◌-◌, ◌↔◌, true, false, Some, length, map, slice_get, IfOk, IfSome, IsErrOf, OnErr};
 ghost use Rattle.agreement.specs.World.{can_open};
 ghost use Rattle.ballot.specs.Losses.{one_more};
 ghost use Rattle.model.specs.World.{AreApart};
 ghost use Rattle.exact_model.specs.world_model.World.{new_client};
 ghost use Rattle.world_pipes.specs.Standing.{StandsFor};
-ghost use Rattle.world.specs.Goes.{AreReached, LosesNothing, StaysReached, WorldGoesOn};
+ghost use Rattle.world.specs.Goes.{AgreedGrows, AreReached, CountsOnce, LosesNothing, StaysReached, WorldGoesOn};
 ghost use Rattle.world.specs.Happening.{Happens, Opens, Run, new_world_client};
 ghost use Rattle.world.specs.Inside.{GoesOn, Meets};
 ghost use Rattle.world.specs.Standing.{ClientsStand, IsReached, KeepsReached, WorldGoes, identifiers};
@@ -104,13 +104,18 @@ impl World {
         // Its nodes go on as a group, and agree behind the event.
         ensures goes { WorldGoesOn self.old self.new }
         ensures reached { StaysReached self.old.nodes self.new.nodes }
+        // What was agreed is a beginning of what is agreed after the event.
+        ensures grown { AgreedGrows self.old.nodes self.new.nodes }
         // What the event asks is done, or it cannot happen, or something was lost, which is counted.
         ensures happens { Happens event.now self.old result self.new }
         ensures same { OnErr result (self.new ≡ self.old) }
+        // The count of losses rises by one, or not at all.
+        ensures count { CountsOnce self.old self.new }
     {
         let before = self.nodes.losses();
+        let counted = self.losses;
         self.happen(event)?;
-        self.count(before);
+        self.count(before, counted);
         Ok(())
     }
 
@@ -122,6 +127,8 @@ impl World {
         // Its nodes go on as a group, and agree behind them.
         ensures goes { WorldGoesOn self.old self.new }
         ensures reached { StaysReached self.old.nodes self.new.nodes }
+        // What was agreed is a beginning of what is agreed after them.
+        ensures grown { AgreedGrows self.old.nodes self.new.nodes }
         // Each event has happened, or could not.
         ensures runs { Run events.now self.old self.new }
     {
@@ -160,16 +167,19 @@ impl World {
         self.losses = self.losses.saturating_add(1);
     }
 
-    // Counts a step in which memory was wanting in the nodes, which had counted so many before it.
-    fn count(&mut self, before: u64)
+    // Counts a step in which the nodes ran out of memory: they had counted `before`. Does not count it again where the
+    // world did so already: it had counted `counted`.
+    fn count(&mut self, before: u64, counted: u64)
         ensures nodes { self.new.nodes ≡ self.old.nodes }
         ensures clients { self.new.clients ≡ self.old.clients }
         ensures rises { self.old.losses ≤ self.new.losses }
-        ensures whole { LosesNothing self.old self.new →
+        ensures whole { self.old.losses ≡ counted → LosesNothing self.old self.new →
             (self.old.nodes.losses ≡ before) × (before < 2 ^ 64 - 1) }
         ensures same { LosesNothing self.old self.new → self.new ≡ self.old }
+        ensures once { (self.new.losses ≡ self.old.losses)
+            ⊎ ((self.old.losses ≡ counted) × (self.new.losses ≡ one_more self.old.losses)) }
     {
-        if !self.is_whole(before) {
+        if self.losses == counted && !self.is_whole(before) {
             self.lose();
         }
     }
@@ -187,6 +197,7 @@ impl World {
     fn happen(&mut self, event: &Event) -> Result<(), Idle>
         ensures goes { GoesOn self.old self.new }
         ensures meets { Meets event.now self.old result self.new }
+        ensures once { CountsOnce self.old self.new }
     {
         match event {
             Event::Assign(config) => self.assign(config),

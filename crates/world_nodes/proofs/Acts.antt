@@ -24,7 +24,7 @@ use Rattle.world_model.proofs.DeedsCarry.{deeds_carry_their_bytes}
 use Rattle.world_model.proofs.of_group_model.Placed.{get_mapped, set_mapped}
 use Rattle.world_nodes.specs.Nodes.{NodesState, StandsFor}
 use Rattle.world_nodes.specs.Goes.{Acts, behind_deed}
-use Rattle.world_nodes.specs.Steps.{LosesNothing, TakesIn}
+use Rattle.world_nodes.specs.Steps.{TakesIn}
 use Rattle.world_nodes.specs.Inside.{RunsAt, TookItem, WasSent}
 
 abbrev pub core_in : CountedCore → CoreState
@@ -121,17 +121,6 @@ turn_takes old node at x new item more false losses t count =
           }
           );
     }
-
-pub turn_acts : (old : NodesState) (node at : ℕ) (x : RunsAt old.nodes node at) (new : CountedCore) (item : Item) (more : List (ℕ × Message Command))
-    (whole : Bool) (losses : ℕ) → TookItem x.core item new old.sent more whole → losses ≡ (if whole && true then old.losses else one_more old.losses)
-    → WasSent node item old.sent → LosesNothing old (behind_turn_of at new more losses old) → Acts (node - 1) (takes item) old (behind_turn_of at new more losses old)
-turn_acts old node at x new item more true losses t count sent none =
-    subst (λ (z : NodesState). Acts (node - 1) (takes item) old z)
-    (sym (ap (λ (k : ℕ). behind_turn_of at new more k old) count ∙ whole_turn old at x.core new item more t))
-    (subst (λ (k : ℕ). Acts k (takes item) old (behind_deed at x.core (takes item) old)) x.place
-    (acts old at x.core (takes item) x.stands (deed_sent old node at item x.place x.positive sent)))
-turn_acts old node at x new item more false losses t count sent none =
-    absurd (not_one_more old.losses none.1 (sym count ∙ none.0))
 
 -- what is read at a place is the node that stands there
 pub same_core : (nodes : List CountedCore) (at : ℕ) (core z : CountedCore) → slice_get nodes at ≡ Some core → z ≡ get_or nodes at z → z ≡ core

@@ -1,4 +1,4 @@
--- What is handed over by a node is its deed.
+-- What is handed over by a node is its deed, exactly.
 use Rattle.std.proofs.Common.{◌≡◌, ◌<◌, ◌≤◌, ◌-◌, ℕ, zero, suc, List, [], ◌∷◌, ◌++◌, length, Option, Some, refl, sym, ap, ◌∙◌, subst, arith}
 use Rattle.std.specs.Prelude.{get_or, slice_get, slice_set}
 use Rattle.std.proofs.lemmas.List.{append-nil}
@@ -8,11 +8,9 @@ use Rattle.world_base.specs.declared.handed.Handed.{Handed}
 use Rattle.world_base.specs.declared.item.Port.{Port}
 use Rattle.world_base.specs.Core.{CountedCore}
 use Rattle.world_base.specs.Handing.{answer_of, bytes_of, hands_over, listed_at}
-use Rattle.world_model.specs.node_model.Moves.Deed.{gives}
 use Rattle.world_model.proofs.of_group_model.Placed.{set_same}
 use Rattle.world_nodes.specs.Nodes.{NodesState}
-use Rattle.world_nodes.specs.Goes.{Acts, AnswersFor, HandsOver, node_of}
-use Rattle.world_nodes.proofs.Acts.{acts}
+use Rattle.world_nodes.specs.Goes.{AnswersFor, GivesExactly, HandsOver, node_of}
 
 there : (nodes : List CountedCore) (at : ℕ) (z : CountedCore) → at < length nodes → z ≡ get_or nodes at z → slice_get nodes at ≡ Some z
 there [] at z below is = absurd (omega (arith, below))
@@ -34,13 +32,15 @@ is_there nodes (suc n) z positive found = subst (λ (k : ℕ). slice_get nodes k
 abbrev pub with_node : ℕ → CountedCore → NodesState → NodesState
 with_node at node old = record old { nodes = slice_set old.nodes at node }
 
-pub hands : (old : NodesState) (at : ℕ) (z new : CountedCore) (port : Port) → slice_get old.nodes at ≡ Some z
-    → new ≡ record z { core = hands_over port z.core } → Acts at (gives port) old (with_node at new old)
-hands old at z new port found is =
-    subst (λ (y : NodesState). Acts at (gives port) old y)
-    (ap (λ (l : List (ℕ × Message Command)). record old { nodes = slice_set old.nodes at (record z { core = hands_over port z.core }); sent = l }) (append-nil old.sent)
-    ∙ ap (λ (c : CountedCore). with_node at c old) (sym is))
-    (acts old at z (gives port) found (λ g s. tt))
+pub hands : (old : NodesState) (node : ℕ) (z new : CountedCore) (port : Port) → node_of old.nodes node ≡ Some z
+    → new ≡ record z { core = hands_over port z.core } → GivesExactly node port old (with_node (node - 1) new old)
+hands old node z new port there is =
+    record {
+      core = z;
+      there = there;
+      is = ap (λ (c : CountedCore). with_node (node - 1) c old) is
+          ∙ sym (ap (λ (l : List (ℕ × Message Command)). let n : NodesState = record old { nodes = slice_set old.nodes (node - 1) (record z { core = hands_over port z.core }); sent = l } in n) (append-nil old.sent));
+    }
 
 -- where nothing is handed over, nothing changes
 pub rests : (old : NodesState) (at : ℕ) (z new : CountedCore) → slice_get old.nodes at ≡ Some z → new ≡ z → with_node at new old ≡ old

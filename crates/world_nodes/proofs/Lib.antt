@@ -7,3 +7,4 @@ mod Opens
 mod KeepsAll
 mod MasterActs
 mod MasterCounts
+pub mod Exactly

@@ -1,6 +1,6 @@
 -- What the master does is what it may do in a group that stands for the nodes; and messages that come to it.
-use Rattle.std.proofs.Common.{◌≡◌, ◌+◌, ◌-◌, ℕ, zero, suc, Bool, true, false, ◌&&◌, if◌then◌else◌, List, [], ◌∷◌, ◌++◌, Option, Some, None, refl, sym, ap, ◌∙◌, subst, arith}
-use Rattle.std.specs.Prelude.{slice_get}
+use Rattle.std.proofs.Common.{◌≡◌, ◌⊎◌, inl, inr, ◌+◌, ◌-◌, ℕ, zero, suc, Bool, true, false, ◌&&◌, if◌then◌else◌, List, [], ◌∷◌, ◌++◌, Option, Some, None, refl, sym, ap, ◌∙◌, subst, arith}
+use Rattle.std.specs.Prelude.{slice_get, OnOk, Result, Ok, Err}
 use Rattle.std.specs.Bool.{OnTrue, OnFalse}
 use Rattle.lists.specs.Lists.{In}
 use Rattle.lists.proofs.Members.{in_at}
@@ -9,24 +9,39 @@ use Rattle.ballot.specs.Body.TheVariants.{NewBallot, Join, State, Install, Insta
 use Rattle.ballot.specs.Config.{Config}
 use Rattle.ballot.specs.Losses.{one_more}
 use Rattle.ballot.specs.Message.{Message}
-use Rattle.agreement.specs.MasterState.{AssignRefusal, MasterState, activating, assigning, is_granted, master_behind, refusal}
+use Rattle.agreement.specs.MasterState.{AssignRefusal, MasterState, activated, activating, assigned, assigning, is_granted, master_behind, refusal}
 use Rattle.broker_base.specs.Command.{Command}
 use Rattle.world_base.specs.declared.item.Item.TheVariants.{Peer}
 use Rattle.world_model.specs.node_model.Moves.Deed.{takes}
-use Rattle.world_model.specs.group_model.Group.{Group, with_master}
+use Rattle.world_model.specs.group_model.Group.{Group, told_by_master, with_master}
 use Rattle.world_model.specs.group_model.Goes.{MayGo, behind_assign}
 use Rattle.world_model.specs.group_model.Goes.MayGo.{master_assigns, master_hears, assigns_unheard, answers_unheard}
 use Rattle.world_model.specs.Goes.{Does, IsFaithful, deed_of}
-use Rattle.world_nodes.specs.Nodes.{NodesState}
-use Rattle.world_nodes.specs.Goes.{Comes, HeardByMaster, MasterActs, behind_answer, behind_giving}
-use Rattle.world_nodes.specs.Steps.{ActsOrRests, ComesOrRests, LosesNothing, MasterGoes, MasterHears}
+use Rattle.world_nodes.specs.Nodes.{NodesState, StandsFor}
+use Rattle.world_nodes.specs.Goes.{Acts, Comes, GoesBy, HeardByMaster, behind_answer, behind_giving}
+use Rattle.world_nodes.specs.Steps.{ActsOrRests, ComesIn, ComesOrRests, GivesIn, HearsIn, LosesNothing, MasterGoes, MasterHears, TakesIn, forgetful, unheard}
 use Rattle.master.specs.Inside.{asks_for}
+use Rattle.master.specs.declared.event.Idle.{Idle}
 use Rattle.world_nodes.proofs.Acts.{not_one_more}
+use Rattle.world_nodes.proofs.Exactly.{exactly}
 
 abbrev Sent : Type 0
 Sent = List (ℕ × Message Command)
 
 -- ---- steps of the master alone
+
+-- a group behind an Assign that is not refused, and behind an Activate of a node
+abbrev pub group_giving : Config → Group → Group
+group_giving config g =
+    let o = assigned Command g.master config in with_master (told_by_master g o) o.state
+
+abbrev pub group_answer : ℕ → ℕ → Group → Group
+group_answer from ballot g =
+    let o = activated Command g.master ballot from g.master.waiting in with_master (told_by_master g o) o.state
+
+-- each group that stands for the nodes before goes on so, and then stands for the nodes behind
+abbrev pub MasterActs : (Group → Group) → NodesState → NodesState → Type 0
+MasterActs next old new = (g : Group) → StandsFor g old → (goes : GoesBy None g new) × (goes.does.behind ≡ next g)
 
 record ByMaster (g h : Group) : Type 0 where
   pub step : MayGo g h
@@ -36,12 +51,12 @@ record ByMaster (g h : Group) : Type 0 where
 does_by : {g h : Group} → ByMaster g h → Does g None
 does_by {h = h} b = record { behind = h; step = b.step; is = b.is; faithful = b.faithful }
 
-assigns_by : (g : Group) (config : Config) → refusal g.master config ≡ None → ByMaster g (behind_giving config g)
+assigns_by : (g : Group) (config : Config) → refusal g.master config ≡ None → ByMaster g (group_giving config g)
 assigns_by g config e =
     subst (λ (r : Option AssignRefusal). ByMaster g (with_master (behind_assign g config r) (master_behind g.master config r))) e
     (record { step = master_assigns config; is = refl; faithful = tt })
 
-hears_by : (g : Group) (from ballot : ℕ) → In (0, record { from = from; body = Activate ballot }) g.sent → ByMaster g (behind_answer from ballot g)
+hears_by : (g : Group) (from ballot : ℕ) → In (0, record { from = from; body = Activate ballot }) g.sent → ByMaster g (group_answer from ballot g)
 hears_by g from ballot sent = record { step = master_hears from ballot sent; is = refl; faithful = tt }
 
 -- the nodes with another master, and a message of it
@@ -49,7 +64,7 @@ abbrev pub told_to : MasterState → ℕ → Body Command → NodesState → Nod
 told_to m receiver body old = record old { master = m; sent = old.sent ++ (receiver, record { from = 0; body = body }) ∷ [] }
 
 pub gives_exactly : (old : NodesState) (config : Config) → refusal old.master config ≡ None
-    → MasterActs (behind_giving config) old
+    → MasterActs (group_giving config) old
     (told_to (assigning old.master config) config.primary (NewBallot (old.master.given + 1) config.members old.master.active old.master.members) old)
 unfolding does_by
 gives_exactly old config none g s = (
@@ -69,7 +84,7 @@ gives_exactly old config none g s = (
     message m = record { from = 0; body = NewBallot (m.given + 1) config.members m.active m.members }
 
 pub answers_exactly : (old : NodesState) (from ballot : ℕ) → In (0, record { from = from; body = Activate ballot }) old.sent
-    → MasterActs (behind_answer from ballot) old
+    → MasterActs (group_answer from ballot) old
     (told_to (activating old.master ballot old.master.waiting) from
     (if is_granted old.master ballot old.master.waiting then Activated ballot else Superseded ballot) old)
 unfolding does_by
@@ -95,37 +110,56 @@ abbrev pub master_turn : MasterState → Sent → ℕ → NodesState → NodesSt
 master_turn m more losses old = record old { master = m; sent = more; losses = losses }
 
 -- the message was kept, or the step is counted
-told_or_counted : (old : NodesState) (next : Group → Group) (m state : MasterState) (receiver : ℕ) (body is : Body Command) (more : Sent) (told : Bool) (losses : ℕ)
-    → MasterActs next old (told_to m receiver is old) → state ≡ m → body ≡ is
-    → OnTrue told (more ≡ old.sent ++ (receiver, record { from = 0; body = body }) ∷ [])
+told_or_counted : (old : NodesState) (m state : MasterState) (receiver : ℕ) (body is : Body Command) (more : Sent) (told : Bool) (losses : ℕ) → state ≡ m → body ≡ is
+    → OnTrue told (more ≡ old.sent ++ (receiver, record { from = 0; body = body }) ∷ []) → OnFalse told (more ≡ old.sent)
     → losses ≡ (if told && true then old.losses else one_more old.losses)
-    → LosesNothing old (master_turn state more losses old) → MasterActs next old (master_turn state more losses old)
-told_or_counted old next m state receiver body is more true losses acts same_state same_body kept count none =
-    subst (λ (z : NodesState). MasterActs next old z)
-    (sym (ap (λ (k : ℕ). master_turn state more k old) count
+    → (master_turn state more losses old ≡ told_to m receiver is old) ⊎ (master_turn state more losses old ≡ unheard (told_to m receiver is old) old)
+told_or_counted old m state receiver body is more true losses same_state same_body kept lost count =
+    inl (
+    ap (λ (k : ℕ). master_turn state more k old) count
     ∙ ap (λ (l : Sent). master_turn state l old.losses old) kept
     ∙ ap (λ (b : Body Command). master_turn state (old.sent ++ (receiver, record { from = 0; body = b }) ∷ []) old.losses old) same_body
-    ∙ ap (λ (x : MasterState). told_to x receiver is old) same_state)) acts
-told_or_counted old next m state receiver body is more false losses acts same_state same_body kept count none =
-    absurd (not_one_more old.losses none.1 (sym count ∙ none.0))
+    ∙ ap (λ (x : MasterState). told_to x receiver is old) same_state
+    )
+told_or_counted old m state receiver body is more false losses same_state same_body kept lost count =
+    inr (
+    ap (λ (k : ℕ). master_turn state more k old) count
+    ∙ ap (λ (l : Sent). master_turn state l (one_more old.losses) old) lost
+    ∙ ap (λ (x : MasterState). master_turn x old.sent (one_more old.losses) old) same_state
+    )
 
 pub gives_ballot : (old : NodesState) (config : Config) (state : MasterState) (body : Body Command) (more : Sent) (told : Bool) (losses : ℕ)
-    → refusal old.master config ≡ None → state ≡ assigning old.master config
-    → body ≡ NewBallot (old.master.given + 1) config.members old.master.active old.master.members
-    → OnTrue told (more ≡ old.sent ++ (config.primary, record { from = 0; body = body }) ∷ [])
-    → losses ≡ (if told && true then old.losses else one_more old.losses)
-    → LosesNothing old (master_turn state more losses old) → MasterActs (behind_giving config) old (master_turn state more losses old)
-gives_ballot old config state body more told losses none state_is body_is kept count =
-    told_or_counted old (behind_giving config) _ state config.primary body _ more told losses (gives_exactly old config none) state_is body_is kept count
+    → state ≡ assigning old.master config → body ≡ NewBallot (old.master.given + 1) config.members old.master.active old.master.members
+    → OnTrue told (more ≡ old.sent ++ (config.primary, record { from = 0; body = body }) ∷ []) → OnFalse told (more ≡ old.sent)
+    → losses ≡ (if told && true then old.losses else one_more old.losses) → GivesIn config old (master_turn state more losses old)
+gives_ballot old config state body more told losses state_is body_is kept lost count =
+    by (told_or_counted old _ state config.primary body _ more told losses state_is body_is kept lost count)
+  where
+    by : (master_turn state more losses old ≡ behind_giving config old) ⊎ (master_turn state more losses old ≡ unheard (behind_giving config old) old)
+        → GivesIn config old (master_turn state more losses old)
+    by (inl is) = inl is
+    by (inr is) = inr (inl is)
 
 pub answers_ballot : (old : NodesState) (from ballot : ℕ) (state : MasterState) (body : Body Command) (more : Sent) (told : Bool) (losses : ℕ)
-    → In (0, record { from = from; body = Activate ballot }) old.sent → state ≡ activating old.master ballot old.master.waiting
+    → state ≡ activating old.master ballot old.master.waiting
     → body ≡ (if is_granted old.master ballot old.master.waiting then Activated ballot else Superseded ballot)
-    → OnTrue told (more ≡ old.sent ++ (from, record { from = 0; body = body }) ∷ [])
-    → losses ≡ (if told && true then old.losses else one_more old.losses)
-    → LosesNothing old (master_turn state more losses old) → MasterActs (behind_answer from ballot) old (master_turn state more losses old)
-answers_ballot old from ballot state body more told losses sent state_is body_is kept count =
-    told_or_counted old (behind_answer from ballot) _ state from body _ more told losses (answers_exactly old from ballot sent) state_is body_is kept count
+    → OnTrue told (more ≡ old.sent ++ (from, record { from = 0; body = body }) ∷ []) → OnFalse told (more ≡ old.sent)
+    → losses ≡ (if told && true then old.losses else one_more old.losses) → HearsIn from (Activate ballot) old (master_turn state more losses old)
+answers_ballot old from ballot state body more told losses state_is body_is kept lost count =
+    told_or_counted old _ state from body _ more told losses state_is body_is kept lost count
+
+-- what is counted is counted
+counts : (n old new : NodesState) → n.losses ≡ one_more old.losses → new ≡ n → LosesNothing old new → ⊥
+counts n old new more is none = not_one_more old.losses none.1 (sym more ∙ sym (ap (λ (n : NodesState). n.losses) is) ∙ none.0)
+
+pub gives_where : (config : Config) (old new : NodesState) → GivesIn config old new → LosesNothing old new → new ≡ behind_giving config old
+gives_where config old new (inl is) none = is
+gives_where config old new (inr (inl is)) none = absurd (counts (unheard (behind_giving config old) old) old new refl is none)
+gives_where config old new (inr (inr is)) none = absurd (counts (forgetful old) old new refl is none)
+
+pub answers_where : (from ballot : ℕ) (old new : NodesState) → HearsIn from (Activate ballot) old new → LosesNothing old new → new ≡ behind_answer from ballot old
+answers_where from ballot old new (inl is) none = is
+answers_where from ballot old new (inr is) none = absurd (counts (unheard (behind_answer from ballot old) old) old new refl is none)
 
 -- ---- whatever memory does
 
@@ -210,23 +244,17 @@ asked_in sent number ballot x found zero_is asks =
     ∙ ap (λ (b : Body Command). let m : Message Command = record { from = x.1.from; body = b } in let y : ℕ × Message Command = (0, m) in Some y) (asks_ballot ballot x.1.body asks))
 
 -- a message of a number that came to the master
-pub heard_ballot : (from ballot : ℕ) (body : Body Command) (old new : NodesState) → asks_for body ≡ Some ballot → MasterActs (behind_answer from ballot) old new
-    → HeardByMaster from body old new
-heard_ballot from ballot body old new asks acts =
-    subst (λ (b : Body Command). HeardByMaster from b old new) (sym (asks_ballot ballot body asks)) acts
+pub heard_ballot : (from ballot : ℕ) (body : Body Command) (old new : NodesState) → asks_for body ≡ Some ballot → HearsIn from (Activate ballot) old new
+    → HearsIn from body old new
+heard_ballot from ballot body old new asks hears = subst (λ (b : Body Command). HearsIn from b old new) (sym (asks_ballot ballot body asks)) hears
 
-pub not_heard : (from : ℕ) (body : Body Command) (old new : NodesState) → asks_for body ≡ None → new ≡ old → HeardByMaster from body old new
-not_heard from (NewBallot b members a o) old new e same = same
-not_heard from (Join b a) old new e same = same
-not_heard from (State b log) old new e same = same
-not_heard from (Install b log) old new e same = same
-not_heard from (Installed b held) old new e same = same
+pub not_heard : (from : ℕ) (body : Body Command) (old new : NodesState) → asks_for body ≡ None → new ≡ old → HearsIn from body old new
 not_heard from (Activate b) old new e same = cc
-not_heard from (Activated b) old new e same = same
-not_heard from (Superseded b) old new e same = same
-not_heard from (Append b place command) old new e same = same
-not_heard from (Held b held) old new e same = same
-not_heard from (Commit b held) old new e same = same
+not_heard from body old new e same = same
+
+heard_exactly : (from : ℕ) (body : Body Command) (old new : NodesState) → HearsIn from body old new → LosesNothing old new → HeardByMaster from body old new
+heard_exactly from (Activate b) old new hears none = answers_where from b old new hears none
+heard_exactly from body old new same none = same
 
 pub heard_or_lost : (ballot : ℕ) (body : Body Command) (old new : NodesState) → asks_for body ≡ Some ballot → MasterGoes old new → MasterHears body old new
 heard_or_lost ballot body old new asks acts = subst (λ (b : Body Command). MasterHears b old new) (sym (asks_ballot ballot body asks)) acts
@@ -250,11 +278,43 @@ comes_to_node o (suc at, message) m old new found positive same acts =
     (subst (λ (k : ℕ). ActsOrRests k (takes (Peer message)) old new) (let e : suc at - 1 ≡ at = omega arith in e)
     (subst (λ (z : Message Command). ActsOrRests (suc at - 1) (takes (Peer z)) old new) same acts))
 
-pub comes_to_master : (o : Option (ℕ × Message Command)) (x : ℕ × Message Command) (old new : NodesState) → o ≡ Some x → x.0 ≡ 0
-    → HeardByMaster x.1.from x.1.body old new → Comes o old new
-comes_to_master o x old new found zero_is heard =
-    subst (λ (q : Option (ℕ × Message Command)). Comes q old new)
+-- ---- the same, exactly or with losses that are counted
+
+pub came_to_master : (o : Option (ℕ × Message Command)) (x : ℕ × Message Command) (old new : NodesState) → o ≡ Some x → x.0 ≡ 0
+    → HearsIn x.1.from x.1.body old new → ComesIn o old new
+came_to_master o x old new found zero_is heard =
+    subst (λ (q : Option (ℕ × Message Command)). ComesIn q old new)
     (sym (found ∙ ap (λ (k : ℕ). let y : ℕ × Message Command = (k, x.1) in Some y) zero_is)) heard
+
+pub came_to_node : (o : Option (ℕ × Message Command)) (x : ℕ × Message Command) (m : Message Command) (old new : NodesState) → o ≡ Some x → (x.0 ≡ 0 → ⊥) → m ≡ x.1
+    → TakesIn x.0 (Peer m) old new ⊎ (new ≡ forgetful old) → ComesIn o old new
+came_to_node o (zero, message) m old new found positive same took = absurd (positive refl)
+came_to_node o (suc at, message) m old new found positive same took =
+    subst (λ (q : Option (ℕ × Message Command)). ComesIn q old new) (sym found)
+    (subst (λ (z : Message Command). TakesIn (suc at) (Peer z) old new ⊎ (new ≡ forgetful old)) same took)
+
+-- where nothing is counted it came
+pub comes_exactly : (o : Option (ℕ × Message Command)) (old new : NodesState) → ComesIn o old new → LosesNothing old new → Comes o old new
+comes_exactly None old new came none = came
+comes_exactly (Some (zero, message)) old new came none = heard_exactly message.from message.body old new came none
+comes_exactly (Some (suc at, message)) old new (inl took) none = exactly (suc at) (Peer message) old new took none
+comes_exactly (Some (suc at, message)) old new (inr is) none = absurd (counts (forgetful old) old new refl is none)
+
+-- of a result
+pub came_on : {X : Type 0} (r : Result X Idle) (o : Option (ℕ × Message Command)) (x : ℕ × Message Command) (m : Message Command) (old new : NodesState) → o ≡ Some x
+    → (x.0 ≡ 0 → ⊥) → m ≡ x.1 → OnOk r (TakesIn x.0 (Peer m) old new) → OnOk r (ComesIn o old new)
+came_on (Ok y) o x m old new found positive same took = came_to_node o x m old new found positive same (inl took)
+came_on (Err e) o x m old new found positive same took = tt
+
+pub may_come_on : {X : Type 0} (r : Result X Idle) (o : Option (ℕ × Message Command)) (x : ℕ × Message Command) (m : Message Command) (old new : NodesState) → o ≡ Some x
+    → (x.0 ≡ 0 → ⊥) → m ≡ x.1 → OnOk r (Acts (x.0 - 1) (takes (Peer m)) old new) → OnOk r (ComesOrRests o old new)
+may_come_on (Ok y) o x m old new found positive same acts = comes_to_node o x m old new found positive same (inl acts)
+may_come_on (Err e) o x m old new found positive same acts = tt
+
+pub comes_on : {X : Type 0} (r : Result X Idle) (o : Option (ℕ × Message Command)) (old new : NodesState) → OnOk r (ComesIn o old new) → LosesNothing old new
+    → OnOk r (Comes o old new)
+comes_on (Ok y) o old new came none = comes_exactly o old new came none
+comes_on (Err e) o old new came none = tt
 
 -- a copy of a message of a number was sent too
 pub sent_copy : (sent : Sent) (number : ℕ) (x : ℕ × Message Command) (m : Message Command) → slice_get sent number ≡ Some x → m ≡ x.1 → In (x.0, m) sent

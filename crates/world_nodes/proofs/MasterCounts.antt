@@ -17,10 +17,9 @@ use Rattle.master.specs.declared.error.AssignError.TheVariants.{BadMembers, Ball
 use Rattle.master.specs.Inside.{ToldIn}
 use Rattle.master.proofs.Groups.{group_answers, group_gives}
 use Rattle.world_nodes.specs.Nodes.{NodesState, StandsFor}
-use Rattle.world_nodes.specs.Goes.{behind_answer, behind_giving}
 use Rattle.world_nodes.specs.Inside.{HaveCounted}
 use Rattle.world_nodes.proofs.CountsGoOn.{Sent}
-use Rattle.world_nodes.proofs.MasterActs.{answers_exactly, gives_exactly, master_turn, told_to}
+use Rattle.world_nodes.proofs.MasterActs.{answers_exactly, gives_exactly, group_answer, group_giving, master_turn, told_to}
 
 -- ---- the master gives a ballot, and its primary is told or not
 
@@ -41,13 +40,13 @@ gives_counting old config state body more true losses t next next' c none state_
     let message : Body Command = NewBallot (old.master.given + 1) config.members old.master.active old.master.members in
     let s = subst (λ (h : Group). StandsFor h (told_to (assigning old.master config) config.primary message old)) given.1 given.0.stands in
     record {
-      group = behind_giving config g;
+      group = group_giving config g;
       stands = record {
         master = s.master ∙ sym state_is;
         nodes = s.nodes;
         sent = s.sent ∙ sym (kept ∙ ap (λ (b : Body Command). old.sent ++ (config.primary, record { from = 0; body = b }) ∷ []) body_is);
       };
-      counts = group_gives rules (moment_of g) (moment_of (behind_giving config g)) config t next next' c.counts
+      counts = group_gives rules (moment_of g) (moment_of (group_giving config g)) config t next next' c.counts
           (ap (λ (m : MasterState). refusal m config) c.stands.master ∙ none) refl (inl refl) (ballot ∙ ap (λ (m : MasterState). m.given + 1) (sym c.stands.master)) untold;
     }
 gives_counting old config state body more false losses t next next' c none state_is body_is kept lost ballot untold =
@@ -89,13 +88,13 @@ answers_counting old from ballot state body more true losses t next t' next' c s
     let message : Body Command = if is_granted old.master ballot old.master.waiting then Activated ballot else Superseded ballot in
     let s = subst (λ (h : Group). StandsFor h (told_to (activating old.master ballot old.master.waiting) from message old)) answered.1 answered.0.stands in
     record {
-      group = behind_answer from ballot g;
+      group = group_answer from ballot g;
       stands = record {
         master = s.master ∙ sym state_is;
         nodes = s.nodes;
         sent = s.sent ∙ sym (kept ∙ ap (λ (b : Body Command). old.sent ++ (from, record { from = 0; body = b }) ∷ []) body_is);
       };
-      counts = group_answers rules (moment_of g) (moment_of (behind_answer from ballot g)) from ballot t next t' next' c.counts
+      counts = group_answers rules (moment_of g) (moment_of (group_answer from ballot g)) from ballot t next t' next' c.counts
           (subst (λ (l : Sent). In (0, record { from = from; body = Activate ballot }) l) (sym c.stands.sent) sent) refl (inl refl)
           (turns_in g old state ballot t next t' next' c.stands state_is turns);
     }

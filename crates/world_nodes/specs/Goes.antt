@@ -1,20 +1,22 @@
--- What may happen to nodes, and how a group that stands for them goes on then.
-use Rattle.std.specs.Prelude.{◌≡◌, ℕ, zero, suc, ◌++◌, if◌then◌else◌, List, Option, Some, None, slice_get, slice_set}
+-- What nodes and their master do, exactly, and how a group that stands for them goes on then.
+use Rattle.std.specs.Prelude.{◌≡◌, ℕ, zero, suc, ◌-◌, [], ◌∷◌, ◌++◌, if◌then◌else◌, List, Option, Some, None, slice_get, slice_set}
 use Rattle.ballot.specs.Body.{Body}
 use Rattle.ballot.specs.Body.TheVariants.{Activate}
 use Rattle.ballot.specs.Config.{Config}
 use Rattle.ballot.specs.Message.{Message}
-use Rattle.agreement.specs.MasterState.{activated, assigned}
+use Rattle.ballot.specs.Sending.{master}
+use Rattle.agreement.specs.MasterState.{MasterOutcome, activated, assigned}
 use Rattle.agreement.specs.World.{messages}
 use Rattle.broker_base.specs.Command.{Command}
 use Rattle.world_base.specs.Core.{CountedCore}
 use Rattle.world_base.specs.declared.handed.Handed.{Handed}
+use Rattle.world_base.specs.declared.item.Item.{Item}
 use Rattle.world_base.specs.declared.item.Item.TheVariants.{Peer}
 use Rattle.world_base.specs.declared.item.Port.{Port}
 use Rattle.world_base.specs.Handing.{answer_of, bytes_of, listed_at}
 use Rattle.world_model.specs.node_model.Moves.{Deed, done}
-use Rattle.world_model.specs.node_model.Moves.Deed.{takes}
-use Rattle.world_model.specs.group_model.Group.{Group, told_by_master, with_master}
+use Rattle.world_model.specs.node_model.Moves.Deed.{takes, gives}
+use Rattle.world_model.specs.group_model.Group.{Group}
 use Rattle.world_model.specs.Goes.{Does}
 use Rattle.world_nodes.specs.Nodes.{NodesState, StandsFor}
 
@@ -44,7 +46,20 @@ behind_deed at node deed n =
       sent = n.sent ++ messages (done deed node.core).messages;
     }
 
--- a group does a deed of a node, or of the master, and then stands for these nodes
+-- The node of this number runs, and took just this item: its step is the definitions' step, and all that it says was sent. No
+-- other node has changed, nor has the master.
+pub record TakesExactly (node : ℕ) (item : Item) (old new : NodesState) : Type 0 where
+  pub core : CountedCore
+  pub runs : running old.nodes node ≡ Some core
+  pub is : new ≡ behind_deed (node - 1) core (takes item) old
+
+-- the node of this number is there, running or not, and handed over what it put out for a port
+pub record GivesExactly (node : ℕ) (port : Port) (old new : NodesState) : Type 0 where
+  pub core : CountedCore
+  pub there : node_of old.nodes node ≡ Some core
+  pub is : new ≡ behind_deed (node - 1) core (gives port) old
+
+-- a group does a deed of a node, or of the master, exactly or with losses, and then stands for these nodes
 pub record GoesBy (deed : Option (ℕ × Deed)) (g : Group) (new : NodesState) : Type 0 where
   pub does : Does g deed
   pub stands : StandsFor does.behind new
@@ -67,31 +82,29 @@ AnswersFor node port n handed =
 
 -- ---- the master
 
--- a group behind an Assign that is not refused, and behind an Activate of a node
-abbrev pub behind_giving : Config → Group → Group
-behind_giving config g =
-    let o = assigned Command g.master config in with_master (told_by_master g o) o.state
+-- the nodes after a step of the master, and what it tells was sent
+abbrev pub behind_master : MasterOutcome Command → NodesState → NodesState
+behind_master o n = record n { master = o.state; sent = n.sent ++ (o.receiver, record { from = master; body = o.body }) ∷ [] }
 
-abbrev pub behind_answer : ℕ → ℕ → Group → Group
-behind_answer from ballot g =
-    let o = activated Command g.master ballot from g.master.waiting in with_master (told_by_master g o) o.state
+-- after an Assign that is not refused, and after an Activate of a node
+abbrev pub behind_giving : Config → NodesState → NodesState
+behind_giving config n = behind_master (assigned Command n.master config) n
 
--- each group that stands for the nodes before goes on so, and then stands for the nodes behind
-abbrev pub MasterActs : (Group → Group) → NodesState → NodesState → Type 0
-MasterActs next old new = (g : Group) → StandsFor g old → (goes : GoesBy None g new) × (goes.does.behind ≡ next g)
+abbrev pub behind_answer : ℕ → ℕ → NodesState → NodesState
+behind_answer from ballot n = behind_master (activated Command n.master ballot from n.master.waiting) n
 
 -- ---- a message comes to its receiver
 
 -- the master heeds an Activate, and no other message
 abbrev pub HeardByMaster : ℕ → Body Command → NodesState → NodesState → Type 0
-HeardByMaster from (Activate ballot) old new = MasterActs (behind_answer from ballot) old new
+HeardByMaster from (Activate ballot) old new = new ≡ behind_answer from ballot old
 HeardByMaster from _ old new = new ≡ old
 
--- a message that was sent comes to the master, or to a node
+-- a message that was sent comes to the master, or to a node, which takes just it
 abbrev pub Comes : Option (ℕ × Message Command) → NodesState → NodesState → Type 0
 Comes None old new = ⊥
 Comes (Some (zero, message)) old new = HeardByMaster message.from message.body old new
-Comes (Some (suc at, message)) old new = Acts at (takes (Peer message)) old new
+Comes (Some (suc at, message)) old new = TakesExactly (suc at) (Peer message) old new
 
 -- it comes to nobody: none was sent, or its receiver is unknown or has stopped
 abbrev pub ComesToNobody : Option (ℕ × Message Command) → NodesState → Type 0

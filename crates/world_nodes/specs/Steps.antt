@@ -4,19 +4,22 @@ use Rattle.agreement.specs.World.{messages}
 use Rattle.ballot.specs.Effect.{Effect}
 use Rattle.ballot.specs.Body.{Body}
 use Rattle.ballot.specs.Body.TheVariants.{Activate}
+use Rattle.ballot.specs.Config.{Config}
 use Rattle.ballot.specs.Losses.{Thinned, one_more}
 use Rattle.ballot.specs.Message.{Message}
 use Rattle.broker_base.specs.Command.{Command}
 use Rattle.broker_base.specs.Output.{Output}
+use Rattle.world_base.specs.declared.handed.Handed.{Handed}
+use Rattle.world_base.specs.declared.handed.Handed.TheVariants as answers
 use Rattle.world_base.specs.declared.item.Item.{Item}
 use Rattle.world_base.specs.declared.item.Item.TheVariants.{Peer}
 use Rattle.world_base.specs.declared.item.Port.{Port}
 use Rattle.world_base.specs.Core.{CountedCore}
 use Rattle.world_base.specs.LossyStep.{RunsOn}
 use Rattle.world_model.specs.node_model.Moves.{Deed}
-use Rattle.world_model.specs.node_model.Moves.Deed.{takes, gives}
+use Rattle.world_model.specs.node_model.Moves.Deed.{takes}
 use Rattle.world_model.specs.group_model.Group.{Group}
-use Rattle.world_nodes.specs.Goes.{Acts, GoesBy, HandsOver, behind_deed, running}
+use Rattle.world_nodes.specs.Goes.{Acts, AnswersFor, GivesExactly, GoesBy, HandsOver, behind_answer, behind_deed, behind_giving, running}
 use Rattle.world_nodes.specs.Nodes.{NodesState, StandsFor}
 
 -- the count is exact as long as it stands below its greatest number
@@ -47,6 +50,35 @@ pub record TakesIn (node : ℕ) (item : Item) (old new : NodesState) : Type 0 wh
   pub runs : running old.nodes node ≡ Some core
   pub way : (new ≡ behind_deed (node - 1) core (takes item) old) ⊎ ActsWithLosses (node - 1) item core old new
 
+-- what the master told is lost, and that is counted
+abbrev pub unheard : NodesState → NodesState → NodesState
+unheard behind n = record n { master = behind.master; losses = one_more n.losses }
+
+-- The master gave a ballot, and told its primary. Or the primary was not told, or nothing happened: both are counted.
+abbrev pub GivesIn : Config → NodesState → NodesState → Type 0
+GivesIn config old new =
+    (new ≡ behind_giving config old) ⊎ (new ≡ unheard (behind_giving config old) old) ⊎ (new ≡ forgetful old)
+
+-- The master answered a node that asked it to activate a ballot. Or the node was not told, and that is counted. It heeds no other
+-- message.
+abbrev pub HearsIn : ℕ → Body Command → NodesState → NodesState → Type 0
+HearsIn from (Activate ballot) old new =
+    (new ≡ behind_answer from ballot old) ⊎ (new ≡ unheard (behind_answer from ballot old) old)
+HearsIn from _ old new = new ≡ old
+
+-- A message that was sent came to the master, or to a node, which took it in. Or there was no memory for it, and that is counted.
+abbrev pub ComesIn : Option (ℕ × Message Command) → NodesState → NodesState → Type 0
+ComesIn None old new = ⊥
+ComesIn (Some (zero, message)) old new = HearsIn message.from message.body old new
+ComesIn (Some (suc at, message)) old new = TakesIn (suc at) (Peer message) old new ⊎ (new ≡ forgetful old)
+
+-- What stood there was handed over and appended, and it is told whether more may come. Or nothing was, more may come, and that is
+-- counted.
+abbrev pub HandsIn : ℕ → Port → NodesState → NodesState → List ℕ → List ℕ → Handed → Type 0
+HandsIn node port old new before behind handed =
+    (GivesExactly node port old new × HandsOver node port old before behind × AnswersFor node port old handed)
+    ⊎ ((new ≡ forgetful old) × (behind ≡ before) × (handed ≡ answers.Open))
+
 -- ---- whatever memory does, each group that stands for the nodes goes on so, and then stands for the nodes behind
 
 -- by a deed of the node at this place; or nothing happened
@@ -69,8 +101,3 @@ abbrev pub ComesOrRests : Option (ℕ × Message Command) → NodesState → Nod
 ComesOrRests None old new = ⊥
 ComesOrRests (Some (zero, message)) old new = MasterHears message.body old new
 ComesOrRests (Some (suc at, message)) old new = ActsOrRests at (takes (Peer message)) old new
-
--- by the handing over of what stood there, which is appended; or nothing is
-abbrev pub HandsOrRests : ℕ → Port → NodesState → NodesState → List ℕ → List ℕ → Type 0
-HandsOrRests node port old new before behind =
-    (Acts (node - 1) (gives port) old new × HandsOver node port old before behind) ⊎ ((new ≡ forgetful old) × (behind ≡ before))

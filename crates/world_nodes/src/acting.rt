@@ -6,8 +6,8 @@ ghost use Rattle.ballot.specs.Losses.{one_more};
 ghost use Rattle.lists.specs.Lists.{In};
 ghost use Rattle.agreement.specs.MasterState.{refusal};
 ghost use Rattle.world_model.specs.node_model.Moves.Deed.{takes};
-ghost use Rattle.world_nodes.specs.Goes.{Acts, MasterActs, behind_answer, behind_giving, running};
-ghost use Rattle.world_nodes.specs.Steps.{LosesNothing, MasterGoes, TakesIn, forgetful};
+ghost use Rattle.world_nodes.specs.Goes.{Acts, TakesExactly, running};
+ghost use Rattle.world_nodes.specs.Steps.{GivesIn, HearsIn, LosesNothing, MasterGoes, TakesIn, forgetful};
 ghost use Rattle.world_nodes.specs.Inside.{RunsAt, WasSent};
 
 use crate::keeping::counted;
@@ -22,7 +22,7 @@ impl Nodes {
         requires { WasSent node item self.old.sent }
         ensures step { OnOk result (TakesIn node item self.old self.new) }
         ensures goes { LosesNothing self.old self.new →
-            OnOk result (Acts (node - 1) (takes item) self.old self.new) }
+            OnOk result (TakesExactly node item self.old self.new) }
         ensures acts { OnOk result (Acts (node - 1) (takes item) self.old self.new) }
         ensures rises { self.old.losses ≤ self.new.losses }
         ensures idle { IsErr result ↔ (running self.old.nodes node ≡ None) }
@@ -65,8 +65,7 @@ impl Nodes {
     // The master gives a ballot and tells its primary.
     pub(crate) fn give(&mut self, config: &Config) -> Result<(), Memory>
         requires { refusal self.old.master config.now ≡ None }
-        ensures goes { LosesNothing self.old self.new →
-            OnOk result (MasterActs (behind_giving config.now) self.old self.new) }
+        ensures step { OnOk result (GivesIn config.now self.old self.new) }
         ensures acts { OnOk result (MasterGoes self.old self.new) }
         ensures rises { self.old.losses ≤ self.new.losses }
         ensures err { OnErr result (self.new ≡ self.old) }
@@ -88,8 +87,7 @@ impl Nodes {
     // The master answers a node that asks it to activate a ballot.
     pub(crate) fn answer(&mut self, from: u8, ballot: u64)
         requires { In (0, record { from = from; body = Activate ballot }) self.old.sent }
-        ensures goes { LosesNothing self.old self.new →
-            MasterActs (behind_answer from ballot) self.old self.new }
+        ensures step { HearsIn from (Activate ballot) self.old self.new }
         ensures acts { MasterGoes self.old self.new }
         ensures rises { self.old.losses ≤ self.new.losses }
     {

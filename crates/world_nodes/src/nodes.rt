@@ -5,10 +5,10 @@ ghost use Rattle.ballot.specs.Losses.{one_more};
 ghost use Rattle.agreement.specs.MasterState.{refusal};
 ghost use Rattle.agreement.specs.World.{can_open};
 ghost use Rattle.world_model.specs.group_model.Group.{Group, opening_group};
-ghost use Rattle.world_model.specs.node_model.Moves.Deed.{takes, gives};
+ghost use Rattle.world_model.specs.node_model.Moves.Deed.{takes};
 ghost use Rattle.world_nodes.specs.Nodes.{NodesState, StandsFor};
-ghost use Rattle.world_nodes.specs.Goes.{Acts, AnswersFor, Comes, ComesToNobody, HandsOver, MasterActs, behind_answer, behind_giving, node_of, running};
-ghost use Rattle.world_nodes.specs.Steps.{ComesOrRests, HandsOrRests, LosesNothing, MasterGoesOrRests, TakesIn};
+ghost use Rattle.world_nodes.specs.Goes.{Acts, AnswersFor, Comes, ComesToNobody, GivesExactly, HandsOver, TakesExactly, behind_giving, node_of, running};
+ghost use Rattle.world_nodes.specs.Steps.{ComesIn, ComesOrRests, GivesIn, HandsIn, LosesNothing, MasterGoesOrRests, TakesIn};
 
 use crate::counters::Counters;
 use crate::opening::can_open;
@@ -88,8 +88,9 @@ impl Nodes {
     /// The master gives the next ballot to a configuration. Idle where it refuses: for members or a
     /// primary that no ballot may have, and after the last ballot.
     pub fn assign(&mut self, config: &Config) -> Result<(), Idle>
+        ensures step { OnOk result (GivesIn config.now self.old self.new) }
         ensures goes { LosesNothing self.old self.new →
-            OnOk result (MasterActs (behind_giving config.now) self.old self.new) }
+            OnOk result (self.new ≡ behind_giving config.now self.old) }
         ensures acts { OnOk result (MasterGoesOrRests self.old self.new) }
         ensures rises { self.old.losses ≤ self.new.losses }
         ensures idle { IsErr result ↔ (refusal self.old.master config.now ≡ None → ⊥) }
@@ -107,6 +108,7 @@ impl Nodes {
     /// The message of this number comes to its receiver. Idle where no such message was sent, or its
     /// receiver is unknown or has stopped.
     pub fn deliver(&mut self, number: u64) -> Result<(), Idle>
+        ensures step { OnOk result (ComesIn (slice_get self.old.sent number) self.old self.new) }
         ensures goes { LosesNothing self.old self.new →
             OnOk result (Comes (slice_get self.old.sent number) self.old self.new) }
         ensures acts { OnOk result (ComesOrRests (slice_get self.old.sent number) self.old self.new) }
@@ -143,7 +145,7 @@ impl Nodes {
     pub fn tick(&mut self, node: u8) -> Result<(), Idle>
         ensures step { OnOk result (TakesIn node (Item.Tick 0) self.old self.new) }
         ensures goes { LosesNothing self.old self.new →
-            OnOk result (Acts (node - 1) (takes (Item.Tick 0)) self.old self.new) }
+            OnOk result (TakesExactly node (Item.Tick 0) self.old self.new) }
         ensures acts { OnOk result (Acts (node - 1) (takes (Item.Tick 0)) self.old self.new) }
         ensures rises { self.old.losses ≤ self.new.losses }
         ensures idle { IsErr result ↔ (running self.old.nodes node ≡ None) }
@@ -156,7 +158,7 @@ impl Nodes {
     pub fn crash(&mut self, node: u8) -> Result<(), Idle>
         ensures step { OnOk result (TakesIn node Item.Crash self.old self.new) }
         ensures goes { LosesNothing self.old self.new →
-            OnOk result (Acts (node - 1) (takes Item.Crash) self.old self.new) }
+            OnOk result (TakesExactly node Item.Crash self.old self.new) }
         ensures acts { OnOk result (Acts (node - 1) (takes Item.Crash) self.old self.new) }
         ensures rises { self.old.losses ≤ self.new.losses }
         ensures idle { IsErr result ↔ (running self.old.nodes node ≡ None) }
@@ -169,7 +171,7 @@ impl Nodes {
     pub fn opened(&mut self, node: u8, port: Port, now: u64) -> Result<(), Idle>
         ensures step { OnOk result (TakesIn node (Item.Opened port now) self.old self.new) }
         ensures goes { LosesNothing self.old self.new →
-            OnOk result (Acts (node - 1) (takes (Item.Opened port now)) self.old self.new) }
+            OnOk result (TakesExactly node (Item.Opened port now) self.old self.new) }
         ensures acts { OnOk result (Acts (node - 1) (takes (Item.Opened port now)) self.old self.new) }
         ensures rises { self.old.losses ≤ self.new.losses }
         ensures idle { IsErr result ↔ (running self.old.nodes node ≡ None) }
@@ -182,7 +184,7 @@ impl Nodes {
     pub fn take(&mut self, node: u8, port: Port, piece: Piece) -> Result<(), Idle>
         ensures step { OnOk result (TakesIn node (Item.Bytes port piece 0) self.old self.new) }
         ensures goes { LosesNothing self.old self.new →
-            OnOk result (Acts (node - 1) (takes (Item.Bytes port piece 0)) self.old self.new) }
+            OnOk result (TakesExactly node (Item.Bytes port piece 0) self.old self.new) }
         ensures acts { OnOk result
             (Acts (node - 1) (takes (Item.Bytes port piece 0)) self.old self.new) }
         ensures rises { self.old.losses ≤ self.new.losses }
@@ -196,7 +198,7 @@ impl Nodes {
     pub fn ended(&mut self, node: u8, port: Port) -> Result<(), Idle>
         ensures step { OnOk result (TakesIn node (Item.Ended port) self.old self.new) }
         ensures goes { LosesNothing self.old self.new →
-            OnOk result (Acts (node - 1) (takes (Item.Ended port)) self.old self.new) }
+            OnOk result (TakesExactly node (Item.Ended port) self.old self.new) }
         ensures acts { OnOk result (Acts (node - 1) (takes (Item.Ended port)) self.old self.new) }
         ensures rises { self.old.losses ≤ self.new.losses }
         ensures idle { IsErr result ↔ (running self.old.nodes node ≡ None) }
@@ -210,13 +212,13 @@ impl Nodes {
     /// may come, and the step is counted.
     pub fn hand_over(&mut self, node: u8, port: Port, out: &mut Vec<u8>) -> Result<Handed, Idle>
         ensures goes { LosesNothing self.old self.new →
-            OnOk result (Acts (node - 1) (gives port) self.old self.new) }
+            OnOk result (GivesExactly node port self.old self.new) }
         ensures bytes { LosesNothing self.old self.new →
             OnOk result (HandsOver node port self.old out.old.items out.new.items) }
         ensures answer { LosesNothing self.old self.new →
             IfOk result (λ handed. AnswersFor node port self.old handed) }
-        ensures acts { OnOk result
-            (HandsOrRests node port self.old self.new out.old.items out.new.items) }
+        ensures step { IfOk result (λ handed.
+            HandsIn node port self.old self.new out.old.items out.new.items handed) }
         ensures rises { self.old.losses ≤ self.new.losses }
         ensures idle { IsErr result ↔ (node_of self.old.nodes node ≡ None) }
         ensures same { OnErr result ((self.new ≡ self.old) × (out.new.items ≡ out.old.items)) }

@@ -21,4 +21,4 @@ returns-in-Some-clause-nodes c = call_goes c.opened.result c.args.nodes.now c.op
 pub returns-in-Some-clause-takes : goal.returns-in-Some-clause-takes
 returns-in-Some-clause-takes c =
     hears_of_one c.has_port.result c.args.node c.args.port c.args.nodes.now c.opened.new.self c.in-Some.core.now c.in-Some.ensures.some c.has_port.ensures
-    (was_heard c.opened.result _ (sym c.if-is_err.ensures.value) c.opened.ensures.acts)
+    (was_heard c.opened.result _ (sym c.if-is_err.ensures.value) c.opened.ensures.step) (was_heard c.opened.result _ (sym c.if-is_err.ensures.value) c.opened.ensures.acts)

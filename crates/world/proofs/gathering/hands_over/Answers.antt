@@ -3,9 +3,9 @@ use Rattle.world.proofs.gathering.hands_over.Goals as goal
 
 pub returns-clause-may : goal.returns-clause-may
 returns-clause-may c =
-    may_hand_down c.hand_over.result c.args.node c.args.port c.args.nodes.now c.hand_over.new.self c.args.bytes.now.items c.hand_over.new.out.items c.hand_over.ensures.acts c.hand_over.ensures.same
+    may_hand_down c.hand_over.result c.args.node c.args.port c.args.nodes.now c.hand_over.new.self c.args.bytes.now.items c.hand_over.new.out.items c.hand_over.ensures.step c.hand_over.ensures.same
 
 pub returns-clause-nodes : goal.returns-clause-nodes
 returns-clause-nodes c =
     handing_goes c.args.node c.args.port c.args.nodes.now c.hand_over.new.self c.args.bytes.now.items c.hand_over.new.out.items c.hand_over.ensures.rises
-    (may_hand_down c.hand_over.result c.args.node c.args.port c.args.nodes.now c.hand_over.new.self c.args.bytes.now.items c.hand_over.new.out.items c.hand_over.ensures.acts c.hand_over.ensures.same)
+    (may_hand_down c.hand_over.result c.args.node c.args.port c.args.nodes.now c.hand_over.new.self c.args.bytes.now.items c.hand_over.new.out.items c.hand_over.ensures.step c.hand_over.ensures.same)

@@ -1,4 +1,10 @@
 use Rattle.std.proofs.Common.{◌≡◌, ◌<◌, ◌^◌, ◌-◌, ℕ, ap, ◌∙◌, subst, sym}
+use Rattle.world_base.specs.declared.item.Item.TheVariants.{Opened}
+use Rattle.world_nodes.specs.Nodes.{NodesState}
+use Rattle.world_nodes.specs.Steps.{LosesNothing as NodesLoseNothing}
+use Rattle.world_nodes.proofs.Exactly.{exactly}
+use Rattle.world.specs.Found.{port_of}
+use Rattle.world.specs.Happening.{next_number}
 use Rattle.world.specs.World.{WorldState}
 use Rattle.world.proofs.Joined.{counted_loss, goes_on_join, goes_on_still}
 use Rattle.world.proofs.NodesGoOn.{nodes_split}
@@ -11,7 +17,14 @@ pub returns-then-connect-clause-opens : goal.returns-then-connect-clause-opens
 returns-then-connect-clause-opens c =
     λ none whole.
     let s = nodes_split c.args.self.now.nodes c.connect.new.self.nodes c.gather.new.self.nodes c.connect.ensures.goes.nodes.rises c.gather.ensures.goes.nodes.rises whole in
-    record { between = c.connect.new.self; connects = c.connect.ensures.connects c.if-connect.true; gathers = c.gather.ensures.gathers s.1 }
+    let one = c.connect.ensures.connects c.if-connect.true in
+    record {
+      between = c.connect.new.self;
+      connects = one;
+      exact = exactly c.args.node (Opened (port_of (next_number c.args.self.now)) 0) c.args.self.now.nodes one.between one.reaches.hears.step
+          (subst (λ (n : NodesState). NodesLoseNothing c.args.self.now.nodes n) (ap (λ (w : WorldState). w.nodes) one.is) s.0);
+      gathers = c.gather.ensures.gathers s.1;
+    }
 
 pub returns-then-is_whole-clause-goes : goal.returns-then-is_whole-clause-goes
 returns-then-is_whole-clause-goes c =

@@ -1,20 +1,23 @@
-use Rattle.std.proofs.Common.{refl, arith}
+use Rattle.std.proofs.Common.{refl, ◌∙◌, arith}
 use Rattle.world.proofs.Joined.{goes_on_rest}
 use Rattle.world.proofs.Walked.{next_there, walk_begins, walk_ends, walk_goes_on}
 use Rattle.world.proofs.world.World.gather_open.Goals as goal
 
 pub loop-at-init : goal.loop-at-init
-loop-at-init c = walk_begins c.args.node c.open_len-at.result c.args.self.now c.open_len-at.ensures (goes_on_rest _ _ refl)
+loop-at-init c = record { walk = walk_begins c.args.node c.open_len-at.result c.args.self.now c.open_len-at.ensures (goes_on_rest _ _ refl); still = refl }
 
 pub ask_at-requires : goal.ask_at-requires
-ask_at-requires c = next_there c.args.node c.loop-at.at _ c.args.self.now c.loop-at.self (omega arith) refl c.loop-at.invariant
+ask_at-requires c = next_there c.args.node c.loop-at.at _ c.args.self.now c.loop-at.self (omega arith) refl c.loop-at.invariant.walk
 
 pub loop-at-preserved : goal.loop-at-preserved
 loop-at-preserved c =
-    walk_goes_on c.args.node c.loop-at.at _ c.args.self.now c.loop-at.self c.ask_at.new.self (omega arith) refl c.loop-at.invariant c.ask_at.ensures.goes c.ask_at.ensures.asks
+    record {
+      walk = walk_goes_on c.args.node c.loop-at.at _ c.args.self.now c.loop-at.self c.ask_at.new.self (omega arith) refl c.loop-at.invariant.walk c.ask_at.ensures.goes c.ask_at.ensures.asks;
+      still = c.ask_at.ensures.still ∙ c.loop-at.invariant.still;
+    }
 
 pub returns-clause-goes : goal.returns-clause-goes
-returns-clause-goes c = c.loop-at.invariant.gathering.goes
+returns-clause-goes c = c.loop-at.invariant.walk.gathering.goes
 
 pub returns-clause-gathers : goal.returns-clause-gathers
-returns-clause-gathers c = λ none. walk_ends c.args.node c.loop-at.at c.args.self.now c.loop-at.self (omega arith) c.loop-at.invariant none
+returns-clause-gathers c = λ none. walk_ends c.args.node c.loop-at.at c.args.self.now c.loop-at.self (omega arith) c.loop-at.invariant.walk none

@@ -1,4 +1,5 @@
 use Rattle.std.proofs.Common.{refl, arith}
+use Rattle.world.proofs.AgreedOnlyGrows.{agreed_grows}
 use Rattle.world.proofs.ItemsMet.{run_on}
 use Rattle.world.proofs.Joined.{keeps_reached, world_goes_join, world_on_join, world_on_rest, world_rests}
 use Rattle.world.proofs.NodesGoOn.{stays_reached}
@@ -24,6 +25,9 @@ returns-clause-steps c = c.loop-event.invariant.steps
 
 pub returns-clause-goes : goal.returns-clause-goes
 returns-clause-goes c = c.loop-event.invariant.goes
+
+pub returns-clause-grown : goal.returns-clause-grown
+returns-clause-grown c = agreed_grows _ _ c.loop-event.invariant.goes.goes
 
 pub returns-clause-reached : goal.returns-clause-reached
 returns-clause-reached c = stays_reached _ _ c.loop-event.invariant.goes.goes

@@ -1,3 +1,6 @@
+use Rattle.std.proofs.Common.{refl}
+use Rattle.world.proofs.AgreedOnlyGrows.{agreed_grows}
+use Rattle.world.proofs.CountedOnce.{step_once}
 use Rattle.world.proofs.ItemsMet.{step_happens}
 use Rattle.world.proofs.Joined.{goes_on_join, goes_on_rest, goes_on_still, keeps_reached, world_goes_on}
 use Rattle.world.proofs.NodesGoOn.{stays_reached}
@@ -32,5 +35,16 @@ returns-clause-reached c =
 
 pub returns-clause-happens : goal.returns-clause-happens
 returns-clause-happens c =
-    step_happens c.args.event.now c.args.self.now c.happen.new.self c.count.new.self c.losses-before.result (rw (← c.self.view_is) c.losses-before.ensures) c.happen.ensures.goes
-    c.in_ok-happen.ensures.meets c.count.ensures.rises c.count.ensures.whole c.count.ensures.same
+    step_happens c.args.event.now c.args.self.now c.happen.new.self c.count.new.self c.losses-before.result c.self.inside.losses (rw (← c.self.view_is) c.losses-before.ensures)
+    (rw (← c.self.view_is) refl) c.happen.ensures.goes c.in_ok-happen.ensures.meets c.count.ensures.rises c.count.ensures.whole c.count.ensures.same
+
+pub returns-in_err-happen-clause-grown : goal.returns-in_err-happen-clause-grown
+returns-in_err-happen-clause-grown c = agreed_grows _ _ (goes_on_rest _ _ c.in_err-happen.ensures.meets.1).nodes.goes
+
+pub returns-clause-grown : goal.returns-clause-grown
+returns-clause-grown c =
+    agreed_grows c.args.self.now.nodes c.count.new.self.nodes (goes_on_join c.args.self.now c.happen.new.self c.count.new.self c.happen.ensures.goes (goes_on_still _ _ c.count.ensures.nodes c.count.ensures.clients c.count.ensures.rises)).nodes.goes
+
+pub returns-clause-count : goal.returns-clause-count
+returns-clause-count c =
+    step_once c.args.self.now c.happen.new.self c.count.new.self c.self.inside.losses (rw (← c.self.view_is) refl) c.happen.ensures.once c.count.ensures.once

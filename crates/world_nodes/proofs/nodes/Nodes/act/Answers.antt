@@ -2,9 +2,10 @@ use Rattle.std.proofs.Common.{◌-◌, refl, ◌∙◌}
 use Rattle.world_model.specs.node_model.Moves.Deed.{takes}
 use Rattle.master.proofs.Groups.{more_than}
 use Rattle.world_nodes.specs.Nodes.{NodesState}
-use Rattle.world_nodes.proofs.Acts.{took_by, turn_acts, turn_takes}
+use Rattle.world_nodes.proofs.Acts.{behind_turn_of, took_by, turn_takes}
 use Rattle.world_nodes.proofs.CountsGoOn.{acts_counting, heard_behind}
 use Rattle.world_nodes.proofs.ActsLosing.{turn_loses}
+use Rattle.world_nodes.proofs.Exactly.{exactly}
 use Rattle.world_nodes.proofs.nodes.Nodes.act.Goals as goal
 
 pub returns-clause-step : goal.returns-clause-step
@@ -23,16 +24,17 @@ returns-clause-step c =
 pub returns-clause-goes : goal.returns-clause-goes
 returns-clause-goes c =
     let x = rw (← c.self.view_is) at c.in-Some.ensures.some in
-    let sent = rw (← c.self.view_is) at c.requires in
     let took = took_by c.self.inside.nodes.items c.in-Some.at x.core c.index_mut-core.result.now c.args.item c.take_in-whole.new.node c.self.inside.sent.items
     c.take_in-whole.new.sent.items c.take_in-whole.result x.stands c.index_mut-core.ensures.value c.take_in-whole.ensures in
-    rw (← c.self.view_is) (turn_acts (let old : NodesState = record {
+    let old : NodesState = record {
       master = c.self.inside.master;
       nodes = c.self.inside.nodes.items;
       sent = c.self.inside.sent.items;
       losses = c.self.inside.losses;
-    } in old) c.args.node c.in-Some.at x c.take_in-whole.new.node c.args.item c.take_in-whole.new.sent.items c.take_in-whole.result c.counted-self-inside.result took
-    c.counted-self-inside.ensures sent)
+    } in
+    rw (← c.self.view_is) (exactly c.args.node c.args.item old (behind_turn_of c.in-Some.at c.take_in-whole.new.node c.take_in-whole.new.sent.items c.counted-self-inside.result old)
+    (turn_takes old c.args.node c.in-Some.at x c.take_in-whole.new.node c.args.item c.take_in-whole.new.sent.items c.take_in-whole.result c.counted-self-inside.result took
+    c.counted-self-inside.ensures))
 
 pub returns-clause-acts : goal.returns-clause-acts
 returns-clause-acts c =

@@ -1,24 +1,28 @@
-use Rattle.std.proofs.Common.{sym, ◌∙◌}
+use Rattle.std.proofs.Common.{sym, ◌∙◌, subst}
+use Rattle.ballot.specs.Body.TheVariants.{Activate}
 use Rattle.agreement.specs.MasterState.{is_granted}
 use Rattle.master.proofs.Groups.{answer_is, turned}
 use Rattle.world_nodes.specs.Nodes.{NodesState}
+use Rattle.world_nodes.specs.Steps.{HearsIn}
 use Rattle.world_nodes.proofs.MasterCounts.{answers_counting}
-use Rattle.world_nodes.proofs.MasterActs.{answers_ballot, answers_or_loses}
+use Rattle.world_nodes.proofs.MasterActs.{answers_ballot, answers_or_loses, master_turn}
 use Rattle.world_nodes.proofs.nodes.Nodes.answer.Goals as goal
 
-pub returns-clause-goes : goal.returns-clause-goes
-returns-clause-goes c =
+pub returns-clause-step : goal.returns-clause-step
+returns-clause-step c =
     let m = c.self.inside.master in
-    let sent = rw (← c.self.view_is) at c.requires in
     let body = answer_is c.args.ballot (is_granted m c.args.ballot m.waiting) c.activate-activation.result c.answer_of.result
     c.activate-activation.ensures.answer c.answer_of.ensures.granted c.answer_of.ensures.refused in
-    rw (← c.self.view_is) (answers_ballot (let old : NodesState = record {
+    let old : NodesState = record {
       master = m;
       nodes = c.self.inside.nodes.items;
       sent = c.self.inside.sent.items;
       losses = c.self.inside.losses;
-    } in old) c.args.from c.args.ballot c.activate-activation.new.self c.answer_of.result c.tell-told.new.sent.items c.tell-told.result c.counted-self-inside.result
-    sent c.activate-activation.ensures.state body c.tell-told.ensures.told c.counted-self-inside.ensures)
+    } in
+    subst (λ (n : NodesState). HearsIn c.args.from (Activate c.args.ballot) n (master_turn c.activate-activation.new.self c.tell-told.new.sent.items c.counted-self-inside.result old))
+    c.self.view_is
+    (answers_ballot old c.args.from c.args.ballot c.activate-activation.new.self c.answer_of.result c.tell-told.new.sent.items c.tell-told.result c.counted-self-inside.result
+    c.activate-activation.ensures.state body c.tell-told.ensures.told c.tell-told.ensures.lost c.counted-self-inside.ensures)
 
 pub returns-clause-acts : goal.returns-clause-acts
 returns-clause-acts c =

@@ -8,8 +8,8 @@ use Rattle.world_nodes.proofs.MasterCounts.{gives_counting, no_refusal}
 use Rattle.world_nodes.proofs.MasterActs.{gives_ballot, gives_or_loses}
 use Rattle.world_nodes.proofs.nodes.Nodes.give.Goals as goal
 
-pub returns-clause-goes : goal.returns-clause-goes
-returns-clause-goes c =
+pub returns-clause-step : goal.returns-clause-step
+returns-clause-step c =
     let m = c.self.inside.master in
     let granted = rw (← c.self.view_is) at c.requires in
     let given : c.in_ok-given.given ≡ c.args.config.now = c.in_ok-given.ensures in
@@ -25,7 +25,7 @@ returns-clause-goes c =
       sent = c.self.inside.sent.items;
       losses = c.self.inside.losses;
     } in old) c.args.config.now c.assign.new.self _ c.tell-told.new.sent.items c.tell-told.result c.counted-self-inside.result
-    granted state body c.tell-told.ensures.told c.counted-self-inside.ensures)
+    state body c.tell-told.ensures.told c.tell-told.ensures.lost c.counted-self-inside.ensures)
 
 pub returns-clause-acts : goal.returns-clause-acts
 returns-clause-acts c =

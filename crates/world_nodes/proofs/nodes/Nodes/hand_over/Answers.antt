@@ -4,6 +4,7 @@ use Rattle.world_nodes.specs.Goes.{node_of}
 use Rattle.world_nodes.specs.Nodes.{NodesState}
 use Rattle.world_nodes.specs.Steps.{forgetful}
 use Rattle.world_nodes.proofs.CountsGoOn.{acts_counting}
+use Rattle.world_nodes.proofs.Exactly.{gives_acts}
 use Rattle.world_nodes.proofs.HandsOver.{answers_so, hands, hands_bytes, is_there, rests, stands_there}
 use Rattle.world_nodes.proofs.nodes.Nodes.hand_over.Goals as goal
 
@@ -11,12 +12,13 @@ pub returns-in-Ok-clause-goes : goal.returns-in-Ok-clause-goes
 returns-in-Ok-clause-goes c =
     let below : c.args.node ≤ length c.self.inside.nodes.items = omega (arith, c.self.inside.nodes.ok.0, c.len.ensures, c.if-node-len.false) in
     let found = stands_there c.self.inside.nodes.items c.args.node c.index_mut-core.result.now c.if-node-eq0.false below c.index_mut-core.ensures.value in
+    let is : node_of c.self.inside.nodes.items c.args.node ≡ Some c.index_mut-core.result.now = is_there c.self.inside.nodes.items c.args.node c.index_mut-core.result.now c.if-node-eq0.false found in
     rw (← c.self.view_is) (λ none. hands (let old : NodesState = record {
       master = c.self.inside.master;
       nodes = c.self.inside.nodes.items;
       sent = c.self.inside.sent.items;
       losses = c.self.inside.losses;
-    } in old) (c.args.node - 1) c.index_mut-core.result.now c.outgoing.new.self c.args.port found c.in-Ok.ensures.left)
+    } in old) c.args.node c.index_mut-core.result.now c.outgoing.new.self c.args.port is c.in-Ok.ensures.left)
 
 pub returns-in-Ok-clause-idle : goal.returns-in-Ok-clause-idle
 returns-in-Ok-clause-idle c =
@@ -56,8 +58,8 @@ returns-in-Ok-clause-answer c =
       losses = c.self.inside.losses;
     } in old) c.args.node c.args.port c.index_mut-core.result.now c.in-Ok.handed is c.in-Ok.ensures.answer)
 
-pub returns-in-Ok-clause-acts : goal.returns-in-Ok-clause-acts
-returns-in-Ok-clause-acts c =
+pub returns-in-Ok-clause-step : goal.returns-in-Ok-clause-step
+returns-in-Ok-clause-step c =
     let below : c.args.node ≤ length c.self.inside.nodes.items = omega (arith, c.self.inside.nodes.ok.0, c.len.ensures, c.if-node-len.false) in
     let found = stands_there c.self.inside.nodes.items c.args.node c.index_mut-core.result.now c.if-node-eq0.false below c.index_mut-core.ensures.value in
     let is : node_of c.self.inside.nodes.items c.args.node ≡ Some c.index_mut-core.result.now = is_there c.self.inside.nodes.items c.args.node c.index_mut-core.result.now c.if-node-eq0.false found in
@@ -67,17 +69,23 @@ returns-in-Ok-clause-acts c =
         nodes = c.self.inside.nodes.items;
         sent = c.self.inside.sent.items;
         losses = c.self.inside.losses;
-      } in old) (c.args.node - 1) c.index_mut-core.result.now c.outgoing.new.self c.args.port found c.in-Ok.ensures.left,
+      } in old) c.args.node c.index_mut-core.result.now c.outgoing.new.self c.args.port is c.in-Ok.ensures.left,
       hands_bytes (let old : NodesState = record {
         master = c.self.inside.master;
         nodes = c.self.inside.nodes.items;
         sent = c.self.inside.sent.items;
         losses = c.self.inside.losses;
       } in old) c.args.node c.args.port c.index_mut-core.result.now c.args.out.now.items c.outgoing.new.out.items is c.in-Ok.ensures.bytes,
+      answers_so (let old : NodesState = record {
+        master = c.self.inside.master;
+        nodes = c.self.inside.nodes.items;
+        sent = c.self.inside.sent.items;
+        losses = c.self.inside.losses;
+      } in old) c.args.node c.args.port c.index_mut-core.result.now c.in-Ok.handed is c.in-Ok.ensures.answer,
     ))
 
-pub returns-in-Err-clause-acts : goal.returns-in-Err-clause-acts
-returns-in-Err-clause-acts c =
+pub returns-in-Err-clause-step : goal.returns-in-Err-clause-step
+returns-in-Err-clause-step c =
     let below : c.args.node ≤ length c.self.inside.nodes.items = omega (arith, c.self.inside.nodes.ok.0, c.len.ensures, c.if-node-len.false) in
     let found = stands_there c.self.inside.nodes.items c.args.node c.index_mut-core.result.now c.if-node-eq0.false below c.index_mut-core.ensures.value in
     inr (
@@ -88,16 +96,18 @@ returns-in-Err-clause-acts c =
         losses = c.self.inside.losses;
       } in old) (c.args.node - 1) c.index_mut-core.result.now c.outgoing.new.self found c.in-Err.ensures.same ∙ c.self.view_is),
       c.in-Err.ensures.err,
+      refl,
     )
 
 pub invariant_of-self : goal.invariant_of-self
 invariant_of-self c =
     let below : c.args.node ≤ length c.self.inside.nodes.items = omega (arith, c.self.inside.nodes.ok.0, c.len.ensures, c.if-node-len.false) in
     let found = stands_there c.self.inside.nodes.items c.args.node c.index_mut-core.result.now c.if-node-eq0.false below c.index_mut-core.ensures.value in
+    let is : node_of c.self.inside.nodes.items c.args.node ≡ Some c.index_mut-core.result.now = is_there c.self.inside.nodes.items c.args.node c.index_mut-core.result.now c.if-node-eq0.false found in
     acts_counting _ _ (c.args.node - 1) (gives c.args.port) c.self.inside.counters.told c.self.inside.counters.next c.self.inside.counters.told c.self.inside.counters.next c.self.invariant
-    (hands (let old : NodesState = record {
+    (gives_acts c.args.node c.args.port _ _ (hands (let old : NodesState = record {
       master = c.self.inside.master;
       nodes = c.self.inside.nodes.items;
       sent = c.self.inside.sent.items;
       losses = c.self.inside.losses;
-    } in old) (c.args.node - 1) c.index_mut-core.result.now c.outgoing.new.self c.args.port found c.in-Ok.ensures.left) refl refl refl (λ h. h) (λ h. h)
+    } in old) c.args.node c.index_mut-core.result.now c.outgoing.new.self c.args.port is c.in-Ok.ensures.left)) refl refl refl (λ h. h) (λ h. h)

@@ -1,0 +1,81 @@
+-- AgreedOnlyGrows.antt: what nodes agreed on before is a beginning of what they agree on then.
+use Rattle.std.proofs.Common.{ℕ, List, ◌∷◌, ◌++◌, sym, ap, ◌∙◌, subst}
+use Rattle.lists.specs.Lists.{IsPrefixOf}
+use Rattle.lists.specs.Lists.In.{here}
+use Rattle.lists.proofs.Beginnings.{prefix_same, prefix_then}
+use Rattle.ballot.specs.Config.{Config}
+use Rattle.agreement.specs.Past.{IsAgreed, Moment}
+use Rattle.agreement.proofs.Agreed.PastAgrees.{has_agreed, nodes_agree}
+use Rattle.broker_base.specs.Command.{Command}
+use Rattle.broker_base.specs.Output.{Output}
+use Rattle.broker_base.specs.State.{State}
+use Rattle.world_base.specs.Core.{rules}
+use Rattle.exact_model.specs.group_model.Group.{Group, moment_of}
+use Rattle.exact_model.specs.group_model.Goes.{Went, all_put, groups_of, put_in_step}
+use Rattle.exact_model.specs.group_model.Goes.Went.{then_went}
+use Rattle.exact_model.specs.group_model.Order.{KeepsOrder}
+use Rattle.exact_model.specs.group_model.Pasts.{HasPast, packets_in}
+use Rattle.exact_model.proofs.of_group_model.GroupsArePasts.{goes_on as past_goes_on, seen_still}
+use Rattle.exact_model.proofs.of_group_model.NamesInGroups.{puts_in_the_ballot_of_the_name}
+use Rattle.exact_model.proofs.of_group_model.Ordered.{groups_keep_the_order, in_agreed}
+use Rattle.exact_model.proofs.of_group_model.Packets.{packets_join}
+use Rattle.world_nodes.specs.Nodes.{NodesState}
+use Rattle.world.specs.Goes.{AgreedGrows, Goes, NodesGo}
+use Rattle.world.specs.Goes.Goes.{rests, goes_on}
+use Rattle.world.proofs.OneAgreed.{one_agreed}
+
+-- A group that went on from another: its past goes on from the past of that one.
+record LeadsOn (nodes : ℕ) (config : Config) (g : Group) (earlier : List (Moment State Command Output)) (h : Group) : Type 0 where
+  pub went : Went nodes config h
+  pub of : HasPast config h (groups_of went) (all_put went)
+  pub grows : (xs ys : List Command) → IsAgreed config (moment_of g ∷ earlier) xs → IsAgreed config (moment_of h ∷ of.earlier) ys → IsPrefixOf xs ys
+
+leads_on : (nodes : ℕ) (config : Config) (g h : Group) (went : Went nodes config g) (of : HasPast config g (groups_of went) (all_put went)) → Goes g h
+    → LeadsOn nodes config g of.earlier h
+leads_on nodes config g h went of rests =
+    record {
+      went = went;
+      of = of;
+      grows = λ xs ys before behind. subst (λ (l : List Command). IsPrefixOf xs l) (one_agreed config (moment_of g ∷ of.earlier) xs ys before behind) (prefix_same xs);
+    }
+leads_on nodes config g k went of (goes_on {h = h} goes step) =
+    let so_far = leads_on nodes config g h went of goes in
+    let further = past_goes_on config h k step so_far.of.earlier so_far.of.past in
+    let between = has_agreed rules config (moment_of h) so_far.of.earlier so_far.of.past in
+    record {
+      went = then_went so_far.went step;
+      of = record {
+        earlier = further.before;
+        past = further.past;
+        proposed = further.proposed ∙ ap (λ l. l ++ put_in_step step) so_far.of.proposed;
+        taken = λ x.
+            further.taken x ∙ ap (λ l. l ++ packets_in x (put_in_step step)) (so_far.of.taken x) ∙ sym (packets_join x (all_put so_far.went) (put_in_step step));
+        seen = (here, seen_still (groups_of so_far.went) further.kept so_far.of.seen);
+      };
+      grows = λ xs ys before behind. prefix_then (so_far.grows xs between.0 before between.1) (further.grows between.0 ys between.1 behind);
+    }
+
+pub agreed_grows : (old new : NodesState) → NodesGo old new → AgreedGrows old new
+agreed_grows old new go nodes config before =
+    let to = go before.group before.stands in
+    let on = leads_on nodes config before.group to.behind before.went before.order.of to.goes in
+    let order : KeepsOrder config to.behind (groups_of on.went) (all_put on.went) = record {
+      of = on.of;
+      logs = (groups_keep_the_order nodes config to.behind on.went).logs;
+      agreed = λ x xs is. in_agreed config to.behind (groups_of on.went) (all_put on.went) on.of (puts_in_the_ballot_of_the_name nodes config to.behind on.went) x xs is;
+    } in
+    let list = has_agreed rules config (moment_of to.behind) on.of.earlier on.of.past in
+    let agree = nodes_agree rules config (moment_of to.behind) on.of.earlier list.0 on.of.past list.1 in (
+      record {
+        group = to.behind;
+        went = on.went;
+        stands = to.stands;
+        order = order;
+        list = list.0;
+        agreed = list.1;
+        agrees = agree.0;
+        holds = agree.1;
+        leaves = agree.2;
+      },
+      on.grows before.list list.0 before.agreed list.1,
+    )

@@ -1,0 +1,29 @@
+-- Where nothing is counted a node took just the item; and what is handed over exactly is a node's deed.
+use Rattle.std.proofs.Common.{◌≡◌, ◌⊎◌, inl, inr, ◌<◌, ◌^◌, ◌-◌, ℕ, zero, suc, List, Option, Some, None, refl, sym, ap, ◌∙◌, subst, arith}
+use Rattle.std.specs.Prelude.{slice_get}
+use Rattle.std.proofs.lemmas.Option.{none-some}
+use Rattle.world_base.specs.declared.item.Item.{Item}
+use Rattle.world_base.specs.declared.item.Port.{Port}
+use Rattle.world_base.specs.Core.{CountedCore}
+use Rattle.world_model.specs.node_model.Moves.Deed.{takes, gives}
+use Rattle.world_nodes.specs.Nodes.{NodesState}
+use Rattle.world_nodes.specs.Goes.{Acts, GivesExactly, TakesExactly, behind_deed, node_of}
+use Rattle.world_nodes.specs.Steps.{ActsWithLosses, LosesNothing, TakesIn}
+use Rattle.world_nodes.proofs.Acts.{acts, not_one_more}
+
+pub exactly : (node : ℕ) (item : Item) (old new : NodesState) → TakesIn node item old new → LosesNothing old new → TakesExactly node item old new
+exactly node item old new t none = by t.way
+  where
+    by : (new ≡ behind_deed (node - 1) t.core (takes item) old) ⊎ ActsWithLosses (node - 1) item t.core old new → TakesExactly node item old new
+    by (inl is) = record { core = t.core; runs = t.runs; is = is }
+    by (inr loses) = absurd (not_one_more old.losses none.1 (sym (ap (λ (n : NodesState). n.losses) loses.is) ∙ none.0))
+
+-- the node of a number stands at its place
+pub at_place : (nodes : List CountedCore) (node : ℕ) (core : CountedCore) → node_of nodes node ≡ Some core → slice_get nodes (node - 1) ≡ Some core
+at_place nodes zero core there = absurd (none-some core there)
+at_place nodes (suc n) core there = subst (λ (k : ℕ). slice_get nodes k ≡ Some core) (let e : n ≡ suc n - 1 = omega arith in e) there
+
+pub gives_acts : (node : ℕ) (port : Port) (old new : NodesState) → GivesExactly node port old new → Acts (node - 1) (gives port) old new
+gives_acts node port old new g =
+    subst (λ (n : NodesState). Acts (node - 1) (gives port) old n) (sym g.is)
+    (acts old (node - 1) g.core (gives port) (at_place old.nodes node g.core g.there) (λ h s. tt))
