@@ -26,3 +26,4 @@ mod ItemsMet
 mod OneAgreed
 mod AgreedOnlyGrows
 mod CountedOnce
+mod AcceptedShown

@@ -97,6 +97,7 @@ way_changes client m at way later x q s is up came =
     record {
       keeper = s.keeper;
       fits = s.fits;
+      accepted = s.accepted;
       many = s.many ∙ sym (length-set m.pipes x.turned.place q);
       ways = subst (λ (l : List Way). AreWays l (set m.pipes x.turned.place q)) (sym (x.turned.set_there later))
           (ways_set (reverse client.ways) m.pipes x.turned.place later q s.ways is);

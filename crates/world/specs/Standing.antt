@@ -1,13 +1,21 @@
 -- Which worlds of the model a world in code stands for, and how these go on.
-use Rattle.std.specs.Prelude.{ℕ, List, [], ◌∷◌, map}
+use Rattle.std.specs.Prelude.{◌≡◌, ℕ, false, List, [], ◌∷◌, ◌++◌, map}
+use Rattle.lists.specs.Lists.{Each}
 use Rattle.ballot.specs.Config.{Config}
+use Rattle.broker_base.specs.Command.{Command}
+use Rattle.broker_base.specs.Commands.{past_of, usual_limits}
+use Rattle.broker_base.specs.Entries.{Entry}
 use Rattle.broker_base.specs.Place.{Client}
+use Rattle.broker_base.specs.Readings.{publication_in}
+use Rattle.broker_base.specs.Times.{entries_of}
+use Rattle.client.specs.Core.{Core}
+use Rattle.story.specs.Headline.{is_released, two_entries}
 use Rattle.model.specs.World.{AreApart}
 use Rattle.exact_model.specs.Exact.{IsExact}
 use Rattle.exact_model.specs.world_model.World.{ClientPipes, World}
 use Rattle.exact_model.specs.world_model.Goes.{Reached, WorldStep}
 use Rattle.world_nodes.specs.Nodes.{StandsFor as NodesStand}
-use Rattle.world_pipes.specs.Standing.{StandsFor as ClientStands}
+use Rattle.world_pipes.specs.Standing.{StandsFor as ClientStands, accepted_once}
 use Rattle.world.specs.World.{WorldState}
 use Rattle.world.specs.declared.world.WorldClient.{WorldClient}
 
@@ -58,3 +66,12 @@ KeepsReached old new = (nodes : ℕ) (config : Config) (cs : List Client) → Is
 -- the identifiers of clients, in their order
 abbrev pub identifiers : List WorldClient → List Client
 identifiers clients = map (λ (c : WorldClient). c.name) clients
+
+-- What a client shows as accepted at QoS 2 is a beginning of its QoS 2 entries in this list: `old`, in order, each once. No entry
+-- after it is released.
+pub record AcceptsInOrder (agreed : List Command) (core : Core) : Type 0 where
+  pub old : List Entry
+  pub new : List Entry
+  pub entries : two_entries (entries_of usual_limits (past_of usual_limits agreed) core.state.client) ≡ old ++ new
+  pub accepted : accepted_once core.state.accepted ≡ map publication_in old
+  pub rest : Each (λ (entry : Entry). is_released entry ≡ false) new

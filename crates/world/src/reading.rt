@@ -7,7 +7,7 @@ ghost use Rattle.broker_base.specs.Place.{Client};
 ghost use Rattle.world_nodes.specs.Agreed.{AgreeOn, AgreeOnSoMany};
 ghost use Rattle.world.specs.Found.{core_named, is_named, place_numbered, way_of};
 ghost use Rattle.world.specs.Goes.{AreReached};
-ghost use Rattle.world.specs.Standing.{IsReached};
+ghost use Rattle.world.specs.Standing.{AcceptsInOrder, IsReached};
 
 use crate::place::Place;
 use crate::world::{World, WorldClient};
@@ -57,6 +57,11 @@ impl World {
         ensures some { IfSome result
             (λ core. core_named client.now self.now.clients ≡ Some core.now) }
         ensures none { result ≡ None → core_named client.now self.now.clients ≡ None }
+
+        // What it shows as accepted at QoS 2 is in order, by the list on which the nodes agree.
+        ensures accepted { (nodes : ℕ) (config : Config) (clients : List Client)
+            (reached : IsReached nodes config clients self.now) →
+            IfSome result (λ core. AcceptsInOrder reached.exact.agreed core.now) }
     {
         let at = self.place_of(client)?;
         let found = self.clients.get(at)?;

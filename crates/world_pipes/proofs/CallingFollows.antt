@@ -19,6 +19,7 @@ use Rattle.world_pipes.specs.Standing.{StandsFor}
 use Rattle.world_model.specs.World.{after_writing}
 use Rattle.world_pipes.proofs.CallsFollow.{up_follows}
 use Rattle.world_pipes.proofs.CallsOffline.{call_follows, publishing_offline, subscribing_offline, unsubscribing_offline}
+use Rattle.world_pipes.proofs.AcceptedAlike.{leaving_accepts_none, publishing_accepts_none, subscribing_accepts_none, unsubscribing_accepts_none}
 use Rattle.world_pipes.proofs.CallsSpellable.{leaving_fits, publishing_fits, subscribing_fits, unsubscribing_fits}
 use Rattle.world_pipes.proofs.ModelsCalls.{leaves_open, leaves_too, publishes_too, subscribes_too, unsubscribes_too}
 use Rattle.world_pipes.proofs.StaysOpen.{publishing_stays, subscribing_stays, unsubscribing_stays}
@@ -58,6 +59,7 @@ publishing_follows p old (Ok sending) new good (core, does, goes) =
       appends = does.1.1;
       unread = λ on. does.1.2;
       fits = publishing_fits p state good;
+      accepts_none = publishing_accepts_none p state;
       too = λ m s zero. publishes_too p m state s zero does.0;
     }) sending goes
 publishing_follows p old (Err cause) new good calls = call_refused (keeper_step (Call.Publishes p) old.core.state) old new cause calls
@@ -73,6 +75,7 @@ subscribing_follows filter qos old (Ok sending) new good (core, does, goes) =
       appends = does.1.1;
       unread = λ on. does.1.2;
       fits = subscribing_fits filter qos state good;
+      accepts_none = subscribing_accepts_none filter qos state;
       too = λ m s zero. subscribes_too filter qos m state s zero does.0;
     }) sending goes
 subscribing_follows filter qos old (Err cause) new good calls = call_refused (keeper_step (Call.Subscribes filter qos) old.core.state) old new cause calls
@@ -88,6 +91,7 @@ unsubscribing_follows filter old (Ok sending) new good (core, does, goes) =
       appends = does.1.1;
       unread = λ on. does.1.2;
       fits = unsubscribing_fits filter state good;
+      accepts_none = unsubscribing_accepts_none filter state;
       too = λ m s zero. unsubscribes_too filter m state s zero does.0;
     }) sending goes
 unsubscribing_follows filter old (Err cause) new good calls = call_refused (keeper_step (Call.Unsubscribes filter) old.core.state) old new cause calls
@@ -104,6 +108,7 @@ leaving_follows old (Ok sending) new (core, leaves, goes) =
       appends = leaves.2;
       unread = λ on. absurd (both_ways (is_open core.state.stage) shut on);
       fits = leaving_fits state.stage state;
+      accepts_none = leaving_accepts_none state.stage state;
       too = λ m s zero. leaves_too m state s zero leaves.0;
     }) goes
 leaving_follows old (Err cause) new leaves = ap₂ piped (same_left (keeper_step Call.Disconnects old.core.state) old.core new.core cause leaves.0) leaves.1

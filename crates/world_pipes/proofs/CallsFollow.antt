@@ -4,7 +4,7 @@ use Rattle.std.proofs.lemmas.Bool.{both_ways}
 use Rattle.std.proofs.lemmas.List.{append-nil}
 use Rattle.packet.specs.Spelling.{IsPacket}
 use Rattle.lists.specs.Lists.{Each}
-use Rattle.client_base.specs.State.{is_open}
+use Rattle.client_base.specs.State.{ClientState, is_open}
 use Rattle.client_base.specs.Answered.{Turn}
 use Rattle.client_base.specs.History as history
 use Rattle.client_base.specs.Written.{writes, writes_first}
@@ -21,7 +21,8 @@ use Rattle.world_pipes.specs.Following.{CallingFollows, after_losing}
 use Rattle.world_pipes.specs.Goes.{ClientGoes, ClientStep}
 use Rattle.world_pipes.specs.Piped.{Calls, GoesUp, GoesUpWhere, Piped, TakesLeave, broken, is_holding, piped}
 use Rattle.world_pipes.specs.Piped as pipings
-use Rattle.world_pipes.specs.Standing.{AreWays, CanGoOut, StandsFor}
+use Rattle.story.specs.Headline.{accepted_on}
+use Rattle.world_pipes.specs.Standing.{AreWays, CanGoOut, StandsFor, accepted_once}
 use Rattle.world_pipes.proofs.HearingFollows.{IsLeft, finished, left_lost, way_up}
 use Rattle.world_pipes.proofs.ModelsCalls.{IsCalled}
 use Rattle.world_pipes.proofs.PacketsHandled.{appended}
@@ -43,8 +44,8 @@ record HasCalled (turn : Turn) (core : Core) (older : List Way) (way : Way) (m :
 
 has_called : (turn : Turn) (old : Piped) (core : Core) (older : List Way) (way : Way) (m : ClientPipes) (c : IsCalled turn m) → StandsFor old m →
     is_holding old ≡ true → old.ways ≡ older ++ way ∷ [] → AllSpelled turn → core.state ≡ turn.state → AppendsAll old.core.out core.out turn.writes →
-    (is_open core.state.stage ≡ true → core.unread ≡ old.core.unread) → HasCalled turn core older way m c
-has_called turn old core older way m c s up splits whole same appends unread =
+    (is_open core.state.stage ≡ true → core.unread ≡ old.core.unread) → turn.state.accepted ≡ old.core.state.accepted → HasCalled turn core older way m c
+has_called turn old core older way m c s up splits whole same appends unread none =
     let held = s.held up in
     let κ = held.connection in
     let others = held.others in
@@ -64,6 +65,7 @@ has_called turn old core older way m c s up splits whole same appends unread =
       left = record {
         keeper = subst (history.StandsFor c.keeper) (sym same) c.stands;
         fits = subst CanGoOut (sym same) whole.left;
+        accepted = ap (λ (state : ClientState). accepted_once state.accepted) same ∙ ap accepted_once none ∙ s.accepted ∙ ap accepted_on held.connections ∙ sym (ap accepted_on first);
         connection = writes c.more κ;
         connections = first;
         pipe = record p { up = p.up ++ spelled (newly_written m.connections c.connections) };
@@ -106,6 +108,7 @@ pub record HasCall (turn : Turn) (old : Piped) (core : Core) : Type 0 where
   pub appends : AppendsAll old.core.out core.out turn.writes
   pub unread : is_open core.state.stage ≡ true → core.unread ≡ old.core.unread
   pub fits : CanGoOut old.core.state → AllSpelled turn
+  pub accepts_none : turn.state.accepted ≡ old.core.state.accepted
   pub too : (m : ClientPipes) → history.StandsFor m.keeper old.core.state → old.core.state.keep_alive ≡ 0 → IsCalled turn m
 
 -- a call of a client that holds a connection
@@ -113,7 +116,7 @@ pub up_follows : (turn : Turn) (old : Piped) (core : Core) (sending : Sending) (
     GoesUp core old.ways sending new → CallingFollows old (Ok sending) new
 up_follows turn old core sendings.Sent new up has (older, way, splits, is) = λ m s.
     let c = has.too m s.keeper s.fits.keep_alive in
-    let h = has_called turn old core older way m c s up splits (has.fits s.fits) has.state has.appends has.unread in
+    let h = has_called turn old core older way m c s up splits (has.fits s.fits) has.state has.appends has.unread has.accepts_none in
     record {
       story = record { past = []; connections = c.connections; keeper = c.keeper };
       call = c.call;
@@ -125,7 +128,7 @@ up_follows turn old core sendings.Lost new up has is = λ m s.
     let held = s.held up in
     let c = has.too m s.keeper s.fits.keep_alive in
     let m₁ = after_writing c.keeper c.connections m in
-    let h = has_called turn old core held.older held.way m c s up held.ways (has.fits s.fits) has.state has.appends has.unread in
+    let h = has_called turn old core held.older held.way m c s up held.ways (has.fits s.fits) has.state has.appends has.unread has.accepts_none in
     let step : ClientStep m m₁ = ClientStep.calls (record { past = []; connections = c.connections; keeper = c.keeper }) c.call c.is_one h.spelled in
     record {
       next = after_losing m₁;

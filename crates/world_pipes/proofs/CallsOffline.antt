@@ -26,7 +26,8 @@ use Rattle.world_pipes.specs.declared.sending.Sending.{Sending}
 use Rattle.world_pipes.specs.declared.sending.Sending.TheVariants as sendings
 use Rattle.world_pipes.specs.Following.{CallingFollows}
 use Rattle.world_pipes.specs.Piped.{GoesUpWhere, Piped, is_holding, piped}
-use Rattle.world_pipes.specs.Standing.{AreWays, CanGoOut, StandsFor}
+use Rattle.story.specs.Headline.{accepted_on}
+use Rattle.world_pipes.specs.Standing.{AreWays, CanGoOut, StandsFor, accepted_once}
 use Rattle.world_pipes.proofs.CallsFollow.{HasCall, up_follows}
 use Rattle.world_pipes.proofs.Ways.{none_sent}
 
@@ -75,6 +76,10 @@ as_many : (more : List Written) (connections : List Connection) → length (writ
 as_many more [] = refl
 as_many more (κ ∷ others) = refl
 
+same_accepted : (more : List Written) (connections : List Connection) → accepted_on (writes_first more connections) ≡ accepted_on connections
+same_accepted more [] = refl
+same_accepted more (κ ∷ others) = refl
+
 idle_follows : (turn : Turn) (old : Piped) (core : Core) (new : Piped) → is_holding old ≡ false → turn.state.stage ≡ old.core.state.stage → turn.writes ≡ [] →
     HasCall turn old core → new ≡ piped core old.ways → CallingFollows old (Ok sendings.Sent) new
 idle_follows turn old core new closed stays none has is = λ m s.
@@ -92,6 +97,8 @@ idle_follows turn old core new closed stays none has is = λ m s.
           (record {
             keeper = subst (history.StandsFor c.keeper) (sym has.state) c.stands;
             fits = subst CanGoOut (sym has.state) (has.fits s.fits).left;
+            accepted = ap (λ (state : ClientState). accepted_once state.accepted) has.state ∙ ap accepted_once has.accepts_none ∙ s.accepted
+                ∙ sym (ap accepted_on c.on_first ∙ same_accepted c.more m.connections);
             many = ap length c.on_first ∙ as_many c.more m.connections ∙ s.many ∙ ap length (sym same);
             ways = subst (AreWays (reverse old.ways)) (sym same) s.ways;
             held = λ on. absurd (both_ways (is_open core.state.stage) shut on);

@@ -23,7 +23,8 @@ use Rattle.world_pipes.specs.declared.way.Way.{Way}
 use Rattle.world_pipes.specs.Following.{ConnectingFollows, FollowsAll}
 use Rattle.world_pipes.specs.Goes.{ClientGoes}
 use Rattle.world_pipes.specs.Piped.{Connects, Piped, is_holding, new_piped, new_way, piped, sent_up}
-use Rattle.world_pipes.specs.Standing.{AreWays, CanGoOut, StandsFor}
+use Rattle.story.specs.Headline.{accepted_on}
+use Rattle.world_pipes.specs.Standing.{AreWays, CanGoOut, StandsFor, accepted_once}
 use Rattle.world_pipes.proofs.PacketsHandled.{appended}
 use Rattle.world_pipes.proofs.TakenBack.{opened_and_lost}
 use Rattle.world_pipes.proofs.Ways.{with_newest}
@@ -48,6 +49,7 @@ new_stands client fits =
         online_sent = λ on. refl;
       };
       fits = record { keep_alive = refl; client = fits; released = tt; sent = tt; unsent = tt };
+      accepted = refl;
       many = refl;
       ways = tt;
       held = λ up. absurd (both_ways false refl up);
@@ -99,6 +101,7 @@ connected node port old core m x s opens =
     record {
       keeper = subst (history.StandsFor (record (handling.lost m.keeper) { is_open = true })) (sym opens.0) (opened_stands m.keeper old.core.state s.keeper);
       fits = subst CanGoOut (sym opens.0) (opened_fits old.core.state s.fits);
+      accepted = ap (λ (state : ClientState). accepted_once state.accepted) opens.0 ∙ s.accepted ∙ sym (append-nil (accepted_on m.connections));
       many = ap suc s.many;
       ways = with_newest old.ways way m.pipes _
           (record { node = refl; port = refl; up = record { rest = []; is = sym out ∙ sym (append-nil core.out) }; down = refl }) s.ways;

@@ -7,7 +7,7 @@ use Rattle.client_base.specs.declared.error.ClientError.{ClientError}
 use Rattle.client_base.specs.declared.error.ClientError.TheVariants as errors
 use Rattle.client_base.specs.declared.stage.Stage.{Stage}
 use Rattle.client_base.specs.declared.stage.Stage.TheVariants as stages
-use Rattle.client_base.specs.State.{is_open}
+use Rattle.client_base.specs.State.{ClientState, is_open}
 use Rattle.client_base.specs.History as history
 use Rattle.client_base.proofs.FollowsHandled.{lost_stands}
 use Rattle.client.specs.Core.{Core, gone}
@@ -18,7 +18,8 @@ use Rattle.world_pipes.specs.declared.way.Way.{Way}
 use Rattle.world_pipes.specs.Following.{Follows, HearingFollows, after_losing}
 use Rattle.world_pipes.specs.Goes.{ClientGoes, ClientStep}
 use Rattle.world_pipes.specs.Piped.{Hears, Piped, broken, come_down, piped, sent_up}
-use Rattle.world_pipes.specs.Standing.{AreWays, CanGoOut, IsWay, StandsFor}
+use Rattle.story.specs.Headline.{accepted_on}
+use Rattle.world_pipes.specs.Standing.{AreWays, CanGoOut, IsWay, StandsFor, accepted_once}
 use Rattle.world_pipes.proofs.PacketsHandled.{GoFar, IsInMidst, all_go, one_goes}
 use Rattle.world_pipes.proofs.StaysOpen.{handled_stays}
 use Rattle.world_pipes.proofs.Ways.{last_same, losing, lost_fits, newest_way, same_pipes, with_newest}
@@ -29,6 +30,7 @@ use Rattle.world_pipes.proofs.Ways.{last_same, losing, lost_fits, newest_way, sa
 pub record IsLeft (before : List ℕ) (core : Core) (m : ClientPipes) (others : List Connection) (p₀ : Pipe) (further : List Pipe) : Type 0 where
   pub keeper : history.StandsFor m.keeper core.state
   pub fits : CanGoOut core.state
+  pub accepted : accepted_once core.state.accepted ≡ accepted_on m.connections
   pub connection : Connection
   pub connections : m.connections ≡ connection ∷ others
   pub pipe : Pipe
@@ -48,6 +50,7 @@ left_so before core m others p₀ further s =
     record {
       keeper = s.keeper;
       fits = s.fits;
+      accepted = s.accepted;
       connection = s.connection;
       connections = s.connections;
       pipe = s.pipe;
@@ -63,6 +66,7 @@ left_lost before core m others p₀ further s =
     record {
       keeper = lost_stands m.keeper core.state s.keeper;
       fits = lost_fits core s.fits;
+      accepted = s.accepted;
       connection = s.connection;
       connections = s.connections;
       pipe = s.pipe;
@@ -129,6 +133,7 @@ finished older way before core shown m others p₀ further up rest l same many w
     record {
       keeper = subst (history.StandsFor m.keeper) (sym same) l.keeper;
       fits = subst CanGoOut (sym same) l.fits;
+      accepted = ap (λ (state : ClientState). accepted_once state.accepted) same ∙ l.accepted;
       many = ap length l.connections ∙ ap suc many ∙ sym (ap length l.pipes);
       ways = subst (AreWays (reverse (older ++ record way { up = up } ∷ []))) (sym l.pipes) (with_newest older (record way { up = up }) further l.pipe one ways);
       held = λ open-now.
@@ -176,6 +181,7 @@ hearing_follows count old new result m s up h =
     record {
       keeper = s.keeper;
       fits = s.fits;
+      accepted = s.accepted;
       connection = held.connection;
       connections = held.connections;
       pipe = p₁;

@@ -6,6 +6,7 @@ pub mod Renamed
 pub mod Spellable
 pub mod PacketsHandled
 pub mod Ways
+pub mod AcceptedAlike
 pub mod HearingFollows
 pub mod TakenBack
 pub mod ConnectingFollows

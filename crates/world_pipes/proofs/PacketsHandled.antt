@@ -21,7 +21,9 @@ use Rattle.world_model.specs.World.{ClientPipes, Pipe, newly_written}
 use Rattle.world_model.specs.Goes.{after_packet}
 use Rattle.world_model.proofs.OnTheWay.{newly_is}
 use Rattle.world_pipes.specs.Goes.{ClientGoes, ClientStep}
-use Rattle.world_pipes.specs.Standing.{CanGoOut}
+use Rattle.story.specs.Headline.{accepted_on}
+use Rattle.world_pipes.specs.Standing.{CanGoOut, accepted_once}
+use Rattle.world_pipes.proofs.AcceptedAlike.{accepts_alike}
 use Rattle.world_pipes.proofs.Renamed.{handled_renamed, renamed}
 use Rattle.world_pipes.proofs.StaysOpen.{handled_stays}
 use Rattle.world_pipes.proofs.Spellable.{AllSpelled, received_fits}
@@ -43,6 +45,7 @@ appended old new (p ∷ packets) fits (between, (bytes, spells, is), more) =
 pub record IsInMidst (before : List ℕ) (core : Core) (m : ClientPipes) (others : List Connection) (p₀ : Pipe) (further : List Pipe) : Type 0 where
   pub keeper : history.StandsFor m.keeper core.state
   pub fits : CanGoOut core.state
+  pub accepted : accepted_once core.state.accepted ≡ accepted_on m.connections
   pub connection : Connection
   pub connections : m.connections ≡ connection ∷ others
   pub pipe : Pipe
@@ -89,6 +92,9 @@ one_goes before core next after m others p₀ further packet up s reads done =
       stands = record {
         keeper = subst (history.StandsFor later.keeper) (sym done.0) same.stands;
         fits = subst CanGoOut (sym done.0) whole.left;
+        accepted = ap (λ (state : ClientState). accepted_once state.accepted) done.0
+            ∙ accepts_alike (accepted_on others) packet next.state.stage side next.state opened stands.is_online stands.received
+            (ap (λ (state : ClientState). accepted_once state.accepted) reads.1 ∙ s.accepted ∙ ap accepted_on s.connections);
         connection = later.connection;
         connections = refl;
         pipe = record p { came = next.unread; up = p.up ++ spelled (newly_written m.connections (later.connection ∷ others)) };

@@ -5,6 +5,7 @@ use Rattle.std.proofs.lemmas.List.{length-append, take_at}
 use Rattle.client_base.specs.Handled.{lost}
 use Rattle.client_base.specs.History as history
 use Rattle.client_base.specs.State as closing
+use Rattle.client_base.specs.State.{ClientState}
 use Rattle.client_base.specs.Steps.{Call, keeper_step}
 use Rattle.client_base.proofs.FollowsHandled.{lost_stands}
 use Rattle.client.specs.Core.{Core, gone}
@@ -12,7 +13,7 @@ use Rattle.world_base.specs.declared.item.Port.{Port}
 use Rattle.world_pipes.specs.declared.way.Way.{Way}
 use Rattle.world_pipes.specs.Following.{FollowsAll, after_losing}
 use Rattle.world_pipes.specs.Piped.{Connects, Piped, new_way, piped, taken_back}
-use Rattle.world_pipes.specs.Standing.{AreWays, CanGoOut}
+use Rattle.world_pipes.specs.Standing.{AreWays, CanGoOut, accepted_once}
 use Rattle.world_pipes.proofs.Ways.{losing_goes, same_pipes}
 
 -- the model's client lost its connection, and opened none
@@ -25,6 +26,7 @@ opened_and_lost old core opens m s =
         keeper = subst (λ state. history.StandsFor (lost m.keeper) (closing.lost state)) (sym opens) (lost_stands m.keeper old.core.state s.keeper);
         fits = subst (λ state. CanGoOut (closing.lost state)) (sym opens)
             (record { keep_alive = s.fits.keep_alive; client = s.fits.client; released = s.fits.released; sent = s.fits.sent; unsent = s.fits.unsent });
+        accepted = ap (λ (state : ClientState). accepted_once state.accepted) opens ∙ s.accepted;
         many = s.many ∙ ap length (sym (same_pipes m));
         ways = subst (AreWays (reverse old.ways)) (sym (same_pipes m)) s.ways;
         held = λ up. absurd (both_ways false refl up);

@@ -96,6 +96,7 @@ may_change at old way m s found =
           (record {
             keeper = s.keeper;
             fits = s.fits;
+            accepted = s.accepted;
             many = s.many ∙ sym (length-set m.pipes (place_in_model at old) p) ∙ ap length set_so;
             ways = subst (λ l. AreWays l (q.ahead ++ p ∷ q.behind)) (sym (reverse_seam w.front later w.back))
                 (pipes_joined (reverse w.back) later (reverse w.front) q.ahead p q.behind q.are_ahead one_way q.are_behind);

@@ -65,6 +65,7 @@ losing_follows old m s = (
   record {
     keeper = lost_stands m.keeper old.core.state s.keeper;
     fits = lost_fits old.core s.fits;
+    accepted = s.accepted;
     many = s.many ∙ ap length (sym (same_pipes m));
     ways = subst (AreWays (reverse old.ways)) (sym (same_pipes m)) s.ways;
     held = λ up. absurd (both_ways false refl up);
