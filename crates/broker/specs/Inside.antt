@@ -1,5 +1,5 @@
 -- Words of private calls.
-use Rattle.std.specs.Prelude.{◌≡◌, ◌<◌, length}
+use Rattle.std.specs.Prelude.{◌≡◌, ℕ, ◌<◌, length}
 use Rattle.std.specs.List.{AllByRecursion}
 use Rattle.retained.specs.Retained.{RetainedTopics}
 use Rattle.session_form.specs.FormLaws.{HasForm}
@@ -21,6 +21,6 @@ ArePayloads content = AllByRecursion (λ row. length row.1.payload < 4294967296)
 abbrev pub AreOwned : Rows → Type 0
 AreOwned rows = (x : ConnectionName) → owners_at rows.owners.entries x ≡ owners_in rows.sessions.entries x
 
--- the broker with these sessions and retained publications
-abbrev pub state_read : Rows × RetainedTopics → State
-state_read (rows, retained) = record { window = 16; sessions = rows.sessions.entries; retained = retained }
+-- the broker with this window, these sessions and retained publications
+abbrev pub state_read : ℕ × Rows × RetainedTopics → State
+state_read (window, rows, retained) = record { window = window; sessions = rows.sessions.entries; retained = retained }

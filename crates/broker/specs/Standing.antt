@@ -1,38 +1,51 @@
 -- What a broker does at a command, and which list of commands its state stands for.
-use Rattle.std.specs.Prelude.{◌≡◌, List, [], ◌∷◌, ◌++◌}
+use Rattle.std.specs.Prelude.{◌≡◌, ℕ, List, [], ◌∷◌, ◌++◌, Some}
 use Rattle.machine.specs.Machine.{Rules}
 use Rattle.broker_model.specs.Answers.{answers_of}
-use Rattle.broker_model.specs.Commands.{past_of, usual_limits}
+use Rattle.broker_model.specs.Commands.{past_of, limits_from, usual_limits}
 use Rattle.broker_model.specs.declared.command.Command.{Command}
 use Rattle.broker_model.specs.declared.command.Command.TheVariants.{Start}
 use Rattle.broker_model.specs.declared.command.Output.{Output}
 use Rattle.broker_base.specs.State.{State, state_of, empty_state}
 use Rattle.broker_base.specs.Step.{step}
+use Rattle.broker_form.specs.Form.{frozen_before, thawed}
+use Rattle.broker_form.specs.FormLaws.{IsUsualState}
 
--- the state behind a command, with the limits of this broker
+-- the state after a command, with the limits of this broker
 abbrev pub after : State → Command → State
-after state command = (step usual_limits 16 state command).0
+after state command = (step usual_limits 64 state command).0
 
 -- and the answers to it
 abbrev pub answers : State → Command → List Output
-answers state command = (step usual_limits 16 state command).1
+answers state command = (step usual_limits 64 state command).1
 
--- the rules of the broker's machine: a window of 16 at first, then step by step
+-- the rules of the broker's machine: it begins with the window of 64, then goes step by step
 abbrev pub broker_rules : Rules State Command Output
-broker_rules = record { opening = empty_state 16; start_of = Start; after = after; gives = answers }
+broker_rules = record { opening = empty_state 64; start_of = Start; after = after; gives = answers }
 
--- the state is the one that this list of commands means
-abbrev pub StandsFor : State → List Command → Type 0
-StandsFor state commands = state ≡ state_of usual_limits (past_of usual_limits commands)
+-- the state is the one that this list of commands means, where the window was this one at first
+abbrev pub StandsFor : ℕ → State → List Command → Type 0
+StandsFor first state commands = state ≡ state_of (limits_from first) (past_of (limits_from first) commands)
 
--- a broker that begins stands for no command
+-- a broker that begins stands for no command, with the window of 64
 abbrev pub BeginsEmpty : Type 0
-BeginsEmpty = StandsFor (empty_state 16) []
+BeginsEmpty = StandsFor 64 (empty_state 64) []
 
--- one more command: behind it the state stands for the list with that command, and its answers are those that the
--- list means
+-- after one more command the state stands for the list with that command, and its answers are those that the list
+-- means
 abbrev pub GoesOnStanding : Type 0
 GoesOnStanding =
-    (state : State) → (commands : List Command) → (command : Command) → StandsFor state commands →
-    StandsFor (after state command) (commands ++ command ∷ [])
-    × (answers state command ≡ answers_of usual_limits (past_of usual_limits commands) command)
+    (first : ℕ) → (state : State) → (commands : List Command) → (command : Command) → StandsFor first state commands →
+    StandsFor first (after state command) (commands ++ command ∷ [])
+    × (answers state command ≡ answers_of (limits_from first) (past_of (limits_from first) commands) command)
+
+-- what such a state was frozen to in form 1, before any Start, is read as a state that stands for the same list with
+-- the window of 16 at first
+abbrev pub GoesOnFromFormOne : Type 0
+GoesOnFromFormOne =
+    (state : State) → (commands : List Command) → IsUsualState state → state.window ≡ 16 → StandsFor 16 state commands →
+    (read : State) × (thawed (frozen_before state) ≡ Some read) × StandsFor 16 read commands
+
+-- with 64 at first, every window is 64
+abbrev pub UsualIsWide : Type 0
+UsualIsWide = limits_from 64 ≡ usual_limits

@@ -2,7 +2,7 @@
 
 use crate::freezing::frozen_tables;
 use crate::thawing::thawed_tables;
-use broker_form::{states_stay_in_range, thawed_is_in_range};
+use broker_form::thawed_is_in_range;
 use broker_model::{Command, Output};
 use broker_tables::Tables;
 use machine::{Halted, Machine, Memory, ThawFault};
@@ -20,19 +20,18 @@ pub struct BrokerMachine {
 
 impl Model for BrokerMachine {
     ghost use Rattle.broker_base.specs.State.{State};
-    ghost use Rattle.broker_form.specs.InRange.{IsBrokerState};
-    ghost use Rattle.broker_model.specs.Commands.{usual_limits};
+    ghost use Rattle.broker_form.specs.FormLaws.{IsUsualState};
     ghost use Rattle.broker_tables.specs.Tables.{IsTied, state_in};
 
     ghost Value = { State };
 
     ghost view = { λ machine. state_in machine.tables };
 
-    ghost invariant = { λ machine. IsBrokerState usual_limits (state_in machine.tables) × IsTied machine.tables };
+    ghost invariant = { λ machine. IsUsualState (state_in machine.tables) × IsTied machine.tables };
 }
 
 // It begins empty, and does a command as the step of a state with the limits of this broker says. It
-// is frozen to form 1.
+// is frozen to form 2, and thawed from form 1 too.
 impl Machine for BrokerMachine {
     ghost use Rattle.broker_model.specs.Logged.{IsBrokerCommand};
     ghost use Rattle.broker_form.specs.Form.{frozen, thawed};
@@ -78,7 +77,6 @@ impl Machine for BrokerMachine {
 
     fn apply(&mut self, command: &Command, out: &mut Vec<Output>) -> Result<(), Halted> {
         command.known();
-        states_stay_in_range();
         let mut given = Vec::new(*out.allocator());
         if self.tables.apply(command, &mut given).is_err() {
             self.tables = Tables::new(*out.allocator());

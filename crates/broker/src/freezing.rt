@@ -1,4 +1,4 @@
-// A broker's tables as bytes, form 1.
+// A broker's tables as bytes, form 2.
 
 ghost use Rattle.std.specs.Prelude.{◌≡◌, ◌<◌, ◌++◌, length, IfOk, OnOk};
 ghost use Rattle.std.specs.List.{flat_map, AllByRecursion};
@@ -18,8 +18,8 @@ use std::alloc::AllocError;
 use std::collections::BTreeMap;
 use topics::TopicName;
 
-/// The number of the form.
-pub(crate) const FORM: u8 = 1;
+// The number of the form.
+const FORM: u8 = 2;
 
 // The bytes of the tables.
 pub(crate) fn frozen_tables(tables: &Tables) -> Result<Vec<u8>, AllocError>
@@ -28,6 +28,7 @@ pub(crate) fn frozen_tables(tables: &Tables) -> Result<Vec<u8>, AllocError>
 {
     let mut bytes = Vec::new(tables.alloc);
     bytes.push(FORM)?;
+    bytes.push(tables.window.size() as u8)?;
     write_number(tables.sessions.len() as u16, &mut bytes)?;
     write_sessions(&tables.sessions, &mut bytes)?;
     write_number(tables.retained.len() as u16, &mut bytes)?;

@@ -1,10 +1,13 @@
 // Laws of a broker's state. The calls do nothing; their contracts are the laws.
 
-ghost use Rattle.broker.specs.Standing.{BeginsEmpty, GoesOnStanding};
+ghost use Rattle.broker.specs.Standing.{BeginsEmpty, GoesOnStanding, GoesOnFromFormOne, UsualIsWide};
 
-/// Behind every list of commands that were done one after the other from the beginning, the state is
-/// the one that the list means, and so were the answers to each command.
+/// Shows that after every list of commands the state is the one that the list means with the first
+/// window, and so are the answers to each command. The first window is 64 in a fresh broker; one that
+/// is read from form 1 goes on with 16.
 pub fn broker_stands_for()
     ensures fresh { BeginsEmpty }
     ensures more { GoesOnStanding }
+    ensures before { GoesOnFromFormOne }
+    ensures usual { UsualIsWide }
 {}

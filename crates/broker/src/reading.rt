@@ -5,9 +5,9 @@ ghost use Rattle.std.specs.Prelude.{◌≡◌, true, Ok, IfOk};
 ghost use Rattle.packet.specs.ClientId.{is_client};
 ghost use Rattle.packet_base.specs.Outcome.{Gives, Reads};
 ghost use Rattle.session_form.specs.Counted.{keep};
-ghost use Rattle.broker_form.specs.Form.{client_at, connection_at, name_at, retainable, retained_at, row_at, wide_number_at};
+ghost use Rattle.broker_form.specs.Form.{client_at, connection_at, head_at, name_at, retainable, retained_at, row_at, size_at, wide_number_at};
 
-use broker_model::ConnectionId;
+use broker_model::{ConnectionId, Window};
 use broker_tables::ClientRow;
 use packet::{ClientId, Payload};
 use packet_base::{Reader, Stop};
@@ -24,18 +24,49 @@ const LONGEST_BODY: usize = 1_048_572;
 /// Memory was wanting.
 pub(crate) const OUT_OF_MEMORY: Stop = Stop::Malformed(MalformedKind::Memory);
 
+// ---- the window
+
+// The number of the form, and the window: form 1 has the narrow one, and form 2 names its own.
+#[tactic(auto, unfolding(broker_form::specs::Form::head_at))]
+pub(crate) fn read_head(reader: &mut Reader) -> Result<Window, Stop>
+    ensures { Reads (λ x. x) result reader.new (head_at reader.old) }
+{
+    let form = reader.byte()?;
+    keep(form == 1 || form == 2)?;
+    if form == 1 {
+        return Ok(Window::narrow());
+    }
+    read_window(reader)
+}
+
+// The window, one that there is.
+#[tactic(auto, unfolding(broker_form::specs::Form::size_at))]
+fn read_window(reader: &mut Reader) -> Result<Window, Stop>
+    ensures { Reads (λ x. x) result reader.new (size_at reader.old) }
+{
+    match Window::of(reader.byte()?) {
+        Some(window) => Ok(window),
+        None => Err(Stop::Malformed(MalformedKind::Shape)),
+    }
+}
+
 // ---- a client's session
 
-// A client with its session. A clean session has a connection.
+// A client with its session. A clean session has a connection, and no more of a session is in flight
+// than the window allows.
 #[tactic(auto, unfolding(broker_form::specs::Form::row_at))]
-pub(crate) fn read_row(alloc: Global, reader: &mut Reader) -> Result<(ClientId, ClientRow), Stop>
-    ensures { Reads (λ x. x) result reader.new (row_at reader.old) }
+pub(crate) fn read_row(
+    alloc: Global,
+    window: Window,
+    reader: &mut Reader,
+) -> Result<(ClientId, ClientRow), Stop>
+    ensures { Reads (λ x. x) result reader.new (row_at window reader.old) }
 {
     let client = read_client(alloc, reader)?;
     let clean = read_flag(reader)?;
     let connection = read_connection(reader)?;
     keep(!clean || connection.is_some())?;
-    let state = Session::read(alloc, reader)?;
+    let state = Session::read(alloc, window.size(), reader)?;
     let row = ClientRow {
         clean,
         connection,

@@ -11,7 +11,7 @@ ghost use Rattle.broker_tables.specs.Tables.{owners_at};
 ghost use Rattle.broker.specs.Inside.{AreOwned};
 
 use crate::reading::{OUT_OF_MEMORY, read_row};
-use broker_model::ConnectionId;
+use broker_model::{ConnectionId, Window};
 use broker_tables::{ClientRow, MAX_SESSIONS};
 use packet::ClientId;
 use packet_base::{Reader, Stop};
@@ -30,14 +30,14 @@ pub(crate) struct Rows {
 impl Rows {
     // As many sessions as their count says: clients rise, and no connection is another's.
     #[tactic(auto, unfolding(session_form::specs::Counted::counted_at))]
-    pub(crate) fn read(alloc: Global, reader: &mut Reader) -> Result<Rows, Stop>
+    pub(crate) fn read(alloc: Global, window: Window, reader: &mut Reader) -> Result<Rows, Stop>
         ensures exact { Reads (λ rows. rows.sessions.entries) result reader.new
-            (counted_at number_at row_follows row_at 4096 reader.old) }
+            (counted_at number_at row_follows (row_at window) 4096 reader.old) }
         ensures owned { IfOk result AreOwned }
     {
         let count = reader.number()?;
         keep(usize::from(count) <= MAX_SESSIONS)?;
-        read_rows(alloc, count, reader)
+        read_rows(alloc, window, count, reader)
     }
 
     fn new(alloc: Global) -> Rows
@@ -107,14 +107,14 @@ impl Rows {
 }
 
 // So many sessions.
-fn read_rows(alloc: Global, count: u16, reader: &mut Reader) -> Result<Rows, Stop>
+fn read_rows(alloc: Global, window: Window, count: u16, reader: &mut Reader) -> Result<Rows, Stop>
     ensures exact { Reads (λ rows. rows.sessions.entries) result reader.new
-        (items_behind row_follows row_at count [] reader.old) }
+        (items_behind row_follows (row_at window) count [] reader.old) }
     ensures owned { IfOk result AreOwned }
 {
     let mut rows = Rows::new(alloc);
     for _ in 0..count {
-        let (client, row) = read_row(alloc, reader)?;
+        let (client, row) = read_row(alloc, window, reader)?;
         rows.add(client, row)?;
     }
     Ok(rows)

@@ -12,10 +12,10 @@ ghost use Rattle.broker_tables.specs.Tables.{IsTied, state_in};
 ghost use Rattle.retained.specs.Retained.{IsRising};
 ghost use Rattle.broker.specs.Inside.{AreOwned, state_read};
 
-use crate::freezing::FORM;
-use crate::reading::{OUT_OF_MEMORY, read_topic};
+use crate::reading::{OUT_OF_MEMORY, read_head, read_topic};
 use crate::rows::Rows;
 use broker_form::thawed_is_in_range;
+use broker_model::Window;
 use broker_tables::{ClientRow, Tables};
 use packet::{ClientId, QoS};
 use packet_base::{Reader, Stop};
@@ -35,9 +35,10 @@ pub(crate) fn thawed_tables(alloc: Global, bytes: &[u8]) -> Result<Tables, Stop>
     ensures tied { IfOk result IsTied }
 {
     thawed_is_in_range();
-    let (rows, retained) = read_broker(alloc, bytes)?;
+    let (window, rows, retained) = read_broker(alloc, bytes)?;
     let index = index_of(alloc, &rows.sessions)?;
     Ok(Tables {
+        window,
         sessions: rows.sessions,
         owners: rows.owners,
         index,
@@ -48,16 +49,16 @@ pub(crate) fn thawed_tables(alloc: Global, bytes: &[u8]) -> Result<Tables, Stop>
 
 // What is in the bytes, in turn.
 #[tactic(auto, unfolding(broker_form::specs::Form::broker_at))]
-fn read_broker(alloc: Global, bytes: &[u8]) -> Result<(Rows, RetainedStore), Stop>
+fn read_broker(alloc: Global, bytes: &[u8]) -> Result<(Window, Rows, RetainedStore), Stop>
     ensures exact { Gives state_read result (broker_at bytes.now) }
-    ensures owned { IfOk result (λ read. AreOwned read.0) }
+    ensures owned { IfOk result (λ read. AreOwned read.1) }
 {
     let mut reader = Reader::new(bytes);
-    keep(reader.byte()? == FORM)?;
-    let rows = Rows::read(alloc, &mut reader)?;
+    let window = read_head(&mut reader)?;
+    let rows = Rows::read(alloc, window, &mut reader)?;
     let retained = read_retained(alloc, &mut reader)?;
     reader.end()?;
-    Ok((rows, retained))
+    Ok((window, rows, retained))
 }
 
 // ---- what is retained

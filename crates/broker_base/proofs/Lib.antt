@@ -5,6 +5,7 @@ pub mod ConnectionsOfSessions
 pub mod ConnectionsStayApart
 pub mod CopiesOfSessions
 pub mod DecisionsStand
+pub mod FlightsStayInWindow
 pub mod KeptAfter
 pub mod NoneOpensApart
 pub mod OthersStay

@@ -5,8 +5,9 @@ use Rattle.broker_model.specs.Place.{Limits}
 use Rattle.broker_base.specs.State.{State, empty_state}
 use Rattle.broker_base.specs.Decisions.{place_in, mark_in}
 use Rattle.broker_base.specs.Step.{window_after, step, state_from}
-use Rattle.broker_base.specs.StateLaws.{AllQuiet, IsSound, StaysSound, StaysQuiet, ListsAreSound}
+use Rattle.broker_base.specs.StateLaws.{AllQuiet, IsSound, StaysSound, StaysQuiet, StaysInWindow, ListsAreSound}
 use Rattle.broker_model.specs.declared.command.Command.{Command}
+use Rattle.broker_base.proofs.FlightsStayInWindow as flights
 use Rattle.broker_base.proofs.QueuesStayQuiet as queues
 use Rattle.broker_base.proofs.SessionsStaySound.{sessions_stay_sound}
 use Rattle.broker_base.proofs.SessionsStayByClient.{stays_by_client}
@@ -21,6 +22,9 @@ stays_sound limits later state command s = record {
 
 pub stays_quiet : StaysQuiet
 stays_quiet limits later state command s h = queues.stays_quiet limits later state command s.sessions h
+
+pub stays_in_window : StaysInWindow
+stays_in_window limits later state command grows s h = flights.stays_in_window limits later state command grows s.sessions h
 
 sound_from : (limits : Limits) (later : ℕ) (state : State) (commands : List Command) → IsSound state → AllQuiet state.window state.sessions →
     IsSound (state_from limits later state commands) × AllQuiet (state_from limits later state commands).window (state_from limits later state commands).sessions

@@ -114,8 +114,8 @@ growing_lists_stand first commands =
     let stands = lists_stand (limits_from first) 64 (growing_window first) commands in
     (same_states first (empty_state first) commands ∙ stands.0, same_answers first (empty_state first) commands ∙ stands.1)
 
-steady_window : IsWindow usual_limits 16
-steady_window place past = steady 16 (is_start place.command)
+pub steady_window : IsWindow usual_limits 64
+steady_window place past = steady 64 (is_start place.command)
 
 pub usual_lists_stand : UsualListStandsFor
-usual_lists_stand commands = lists_stand usual_limits 16 steady_window commands
+usual_lists_stand commands = lists_stand usual_limits 64 steady_window commands

@@ -1,6 +1,6 @@
 -- What the sessions of a state meet, and a step keeps: a client once, a connection of one session at most, and
 -- what stands in each session.
-use Rattle.std.specs.Prelude.{◌≡◌, ℕ, ◌⊎◌, true, false, List, [], ◌∷◌, Some, None, is_some}
+use Rattle.std.specs.Prelude.{◌≡◌, ℕ, ◌≤◌, ◌⊎◌, true, false, List, [], ◌∷◌, length, Some, None, is_some}
 use Rattle.std.specs.List.{AllByRecursion}
 use Rattle.std.specs.List.Sorted.{IsStrictlySortedBy}
 use Rattle.std.specs.Map.{keys_of}
@@ -34,6 +34,10 @@ abbrev pub HasQuietQueue : ℕ → ClientSession → Type 0
 HasQuietQueue window kept =
     (kept.connection ≡ None) ⊎ IsQuietQueue window kept.state.queue.in_flight kept.state.queue.waiting
 
+-- no more of its entries are in flight than the window allows
+abbrev pub FitsWindow : ℕ → ClientSession → Type 0
+FitsWindow window kept = length kept.state.queue.in_flight ≤ window
+
 -- ---- all sessions
 
 abbrev pub AllSound : Sessions → Type 0
@@ -41,6 +45,9 @@ AllSound rows = AllByRecursion (λ row. IsSoundSession row.1) rows
 
 abbrev pub AllQuiet : ℕ → Sessions → Type 0
 AllQuiet window rows = AllByRecursion (λ row. HasQuietQueue window row.1) rows
+
+abbrev pub AllInWindow : ℕ → Sessions → Type 0
+AllInWindow window rows = AllByRecursion (λ row. FitsWindow window row.1) rows
 
 -- the sessions come by the bytes of their clients, each client once
 abbrev pub AreByClient : Sessions → Type 0
@@ -77,6 +84,13 @@ StaysQuiet =
     (limits : Limits) → (later : ℕ) → (state : State) → (command : Command) → IsSound state →
     AllQuiet state.window state.sessions →
     AllQuiet (step limits later state command).0.window (step limits later state command).0.sessions
+
+-- a step leaves no more in flight than the window allows, where that does not shrink
+abbrev pub StaysInWindow : Type 0
+StaysInWindow =
+    (limits : Limits) → (later : ℕ) → (state : State) → (command : Command) → state.window ≤ later → IsSound state →
+    AllInWindow state.window state.sessions →
+    AllInWindow (step limits later state command).0.window (step limits later state command).0.sessions
 
 -- so the state of every list of commands meets both
 abbrev pub ListsAreSound : Type 0

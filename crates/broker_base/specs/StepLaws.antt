@@ -67,8 +67,8 @@ ListStandsFor =
 abbrev pub UsualListStandsFor : Type 0
 UsualListStandsFor =
     (commands : List Command) →
-    (state_from usual_limits 16 (empty_state 16) commands ≡ state_of usual_limits (past_of usual_limits commands))
-    × (steps_from usual_limits 16 (empty_state 16) commands ≡ answers_from usual_limits [] commands)
+    (state_from usual_limits 64 (empty_state 64) commands ≡ state_of usual_limits (past_of usual_limits commands))
+    × (steps_from usual_limits 64 (empty_state 64) commands ≡ answers_from usual_limits [] commands)
 
 -- and for one whose window was this one at first, and is 64 from the first Start on
 abbrev pub GrowingListStandsFor : Type 0

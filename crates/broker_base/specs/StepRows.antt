@@ -73,10 +73,10 @@ o_waits = serves_b (record { in_flight = []; waiting = waits_o ∷ [] })
 -- PINGREQ, PUBREC, PUBREL and UNSUBSCRIBE start nothing, so no entry starts whose PUBLISH nobody gets
 abbrev pub OthersStartNothing : Type 0
 OthersStartNothing =
-    (step usual_limits 16 o_waits (gets 1 packets.Pingreq) ≡ (o_waits, sends 1 packets.Pingresp ∷ []))
-    × (step usual_limits 16 o_waits (gets 1 (packets.Pubrec 7)) ≡ (o_waits, []))
-    × (step usual_limits 16 o_waits (gets 1 (packets.Pubrel 7)) ≡ (o_waits, sends 1 (packets.Pubcomp 7) ∷ []))
-    × (step usual_limits 16 o_waits (gets 1 (unsubscribe 3)) ≡ (o_waits, sends 1 (packets.Unsuback 3) ∷ []))
+    (step usual_limits 64 o_waits (gets 1 packets.Pingreq) ≡ (o_waits, sends 1 packets.Pingresp ∷ []))
+    × (step usual_limits 64 o_waits (gets 1 (packets.Pubrec 7)) ≡ (o_waits, []))
+    × (step usual_limits 64 o_waits (gets 1 (packets.Pubrel 7)) ≡ (o_waits, sends 1 (packets.Pubcomp 7) ∷ []))
+    × (step usual_limits 64 o_waits (gets 1 (unsubscribe 3)) ≡ (o_waits, sends 1 (packets.Unsuback 3) ∷ []))
 
 -- PUBACK and PUBCOMP, whatever they answer, are followed by the start of what waits, and it is sent (MQTT 4.6)
 abbrev pub o_started : State
@@ -84,5 +84,5 @@ o_started = serves_b (record { in_flight = (1, waits_for.Puback waits_o) ∷ [];
 
 abbrev pub AnswersStartWhatWaits : Type 0
 AnswersStartWhatWaits =
-    (step usual_limits 16 o_waits (gets 1 (packets.Puback 7)) ≡ (o_started, delivered 1 false (1 ∷ [])))
-    × (step usual_limits 16 o_waits (gets 1 (packets.Pubcomp 7)) ≡ (o_started, delivered 1 false (1 ∷ [])))
+    (step usual_limits 64 o_waits (gets 1 (packets.Puback 7)) ≡ (o_started, delivered 1 false (1 ∷ [])))
+    × (step usual_limits 64 o_waits (gets 1 (packets.Pubcomp 7)) ≡ (o_started, delivered 1 false (1 ∷ [])))

@@ -11,7 +11,7 @@ ghost use Rattle.broker_base.specs.StepLaws.{
   UsualListStandsFor,
   GrowingListStandsFor,
 };
-ghost use Rattle.broker_base.specs.StateLaws.{StaysSound, StaysQuiet, ListsAreSound};
+ghost use Rattle.broker_base.specs.StateLaws.{StaysSound, StaysQuiet, StaysInWindow, ListsAreSound};
 ghost use Rattle.broker_base.specs.StepRows.{StepsRefuseAndGoOn, StepsKeepTheOrder, StepsWidenTheWindow, OthersStartNothing, AnswersStartWhatWaits};
 
 /// One more command, whatever becomes of it, changes what is kept of each client's session as the
@@ -50,10 +50,12 @@ pub fn list_stands_for()
 
 /// A step keeps the sessions by the bytes of their clients, each connection that of one session at
 /// most, and each session in its form: filters and identifiers apart, released entries first, a clean
-/// one connected; and it leaves each connected client's queue with nothing waiting or a full window.
+/// one connected; it leaves each connected client's queue with nothing waiting or a full window, and
+/// no more in flight than the window allows, where that does not shrink.
 pub fn states_stay_sound()
     ensures step { StaysSound }
     ensures quiet { StaysQuiet }
+    ensures in_window { StaysInWindow }
     ensures lists { ListsAreSound }
 {}
 

@@ -45,8 +45,8 @@ impl Traffic {
     }
 }
 
-/// How many publications of a session a broker that has led one ballot sends before it waits for an answer.
-const WINDOW: u8 = 16;
+/// How many publications of a session a broker sends before it waits for an answer.
+const WINDOW: u8 = 64;
 
 /// What a subscriber answers to a PUBLISH in turn, and what its publisher says behind its own: the first bytes (MQTT 4.3).
 fn answers(qos: QoS) -> (&'static [u8], &'static [u8]) {

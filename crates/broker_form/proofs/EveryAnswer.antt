@@ -127,12 +127,12 @@ answers_are_spelled limits later state (commands.Lost x) m k h = tt
 answers_are_spelled limits later state (commands.Start ballot) m k h = tt
 
 lists_from : (state : State) (commands : List Command) → AllByRecursion IsBrokerCommand commands → IsBrokerState usual_limits state →
-    IsBrokerState usual_limits (state_from usual_limits 16 state commands)
-    × AllByRecursion (AllByRecursion CanBeSpelled) (steps_from usual_limits 16 state commands)
+    IsBrokerState usual_limits (state_from usual_limits 64 state commands)
+    × AllByRecursion (AllByRecursion CanBeSpelled) (steps_from usual_limits 64 state commands)
 lists_from state [] k h = (h, tt)
 lists_from state (command ∷ commands) k h =
-    let rest = lists_from (step usual_limits 16 state command).0 commands k.1 (stays_in_range usual_limits 16 state command (omega arith) k.0 h) in
-    (rest.0, (answers_are_spelled usual_limits 16 state command (omega arith) k.0 h, rest.1))
+    let rest = lists_from (step usual_limits 64 state command).0 commands k.1 (stays_in_range usual_limits 64 state command (omega arith) k.0 h) in
+    (rest.0, (answers_are_spelled usual_limits 64 state command (omega arith) k.0 h, rest.1))
 
 pub lists_are_in_range : ListsAreInRange
 unfolding IsStrictlySortedBy

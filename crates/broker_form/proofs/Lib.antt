@@ -11,6 +11,8 @@ pub mod Answers
 pub mod EveryAnswer
 pub mod RowsAgain
 pub mod RowsFollow
+pub mod Windows
 pub mod Thawing
+pub mod ThawedAgain
 pub mod UsualStates
 pub use Rattle.broker_rows.proofs as of_broker_rows

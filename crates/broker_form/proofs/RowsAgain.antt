@@ -18,7 +18,7 @@ use Rattle.broker_model.specs.Commands.{usual_limits}
 use Rattle.broker_model.specs.Connection.{ConnectionName, is_connection_name}
 use Rattle.broker_model.specs.Place.{Client}
 use Rattle.broker_base.specs.ClientSession.{ClientSession}
-use Rattle.broker_base.specs.StateLaws.{IsSoundSession}
+use Rattle.broker_base.specs.StateLaws.{IsSoundSession, FitsWindow}
 use Rattle.broker_form.specs.InRange.{IsNamed, IsRetained, IsSession, as_publication}
 use Rattle.broker_form.specs.Form.{wide_number, connection_bytes, row_bytes, retained_bytes, wide_number_at, name_at, connection_at, client_at, row_at, is_retainable, retained_at}
 
@@ -74,16 +74,17 @@ has_form c kept sound h = record {
 regrouped : (a b c rest : List ℕ) (flag : ℕ) → (a ++ (flag ∷ (b ++ c))) ++ rest ≡ a ++ (flag ∷ (b ++ (c ++ rest)))
 regrouped a b c rest flag = append_assoc a (flag ∷ (b ++ c)) rest ∙ ap (λ (z : List ℕ). a ++ (flag ∷ z)) (append_assoc b c rest)
 
-pub row_again : (row : Client × ClientSession) → IsSoundSession row.1 → IsSession usual_limits row.0 row.1 → IsReadAgain row_bytes row_at row
+pub row_again : (window : ℕ) → window ≤ 4096 → (row : Client × ClientSession) → IsSoundSession row.1 → IsSession usual_limits row.0 row.1 → FitsWindow window row.1 →
+    IsReadAgain row_bytes (row_at window) row
 unfolding row_at
-row_again row sound h rest =
-    ap (λ (z : List ℕ). row_at z) (regrouped (text row.0) (connection_bytes row.1.connection) (state_bytes row.1.state) rest (bit row.1.clean))
+row_again window small row sound h fits rest =
+    ap (λ (z : List ℕ). row_at window z) (regrouped (text row.0) (connection_bytes row.1.connection) (state_bytes row.1.state) rest (bit row.1.clean))
     ∙ rw (
       client_again row.0 (bit row.1.clean ∷ (connection_bytes row.1.connection ++ (state_bytes row.1.state ++ rest))) h.client,
       flag_again row.1.clean (connection_bytes row.1.connection ++ (state_bytes row.1.state ++ rest)),
       connection_again row.1.connection (state_bytes row.1.state ++ rest) h.connection,
       served row.1.clean (is_some row.1.connection) sound.served,
-      frozen_is_read row.1.state rest (has_form row.0 row.1 sound h),
+      frozen_is_read window small row.1.state rest (has_form row.0 row.1 sound h) fits,
     ) refl
 
 -- ---- a retained publication

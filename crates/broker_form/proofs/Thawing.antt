@@ -1,5 +1,5 @@
 -- What a broker is frozen to is thawed as that broker, and what is thawed is in its ranges.
-use Rattle.std.proofs.Common.{◌≡◌, ℕ, ◌<◌, ◌^◌, Bool, true, false, not, ◌&&◌, ◌||◌, ◌==◌, nat_lt, nat_le, if◌then◌else◌, List, [], ◌∷◌, ◌++◌, length, Option, None, Ok, refl, sym, ap, ◌∙◌, arith}
+use Rattle.std.proofs.Common.{◌≡◌, ℕ, ◌≤◌, ◌<◌, ◌^◌, Bool, true, false, not, ◌&&◌, ◌||◌, ◌==◌, nat_lt, nat_le, if◌then◌else◌, List, [], ◌∷◌, ◌++◌, length, Option, None, Ok, refl, sym, ap, ◌∙◌, subst, arith}
 use Rattle.std.specs.Prelude.{IfOk, IsTrue, is_some}
 use Rattle.std.specs.List.{AllByRecursion}
 use Rattle.std.proofs.lemmas.Bool.{leb-true, ltb-true}
@@ -16,7 +16,7 @@ use Rattle.retained.specs.declared.retained_publication.RetainedPublication.{Ret
 use Rattle.retained.specs.Retained.{RetainedTopics}
 use Rattle.session_form.specs.Counted.{counted, counted_at}
 use Rattle.session_form.specs.Form.{flag_at, qos_at, long_number_at, body_length, state_at}
-use Rattle.session_form.specs.FormLaws.{HasForm}
+use Rattle.session_form.specs.FormLaws.{HasForm, FitsIn}
 use Rattle.session_form.proofs.Counted.{AllFollow, IsReadAgain, counted_again}
 use Rattle.session_form.proofs.Found.{IsFound, AreRead, counted_found}
 use Rattle.session_form.proofs.FieldsFound.{a_byte, a_number, a_flag, a_front, a_long_number, a_qos, sent_of}
@@ -24,20 +24,23 @@ use Rattle.session_form.proofs.FormFound.{read_has_form}
 use Rattle.broker_model.specs.Commands.{usual_limits}
 use Rattle.broker_model.specs.Connection.{ConnectionName, is_connection_name}
 use Rattle.broker_model.specs.Place.{Client}
+use Rattle.broker_model.specs.Window.{is_window_size, IsWindowSize}
 use Rattle.broker_base.specs.ClientSession.{ClientSession}
 use Rattle.broker_base.specs.State.{Sessions, State}
-use Rattle.broker_base.specs.StateLaws.{IsSoundSession, AllSound}
+use Rattle.broker_base.specs.StateLaws.{IsSoundSession, FitsWindow, AllSound, AllInWindow}
 use Rattle.broker_form.specs.InRange.{IsNamed, IsRetained, IsSession, as_publication}
-use Rattle.broker_form.specs.Form.{row_bytes, retained_bytes, frozen, wide_number_at, name_at, connection_at, client_at, row_at, is_retainable, retainable, retained_at, row_follows, topic_follows, broker_at, found}
-use Rattle.broker_form.specs.FormLaws.{IsUsualState, FrozenIsThawed, ThawedIsInRange}
+use Rattle.broker_form.specs.Form.{row_bytes, retained_bytes, content_bytes, frozen, frozen_before, wide_number_at, name_at, connection_at, client_at, row_at, is_retainable, retainable, retained_at, row_follows, topic_follows, size_at, head_at, content_at, broker_at, found}
+use Rattle.broker_form.specs.FormLaws.{IsUsualState, FrozenIsThawed, FrozenBeforeIsThawed, ThawedIsInRange}
+use Rattle.broker_form.proofs.Windows.{no_more}
 use Rattle.broker_form.proofs.RowsAgain.{row_again, topic_row_again}
 use Rattle.broker_form.proofs.RowsFollow.{Behind, rows_behind, rows_rise, sessions_follow, sessions_are}
 
 -- ---- frozen and thawed
 
-rows_again : (rows : Sessions) → AllSound rows → AllByRecursion (λ row. IsSession usual_limits row.0 row.1) rows → AllByRecursion (IsReadAgain row_bytes row_at) rows
-rows_again [] sound h = tt
-rows_again (row ∷ rows) sound h = (row_again row sound.0 h.0, rows_again rows sound.1 h.1)
+rows_again : (window : ℕ) → window ≤ 4096 → (rows : Sessions) → AllSound rows → AllByRecursion (λ row. IsSession usual_limits row.0 row.1) rows → AllInWindow window rows →
+    AllByRecursion (IsReadAgain row_bytes (row_at window)) rows
+rows_again window small [] sound h fits = tt
+rows_again window small (row ∷ rows) sound h fits = (row_again window small row sound.0 h.0 fits.0, rows_again window small rows sound.1 h.1 fits.1)
 
 topics_again : (content : RetainedTopics) → AllByRecursion IsRetained content → AllByRecursion (IsReadAgain retained_bytes retained_at) content
 topics_again [] h = tt
@@ -47,24 +50,38 @@ topics_follow : (front content : RetainedTopics) → Behind front content → Al
 topics_follow front [] h = tt
 topics_follow front (row ∷ content) h = (h.0, topics_follow (front ++ row ∷ []) content h.1)
 
-broker_again : (state : State) → IsUsualState state → broker_at (frozen state) ≡ Ok state
-unfolding broker_at
-broker_again state h =
+-- after the head comes the content
+content_again : (state : State) (window : ℕ) → IsUsualState state → state.window ≡ window →
+    content_at window (content_bytes state) ≡ Ok state
+content_again state window h e =
     let few = h.0.few_sessions in let topics = h.0.few_topics in
+    let wide : state.window ≤ 64 = no_more state.window h.1 in
+    let fits : AllInWindow window state.sessions = subst (λ w. AllInWindow w state.sessions) e h.2 in
     let retained : counted_at number_at topic_follows retained_at 16384 (counted number retained_bytes state.retained) ≡ Ok (state.retained, []) =
     ap (λ (z : List ℕ). counted_at number_at topic_follows retained_at 16384 z) (sym (append-nil (counted number retained_bytes state.retained)))
     ∙ counted_again number number_at topic_follows retained_bytes retained_at 16384 state.retained []
     (λ n small rest. number_again n rest (omega (arith, small))) topics (topics_again state.retained h.0.retained)
     (topics_follow [] state.retained (rows_behind state.retained h.0.rising)) in
     rw (
-      counted_again number number_at row_follows row_bytes row_at 4096 state.sessions (counted number retained_bytes state.retained)
-          (λ n small rest. number_again n rest (omega (arith, small))) few (rows_again state.sessions h.0.sound.sessions h.0.sessions)
+      counted_again number number_at row_follows row_bytes (row_at window) 4096 state.sessions (counted number retained_bytes state.retained)
+          (λ n small rest. number_again n rest (omega (arith, small))) few (rows_again window (omega (arith, wide, e)) state.sessions h.0.sound.sessions h.0.sessions fits)
           (sessions_follow state.sessions h.0.sound.by_client h.0.sound.apart),
       retained,
-    ) (ap (λ n. Ok (record { window = n; sessions = state.sessions; retained = state.retained })) (sym h.1))
+    ) (ap (λ n. Ok (record { window = n; sessions = state.sessions; retained = state.retained })) (sym e))
+
+broker_again : (state : State) → IsUsualState state → broker_at (frozen state) ≡ Ok state
+unfolding broker_at head_at size_at
+broker_again state h = rw h.1 (content_again state state.window h refl)
+
+before_again : (state : State) → IsUsualState state → state.window ≡ 16 → broker_at (frozen_before state) ≡ Ok state
+unfolding broker_at head_at
+before_again state h e = content_again state 16 h e
 
 pub frozen_is_thawed : FrozenIsThawed
 frozen_is_thawed state h = ap found (broker_again state h)
+
+pub frozen_before_is_thawed : FrozenBeforeIsThawed
+frozen_before_is_thawed state h e = ap found (before_again state h e)
 
 -- ---- what is thawed is in its ranges
 
@@ -99,23 +116,24 @@ a_client bytes fits =
     check_if (is_client client.0) _ _ Q (λ test. (test, h.0.left)))
 
 -- a client's session that was read
-record IsRow (row : Client × ClientSession) : Type 0 where
+record IsRow (window : ℕ) (row : Client × ClientSession) : Type 0 where
   sound : IsSoundSession row.1
   ranges : IsSession usual_limits row.0 row.1
+  fits : FitsWindow window row.1
 
 served : (clean some : Bool) → (not clean || some) ≡ true → clean ≡ true → some ≡ true
 served true some e f = e
 served false some e f = absurd (cc)
 
-a_row : IsFound row_at IsRow
+a_row : (window : ℕ) → window ≤ 4096 → IsFound (row_at window) (IsRow window)
 unfolding row_at
-a_row bytes fits =
-    let Q : (Client × ClientSession) × List ℕ → Type 0 = λ x. IsRow x.0 × IsBytes x.1 in
+a_row window small bytes fits =
+    let Q : (Client × ClientSession) × List ℕ → Type 0 = λ x. IsRow window x.0 × IsBytes x.1 in
     then_if (client_at bytes) _ (λ x. IsTrue (is_client x.0) × IsBytes x.1) Q (a_client bytes fits) (λ client a.
     then_if (flag_at client.1) _ (λ x. Unit {0} × IsBytes x.1) Q (a_flag client.1 a.1) (λ clean b.
     then_if (connection_at clean.1) _ (λ x. IsNamed x.0 × IsBytes x.1) Q (a_connection clean.1 b.1) (λ connection c.
     check_if (not clean.0 || is_some connection.0) _ _ Q (λ test.
-    then_if (state_at connection.1) _ (λ x. HasForm x.0 × IsBytes x.1) Q (read_has_form connection.1 c.1) (λ state d. (
+    then_if (state_at window connection.1) _ (λ x. HasForm x.0 × FitsIn window x.0 × IsBytes x.1) Q (read_has_form window small connection.1 c.1) (λ state d. (
       record {
         sound = record {
           filters = d.0.filters_apart;
@@ -132,8 +150,9 @@ a_row bytes fits =
           received = d.0.received;
           queue = d.0.queue;
         };
+        fits = d.1;
       },
-      d.1,
+      d.2,
     ))))))
 
 both : (a b : Bool) → (a && b) ≡ true → (a ≡ true) × (b ≡ true)
@@ -157,36 +176,67 @@ a_topic_row bytes fits =
     then_if (front_at len.0 len.1) _ (λ x. Unit {0} × IsBytes x.1) Q (a_front len.0 len.1 c.1) (λ payload d.
     then_if (retainable (topic.0, record { qos = qos.0; payload = payload.0 })) _ IsRetained Q (retainable_found _ b.1) (λ row e. (e, d.1))))))
 
-all_sound : (rows : Sessions) → AllByRecursion IsRow rows → AllSound rows
-all_sound [] h = tt
-all_sound (row ∷ rows) h = (h.0.sound, all_sound rows h.1)
+all_sound : (window : ℕ) (rows : Sessions) → AllByRecursion (IsRow window) rows → AllSound rows
+all_sound window [] h = tt
+all_sound window (row ∷ rows) h = (h.0.sound, all_sound window rows h.1)
 
-all_in_range : (rows : Sessions) → AllByRecursion IsRow rows → AllByRecursion (λ row. IsSession usual_limits row.0 row.1) rows
-all_in_range [] h = tt
-all_in_range (row ∷ rows) h = (h.0.ranges, all_in_range rows h.1)
+all_in_range : (window : ℕ) (rows : Sessions) → AllByRecursion (IsRow window) rows → AllByRecursion (λ row. IsSession usual_limits row.0 row.1) rows
+all_in_range window [] h = tt
+all_in_range window (row ∷ rows) h = (h.0.ranges, all_in_range window rows h.1)
+
+all_fit : (window : ℕ) (rows : Sessions) → AllByRecursion (IsRow window) rows → AllInWindow window rows
+all_fit window [] h = tt
+all_fit window (row ∷ rows) h = (h.0.fits, all_fit window rows h.1)
 
 topics_behind : (front content : RetainedTopics) → AllFollow topic_follows front content → Behind front content
 topics_behind front [] h = tt
 topics_behind front (row ∷ content) h = (h.0, topics_behind (front ++ row ∷ []) content h.1)
 
-pub thawed_is_in_range : ThawedIsInRange
-unfolding broker_at
-thawed_is_in_range bytes fits =
-    then_if (byte_at bytes) _ (λ x. Unit {0} × IsBytes x.1) IsUsualState (a_byte bytes fits) (λ form a.
-    check_if (form.0 == 1) _ _ IsUsualState (λ test.
-    then_if (counted_at number_at row_follows row_at 4096 form.1) _ (λ x. AreRead row_follows IsRow 4096 x.0 × IsBytes x.1) IsUsualState
-    (counted_found number_at row_follows row_at IsRow 4096 a_number a_row form.1 a.1) (λ sessions b.
+-- ---- the head
+
+a_size : IsFound size_at IsWindowSize
+unfolding size_at
+a_size bytes fits =
+    let Q : ℕ × List ℕ → Type 0 = λ x. IsWindowSize x.0 × IsBytes x.1 in
+    then_if (byte_at bytes) _ (λ x. Unit {0} × IsBytes x.1) Q (a_byte bytes fits) (λ size a.
+    check_if (is_window_size size.0) _ _ Q (λ test. (test, a.1)))
+
+a_head : IsFound head_at IsWindowSize
+unfolding head_at
+a_head bytes fits =
+    let Q : ℕ × List ℕ → Type 0 = λ x. IsWindowSize x.0 × IsBytes x.1 in
+    then_if (byte_at bytes) _ (λ x. Unit {0} × IsBytes x.1) Q (a_byte bytes fits) (λ form a.
+    check_if ((form.0 == 1) || (form.0 == 2)) _ _ Q (λ test. by (form.0 == 1) form.1 a.1))
+  where
+    by : (b : Bool) (rest : List ℕ) → IsBytes rest → IfOk (if b then Ok (16, rest) else size_at rest) (λ x. IsWindowSize x.0 × IsBytes x.1)
+    by true rest fits = (refl, fits)
+    by false rest fits = a_size rest fits
+
+-- ---- the broker
+
+content_found : (window : ℕ) → IsWindowSize window → (bytes : List ℕ) → IsBytes bytes → IfOk (content_at window bytes) IsUsualState
+content_found window size bytes fits =
+    let wide = no_more window size in
+    then_if (counted_at number_at row_follows (row_at window) 4096 bytes) _ (λ x. AreRead row_follows (IsRow window) 4096 x.0 × IsBytes x.1) IsUsualState
+    (counted_found number_at row_follows (row_at window) (IsRow window) 4096 a_number (a_row window (omega (arith, wide))) bytes fits) (λ sessions b.
     then_if (counted_at number_at topic_follows retained_at 16384 sessions.1) _ (λ x. AreRead topic_follows IsRetained 16384 x.0 × IsBytes x.1) IsUsualState
     (counted_found number_at topic_follows retained_at IsRetained 16384 a_number a_topic_row sessions.1 b.1) (λ retained c.
     seq_if (ended retained.1) _ (retained.1 ≡ []) IsUsualState (ended_found retained.1) (λ e.
     let rows = sessions_are sessions.0 b.0.follow in (
       record {
-        sound = record { by_client = rows.0; apart = rows.1; sessions = all_sound sessions.0 b.0.each };
+        sound = record { by_client = rows.0; apart = rows.1; sessions = all_sound window sessions.0 b.0.each };
         few_sessions = b.0.few;
-        sessions = all_in_range sessions.0 b.0.each;
+        sessions = all_in_range window sessions.0 b.0.each;
         rising = rows_rise retained.0 (topics_behind [] retained.0 c.0.follow);
         few_topics = c.0.few;
         retained = c.0.each;
       },
-      refl,
-    ))))))
+      size,
+      all_fit window sessions.0 b.0.each,
+    ))))
+
+pub thawed_is_in_range : ThawedIsInRange
+unfolding broker_at
+thawed_is_in_range bytes fits =
+    then_if (head_at bytes) _ (λ x. IsWindowSize x.0 × IsBytes x.1) IsUsualState (a_head bytes fits) (λ head a.
+    content_found head.0 a.0 head.1 a.1)

@@ -1,5 +1,5 @@
--- The bytes to which a broker is frozen, form 1, and the broker that bytes stand for. Numbers are big-endian, a text
--- has its length in two bytes before it.
+-- The bytes to which a broker is frozen, form 2, and the broker that bytes of form 1 or 2 stand for. Numbers are
+-- big-endian, a text has its length in two bytes before it.
 use Rattle.std.specs.Prelude.{ℕ, true, false, not, ◌&&◌, ◌||◌, ◌==◌, Bool, nat_lt, nat_le, if◌then◌else◌, List, [], ◌∷◌, ◌++◌, length, Option, Some, None, is_some, Result, Ok, Err}
 use Rattle.std.specs.Int.{w64, to_be_bytes, from_be_bytes}
 use Rattle.std.specs.Ordering.{is_lt}
@@ -14,6 +14,7 @@ use Rattle.session_form.specs.Counted.{keep, last_of, counted, counted_at}
 use Rattle.session_form.specs.Form.{long_number, long_number_at, flag_at, qos_at, body_length, state_bytes, state_at}
 use Rattle.broker_model.specs.Connection.{ConnectionName, is_connection_name}
 use Rattle.broker_model.specs.Place.{Client, by_bytes}
+use Rattle.broker_model.specs.Window.{is_window_size}
 use Rattle.broker_base.specs.ClientSession.{ClientSession}
 use Rattle.broker_base.specs.State.{Sessions, State, owner_in}
 use Rattle.broker_form.specs.InRange.{as_publication}
@@ -38,9 +39,17 @@ abbrev pub retained_bytes : List ℕ × RetainedPublication → List ℕ
 retained_bytes row =
     qos_number row.1.qos ∷ (text row.0 ++ (long_number (length row.1.payload) ++ row.1.payload))
 
--- the number of the form, the sessions by the bytes of their clients, the retained publications by topic
+-- the sessions by the bytes of their clients, the retained publications by topic
+abbrev pub content_bytes : State → List ℕ
+content_bytes state = counted number row_bytes state.sessions ++ counted number retained_bytes state.retained
+
+-- form 2: its number, the window in one byte, and the content
 abbrev pub frozen : State → List ℕ
-frozen state = 1 ∷ (counted number row_bytes state.sessions ++ counted number retained_bytes state.retained)
+frozen state = 2 ∷ state.window ∷ content_bytes state
+
+-- form 1: its number and the content, of a broker whose window is 16
+abbrev pub frozen_before : State → List ℕ
+frozen_before state = 1 ∷ content_bytes state
 
 -- ---- reading
 
@@ -65,14 +74,14 @@ client_at bytes = do
   keep (is_client client.0)
   Ok client
 
--- a clean session has a connection
-unfoldable pub row_at : List ℕ → Result ((Client × ClientSession) × List ℕ) Stop
-row_at bytes = do
+-- a clean session has a connection; no more of a session is in flight than this window
+unfoldable pub row_at : ℕ → List ℕ → Result ((Client × ClientSession) × List ℕ) Stop
+row_at window bytes = do
   client ← client_at bytes
   clean ← flag_at client.1
   connection ← connection_at clean.1
   keep (not clean.0 || is_some connection.0)
-  state ← state_at connection.1
+  state ← state_at window connection.1
   Ok ((client.0, record { clean = clean.0; connection = connection.0; state = state.0 }), state.1)
 
 -- a retained publication has a payload, and its PUBLISH is within the limit
@@ -115,15 +124,32 @@ topic_follows front row = is_behind (last_of front) row.0
 
 -- ---- the broker
 
--- at most 4,096 sessions and 16,384 topics, and nothing behind them
-unfoldable pub broker_at : List ℕ → Result State Stop
-broker_at bytes = do
+-- form 2 names its window, 16 or 64
+unfoldable pub size_at : List ℕ → Result (ℕ × List ℕ) Stop
+size_at bytes = do
+  size ← byte_at bytes
+  keep (is_window_size size.0)
+  Ok size
+
+-- the number of the form, and the window: 16 in form 1
+unfoldable pub head_at : List ℕ → Result (ℕ × List ℕ) Stop
+head_at bytes = do
   form ← byte_at bytes
-  keep (form.0 == 1)
-  sessions ← counted_at number_at row_follows row_at 4096 form.1
+  keep ((form.0 == 1) || (form.0 == 2))
+  if form.0 == 1 then Ok (16, form.1) else size_at form.1
+
+-- at most 4,096 sessions and 16,384 topics, and nothing after them
+abbrev pub content_at : ℕ → List ℕ → Result State Stop
+content_at window bytes = do
+  sessions ← counted_at number_at row_follows (row_at window) 4096 bytes
   retained ← counted_at number_at topic_follows retained_at 16384 sessions.1
   ended retained.1
-  Ok (record { window = 16; sessions = sessions.0; retained = retained.0 })
+  Ok (record { window = window; sessions = sessions.0; retained = retained.0 })
+
+unfoldable pub broker_at : List ℕ → Result State Stop
+broker_at bytes = do
+  head ← head_at bytes
+  content_at head.0 head.1
 
 abbrev pub found : {A : Type 0} → Result A Stop → Option A
 found (Ok a) = Some a

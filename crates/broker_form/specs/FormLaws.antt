@@ -1,17 +1,31 @@
--- What a broker is frozen to is thawed as that broker, and what is thawed is in its ranges.
-use Rattle.std.specs.Prelude.{◌≡◌, ℕ, List, Some, IfOk}
+-- What a broker is frozen to is thawed as that broker; what is thawed is in its ranges, and is frozen as it stood.
+use Rattle.std.specs.Prelude.{◌≡◌, ℕ, ◌⊎◌, List, Some, IfOk}
 use Rattle.session_form.specs.FormLaws.{AreBytes}
 use Rattle.broker_model.specs.Commands.{usual_limits}
+use Rattle.broker_model.specs.Window.{IsWindowSize}
 use Rattle.broker_base.specs.State.{State}
+use Rattle.broker_base.specs.StateLaws.{AllInWindow}
 use Rattle.broker_form.specs.InRange.{IsBrokerState}
-use Rattle.broker_form.specs.Form.{frozen, broker_at, thawed}
+use Rattle.broker_form.specs.Form.{frozen, frozen_before, broker_at, thawed}
 
--- a state of this broker: its window is 16
+-- a state of this broker: its window is 16 or 64, and no more of a session is in flight than it allows
 abbrev pub IsUsualState : State → Type 0
-IsUsualState state = IsBrokerState usual_limits state × (state.window ≡ 16)
+IsUsualState state =
+    IsBrokerState usual_limits state × IsWindowSize state.window × AllInWindow state.window state.sessions
 
 abbrev pub FrozenIsThawed : Type 0
 FrozenIsThawed = (state : State) → IsUsualState state → thawed (frozen state) ≡ Some state
 
+-- the same of form 1, where the window is 16
+abbrev pub FrozenBeforeIsThawed : Type 0
+FrozenBeforeIsThawed =
+    (state : State) → IsUsualState state → state.window ≡ 16 → thawed (frozen_before state) ≡ Some state
+
 abbrev pub ThawedIsInRange : Type 0
 ThawedIsInRange = (bytes : List ℕ) → AreBytes bytes → IfOk (broker_at bytes) IsUsualState
+
+-- bytes from which a broker is thawed are those to which it is frozen, in form 2, or in form 1 with the window of 16
+abbrev pub ThawedIsFrozen : Type 0
+ThawedIsFrozen =
+    (bytes : List ℕ) → (state : State) → AreBytes bytes → thawed bytes ≡ Some state →
+    (frozen state ≡ bytes) ⊎ ((state.window ≡ 16) × (frozen_before state ≡ bytes))

@@ -3,4 +3,5 @@ pub mod RangeLaws
 pub mod Form
 pub mod FormLaws
 pub mod FormRows
+pub mod FullRow
 pub use Rattle.broker_rows.specs as broker_rows

@@ -33,5 +33,5 @@ AnswersAreSpelled =
 abbrev pub ListsAreInRange : Type 0
 ListsAreInRange =
     (window : ℕ) → (commands : List Command) → AllByRecursion IsBrokerCommand commands →
-    IsBrokerState usual_limits (state_from usual_limits 16 (empty_state window) commands)
-    × AllByRecursion (AllByRecursion CanBeSpelled) (steps_from usual_limits 16 (empty_state window) commands)
+    IsBrokerState usual_limits (state_from usual_limits 64 (empty_state window) commands)
+    × AllByRecursion (AllByRecursion CanBeSpelled) (steps_from usual_limits 64 (empty_state window) commands)

@@ -1,8 +1,9 @@
 // Laws of states. The calls do nothing; their contracts are the laws.
 
 ghost use Rattle.broker_form.specs.RangeLaws.{StaysInRange, AnswersAreSpelled, ListsAreInRange};
-ghost use Rattle.broker_form.specs.FormRows.{FreshIsFrozen, OneSessionIsFrozen};
-ghost use Rattle.broker_form.specs.FormLaws.{FrozenIsThawed, ThawedIsInRange};
+ghost use Rattle.broker_form.specs.FormRows.{FreshIsFrozen, OneSessionIsFrozen, FormOneIsRead, OneSessionGoesOn, OthersAreRefused};
+ghost use Rattle.broker_form.specs.FormLaws.{FrozenIsThawed, FrozenBeforeIsThawed, ThawedIsInRange, ThawedIsFrozen};
+ghost use Rattle.broker_form.specs.FullRow.{FullIsFrozen};
 
 /// A command of a log leaves a broker's state sound, within its limits, and each number, text and
 /// publication in it in its range.
@@ -22,18 +23,32 @@ pub fn lists_are_in_range()
     ensures { ListsAreInRange }
 {}
 
-/// What a broker is frozen to is thawed as that broker.
+/// What a broker is frozen to is thawed as that broker; so is what it was frozen to in form 1, where
+/// its window is 16.
 pub fn frozen_is_thawed()
-    ensures { FrozenIsThawed }
+    ensures now { FrozenIsThawed }
+    ensures before { FrozenBeforeIsThawed }
 {}
 
-/// A broker that was thawed is sound, within its limits and in its ranges.
+/// A broker that was thawed is sound, within its limits and in its ranges, and no more of a session is
+/// in flight than its window allows.
 pub fn thawed_is_in_range()
     ensures { ThawedIsInRange }
 {}
 
-/// The bytes of the broker without sessions, and of the one with client `a` on connection 1 of ballot 1.
+/// Shows that bytes from which a broker is thawed are those to which it is frozen, in form 2, or in
+/// form 1 where its window is 16: each broker has one spelling in a form, and there is no other form.
+pub fn thawed_is_frozen()
+    ensures { ThawedIsFrozen }
+{}
+
+/// Shows the bytes, in both forms, of a broker without sessions, of one with client `a` on connection 1
+/// of ballot 1, and of one with something in every part.
 pub fn rows_are_frozen()
     ensures fresh { FreshIsFrozen }
     ensures one { OneSessionIsFrozen }
+    ensures before { FormOneIsRead }
+    ensures one_before { OneSessionGoesOn }
+    ensures others { OthersAreRefused }
+    ensures full { FullIsFrozen }
 {}

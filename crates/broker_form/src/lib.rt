@@ -1,11 +1,11 @@
 //! What stands in every state of the broker, whatever its commands were: no more than the limits allow,
-//! each number, text and publication in its range; every answer can be spelled; and form 1, to which a
-//! broker is frozen.
+//! each number, text and publication in its range; every answer can be spelled; and form 2, to which a
+//! broker is frozen, beside form 1, from which it is read as well.
 #![tactic(auto)]
 
 mod laws;
 
 pub use laws::{
     answers_can_be_spelled, frozen_is_thawed, lists_are_in_range, rows_are_frozen,
-    states_stay_in_range, thawed_is_in_range,
+    states_stay_in_range, thawed_is_frozen, thawed_is_in_range,
 };

@@ -9,7 +9,7 @@ use Rattle.broker_model.specs.Readings.{busy_ids}
 use Rattle.session_base.specs.Identifiers.{least_free}
 use Rattle.broker_model.specs.Times.{entries_of, window_at, start_all, started}
 use Rattle.broker_model.specs.Commands.{usual_limits}
-use Rattle.broker_model.specs.IdentifierLaws.{IsInWindow, IdentifiersAreInTheWindow, IdentifiersAreTo16}
+use Rattle.broker_model.specs.IdentifierLaws.{IsInWindow, IdentifiersAreInTheWindow, IdentifiersAreTo64}
 use Rattle.broker_model.proofs.EntriesGrow.{Answered, Answering, answers-by}
 use Rattle.broker_model.proofs.LeastFree.{least-in-reach}
 
@@ -84,5 +84,5 @@ identifiers_are_in_the_window limits grows (place ∷ past) c =
     (wider (window_at limits past) (window_at limits (place ∷ past)) (busy_ids (entries_of limits past c)) (grows place past)
     (identifiers_are_in_the_window limits grows past c))))))
 
-pub identifiers_are_to_16 : IdentifiersAreTo16
-identifiers_are_to_16 = identifiers_are_in_the_window usual_limits (λ place past. omega arith)
+pub identifiers_are_to_64 : IdentifiersAreTo64
+identifiers_are_to_64 = identifiers_are_in_the_window usual_limits (λ place past. omega arith)

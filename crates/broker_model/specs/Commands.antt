@@ -28,15 +28,15 @@ abbrev pub limits_with : (Past → ℕ) → Limits
 limits_with window =
     record { sessions = 4096; subscriptions = 64; entries = 4096; retained = 16384; window = window }
 
--- the limits of this broker: 16 entries of a session are under way at once
+-- the limits of this broker: 64 entries of a session are in flight at most
 abbrev pub usual_limits : Limits
-usual_limits = limits_with (λ past. 16)
+usual_limits = limits_with (λ past. 64)
 
 -- a window that was this one at first, and is 64 from the first Start on
 abbrev pub window_from : ℕ → Past → ℕ
 window_from first (place ∷ past) = if is_start place.command then 64 else window_from first past
 window_from first [] = first
 
--- the limits of a broker with such a window
+-- the limits of a broker with such a window: at first 64 in a fresh one, 16 in one that was read from form 1
 abbrev pub limits_from : ℕ → Limits
 limits_from first = limits_with (window_from first)

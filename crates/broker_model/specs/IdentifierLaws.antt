@@ -26,10 +26,10 @@ IdentifiersAreInTheWindow =
     (limits : Limits) → NeverShrinks limits → (past : Past) (c : Client)
     → AllByRecursion (IsInWindow (window_at limits past)) (busy_ids (entries_of limits past c))
 
--- in this broker they are 1 to 16
-abbrev pub IdentifiersAreTo16 : Type 0
-IdentifiersAreTo16 =
-    (past : Past) (c : Client) → AllByRecursion (IsInWindow 16) (busy_ids (entries_of usual_limits past c))
+-- in this broker they are 1 to 64
+abbrev pub IdentifiersAreTo64 : Type 0
+IdentifiersAreTo64 =
+    (past : Past) (c : Client) → AllByRecursion (IsInWindow 64) (busy_ids (entries_of usual_limits past c))
 
 -- an entry that waits
 abbrev pub IsWaiting : Entry → Type 0

@@ -29,3 +29,4 @@ pub mod StartLaws
 pub mod Subscriptions
 pub mod TakenLaws
 pub mod Times
+pub mod Window

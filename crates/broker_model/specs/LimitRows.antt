@@ -14,14 +14,14 @@ use Rattle.broker_model.specs.declared.command.Command.TheVariants as commands
 use Rattle.broker_model.specs.declared.command.Output.TheVariants.{Close}
 
 -- 4,096 sessions, 64 subscriptions and 4,096 unfinished entries of each, 16,384 retained topics, whatever the window,
--- which is 16
+-- which is 64 in a fresh broker
 abbrev pub LimitsAre : Type 0
 LimitsAre =
     ((window : Past → ℕ) → (limits_with window).sessions ≡ 4096)
     × ((window : Past → ℕ) → (limits_with window).subscriptions ≡ 64)
     × ((window : Past → ℕ) → (limits_with window).entries ≡ 4096)
     × ((window : Past → ℕ) → (limits_with window).retained ≡ 16384)
-    × ((past : Past) → usual_limits.window past ≡ 16)
+    × ((past : Past) → usual_limits.window past ≡ 64)
 
 -- ---- with four sessions, four subscriptions of each and four retained topics
 

@@ -80,19 +80,19 @@ ViolationsClose =
 abbrev pub routed : ℕ → List Command
 routed many = subscribed_at levels.AtLeastOnce ++ publications many
 
--- the window is 16: the 17th publication waits, goes out with the identifier that PUBACK frees, and comes last
+-- with a window of 16 the 17th publication waits, goes out with the identifier that PUBACK frees, and comes last
 -- when b connects again (MQTT 4.4, 4.6)
 abbrev pub PubackFreesItsIdentifier : Type 0
 PubackFreesItsIdentifier =
-    Gives usual_limits (routed 17) (gets 1 (packets.Puback 5) ∷ connect 3 b ∷ [])
+    Gives (limits_from 16) (routed 17) (gets 1 (packets.Puback 5) ∷ connect 3 b ∷ [])
     (delivered 1 false (5 ∷ [])
     ∷ (Close (nth 1) ∷ sends 3 (connack true)
     ∷ delivered 3 true (numbers 4 1 ++ numbers 11 6 ++ 5 ∷ [])) ∷ [])
 
--- with a window of 64 all 17 go out at once, and PUBACK starts nothing
+-- with the usual window of 64 all 17 go out at once, and PUBACK starts nothing
 abbrev pub WideWindowSendsAll : Type 0
 WideWindowSendsAll =
-    Gives (limits_from 64) (routed 17) (gets 1 (packets.Puback 5) ∷ connect 3 b ∷ [])
+    Gives usual_limits (routed 17) (gets 1 (packets.Puback 5) ∷ connect 3 b ∷ [])
     ([] ∷ (Close (nth 1) ∷ sends 3 (connack true) ∷ delivered 3 true (numbers 4 1 ++ numbers 12 6)) ∷ [])
 
 -- b is offline, and has 70 entries
@@ -102,7 +102,7 @@ seventy = subscribed_at levels.AtLeastOnce ++ commands.Lost (nth 1) ∷ publicat
 -- of 70 entries 64 are sent, and PUBACK 1 sends the next with identifier 1
 abbrev pub WindowOf64 : Type 0
 WindowOf64 =
-    Gives (limits_from 64) seventy (connect 3 b ∷ gets 3 (packets.Puback 1) ∷ [])
+    Gives usual_limits seventy (connect 3 b ∷ gets 3 (packets.Puback 1) ∷ [])
     ((sends 3 (connack true) ∷ delivered 3 false (numbers 64 1)) ∷ delivered 3 false (1 ∷ []) ∷ [])
 
 -- a broker whose window was 16 at first sends 16, and 64 once a new ballot has begun

@@ -2,7 +2,7 @@
 
 ghost use Rattle.broker_model.specs.Laws.{CurrentIsLastAccepted, FilterHasLastGranting, RepeatIsUnreleased};
 ghost use Rattle.broker_model.specs.EntryLaws.{NothingWaitsInVain, EntriesOnlyGrow, PublicationEnters, TakenPublishAddsOne};
-ghost use Rattle.broker_model.specs.IdentifierLaws.{IdentifiersAreDistinct, IdentifiersAreInTheWindow, IdentifiersAreTo16, StartedComeFirst};
+ghost use Rattle.broker_model.specs.IdentifierLaws.{IdentifiersAreDistinct, IdentifiersAreInTheWindow, IdentifiersAreTo64, StartedComeFirst};
 ghost use Rattle.broker_model.specs.OriginLaws.{EntersOnce};
 ghost use Rattle.broker_model.specs.QuietLaws.{PacketOfNobodyIsNothing, WindowIsSteady};
 ghost use Rattle.broker_model.specs.AnswerLaws.{AnswersAreAddressed};
@@ -43,7 +43,7 @@ pub fn entries_only_grow()
 pub fn identifiers_are_distinct()
     ensures distinct { IdentifiersAreDistinct }
     ensures window { IdentifiersAreInTheWindow }
-    ensures sixteen { IdentifiersAreTo16 }
+    ensures usual { IdentifiersAreTo64 }
     ensures first { StartedComeFirst }
 {}
 

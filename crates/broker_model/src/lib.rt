@@ -8,6 +8,7 @@ mod endings;
 mod laws;
 mod rows;
 mod sized_packet;
+mod window;
 
 pub use command::{Command, Output};
 pub use connection_id::ConnectionId;
@@ -27,3 +28,4 @@ pub use rows::{
     two_filters_one_publication, window_of_64,
 };
 pub use sized_packet::{SizedPacket, Unspellable};
+pub use window::Window;

@@ -64,8 +64,8 @@ pub fn ping_unsubscribe_and_violations()
     ensures closed { ViolationsClose }
 {}
 
-/// PUBACK sends the 17th publication with the identifier that it freed, and that one stays behind
-/// the others (MQTT 4.4, 4.6).
+/// With a window of 16, PUBACK sends the 17th publication with the identifier that it freed, and that
+/// one stays after the others (MQTT 4.4, 4.6).
 pub fn puback_frees_its_identifier()
     ensures { PubackFreesItsIdentifier }
 {}

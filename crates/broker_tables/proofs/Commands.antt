@@ -17,7 +17,7 @@ pub quiet_start : (tables : Tables) (ballot : ℕ) → (stepped tables (commands
 unfolding stepped
 quiet_start tables ballot = refl
 
-pub stepped_is : (tables : Tables) (command : Command) → stepped tables command ≡ step usual_limits 16 (state_in tables) command
+pub stepped_is : (tables : Tables) (command : Command) → stepped tables command ≡ step usual_limits 64 (state_in tables) command
 unfolding stepped
 stepped_is tables command = refl
 

@@ -44,7 +44,7 @@ pub further_of : (tables : Tables) (x : ConnectionName) (c : Client) (kept : Cli
     stepped tables (commands.Connect x named clean) ≡ ((stepped tables (commands.Lost x)).0, outputs.Close x ∷ [])
 unfolding stepped
 further_of tables x c kept named clean served =
-    further_connect_step usual_limits 16 (state_in tables) x c kept served named clean
+    further_connect_step usual_limits 64 (state_in tables) x c kept served named clean
     ∙ ap (λ s. (s, outputs.Close x ∷ [])) (sym (ap (λ q. q.0) (loss_step tables x c kept served)))
 
 -- ---- on a connection of nobody
@@ -55,14 +55,14 @@ module _ (tables : Tables) (x : ConnectionName) (c : Client) (clean : Bool) (ste
       stepped tables (commands.Connect x c clean)
       ≡ (
         record {
-          window = 16;
+          window = tables.window;
           sessions = insert_entry by_bytes tables.sessions.entries c (kept_anew (x, clean));
           retained = tables.retained;
         },
         closed (connection_of (session_in c tables.sessions.entries)) ++ welcome x false ∷ [],
       )
   unfolding stepped
-  beginning_of admitted begins = beginning_step usual_limits 16 (state_in tables) x c clean step.sound (is_nobodys tables x none) admitted begins
+  beginning_of admitted begins = beginning_step usual_limits 64 (state_in tables) x c clean step.sound (is_nobodys tables x none) admitted begins
 
   pub ties_of_beginning : (after : Tables) → after.sessions.entries ≡ insert_entry by_bytes tables.sessions.entries c (kept_anew (x, clean)) →
       TakesOver tables x c after → content_of after.index ≡ without_client (content_of tables.index) c → IsTied after
@@ -78,19 +78,19 @@ module _ (tables : Tables) (x : ConnectionName) (c : Client) (clean : Bool) (ste
   pub full_of : is_admitted usual_limits (state_in tables) c ≡ false →
       stepped tables (commands.Connect x c clean) ≡ (state_in tables, turned_away x ∷ outputs.Close x ∷ [])
   unfolding stepped
-  full_of full = full_step usual_limits 16 (state_in tables) x c clean (is_nobodys tables x none) full
+  full_of full = full_step usual_limits 64 (state_in tables) x c clean (is_nobodys tables x none) full
 
   -- a session goes on
   resuming_by : (session : Option ClientSession) → session_in c tables.sessions.entries ≡ session → goes_on clean session ≡ true →
       stepped tables (commands.Connect x c clean)
       ≡ (
         record {
-          window = 16;
-          sessions = changed c (kept_resumed 16 (x, false)) tables.sessions.entries;
+          window = tables.window;
+          sessions = changed c (kept_resumed tables.window (x, false)) tables.sessions.entries;
           retained = tables.retained;
         },
         closed (connection_of (session_in c tables.sessions.entries)) ++ welcome x true
-            ∷ map (outputs.Send x) (sent_to_resumed (session_in c tables.sessions.entries)),
+            ∷ map (outputs.Send x) (sent_to_resumed tables.window (session_in c tables.sessions.entries)),
       )
   unfolding stepped
   resuming_by None held e = absurd (cc)
@@ -100,56 +100,56 @@ module _ (tables : Tables) (x : ConnectionName) (c : Client) (clean : Bool) (ste
           stepped tables (commands.Connect x c clean)
           ≡ (
             record {
-              window = 16;
-              sessions = changed c (kept_resumed 16 (x, false)) tables.sessions.entries;
+              window = tables.window;
+              sessions = changed c (kept_resumed tables.window (x, false)) tables.sessions.entries;
               retained = tables.retained;
             },
             closed (connection_of (session_in c tables.sessions.entries)) ++ welcome x true
-                ∷ map (outputs.Send x) (sent_to_resumed (session_in c tables.sessions.entries)),
+                ∷ map (outputs.Send x) (sent_to_resumed tables.window (session_in c tables.sessions.entries)),
           )
       by true b p q h = absurd (cc)
       by false true p q h = absurd (cc)
       by false false p q h =
           ap (λ flag. stepped tables (commands.Connect x c flag)) p
-          ∙ resuming_step usual_limits 16 (state_in tables) x c kept step.sound (is_nobodys tables x none) held q
+          ∙ resuming_step usual_limits 64 (state_in tables) x c kept step.sound (is_nobodys tables x none) held q
           ∙ (λ i. (
             record {
-              window = 16;
-              sessions = written c (option_map (kept_resumed 16 (x, false)) (sym held i)) tables.sessions.entries;
+              window = tables.window;
+              sessions = written c (option_map (kept_resumed tables.window (x, false)) (sym held i)) tables.sessions.entries;
               retained = tables.retained;
             },
-            closed (connection_of (sym held i)) ++ welcome x true ∷ map (outputs.Send x) (sent_to_resumed (sym held i)),
+            closed (connection_of (sym held i)) ++ welcome x true ∷ map (outputs.Send x) (sent_to_resumed tables.window (sym held i)),
           ))
 
   pub resuming_of : goes_on_in (state_in tables) c clean ≡ true →
       stepped tables (commands.Connect x c clean)
       ≡ (
         record {
-          window = 16;
-          sessions = changed c (kept_resumed 16 (x, false)) tables.sessions.entries;
+          window = tables.window;
+          sessions = changed c (kept_resumed tables.window (x, false)) tables.sessions.entries;
           retained = tables.retained;
         },
         closed (connection_of (session_in c tables.sessions.entries)) ++ welcome x true
-            ∷ map (outputs.Send x) (sent_to_resumed (session_in c tables.sessions.entries)),
+            ∷ map (outputs.Send x) (sent_to_resumed tables.window (session_in c tables.sessions.entries)),
       )
   resuming_of on = resuming_by (session_in c tables.sessions.entries) refl on
 
   pub ties_of_resuming : (after : Tables) → goes_on_in (state_in tables) c clean ≡ true →
-      after.sessions.entries ≡ changed c (kept_resumed 16 (x, false)) tables.sessions.entries →
+      after.sessions.entries ≡ changed c (kept_resumed tables.window (x, false)) tables.sessions.entries →
       TakesOver tables x c after → content_of after.index ≡ content_of tables.index → IsTied after
   ties_of_resuming after on is owners index = by (session_in c tables.sessions.entries) refl on
     where
       by : (session : Option ClientSession) → session_in c tables.sessions.entries ≡ session → goes_on clean session ≡ true → IsTied after
       by None held e = absurd (cc)
       by (Some kept) held e =
-          tied_to after (written c (Some (kept_resumed 16 (x, false) kept)) tables.sessions.entries)
-          (is ∙ ap (λ session. written c (option_map (kept_resumed 16 (x, false)) session) tables.sessions.entries) held)
+          tied_to after (written c (Some (kept_resumed tables.window (x, false) kept)) tables.sessions.entries)
+          (is ∙ ap (λ session. written c (option_map (kept_resumed tables.window (x, false)) session) tables.sessions.entries) held)
           (λ q.
           owners q ∙ takes_over tables x c (connection_of (session_in c tables.sessions.entries)) q step.tied
           ∙ ap (λ session. with_owner x c (without_owner (connection_of session) (owners_in tables.sessions.entries)) q) held
-          ∙ sym (resuming_sets_the_owner (state_in tables) x c kept (kept_resumed 16 (x, false) kept) step.sound (is_nobodys tables x none) held refl q))
+          ∙ sym (resuming_sets_the_owner (state_in tables) x c kept (kept_resumed tables.window (x, false) kept) step.sound (is_nobodys tables x none) held refl q))
           (index ∙ step.tied.index
-          ∙ sym (writing_keeps_content c kept (kept_resumed 16 (x, false) kept) tables.sessions.entries step.sound.by_client held refl))
+          ∙ sym (writing_keeps_content c kept (kept_resumed tables.window (x, false) kept) tables.sessions.entries step.sound.by_client held refl))
 
 -- ---- by what the map of connections has
 

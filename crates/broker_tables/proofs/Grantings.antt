@@ -29,19 +29,19 @@ use Rattle.broker_tables.proofs.TiesOfRows.{tied_to}
 
 -- which filters are granted
 abbrev pub which_of : Tables → SessionState → Subscribe → List Bool
-which_of tables held s = granted_in_turn usual_limits 16 tables.retained held s.filters
+which_of tables held s = granted_in_turn usual_limits tables.window tables.retained held s.filters
 
 pub subscribe_of : (tables : Tables) (x : ConnectionName) (c : Client) (kept : ClientSession) (s : Subscribe) → IsServed (state_in tables) x c kept →
     stepped tables (commands.Packet x (packets.Subscribe s))
     ≡ (
-      with_session c (Some (holding (subscribed_in_turn usual_limits 16 tables.retained kept.state s.filters) kept)) (state_in tables),
+      with_session c (Some (holding (subscribed_in_turn usual_limits tables.window tables.retained kept.state s.filters) kept)) (state_in tables),
       outputs.Send x (packets.Suback (record { id = s.id; codes = codes_of s.filters (which_of tables kept.state s) }))
-          ∷ map (outputs.Send x) (sent_in_turn usual_limits 16 tables.retained kept.state s.filters),
+          ∷ map (outputs.Send x) (sent_in_turn usual_limits tables.window tables.retained kept.state s.filters),
     )
 unfolding stepped
 subscribe_of tables x c kept s served =
-    let turn = subscribes usual_limits 16 tables.retained kept.state s.filters in
-    subscribe_step usual_limits 16 (state_in tables) x c kept served s (which_of tables kept.state s) turn.0
+    let turn = subscribes usual_limits tables.window tables.retained kept.state s.filters in
+    subscribe_step usual_limits 64 (state_in tables) x c kept served s (which_of tables kept.state s) turn.0
     ∙ (λ i. (
       with_session c (Some (holding (turn.1 i) kept)) (state_in tables),
       outputs.Send x (packets.Suback (record { id = s.id; codes = codes_of s.filters (which_of tables kept.state s) }))
@@ -51,13 +51,13 @@ subscribe_of tables x c kept s served =
 -- the ties behind it
 pub ties_of_subscribe : (tables after : Tables) (c : Client) (kept new : ClientSession) (s : Subscribe) → IsInStep tables →
     session_in c tables.sessions.entries ≡ Some kept → new.connection ≡ kept.connection →
-    new.state ≡ subscribed_in_turn usual_limits 16 tables.retained kept.state s.filters →
+    new.state ≡ subscribed_in_turn usual_limits tables.window tables.retained kept.state s.filters →
     after.sessions.entries ≡ set_value (is_at (by_bytes c)) tables.sessions.entries new →
     after.owners.entries ≡ tables.owners.entries →
     content_of after.index ≡ all_set c (map as_held (granted_of s.filters (which_of tables kept.state s))) (content_of tables.index) →
     IsTied after
 ties_of_subscribe tables after c kept new s step held on filters is owners index =
-    let turn = subscribes usual_limits 16 tables.retained kept.state s.filters in
+    let turn = subscribes usual_limits tables.window tables.retained kept.state s.filters in
     tied_to after (set_value (is_at (by_bytes c)) tables.sessions.entries new) is
     (λ q.
     ap (lookup (is_at (by_connection q))) owners ∙ step.tied.owners q

@@ -1,5 +1,5 @@
 -- Handshakes.antt: the step at a packet of a handshake, by the tables.
-use Rattle.std.proofs.Common.{◌≡◌, true, Some, refl, ap, ◌∙◌}
+use Rattle.std.proofs.Common.{◌≡◌, ℕ, true, Some, refl, ap, ◌∙◌}
 use Rattle.std.specs.Prelude.{map}
 use Rattle.packet.specs.declared.packet.Packet.{Packet}
 use Rattle.packet.specs.declared.packet.Packet.TheVariants as packets
@@ -30,35 +30,35 @@ handled tables c kept (packets.Pubcomp id) e = refl
 handled tables c kept _ e = absurd (cc)
 
 -- the answers to its sender, which is connected
-answered : (x : ConnectionName) (kept : ClientSession) (packet : Packet) → is_handshake packet ≡ true → kept.connection ≡ Some x →
-    handled_in 16 x (Some kept) packet ≡ map (outputs.Send x) (handshake_sends packet kept.state)
-answered x kept (packets.Puback id) e on =
-    ap (λ connection. map (outputs.Send x) (while_connected connection (handshake_sends (packets.Puback id) kept.state))) on
-answered x kept (packets.Pubrec id) e on = refl
-answered x kept (packets.Pubrel id) e on = refl
-answered x kept (packets.Pubcomp id) e on =
-    ap (λ connection. map (outputs.Send x) (while_connected connection (handshake_sends (packets.Pubcomp id) kept.state))) on
-answered x kept _ e on = absurd (cc)
+answered : (w : ℕ) (x : ConnectionName) (kept : ClientSession) (packet : Packet) → is_handshake packet ≡ true → kept.connection ≡ Some x →
+    handled_in w x (Some kept) packet ≡ map (outputs.Send x) (handshake_sends w packet kept.state)
+answered w x kept (packets.Puback id) e on =
+    ap (λ connection. map (outputs.Send x) (while_connected connection (handshake_sends w (packets.Puback id) kept.state))) on
+answered w x kept (packets.Pubrec id) e on = refl
+answered w x kept (packets.Pubrel id) e on = refl
+answered w x kept (packets.Pubcomp id) e on =
+    ap (λ connection. map (outputs.Send x) (while_connected connection (handshake_sends w (packets.Pubcomp id) kept.state))) on
+answered w x kept _ e on = absurd (cc)
 
 -- the whole step
 pub handshake_step : (tables : Tables) (x : ConnectionName) (c : Client) (kept : ClientSession) (packet : Packet) →
     IsServed (state_in tables) x c kept → is_handshake packet ≡ true →
     stepped tables (commands.Packet x packet)
     ≡ (
-      with_session c (Some (holding (handled_state 16 packet kept.state) kept)) (state_in tables),
-      map (outputs.Send x) (handshake_sends packet kept.state),
+      with_session c (Some (holding (handled_state tables.window packet kept.state) kept)) (state_in tables),
+      map (outputs.Send x) (handshake_sends tables.window packet kept.state),
     )
 unfolding stepped
 handshake_step tables x c kept packet served kind =
-    handled_step usual_limits 16 (state_in tables) x c kept served packet (handled tables c kept packet kind)
-    ∙ ap (λ answers. (with_session c (Some (holding (handled_state 16 packet kept.state) kept)) (state_in tables), answers))
-    (answered x kept packet kind (served_on (state_in tables) x c kept served))
+    handled_step usual_limits 64 (state_in tables) x c kept served packet (handled tables c kept packet kind)
+    ∙ ap (λ answers. (with_session c (Some (holding (handled_state tables.window packet kept.state) kept)) (state_in tables), answers))
+    (answered tables.window x kept packet kind (served_on (state_in tables) x c kept served))
 
 -- it leaves the subscriptions
-pub handshake_keeps_filters : (packet : Packet) (held : SessionState) → is_handshake packet ≡ true →
-    (handled_state 16 packet held).subscriptions ≡ held.subscriptions
-handshake_keeps_filters (packets.Puback id) held e = refl
-handshake_keeps_filters (packets.Pubrec id) held e = refl
-handshake_keeps_filters (packets.Pubrel id) held e = refl
-handshake_keeps_filters (packets.Pubcomp id) held e = refl
-handshake_keeps_filters _ held e = absurd (cc)
+pub handshake_keeps_filters : (w : ℕ) (packet : Packet) (held : SessionState) → is_handshake packet ≡ true →
+    (handled_state w packet held).subscriptions ≡ held.subscriptions
+handshake_keeps_filters w (packets.Puback id) held e = refl
+handshake_keeps_filters w (packets.Pubrec id) held e = refl
+handshake_keeps_filters w (packets.Pubrel id) held e = refl
+handshake_keeps_filters w (packets.Pubcomp id) held e = refl
+handshake_keeps_filters w _ held e = absurd (cc)

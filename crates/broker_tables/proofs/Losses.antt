@@ -34,13 +34,13 @@ IsWithout tables x after =
 pub loss_step : (tables : Tables) (x : ConnectionName) (c : Client) (kept : ClientSession) → IsServed (state_in tables) x c kept →
     stepped tables (commands.Lost x) ≡ (with_session c (left_off kept) (state_in tables), [])
 unfolding stepped
-loss_step tables x c kept served = lost_step usual_limits 16 (state_in tables) x c kept served
+loss_step tables x c kept served = lost_step usual_limits 64 (state_in tables) x c kept served
 
 -- of nobody
 pub nobodys_loss : (tables : Tables) (x : ConnectionName) → owners_in tables.sessions.entries x ≡ None →
     stepped tables (commands.Lost x) ≡ (state_in tables, [])
 unfolding stepped
-nobodys_loss tables x none = nobodys_loss_step usual_limits 16 (state_in tables) x (is_nobodys tables x none)
+nobodys_loss tables x none = nobodys_loss_step usual_limits 64 (state_in tables) x (is_nobodys tables x none)
 
 -- the ties behind it
 pub ties_behind : (tables after : Tables) (x : ConnectionName) (c : Client) (kept : ClientSession) → IsServed (state_in tables) x c kept →

@@ -29,7 +29,7 @@ use Rattle.broker_tables.proofs.Losses.{loss_step}
 pub nobodys_of : (tables : Tables) (x : ConnectionName) (packet : Packet) → owners_in tables.sessions.entries x ≡ None →
     stepped tables (commands.Packet x packet) ≡ (state_in tables, [])
 unfolding stepped
-nobodys_of tables x packet none = nobodys_packet_step usual_limits 16 (state_in tables) x packet (is_nobodys tables x none)
+nobodys_of tables x packet none = nobodys_packet_step usual_limits 64 (state_in tables) x packet (is_nobodys tables x none)
 
 -- the client of a connection that is somebody's
 owned : {A : Type 0} (tables : Tables) (x : ConnectionName) (c : Client) → owners_in tables.sessions.entries x ≡ Some c →
@@ -46,7 +46,7 @@ pub pingreq_of : (tables : Tables) (x : ConnectionName) (c : Client) → IsInSte
     stepped tables (commands.Packet x packets.Pingreq) ≡ (state_in tables, outputs.Send x packets.Pingresp ∷ [])
 unfolding stepped
 pingreq_of tables x c step is =
-    owned tables x c is (λ d kept e. pingreq_step usual_limits 16 (state_in tables) x d kept (record { sound = step.sound; owner = e }))
+    owned tables x c is (λ d kept e. pingreq_step usual_limits 64 (state_in tables) x d kept (record { sound = step.sound; owner = e }))
 
 -- it ends its connection
 leaves : (tables : Tables) (row : Client × ClientSession) (packet : Packet) → is_violation packet ≡ true →
@@ -66,7 +66,7 @@ unfolding stepped
 violation_of tables x c packet step is wrong =
     owned tables x c is (λ d kept e.
     let served : IsServed (state_in tables) x d kept = record { sound = step.sound; owner = e } in
-    leaving_step usual_limits 16 (state_in tables) x d kept served packet (leaves tables (d, kept) packet wrong)
+    leaving_step usual_limits 64 (state_in tables) x d kept served packet (leaves tables (d, kept) packet wrong)
     ∙ ap (λ s. (s, outputs.Close x ∷ [])) (sym (ap (λ q. q.0) (loss_step tables x d kept served))))
 
 -- what is none of the others is a PINGREQ

@@ -32,20 +32,20 @@ module _ (tables : Tables) (x : ConnectionName) (c : Client) (kept : ClientSessi
   pub repeat_of : is_again kept p.delivery ≡ true →
       stepped tables (commands.Packet x (packets.Publish p)) ≡ (state_in tables, acknowledged x p.delivery)
   unfolding stepped
-  repeat_of again = repeat_step usual_limits 16 (state_in tables) x c kept served p again
+  repeat_of again = repeat_step usual_limits 64 (state_in tables) x c kept served p again
 
   -- one for which there is no room
   pub refused_of : is_again kept p.delivery ≡ false → is_refused_in usual_limits (state_in tables) (publication_of p) ≡ true →
       stepped tables (commands.Packet x (packets.Publish p)) ≡ ((stepped tables (commands.Lost x)).0, outputs.Close x ∷ [])
   unfolding stepped
   refused_of new refused =
-      refused_step usual_limits 16 (state_in tables) x c kept served p new refused
+      refused_step usual_limits 64 (state_in tables) x c kept served p new refused
       ∙ ap (λ s. (s, outputs.Close x ∷ [])) (sym (ap (λ q. q.0) (loss_step tables x c kept served)))
 
   -- the sessions behind one that is taken
   abbrev pub sessions_behind : List Row → Tables → Type 0
   sessions_behind granted after =
-      after.sessions.entries ≡ all_delivered 16 (publication_of p) granted (changed c (received_on p.delivery) tables.sessions.entries)
+      after.sessions.entries ≡ all_delivered tables.window (publication_of p) granted (changed c (received_on p.delivery) tables.sessions.entries)
 
   -- one that is taken
   pub taken_of : is_again kept p.delivery ≡ false → is_refused_in usual_limits (state_in tables) (publication_of p) ≡ false →
@@ -53,33 +53,33 @@ module _ (tables : Tables) (x : ConnectionName) (c : Client) (kept : ClientSessi
       stepped tables (commands.Packet x (packets.Publish p))
       ≡ (
         record {
-          window = 16;
-          sessions = all_delivered 16 (publication_of p) granted (changed c (received_on p.delivery) tables.sessions.entries);
+          window = tables.window;
+          sessions = all_delivered tables.window (publication_of p) granted (changed c (received_on p.delivery) tables.sessions.entries);
           retained = retains (publication_of p) tables.retained;
         },
         acknowledged x p.delivery
-            ++ answered_in_turn 16 (publication_of p) granted (changed c (received_on p.delivery) tables.sessions.entries),
+            ++ answered_in_turn tables.window (publication_of p) granted (changed c (received_on p.delivery) tables.sessions.entries),
       )
   unfolding stepped
   taken_of new taken granted is =
-      taken_step usual_limits 16 (state_in tables) x c kept served p new taken
+      taken_step usual_limits 64 (state_in tables) x c kept served p new taken
       ∙ ap (λ rows. (
         record {
-          window = 16;
-          sessions = all_delivered 16 (publication_of p) rows (changed c (received_on p.delivery) tables.sessions.entries);
+          window = tables.window;
+          sessions = all_delivered tables.window (publication_of p) rows (changed c (received_on p.delivery) tables.sessions.entries);
           retained = retains (publication_of p) tables.retained;
         },
         acknowledged x p.delivery
-            ++ answered_in_turn 16 (publication_of p) rows (changed c (received_on p.delivery) tables.sessions.entries),
+            ++ answered_in_turn tables.window (publication_of p) rows (changed c (received_on p.delivery) tables.sessions.entries),
       )) (sym is)
 
 -- the ties behind it
 pub ties_of_taken : (tables after : Tables) (c : Client) (p : Publish) (granted : List Row) → IsTied tables →
-    after.sessions.entries ≡ all_delivered 16 (publication_of p) granted (changed c (received_on p.delivery) tables.sessions.entries) →
+    after.sessions.entries ≡ all_delivered tables.window (publication_of p) granted (changed c (received_on p.delivery) tables.sessions.entries) →
     after.owners.entries ≡ tables.owners.entries → content_of after.index ≡ content_of tables.index → IsTied after
 ties_of_taken tables after c p granted tied is owners index =
-    tied_to after (all_delivered 16 (publication_of p) granted (changed c (received_on p.delivery) tables.sessions.entries)) is
+    tied_to after (all_delivered tables.window (publication_of p) granted (changed c (received_on p.delivery) tables.sessions.entries)) is
     (λ q.
     ap (lookup (is_at (by_connection q))) owners ∙ tied.owners q
-    ∙ sym (publishing_keeps_owners 16 (publication_of p) granted c p.delivery tables.sessions.entries q))
-    (index ∙ tied.index ∙ sym (publishing_keeps_content 16 (publication_of p) granted c p.delivery tables.sessions.entries))
+    ∙ sym (publishing_keeps_owners tables.window (publication_of p) granted c p.delivery tables.sessions.entries q))
+    (index ∙ tied.index ∙ sym (publishing_keeps_content tables.window (publication_of p) granted c p.delivery tables.sessions.entries))

@@ -21,9 +21,9 @@ use Rattle.broker_tables.proofs.TiesOfRows.{tied_to}
 
 pub start_of : (tables : Tables) (ballot : _) → IsInStep tables →
     stepped tables (commands.Start ballot)
-    ≡ (record { window = 16; sessions = all_left_off tables.sessions.entries; retained = tables.retained }, [])
+    ≡ (record { window = 64; sessions = all_left_off tables.sessions.entries; retained = tables.retained }, [])
 unfolding stepped
-start_of tables ballot step = start_step usual_limits 16 (state_in tables) ballot step.sound
+start_of tables ballot step = start_step usual_limits 64 (state_in tables) ballot step.sound
 
 pub ties_of_start : (tables after : Tables) → IsInStep tables → after.sessions.entries ≡ all_left_off tables.sessions.entries →
     after.owners.entries ≡ [] → content_of after.index ≡ all_dropped (clean_clients tables.sessions.entries) (content_of tables.index) → IsTied after

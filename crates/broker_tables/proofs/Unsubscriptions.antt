@@ -26,12 +26,12 @@ use Rattle.broker_tables.proofs.TiesOfRows.{tied_to}
 pub unsubscribe_of : (tables : Tables) (x : ConnectionName) (c : Client) (kept : ClientSession) (u : Unsubscribe) → IsServed (state_in tables) x c kept →
     stepped tables (commands.Packet x (packets.Unsubscribe u))
     ≡ (
-      with_session c (Some (holding (handled_state 16 (packets.Unsubscribe u) kept.state) kept)) (state_in tables),
+      with_session c (Some (holding (handled_state tables.window (packets.Unsubscribe u) kept.state) kept)) (state_in tables),
       outputs.Send x (packets.Unsuback u.id) ∷ [],
     )
 unfolding stepped
 unsubscribe_of tables x c kept u served =
-    handled_step usual_limits 16 (state_in tables) x c kept served (packets.Unsubscribe u) refl
+    handled_step usual_limits 64 (state_in tables) x c kept served (packets.Unsubscribe u) refl
 
 -- the ties behind it
 pub ties_of_unsubscribe : (tables after : Tables) (c : Client) (kept new : ClientSession) (u : Unsubscribe) → IsInStep tables →

@@ -1,5 +1,5 @@
 -- Which Connect goes on with a session, and what its client is sent (MQTT 3.1.2.4, 4.4).
-use Rattle.std.specs.Prelude.{Bool, false, not, ◌&&◌, List, [], ◌++◌, Option, Some, None, ◌≡◌}
+use Rattle.std.specs.Prelude.{ℕ, Bool, false, not, ◌&&◌, List, [], ◌++◌, Option, Some, None, ◌≡◌}
 use Rattle.packet.specs.declared.packet.Packet.{Packet}
 use Rattle.session_base.specs.Sending.{fill_sends, resend}
 use Rattle.broker_model.specs.Connection.{ConnectionName}
@@ -20,10 +20,10 @@ abbrev pub goes_on_in : State → Client → Bool → Bool
 goes_on_in state c clean = goes_on clean (session_in c state.sessions)
 
 -- what a client whose session goes on is sent of it (MQTT 4.4)
-abbrev pub sent_to_resumed : Option ClientSession → List Packet
-sent_to_resumed (Some kept) =
-    resend kept.state.queue.in_flight ++ fill_sends 16 kept.state.queue.in_flight kept.state.queue.waiting
-sent_to_resumed None = []
+abbrev pub sent_to_resumed : ℕ → Option ClientSession → List Packet
+sent_to_resumed window (Some kept) =
+    resend kept.state.queue.in_flight ++ fill_sends window kept.state.queue.in_flight kept.state.queue.waiting
+sent_to_resumed window None = []
 
 -- the connection becomes the client's, and the one that it had is nobody's
 abbrev pub TakesOver : Tables → ConnectionName → Client → Tables → Type 0

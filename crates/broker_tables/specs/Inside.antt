@@ -1,5 +1,5 @@
 -- Words of private calls: the steps of handshakes, and copies of publications.
-use Rattle.std.specs.Prelude.{◌≡◌, Bool, true, false, List, [], ◌∷◌}
+use Rattle.std.specs.Prelude.{◌≡◌, ℕ, Bool, true, false, List, [], ◌∷◌}
 use Rattle.packet.specs.declared.qos.QoS.{QoS}
 use Rattle.packet.specs.declared.packet.Packet.{Packet}
 use Rattle.packet.specs.declared.packet.Packet.TheVariants as packets
@@ -30,12 +30,12 @@ is_violation packets.Disconnect = true
 is_violation _ = false
 
 -- what its sender is sent for a step of a handshake
-abbrev pub handshake_sends : Packet → SessionState → List Packet
-handshake_sends (packets.Puback id) held = fill_sends 16 (on_puback id held.queue.in_flight) held.queue.waiting
-handshake_sends (packets.Pubrec id) held = pubrec_sends id (on_pubrec id held.queue.in_flight)
-handshake_sends (packets.Pubrel id) held = packets.Pubcomp id ∷ []
-handshake_sends (packets.Pubcomp id) held = fill_sends 16 (on_pubcomp id held.queue.in_flight) held.queue.waiting
-handshake_sends _ held = []
+abbrev pub handshake_sends : ℕ → Packet → SessionState → List Packet
+handshake_sends window (packets.Puback id) held = fill_sends window (on_puback id held.queue.in_flight) held.queue.waiting
+handshake_sends window (packets.Pubrec id) held = pubrec_sends id (on_pubrec id held.queue.in_flight)
+handshake_sends window (packets.Pubrel id) held = packets.Pubcomp id ∷ []
+handshake_sends window (packets.Pubcomp id) held = fill_sends window (on_pubcomp id held.queue.in_flight) held.queue.waiting
+handshake_sends window _ held = []
 
 -- the copy of a publication for who is granted it at this QoS (MQTT 3.3.1.3, 3.3.5)
 abbrev pub lowered : Publication → QoS → Publication
@@ -43,12 +43,14 @@ lowered p qos = record { retain = false; qos = lower_qos p.qos qos; topic = p.to
 
 -- all but the sessions is as it was
 pub record HasOthersOf (tables after : Tables) : Type 0 where
+  pub window : after.window ≡ tables.window
   pub owners : after.owners.entries ≡ tables.owners.entries
   pub index : content_of after.index ≡ content_of tables.index
   pub retained : after.retained ≡ tables.retained
 
 -- all but the map of connections is as it was
 pub record HasOthersThanOwners (tables after : Tables) : Type 0 where
+  pub window : after.window ≡ tables.window
   pub sessions : after.sessions.entries ≡ tables.sessions.entries
   pub index : content_of after.index ≡ content_of tables.index
   pub retained : after.retained ≡ tables.retained

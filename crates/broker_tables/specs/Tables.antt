@@ -27,7 +27,7 @@ owners_at entries x = lookup (is_at (by_connection x)) entries
 
 -- what a broker with these tables keeps of all its clients
 abbrev pub state_in : Tables → State
-state_in tables = record { window = 16; sessions = tables.sessions.entries; retained = tables.retained }
+state_in tables = record { window = tables.window; sessions = tables.sessions.entries; retained = tables.retained }
 
 -- the map of connections holds those of the sessions, and the index the subscriptions of the sessions
 pub record IsTied (tables : Tables) : Type 0 where
@@ -42,4 +42,4 @@ pub record IsInStep (tables : Tables) : Type 0 where
 
 -- the state behind a command, and its answers
 unfoldable pub stepped : Tables → Command → State × List Output
-stepped tables command = step usual_limits 16 (state_in tables) command
+stepped tables command = step usual_limits 64 (state_in tables) command

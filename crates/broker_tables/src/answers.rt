@@ -8,10 +8,9 @@ ghost use Rattle.broker_rows.specs.Owners.{owners_in};
 ghost use Rattle.broker_tables.specs.Inside.{is_handshake, handshake_sends};
 ghost use Rattle.broker_tables.specs.Tables.{IsInStep, IsTied, state_in, stepped};
 
-use crate::limits::WINDOW;
 use crate::sending::send_all;
 use crate::tables::Tables;
-use broker_model::{ConnectionId, Output};
+use broker_model::{ConnectionId, Output, Window};
 use machine::Halted;
 use packet::{ClientId, Packet};
 use session::Session;
@@ -37,7 +36,7 @@ impl Tables {
     {
         let row = self.sessions.get_mut(client).unwrap();
         let mut sent = Vec::new(self.alloc);
-        take_step(&mut row.state, packet, &mut sent)?;
+        take_step(&mut row.state, self.window, packet, &mut sent)?;
         send_all(connection, sent, out)?;
         Ok(())
     }
@@ -45,16 +44,21 @@ impl Tables {
 
 // Does a step of a handshake in the client's session. The client is connected: what waits may start
 // once an entry is finished (MQTT 4.6).
-fn take_step(session: &mut Session, packet: &Packet, sent: &mut Vec<Packet>) -> Result<(), Halted>
+fn take_step(
+    session: &mut Session,
+    window: Window,
+    packet: &Packet,
+    sent: &mut Vec<Packet>,
+) -> Result<(), Halted>
     requires { is_handshake packet.now ≡ true }
-    ensures state { OnOk result (session.new ≡ handled_state 16 packet.now session.old) }
+    ensures state { OnOk result (session.new ≡ handled_state window packet.now session.old) }
     ensures sends { OnOk result
-        (sent.new.items ≡ sent.old.items ++ handshake_sends packet.now session.old) }
+        (sent.new.items ≡ sent.old.items ++ handshake_sends window packet.now session.old) }
 {
     match packet {
         Packet::Puback(id) => {
             session.on_puback(*id);
-            session.fill(WINDOW, sent)?;
+            session.fill(window.size(), sent)?;
         }
         Packet::Pubrec(id) => session.on_pubrec(*id, sent)?,
         Packet::Pubrel(id) => {
@@ -63,7 +67,7 @@ fn take_step(session: &mut Session, packet: &Packet, sent: &mut Vec<Packet>) -> 
         }
         Packet::Pubcomp(id) => {
             session.on_pubcomp(*id);
-            session.fill(WINDOW, sent)?;
+            session.fill(window.size(), sent)?;
         }
         _ => {}
     }

@@ -18,10 +18,10 @@ ghost use Rattle.broker_tables.specs.Inside.{HasOthersOf, HasOthersThanOwners};
 ghost use Rattle.broker_tables.specs.Connecting.{goes_on_in, sent_to_resumed, TakesOver};
 
 use crate::client_row::ClientRow;
-use crate::limits::{MAX_SESSIONS, WINDOW};
+use crate::limits::MAX_SESSIONS;
 use crate::sending::send_all;
 use crate::tables::Tables;
-use broker_model::{ConnectionId, Output};
+use broker_model::{ConnectionId, Output, Window};
 use machine::Halted;
 use packet::{ClientId, Connack, Packet, RefusalCode};
 use std::collections::BTreeMap;
@@ -188,17 +188,17 @@ impl Tables {
         requires { IsSome (session_in client.now self.old.sessions.entries) }
         ensures sessions { OnOk result
             (self.new.sessions.entries
-            ≡ changed client.now (kept_resumed 16 (connection, false)) self.old.sessions.entries) }
+            ≡ changed client.now (kept_resumed self.old.window (connection, false)) self.old.sessions.entries) }
         ensures sends { OnOk result
             (out.new.items
             ≡ out.old.items
             ++ map (outputs.Send connection)
-            (sent_to_resumed (session_in client.now self.old.sessions.entries))) }
+            (sent_to_resumed self.old.window (session_in client.now self.old.sessions.entries))) }
         ensures others { HasOthersOf self.old self.new }
     {
         let mut sent = Vec::new(self.alloc);
         let row = self.sessions.get_mut(client).unwrap();
-        row.come_back(connection, &mut sent)?;
+        row.come_back(connection, self.window, &mut sent)?;
         send_all(connection, sent, out)?;
         Ok(())
     }
@@ -206,16 +206,21 @@ impl Tables {
 
 impl ClientRow {
     // A session that is not clean goes on, on this connection.
-    fn come_back(&mut self, connection: ConnectionId, sent: &mut Vec<Packet>) -> Result<(), Halted>
-        ensures state { OnOk result (self.new ≡ kept_resumed 16 (connection, false) self.old) }
+    fn come_back(
+        &mut self,
+        connection: ConnectionId,
+        window: Window,
+        sent: &mut Vec<Packet>,
+    ) -> Result<(), Halted>
+        ensures state { OnOk result (self.new ≡ kept_resumed window (connection, false) self.old) }
         ensures sends { OnOk result
             (sent.new.items
-            ≡ sent.old.items ++ sent_to_resumed (Some self.old)) }
+            ≡ sent.old.items ++ sent_to_resumed window (Some self.old)) }
     {
         self.clean = false;
         self.connection = Some(connection);
         self.state.resend(sent)?;
-        self.state.fill(WINDOW, sent)?;
+        self.state.fill(window.size(), sent)?;
         Ok(())
     }
 }

@@ -13,9 +13,8 @@ ghost use Rattle.broker_rows.specs.Published.{delivered_on};
 ghost use Rattle.broker_tables.specs.Inside.{lowered};
 
 use crate::client_row::ClientRow;
-use crate::limits::WINDOW;
 use crate::sending::send_all;
-use broker_model::Output;
+use broker_model::{Output, Window};
 use machine::Halted;
 use packet::{Delivery, Packet, Publish, QoS};
 use session::Session;
@@ -61,13 +60,14 @@ fn copy_at(publication: &Publication, qos: QoS) -> Result<Publication, AllocErro
 /// other what may start starts.
 pub(crate) fn take_copy(
     session: &mut Session,
+    window: Window,
     copy: Publication,
     sent: &mut Vec<Packet>,
 ) -> Result<(), Halted>
     ensures state { OnOk result
-        (session.new ≡ with_queue (copies_left 16 (copy ∷ []) session.old.queue) session.old) }
+        (session.new ≡ with_queue (copies_left window (copy ∷ []) session.old.queue) session.old) }
     ensures sends { OnOk result
-        (sent.new.items ≡ sent.old.items ++ copies_sent 16 (copy ∷ []) session.old.queue) }
+        (sent.new.items ≡ sent.old.items ++ copies_sent window (copy ∷ []) session.old.queue) }
 {
     if copy.qos == QoS::AtMostOnce {
         sent.push(unanswered(copy))?;
@@ -75,7 +75,7 @@ pub(crate) fn take_copy(
     }
     // There is room for it where the publication is taken.
     session.admit(copy)?;
-    session.fill(WINDOW, sent)?;
+    session.fill(window.size(), sent)?;
     Ok(())
 }
 
@@ -95,22 +95,23 @@ fn unanswered(copy: Publication) -> Packet
 /// connection finds it there later, at QoS 1 and 2.
 pub(crate) fn deliver(
     row: &mut ClientRow,
+    window: Window,
     publication: &Publication,
     qos: QoS,
     out: &mut Vec<Output>,
 ) -> Result<(), Halted>
-    ensures state { OnOk result (row.new ≡ delivered_on 16 publication.now qos row.old) }
+    ensures state { OnOk result (row.new ≡ delivered_on window publication.now qos row.old) }
     ensures outputs { OnOk result
         (out.new.items
         ≡ out.old.items
         ++ sent_on row.old.connection
-        (copies_sent 16 (lowered publication.now qos ∷ []) row.old.state.queue)) }
+        (copies_sent window (lowered publication.now qos ∷ []) row.old.state.queue)) }
 {
     let copy = copy_at(publication, qos)?;
     match row.connection {
         Some(connection) => {
             let mut sent = Vec::new(*out.allocator());
-            take_copy(&mut row.state, copy, &mut sent)?;
+            take_copy(&mut row.state, window, copy, &mut sent)?;
             send_all(connection, sent, out)
         }
         None if copy.qos == QoS::AtMostOnce => Ok(()),

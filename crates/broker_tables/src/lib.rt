@@ -18,5 +18,5 @@ mod tables;
 mod unsubscribing;
 
 pub use client_row::ClientRow;
-pub use limits::{MAX_SESSIONS, MAX_SUBSCRIPTIONS, WINDOW};
+pub use limits::{MAX_SESSIONS, MAX_SUBSCRIPTIONS};
 pub use tables::Tables;

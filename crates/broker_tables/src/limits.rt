@@ -1,9 +1,6 @@
 // How much this broker holds. The entries of a session and the retained topics have their limits in
 // `session` and `retained`.
 
-/// The most entries of a session that are under way at once (MQTT 4.6).
-pub const WINDOW: usize = 16;
-
 /// The most sessions.
 pub const MAX_SESSIONS: usize = 4096;
 

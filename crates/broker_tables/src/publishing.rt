@@ -18,7 +18,7 @@ ghost use Rattle.broker_rows.specs.Published.{is_full_at, all_delivered, answere
 use crate::client_row::ClientRow;
 use crate::delivering::{deliver, lower, publication_of};
 use crate::tables::Tables;
-use broker_model::{ConnectionId, Output};
+use broker_model::{ConnectionId, Output, Window};
 use machine::Halted;
 use packet::{ClientId, Delivery, Packet, Publish, QoS};
 use retained::{RetainedPublication, RetainedStore};
@@ -61,7 +61,7 @@ impl Tables {
         }
         acknowledge(connection, publish.delivery, out)?;
         self.note(client, publish.delivery)?;
-        deliver_all(&mut self.sessions, &publication, &granted, out)?;
+        deliver_all(&mut self.sessions, self.window, &publication, &granted, out)?;
         retain(&mut self.retained, publication)?;
         Ok(())
     }
@@ -181,19 +181,20 @@ fn is_one_topic_over(retained: &RetainedStore, publication: &Publication) -> boo
 // Each session that is granted the publication gets its copy, and each client what is sent of it.
 fn deliver_all(
     sessions: &mut BTreeMap<ClientId, ClientRow>,
+    window: Window,
     publication: &Publication,
     granted: &[(ClientId, QoS)],
     out: &mut Vec<Output>,
 ) -> Result<(), Halted>
     ensures state { OnOk result
         (sessions.new.entries
-        ≡ all_delivered 16 publication.now granted.now sessions.old.entries) }
+        ≡ all_delivered window publication.now granted.now sessions.old.entries) }
     ensures outputs { OnOk result
         (out.new.items
-        ≡ out.old.items ++ answered_in_turn 16 publication.now granted.now sessions.old.entries) }
+        ≡ out.old.items ++ answered_in_turn window publication.now granted.now sessions.old.entries) }
 {
     for row in granted {
-        deliver_to(sessions, publication, row, out)?;
+        deliver_to(sessions, window, publication, row, out)?;
     }
     Ok(())
 }
@@ -201,22 +202,23 @@ fn deliver_all(
 // A session that is granted the publication gets its copy, and its client what is sent of it.
 fn deliver_to(
     sessions: &mut BTreeMap<ClientId, ClientRow>,
+    window: Window,
     publication: &Publication,
     granted: &(ClientId, QoS),
     out: &mut Vec<Output>,
 ) -> Result<(), Halted>
     ensures state { OnOk result
         (sessions.new.entries
-        ≡ changed granted.now.0 (delivered_on 16 publication.now granted.now.1) sessions.old.entries) }
+        ≡ changed granted.now.0 (delivered_on window publication.now granted.now.1) sessions.old.entries) }
     ensures outputs { OnOk result
         (out.new.items
         ≡ out.old.items
-        ++ copy_answered 16 publication.now granted.now.1
+        ++ copy_answered window publication.now granted.now.1
         (session_in granted.now.0 sessions.old.entries)) }
 {
     let (client, qos) = granted;
     if let Some(row) = sessions.get_mut(client) {
-        deliver(row, publication, *qos, out)?;
+        deliver(row, window, publication, *qos, out)?;
     }
     Ok(())
 }

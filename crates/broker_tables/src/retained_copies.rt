@@ -7,6 +7,7 @@ ghost use Rattle.session_base.specs.Session.{with_queue};
 ghost use Rattle.broker_model.specs.Entries.{copies_for, queued, retained_copy};
 
 use crate::delivering::{lower, take_copy};
+use broker_model::Window;
 use machine::Halted;
 use packet::{Packet, QoS, Subscription};
 use retained::{RetainedPublication, RetainedStore};
@@ -60,16 +61,17 @@ pub(crate) fn queued(copies: &[Publication]) -> usize
 /// Copies come one by one to the session of a connected client.
 pub(crate) fn take_copies(
     session: &mut Session,
+    window: Window,
     copies: Vec<Publication>,
     sent: &mut Vec<Packet>,
 ) -> Result<(), Halted>
     ensures state { OnOk result
-        (session.new ≡ with_queue (copies_left 16 copies.items session.old.queue) session.old) }
+        (session.new ≡ with_queue (copies_left window copies.items session.old.queue) session.old) }
     ensures sends { OnOk result
-        (sent.new.items ≡ sent.old.items ++ copies_sent 16 copies.items session.old.queue) }
+        (sent.new.items ≡ sent.old.items ++ copies_sent window copies.items session.old.queue) }
 {
     for copy in copies {
-        take_copy(session, copy, sent)?;
+        take_copy(session, window, copy, sent)?;
     }
     Ok(())
 }

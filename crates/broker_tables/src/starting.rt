@@ -10,12 +10,13 @@ ghost use Rattle.broker_tables.specs.Tables.{IsInStep, IsTied, state_in, stepped
 
 use crate::client_row::ClientRow;
 use crate::tables::Tables;
+use broker_model::Window;
 use packet::ClientId;
 use std::collections::BTreeMap;
 use subs::{SubIndex, TreeIndex};
 
 impl Tables {
-    /// Does a Start: nobody is served any more, and the clean sessions are over.
+    /// Does a Start: nobody is served any more, the clean sessions are over, and the window is the wide one.
     pub(crate) fn start(&mut self, ballot: u64)
         requires { IsInStep self.old }
         ensures state { state_in self.new ≡ (stepped self.old (commands.Start ballot)).0 }
@@ -24,6 +25,7 @@ impl Tables {
         drop_clean(&mut self.index, &self.sessions);
         leave_off_all(&mut self.sessions);
         self.owners.clear();
+        self.window = Window::wide();
     }
 }
 

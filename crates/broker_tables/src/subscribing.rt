@@ -17,7 +17,7 @@ use crate::limits::MAX_SUBSCRIPTIONS;
 use crate::retained_copies::{copies_for, queued, take_copies};
 use crate::sending::send_all;
 use crate::tables::Tables;
-use broker_model::{ConnectionId, Output};
+use broker_model::{ConnectionId, Output, Window};
 use machine::Halted;
 use packet::{ClientId, Packet, PacketList, Suback, SubackCode, Subscribe, Subscription};
 use retained::RetainedStore;
@@ -49,7 +49,13 @@ impl Tables {
         let filters = subscribe.filters.as_slice();
         let row = self.sessions.get_mut(client).unwrap();
         let mut sent = Vec::new(self.alloc);
-        let which = grant_all(&mut row.state, &self.retained, filters, &mut sent)?;
+        let which = grant_all(
+            &mut row.state,
+            self.window,
+            &self.retained,
+            filters,
+            &mut sent,
+        )?;
         set_all(&mut self.index, client, filters, &which)?;
         let suback = Suback {
             id: subscribe.id,
@@ -64,21 +70,22 @@ impl Tables {
 // Takes the filters one by one: each is granted or not, and what is retained of it comes to the session.
 fn grant_all(
     session: &mut Session,
+    window: Window,
     retained: &RetainedStore,
     filters: &[Subscription],
     sent: &mut Vec<Packet>,
 ) -> Result<Vec<bool>, Halted>
     ensures which { IfOk result
-        (λ which. which.items ≡ granted_in_turn usual_limits 16 retained.now session.old filters.now) }
+        (λ which. which.items ≡ granted_in_turn usual_limits window retained.now session.old filters.now) }
     ensures state { OnOk result
-        (session.new ≡ subscribed_in_turn usual_limits 16 retained.now session.old filters.now) }
+        (session.new ≡ subscribed_in_turn usual_limits window retained.now session.old filters.now) }
     ensures sends { OnOk result
         (sent.new.items
-        ≡ sent.old.items ++ sent_in_turn usual_limits 16 retained.now session.old filters.now) }
+        ≡ sent.old.items ++ sent_in_turn usual_limits window retained.now session.old filters.now) }
 {
     let mut which = Vec::new(*sent.allocator());
     for subscription in filters {
-        which.push(grant(session, retained, subscription, sent)?)?;
+        which.push(grant(session, window, retained, subscription, sent)?)?;
     }
     Ok(which)
 }
@@ -87,6 +94,7 @@ fn grant_all(
 // then a subscription, and what is retained of it comes to the session.
 fn grant(
     session: &mut Session,
+    window: Window,
     retained: &RetainedStore,
     subscription: &Subscription,
     sent: &mut Vec<Packet>,
@@ -94,17 +102,17 @@ fn grant(
     ensures granted { IfOk result
         (λ granted. granted ≡ is_granted_in usual_limits retained.now session.old subscription.now) }
     ensures state { OnOk result
-        (session.new ≡ subscribed_by usual_limits 16 retained.now session.old subscription.now) }
+        (session.new ≡ subscribed_by usual_limits window retained.now session.old subscription.now) }
     ensures sends { OnOk result
         (sent.new.items
-        ≡ sent.old.items ++ sent_by usual_limits 16 retained.now session.old subscription.now) }
+        ≡ sent.old.items ++ sent_by usual_limits window retained.now session.old subscription.now) }
 {
     let copies = copies_for(*sent.allocator(), retained, subscription)?;
     if is_one_too_many(session, subscription) || session.room() < queued(&copies) {
         return Ok(false);
     }
     session.subscribe(subscription.filter.clone()?, subscription.qos)?;
-    take_copies(session, copies, sent)?;
+    take_copies(session, window, copies, sent)?;
     Ok(true)
 }
 

@@ -5,7 +5,7 @@ ghost use Rattle.broker_base.specs.State.{empty_state};
 ghost use Rattle.broker_tables.specs.Tables.{IsTied, state_in};
 
 use crate::client_row::ClientRow;
-use broker_model::ConnectionId;
+use broker_model::{ConnectionId, Window};
 use packet::ClientId;
 use retained::RetainedStore;
 use std::alloc::Global;
@@ -16,6 +16,8 @@ use subs::{SubIndex, TreeIndex};
 /// subscriptions say of them nothing new: they find a row without a walk over all.
 #[derive(Drop)]
 pub struct Tables {
+    /// How many entries of a session are under way at once.
+    pub window: Window,
     /// By client.
     pub sessions: BTreeMap<ClientId, ClientRow>,
     /// The client of each current connection.
@@ -31,10 +33,11 @@ pub struct Tables {
 impl Tables {
     /// Tables with nothing in them.
     pub fn new(alloc: Global) -> Tables
-        ensures state { state_in result ≡ empty_state 16 }
+        ensures state { state_in result ≡ empty_state 64 }
         ensures tied { IsTied result }
     {
         Tables {
+            window: Window::wide(),
             sessions: BTreeMap::new(alloc),
             owners: BTreeMap::new(alloc),
             index: TreeIndex::new(alloc),

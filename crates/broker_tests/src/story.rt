@@ -1,6 +1,7 @@
 // Stories: what a broker goes through. Each is made in one place, and lent from there.
 
 use crate::row::{Row, other_answer};
+use crate::tests::forms::Step;
 use crate::tests::queues::{Part, other_part};
 use crate::tests::{forms, random, windows};
 use broker::BrokerMachine;
@@ -22,11 +23,13 @@ pub(crate) enum Story<'a> {
     Rows(&'a [Row<'a>]),
     /// It is frozen to these bytes.
     HasBytes(&'a [u8]),
-    /// It has the bytes of each step.
-    HasForms,
+    /// It is frozen to these bytes, and to those of each step after it.
+    HasForms(&'a [u8], &'a [Step<'a>]),
     /// It answers these rows, as many times as they come.
     Parts(&'a [Part<'a>]),
-    /// A PUBACK frees its identifier.
+    /// Seventeen entries are sent at once.
+    SendsSeventeen,
+    /// With a window of 16 a PUBACK frees its identifier.
     FreesItsIdentifier,
     /// It answers a long list of commands as one that is frozen and thawed.
     AnswersAlike,
@@ -53,8 +56,9 @@ fn fault_of(alloc: Global, broker: &mut BrokerMachine, story: Story<'_>) -> Opti
     match story {
         Story::Rows(rows) => other_answer(alloc, broker, rows),
         Story::HasBytes(bytes) => fault_unless(forms::has_bytes(alloc, broker, bytes)),
-        Story::HasForms => forms::other_form(alloc, broker),
+        Story::HasForms(first, steps) => forms::other_form(alloc, broker, first, steps),
         Story::Parts(parts) => other_part(alloc, broker, parts),
+        Story::SendsSeventeen => fault_unless(windows::sends_seventeen(alloc, broker)),
         Story::FreesItsIdentifier => fault_unless(windows::frees_its_identifier(alloc, broker)),
         Story::AnswersAlike => random::first_difference(alloc, broker),
     }

@@ -61,7 +61,7 @@ place_gives : (agreed : List Command) (place : ℕ) (command : Command) → slic
     → answered (between agreed place (suc place)) ≡ answers_of usual_limits (past_of usual_limits (take place agreed)) command
 place_gives agreed place command e =
     let state = replay broker_rules (take place agreed) in
-    let os = (step usual_limits 16 state command).1 in
+    let os = (step usual_limits 64 state command).1 in
     ap (λ (us : List Command). answered (outputs (outputs_from broker_rules state place us))) (one_place agreed place command e)
     ∙ ap (λ (es : List (Effect Command Output)). answered (outputs es)) (append-nil (map (Out place) os))
     ∙ outs_of place os

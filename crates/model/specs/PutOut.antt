@@ -20,14 +20,14 @@ use Rattle.story.specs.Sides.{Connection}
 use Rattle.model.specs.World.{End, ClientEnds, World, with_client}
 use Rattle.model.specs.Goes.{HasPipe, Reached}
 
--- the broker's machine, with a window of 16
+-- the broker's machine, with a window of 64
 abbrev pub broker_rules : Rules State Command Output
 broker_rules =
     record {
-      opening = empty_state 16;
+      opening = empty_state 64;
       start_of = commands.Start;
-      after = λ state command. (step usual_limits 16 state command).0;
-      gives = λ state command. (step usual_limits 16 state command).1;
+      after = λ state command. (step usual_limits 64 state command).0;
+      gives = λ state command. (step usual_limits 64 state command).1;
     }
 
 -- the outputs that a node gave, without their places

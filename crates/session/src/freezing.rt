@@ -1,4 +1,4 @@
-// A session as bytes, form 1.
+// A session as bytes.
 
 ghost use Rattle.std.specs.Prelude.{◌≡◌, ◌≤◌, ◌++◌, length, OnOk};
 ghost use Rattle.std.specs.List.{flat_map, AllByRecursion};
@@ -18,7 +18,7 @@ use session_form::{write_flight, write_held, write_number, write_publication};
 use std::alloc::AllocError;
 
 impl Session {
-    /// Appends the session's bytes, form 1. A session that may be written has a form: it is within
+    /// Appends the session's bytes. A session that may be written has a form: it is within
     /// its limits, and each part in its range. Without memory a part of the bytes may stand there.
     pub fn write(&self, bytes: &mut Vec<u8>) -> Result<(), AllocError>
         requires { HasForm self.now }

@@ -1,4 +1,4 @@
-// The session that bytes stand for, form 1.
+// The session that bytes stand for.
 
 ghost use Rattle.std.specs.Prelude.{◌≡◌, ◌≤◌, [], length, IfOk};
 ghost use Rattle.std.specs.List.Sorted.{IsStrictlySortedBy};
@@ -112,16 +112,17 @@ fn read_ids(alloc: Global, count: u16, reader: &mut Reader) -> Result<Received, 
 }
 
 impl Session {
-    /// The session at the front of the bytes that are left, form 1. All that is not of the form stops
-    /// the reading: a filter or an identifier that stands twice, a part out of its range, a 65th
-    /// subscription, a 4,097th entry. `Memory` for want of memory.
+    /// The session at the front of the bytes that are left. All that is not of the form stops the
+    /// reading: a filter or an identifier that stands twice, a part out of its range, a 65th
+    /// subscription, more in flight than the window, a 4,097th entry. `Memory` for want of memory.
     #[tactic(auto, unfolding(session_form::specs::Form::state_at))]
-    pub fn read(alloc: Global, reader: &mut Reader) -> Result<Session, Stop>
-        ensures { Reads (λ x. x) result reader.new (state_at reader.old) }
+    pub fn read(alloc: Global, window: usize, reader: &mut Reader) -> Result<Session, Stop>
+        requires { window ≤ 4096 }
+        ensures { Reads (λ x. x) result reader.new (state_at window reader.old) }
     {
         let subscriptions = Subscriptions::read(alloc, reader)?;
         let received = Received::read(alloc, reader)?;
-        let in_flight = read_in_flight(alloc, reader)?;
+        let in_flight = read_in_flight(alloc, window, reader)?;
         let waiting = read_all_waiting(alloc, MAX_ENTRIES - in_flight.len(), reader)?;
         Ok(Session {
             subscriptions,
@@ -133,23 +134,28 @@ impl Session {
 
 // As many entries in flight as their count says, the released ones first.
 #[tactic(auto, using(session_form::proofs::FollowRead::read_first, session_form::proofs::FollowRead::read_few))]
-fn read_in_flight(alloc: Global, reader: &mut Reader) -> Result<IndexMap<PacketId, Awaits>, Stop>
-    ensures exact { Reads (λ x. x.entries) result reader.new (counted_at number_at may_follow flight_at 4096 reader.old) }
+fn read_in_flight(
+    alloc: Global,
+    window: usize,
+    reader: &mut Reader,
+) -> Result<IndexMap<PacketId, Awaits>, Stop>
+    ensures exact { Reads (λ x. x.entries) result reader.new (counted_at number_at may_follow flight_at window reader.old) }
     ensures first { IfOk result (λ x. IsReleasedFirst x.entries) }
-    ensures few { IfOk result (λ x. length x.entries ≤ 4096) }
+    ensures few { IfOk result (λ x. length x.entries ≤ window) }
 {
-    read_counted_flights(alloc, reader)
+    read_counted_flights(alloc, window, reader)
 }
 
 #[tactic(auto, unfolding(session_form::specs::Counted::counted_at))]
 fn read_counted_flights(
     alloc: Global,
+    window: usize,
     reader: &mut Reader,
 ) -> Result<IndexMap<PacketId, Awaits>, Stop>
-    ensures { Reads (λ x. x.entries) result reader.new (counted_at number_at may_follow flight_at 4096 reader.old) }
+    ensures { Reads (λ x. x.entries) result reader.new (counted_at number_at may_follow flight_at window reader.old) }
 {
     let count = reader.number()?;
-    keep(usize::from(count) <= MAX_ENTRIES)?;
+    keep(usize::from(count) <= window)?;
     read_flights(alloc, count, reader)
 }
 

@@ -57,19 +57,19 @@ counted_few {A} count follows item most bytes =
     weaker (items_behind follows item many.0 [] many.1) (λ x. Followed follows many.0 [] x.0) Q (items_follow follows item many.0 [] many.1)
     (λ x k. let n = k.many_are in let all = ap length k.joined in let bound : many.0 ≤ most = leb-true _ _ test in omega (arith, n, all, bound))))
 
-abbrev flights_at : List ℕ → Result (List Flight × List ℕ) Stop
-flights_at bytes = counted_at number_at may_follow flight_at 4096 bytes
+abbrev flights_at : ℕ → List ℕ → Result (List Flight × List ℕ) Stop
+flights_at window bytes = counted_at number_at may_follow flight_at window bytes
 
 -- so of a call that read them
-pub read_first : {X : Type 0} (view : X → List Flight) (result : Result X Stop) (rest bytes : List ℕ) → Reads view result rest (flights_at bytes) →
+pub read_first : {X : Type 0} (view : X → List Flight) (result : Result X Stop) (window : ℕ) (rest bytes : List ℕ) → Reads view result rest (flights_at window bytes) →
     IfOk result (λ x. IsReleasedFirst (view x))
-read_first view (Ok x) rest bytes e =
+read_first view (Ok x) window rest bytes e =
     released_come_first (view x) (subst (λ (r : Result (List Flight × List ℕ) Stop). IfOk r (λ y. AllFollow may_follow [] y.0)) e
-    (counted_follow number_at may_follow flight_at 4096 bytes))
-read_first view (Err stop) rest bytes e = tt
+    (counted_follow number_at may_follow flight_at window bytes))
+read_first view (Err stop) window rest bytes e = tt
 
-pub read_few : {X : Type 0} (view : X → List Flight) (result : Result X Stop) (rest bytes : List ℕ) → Reads view result rest (flights_at bytes) →
-    IfOk result (λ x. length (view x) ≤ 4096)
-read_few view (Ok x) rest bytes e =
-    subst (λ (r : Result (List Flight × List ℕ) Stop). IfOk r (λ y. length y.0 ≤ 4096)) e (counted_few number_at may_follow flight_at 4096 bytes)
-read_few view (Err stop) rest bytes e = tt
+pub read_few : {X : Type 0} (view : X → List Flight) (result : Result X Stop) (window : ℕ) (rest bytes : List ℕ) → Reads view result rest (flights_at window bytes) →
+    IfOk result (λ x. length (view x) ≤ window)
+read_few view (Ok x) window rest bytes e =
+    subst (λ (r : Result (List Flight × List ℕ) Stop). IfOk r (λ y. length y.0 ≤ window)) e (counted_few number_at may_follow flight_at window bytes)
+read_few view (Err stop) window rest bytes e = tt

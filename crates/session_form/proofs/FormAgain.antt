@@ -40,13 +40,13 @@ regrouped a b c d rest =
 
 pub frozen_is_read : FrozenIsRead
 unfolding state_at
-frozen_is_read s rest h =
+frozen_is_read window small s rest h fits =
     let few = h.queue.few in
     let a = counted one_byte held_bytes s.subscriptions in
     let b = counted number number s.received in
     let c = counted number flight_bytes s.queue.in_flight in
     let d = counted number publication_bytes s.queue.waiting in
-    ap (λ (z : List ℕ). state_at z) (regrouped a b c d rest)
+    ap (λ (z : List ℕ). state_at window z) (regrouped a b c d rest)
     ∙ rw (
       counted_again one_byte byte_at is_new_filter held_bytes held_at 64 s.subscriptions (b ++ (c ++ (d ++ rest)))
           (λ n small rest. refl) h.few_filters (each IsHeld (IsReadAgain held_bytes held_at) held_again s.subscriptions h.filters)
@@ -54,8 +54,8 @@ frozen_is_read s rest h =
       counted_again number number_at is_above number id_at 65535 s.received (c ++ (d ++ rest))
           (λ n small rest. number_again n rest (omega (arith, small))) (few_ids s.received h.rising h.received)
           (each IsId (IsReadAgain number id_at) (λ id i rest. id_again id rest i.0 i.1) s.received h.received) (received_follow s.received h.rising),
-      counted_again number number_at may_follow flight_bytes flight_at 4096 s.queue.in_flight (d ++ rest)
-          (λ n small rest. number_again n rest (omega (arith, small))) (omega (arith, few))
+      counted_again number number_at may_follow flight_bytes flight_at window s.queue.in_flight (d ++ rest)
+          (λ n within rest. number_again n rest (omega (arith, within, small))) fits
           (each IsInFlight (IsReadAgain flight_bytes flight_at) flight_again s.queue.in_flight h.queue.in_flight)
           (flights_follow s.queue.in_flight h.distinct h.released_first),
       counted_again number number_at anything publication_bytes waiting_at (4096 - length s.queue.in_flight) s.queue.waiting rest

@@ -9,3 +9,4 @@ pub mod FormFound
 pub mod ReadingLoops
 pub mod FollowRead
 pub mod Writable
+pub mod Spelled

@@ -1,5 +1,5 @@
--- The session that bytes stand for, form 1.
-use Rattle.std.specs.Prelude.{ℕ, ◌+◌, ◌-◌, Bool, not, ◌==◌, nat_lt, nat_le, if◌then◌else◌, List, ◌++◌, length, Result, Ok}
+-- The session that bytes stand for. It is the same in both forms, but for the window: how many entries are in flight at most.
+use Rattle.std.specs.Prelude.{ℕ, ◌+◌, ◌-◌, Bool, not, ◌==◌, nat_lt, nat_le, if◌then◌else◌, List, length, Result, Ok}
 use Rattle.std.specs.Int.{w32, from_be_bytes}
 use Rattle.packet_base.specs.declared.stop.Stop.{Stop}
 use Rattle.packet_base.specs.Reading.{◌>>=◌, ◌>>◌, byte_at, front_at, number_at, id_at, topic_at, filter_at}
@@ -89,12 +89,12 @@ flight_at bytes = do
 
 -- ---- a session
 
--- at most 64 subscriptions, and 4,096 entries in flight and waiting
-unfoldable pub state_at : List ℕ → Result (SessionState × List ℕ) Stop
-state_at bytes = do
+-- at most 64 subscriptions, no more entries in flight than this window, and 4,096 entries in flight and waiting
+unfoldable pub state_at : ℕ → List ℕ → Result (SessionState × List ℕ) Stop
+state_at window bytes = do
   subscriptions ← counted_at byte_at is_new_filter held_at 64 bytes
   received ← counted_at number_at is_above id_at 65535 subscriptions.1
-  in_flight ← counted_at number_at may_follow flight_at 4096 received.1
+  in_flight ← counted_at number_at may_follow flight_at window received.1
   waiting ← counted_at number_at anything waiting_at (4096 - length in_flight.0) in_flight.1
   Ok (
     record {

@@ -1,4 +1,4 @@
--- What a session is frozen to is read as that session.
+-- What a session is frozen to is read as that session, and what is read is frozen as it stood.
 use Rattle.std.specs.Prelude.{◌≡◌, ℕ, ◌≤◌, ◌<◌, List, ◌++◌, length, get_or, Ok, IfOk}
 use Rattle.std.specs.List.{AllByRecursion}
 use Rattle.std.specs.List.Sorted.{IsStrictlySortedBy}
@@ -24,9 +24,15 @@ pub record HasForm (s : SessionState) : Type 0 where
   pub released_first : IsReleasedFirst s.queue.in_flight
   pub queue : IsQueue 4096 s.queue
 
--- whatever bytes follow
+-- no more of its entries are in flight than the window allows
+abbrev pub FitsIn : ℕ → SessionState → Type 0
+FitsIn window s = length s.queue.in_flight ≤ window
+
+-- whatever bytes follow, and whatever the window is, where no more is in flight
 abbrev pub FrozenIsRead : Type 0
-FrozenIsRead = (s : SessionState) (rest : List ℕ) → HasForm s → state_at (state_bytes s ++ rest) ≡ Ok (s, rest)
+FrozenIsRead =
+    (window : ℕ) → window ≤ 4096 → (s : SessionState) (rest : List ℕ) → HasForm s → FitsIn window s →
+    state_at window (state_bytes s ++ rest) ≡ Ok (s, rest)
 
 -- each number is a byte
 abbrev pub AreBytes : List ℕ → Type 0
@@ -34,4 +40,11 @@ AreBytes bytes = (i : ℕ) → get_or bytes i 0 < 256
 
 -- a session that was read has a form
 abbrev pub ReadHasForm : Type 0
-ReadHasForm = (bytes : List ℕ) → AreBytes bytes → IfOk (state_at bytes) (λ x. HasForm x.0 × AreBytes x.1)
+ReadHasForm =
+    (window : ℕ) → window ≤ 4096 → (bytes : List ℕ) → AreBytes bytes →
+    IfOk (state_at window bytes) (λ x. HasForm x.0 × FitsIn window x.0 × AreBytes x.1)
+
+-- what was read is written as it stood, in front of the bytes that are left
+abbrev pub ReadIsFrozen : Type 0
+ReadIsFrozen =
+    (window : ℕ) → (bytes : List ℕ) → AreBytes bytes → IfOk (state_at window bytes) (λ x. bytes ≡ state_bytes x.0 ++ x.1)

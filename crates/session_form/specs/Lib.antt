@@ -4,3 +4,4 @@ pub mod Writing
 pub mod Follows
 pub mod Form
 pub mod FormLaws
+pub mod FormRows

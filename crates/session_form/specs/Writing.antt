@@ -1,4 +1,4 @@
--- The bytes to which a session is frozen, form 1. Numbers are big-endian, a text has its length in two bytes before it.
+-- The bytes to which a session is frozen. Numbers are big-endian, a text has its length in two bytes before it.
 use Rattle.std.specs.Prelude.{ℕ, ◌<◌, ◌^◌, List, [], ◌∷◌, ◌++◌, length}
 use Rattle.std.specs.Int.{w32, to_be_bytes}
 use Rattle.packet_base.specs.Spelling.{number, text, bit}

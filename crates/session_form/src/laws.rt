@@ -1,14 +1,27 @@
 // Laws of the form. The calls do nothing; their contracts are the laws.
 
-ghost use Rattle.session_form.specs.FormLaws.{FrozenIsRead, ReadHasForm};
+ghost use Rattle.session_form.specs.FormLaws.{FrozenIsRead, ReadHasForm, ReadIsFrozen};
+ghost use Rattle.session_form.specs.FormRows.{FullSessionIsFrozen};
 
-/// What a session is frozen to is read as that session, whatever bytes follow.
+/// What a session is frozen to is read as that session, whatever bytes follow, where no more of it is
+/// in flight than the window allows.
 pub fn frozen_is_read()
     ensures { FrozenIsRead }
 {}
 
-/// A session that was read has a form: no filter and no identifier stands twice, and each part is in
-/// its range.
+/// A session that was read has a form: no filter and no identifier stands twice, no more is in flight
+/// than the window allows, and each part is in its range.
 pub fn read_has_form()
     ensures { ReadHasForm }
+{}
+
+/// Shows that a session that was read is frozen to the bytes from which it was read: a session has
+/// one form.
+pub fn read_is_frozen()
+    ensures { ReadIsFrozen }
+{}
+
+/// Shows the bytes of a session with something in every part.
+pub fn full_session_is_frozen()
+    ensures { FullSessionIsFrozen }
 {}

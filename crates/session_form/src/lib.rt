@@ -1,11 +1,11 @@
-//! Form 1 of a session: the bytes to which it is frozen, and the session that bytes stand for.
+//! The form of a session: the bytes to which it is frozen, and the session that bytes stand for.
 #![tactic(auto)]
 
 mod laws;
 mod reading;
 mod writing;
 
-pub use laws::{frozen_is_read, read_has_form};
+pub use laws::{frozen_is_read, full_session_is_frozen, read_has_form, read_is_frozen};
 pub use reading::{
     body_length, keep, read_flag, read_flight, read_held, read_long_number, read_publication,
     read_qos, read_waiting,

@@ -41,9 +41,12 @@ fn laws_of_forms() {
     broker_form::lists_are_in_range();
     broker_form::frozen_is_thawed();
     broker_form::thawed_is_in_range();
+    broker_form::thawed_is_frozen();
     broker_form::rows_are_frozen();
     session_form::frozen_is_read();
     session_form::read_has_form();
+    session_form::read_is_frozen();
+    session_form::full_session_is_frozen();
 }
 
 #[test]

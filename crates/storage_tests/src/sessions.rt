@@ -137,7 +137,7 @@ fn the_refusal_has_its_number(rt: HostRuntime) -> Result<(), Fail> {
 
 fn thawed(alloc: Global, bytes: &[u8]) -> Option<Session> {
     let mut reader = Reader::new(bytes);
-    Session::read(alloc, &mut reader).ok()
+    Session::read(alloc, 64, &mut reader).ok()
 }
 
 // Whether the session is that of the bytes.

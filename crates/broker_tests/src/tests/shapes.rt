@@ -1,4 +1,4 @@
-// Bytes that are not of form 1 are refused.
+// Bytes that are of neither form are refused.
 
 use super::forms::ONE_ENTRY;
 use broker::BrokerMachine;
@@ -6,26 +6,27 @@ use machine::{Machine, ThawFault};
 use std::alloc::Global;
 use std::test::*;
 
-// A byte that is changed: the form, CleanSession, the mark of a connection, its ballot and number, a
-// filter, its QoS, identifiers, the state of an entry, RETAIN, a QoS that does not fit the state, a
-// topic with a wildcard, a retained payload without bytes.
-const CHANGES: [(usize, u8); 16] = [
-    (0, 2),
-    (6, 2),
+// A byte that is changed: the form, the window, CleanSession, the mark of a connection, its ballot and
+// number, a filter, its QoS, identifiers, the state of an entry, RETAIN, a QoS that does not fit the
+// state, a topic with a wildcard, a retained payload without bytes.
+const CHANGES: [(usize, u8); 17] = [
+    (0, 3),
+    (1, 0x20),
     (7, 2),
-    (15, 0),
-    (23, 0),
-    (28, 0x2B),
-    (30, 3),
-    (34, 0),
-    (38, 0),
-    (39, 3),
+    (8, 2),
+    (16, 0),
+    (24, 0),
+    (29, 0x2B),
+    (31, 3),
+    (35, 0),
     (39, 0),
-    (40, 2),
-    (41, 1),
-    (45, 0x23),
-    (56, 3),
-    (65, 0),
+    (40, 3),
+    (40, 0),
+    (41, 2),
+    (42, 1),
+    (46, 0x23),
+    (57, 3),
+    (66, 0),
 ];
 
 /// A clean session without a connection.
@@ -80,6 +81,8 @@ const OTHER_FORMS: &[&[u8]] = &[
     OUT_OF_ORDER,
     ONE_CONNECTION,
     &[1, 0, 0, 0, 0, 0],
+    &[2, 0x40, 0, 0, 0, 0, 0],
+    &[2, 0x20, 0, 0, 0, 0],
 ];
 
 /// The first of these bytes, by its place in the list, that are not refused.
@@ -102,4 +105,38 @@ fn other_bytes_are_refused(rt: HostRuntime) {
     assert_eq!(rt; first_change(rt.alloc(), &CHANGES), None);
     assert_eq!(rt; first_form(rt.alloc(), OTHER_FORMS), None);
     assert_eq!(rt; first_front(rt.alloc(), ONE_ENTRY), None);
+}
+
+/// The front of a form, how many entries of a session may be in flight, and one more.
+const WINDOWS: [(&[u8], u8, u8); 3] = [(&[1], 16, 17), (&[2, 0x10], 16, 17), (&[2, 0x40], 64, 65)];
+
+/// Appends client `a`, away, with so many released entries in flight, and tells whether memory was found.
+fn are_released(bytes: &mut Vec<u8>, count: u8) -> bool {
+    let front = [0, 1, 0, 1, 0x61, 0, 0, 0, 0, 0, 0, count];
+    let mut is_whole = bytes.extend_from_slice(&front).is_ok();
+    for id in 1..=count {
+        is_whole = bytes.extend_from_slice(&[0, id, 2]).is_ok() && is_whole;
+    }
+    bytes.extend_from_slice(&[0, 0, 0, 0]).is_ok() && is_whole
+}
+
+/// Whether a broker of this form with so many entries of a session in flight is read, if there is memory.
+fn is_read(alloc: Global, front: &[u8], count: u8) -> Option<bool> {
+    let mut bytes = Vec::new(alloc);
+    if bytes.extend_from_slice(front).is_err() || !are_released(&mut bytes, count) {
+        return None;
+    }
+    match BrokerMachine::thaw(alloc, bytes.as_slice()) {
+        Ok(_) => Some(true),
+        Err(ThawFault::Shape) => Some(false),
+        Err(ThawFault::Memory) => None,
+    }
+}
+
+#[test]
+fn no_more_is_in_flight_than_the_window(rt: HostRuntime) {
+    for (front, most, more) in WINDOWS {
+        assert_eq!(rt; is_read(rt.alloc(), front, most), Some(true));
+        assert_eq!(rt; is_read(rt.alloc(), front, more), Some(false));
+    }
 }

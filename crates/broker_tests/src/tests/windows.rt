@@ -1,12 +1,23 @@
-// The window of sixteen entries (MQTT 4.4, 4.6).
+// How many entries of a session are in flight at once: 64, and 16 in a broker that was read from form 1
+// (MQTT 4.4, 4.6).
 
+use super::forms::FRESH_BEFORE;
 use super::handshakes::BEGINS;
-use super::queues::GOES_ON;
-use crate::row::{CLOSED, Event, Row, is_answered, other_answer};
+use super::queues::{self, COMES_BACK, FINISHES, GOES_ON, Part, WAITS};
+use crate::row::{CLOSED, Event, NOTHING, Row, is_answered, other_answer};
 use crate::story::{Start, Story, first_fault};
 use broker::BrokerMachine;
 use std::alloc::Global;
 use std::test::*;
+
+/// 70 publications of QoS 1 wait for a subscriber that is away. It comes back and is sent 64 of them; it
+/// answers the first, and is sent the next one with the identifier 1.
+const SEVENTY: &[Part<'static>] = &[
+    (1, queues::BEFORE),
+    (70, WAITS),
+    (1, COMES_BACK),
+    (1, FINISHES),
+];
 
 /// The publisher `a` comes, and `b`, which subscribes to `t/#` at QoS 1.
 const BEFORE: &[Row<'static>] = &[
@@ -18,9 +29,37 @@ const BEFORE: &[Row<'static>] = &[
     ),
 ];
 
+/// `b` answers one of seventeen entries, is sent nothing for it, and is sent the others when it comes back.
+const OF_SEVENTEEN: &[Row<'static>] = &[
+    (Event::Bytes(2, &[0x40, 2, 0, 5]), NOTHING),
+    (
+        Event::Connect(3, "b", false),
+        &[
+            (2, CLOSED),
+            (3, GOES_ON),
+            (3, &[0x3A, 8, 0, 3, 0x74, 0x2F, 0x31, 0, 1, 0x78]),
+            (3, &[0x3A, 8, 0, 3, 0x74, 0x2F, 0x31, 0, 2, 0x78]),
+            (3, &[0x3A, 8, 0, 3, 0x74, 0x2F, 0x31, 0, 3, 0x78]),
+            (3, &[0x3A, 8, 0, 3, 0x74, 0x2F, 0x31, 0, 4, 0x78]),
+            (3, &[0x3A, 8, 0, 3, 0x74, 0x2F, 0x31, 0, 6, 0x78]),
+            (3, &[0x3A, 8, 0, 3, 0x74, 0x2F, 0x31, 0, 7, 0x78]),
+            (3, &[0x3A, 8, 0, 3, 0x74, 0x2F, 0x31, 0, 8, 0x78]),
+            (3, &[0x3A, 8, 0, 3, 0x74, 0x2F, 0x31, 0, 9, 0x78]),
+            (3, &[0x3A, 8, 0, 3, 0x74, 0x2F, 0x31, 0, 10, 0x78]),
+            (3, &[0x3A, 8, 0, 3, 0x74, 0x2F, 0x31, 0, 11, 0x78]),
+            (3, &[0x3A, 8, 0, 3, 0x74, 0x2F, 0x31, 0, 12, 0x78]),
+            (3, &[0x3A, 8, 0, 3, 0x74, 0x2F, 0x31, 0, 13, 0x78]),
+            (3, &[0x3A, 8, 0, 3, 0x74, 0x2F, 0x31, 0, 14, 0x78]),
+            (3, &[0x3A, 8, 0, 3, 0x74, 0x2F, 0x31, 0, 15, 0x78]),
+            (3, &[0x3A, 8, 0, 3, 0x74, 0x2F, 0x31, 0, 16, 0x78]),
+            (3, &[0x3A, 8, 0, 3, 0x74, 0x2F, 0x31, 0, 17, 0x78]),
+        ],
+    ),
+];
+
 /// `b` answers one of sixteen entries and is sent the seventeenth with its identifier, which comes last
 /// when `b` comes back.
-const AFTER: &[Row<'static>] = &[
+const OF_SIXTEEN: &[Row<'static>] = &[
     (
         Event::Bytes(2, &[0x40, 2, 0, 5]),
         &[(2, &[0x32, 8, 0, 3, 0x74, 0x2F, 0x31, 0, 5, 0x78])],
@@ -62,28 +101,56 @@ fn is_routed(alloc: Global, broker: &mut BrokerMachine, id: u8, sent: bool) -> b
     }
 }
 
-// Sixteen of seventeen publications are sent.
-fn are_routed(alloc: Global, broker: &mut BrokerMachine) -> bool {
+// Of seventeen publications the first so many are sent at once.
+fn are_routed(alloc: Global, broker: &mut BrokerMachine, sent: u8) -> bool {
     for id in 1..=17 {
-        if !is_routed(alloc, broker, id, id <= 16) {
+        if !is_routed(alloc, broker, id, id <= sent) {
             return false;
         }
     }
     true
 }
 
-pub(crate) fn frees_its_identifier(alloc: Global, broker: &mut BrokerMachine) -> bool {
+pub(crate) fn sends_seventeen(alloc: Global, broker: &mut BrokerMachine) -> bool {
     other_answer(alloc, broker, BEFORE).is_none()
-        && are_routed(alloc, broker)
-        && other_answer(alloc, broker, AFTER).is_none()
+        && are_routed(alloc, broker, 17)
+        && other_answer(alloc, broker, OF_SEVENTEEN).is_none()
 }
 
-// Sixteen entries are under way at once. A PUBACK frees its identifier for the entry that waits, and
-// the client that comes back is sent them in the order in which they were sent first, with DUP 1.
+pub(crate) fn frees_its_identifier(alloc: Global, broker: &mut BrokerMachine) -> bool {
+    other_answer(alloc, broker, BEFORE).is_none()
+        && are_routed(alloc, broker, 16)
+        && other_answer(alloc, broker, OF_SIXTEEN).is_none()
+}
+
+#[test]
+fn window_of_64(rt: HostRuntime) {
+    assert_eq!(rt;
+        first_fault(rt.alloc(), Start::Fresh, Story::Parts(SEVENTY)),
+        None
+    );
+}
+
+// Seventeen entries are in flight at once, and a PUBACK starts nothing.
+#[test]
+fn seventeen_are_in_flight(rt: HostRuntime) {
+    assert_eq!(rt;
+        first_fault(rt.alloc(), Start::Fresh, Story::SendsSeventeen),
+        None
+    );
+}
+
+// Sixteen entries are in flight at once in a broker that was read from form 1. A PUBACK frees its
+// identifier for the entry that waits, and the client that comes back is sent them in the order in which
+// they were sent first, with DUP 1.
 #[test]
 fn puback_frees_its_identifier(rt: HostRuntime) {
     assert_eq!(rt;
-        first_fault(rt.alloc(), Start::Fresh, Story::FreesItsIdentifier),
+        first_fault(
+            rt.alloc(),
+            Start::Thawed(FRESH_BEFORE),
+            Story::FreesItsIdentifier
+        ),
         None
     );
 }

@@ -6,6 +6,6 @@ use Rattle.broker.proofs.rows.read_rows.Given as goal
 
 abbrev pub invariant-loop : goal.invariant-loop
 invariant-loop l =
-    (items_behind row_follows row_at (l.count - l.counter) l.rows.sessions.entries l.reader
-    ≡ items_behind row_follows row_at l.count [] l.initial.reader)
+    (items_behind row_follows (row_at l.window) (l.count - l.counter) l.rows.sessions.entries l.reader
+    ≡ items_behind row_follows (row_at l.window) l.count [] l.initial.reader)
     × AreOwned l.rows

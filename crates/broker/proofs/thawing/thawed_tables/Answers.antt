@@ -6,10 +6,10 @@ use Rattle.broker.proofs.thawing.thawed_tables.Goals as goal
 
 pub returns-clause-tied : goal.returns-clause-tied
 returns-clause-tied c =
-    let usual = IfOk-at_ok IsUsualState c.in_ok-rows.ensures.exact
+    let usual = IfOk-at_ok IsUsualState c.in_ok-window.ensures.exact
     (c.thawed_is_in_range.ensures c.args.bytes.now (λ i. omega (arith, c.type_inv.bytes i))) in
     record {
-      owners = c.in_ok-rows.ensures.owned;
+      owners = c.in_ok-window.ensures.owned;
       index = c.in_ok-index.ensures
-          ∙ sym (index_made_anew c.in_ok-rows.rows.sessions.entries usual.0.sound.by_client usual.0.sound.sessions);
+          ∙ sym (index_made_anew c.in_ok-window.rows.sessions.entries usual.0.sound.by_client usual.0.sound.sessions);
     }

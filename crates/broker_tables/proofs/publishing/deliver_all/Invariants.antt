@@ -6,7 +6,7 @@ use Rattle.broker_tables.proofs.publishing.deliver_all.Given as goal
 
 abbrev pub invariant-loop-row : goal.invariant-loop-row
 invariant-loop-row l =
-    (all_delivered 16 l.publication (drop l.row-index l.granted) l.sessions.entries
-    ≡ all_delivered 16 l.publication l.granted l.fn.sessions.entries)
-    × (l.out.items ++ answered_in_turn 16 l.publication (drop l.row-index l.granted) l.sessions.entries
-    ≡ l.fn.out.items ++ answered_in_turn 16 l.publication l.granted l.fn.sessions.entries)
+    (all_delivered l.window l.publication (drop l.row-index l.granted) l.sessions.entries
+    ≡ all_delivered l.window l.publication l.granted l.fn.sessions.entries)
+    × (l.out.items ++ answered_in_turn l.window l.publication (drop l.row-index l.granted) l.sessions.entries
+    ≡ l.fn.out.items ++ answered_in_turn l.window l.publication l.granted l.fn.sessions.entries)

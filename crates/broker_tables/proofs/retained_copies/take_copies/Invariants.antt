@@ -7,7 +7,7 @@ use Rattle.broker_tables.proofs.retained_copies.take_copies.Given as goal
 
 abbrev pub invariant-loop-copy : goal.invariant-loop-copy
 invariant-loop-copy l =
-    (with_queue (copies_left 16 l.copy-iterator.rest.items l.session.queue) l.session
-    ≡ with_queue (copies_left 16 l.fn.copies.items l.fn.session.queue) l.fn.session)
-    × (l.sent.items ++ copies_sent 16 l.copy-iterator.rest.items l.session.queue
-    ≡ l.fn.sent.items ++ copies_sent 16 l.fn.copies.items l.fn.session.queue)
+    (with_queue (copies_left l.window l.copy-iterator.rest.items l.session.queue) l.session
+    ≡ with_queue (copies_left l.window l.fn.copies.items l.fn.session.queue) l.fn.session)
+    × (l.sent.items ++ copies_sent l.window l.copy-iterator.rest.items l.session.queue
+    ≡ l.fn.sent.items ++ copies_sent l.window l.fn.copies.items l.fn.session.queue)

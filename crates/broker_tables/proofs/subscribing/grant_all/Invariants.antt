@@ -7,9 +7,9 @@ use Rattle.broker_tables.proofs.subscribing.grant_all.Given as goal
 
 abbrev pub invariant-loop-subscription : goal.invariant-loop-subscription
 invariant-loop-subscription l =
-    (l.which.items ++ granted_in_turn usual_limits 16 l.retained l.session (drop l.subscription-index l.filters)
-    ≡ granted_in_turn usual_limits 16 l.retained l.fn.session l.filters)
-    × (subscribed_in_turn usual_limits 16 l.retained l.session (drop l.subscription-index l.filters)
-    ≡ subscribed_in_turn usual_limits 16 l.retained l.fn.session l.filters)
-    × (l.sent.items ++ sent_in_turn usual_limits 16 l.retained l.session (drop l.subscription-index l.filters)
-    ≡ l.fn.sent.items ++ sent_in_turn usual_limits 16 l.retained l.fn.session l.filters)
+    (l.which.items ++ granted_in_turn usual_limits l.window l.retained l.session (drop l.subscription-index l.filters)
+    ≡ granted_in_turn usual_limits l.window l.retained l.fn.session l.filters)
+    × (subscribed_in_turn usual_limits l.window l.retained l.session (drop l.subscription-index l.filters)
+    ≡ subscribed_in_turn usual_limits l.window l.retained l.fn.session l.filters)
+    × (l.sent.items ++ sent_in_turn usual_limits l.window l.retained l.session (drop l.subscription-index l.filters)
+    ≡ l.fn.sent.items ++ sent_in_turn usual_limits l.window l.retained l.fn.session l.filters)

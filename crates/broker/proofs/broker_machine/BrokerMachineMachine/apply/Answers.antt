@@ -1,10 +1,10 @@
 -- The tables step as the state does, and a step keeps a state in its ranges.
-use Rattle.std.proofs.Common.{rules, ◌≡◌, ◌∙◌, ◌++◌, ◌<◌, ◌^◌, ap, sym, subst, false}
+use Rattle.std.proofs.Common.{◌≡◌, ◌∙◌, ◌++◌, ap, sym, subst, false}
 use Rattle.std.specs.Prelude.{is_err}
 use Rattle.broker_model.specs.Commands.{usual_limits}
-use Rattle.broker_base.specs.State.{State}
 use Rattle.broker_base.specs.Step.{step}
-use Rattle.broker_form.specs.InRange.{IsBrokerState}
+use Rattle.broker_form.specs.FormLaws.{IsUsualState}
+use Rattle.broker_form.proofs.UsualStates.{stays_usual}
 use Rattle.broker_tables.specs.Tables.{state_in, stepped}
 use Rattle.broker_tables.proofs.Commands.{stepped_is, at_ok}
 use Rattle.broker.proofs.broker_machine.BrokerMachineMachine.apply.Goals as goal
@@ -13,11 +13,9 @@ pub invariant_of-self-else-is_err : goal.invariant_of-self-else-is_err
 invariant_of-self-else-is_err c =
     let t = c.self.inside.tables in
     let done : is_err c.apply.result ≡ false = sym c.is_err.ensures.value ∙ c.if-is_err.false in
-    let small : usual_limits.entries < 2 ^ 16 = search rules in
-    let is : state_in c.apply.new.self ≡ (step usual_limits 16 (state_in t) c.args.command.now).0
+    let is : state_in c.apply.new.self ≡ (step usual_limits 64 (state_in t) c.args.command.now).0
     = at_ok c.apply.result done c.apply.ensures.state ∙ ap (λ p. p.0) (stepped_is t c.args.command.now) in (
-      subst (λ (s : State). IsBrokerState usual_limits s) (sym is)
-          (c.states_stay_in_range.ensures usual_limits 16 (state_in t) c.args.command.now small c.known.ensures c.self.invariant.0),
+      subst IsUsualState (sym is) (stays_usual (state_in t) c.args.command.now c.self.invariant.0 c.known.ensures),
       at_ok c.apply.result done c.apply.ensures.tied,
     )
 
@@ -26,7 +24,7 @@ returns-clause-state c =
     let t = c.self.inside.tables in
     let done : is_err c.apply.result ≡ false = sym c.is_err.ensures.value ∙ c.if-is_err.false in
     at_ok c.apply.result done c.apply.ensures.state ∙ ap (λ p. p.0) (stepped_is t c.args.command.now)
-    ∙ ap (λ s. (step usual_limits 16 s c.args.command.now).0) c.self.view_is
+    ∙ ap (λ s. (step usual_limits 64 s c.args.command.now).0) c.self.view_is
 
 pub returns-clause-outputs : goal.returns-clause-outputs
 returns-clause-outputs c =
@@ -37,4 +35,4 @@ returns-clause-outputs c =
     (at_ok c.apply.result done c.apply.ensures.outputs
     ∙ ap (λ front. front ++ (stepped t c.args.command.now).1) c.new-given.ensures.items
     ∙ ap (λ p. p.1) (stepped_is t c.args.command.now)
-    ∙ ap (λ s. (step usual_limits 16 s c.args.command.now).1) c.self.view_is)
+    ∙ ap (λ s. (step usual_limits 64 s c.args.command.now).1) c.self.view_is)

@@ -10,7 +10,7 @@ pub returns-clause-state : goal.returns-clause-state
 returns-clause-state c =
     let t = c.args.self.now in
     (λ i. record {
-      window = 16;
+      window = c.in_ok-welcome.ensures.others.window i;
       sessions = (c.in_ok-insert.ensures.entries
           ∙ (λ j. insert_entry by_bytes (c.in_ok-welcome.ensures.others.sessions j) (c.in_ok-clone.ensures.cases j) (c.new-row.ensures j))) i;
       retained = c.in_ok-welcome.ensures.others.retained i;

@@ -33,7 +33,7 @@ returns-then-index-clause-state c =
     = is_served t c.args.connection c.in-Some.client kept c.requires
     (sym (c.requires.tied.owners c.args.connection) ∙ sym c.in-Some.ensures.value) c.index.ensures in
     let clean : kept.clean ≡ true = sym (ap (λ (k : ClientSession). k.clean) c.behind-self.view_is) ∙ c.if-index.true in
-    ap (λ (rows : Sessions). record { window = 16; sessions = rows; retained = t.retained })
+    ap (λ (rows : Sessions). record { window = t.window; sessions = rows; retained = t.retained })
     (c.remove-then-index.ensures.entries
     ∙ sym (ap (λ o. written c.in-Some.client o t.sessions.entries) (left_clean kept clean)))
     ∙ sym (ap (λ p. p.0) (loss_step t c.args.connection c.in-Some.client kept served))
@@ -64,7 +64,7 @@ returns-clause-state c =
     let other : kept.clean ≡ false
     = ap (λ (k : ClientSession). k.clean) (some_is kept c.index.result.now (sym held ∙ c.index.ensures))
     ∙ sym (ap (λ (k : ClientSession). k.clean) c.behind-self.view_is) ∙ c.if-index.false in
-    ap (λ (rows : Sessions). record { window = 16; sessions = rows; retained = t.retained })
+    ap (λ (rows : Sessions). record { window = t.window; sessions = rows; retained = t.retained })
     ((c.get_mut.follows.holds _).0
     ∙ ap (λ (k : ClientSession). set_value (is_at (by_bytes c.in-Some.client)) t.sessions.entries (record { clean = k.clean; connection = None; state = k.state }))
     c.row.view_is

@@ -64,9 +64,9 @@ returns-clause-state c =
     let taken : is_refused_in usual_limits (state_in t) (publication_of c.args.publish.now) ≡ false
     = ap (is_refused_in usual_limits (state_in t)) (sym c.in_ok-publication.ensures) ∙ sym c.refuses.ensures ∙ c.if-refuses.false in
     (λ i. record {
-      window = 16;
+      window = c.in_ok-note.ensures.others.window i;
       sessions = (c.in_ok-deliver_all.ensures.state
-          ∙ (λ j. all_delivered 16 (c.in_ok-publication.ensures j) (c.deref-2.ensures.value j) (c.in_ok-note.ensures.sessions j))) i;
+          ∙ (λ j. all_delivered (c.in_ok-note.ensures.others.window j) (c.in_ok-publication.ensures j) (c.deref-2.ensures.value j) (c.in_ok-note.ensures.sessions j))) i;
       retained = (c.in_ok-retain.ensures ∙ (λ j. retains (c.in_ok-publication.ensures j) (c.in_ok-note.ensures.others.retained j))) i;
     })
     ∙ sym (ap (λ p. p.0)
@@ -82,9 +82,9 @@ returns-clause-outputs c =
     = ap (is_refused_in usual_limits (state_in t)) (sym c.in_ok-publication.ensures) ∙ sym c.refuses.ensures ∙ c.if-refuses.false in
     c.in_ok-deliver_all.ensures.outputs
     ∙ (λ i. c.in_ok-acknowledge-2.ensures i
-    ++ answered_in_turn 16 (c.in_ok-publication.ensures i) (c.deref-2.ensures.value i) (c.in_ok-note.ensures.sessions i))
+    ++ answered_in_turn (c.in_ok-note.ensures.others.window i) (c.in_ok-publication.ensures i) (c.deref-2.ensures.value i) (c.in_ok-note.ensures.sessions i))
     ∙ append_assoc c.args.out.now.items (acknowledged c.args.connection c.args.publish.now.delivery)
-    (answered_in_turn 16 (publication_of c.args.publish.now) c.in_ok-granted.granted.items
+    (answered_in_turn t.window (publication_of c.args.publish.now) c.in_ok-granted.granted.items
     (changed c.args.client.now (received_on c.args.publish.now.delivery) t.sessions.entries))
     ∙ ap (λ given. c.args.out.now.items ++ given)
     (sym (ap (λ p. p.1)
@@ -95,5 +95,5 @@ pub returns-clause-tied : goal.returns-clause-tied
 returns-clause-tied c =
     ties_of_taken c.args.self.now _ c.args.client.now c.args.publish.now c.in_ok-granted.granted.items c.requires.in_step.tied
     (c.in_ok-deliver_all.ensures.state
-    ∙ (λ j. all_delivered 16 (c.in_ok-publication.ensures j) (c.deref-2.ensures.value j) (c.in_ok-note.ensures.sessions j)))
+    ∙ (λ j. all_delivered (c.in_ok-note.ensures.others.window j) (c.in_ok-publication.ensures j) (c.deref-2.ensures.value j) (c.in_ok-note.ensures.sessions j)))
     c.in_ok-note.ensures.others.owners c.in_ok-note.ensures.others.index

@@ -1,12 +1,11 @@
 -- The sessions by themselves, and the maps follow.
 use Rattle.std.proofs.Common.{◌∙◌, ap, sym}
-use Rattle.broker_base.specs.State.{Sessions}
 use Rattle.broker_tables.proofs.Starts.{start_of, ties_of_start}
 use Rattle.broker_tables.proofs.tables.Tables.start.Goals as goal
 
 pub returns-clause-state : goal.returns-clause-state
 returns-clause-state c =
-    ap (λ (rows : Sessions). record { window = 16; sessions = rows; retained = c.args.self.now.retained }) c.leave_off_all.ensures
+    (λ i. record { window = c.wide-self.ensures i; sessions = c.leave_off_all.ensures i; retained = c.args.self.now.retained })
     ∙ sym (ap (λ p. p.0) (start_of c.args.self.now c.args.ballot c.requires))
 
 pub returns-clause-tied : goal.returns-clause-tied

@@ -28,12 +28,12 @@ returns-clause-state c =
     let kept = c.unwrap-row.result.now in
     let held : session_in c.args.client.now t.sessions.entries ≡ Some kept
     = sym c.get_mut.ensures.value ∙ ap option_copied_mut c.unwrap-row.ensures in
-    ap (λ (rows : Sessions). record { window = 16; sessions = rows; retained = t.retained })
+    ap (λ (rows : Sessions). record { window = t.window; sessions = rows; retained = t.retained })
     ((c.get_mut.follows.holds _).0
     ∙ ap (λ (s : ClientSession). set_value (is_at (by_bytes c.args.client.now)) t.sessions.entries s)
     (ap (λ s. record { clean = c.row.inside.clean; connection = c.row.inside.connection; state = s })
     (c.give_up.ensures ∙ ap (λ filters. with_filters (without_filters filters c.row.inside.state.subscriptions) c.row.inside.state) c.as_slice.ensures)
-    ∙ ap (λ (k : ClientSession). holding (handled_state 16 (packets.Unsubscribe c.args.unsubscribe.now) k.state) k) c.row.view_is))
+    ∙ ap (λ (k : ClientSession). holding (handled_state t.window (packets.Unsubscribe c.args.unsubscribe.now) k.state) k) c.row.view_is))
     ∙ sym (ap (λ p. p.0)
     (unsubscribe_of t c.args.connection c.args.client.now kept c.args.unsubscribe.now
     (is_served t c.args.connection c.args.client.now kept c.requires.in_step c.requires.served held)))

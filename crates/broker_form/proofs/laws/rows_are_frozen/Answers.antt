@@ -1,0 +1,19 @@
+use Rattle.std.proofs.Common.{refl}
+use Rattle.packet_base.specs.Reading.{number_at}
+use Rattle.session_form.specs.Counted.{counted_at, items_behind}
+use Rattle.broker_form.specs.Form.{size_at, head_at, broker_at}
+use Rattle.broker_form.proofs.laws.rows_are_frozen.Goals as goal
+
+pub returns-clause-before : goal.returns-clause-before
+unfolding broker_at head_at counted_at items_behind number_at
+returns-clause-before c = (refl, refl, refl)
+
+pub returns-clause-one_before : goal.returns-clause-one_before
+returns-clause-one_before c = (refl, refl)
+
+pub returns-clause-others : goal.returns-clause-others
+unfolding broker_at head_at size_at
+returns-clause-others c = (refl, refl)
+
+pub returns-clause-full : goal.returns-clause-full
+returns-clause-full c = (refl, refl, refl)
