@@ -28,23 +28,23 @@ use Rattle.exact_model.proofs.LostNowhere.{loss_in_range}
 
 -- behind one of them the broker is in its ranges, and its answers can be spelled
 goes_in_range : (state : State) (command : Command) → IsFitting command → IsBrokerState usual_limits state
-    → IsBrokerState usual_limits (step usual_limits 16 state command).0 × AllByRecursion CanBeSpelled (step usual_limits 16 state command).1
+    → IsBrokerState usual_limits (step usual_limits 64 state command).0 × AllByRecursion CanBeSpelled (step usual_limits 64 state command).1
 goes_in_range state (commands.Connect x c clean) fits h = (
-  stays_in_range usual_limits 16 state (commands.Connect x c clean) (omega arith) fits h,
-  answers_are_spelled usual_limits 16 state (commands.Connect x c clean) (omega arith) fits h,
+  stays_in_range usual_limits 64 state (commands.Connect x c clean) (omega arith) fits h,
+  answers_are_spelled usual_limits 64 state (commands.Connect x c clean) (omega arith) fits h,
 )
 goes_in_range state (commands.Packet x packet) fits h = (
-  stays_in_range usual_limits 16 state (commands.Packet x packet) (omega arith) fits h,
-  answers_are_spelled usual_limits 16 state (commands.Packet x packet) (omega arith) fits h,
+  stays_in_range usual_limits 64 state (commands.Packet x packet) (omega arith) fits h,
+  answers_are_spelled usual_limits 64 state (commands.Packet x packet) (omega arith) fits h,
 )
 goes_in_range state (commands.Lost x) fits h = (loss_in_range state x h, tt)
-goes_in_range state (commands.Start ballot) fits h = (stays_in_range usual_limits 16 state (commands.Start ballot) (omega arith) tt h, tt)
+goes_in_range state (commands.Start ballot) fits h = (stays_in_range usual_limits 64 state (commands.Start ballot) (omega arith) tt h, tt)
 
 all_spelled : (state : State) (commands : List Command) → Each IsFitting commands → IsBrokerState usual_limits state
-    → AllByRecursion (AllByRecursion CanBeSpelled) (steps_from usual_limits 16 state commands)
+    → AllByRecursion (AllByRecursion CanBeSpelled) (steps_from usual_limits 64 state commands)
 all_spelled state [] fits h = tt
 all_spelled state (command ∷ commands) fits h =
-    let now = goes_in_range state command fits.0 h in (now.1, all_spelled (step usual_limits 16 state command).0 commands fits.1 now.0)
+    let now = goes_in_range state command fits.0 h in (now.1, all_spelled (step usual_limits 64 state command).0 commands fits.1 now.0)
 
 -- ---- what of them is for one connection
 
@@ -73,4 +73,4 @@ none_put x = tt
 pub answers_fit : (agreed : List Command) (x : ConnectionName) → Each IsFitting agreed → Each IsPacket (put_to usual_limits (past_of usual_limits agreed) x)
 answers_fit agreed x fits =
     each_put x [] agreed
-    (subst (AllByRecursion (AllByRecursion CanBeSpelled)) (usual_lists_stand agreed).1 (all_spelled (empty_state 16) agreed fits (lists_are_in_range 16 [] tt).0)) (none_put x)
+    (subst (AllByRecursion (AllByRecursion CanBeSpelled)) (usual_lists_stand agreed).1 (all_spelled (empty_state 64) agreed fits (lists_are_in_range 64 [] tt).0)) (none_put x)

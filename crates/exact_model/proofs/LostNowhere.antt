@@ -38,11 +38,11 @@ all_stay x state (row ∷ rows) none named =
     stays false e = refl
     stays true e = absurd cc
 
-pub loss_in_range : (state : State) (x : ConnectionName) → IsBrokerState usual_limits state → IsBrokerState usual_limits (step usual_limits 16 state (commands.Lost x)).0
+pub loss_in_range : (state : State) (x : ConnectionName) → IsBrokerState usual_limits state → IsBrokerState usual_limits (step usual_limits 64 state (commands.Lost x)).0
 loss_in_range state x h = by (is_connection_name x) refl
   where
-    by : (b : Bool) → is_connection_name x ≡ b → IsBrokerState usual_limits (step usual_limits 16 state (commands.Lost x)).0
-    by true e = stays_in_range usual_limits 16 state (commands.Lost x) (omega arith) e h
+    by : (b : Bool) → is_connection_name x ≡ b → IsBrokerState usual_limits (step usual_limits 64 state (commands.Lost x)).0
+    by true e = stays_in_range usual_limits 64 state (commands.Lost x) (omega arith) e h
     by false e =
         subst (λ (rows : Sessions). IsBrokerState usual_limits (record { window = state.window; sessions = rows; retained = state.retained }))
         (sym (all_stay x state state.sessions e h.sessions)) h
