@@ -1,5 +1,5 @@
 -- AcceptedShown.antt: what a client of a world that is reached shows as accepted is what the headline says.
-use Rattle.std.proofs.Common.{◌≡◌, ℕ, List, Some, slice_get, ap, sym, ◌∙◌, subst}
+use Rattle.std.proofs.Common.{◌≡◌, ℕ, List, Some, slice_get, ap, ◌∙◌}
 use Rattle.ballot.specs.Config.{Config}
 use Rattle.broker_base.specs.Commands.{past_of, usual_limits}
 use Rattle.broker_base.specs.Place.{Client}

@@ -6,7 +6,6 @@ use Rattle.std.proofs.lemmas.Bool.{both_ways, ne_eqb}
 use Rattle.std.proofs.lemmas.List.{reverse-reverse}
 use Rattle.std.proofs.lemmas.Option.{none-some}
 use Rattle.lists.proofs.Tests.{none_or}
-use Rattle.world_base.specs.declared.connection.Connection.{Connection as NodesEnd}
 use Rattle.world_base.specs.declared.item.Item.TheVariants.{Opened}
 use Rattle.world_base.specs.declared.item.Port.{Port}
 use Rattle.world_base.specs.Core.{CoreState, CountedCore}

@@ -1,5 +1,5 @@
 -- CountedOnce.antt: an event is counted once, if at all.
-use Rattle.std.proofs.Common.{◌≡◌, ◌⊎◌, inl, inr, ℕ, Bool, true, false, if◌then◌else◌, Result, Ok, Err, refl, sym, ap, ◌∙◌, subst}
+use Rattle.std.proofs.Common.{◌≡◌, inl, inr, ℕ, Bool, true, false, if◌then◌else◌, Result, Ok, Err, ap, ◌∙◌}
 use Rattle.ballot.specs.Losses.{one_more}
 use Rattle.client_base.specs.declared.error.ClientError.{ClientError}
 use Rattle.client_base.specs.declared.error.ClientError.TheVariants as errors
@@ -7,7 +7,7 @@ use Rattle.master.specs.declared.event.Idle.{Idle}
 use Rattle.world_pipes.specs.declared.sending.Sending.{Sending}
 use Rattle.world_pipes.specs.declared.sending.Sending.TheVariants as sendings
 use Rattle.world.specs.Goes.{CountsOnce}
-use Rattle.world.specs.Inside.{Counts, forgetful}
+use Rattle.world.specs.Inside.{Counts, IsCounted, forgetful}
 use Rattle.world.specs.World.{WorldState}
 
 -- not counted by its parts, or by one of them
@@ -45,7 +45,6 @@ had_once true old mid new still is = inl (ap (λ (w : WorldState). w.losses) is 
 had_once false old mid new still is = inr (ap (λ (w : WorldState). w.losses) is ∙ ap one_more still)
 
 -- a whole step: what is counted already is not counted again
-pub step_once : (old mid new : WorldState) (counted : ℕ) → counted ≡ old.losses → CountsOnce old mid
-    → (new.losses ≡ mid.losses) ⊎ ((mid.losses ≡ counted) × (new.losses ≡ one_more mid.losses)) → CountsOnce old new
-step_once old mid new counted is once (inl same) = then_still old mid new once same
-step_once old mid new counted is once (inr (kept, more)) = inr (more ∙ ap one_more (kept ∙ is))
+pub step_once : (old mid new : WorldState) (before counted : ℕ) → counted ≡ old.losses → CountsOnce old mid → IsCounted before counted mid new → CountsOnce old new
+step_once old mid new before counted is once (inl none) = then_still old mid new once (ap (λ (w : WorldState). w.losses) none.0)
+step_once old mid new before counted is once (inr one) = inr (ap (λ (w : WorldState). w.losses) one.0 ∙ ap one_more (one.1 ∙ is))

@@ -1,18 +1,15 @@
 -- Gathered.antt: connections are asked one behind the other, from the newest to the oldest.
-use Rattle.std.proofs.Common.{◌≡◌, ◌<◌, ◌≤◌, ◌-◌, ℕ, zero, suc, Bool, true, ◌++◌, Some, length, slice_get, refl, sym, ap, ◌∙◌, subst, arith}
-use Rattle.world_base.specs.declared.item.Item.{Item}
-use Rattle.world_nodes.specs.Goes.{TakesExactly, node_of}
-use Rattle.world_nodes.specs.Nodes.{NodesState}
-use Rattle.world_nodes.specs.Steps.{LosesNothing as NodesLoseNothing}
+use Rattle.std.proofs.Common.{◌≡◌, inl, inr, ◌<◌, ◌-◌, ℕ, zero, suc, Bool, true, false, List, ◌++◌, Some, length, set, slice_get, refl, sym, ap, ◌∙◌, subst, arith}
+use Rattle.world_nodes.specs.Goes.{node_of}
+use Rattle.world_nodes.specs.Steps.{forgetful}
 use Rattle.world.specs.declared.place.Place.{Place}
 use Rattle.world.specs.Found.{place_numbered, port_of, with_down, with_piped}
-use Rattle.world.specs.Gathering.{AskedWhere, Gathers, GathersAmong, IsAsked, TakesItem, is_open_at, put_out}
-use Rattle.world.specs.Inside.{GoesOn, HandsOn, marked}
+use Rattle.world.specs.Gathering.{AskedWhere, Gathers, GathersAmong, IsAsked, MayBeAsked, is_open_at, put_out}
+use Rattle.world.specs.Inside.{GoesOn, HandsOn, MayHandOn, marked}
 use Rattle.world.specs.World.{WorldState}
-use Rattle.world.proofs.GroupGoes.{with_nodes}
 use Rattle.world.proofs.Joined.{goes_on_join}
-use Rattle.world.proofs.NodesGoOn.{nodes_split}
 use Rattle.world.proofs.StandsThere.{numbered_at}
+use Rattle.world.proofs.Turned.{set_itself}
 
 -- ---- one connection
 
@@ -30,42 +27,40 @@ is_asked number place is_open old mid new at positive h is =
       is = is ∙ ap (marked number place is_open) h.is ∙ ap (λ (b : Bool). marked number place b down) h.told;
     }
 
+-- one that stays open is as it was
+pub stays_open : (number : ℕ) (place : Place) (w : WorldState) → slice_get w.connections (number - 1) ≡ Some place → place.is_open ≡ true → w ≡ marked number place true w
+stays_open number place w found up =
+    ap (λ (l : List Place). record w { connections = l })
+    (sym (set_itself w.connections (number - 1) place found) ∙ ap (λ (b : Bool). set w.connections (number - 1) (record place { is_open = b })) up)
+
+-- exactly, or its node ran out of memory
+pub may_be_asked : (number : ℕ) (place : Place) (is_open : Bool) (old mid new : WorldState) → slice_get old.connections (number - 1) ≡ Some place → 0 < number → place.is_open ≡ true
+    → MayHandOn number place old is_open mid → new ≡ marked number place is_open mid → MayBeAsked false number old new
+may_be_asked number place is_open old mid new at positive up (inl h) is = inl (is_asked number place is_open old mid new at positive h is)
+may_be_asked number place is_open old mid new at positive up (inr lost) is =
+    let forgot : WorldState = record old { nodes = forgetful old.nodes } in
+    inr (is ∙ ap (marked number place is_open) lost.1 ∙ ap (λ (b : Bool). marked number place b forgot) lost.0 ∙ sym (stays_open number place forgot at up))
+
 -- ---- the connections of a node
 
 -- what was asked so far, and what is still to come
 pub record IsGathering (node count number : ℕ) (initial now : WorldState) : Type 0 where
   pub goes : GoesOn initial now
-  pub rest : (later : WorldState) → now.nodes.losses ≤ later.nodes.losses → NodesLoseNothing initial.nodes later.nodes → GathersAmong number node now later → GathersAmong count node initial later
+  pub rest : (later : WorldState) → GathersAmong false number node now later → GathersAmong false count node initial later
 
 pub gathering_on : (node count number next : ℕ) (initial now new : WorldState) → 0 < number → next ≡ number - 1 → IsGathering node count number initial now → GoesOn now new
-    → (NodesLoseNothing now.nodes new.nodes → AskedWhere (is_open_at node (place_numbered number now.connections)) number now new) → IsGathering node count next initial new
+    → AskedWhere false (is_open_at node (place_numbered number now.connections)) number now new → IsGathering node count next initial new
 gathering_on node count zero next initial now new positive less g goes asks = absurd (omega (arith, positive))
 gathering_on node count (suc before) next initial now new positive less g goes asks =
     subst (λ (k : ℕ). IsGathering node count k initial new) (let e : before ≡ next = omega (arith, less) in e)
-    (record {
-      goes = goes_on_join initial now new g.goes goes;
-      rest = λ later rises none more.
-          let x = g.goes.nodes.rises in let y = goes.nodes.rises in
-          let one = nodes_split initial.nodes now.nodes later.nodes x (let l : now.nodes.losses ≤ later.nodes.losses = omega (arith, y, rises) in l) none in
-          let two = nodes_split now.nodes new.nodes later.nodes y rises one.1 in
-          g.rest later (let l : now.nodes.losses ≤ later.nodes.losses = omega (arith, y, rises) in l) none (new, asks two.0, more);
-    })
+    (record { goes = goes_on_join initial now new g.goes goes; rest = λ later more. g.rest later (new, asks, more) })
 
-pub gathered : (node count number : ℕ) (initial now : WorldState) → number ≡ 0 → IsGathering node count number initial now → NodesLoseNothing initial.nodes now.nodes → GathersAmong count node initial now
-gathered node count number initial now end g none = g.rest now (omega arith) none (subst (λ (k : ℕ). GathersAmong k node now now) (sym end) refl)
+pub gathered : (node count number : ℕ) (initial now : WorldState) → number ≡ 0 → IsGathering node count number initial now → GathersAmong false count node initial now
+gathered node count number initial now end g = g.rest now (subst (λ (k : ℕ). GathersAmong false k node now now) (sym end) refl)
 
-pub gathers_all : (node : ℕ) (old new : WorldState) (count : ℕ) → 0 < node → count ≡ length old.connections → GathersAmong count node old new → Gathers node old new
+pub gathers_all : (node : ℕ) (old new : WorldState) (count : ℕ) → 0 < node → count ≡ length old.connections → GathersAmong false count node old new → Gathers false node old new
 gathers_all zero old new count positive all g = absurd (omega (arith, positive))
-gathers_all (suc at) old new count positive all g = subst (λ (k : ℕ). GathersAmong k (suc at) old new) all g
+gathers_all (suc at) old new count positive all g = subst (λ (k : ℕ). GathersAmong false k (suc at) old new) all g
 
-pub gathers_none : (node : ℕ) (old : WorldState) → node ≡ 0 → Gathers node old old
-gathers_none node old none = subst (λ (k : ℕ). Gathers k old old) (sym none) refl
-
--- ---- an item at a node
-
-pub takes_item : (node : ℕ) (item : Item) (old : WorldState) (between : NodesState) (new : WorldState) → old.nodes.losses ≤ between.losses
-    → (NodesLoseNothing old.nodes between → TakesExactly node item old.nodes between) → GoesOn (with_nodes between old) new
-    → (NodesLoseNothing between new.nodes → Gathers node (with_nodes between old) new) → NodesLoseNothing old.nodes new.nodes → TakesItem node item old new
-takes_item node item old between new rises exact goes gathers none =
-    let s = nodes_split old.nodes between new.nodes rises goes.nodes.rises none in
-    (between, exact s.0, gathers s.1)
+pub gathers_none : (node : ℕ) (old : WorldState) → node ≡ 0 → Gathers false node old old
+gathers_none node old none = subst (λ (k : ℕ). Gathers false k old old) (sym none) refl

@@ -1,5 +1,5 @@
 -- GroupGoes.antt: what nodes and their master do by themselves is a step of the world, whatever memory does.
-use Rattle.std.proofs.Common.{◌≡◌, ◌⊎◌, inl, inr, ◌≤◌, ◌-◌, ℕ, zero, suc, true, Option, Some, None, Result, Ok, Err, OnOk, OnErr, refl, arith}
+use Rattle.std.proofs.Common.{◌≡◌, ◌⊎◌, inl, inr, ◌≤◌, ℕ, zero, suc, true, Option, Some, None, Result, Ok, Err, OnOk, OnErr, refl, arith}
 use Rattle.std.specs.Prelude.{slice_get}
 use Rattle.ballot.specs.Body.{Body}
 use Rattle.ballot.specs.Body.TheVariants.{NewBallot, Join, State, Install, Installed, Activate, Activated, Superseded, Append, Held, Commit}
@@ -15,11 +15,11 @@ use Rattle.exact_model.specs.world_model.Goes.{is_apart}
 use Rattle.exact_model.specs.world_model.Goes.WorldStep.{goes_on as group_goes}
 use Rattle.world_nodes.specs.Nodes.{NodesState, StandsFor as NodesStand}
 use Rattle.world_nodes.specs.Goes.{Acts, GoesBy}
-use Rattle.world_nodes.specs.Steps.{ActsOrRests, ComesOrRests, MasterGoes, MasterGoesOrRests, MasterHears, forgetful}
+use Rattle.world_nodes.specs.Steps.{ComesOrRests, MasterGoesOrRests, MasterHears, forgetful}
 use Rattle.world.specs.Goes.{NodesGo, NodesGoOn}
 use Rattle.world.specs.Goes.Goes.{rests as stands_still, goes_on as then_goes}
 use Rattle.world.specs.Inside.{GoesOn, NodesStay}
-use Rattle.world.specs.Standing.{StandsFor, WorldGoes}
+use Rattle.world.specs.Standing.{WorldGoes}
 use Rattle.world.specs.Standing.Steps.{rests, goes_on}
 use Rattle.world.specs.World.{WorldState}
 use Rattle.world.proofs.NodesGoOn.{nodes_forget, nodes_rest, nodes_stay, staying_goes}

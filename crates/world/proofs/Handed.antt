@@ -1,46 +1,64 @@
 -- Handed.antt: where bytes are handed over, or come to a node, the world goes on.
-use Rattle.std.proofs.Common.{◌≡◌, ◌<◌, ◌≤◌, ◌-◌, ℕ, Bool, true, false, if◌then◌else◌, List, Some, None, Result, Ok, Err, OnErr, length, slice_get, refl, sym, ap, ◌∙◌, subst, arith}
-use Rattle.std.specs.Prelude.{IfSome, drop, take}
+use Rattle.std.proofs.Common.{◌≡◌, inl, inr, ◌<◌, ◌≤◌, ◌-◌, ℕ, Bool, true, false, List, Some, None, Result, Ok, Err, OnErr, length, slice_get, refl, sym, ap, ◌∙◌, subst, arith}
+use Rattle.std.specs.Prelude.{IfOk, IfSome, drop, take}
 use Rattle.std.proofs.lemmas.Option.{same_Some}
 use Rattle.master.specs.declared.event.Idle.{Idle}
 use Rattle.world_base.specs.declared.item.Item.TheVariants.{Bytes}
 use Rattle.world_base.specs.declared.item.Port.{Port}
 use Rattle.exact_model.specs.node_model.Moves.Deed.{takes}
-use Rattle.world_nodes.specs.Goes.{Acts, node_of, running}
+use Rattle.world_nodes.specs.Goes.{Acts, running}
 use Rattle.world_nodes.specs.Nodes.{NodesState}
 use Rattle.world_nodes.specs.Steps.{TakesIn}
 use Rattle.world_pipes.specs.declared.way.Way.{Way}
 use Rattle.world_pipes.specs.Piped.{Piped}
 use Rattle.world.specs.declared.place.Place.{Place}
 use Rattle.world.specs.declared.world.WorldClient.{WorldClient}
-use Rattle.world.specs.Goes.{LosesNothing, NodesGoOn}
+use Rattle.world.specs.Goes.{NodesGoOn}
 use Rattle.world.specs.Housed.{AreHoused, leads, leads_of}
 use Rattle.world.specs.Found.{port_of, with_down, with_less}
-use Rattle.world.specs.Gathering.{is_told_open}
-use Rattle.world.specs.Inside.{CannotTake, CannotTakeOn, GoesOn, HandsOn, MayPutDown, PutsDown, TakesUp, TakesUpOn, TakesUpWhere, forgetful}
+use Rattle.world.specs.Inside.{CannotTake, CannotTakeOn, GoesOn, HandsDown, MayHandOn, MayPutDown, PutsDown, TakesUp, TakesUpOnWhere, TakesUpWhere}
 use Rattle.world.specs.World.{WorldState}
 use Rattle.world.proofs.ComesUp.{takes_up}
 use Rattle.world.proofs.GoesDown.{put_down, puts_down}
-use Rattle.world.proofs.Joined.{counted_loss, goes_on_rest, goes_on_still}
+use Rattle.world.proofs.Joined.{goes_on_rest}
 use Rattle.world.proofs.LeadsKept.{led_there, leads_set}
 use Rattle.world.proofs.Turned.{set_itself, there}
 
--- what is told of the end, and what went down
+-- nothing is changed but the nodes
+same_client : (old : WorldState) (i : ℕ) (client : WorldClient) (new : NodesState) (later : Piped) → slice_get old.clients i ≡ Some client → later ≡ client.piped
+    → put_down i client later new old ≡ record old { nodes = new }
+same_client old i client new later found still =
+    ap (λ (p : Piped). put_down i client p new old) still ∙ ap (λ (l : List WorldClient). record old { nodes = new; clients = l }) (set_itself old.clients i client found)
+
+-- what is told of the end, and what went down; or nothing did
 pub hands : (old : WorldState) (number : ℕ) (place : Place) (client : WorldClient) (way : Way) (is_open : Bool) (new : NodesState) (later : Piped) → slice_get old.clients place.client ≡ Some client
-    → slice_get client.piped.ways place.at ≡ Some way → PutsDown place.at place.node (port_of number) old.nodes client.piped new later
-    → is_open ≡ is_told_open (port_of number) (node_of old.nodes.nodes place.node) → HandsOn number place old is_open (put_down place.client client later new old)
-hands old number place client way is_open new later owned stands puts told =
-    let p = puts way stands in
-    record {
-      client = client;
-      owned = owned;
-      way = way;
-      stands = stands;
-      between = new;
-      gives = p.1.0;
-      told = told;
-      is = ap (λ (l : Piped). put_down place.client client l new old) (p.2 ∙ ap (λ (b : List ℕ). with_down place.at way b client.piped) p.1.1);
-    }
+    → slice_get client.piped.ways place.at ≡ Some way → PutsDown place.at place.node (port_of number) old.nodes client.piped new later is_open
+    → MayHandOn number place old is_open (put_down place.client client later new old)
+hands old number place client way is_open new later owned stands puts = by (puts way stands)
+  where
+    same_bytes : (bytes : List ℕ) → bytes ≡ way.down → with_down place.at way bytes client.piped ≡ client.piped
+    same_bytes bytes same =
+        ap (λ (b : List ℕ). with_down place.at way b client.piped) same
+        ∙ ap (λ (l : List Way). let p : Piped = record client.piped { ways = l } in p) (set_itself client.piped.ways place.at way stands)
+
+    by : (bytes : List ℕ) × HandsDown place.node (port_of number) old.nodes way.down new bytes is_open × (later ≡ with_down place.at way bytes client.piped)
+        → MayHandOn number place old is_open (put_down place.client client later new old)
+    by (bytes, inl p, is) =
+        inl (record {
+          client = client;
+          owned = owned;
+          way = way;
+          stands = stands;
+          between = new;
+          gives = p.0;
+          told = p.2;
+          is = ap (λ (l : Piped). put_down place.client client l new old) (is ∙ ap (λ (b : List ℕ). with_down place.at way b client.piped) p.1);
+        })
+    by (bytes, inr p, is) =
+        inr (
+          p.2,
+          same_client old place.client client new later owned (is ∙ same_bytes bytes p.1) ∙ ap (λ (n : NodesState). let w : WorldState = record old { nodes = n } in w) p.0,
+        )
 
 pub hands_on : (old : WorldState) (number : ℕ) (place : Place) (client : WorldClient) (new : NodesState) (later : Piped) → AreHoused (leads_of old.clients) old.connections
     → slice_get old.connections (number - 1) ≡ Some place → 0 < number → slice_get old.clients place.client ≡ Some client → NodesGoOn old.nodes new
@@ -56,28 +74,25 @@ hands_on old number place client new later housed at positive found nodes puts =
 unchanged : (old : WorldState) (i : ℕ) (client : WorldClient) (new : NodesState) (later : Piped) → slice_get old.clients i ≡ Some client → new ≡ old.nodes → later ≡ client.piped
     → put_down i client later new old ≡ old
 unchanged old i client new later found same still =
-    ap (λ (p : Piped). put_down i client p new old) still ∙ ap (λ (l : List WorldClient). record old { nodes = new; clients = l }) (set_itself old.clients i client found)
-    ∙ ap (λ (n : NodesState). record old { nodes = n }) same
+    same_client old i client new later found still ∙ ap (λ (n : NodesState). let w : WorldState = record old { nodes = n } in w) same
 
 pub takes_nothing : (old : WorldState) (i : ℕ) (client : WorldClient) (new : NodesState) (later : Piped) → slice_get old.clients i ≡ Some client → new ≡ old.nodes → later ≡ client.piped
     → GoesOn old (put_down i client later new old)
 takes_nothing old i client new later found same still = goes_on_rest old (put_down i client later new old) (unchanged old i client new later found same still)
 
--- bytes come, or there is no memory for them, which is counted
-pub takes_on : (had : Bool) (old : WorldState) (number count : ℕ) (place : Place) (client : WorldClient) (new : NodesState) (later : Piped) (final : WorldState)
+-- bytes come, or there is no memory for them
+pub takes_on : {E : Type 0} (r : Result Bool E) (old : WorldState) (number count : ℕ) (place : Place) (client : WorldClient) (new : NodesState) (later : Piped)
     → AreHoused (leads_of old.clients) old.connections → slice_get old.connections (number - 1) ≡ Some place → 0 < number → slice_get old.clients place.client ≡ Some client
-    → NodesGoOn old.nodes new → TakesUpWhere had place (record { 0 = number }) count old.nodes client.piped new later → old.losses ≤ (forgetful old).losses
-    → final ≡ (if had then put_down place.client client later new old else forgetful (put_down place.client client later new old)) → GoesOn old final
-takes_on true old number count place client new later final housed at positive found nodes took rises is =
-    subst (λ (w : WorldState). GoesOn old w) (sym is)
-    (record {
+    → NodesGoOn old.nodes new → IfOk r (λ had. TakesUpWhere had place (record { 0 = number }) count old.nodes client.piped new later)
+    → OnErr r (new ≡ old.nodes) → OnErr r (later ≡ client.piped) → GoesOn old (put_down place.client client later new old)
+takes_on (Ok true) old number count place client new later housed at positive found nodes took same still =
+    record {
       rises = omega arith;
       nodes = nodes;
       goes = takes_up old number count place client new later (led_there (leads_of old.clients) old.connections number place housed at positive) found took;
-    })
-takes_on false old number count place client new later final housed at positive found nodes took rises is =
-    subst (λ (w : WorldState). GoesOn old w) (sym (is ∙ ap forgetful (unchanged old place.client client new later found took.0 took.1)))
-    (goes_on_still old (forgetful old) refl refl rises)
+    }
+takes_on (Ok false) old number count place client new later housed at positive found nodes took same still = takes_nothing old place.client client new later found took.0 took.1
+takes_on (Err e) old number count place client new later housed at positive found nodes took same still = takes_nothing old place.client client new later found same still
 
 -- what comes is what was under way
 pub takes_part : (place : Place) (port : Port) (count : ℕ) (old : NodesState) (client : Piped) (new : NodesState) (later : Piped) (waiting piece : List ℕ)
@@ -112,14 +127,18 @@ less_leads client later at count way found less =
     of_some e i = subst (λ o. IfSome o (λ w. later ≡ with_less at count w client)) e i
 
 -- the same in a world: they come, or they cannot
-pub takes_up_on : (had : Bool) (old : WorldState) (number count : ℕ) (place : Place) (client : WorldClient) (new : NodesState) (later : Piped) (final : WorldState)
-    → slice_get old.clients place.client ≡ Some client → TakesUpWhere had place (port_of number) count old.nodes client.piped new later
-    → final ≡ (if had then put_down place.client client later new old else forgetful (put_down place.client client later new old)) → LosesNothing old final
-    → TakesUpOn number place count old final
-takes_up_on true old number count place client new later final owned taken is none =
-    record { client = client; owned = owned; between = new; piped = later; takes = taken; is = is }
-takes_up_on false old number count place client new later final owned taken is none =
-    absurd (counted_loss old final old.losses (omega arith) (ap (λ (w : WorldState). w.losses) is) none)
+pub takes_up_on : {E : Type 0} (r : Result Bool E) (old : WorldState) (number count : ℕ) (place : Place) (client : WorldClient) (new : NodesState) (later : Piped)
+    → slice_get old.clients place.client ≡ Some client → IfOk r (λ had. TakesUpWhere had place (port_of number) count old.nodes client.piped new later)
+    → IfOk r (λ had. TakesUpOnWhere had number place count old (put_down place.client client later new old))
+takes_up_on (Ok true) old number count place client new later owned taken = record { client = client; owned = owned; between = new; piped = later; takes = taken; is = refl }
+takes_up_on (Ok false) old number count place client new later owned taken = unchanged old place.client client new later owned taken.0 taken.1
+takes_up_on (Err e) old number count place client new later owned taken = tt
+
+-- and where they cannot, nothing is changed
+pub takes_none : {X E : Type 0} (r : Result X E) (old : WorldState) (place : Place) (client : WorldClient) (new : NodesState) (later : Piped) → slice_get old.clients place.client ≡ Some client
+    → OnErr r (new ≡ old.nodes) → OnErr r (later ≡ client.piped) → OnErr r (put_down place.client client later new old ≡ old)
+takes_none (Ok x) old place client new later owned same still = tt
+takes_none (Err e) old place client new later owned same still = unchanged old place.client client new later owned same still
 
 pub takes_nothing_on : {X : Type 0} (r : Result X Idle) (w : WorldState) (count : ℕ) (place : Place) (client : WorldClient) → slice_get w.clients place.client ≡ Some client
     → OnErr r (CannotTake place count w.nodes client.piped) → OnErr r (CannotTakeOn place count w)

@@ -6,37 +6,82 @@ use Rattle.std.proofs.lemmas.Bool.{both_ways}
 use Rattle.std.proofs.lemmas.Option.{same_Some}
 use Rattle.agreement.specs.MasterState.{refusal}
 use Rattle.ballot.specs.Config.{Config}
+use Rattle.ballot.specs.Losses.{one_more}
 use Rattle.master.specs.declared.event.Idle.{Idle}
-use Rattle.world_base.specs.declared.item.Item.TheVariants.{Bytes}
-use Rattle.world_nodes.specs.Goes.{behind_giving, running}
+use Rattle.world_base.specs.declared.item.Item.{Item}
+use Rattle.world_base.specs.declared.item.Item.TheVariants.{Bytes, Crash, Ended, Tick}
+use Rattle.world_nodes.specs.Goes.{Comes, ComesToNobody, running}
 use Rattle.world_nodes.specs.Nodes.{NodesState}
-use Rattle.world_nodes.specs.Steps.{LosesNothing as NodesLoseNothing}
-use Rattle.world_nodes.proofs.Exactly.{exactly}
+use Rattle.world_nodes.specs.Steps.{ComesIn, GivesIn, LosesNothing as NodesLoseNothing, TakesIn}
 use Rattle.world_pipes.specs.declared.way.Way.{Way}
 use Rattle.world_pipes.specs.Piped.{Piped, is_holding}
 use Rattle.world.specs.declared.event.Event.{Event}
 use Rattle.world.specs.declared.event.Event.TheVariants as events
 use Rattle.world.specs.declared.place.Place.{Place}
 use Rattle.world.specs.declared.world.WorldClient.{WorldClient}
-use Rattle.world.specs.Found.{Connected, place_numbered, port_of, with_piped}
-use Rattle.world.specs.Gathering.{Gathers}
-use Rattle.world.specs.Goes.{LosesNothing}
-use Rattle.world.specs.Happening.{CannotHappen, Does, Happens, IsClosed, IsNoPart, Run, down_of, is_held, is_held_by, up_of}
+use Rattle.world.specs.Found.{Connected, place_numbered, port_of, with_less, with_piped}
+use Rattle.world.specs.Gathering.{Gathers, TakesItem}
+use Rattle.world.specs.Happening.{CannotHappen, Does, Happens, HappensExactly, HappensLosing, HearsThem, IsClosed, IsNoPart, Run, down_of, is_held, is_held_by, receiver_of, up_of}
 use Rattle.world.specs.Housed.{AreHoused, leads_of}
-use Rattle.world.specs.Inside.{CannotHear, CannotTakeOn, GoesOn, HearsOn, Meets, TakesUpOn, forgetful}
+use Rattle.world.specs.Inside.{CannotHear, CannotTakeOn, HearsOn, IsCounted, IsDone, Meets, TakesUpOn, forgetful}
 use Rattle.world.specs.World.{WorldState}
 use Rattle.world.proofs.GroupGoes.{with_nodes}
-use Rattle.world.proofs.Joined.{counted_loss}
+use Rattle.world.proofs.NothingLost.{assigns_exactly, comes_rises, gathers_exactly, gathers_rises, rises_split, takes_exactly}
 use Rattle.world.proofs.StandsThere.{connected, numbered_at, way_found}
 
 -- ---- the master
 
-pub assign_meets : (r : Result (Unit {0}) Idle) (config : Config) (old : WorldState) (new : NodesState) → (NodesLoseNothing old.nodes new → OnOk r (new ≡ behind_giving config old.nodes))
+pub assign_meets : (r : Result (Unit {0}) Idle) (config : Config) (old : WorldState) (new : NodesState) → OnOk r (GivesIn config old.nodes new)
     → IsErr r ↔ (refusal old.nodes.master config ≡ None → ⊥) → OnErr r (new ≡ old.nodes) → Meets (events.Assign config) old r (with_nodes new old)
-assign_meets (Ok x) config old new acts idle same = λ none whole. (λ refused. both_ways false refl (idle.1 refused), ap (λ (n : NodesState). with_nodes n old) (acts whole))
+assign_meets (Ok x) config old new gives idle same =
+    inl (record {
+      can = λ refused. both_ways false refl (idle.1 refused);
+      does = inr (new, gives, refl);
+      exact = λ none. (new, assigns_exactly config old.nodes new gives none, refl);
+      uncounted = refl;
+    })
 assign_meets (Err e) config old new acts idle same = (idle.0 refl, ap (λ (n : NodesState). with_nodes n old) same)
 
+-- ---- a node
+
+-- a message comes to its receiver
+pub delivered : (number receiver : ℕ) (old : WorldState) (between : NodesState) (new : WorldState) → receiver ≡ receiver_of (slice_get old.nodes.sent number)
+    → (ComesToNobody (slice_get old.nodes.sent number) old.nodes → ⊥) → ComesIn (slice_get old.nodes.sent number) old.nodes between
+    → (NodesLoseNothing old.nodes between → Comes (slice_get old.nodes.sent number) old.nodes between) → Gathers false receiver (with_nodes between old) new → new.losses ≡ old.losses
+    → IsDone (events.Deliver number) old new
+delivered number receiver old between new is can comes exact gathers still =
+    let all = subst (λ (k : ℕ). Gathers false k (with_nodes between old) new) is gathers in
+    record {
+      can = can;
+      does = inr (between, comes, all);
+      exact = λ none.
+          let to = receiver_of (slice_get old.nodes.sent number) in
+          let s = rises_split old.nodes between new.nodes (comes_rises (slice_get old.nodes.sent number) old.nodes between comes) (gathers_rises to (with_nodes between old) new all) none in
+          (between, exact s.0, gathers_exactly to (with_nodes between old) new all s.1);
+      uncounted = still;
+    }
+
+-- time passes at it, or it crashes
+pub ticked : (node : ℕ) (old : WorldState) (between : NodesState) (new : WorldState) → (running old.nodes.nodes node ≡ None → ⊥) → TakesIn node (Tick 0) old.nodes between
+    → Gathers false node (with_nodes between old) new → new.losses ≡ old.losses → IsDone (events.Tick node) old new
+ticked node old between new can takes gathers still =
+    let item : TakesItem false node (Tick 0) old new = (between, takes, gathers) in
+    record { can = can; does = inr item; exact = λ none. takes_exactly node (Tick 0) old new item none; uncounted = still }
+
+pub crashed : (node : ℕ) (old : WorldState) (between : NodesState) (new : WorldState) → (running old.nodes.nodes node ≡ None → ⊥) → TakesIn node Crash old.nodes between
+    → Gathers false node (with_nodes between old) new → new.losses ≡ old.losses → IsDone (events.Crash node) old new
+crashed node old between new can takes gathers still =
+    let item : TakesItem false node Crash old new = (between, takes, gathers) in
+    record { can = can; does = inr item; exact = λ none. takes_exactly node Crash old new item none; uncounted = still }
+
 -- ---- a connection's end at its node
+
+-- it sees the end of a connection
+pub noticed : (number : ℕ) (old : WorldState) (c : Connected number old) (between : NodesState) (new : WorldState) → (CannotHappen (events.Notice number) old → ⊥)
+    → TakesIn c.place.node (Ended (port_of number)) old.nodes between → Gathers false c.place.node (with_nodes between old) new → new.losses ≡ old.losses → IsDone (events.Notice number) old new
+noticed number old c between new can takes gathers still =
+    let item : TakesItem false c.place.node (Ended (port_of number)) old new = (between, takes, gathers) in
+    record { can = can; does = inr (c, item); exact = λ none. (c, takes_exactly c.place.node (Ended (port_of number)) old new item none); uncounted = still }
 
 pub closed_none : (number : ℕ) (w : WorldState) → place_numbered number w.connections ≡ None → IsClosed (place_numbered number w.connections) w.nodes.nodes
 closed_none number w none = subst (λ (o : Option Place). IsClosed o w.nodes.nodes) (sym none) tt
@@ -61,9 +106,9 @@ no_part count waiting some part (inr more) = omega (arith, part, more)
 -- ---- bytes come up
 
 pub carries_up : (number : ℕ) (place : Place) (count : ℕ) (old mid new : WorldState) → slice_get old.connections (number - 1) ≡ Some place → 0 < number → place.is_open ≡ true
-    → TakesUpOn number place count old mid → NodesLoseNothing old.nodes mid.nodes → Gathers place.node mid new
-    → (CannotHappen (events.CarryUp number count) old → ⊥) × Does (events.CarryUp number count) old new
-carries_up number place count old mid new at positive up t none gathers = (can, done)
+    → TakesUpOn number place count old mid → Gathers false place.node mid new → new.losses ≡ old.losses → IsDone (events.CarryUp number count) old new
+carries_up number place count old mid new at positive up t gathers still =
+    record { can = can; does = inr (c, item); exact = λ none. (c, takes_exactly place.node piece less new item none); uncounted = still }
   where
     c : Connected number old
     c = record {
@@ -79,17 +124,23 @@ carries_up number place count old mid new at positive up t none gathers = (can, 
     can (inl closed) = not_closed number old place at positive up t.takes.runs closed
     can (inr few) = no_part count t.takes.way.up t.takes.some t.takes.part (subst (λ (o : Option Way). IsNoPart count (up_of o)) (way_found number old c) few)
 
-    done : Does (events.CarryUp number count) old new
-    done = (
-      c,
-      (
-        t.between,
-        exactly place.node (Bytes (port_of number) (take count t.takes.way.up) 0) old.nodes t.between t.takes.step
-            (subst (λ (n : NodesState). NodesLoseNothing old.nodes n) (ap (λ (w : WorldState). w.nodes) t.is) none),
-        subst (λ (w : WorldState). Gathers place.node w new)
-            (t.is ∙ ap (λ (p : Piped). let w : WorldState = record (with_piped place.client t.client p old) { nodes = t.between } in w) t.takes.is) gathers,
-      ),
+    piece : Item
+    piece = Bytes (port_of number) (take count t.takes.way.up) 0
+
+    less : WorldState
+    less = with_piped place.client t.client (with_less place.at count t.takes.way t.client.piped) old
+
+    item : TakesItem false place.node piece less new
+    item = (
+      t.between,
+      t.takes.step,
+      subst (λ (w : WorldState). Gathers false place.node w new)
+          (t.is ∙ ap (λ (p : Piped). let w : WorldState = record (with_piped place.client t.client p old) { nodes = t.between } in w) t.takes.is) gathers,
     )
+
+-- there was no memory for them, and that is counted
+pub lost_up : (number : ℕ) (place : Place) (count : ℕ) (old mid new : WorldState) → mid ≡ old → new ≡ forgetful mid → HappensLosing (events.CarryUp number count) old new
+lost_up number place count old mid new same lost = record { done = old; does = inl refl; counted = lost ∙ ap forgetful same }
 
 pub carries_nothing : (number : ℕ) (place : Place) (count : ℕ) (old : WorldState) → AreHoused (leads_of old.clients) old.connections → slice_get old.connections (number - 1) ≡ Some place → 0 < number
     → CannotTakeOn place count old → CannotHappen (events.CarryUp number count) old
@@ -108,9 +159,9 @@ held_there : (number : ℕ) (w : WorldState) (c : Connected number w) → is_hel
 held_there number w c = ap (λ (o : Option Place). is_held o w.clients) c.numbered ∙ ap (λ (o : Option WorldClient). is_held_by o c.place.at) c.owned
 
 pub carries_down : (number : ℕ) (place : Place) (count : ℕ) (had : Bool) (old : WorldState) (client : WorldClient) (piped : Piped) → AreHoused (leads_of old.clients) old.connections
-    → slice_get old.connections (number - 1) ≡ Some place → 0 < number → slice_get old.clients place.client ≡ Some client → HearsOn had place.at count client.piped piped → had ≡ true
-    → (CannotHappen (events.CarryDown number count) old → ⊥) × Does (events.CarryDown number count) old (with_piped place.client client piped old)
-carries_down number place count had old client piped housed at positive owned hears memory = (can, (c, piped, hears.hears memory, refl))
+    → slice_get old.connections (number - 1) ≡ Some place → 0 < number → slice_get old.clients place.client ≡ Some client → HearsOn had place.at count client.piped piped
+    → (CannotHappen (events.CarryDown number count) old → ⊥) × Does had (events.CarryDown number count) old (with_piped place.client client piped old)
+carries_down number place count had old client piped housed at positive owned hears = (can, (c, piped, hears.hears, refl))
   where
     found : Connected number old
     found = connected old number place housed at positive
@@ -146,36 +197,49 @@ hears_nothing number place count old client housed at positive owned cannot =
     by (inl other) = inl (held_there number old c ∙ other)
     by (inr few) = inr (subst (λ (o : Option Way). IsNoPart count (down_of o)) (sym (way_found number old c)) few)
 
+-- what is heard exactly is heard
+hears_less : (count : ℕ) (old new : Piped) → HearsThem true count old new → HearsThem false count old new
+hears_less count old new h = (h.0, λ yes. absurd (both_ways false refl yes), h.2)
+
+does_less : (number count : ℕ) (old new : WorldState) → Does true (events.CarryDown number count) old new → Does false (events.CarryDown number count) old new
+does_less number count old new d = (d.0, d.1, hears_less count d.0.client.piped d.1 d.2, d.3)
+
 -- want of memory is counted
 pub heard_meets : (number : ℕ) (place : Place) (count : ℕ) (had : Bool) (old : WorldState) (client : WorldClient) (piped : Piped) (new : WorldState) → AreHoused (leads_of old.clients) old.connections
-    → slice_get old.connections (number - 1) ≡ Some place → 0 < number → slice_get old.clients place.client ≡ Some client → HearsOn had place.at count client.piped piped → old.losses ≤ old.losses
-    → new ≡ (if had then with_piped place.client client piped old else forgetful (with_piped place.client client piped old)) → LosesNothing old new
-    → (CannotHappen (events.CarryDown number count) old → ⊥) × Does (events.CarryDown number count) old new
-heard_meets number place count true old client piped new housed at positive owned hears low is none =
-    subst (λ (w : WorldState). (CannotHappen (events.CarryDown number count) old → ⊥) × Does (events.CarryDown number count) old w) (sym is)
-    (carries_down number place count true old client piped housed at positive owned hears refl)
-heard_meets number place count false old client piped new housed at positive owned hears low is none = absurd (counted_loss old new old.losses low (ap (λ (w : WorldState). w.losses) is) none)
+    → slice_get old.connections (number - 1) ≡ Some place → 0 < number → slice_get old.clients place.client ≡ Some client → HearsOn had place.at count client.piped piped
+    → new ≡ (if had then with_piped place.client client piped old else forgetful (with_piped place.client client piped old))
+    → IsDone (events.CarryDown number count) old new ⊎ HappensLosing (events.CarryDown number count) old new
+heard_meets number place count true old client piped new housed at positive owned hears is =
+    let heard = with_piped place.client client piped old in
+    let d = carries_down number place count true old client piped housed at positive owned hears in
+    inl (subst (λ (w : WorldState). IsDone (events.CarryDown number count) old w) (sym is)
+    (record { can = d.0; does = inr (does_less number count old heard d.1); exact = λ none. d.1; uncounted = refl }))
+heard_meets number place count false old client piped new housed at positive owned hears is =
+    let d = carries_down number place count false old client piped housed at positive owned hears in
+    inr (record { done = with_piped place.client client piped old; does = inr d.1; counted = is })
 
 pub never_opened : (number count : ℕ) (w : WorldState) → place_numbered number w.connections ≡ None → CannotHappen (events.CarryDown number count) w
 never_opened number count w none = inl (ap (λ (o : Option Place). is_held o w.clients) none)
 
 -- ---- whole steps
 
--- where nothing is counted behind it, what comes of an event is what came of it
-pub step_happens : (event : Event) (old mid new : WorldState) (before counted : ℕ) → before ≡ old.nodes.losses → counted ≡ old.losses → GoesOn old mid → Meets event old (Ok tt) mid
-    → mid.losses ≤ new.losses → (mid.losses ≡ counted → LosesNothing mid new → (mid.nodes.losses ≡ before) × (before < 2 ^ 64 - 1)) → (LosesNothing mid new → new ≡ mid)
-    → Happens event old (Ok tt) new
-step_happens event old mid new before counted is so_many went meets rises whole same = (
-  (let x = went.rises in let l : old.losses ≤ new.losses = omega (arith, x, rises) in l),
-  λ none.
-      let x = went.rises in let still = none.0 in let low = none.1 in
-      let one : LosesNothing old mid = ((let e : mid.losses ≡ old.losses = omega (arith, x, rises, still) in e), low) in
-      let two : LosesNothing mid new = ((let e : new.losses ≡ mid.losses = omega (arith, x, rises, still) in e), (let l : mid.losses < 2 ^ 64 - 1 = omega (arith, x, rises, still, low) in l)) in
-      let w = whole (one.0 ∙ sym so_many) two in let kept = w.0 in let below = w.1 in
-      let nodes : NodesLoseNothing old.nodes mid.nodes =
-      ((let e : mid.nodes.losses ≡ old.nodes.losses = omega (arith, kept, is) in e), (let l : old.nodes.losses < 2 ^ 64 - 1 = omega (arith, is, below) in l)) in
-      subst (λ (w : WorldState). (CannotHappen event old → ⊥) × Does event old w) (sym (same two)) (meets one nodes),
-)
+-- an event that was done is counted where its nodes counted a loss, and one that is counted already is not counted again
+pub step_happens : (event : Event) (old mid new : WorldState) (before counted : ℕ) → before ≡ old.nodes.losses → counted ≡ old.losses → Meets event old (Ok tt) mid
+    → IsCounted before counted mid new → Happens event old (Ok tt) new
+step_happens event old mid new before counted is so_many (inl d) (inl none) =
+    let w = none.1 (d.uncounted ∙ sym so_many) in let kept = w.0 in let below = w.1 in
+    let nodes : NodesLoseNothing old.nodes mid.nodes =
+    ((let e : mid.nodes.losses ≡ old.nodes.losses = omega (arith, kept, is) in e), (let l : old.nodes.losses < 2 ^ 64 - 1 = omega (arith, is, below) in l)) in
+    inl (subst (λ (w : WorldState). HappensExactly event old w) (sym none.0) (record { can = d.can; does = d.exact nodes; uncounted = d.uncounted }))
+step_happens event old mid new before counted is so_many (inl d) (inr one) =
+    inr (record { done = mid; does = d.does; counted = one.0 ∙ ap (λ (k : ℕ). record mid { losses = one_more k }) d.uncounted })
+step_happens event old mid new before counted is so_many (inr l) (inl none) = inr (subst (λ (w : WorldState). HappensLosing event old w) (sym none.0) l)
+step_happens event old mid new before counted is so_many (inr l) (inr one) =
+    inr (record {
+      done = l.done;
+      does = l.does;
+      counted = one.0 ∙ ap (λ (k : ℕ). record mid { losses = one_more k }) (one.1 ∙ so_many) ∙ ap (λ (w : WorldState). record w { losses = one_more old.losses }) l.counted;
+    })
 
 -- one more event
 pub run_more : (events : List Event) (event : Event) (old mid new : WorldState) (result : Result (Unit {0}) Idle) → Run events old mid → Happens event mid result new → Run (events ++ event ∷ []) old new

@@ -1,4 +1,5 @@
 mod NodesGoOn
+mod NothingLost
 mod Turned
 mod LeadsKept
 mod ClientsStand
@@ -27,3 +28,4 @@ mod OneAgreed
 mod AgreedOnlyGrows
 mod CountedOnce
 mod AcceptedShown
+mod UncountedIsExact

@@ -9,7 +9,7 @@ use Rattle.exact_model.specs.group_model.Goes.Went.{then_went}
 use Rattle.exact_model.proofs.of_group_model.Ordered.{groups_keep_the_order}
 use Rattle.world_nodes.specs.Nodes.{NodesState, StandsFor}
 use Rattle.world_nodes.specs.Steps.{LosesNothing as NodesLoseNothing, forgetful}
-use Rattle.world.specs.Goes.{AreReached, Goes, GoesTo, NodesGo, NodesGoOn, StaysReached}
+use Rattle.world.specs.Goes.{AreReached, Goes, NodesGo, NodesGoOn, StaysReached}
 use Rattle.world.specs.Goes.Goes.{rests, goes_on}
 use Rattle.world.specs.Inside.{NodesStay}
 

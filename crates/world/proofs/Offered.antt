@@ -71,6 +71,11 @@ hears_of_one false node port old new core stands known step acts =
 
 -- ---- the client's part
 
+-- its node heard of it, or did not
+heard : (node : ℕ) (port : Port) (old new : NodesState) → HearsOfOne false node port old new → (new ≡ old) ⊎ TakesIn node (Opened port 0) old new
+heard node port old new (inl same) = inl same
+heard node port old new (inr hears) = inr hears.step
+
 -- its connection is offered to the node, and taken back where that does not take it
 pub reaches : (taken : Bool) (node : ℕ) (port : Port) (old new : NodesState) (client mid later : Piped)
     → Opens (node - 1) port (keeper_step Call.Opens client.core.state) client (Ok tt) mid → ConnectingFollows (node - 1) port client (Ok tt) mid
@@ -79,7 +84,8 @@ reaches true node port old new client mid later opens follows hears is =
     subst (λ (p : Piped). Reaches true node port old client new p) (sym is)
     (record { opens = opens; follows = follows; hears = hears })
 reaches false node port old new client mid later opens follows hears is =
-    subst (λ (p : Piped). Reaches false node port old client new p) (sym is) (taking_back_follows (node - 1) port client mid opens, hears)
+    subst (λ (p : Piped). Reaches false node port old client new p) (sym is)
+    (taking_back_follows (node - 1) port client mid opens, hears, inr (mid, opens, refl, heard node port old new hears))
 
 -- without one its connections lead where they led
 pub back_leads : (taken : Bool) (node : ℕ) (port : Port) (client mid later : Piped) → Opens (node - 1) port (keeper_step Call.Opens client.core.state) client (Ok tt) mid

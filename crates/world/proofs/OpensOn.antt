@@ -15,6 +15,7 @@ use Rattle.exact_model.specs.world_model.World.{World}
 use Rattle.exact_model.specs.world_model.Goes.WorldStep.{is_turned_away}
 use Rattle.world_nodes.specs.Goes.{Acts, node_of}
 use Rattle.world_nodes.specs.Nodes.{NodesState}
+use Rattle.world_nodes.specs.Steps.{LosesNothing as NodesLoseNothing}
 use Rattle.world_pipes.specs.Following.{FollowsAll}
 use Rattle.world_pipes.specs.Piped.{Piped, is_holding}
 use Rattle.world.specs.Goes.{NodesGoOn}
@@ -22,10 +23,10 @@ use Rattle.world.specs.Housed.{AreHoused, leads_of}
 use Rattle.world.specs.declared.event.Event.TheVariants as events
 use Rattle.world.specs.declared.world.WorldClient.{WorldClient}
 use Rattle.world.specs.declared.place.Place.{Place}
-use Rattle.world.specs.Found.{core_named, is_named, port_of, with_piped}
-use Rattle.world.specs.Happening.{Does as HappenDoes, IsTaken, is_serving, next_number}
-use Rattle.world.specs.Gathering.{Gathers}
-use Rattle.world.specs.Inside.{ConnectsAt, GoesOn, HasNew, HearsOfOne, IsKnown, OpensAt}
+use Rattle.world.specs.Found.{Named, core_named, is_named, port_of, with_piped}
+use Rattle.world.specs.Happening.{Does as HappenDoes, HappensLosing, IsTaken, NoneOpens, OpensOne, is_serving, next_number, with_connection}
+use Rattle.world.specs.Gathering.{Gathers, TakesItem}
+use Rattle.world.specs.Inside.{Begins, ConnectsAt, GoesOn, HasNew, HearsOfOne, IsDone, IsKnown, MayOpenNone, OpensAt, OpensNoneAt}
 use Rattle.world.specs.Standing.{GoesTo, WorldGoes}
 use Rattle.world.specs.Standing.Steps.{rests, goes_on}
 use Rattle.world.specs.World.{WorldState}
@@ -35,6 +36,7 @@ use Rattle.world.proofs.GoesDown.{put_down}
 use Rattle.world.proofs.GroupGoes.{with_nodes, world_stands}
 use Rattle.world.proofs.Joined.{world_goes_join}
 use Rattle.world.proofs.NodesGoOn.{nodes_stay}
+use Rattle.world.proofs.NothingLost.{takes_exactly}
 use Rattle.world.proofs.StandsThere.{core_found}
 
 is_none : {X : Type 0} (o : Option X) → is_some o ≡ false → o ≡ None
@@ -100,24 +102,61 @@ refused_on old i node client new later housed found nodes follows hears =
           (client_goes (with_nodes new old) i client later found follows);
     }
 
+-- so it has none
+pub opens_none : (node : ℕ) (old : WorldState) (i number : ℕ) (client : WorldClient) (new : NodesState) (later : Piped) → slice_get old.clients i ≡ Some client → number ≡ next_number old
+    → NoneOpens node (port_of number) old.nodes client.piped new later → OpensNoneAt i node old (put_down i client later new old)
+opens_none node old i number client new later found counted none =
+    record {
+      client = client;
+      found = found;
+      between = new;
+      piped = later;
+      none = subst (λ (k : ℕ). NoneOpens node (port_of k) old.nodes client.piped new later) counted none;
+      is = refl;
+    }
+
 -- ---- what is asked for is done
 
+-- the connection that was asked for, exactly where the nodes counted no loss
+record IsOpened (name : List ℕ) (node : ℕ) (old new : WorldState) : Type 0 where
+  less : OpensOne false name node old new
+  exact : NodesLoseNothing old.nodes new.nodes → OpensOne true name node old new
+
+opens_one : (name : List ℕ) (at node : ℕ) (old new : WorldState) → position (is_named name) old.clients ≡ Some at → OpensAt at node old new → IsOpened name node old new
+opens_one name at node old new first o =
+    let c : Named name old = record { at = at; first = first; client = o.connects.client; stands = o.connects.found } in
+    let one : WorldState = with_connection c o.connects.piped node in
+    let item : TakesItem false node (Opened (port_of (next_number old)) 0) one new =
+    (o.connects.between, o.connects.reaches.hears.step, subst (λ (w : WorldState). Gathers false node w new) o.connects.is o.gathers) in
+    record {
+      less = (c, o.connects.piped, o.connects.reaches.opens, item);
+      exact = λ none. (c, o.connects.piped, o.connects.reaches.opens, takes_exactly node (Opened (port_of (next_number old)) 0) one new item none);
+    }
+
 pub open_meets : (name : List ℕ) (at node : ℕ) (old new : WorldState) (client : WorldClient) → position (is_named name) old.clients ≡ Some at → slice_get old.clients at ≡ Some client
-    → is_holding client.piped ≡ false → is_serving (node_of old.nodes.nodes node) ≡ true → OpensAt at node old new
-    → ((IsTaken (core_named name old.clients) ⊎ (is_serving (node_of old.nodes.nodes node) ≡ false)) → ⊥) × HappenDoes (events.Open name node) old new
-open_meets name at node old new client first stands free serving o = (can, done)
+    → is_holding client.piped ≡ false → is_serving (node_of old.nodes.nodes node) ≡ true → Begins at node old new
+    → IsDone (events.Open name node) old new ⊎ HappensLosing (events.Open name node) old new
+open_meets name at node old new client first stands free serving begins = by begins
   where
     can : (IsTaken (core_named name old.clients) ⊎ (is_serving (node_of old.nodes.nodes node) ≡ false)) → ⊥
     can (inl taken) = both_ways _ free (subst IsTaken (core_found name old.clients at client first stands) taken)
     can (inr idle) = both_ways _ idle serving
 
-    done : HappenDoes (events.Open name node) old new
-    done = (
-      record { at = at; first = first; client = o.connects.client; stands = o.connects.found },
-      o.connects.piped,
-      o.connects.reaches.opens,
-      (o.connects.between, o.exact, subst (λ (w : WorldState). Gathers node w new) o.connects.is o.gathers),
-    )
+    none : (mid : WorldState) → MayOpenNone at node old mid → (mid ≡ old) ⊎ HappenDoes false (events.Open name node) old mid
+    none mid (inl same) = inl same
+    none mid (inr o) = inr (inr (record { at = at; first = first; client = o.client; stands = o.found }, o.piped, o.between, o.none, o.is))
+
+    losses_none : (mid : WorldState) → MayOpenNone at node old mid → mid.losses ≡ old.losses
+    losses_none mid (inl same) = ap (λ (w : WorldState). w.losses) same
+    losses_none mid (inr o) = ap (λ (w : WorldState). w.losses) o.is
+
+    by : Begins at node old new → IsDone (events.Open name node) old new ⊎ HappensLosing (events.Open name node) old new
+    by (inl o) =
+        let one = opens_one name at node old new first o in
+        inl (record { can = can; does = inr (inl one.less); exact = one.exact; uncounted = o.uncounted })
+    by (inr (inl (o, counted))) =
+        inl (record { can = can; does = none new o; exact = λ lost. absurd (counted lost); uncounted = losses_none new o })
+    by (inr (inr (mid, o, is))) = inr (record { done = mid; does = none mid o; counted = is })
 
 -- a client that holds a connection opens none
 pub is_taken : (name : List ℕ) (w : WorldState) (at : ℕ) (client : WorldClient) → position (is_named name) w.clients ≡ Some at → slice_get w.clients at ≡ Some client

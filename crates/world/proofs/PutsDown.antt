@@ -1,17 +1,14 @@
 -- PutsDown.antt: what a node hands over is put behind what is under way down.
-use Rattle.std.proofs.Common.{◌≡◌, ◌⊎◌, inl, inr, ◌↔◌, ◌≤◌, ◌-◌, ℕ, Bool, true, false, List, ◌++◌, Option, Some, None, Result, Ok, Err, OnOk, OnErr, slice_get, refl, sym, ap, ◌∙◌, subst}
+use Rattle.std.proofs.Common.{◌≡◌, inl, inr, ◌↔◌, ◌≤◌, ◌-◌, ℕ, Bool, List, ◌++◌, Option, Some, None, Result, Ok, Err, OnErr, slice_get, refl, sym, ap, ◌∙◌, subst}
 use Rattle.std.specs.Prelude.{IfSome, IfOk, IsErr}
-use Rattle.std.proofs.lemmas.Bool.{both_ways}
 use Rattle.std.proofs.lemmas.List.{append-nil, set-set}
-use Rattle.std.proofs.lemmas.Option.{same_Some}
 use Rattle.lists.proofs.Places.{get_set}
 use Rattle.master.specs.declared.event.Idle.{Idle}
 use Rattle.world_base.specs.declared.handed.Handed.{Handed}
-use Rattle.world_base.specs.declared.handed.Handed.TheVariants as answers
 use Rattle.world_base.specs.declared.item.Port.{Port}
 use Rattle.world_base.specs.Core.{CountedCore}
 use Rattle.exact_model.specs.node_model.Moves.Deed.{gives}
-use Rattle.world_nodes.specs.Goes.{AnswersFor, GivesExactly, HandsOver, behind_deed, node_of}
+use Rattle.world_nodes.specs.Goes.{node_of}
 use Rattle.world_nodes.specs.Nodes.{NodesState}
 use Rattle.world_nodes.specs.Steps.{HandsIn}
 use Rattle.world_nodes.proofs.Exactly.{gives_acts}
@@ -21,26 +18,31 @@ use Rattle.world.specs.Housed.{leads}
 use Rattle.world.specs.Found.{with_down}
 use Rattle.world.specs.Gathering.{Gives, is_more, is_told_open, put_out}
 use Rattle.world.specs.Goes.{NodesGoOn}
-use Rattle.world.specs.Inside.{HandsDown, MayHandDown, MayPutDown, PutsDown}
+use Rattle.world.specs.Inside.{HandsDown, MayHandDown, MayPutDown, PutsDown, tells_open}
 use Rattle.world.proofs.GroupGoes.{acts_go}
 use Rattle.world.proofs.LeadsKept.{leads_set}
 use Rattle.world.proofs.NodesGoOn.{nodes_forget, nodes_stay, staying_goes}
 
 -- ---- one call of a node
 
-pub handed_down : (r : Result Handed Idle) (node : ℕ) (port : Port) (old new : NodesState) (before behind : List ℕ) → IsErr r ↔ (node_of old.nodes node ≡ None)
-    → OnOk r (GivesExactly node port old new) → OnOk r (HandsOver node port old before behind) → OnErr r ((new ≡ old) × (behind ≡ before)) → HandsDown node port old before new behind
-handed_down r node port old new before behind idle exact over same = by r (node_of old.nodes node) refl idle exact over same
-  where
-    behind_it : (o : Option CountedCore) → node_of old.nodes node ≡ o → Gives o node port old new → behind ≡ before ++ put_out port o → HandsDown node port old before new behind
-    behind_it o e handed is = subst (λ (z : Option CountedCore). Gives z node port old new × (behind ≡ before ++ put_out port z)) (sym e) (handed, is)
+abbrev HandsExactly : ℕ → Port → NodesState → List ℕ → NodesState → List ℕ → Bool → Option CountedCore → Type 0
+HandsExactly node port old before new after is_open o = Gives o node port old new × (after ≡ before ++ put_out port o) × (is_open ≡ is_told_open port o)
 
-    by : (r : Result Handed Idle) (o : Option CountedCore) → node_of old.nodes node ≡ o → IsErr r ↔ (node_of old.nodes node ≡ None) → OnOk r (GivesExactly node port old new)
-        → OnOk r (HandsOver node port old before behind) → OnErr r ((new ≡ old) × (behind ≡ before)) → HandsDown node port old before new behind
-    by (Ok h) None e idle exact over same = absurd (both_ways false refl (idle.1 e))
-    by (Ok h) (Some core) e idle exact over same =
-        behind_it (Some core) e (exact.is ∙ ap (λ (z : CountedCore). behind_deed (node - 1) z (gives port) old) (same_Some exact.core core (sym exact.there ∙ e))) (over core e)
-    by (Err x) o e idle exact over same = behind_it None (idle.0 refl) same.0 (same.1 ∙ sym (append-nil before))
+pub handed_down : (r : Result Handed Idle) (is_open : Bool) (node : ℕ) (port : Port) (old new : NodesState) (before after : List ℕ) → is_open ≡ tells_open r
+    → IsErr r ↔ (node_of old.nodes node ≡ None) → IfOk r (λ handed. HandsIn node port old new before after handed) → OnErr r ((new ≡ old) × (after ≡ before))
+    → HandsDown node port old before new after is_open
+handed_down r is_open node port old new before after eq idle does same = by r eq idle does same
+  where
+    one : (h : Handed) → is_open ≡ is_more h → HandsIn node port old new before after h → HandsDown node port old before new after is_open
+    one h eq (inl hands) =
+        let there = hands.0.there in
+        inl (subst (HandsExactly node port old before new after is_open) (sym there) (hands.0.is, hands.1 hands.0.core there, eq ∙ ap is_more (hands.2 hands.0.core there)))
+    one h eq (inr rests) = inr (rests.0, rests.1, eq ∙ ap is_more rests.2)
+
+    by : (r : Result Handed Idle) → is_open ≡ tells_open r → IsErr r ↔ (node_of old.nodes node ≡ None) → IfOk r (λ handed. HandsIn node port old new before after handed)
+        → OnErr r ((new ≡ old) × (after ≡ before)) → HandsDown node port old before new after is_open
+    by (Ok h) eq idle does same = one h eq does
+    by (Err x) eq idle does same = inl (subst (HandsExactly node port old before new after is_open) (sym (idle.0 refl)) (same.0, same.1 ∙ sym (append-nil before), eq))
 
 -- whatever memory does
 pub may_hand_down : (r : Result Handed Idle) (node : ℕ) (port : Port) (old new : NodesState) (before behind : List ℕ) → IfOk r (λ handed. HandsIn node port old new before behind handed)
@@ -57,25 +59,6 @@ pub handing_goes : (node : ℕ) (port : Port) (old new : NodesState) (before beh
 handing_goes node port old new before behind rises (inl stays) = record { rises = rises; goes = staying_goes old new stays.0 }
 handing_goes node port old new before behind rises (inr hands) = record { rises = rises; goes = acts_go (Some (node - 1, gives port)) old new hands.0 }
 
--- whether its end is open is just what it told
-pub told_exactly : (r : Result Handed Idle) (is_open : Bool) (node : ℕ) (port : Port) (old : NodesState) → (is_open ≡ true) ↔ (r ≡ Ok answers.Open) → IsErr r ↔ (node_of old.nodes node ≡ None)
-    → IfOk r (λ handed. AnswersFor node port old handed) → is_open ≡ is_told_open port (node_of old.nodes node)
-told_exactly r is_open node port old eq idle answer = by r (node_of old.nodes node) refl eq idle answer
-  where
-    not_open : (r : Result Handed Idle) (b : Bool) → (b ≡ true) ↔ (r ≡ Ok answers.Open) → (r ≡ Ok answers.Open → ⊥) → b ≡ false
-    not_open r false eq never = refl
-    not_open r true eq never = absurd (never (eq.0 refl))
-
-    as_told : (h : Handed) (b : Bool) → (b ≡ true) ↔ (◌≡◌ {A = Result Handed Idle} (Ok h) (Ok answers.Open)) → b ≡ is_more h
-    as_told answers.Open b eq = eq.1 refl
-    as_told answers.Closed b eq = not_open (Ok answers.Closed) b eq (λ e. cc)
-
-    by : (r : Result Handed Idle) (o : Option CountedCore) → node_of old.nodes node ≡ o → (is_open ≡ true) ↔ (r ≡ Ok answers.Open) → IsErr r ↔ (node_of old.nodes node ≡ None)
-        → IfOk r (λ handed. AnswersFor node port old handed) → is_open ≡ is_told_open port (node_of old.nodes node)
-    by (Err x) o e eq idle answer = not_open (Err x) is_open eq (λ e. cc) ∙ sym (ap (is_told_open port) (idle.0 refl))
-    by (Ok h) None e eq idle answer = absurd (both_ways false refl (idle.1 e))
-    by (Ok h) (Some core) e eq idle answer = as_told h is_open eq ∙ ap is_more (answer core e) ∙ sym (ap (is_told_open port) e)
-
 -- ---- bytes that are exchanged twice
 
 of_some : {X : Type 0} (P : X → Type 0) (o : Option X) (x : X) → o ≡ Some x → IfSome o P → P x
@@ -91,13 +74,13 @@ exchanged old mid later at none handed first second way found =
     two ∙ ap (λ (p : Piped). with_down at bare handed p) one
     ∙ ap (λ (l : List Way). let p : Piped = record old { ways = l } in p) (set-set old.ways at bare (record way { down = handed }))
 
-pub puts : (node : ℕ) (port : Port) (nodes behind : NodesState) (old mid later : Piped) (at : ℕ) (none moved handed : List ℕ)
+pub puts : (node : ℕ) (port : Port) (nodes behind : NodesState) (old mid later : Piped) (at : ℕ) (none moved handed : List ℕ) (is_open : Bool)
     → IfSome (slice_get old.ways at) (λ way. mid ≡ with_down at way none old) → IfSome (slice_get old.ways at) (λ way. moved ≡ way.down)
-    → IfSome (slice_get mid.ways at) (λ way. later ≡ with_down at way handed mid) → HandsDown node port nodes moved behind handed
-    → PutsDown at node port nodes old behind later
-puts node port nodes behind old mid later at none moved handed first given second hands way found = (
+    → IfSome (slice_get mid.ways at) (λ way. later ≡ with_down at way handed mid) → HandsDown node port nodes moved behind handed is_open
+    → PutsDown at node port nodes old behind later is_open
+puts node port nodes behind old mid later at none moved handed is_open first given second hands way found = (
   handed,
-  subst (λ (l : List ℕ). HandsDown node port nodes l behind handed) (of_some (λ (w : Way). moved ≡ w.down) (slice_get old.ways at) way found given) hands,
+  subst (λ (l : List ℕ). HandsDown node port nodes l behind handed is_open) (of_some (λ (w : Way). moved ≡ w.down) (slice_get old.ways at) way found given) hands,
   exchanged old mid later at none handed first second way found,
 )
 

@@ -4,18 +4,16 @@ use Rattle.std.proofs.lemmas.Bool.{eq-eqb, ne_eqb}
 use Rattle.std.proofs.lemmas.List.{length-set, take-set, take_all}
 use Rattle.std.proofs.lemmas.Option.{same_Some, slice_get_within}
 use Rattle.model.proofs.Lists.{same_or_other}
-use Rattle.world_nodes.specs.Nodes.{NodesState}
-use Rattle.world_nodes.specs.Steps.{LosesNothing as NodesLoseNothing}
 use Rattle.world.specs.declared.place.Place.{Place}
 use Rattle.world.specs.Found.{place_numbered}
 use Rattle.world.specs.Gathering.{AskedWhere, GathersAmong, is_open_at}
 use Rattle.world.specs.Housed.{open_from}
-use Rattle.world.specs.Inside.{AsksAt, GoesOn, HandsOn, marked}
+use Rattle.world.specs.Inside.{AsksAt, GoesOn, MayHandOn, marked}
 use Rattle.world.specs.World.{WorldState}
-use Rattle.world.proofs.Gathered.{IsGathering, gathered, gathering_on, is_asked}
+use Rattle.world.proofs.Gathered.{IsGathering, gathered, gathering_on, may_be_asked}
 use Rattle.world.proofs.OpenEnds.{IsNewest, newest, none_open, stands_at}
 use Rattle.world.proofs.StandsThere.{numbered_at}
-use Rattle.world.proofs.Turned.{set_itself, there}
+use Rattle.world.proofs.Turned.{there}
 
 -- ---- those that are passed over
 
@@ -36,7 +34,7 @@ passed : (node count number : ℕ) (initial now : WorldState) → is_open_at nod
 passed node count number initial now shut g =
     record {
       goes = g.goes;
-      rest = λ later rises none more. g.rest later rises none (now, subst (λ (b : Bool). AskedWhere b (suc number) now now) (sym shut) refl, more);
+      rest = λ later more. g.rest later (now, subst (λ (b : Bool). AskedWhere false b (suc number) now now) (sym shut) refl, more);
     }
 
 -- from this one on all are closed
@@ -73,7 +71,7 @@ walk_begins node at w counted rests =
       number = length w.connections;
       within = omega arith;
       many = ap (λ (l : List Place). length (open_from 1 l)) (take_all (length w.connections) w.connections (omega arith)) ∙ sym counted;
-      gathering = record { goes = rests; rest = λ later rises none more. more };
+      gathering = record { goes = rests; rest = λ later more. more };
     }
 
 -- the newest of them, by the place at which it stands among them
@@ -103,7 +101,7 @@ walk_on node at initial now new w goes a =
       within = omega (arith, low, within, many);
       many = ap (λ (l : List Place). length (open_from 1 l)) (subst (λ (k : ℕ). take k new.connections ≡ take k now.connections) less a.others) ∙ r.before;
       gathering = gathering_on node (length initial.connections) (suc r.i) r.i initial now new (omega arith) (let e : r.i ≡ suc r.i - 1 = omega arith in e) g goes
-          (λ none. subst (λ (k : ℕ). AskedWhere (is_open_at node (place_numbered k now.connections)) k now new) same (a.asks none));
+          (subst (λ (k : ℕ). AskedWhere false (is_open_at node (place_numbered k now.connections)) k now new) same a.asks);
     }
 
 pub next_there : (node at next : ℕ) (initial now : WorldState) → 0 < at → next ≡ at - 1 → IsWalking node at initial now → next < length (open_from 1 now.connections)
@@ -115,12 +113,11 @@ pub walk_goes_on : (node at next : ℕ) (initial now new : WorldState) → 0 < a
 walk_goes_on node at next initial now new some is w goes a =
     walk_on node next initial now new (subst (λ (k : ℕ). IsWalking node k initial now) (let e : at ≡ suc next = omega (arith, some, is) in e) w) goes a
 
-pub walk_ends : (node at : ℕ) (initial now : WorldState) → at ≡ 0 → IsWalking node at initial now → NodesLoseNothing initial.nodes now.nodes
-    → GathersAmong (length initial.connections) node initial now
-walk_ends node at initial now end w none =
+pub walk_ends : (node at : ℕ) (initial now : WorldState) → at ≡ 0 → IsWalking node at initial now → GathersAmong false (length initial.connections) node initial now
+walk_ends node at initial now end w =
     gathered node (length initial.connections) 0 initial now refl
     (all_passed node (length initial.connections) w.number 0 initial now (omega arith) w.within
-    (λ j p from to e. none_open now.connections w.number w.within (w.many ∙ end) j p to e) w.gathering) none
+    (λ j p from to e. none_open now.connections w.number w.within (w.many ∙ end) j p to e) w.gathering)
 
 -- ---- one of those whose end is open
 
@@ -131,7 +128,7 @@ asks_none node at number place w stands found positive other =
     record {
       number = number;
       stands = stands;
-      asks = λ none. subst (λ (b : Bool). AskedWhere b number w w) (sym elsewhere) refl;
+      asks = subst (λ (b : Bool). AskedWhere false b number w w) (sym elsewhere) refl;
       others = refl;
       many = refl;
     }
@@ -143,14 +140,12 @@ asks_none node at number place w stands found positive other =
 -- it leads to the node, and this is told of its end
 pub asks_one : (node at number : ℕ) (place : Place) (is_open : Bool) (old mid new : WorldState) → slice_get (open_from 1 old.connections) at ≡ Some number
     → slice_get old.connections (number - 1) ≡ Some place → 0 < number → place.is_open ≡ true → place.node ≡ node → mid.connections ≡ old.connections
-    → (NodesLoseNothing old.nodes mid.nodes → HandsOn number place old is_open mid) → new ≡ marked number place is_open mid → AsksAt node at old new
+    → MayHandOn number place old is_open mid → new ≡ marked number place is_open mid → AsksAt node at old new
 asks_one node at number place is_open old mid new stands found positive up leads same hands is =
     record {
       number = number;
       stands = stands;
-      asks = λ none. subst (λ (b : Bool). AskedWhere b number old new) (sym asked)
-          (is_asked number place is_open old mid new found positive
-          (hands (subst (λ (n : NodesState). NodesLoseNothing old.nodes n) (ap (λ (w : WorldState). w.nodes) is) none)) is);
+      asks = subst (λ (b : Bool). AskedWhere false b number old new) (sym asked) (may_be_asked number place is_open old mid new found positive up hands is);
       others = ap (take (number - 1)) after ∙ take-set mid.connections (number - 1) (record place { is_open = is_open }) ∙ ap (take (number - 1)) same;
       many = ap length after ∙ length-set mid.connections (number - 1) (record place { is_open = is_open }) ∙ ap length same;
     }
@@ -163,9 +158,3 @@ asks_one node at number place is_open old mid new stands found positive up leads
         ap (is_open_at node) (numbered_at number old.connections (Some place) positive found)
         ∙ ap (λ (b : Bool). b && place.is_open) (eq-eqb place.node node leads)
         ∙ up
-
--- one that stays open is as it was
-pub stays_open : (number : ℕ) (place : Place) (w : WorldState) → slice_get w.connections (number - 1) ≡ Some place → place.is_open ≡ true → w ≡ marked number place true w
-stays_open number place w found up =
-    ap (λ (l : List Place). record w { connections = l })
-    (sym (set_itself w.connections (number - 1) place found) ∙ ap (λ (b : Bool). set w.connections (number - 1) (record place { is_open = b })) up)

@@ -1,5 +1,5 @@
--- What a node put out goes down on its connections.
-use Rattle.std.specs.Prelude.{◌≡◌, ℕ, zero, suc, ◌-◌, ◌==◌, ◌&&◌, Bool, true, false, List, [], ◌++◌, Option, Some, None, length, set}
+-- What a node put out goes down on its connections: exactly, or where losses are allowed (`whole` is false) perhaps with losses.
+use Rattle.std.specs.Prelude.{◌≡◌, ◌⊎◌, ℕ, zero, suc, ◌-◌, ◌==◌, ◌&&◌, Bool, true, false, List, [], ◌++◌, Option, Some, None, length, set}
 use Rattle.exact_model.specs.node_model.Moves.Deed.{gives}
 use Rattle.world_base.specs.Core.{CountedCore}
 use Rattle.world_base.specs.Handing.{answer_of, bytes_of, listed_at}
@@ -9,6 +9,7 @@ use Rattle.world_base.specs.declared.item.Item.{Item}
 use Rattle.world_base.specs.declared.item.Port.{Port}
 use Rattle.world_nodes.specs.Goes.{TakesExactly, behind_deed, node_of}
 use Rattle.world_nodes.specs.Nodes.{NodesState}
+use Rattle.world_nodes.specs.Steps.{TakesIn, forgetful}
 use Rattle.world.specs.declared.place.Place.{Place}
 use Rattle.world.specs.Found.{Connected, place_numbered, port_of, with_down, with_piped}
 use Rattle.world.specs.World.{WorldState}
@@ -55,25 +56,35 @@ abbrev pub is_open_at : ℕ → Option Place → Bool
 is_open_at node None = false
 is_open_at node (Some place) = (place.node == node) && place.is_open
 
-abbrev pub AskedWhere : Bool → ℕ → WorldState → WorldState → Type 0
-AskedWhere true number old new = IsAsked number old new
-AskedWhere false number old new = new ≡ old
+-- where losses are allowed: or its node ran out of memory, so nothing went down, its end stays as it was, and that is counted
+abbrev pub MayBeAsked : Bool → ℕ → WorldState → WorldState → Type 0
+MayBeAsked true number old new = IsAsked number old new
+MayBeAsked false number old new = IsAsked number old new ⊎ (new ≡ record old { nodes = forgetful old.nodes })
+
+abbrev pub AskedWhere : Bool → Bool → ℕ → WorldState → WorldState → Type 0
+AskedWhere whole true number old new = MayBeAsked whole number old new
+AskedWhere whole false number old new = new ≡ old
 
 -- ---- the connections of a node
 
 -- the first so many connections, from the newest of these to the oldest
-abbrev pub GathersAmong : ℕ → ℕ → WorldState → WorldState → Type 0
-GathersAmong zero node old new = new ≡ old
-GathersAmong (suc before) node old new =
-    (between : WorldState) × AskedWhere (is_open_at node (place_numbered (suc before) old.connections)) (suc before) old between
-    × GathersAmong before node between new
+abbrev pub GathersAmong : Bool → ℕ → ℕ → WorldState → WorldState → Type 0
+GathersAmong whole zero node old new = new ≡ old
+GathersAmong whole (suc before) node old new =
+    (between : WorldState) × AskedWhere whole (is_open_at node (place_numbered (suc before) old.connections)) (suc before) old between
+    × GathersAmong whole before node between new
 
 -- all connections; the master, node 0, has none
-abbrev pub Gathers : ℕ → WorldState → WorldState → Type 0
-Gathers zero old new = new ≡ old
-Gathers (suc at) old new = GathersAmong (length old.connections) (suc at) old new
+abbrev pub Gathers : Bool → ℕ → WorldState → WorldState → Type 0
+Gathers whole zero old new = new ≡ old
+Gathers whole (suc at) old new = GathersAmong whole (length old.connections) (suc at) old new
 
--- a node takes just this item, and what it put out then goes down
-abbrev pub TakesItem : ℕ → Item → WorldState → WorldState → Type 0
-TakesItem node item old new =
-    (between : NodesState) × TakesExactly node item old.nodes between × Gathers node (record old { nodes = between }) new
+-- a node takes just this item; where losses are allowed, perhaps with losses
+abbrev pub TakesWhere : Bool → ℕ → Item → NodesState → NodesState → Type 0
+TakesWhere true node item old new = TakesExactly node item old new
+TakesWhere false node item old new = TakesIn node item old new
+
+-- and what it put out then goes down
+abbrev pub TakesItem : Bool → ℕ → Item → WorldState → WorldState → Type 0
+TakesItem whole node item old new =
+    (between : NodesState) × TakesWhere whole node item old.nodes between × Gathers whole node (record old { nodes = between }) new

@@ -1,7 +1,8 @@
 -- What happens in a world: each event, when it cannot happen, and what it does.
-use Rattle.std.specs.Prelude.{◌≡◌, ◌⊎◌, ◌<◌, ◌≤◌, ℕ, suc, ◌-◌, ◌==◌, ◌&&◌, Bool, true, false, List, [], ◌∷◌, ◌++◌, Option, Some, None, Result, Ok, Err, length, map, slice_get, take}
+use Rattle.std.specs.Prelude.{◌≡◌, ◌⊎◌, ◌<◌, ℕ, suc, ◌-◌, ◌==◌, ◌&&◌, Bool, true, false, List, [], ◌∷◌, ◌++◌, Option, Some, None, Result, Ok, Err, length, map, slice_get, take}
 use Rattle.agreement.specs.MasterState.{refusal}
 use Rattle.ballot.specs.Config.{Config}
+use Rattle.ballot.specs.Losses.{one_more}
 use Rattle.ballot.specs.Message.{Message}
 use Rattle.broker_base.specs.Command.{Command}
 use Rattle.broker_base.specs.Place.{Client}
@@ -14,18 +15,20 @@ use Rattle.exact_model.specs.group_model.Group.{opening_group}
 use Rattle.master.specs.declared.event.Idle.{Idle}
 use Rattle.world_base.specs.Core.{CountedCore, serves}
 use Rattle.world_base.specs.declared.item.Item.TheVariants as items
+use Rattle.world_base.specs.declared.item.Port.{Port}
 use Rattle.world_nodes.specs.Goes.{Comes, ComesToNobody, behind_giving, node_of, running}
 use Rattle.world_nodes.specs.Nodes.{NodesState, StandsFor}
+use Rattle.world_nodes.specs.Steps.{ComesIn, GivesIn, TakesIn}
+use Rattle.world_pipes.specs.declared.sending.Sending.{Sending}
 use Rattle.world_pipes.specs.declared.sending.Sending.TheVariants as sendings
 use Rattle.world_pipes.specs.declared.way.Way.{Way}
-use Rattle.world_pipes.specs.Piped.{Calls, Connects, Hears, Piped, TakesLeave, is_holding, new_piped}
+use Rattle.world_pipes.specs.Piped.{Calls, Connects, Hears, Piped, TakesLeave, is_holding, new_piped, taken_back}
 use Rattle.world.specs.declared.event.Event.{Event}
 use Rattle.world.specs.declared.event.Event.TheVariants as events
 use Rattle.world.specs.declared.place.Place.{Place}
 use Rattle.world.specs.declared.world.WorldClient.{WorldClient}
 use Rattle.world.specs.Found.{Connected, Named, core_named, place_numbered, port_of, way_of, with_less, with_piped}
 use Rattle.world.specs.Gathering.{Gathers, TakesItem}
-use Rattle.world.specs.Goes.{LosesNothing}
 use Rattle.world.specs.World.{WorldState}
 
 -- ---- when an event cannot happen
@@ -92,7 +95,16 @@ CannotHappen (events.Publish name publication) w = Refuses (Call.Publishes publi
 CannotHappen (events.Subscribe name filter qos) w = Refuses (Call.Subscribes filter qos) (core_named name w.clients)
 CannotHappen (events.Unsubscribe name filter) w = Refuses (Call.Unsubscribes filter) (core_named name w.clients)
 
--- ---- what an event does
+-- ---- what an event does: exactly, or where losses are allowed (`whole` is false) perhaps with losses
+
+-- the master gives a ballot, and an answer of it is heard
+abbrev pub Assigns : Bool → Config → NodesState → NodesState → Type 0
+Assigns true config old new = new ≡ behind_giving config old
+Assigns false config old new = GivesIn config old new
+
+abbrev pub Delivers : Bool → Option (ℕ × Message Command) → NodesState → NodesState → Type 0
+Delivers true message old new = Comes message old new
+Delivers false message old new = ComesIn message old new
 
 -- 0 is the master
 abbrev pub receiver_of : Option (ℕ × Message Command) → ℕ
@@ -104,20 +116,23 @@ abbrev pub ClientDoes : List ℕ → (Piped → Piped → Type 0) → WorldState
 ClientDoes name does old new =
     (c : Named name old) × (piped : Piped) × does c.client.piped piped × (new ≡ with_piped c.at c.client piped old)
 
--- what it writes is on its way
-abbrev pub Asks : Call → Piped → Piped → Type 0
-Asks call old new = Calls (keeper_step call old.core.state) old (Ok sendings.Sent) new
+-- what it writes is on its way; where losses are allowed, its connection may be lost instead
+abbrev pub Asks : Call → Bool → Piped → Piped → Type 0
+Asks call true old new = Calls (keeper_step call old.core.state) old (Ok sendings.Sent) new
+Asks call false old new = (sending : Sending) × Calls (keeper_step call old.core.state) old (Ok sending) new
 
-abbrev pub Leaves : Piped → Piped → Type 0
-Leaves old new = TakesLeave (keeper_step Call.Disconnects old.core.state) old (Ok sendings.Sent) new
+abbrev pub Leaves : Bool → Piped → Piped → Type 0
+Leaves true old new = TakesLeave (keeper_step Call.Disconnects old.core.state) old (Ok sendings.Sent) new
+Leaves false old new = (sending : Sending) × TakesLeave (keeper_step Call.Disconnects old.core.state) old (Ok sending) new
 
 -- what is under way stays
 abbrev pub Loses : Piped → Piped → Type 0
 Loses old new = new ≡ record old { core = gone old.core }
 
--- whatever it makes of the bytes, memory was not wanting
-abbrev pub HearsThem : ℕ → Piped → Piped → Type 0
-HearsThem count old new = (result : Result (Unit {0}) ClientError) × (result ≡ Err errors.Memory → ⊥) × Hears count old result new
+-- whatever it makes of the bytes; it runs out of memory only where losses are allowed
+abbrev pub HearsThem : Bool → ℕ → Piped → Piped → Type 0
+HearsThem whole count old new =
+    (result : Result (Unit {0}) ClientError) × (whole ≡ true → result ≡ Err errors.Memory → ⊥) × Hears count old result new
 
 -- a client has a new connection to a node: its CONNECT is under way on it, under the next number
 abbrev pub next_number : WorldState → ℕ
@@ -133,37 +148,70 @@ with_connection {w = w} c piped node =
           ++ record { client = c.at; at = length c.client.piped.ways; node = node; is_open = true } ∷ [];
     }
 
-abbrev pub Does : Event → WorldState → WorldState → Type 0
-Does (events.Assign config) old new = new ≡ record old { nodes = behind_giving config old.nodes }
-Does (events.Deliver number) old new =
-    (between : NodesState) × Comes (slice_get old.nodes.sent number) old.nodes between
-    × Gathers (receiver_of (slice_get old.nodes.sent number)) (record old { nodes = between }) new
-Does (events.Tick node) old new = TakesItem node (items.Tick 0) old new
-Does (events.Crash node) old new = TakesItem node items.Crash old new
-Does (events.Open name node) old new =
+-- its node takes the connection, and what it put out then goes down
+abbrev pub OpensOne : Bool → List ℕ → ℕ → WorldState → WorldState → Type 0
+OpensOne whole name node old new =
     (c : Named name old) × (piped : Piped) × ConnectsTo node (next_number old) c.client.piped piped
-    × TakesItem node (items.Opened (port_of (next_number old)) 0) (with_connection c piped node) new
-Does (events.CarryUp number count) old new =
-    (c : Connected number old) × TakesItem c.place.node (items.Bytes (port_of number) (take count c.way.up) 0)
+    × TakesItem whole node (items.Opened (port_of (next_number old)) 0) (with_connection c piped node) new
+
+-- No connection comes about: the client runs out of memory, or its node does not take the connection, and it is taken back.
+abbrev pub NoneOpens : ℕ → Port → NodesState → Piped → NodesState → Piped → Type 0
+NoneOpens node port old client new later =
+    ((cause : ClientError) × Connects (node - 1) port (keeper_step Call.Opens client.core.state) client (Err cause) later × (new ≡ old))
+    ⊎ ((opened : Piped) × Connects (node - 1) port (keeper_step Call.Opens client.core.state) client (Ok tt) opened
+    × (later ≡ taken_back opened) × ((new ≡ old) ⊎ TakesIn node (items.Opened port 0) old new))
+
+abbrev pub OpensNone : List ℕ → ℕ → WorldState → WorldState → Type 0
+OpensNone name node old new =
+    (c : Named name old) × (piped : Piped) × (between : NodesState)
+    × NoneOpens node (port_of (next_number old)) old.nodes c.client.piped between piped
+    × (new ≡ record (with_piped c.at c.client piped old) { nodes = between })
+
+abbrev pub OpensWhere : Bool → List ℕ → ℕ → WorldState → WorldState → Type 0
+OpensWhere true name node old new = OpensOne true name node old new
+OpensWhere false name node old new = OpensOne false name node old new ⊎ OpensNone name node old new
+
+abbrev pub Does : Bool → Event → WorldState → WorldState → Type 0
+Does whole (events.Assign config) old new =
+    (between : NodesState) × Assigns whole config old.nodes between × (new ≡ record old { nodes = between })
+Does whole (events.Deliver number) old new =
+    (between : NodesState) × Delivers whole (slice_get old.nodes.sent number) old.nodes between
+    × Gathers whole (receiver_of (slice_get old.nodes.sent number)) (record old { nodes = between }) new
+Does whole (events.Tick node) old new = TakesItem whole node (items.Tick 0) old new
+Does whole (events.Crash node) old new = TakesItem whole node items.Crash old new
+Does whole (events.Open name node) old new = OpensWhere whole name node old new
+Does whole (events.CarryUp number count) old new =
+    (c : Connected number old) × TakesItem whole c.place.node (items.Bytes (port_of number) (take count c.way.up) 0)
     (with_piped c.place.client c.client (with_less c.place.at count c.way c.client.piped) old) new
-Does (events.CarryDown number count) old new =
-    (c : Connected number old) × (piped : Piped) × HearsThem count c.client.piped piped
+Does whole (events.CarryDown number count) old new =
+    (c : Connected number old) × (piped : Piped) × HearsThem whole count c.client.piped piped
     × (new ≡ with_piped c.place.client c.client piped old)
-Does (events.Abandon name) old new = ClientDoes name Loses old new
-Does (events.Disconnect name) old new = ClientDoes name Leaves old new
-Does (events.Notice number) old new = (c : Connected number old) × TakesItem c.place.node (items.Ended (port_of number)) old new
-Does (events.Publish name publication) old new = ClientDoes name (Asks (Call.Publishes publication)) old new
-Does (events.Subscribe name filter qos) old new = ClientDoes name (Asks (Call.Subscribes filter qos)) old new
-Does (events.Unsubscribe name filter) old new = ClientDoes name (Asks (Call.Unsubscribes filter)) old new
+Does whole (events.Abandon name) old new = ClientDoes name Loses old new
+Does whole (events.Disconnect name) old new = ClientDoes name (Leaves whole) old new
+Does whole (events.Notice number) old new =
+    (c : Connected number old) × TakesItem whole c.place.node (items.Ended (port_of number)) old new
+Does whole (events.Publish name publication) old new = ClientDoes name (Asks (Call.Publishes publication) whole) old new
+Does whole (events.Subscribe name filter qos) old new = ClientDoes name (Asks (Call.Subscribes filter qos) whole) old new
+Does whole (events.Unsubscribe name filter) old new = ClientDoes name (Asks (Call.Unsubscribes filter) whole) old new
 
 -- ---- what comes of events
 
--- Idle comes only where the event cannot happen, and then nothing is changed. Else the count of losses does not fall. If nothing
--- was lost, the event can happen, and what it asks was done.
+-- the event can happen, what it asks was done, and no loss is counted
+pub record HappensExactly (event : Event) (old new : WorldState) : Type 0 where
+  pub can : CannotHappen event old → ⊥
+  pub does : Does true event old new
+  pub uncounted : new.losses ≡ old.losses
+
+-- nothing was done, or what the event asks was done with losses, and one loss is counted
+pub record HappensLosing (event : Event) (old new : WorldState) : Type 0 where
+  pub done : WorldState
+  pub does : (done ≡ old) ⊎ Does false event old done
+  pub counted : new ≡ record done { losses = one_more old.losses }
+
+-- Idle comes only where the event cannot happen, and then nothing is changed. Else the event was done exactly, or a loss is counted.
 abbrev pub Happens : Event → WorldState → Result (Unit {0}) Idle → WorldState → Type 0
 Happens event old (Err idle) new = CannotHappen event old × (new ≡ old)
-Happens event old (Ok done) new =
-    (old.losses ≤ new.losses) × (LosesNothing old new → (CannotHappen event old → ⊥) × Does event old new)
+Happens event old (Ok done) new = HappensExactly event old new ⊎ HappensLosing event old new
 
 -- events, one behind the other
 abbrev pub Run : List Event → WorldState → WorldState → Type 0

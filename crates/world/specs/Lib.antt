@@ -6,3 +6,8 @@ pub mod Inside
 pub mod Found
 pub mod Gathering
 pub mod Happening
+pub mod Laws
+pub use Rattle.client.specs as client
+pub use Rattle.master.specs as master
+pub use Rattle.world_nodes.specs as world_nodes
+pub use Rattle.world_pipes.specs as world_pipes

@@ -3,13 +3,12 @@
 ghost use Rattle.std.specs.Prelude.{◌≡◌, ◌<◌, if◌then◌else◌, true, false, length, slice_get, IfSome};
 ghost use Rattle.client_base.specs.Steps.{Call, keeper_step};
 ghost use Rattle.world_nodes.specs.Goes.{node_of};
-ghost use Rattle.world_nodes.specs.Steps.{LosesNothing as NodesLoseNothing};
 ghost use Rattle.world_pipes.specs.Following.{CallingFollows, FollowsAll};
 ghost use Rattle.world_pipes.specs.Piped.{TakesLeave, is_holding, taken_back};
-ghost use Rattle.world.specs.Goes.{CountsOnce, LosesNothing, NodesGoOn};
+ghost use Rattle.world.specs.Goes.{CountsOnce, NodesGoOn};
 ghost use Rattle.world.specs.Happening.{Loses, is_serving};
 ghost use Rattle.world.specs.Housed.{leads};
-ghost use Rattle.world.specs.Inside.{ConnectsAt, Counts, GoesOn, HearsOfOne, IsCall, Meets, OpensAt, Reaches};
+ghost use Rattle.world.specs.Inside.{Begins, ConnectsAt, Counts, GoesOn, HearsOfOne, IsCall, MayOpenNone, Meets, Reaches};
 
 use crate::event::Event;
 use crate::place::Place;
@@ -48,8 +47,7 @@ impl World {
             (λ found. is_holding found.piped ≡ false) }
         requires node { 0 < node }
         ensures goes { GoesOn self.old self.new }
-        ensures opens { LosesNothing self.old self.new →
-            NodesLoseNothing self.old.nodes self.new.nodes → OpensAt client node self.old self.new }
+        ensures begins { Begins client node self.old self.new }
         ensures once { CountsOnce self.old self.new }
     {
         let before = self.nodes.losses();
@@ -68,6 +66,7 @@ impl World {
         requires node { 0 < node }
         ensures goes { GoesOn self.old self.new }
         ensures connects { result ≡ true → ConnectsAt client node self.old self.new }
+        ensures none { result ≡ false → MayOpenNone client node self.old self.new }
         ensures losses { self.new.losses ≡ self.old.losses }
     {
         if self.connections.reserve(1).is_err() {

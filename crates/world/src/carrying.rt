@@ -1,10 +1,10 @@
 // Bytes come to a node, or to a client.
 
-ghost use Rattle.std.specs.Prelude.{◌≡◌, ◌⊎◌, ◌≤◌, ◌<◌, ◌-◌, true, false, Some, length, slice_get, if◌then◌else◌, IfOk, OnOk, OnErr};
+ghost use Rattle.std.specs.Prelude.{◌≡◌, ◌⊎◌, ◌≤◌, ◌<◌, ◌-◌, true, false, Some, length, slice_get, if◌then◌else◌, IfOk, OnErr};
 ghost use Rattle.world_pipes.specs.Following.{FollowsAll};
-ghost use Rattle.world.specs.Goes.{CountsOnce, LosesNothing, NodesGoOn};
+ghost use Rattle.world.specs.Goes.{CountsOnce, NodesGoOn};
 ghost use Rattle.world.specs.Housed.{leads};
-ghost use Rattle.world.specs.Inside.{CannotHear, CannotTake, CannotTakeOn, GoesOn, HearsOn, Meets, TakesUpOn, TakesUpWhere, forgetful};
+ghost use Rattle.world.specs.Inside.{CannotHear, CannotTake, CannotTakeOn, GoesOn, HearsOn, Meets, TakesUpOnWhere, TakesUpWhere, forgetful};
 
 use crate::event::Event;
 use crate::place::Place;
@@ -26,7 +26,8 @@ impl World {
         }
     }
 
-    // The first so many bytes on a connection come to its node, and what it puts out then goes on its way.
+    // The first so many bytes on a connection come to its node, and what it puts out then goes on its way. Where there is no memory
+    // for them, they wait on, and that is counted.
     fn bring_up(&mut self, place: Place, number: u64, count: u64) -> Result<(), Idle>
         requires stands { slice_get self.old.connections (number - 1) ≡ Some place }
         requires positive { 0 < number }
@@ -35,34 +36,35 @@ impl World {
         ensures meets { Meets (Event.CarryUp number count) self.old result self.new }
         ensures once { CountsOnce self.old self.new }
     {
-        self.take_up(place, number, count)?;
-        self.gather(place.node);
+        let had = self.take_up(place, number, count)?;
+        if had {
+            self.gather(place.node);
+        } else {
+            self.lose();
+        }
         Ok(())
     }
 
-    // The first so many bytes on a connection come to its node. Where there is no memory for them they wait on, which is
-    // counted.
-    fn take_up(&mut self, place: Place, number: u64, count: u64) -> Result<(), Idle>
+    // The first so many bytes on a connection come to its node. Whether there was memory for them is the result: else they
+    // wait on.
+    fn take_up(&mut self, place: Place, number: u64, count: u64) -> Result<bool, Idle>
         requires stands { slice_get self.old.connections (number - 1) ≡ Some place }
         requires positive { 0 < number }
         ensures goes { GoesOn self.old self.new }
-        ensures takes { LosesNothing self.old self.new →
-            OnOk result (TakesUpOn number place count self.old self.new) }
-        ensures once { CountsOnce self.old self.new }
+        ensures takes { IfOk result (λ had. TakesUpOnWhere had number place count self.old self.new) }
+        ensures still { self.new.losses ≡ self.old.losses }
         ensures idle { OnErr result (CannotTakeOn place count self.old) }
         ensures same { OnErr result (self.new ≡ self.old) }
     {
         let piped = &mut self.clients[place.client].piped;
-        let had = take_up(
+        take_up(
             self.alloc,
             &mut self.nodes,
             piped,
             place,
             Port(number),
             count,
-        )?;
-        self.remember(had);
-        Ok(())
+        )
     }
 
     pub(crate) fn carry_down(&mut self, number: u64, count: u64) -> Result<(), Idle>

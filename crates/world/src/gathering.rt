@@ -2,26 +2,23 @@
 
 ghost use Rattle.std.specs.Prelude.{◌≡◌, ◌<◌, ◌-◌, true, false, Some, length, slice_get};
 ghost use Rattle.world_nodes.specs.Nodes.{NodesState};
-ghost use Rattle.world_nodes.specs.Goes.{node_of};
-ghost use Rattle.world_nodes.specs.Steps.{LosesNothing};
-ghost use Rattle.world.specs.Gathering.{Gathers, GathersAmong, is_told_open};
+ghost use Rattle.world.specs.Gathering.{Gathers, GathersAmong};
 ghost use Rattle.world.specs.Goes.{NodesGoOn};
 ghost use Rattle.world.specs.Housed.{leads, open_from};
-ghost use Rattle.world.specs.Inside.{AsksAt, GoesOn, HandsDown, HandsOn, MayHandDown, MayPutDown, PutsDown, marked};
+ghost use Rattle.world.specs.Inside.{AsksAt, GoesOn, HandsDown, MayHandDown, MayHandOn, MayPutDown, PutsDown, marked, tells_open};
 
 use crate::place::Place;
 use crate::world::World;
 use std::alloc::Global;
 use world_base::{Handed, Port};
-use world_nodes::Nodes;
+use world_nodes::{Idle, Nodes};
 use world_pipes::PipedClient;
 
 impl World {
     // What a node put out goes on its way down, on each connection whose end there is open. The master, node 0, has none.
     pub(crate) fn gather(&mut self, node: u8)
         ensures goes { GoesOn self.old self.new }
-        ensures gathers { LosesNothing self.old.nodes self.new.nodes →
-            Gathers node self.old self.new }
+        ensures gathers { Gathers false node self.old self.new }
         ensures still { self.new.losses ≡ self.old.losses }
     {
         if node != 0 {
@@ -32,8 +29,7 @@ impl World {
     // The same on the connections whose end is open, whichever node that is at, from the newest to the oldest.
     fn gather_open(&mut self, node: u8)
         ensures goes { GoesOn self.old self.new }
-        ensures gathers { LosesNothing self.old.nodes self.new.nodes →
-            GathersAmong (length self.old.connections) node self.old self.new }
+        ensures gathers { GathersAmong false (length self.old.connections) node self.old self.new }
         ensures still { self.new.losses ≡ self.old.losses }
     {
         let mut at = self.open_len();
@@ -96,8 +92,7 @@ impl World {
         requires positive { 0 < number }
         ensures goes { GoesOn self.old self.new }
         ensures connections { self.new.connections ≡ self.old.connections }
-        ensures hands { LosesNothing self.old.nodes self.new.nodes →
-            HandsOn number place self.old result self.new }
+        ensures hands { MayHandOn number place self.old result self.new }
         ensures still { self.new.losses ≡ self.old.losses }
     {
         let piped = &mut self.clients[place.client].piped;
@@ -124,11 +119,8 @@ fn hand_down(
     requires { at < length piped.old.ways }
     ensures nodes { NodesGoOn nodes.old nodes.new }
     ensures may { MayPutDown at node port nodes.old piped.old nodes.new piped.new }
-    ensures puts { LosesNothing nodes.old nodes.new →
-        PutsDown at node port nodes.old piped.old nodes.new piped.new }
+    ensures puts { PutsDown at node port nodes.old piped.old nodes.new piped.new result }
     ensures leads { leads piped.new.ways ≡ leads piped.old.ways }
-    ensures told { LosesNothing nodes.old nodes.new →
-        result ≡ is_told_open port (node_of nodes.old.nodes node) }
 {
     let mut bytes = Vec::new(alloc);
     piped.swap_down(at, &mut bytes);
@@ -141,10 +133,18 @@ fn hand_down(
 fn hands_over(nodes: &mut Nodes, node: u8, port: Port, bytes: &mut Vec<u8>) -> bool
     ensures nodes { NodesGoOn nodes.old nodes.new }
     ensures may { MayHandDown node port nodes.old bytes.old.items nodes.new bytes.new.items }
-    ensures hands { LosesNothing nodes.old nodes.new →
-        HandsDown node port nodes.old bytes.old.items nodes.new bytes.new.items }
-    ensures told { LosesNothing nodes.old nodes.new →
-        result ≡ is_told_open port (node_of nodes.old.nodes node) }
+    ensures hands { HandsDown node port nodes.old bytes.old.items
+        nodes.new bytes.new.items result }
 {
-    nodes.hand_over(node, port, bytes) == Ok(Handed::Open)
+    tells_open(nodes.hand_over(node, port, bytes))
+}
+
+// Whether a node's answer tells that an end is open.
+fn tells_open(answer: Result<Handed, Idle>) -> bool
+    ensures { result ≡ tells_open answer }
+{
+    match answer {
+        Ok(Handed::Open) => true,
+        Ok(Handed::Closed) | Err(Idle) => false,
+    }
 }

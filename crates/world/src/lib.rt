@@ -6,11 +6,13 @@ mod carrying;
 mod event;
 mod gathering;
 mod going_on;
+mod laws;
 mod place;
 mod reading;
 mod world;
 
 pub use event::Event;
+pub use laws::uncounted_is_exact;
 pub use world::World;
 pub use world_base::{Command, Config, Members, Memory, OpeningError};
 pub use world_nodes::Idle;

@@ -1,14 +1,14 @@
 // A world.
 
-ghost use Rattle.std.specs.Prelude.{◌≡◌, ◌⊎◌, ◌≤◌, ◌<◌, ◌^◌, ◌-◌, ◌↔◌, true, false, Some, length, map, slice_get, IfOk, IfSome, IsErrOf, OnErr};
+ghost use Rattle.std.specs.Prelude.{◌≡◌, ◌≤◌, ◌<◌, ◌^◌, ◌-◌, ◌↔◌, true, false, Some, length, map, slice_get, IfOk, IfSome, IsErrOf, OnErr};
 ghost use Rattle.agreement.specs.World.{can_open};
 ghost use Rattle.ballot.specs.Losses.{one_more};
 ghost use Rattle.model.specs.World.{AreApart};
 ghost use Rattle.exact_model.specs.world_model.World.{new_client};
 ghost use Rattle.world_pipes.specs.Standing.{StandsFor};
-ghost use Rattle.world.specs.Goes.{AgreedGrows, AreReached, CountsOnce, LosesNothing, StaysReached, WorldGoesOn};
+ghost use Rattle.world.specs.Goes.{AgreedGrows, AreReached, CountsOnce, StaysReached, WorldGoesOn};
 ghost use Rattle.world.specs.Happening.{Happens, Opens, Run, new_world_client};
-ghost use Rattle.world.specs.Inside.{GoesOn, Meets};
+ghost use Rattle.world.specs.Inside.{GoesOn, IsCounted, Meets};
 ghost use Rattle.world.specs.Standing.{ClientsStand, IsReached, KeepsReached, WorldGoes, identifiers};
 
 use crate::event::Event;
@@ -106,7 +106,8 @@ impl World {
         ensures reached { StaysReached self.old.nodes self.new.nodes }
         // What was agreed is a beginning of what is agreed after the event.
         ensures grown { AgreedGrows self.old.nodes self.new.nodes }
-        // What the event asks is done, or it cannot happen, or something was lost, which is counted.
+        // What the event asks is done, or it cannot happen. Or a loss is counted: then nothing is done, or
+        // what the event asks, with losses, and nothing else.
         ensures happens { Happens event.now self.old result self.new }
         ensures same { OnErr result (self.new ≡ self.old) }
         // The count of losses rises by one, or not at all.
@@ -170,14 +171,10 @@ impl World {
     // Counts a step in which the nodes ran out of memory: they had counted `before`. Does not count it again where the
     // world did so already: it had counted `counted`.
     fn count(&mut self, before: u64, counted: u64)
+        ensures counts { IsCounted before counted self.old self.new }
         ensures nodes { self.new.nodes ≡ self.old.nodes }
         ensures clients { self.new.clients ≡ self.old.clients }
         ensures rises { self.old.losses ≤ self.new.losses }
-        ensures whole { self.old.losses ≡ counted → LosesNothing self.old self.new →
-            (self.old.nodes.losses ≡ before) × (before < 2 ^ 64 - 1) }
-        ensures same { LosesNothing self.old self.new → self.new ≡ self.old }
-        ensures once { (self.new.losses ≡ self.old.losses)
-            ⊎ ((self.old.losses ≡ counted) × (self.new.losses ≡ one_more self.old.losses)) }
     {
         if self.losses == counted && !self.is_whole(before) {
             self.lose();

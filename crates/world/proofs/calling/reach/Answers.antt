@@ -16,4 +16,4 @@ pub returns-in-Err-clause-nodes : goal.returns-in-Err-clause-nodes
 returns-in-Err-clause-nodes c = nodes_rest _ _ refl
 
 pub returns-in-Err-clause-reaches : goal.returns-in-Err-clause-reaches
-returns-in-Err-clause-reaches c = (c.in-Err.ensures.goes, inl refl)
+returns-in-Err-clause-reaches c = (c.in-Err.ensures.goes, inl refl, inl (_, c.in-Err.ensures.opens, refl))

@@ -4,9 +4,9 @@ use Rattle.world.proofs.gathering.hand_down.Goals as goal
 
 pub returns-clause-puts : goal.returns-clause-puts
 returns-clause-puts c =
-    λ none. puts c.args.node c.args.port c.args.nodes.now c.hands_over-is_open.new.nodes c.args.piped.now c.swap_down.new.self c.swap_down-2.new.self c.args.at
-    c.new-bytes.result.items c.swap_down.new.bytes.items c.hands_over-is_open.new.bytes.items c.swap_down.ensures.left c.swap_down.ensures.given c.swap_down-2.ensures.left
-    (c.hands_over-is_open.ensures.hands none)
+    puts c.args.node c.args.port c.args.nodes.now c.hands_over-is_open.new.nodes c.args.piped.now c.swap_down.new.self c.swap_down-2.new.self c.args.at
+    c.new-bytes.result.items c.swap_down.new.bytes.items c.hands_over-is_open.new.bytes.items c.hands_over-is_open.result c.swap_down.ensures.left c.swap_down.ensures.given
+    c.swap_down-2.ensures.left c.hands_over-is_open.ensures.hands
 
 pub returns-clause-may : goal.returns-clause-may
 returns-clause-may c =

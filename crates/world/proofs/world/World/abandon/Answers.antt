@@ -1,4 +1,4 @@
-use Rattle.std.proofs.Common.{◌<◌, length, refl, sym, ◌∙◌, ◌≡◌, true, subst}
+use Rattle.std.proofs.Common.{inl, ◌<◌, length, refl, sym, ◌∙◌, ◌≡◌, true, subst}
 use Rattle.std.proofs.lemmas.Option.{same_Some}
 use Rattle.world_pipes.specs.Piped.{is_holding}
 use Rattle.world.specs.declared.world.WorldClient.{WorldClient}
@@ -49,5 +49,5 @@ returns-clause-meets c =
       losses = c.self.inside.losses;
     } in
     rw (← c.self.view_is)
-    (λ none whole. abandon_meets c.args.client.now old c.in-Some.at c.index_mut.result.now c.lose.new.piped (sym first) found
-    (subst (λ (k : WorldClient). is_holding k.piped ≡ true) (same_Some c.index.result.now c.index_mut.result.now (sym before ∙ found)) (sym c.is_open.ensures ∙ c.if-not-is_open.false)) c.lose.ensures.lost)
+    (inl (abandon_meets c.args.client.now old c.in-Some.at c.index_mut.result.now c.lose.new.piped (sym first) found
+    (subst (λ (k : WorldClient). is_holding k.piped ≡ true) (same_Some c.index.result.now c.index_mut.result.now (sym before ∙ found)) (sym c.is_open.ensures ∙ c.if-not-is_open.false)) c.lose.ensures.lost))

@@ -1,9 +1,10 @@
 use Rattle.std.proofs.Common.{◌-◌, Bool, true, false, List, slice_get, refl, ap, ◌∙◌, subst, arith}
 use Rattle.world.specs.declared.place.Place.{Place}
-use Rattle.world.specs.Inside.{HandsOn}
+use Rattle.world.specs.Inside.{MayHandOn}
 use Rattle.world.specs.World.{WorldState}
 use Rattle.world.proofs.Joined.{goes_on_join, goes_on_rest, goes_on_still}
-use Rattle.world.proofs.Walked.{asks_none, asks_one, stays_open}
+use Rattle.world.proofs.Gathered.{stays_open}
+use Rattle.world.proofs.Walked.{asks_none, asks_one}
 use Rattle.world.proofs.world.World.ask_at.Goals as goal
 
 pub returns-then-place-node-clause-goes : goal.returns-then-place-node-clause-goes
@@ -21,7 +22,7 @@ pub returns-else-not-hand_on-clause-asks : goal.returns-else-not-hand_on-clause-
 returns-else-not-hand_on-clause-asks c =
     asks_one c.args.node c.args.at c.open_at-number.result.0 c.open_at-number.result.1 true c.args.self.now c.hand_on.new.self c.hand_on.new.self c.open_at-number.ensures.number
     c.open_at-number.ensures.place c.open_at-number.ensures.positive c.open_at-number.ensures.up c.if-place-node.false c.hand_on.ensures.connections
-    (λ none. subst (λ (b : Bool). HandsOn c.open_at-number.result.0 c.open_at-number.result.1 c.args.self.now b c.hand_on.new.self) c.if-not-hand_on.false (c.hand_on.ensures.hands none))
+    (subst (λ (b : Bool). MayHandOn c.open_at-number.result.0 c.open_at-number.result.1 c.args.self.now b c.hand_on.new.self) c.if-not-hand_on.false c.hand_on.ensures.hands)
     (stays_open c.open_at-number.result.0 c.open_at-number.result.1 c.hand_on.new.self
     (ap (λ (l : List Place). slice_get l (c.open_at-number.result.0 - 1)) c.hand_on.ensures.connections ∙ c.open_at-number.ensures.place) c.open_at-number.ensures.up)
 
@@ -34,5 +35,5 @@ pub returns-then-not-hand_on-clause-asks : goal.returns-then-not-hand_on-clause-
 returns-then-not-hand_on-clause-asks c =
     asks_one c.args.node c.args.at c.open_at-number.result.0 c.open_at-number.result.1 false c.args.self.now c.hand_on.new.self c.close.new.self c.open_at-number.ensures.number
     c.open_at-number.ensures.place c.open_at-number.ensures.positive c.open_at-number.ensures.up c.if-place-node.false c.hand_on.ensures.connections
-    (λ none. subst (λ (b : Bool). HandsOn c.open_at-number.result.0 c.open_at-number.result.1 c.args.self.now b c.hand_on.new.self) c.if-not-hand_on.true (c.hand_on.ensures.hands none))
+    (subst (λ (b : Bool). MayHandOn c.open_at-number.result.0 c.open_at-number.result.1 c.args.self.now b c.hand_on.new.self) c.if-not-hand_on.true c.hand_on.ensures.hands)
     c.close.ensures

@@ -1,15 +1,26 @@
-use Rattle.world.proofs.ItemsMet.{carries_up}
-use Rattle.world.proofs.Joined.{goes_on_join, worlds_split}
-use Rattle.world.proofs.NodesGoOn.{nodes_split}
+use Rattle.std.proofs.Common.{◌∙◌, ap, inl, inr, subst, Bool}
+use Rattle.world.specs.Inside.{TakesUpOnWhere}
+use Rattle.world.specs.World.{WorldState}
+use Rattle.world.proofs.ItemsMet.{carries_up, lost_up}
+use Rattle.world.proofs.Joined.{goes_on_join, goes_on_still}
 use Rattle.world.proofs.world.World.bring_up.Goals as goal
 
-pub returns-clause-goes : goal.returns-clause-goes
-returns-clause-goes c = goes_on_join _ _ _ c.take_up.ensures.goes c.gather.ensures.goes
+pub returns-then-had-clause-goes : goal.returns-then-had-clause-goes
+returns-then-had-clause-goes c = goes_on_join _ _ _ c.take_up.ensures.goes c.gather.ensures.goes
 
-pub returns-clause-meets : goal.returns-clause-meets
-returns-clause-meets c =
-    λ none whole.
-    let w = worlds_split c.args.self.now c.take_up.new.self c.gather.new.self c.take_up.ensures.goes.rises c.gather.ensures.goes.rises none in
-    let s = nodes_split c.args.self.now.nodes c.take_up.new.self.nodes c.gather.new.self.nodes c.take_up.ensures.goes.nodes.rises c.gather.ensures.goes.nodes.rises whole in
-    carries_up c.args.number c.args.place c.args.count c.args.self.now c.take_up.new.self c.gather.new.self c.requires.stands c.requires.positive c.requires.up
-    (c.in_ok-take_up.ensures.takes w.0) s.0 (c.gather.ensures.gathers s.1)
+pub returns-then-had-clause-meets : goal.returns-then-had-clause-meets
+returns-then-had-clause-meets c =
+    inl (carries_up c.args.number c.args.place c.args.count c.args.self.now c.take_up.new.self c.gather.new.self c.requires.stands c.requires.positive c.requires.up
+    (subst (λ (had : Bool). TakesUpOnWhere had c.args.number c.args.place c.args.count c.args.self.now c.take_up.new.self) c.if-had.true c.in_ok-had.ensures.takes)
+    c.gather.ensures.gathers (c.gather.ensures.still ∙ c.take_up.ensures.still))
+
+pub returns-else-had-clause-goes : goal.returns-else-had-clause-goes
+returns-else-had-clause-goes c =
+    goes_on_join _ _ _ c.take_up.ensures.goes
+    (goes_on_still _ _ (ap (λ (w : WorldState). w.nodes) c.lose.ensures.lost) (ap (λ (w : WorldState). w.clients) c.lose.ensures.lost) c.lose.ensures.rises)
+
+pub returns-else-had-clause-meets : goal.returns-else-had-clause-meets
+returns-else-had-clause-meets c =
+    inr (lost_up c.args.number c.args.place c.args.count c.args.self.now c.take_up.new.self c.lose.new.self
+    (subst (λ (had : Bool). TakesUpOnWhere had c.args.number c.args.place c.args.count c.args.self.now c.take_up.new.self) c.if-had.false c.in_ok-had.ensures.takes)
+    c.lose.ensures.lost)

@@ -88,11 +88,11 @@ returns-in-Ok-clause-meets c =
     let stands = rw (← c.self.view_is) at c.in-Some.ensures.stands in
     let few = client_within c.self.inside.clients.items c.self.inside.connections.items c.args.number c.in-Some.place c.self.invariant.0 stands.1 stands.0 in
     let found = get_there c.self.inside.clients.items c.in-Some.place.client c.index_mut.result.now few c.index_mut.ensures.value in
-    rw (← c.self.view_is) (λ none whole.
-    heard_meets c.args.number c.in-Some.place c.args.count c.in-Ok.had (let old : WorldState = record {
+    rw (← c.self.view_is)
+    (heard_meets c.args.number c.in-Some.place c.args.count c.in-Ok.had (let old : WorldState = record {
       nodes = c.self.inside.nodes;
       clients = c.self.inside.clients.items;
       connections = c.self.inside.connections.items;
       losses = c.self.inside.losses;
     } in old) c.index_mut.result.now c.hear_on.new.piped c.remember.new.self c.self.invariant.0 stands.1 stands.0 found c.in-Ok.ensures.hears
-    (omega arith) c.remember.ensures none)
+    c.remember.ensures)

@@ -1,16 +1,15 @@
-use Rattle.std.proofs.Common.{◌≡◌, ◌<◌, ◌-◌, ℕ, List, [], ◌∷◌, ◌++◌, Bool, true, false, suc, length, set, refl, sym, ap, ◌∙◌, subst, arith}
+use Rattle.std.proofs.Common.{◌≡◌, inl, inr, ◌<◌, ◌-◌, ℕ, List, [], ◌∷◌, ◌++◌, Bool, true, false, suc, length, refl, sym, ap, ◌∙◌, subst, arith}
 use Rattle.master.proofs.Counting.{get_there}
 use Rattle.world.specs.Found.{port_of}
 use Rattle.world.specs.Housed.{open_from}
 use Rattle.world.specs.Inside.{HearsOfOne, Reaches}
 use Rattle.world.specs.declared.place.Place.{Place}
-use Rattle.world.specs.declared.world.WorldClient.{WorldClient}
 use Rattle.world.specs.World.{WorldState}
 use Rattle.world.proofs.ClientGoes.{housed_still}
 use Rattle.world.proofs.HousedOpened.{housed_opened}
 use Rattle.world.proofs.Joined.{goes_on_still}
 use Rattle.world.proofs.OpenEnds.{one_opened}
-use Rattle.world.proofs.OpensOn.{connects_at, connects_on, of_found, refused_on}
+use Rattle.world.proofs.OpensOn.{connects_at, connects_on, of_found, opens_none, refused_on}
 use Rattle.world.proofs.world.World.connect.Goals as goal
 
 pub returns-then-is_err-clause-goes : goal.returns-then-is_err-clause-goes
@@ -132,3 +131,24 @@ returns-clause-goes c =
     let at = connects_at c.args.client c.args.node c.saturating_add-number.result c.len-at.result old c.index_mut.result.now c.reach.new.nodes c.reach.new.piped c.push_reserved.new.self.items
     found counted c.len-at.ensures (c.push_reserved.ensures.items ∙ ap (λ (l : List Place). l ++ place ∷ []) c.reserve.ensures.items) one in
     rw (← c.self.view_is) (connects_on c.args.client c.args.node old _ c.self.invariant.0 refl c.reach.ensures.nodes at)
+
+pub returns-then-is_err-clause-none : goal.returns-then-is_err-clause-none
+returns-then-is_err-clause-none c = rw (← c.self.view_is, c.reserve.ensures.items) (λ no. inl refl)
+
+pub returns-then-is_err-2-clause-none : goal.returns-then-is_err-2-clause-none
+returns-then-is_err-2-clause-none c = rw (← c.self.view_is, c.reserve.ensures.items) (λ no. inl refl)
+
+pub returns-then-not-reach-clause-none : goal.returns-then-not-reach-clause-none
+returns-then-not-reach-clause-none c =
+    let few : c.args.client < length c.self.inside.clients.items = rw (← c.self.view_is) at c.requires.some in
+    let found = get_there c.self.inside.clients.items c.args.client c.index_mut.result.now few c.index_mut.ensures.value in
+    let counted : c.saturating_add-number.result ≡ suc (length c.self.inside.connections.items) = omega arith in
+    let none = subst (λ (b : Bool). Reaches b c.args.node (port_of c.saturating_add-number.result) c.self.inside.nodes c.index_mut.result.now.piped c.reach.new.nodes c.reach.new.piped)
+    c.if-not-reach.true c.reach.ensures.reaches in
+    rw (← c.self.view_is, c.reserve.ensures.items)
+    (λ no. inr (opens_none c.args.node (let old : WorldState = record {
+      nodes = c.self.inside.nodes;
+      clients = c.self.inside.clients.items;
+      connections = c.self.inside.connections.items;
+      losses = c.self.inside.losses;
+    } in old) c.args.client c.saturating_add-number.result c.index_mut.result.now c.reach.new.nodes c.reach.new.piped found counted none.2))

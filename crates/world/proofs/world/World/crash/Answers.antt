@@ -1,9 +1,8 @@
-use Rattle.std.proofs.Common.{false, refl}
+use Rattle.std.proofs.Common.{false, inl, refl}
 use Rattle.std.proofs.lemmas.Bool.{both_ways}
-use Rattle.world_base.specs.declared.item.Item.TheVariants.{Crash}
 use Rattle.world.specs.World.{WorldState}
-use Rattle.world.proofs.Gathered.{takes_item}
 use Rattle.world.proofs.GroupGoes.{by_call, goes_apart}
+use Rattle.world.proofs.ItemsMet.{crashed}
 use Rattle.world.proofs.Joined.{goes_on_join}
 use Rattle.world.proofs.world.World.crash.Goals as goal
 
@@ -30,12 +29,10 @@ returns-clause-goes c =
 
 pub returns-clause-meets : goal.returns-clause-meets
 returns-clause-meets c =
-    rw (← c.self.view_is) (λ none whole. (
-      λ stopped. both_ways false refl (c.in_ok-crash.ensures.idle.1 stopped),
-      takes_item c.args.node Crash (let old : WorldState = record {
-        nodes = c.self.inside.nodes;
-        clients = c.self.inside.clients.items;
-        connections = c.self.inside.connections.items;
-        losses = c.self.inside.losses;
-      } in old) c.crash.new.self c.gather.new.self c.crash.ensures.rises c.in_ok-crash.ensures.goes c.gather.ensures.goes c.gather.ensures.gathers whole,
-    ))
+    rw (← c.self.view_is) (inl (crashed c.args.node (let old : WorldState = record {
+      nodes = c.self.inside.nodes;
+      clients = c.self.inside.clients.items;
+      connections = c.self.inside.connections.items;
+      losses = c.self.inside.losses;
+    } in old) c.crash.new.self c.gather.new.self (λ stopped. both_ways false refl (c.in_ok-crash.ensures.idle.1 stopped))
+    c.in_ok-crash.ensures.step c.gather.ensures.gathers c.gather.ensures.still))

@@ -1,9 +1,8 @@
-use Rattle.std.proofs.Common.{false, ℕ, refl, subst}
+use Rattle.std.proofs.Common.{false, inl, refl}
 use Rattle.std.proofs.lemmas.Bool.{both_ways}
-use Rattle.world.specs.Gathering.{Gathers}
-use Rattle.world.proofs.NodesGoOn.{nodes_split}
 use Rattle.world.specs.World.{WorldState}
-use Rattle.world.proofs.GroupGoes.{by_delivery, goes_apart, with_nodes}
+use Rattle.world.proofs.GroupGoes.{by_delivery, goes_apart}
+use Rattle.world.proofs.ItemsMet.{delivered}
 use Rattle.world.proofs.Joined.{goes_on_join}
 use Rattle.world.proofs.world.World.deliver.Goals as goal
 
@@ -31,17 +30,10 @@ returns-clause-goes c =
 pub returns-clause-meets : goal.returns-clause-meets
 returns-clause-meets c =
     let receiver = rw (← c.self.view_is) at c.receiver-receiver.ensures in
-    rw (← c.self.view_is) (λ none whole.
-    let s = nodes_split c.self.inside.nodes c.deliver.new.self c.gather.new.self.nodes c.deliver.ensures.rises c.gather.ensures.goes.nodes.rises whole in (
-      λ nobody. both_ways false refl (c.in_ok-deliver.ensures.idle.1 nobody),
-      (
-        c.deliver.new.self,
-        c.in_ok-deliver.ensures.goes s.0,
-        subst (λ (k : ℕ). Gathers k (with_nodes c.deliver.new.self (let old : WorldState = record {
-          nodes = c.self.inside.nodes;
-          clients = c.self.inside.clients.items;
-          connections = c.self.inside.connections.items;
-          losses = c.self.inside.losses;
-        } in old)) c.gather.new.self) receiver (c.gather.ensures.gathers s.1),
-      ),
-    ))
+    rw (← c.self.view_is) (inl (delivered c.args.number c.receiver-receiver.result (let old : WorldState = record {
+      nodes = c.self.inside.nodes;
+      clients = c.self.inside.clients.items;
+      connections = c.self.inside.connections.items;
+      losses = c.self.inside.losses;
+    } in old) c.deliver.new.self c.gather.new.self receiver
+    (λ nobody. both_ways false refl (c.in_ok-deliver.ensures.idle.1 nobody)) c.in_ok-deliver.ensures.step c.in_ok-deliver.ensures.goes c.gather.ensures.gathers c.gather.ensures.still))

@@ -50,4 +50,4 @@ returns-clause-meets c =
     rw (← c.self.view_is)
     (disconnect_meets c.args.client.now old c.called.result c.called.new.self
     (client_meets c.args.client.now HoldsNone Leaves old c.in-Some.at c.index_mut.result.now c.leave-done.new.piped c.leave-done.result c.called.result c.called.new.self (sym first) found
-    (leave_outcome c.index_mut.result.now.piped c.leave-done.result c.leave-done.new.piped c.leave-done.ensures.leaves c.leave-done.ensures.goes) (omega arith) c.called.ensures))
+    (leave_outcome c.index_mut.result.now.piped c.leave-done.result c.leave-done.new.piped c.leave-done.ensures.leaves c.leave-done.ensures.goes) c.called.ensures))

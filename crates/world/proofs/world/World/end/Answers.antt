@@ -1,10 +1,7 @@
-use Rattle.std.proofs.Common.{false, refl}
+use Rattle.std.proofs.Common.{false, inl, refl}
 use Rattle.std.proofs.lemmas.Bool.{both_ways}
-use Rattle.world_base.specs.declared.item.Item.TheVariants.{Ended}
-use Rattle.world.specs.Found.{port_of}
 use Rattle.world.specs.World.{WorldState}
-use Rattle.world.proofs.Gathered.{takes_item}
-use Rattle.world.proofs.ItemsMet.{not_closed}
+use Rattle.world.proofs.ItemsMet.{not_closed, noticed}
 use Rattle.world.proofs.StandsThere.{connected}
 use Rattle.world.proofs.GroupGoes.{by_call, goes_apart}
 use Rattle.world.proofs.Joined.{goes_on_join}
@@ -34,25 +31,12 @@ returns-clause-goes c =
 pub returns-clause-meets : goal.returns-clause-meets
 returns-clause-meets c =
     let stands = rw (← c.self.view_is) at c.requires.stands in
-    rw (← c.self.view_is) (λ none whole. (
-      not_closed c.args.number (let old : WorldState = record {
-        nodes = c.self.inside.nodes;
-        clients = c.self.inside.clients.items;
-        connections = c.self.inside.connections.items;
-        losses = c.self.inside.losses;
-      } in old) c.args.place stands c.requires.positive c.requires.up (λ stopped. both_ways false refl (c.in_ok-ended.ensures.idle.1 stopped)),
-      (
-        connected (let old : WorldState = record {
-          nodes = c.self.inside.nodes;
-          clients = c.self.inside.clients.items;
-          connections = c.self.inside.connections.items;
-          losses = c.self.inside.losses;
-        } in old) c.args.number c.args.place c.self.invariant.0 stands c.requires.positive,
-        takes_item c.args.place.node (Ended (port_of c.args.number)) (let old : WorldState = record {
-          nodes = c.self.inside.nodes;
-          clients = c.self.inside.clients.items;
-          connections = c.self.inside.connections.items;
-          losses = c.self.inside.losses;
-        } in old) c.ended.new.self c.gather.new.self c.ended.ensures.rises c.in_ok-ended.ensures.goes c.gather.ensures.goes c.gather.ensures.gathers whole,
-      ),
-    ))
+    let old : WorldState = record {
+      nodes = c.self.inside.nodes;
+      clients = c.self.inside.clients.items;
+      connections = c.self.inside.connections.items;
+      losses = c.self.inside.losses;
+    } in
+    rw (← c.self.view_is) (inl (noticed c.args.number old (connected old c.args.number c.args.place c.self.invariant.0 stands c.requires.positive) c.ended.new.self c.gather.new.self
+    (not_closed c.args.number old c.args.place stands c.requires.positive c.requires.up (λ stopped. both_ways false refl (c.in_ok-ended.ensures.idle.1 stopped)))
+    c.in_ok-ended.ensures.step c.gather.ensures.gathers c.gather.ensures.still))

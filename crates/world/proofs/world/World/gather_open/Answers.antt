@@ -20,4 +20,4 @@ pub returns-clause-goes : goal.returns-clause-goes
 returns-clause-goes c = c.loop-at.invariant.walk.gathering.goes
 
 pub returns-clause-gathers : goal.returns-clause-gathers
-returns-clause-gathers c = λ none. walk_ends c.args.node c.loop-at.at c.args.self.now c.loop-at.self (omega arith) c.loop-at.invariant.walk none
+returns-clause-gathers c = walk_ends c.args.node c.loop-at.at c.args.self.now c.loop-at.self (omega arith) c.loop-at.invariant.walk

@@ -50,8 +50,8 @@ returns-clause-hands c =
       losses = c.self.inside.losses;
     } in
     let way = led old.clients c.args.number c.args.place c.index_mut.result.now (led_there (leads_of old.clients) old.connections c.args.number c.args.place c.self.invariant.0 stands c.requires.positive) found in
-    rw (← c.self.view_is) (λ none. hands old c.args.number c.args.place c.index_mut.result.now way.way c.hand_down.result c.hand_down.new.nodes c.hand_down.new.piped found way.found
-    (c.hand_down.ensures.puts none) (c.hand_down.ensures.told none))
+    rw (← c.self.view_is) (hands old c.args.number c.args.place c.index_mut.result.now way.way c.hand_down.result c.hand_down.new.nodes c.hand_down.new.piped found way.found
+    c.hand_down.ensures.puts)
 
 pub index_mut-requires : goal.index_mut-requires
 index_mut-requires c =

@@ -51,5 +51,5 @@ returns-clause-meets c =
       connections = c.self.inside.connections.items;
       losses = c.self.inside.losses;
     } in
-    λ none whole. rw (← c.self.view_is) (open_meets c.args.client.now c.in-Some.at c.args.node old c.begin.new.self c.index.result.now (sym first) found (sym c.is_open.ensures ∙ c.if-is_open.false)
-    (rw (← c.self.view_is) at (sym c.serves.ensures ∙ c.if-not-serves.false)) (rw (← c.self.view_is) at (c.begin.ensures.opens none whole)))
+    rw (← c.self.view_is) (open_meets c.args.client.now c.in-Some.at c.args.node old c.begin.new.self c.index.result.now (sym first) found (sym c.is_open.ensures ∙ c.if-is_open.false)
+    (rw (← c.self.view_is) at (sym c.serves.ensures ∙ c.if-not-serves.false)) (rw (← c.self.view_is) at c.begin.ensures.begins))

@@ -52,4 +52,4 @@ returns-clause-meets c =
     rw (← c.self.view_is)
     (publish_meets c.args.client.now c.args.publication.now old c.called.result c.called.new.self
     (client_meets c.args.client.now (Refuses call) (Asks call) old c.in-Some.at c.index_mut.result.now c.publish_copy-done.new.piped c.publish_copy-done.result c.called.result c.called.new.self (sym first) found
-    (call_outcome call c.index_mut.result.now.piped c.publish_copy-done.result c.publish_copy-done.new.piped c.publish_copy-done.ensures.calls c.publish_copy-done.ensures.goes) (omega arith) c.called.ensures))
+    (call_outcome call c.index_mut.result.now.piped c.publish_copy-done.result c.publish_copy-done.new.piped c.publish_copy-done.ensures.calls c.publish_copy-done.ensures.goes) c.called.ensures))

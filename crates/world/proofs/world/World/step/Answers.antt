@@ -36,7 +36,7 @@ returns-clause-reached c =
 pub returns-clause-happens : goal.returns-clause-happens
 returns-clause-happens c =
     step_happens c.args.event.now c.args.self.now c.happen.new.self c.count.new.self c.losses-before.result c.self.inside.losses (rw (← c.self.view_is) c.losses-before.ensures)
-    (rw (← c.self.view_is) refl) c.happen.ensures.goes c.in_ok-happen.ensures.meets c.count.ensures.rises c.count.ensures.whole c.count.ensures.same
+    (rw (← c.self.view_is) refl) c.in_ok-happen.ensures.meets c.count.ensures.counts
 
 pub returns-in_err-happen-clause-grown : goal.returns-in_err-happen-clause-grown
 returns-in_err-happen-clause-grown c = agreed_grows _ _ (goes_on_rest _ _ c.in_err-happen.ensures.meets.1).nodes.goes
@@ -47,4 +47,4 @@ returns-clause-grown c =
 
 pub returns-clause-count : goal.returns-clause-count
 returns-clause-count c =
-    step_once c.args.self.now c.happen.new.self c.count.new.self c.self.inside.losses (rw (← c.self.view_is) refl) c.happen.ensures.once c.count.ensures.once
+    step_once c.args.self.now c.happen.new.self c.count.new.self c.losses-before.result c.self.inside.losses (rw (← c.self.view_is) refl) c.happen.ensures.once c.count.ensures.counts
