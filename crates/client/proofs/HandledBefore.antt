@@ -1,7 +1,6 @@
 -- HandledBefore.antt: what was handled before a packet that ends a call stands.
-use Rattle.std.proofs.Common.{◌≡◌, ℕ, Bool, true, false, if◌then◌else◌, List, Option, Some, None, Result, Ok, Err, refl, ap, ap₂, sym, ◌∙◌, subst}
+use Rattle.std.proofs.Common.{◌≡◌, ℕ, true, false, if◌then◌else◌, List, Result, Ok, Err, refl, ap, ap₂, sym, subst}
 use Rattle.std.proofs.lemmas.Bool.{both_ways}
-use Rattle.topics.specs.declared.malformed.MalformedKind.{MalformedKind}
 use Rattle.client_base.specs.declared.error.ClientError.{ClientError}
 use Rattle.client_base.specs.declared.error.ClientError.TheVariants as errors
 use Rattle.client_base.specs.declared.stage.Stage.{Stage}

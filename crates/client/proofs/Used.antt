@@ -1,12 +1,8 @@
 -- Used.antt: an identifier is used where a publication or a request has it.
-use Rattle.std.proofs.Common.{◌≡◌, ℕ, ◌≤◌, ◌<◌, Bool, true, false, ◌||◌, ◌==◌, ◌⊎◌, inl, inr, List, [], ◌∷◌, ◌++◌, map, refl, ap, ◌∙◌, arith}
-use Rattle.std.proofs.lemmas.Bool.{both_ways, cases_lt}
+use Rattle.std.proofs.Common.{◌≡◌, ℕ, ◌||◌, ◌==◌, List, [], ◌∷◌, ◌++◌, map, refl, ap, ◌∙◌}
 use Rattle.std.specs.List.{list_any}
-use Rattle.std.proofs.lemmas.List.Folds.{list_any-append}
 use Rattle.lists.specs.Lists.{has_id}
 use Rattle.lists.proofs.Identifiers.{has_append}
-use Rattle.session_base.specs.Identifiers.{least_free}
-use Rattle.session_base.specs.Laws.{IsLeastFree}
 use Rattle.client_base.specs.State.{ClientState, id_of_request, ids_of_kept, used_ids}
 
 -- a test of what is mapped

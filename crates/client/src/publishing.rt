@@ -21,12 +21,12 @@ use std::alloc::AllocError;
 use topics::TopicName;
 
 /// How many publications are kept at most.
-const WINDOW: usize = 16;
+const WINDOW: usize = 64;
 
 impl ClientCore {
     /// Publishes. At QoS 1 and 2 the publication is kept until its handshake has ended, and sent at
     /// once where the client is online, else behind the next CONNACK. In this order: `WindowFull`
-    /// comes exactly where at QoS 1 or 2 sixteen publications are kept or no identifier is free,
+    /// comes exactly where at QoS 1 or 2 sixty-four publications are kept or no identifier is free,
     /// `NotActive` where the client is offline at QoS 0, `TooLarge` where the packet would be over
     /// the size limit. A refusal leaves everything as it was.
     pub fn publish(

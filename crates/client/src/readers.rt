@@ -44,7 +44,7 @@ impl ClientCore {
         mem::replace(&mut self.accepted, Vec::new(self.alloc))
     }
 
-    /// How many publications are kept: their handshakes have not ended. At most 16.
+    /// How many publications are kept: their handshakes have not ended. At most 64.
     pub fn kept(&self) -> usize
         ensures { result ≡ min (kept_count self.now.state) usize.MAX }
     {

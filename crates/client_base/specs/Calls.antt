@@ -100,7 +100,7 @@ has_free_id state = nat_lt (next_id state) 65536
 
 -- how many publications a client keeps
 abbrev pub window : ℕ
-window = 16
+window = 64
 
 abbrev pub publish_packet : Publication → ClientState → Packet
 publish_packet p state = packets.Publish (publish_of false (next_id state) p)

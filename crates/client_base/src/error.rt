@@ -13,7 +13,7 @@ use topics::MalformedKind;
 pub enum ClientError {
     /// The client is not connected, or the server did not accept its connection.
     NotActive,
-    /// Sixteen publications are kept, or no Packet Identifier is free.
+    /// Sixty-four publications are kept, or no Packet Identifier is free.
     WindowFull,
     /// The packet would be over the size limit.
     TooLarge,

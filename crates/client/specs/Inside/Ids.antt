@@ -11,7 +11,7 @@ abbrev pub RequestId : ClientState → Result ℕ ClientError → Type 0
 RequestId state (Ok id) = (id ≡ next_id state) × (request_refusal state ≡ None)
 RequestId state (Err cause) = request_refusal state ≡ Some cause
 
--- the next one where fewer than sixteen publications are kept and one is free, and else WindowFull
+-- the next one where fewer than sixty-four publications are kept and one is free, and else WindowFull
 abbrev pub PublicationId : ClientState → Result ℕ ClientError → Type 0
 PublicationId state (Ok id) =
     (id ≡ next_id state) × ((nat_lt (kept_count state) window && has_free_id state) ≡ true)

@@ -64,7 +64,7 @@ const FULL: &Row<'static> = &(
     Act::Publish(QoS::AtLeastOnce, b'x'),
     Some(ClientError::WindowFull),
     NOTHING,
-    16,
+    64,
     0,
 );
 
@@ -72,15 +72,15 @@ const OFFLINE: &Row<'static> = &(
     Act::Publish(QoS::AtMostOnce, b'x'),
     Some(ClientError::NotActive),
     NOTHING,
-    16,
+    64,
     0,
 );
 
-// Sixteen are kept, offline too; QoS 0 is not.
+// Sixty-four are kept, offline too; QoS 0 is not.
 #[test]
-fn the_seventeenth_is_refused(rt: HostRuntime) {
+fn the_sixty_fifth_is_refused(rt: HostRuntime) {
     let mut client = new_client(rt.alloc()).expect(&rt, "memory is left");
-    assert!(rt; keeps_all(&mut client, rt.alloc(), 16));
+    assert!(rt; keeps_all(&mut client, rt.alloc(), 64));
     assert!(rt; comes_out(&mut client, rt.alloc(), FULL, None));
     assert!(rt; comes_out(&mut client, rt.alloc(), OFFLINE, None));
 }
