@@ -3,7 +3,7 @@ use Rattle.std.specs.Prelude.{◌≡◌, ℕ, ◌≤◌, List, [], ◌∷◌, �
 use Rattle.std.specs.List.{flat_map}
 use Rattle.std.specs.Io.KnownBytes.{Consumes, IsAtEnd}
 use Rattle.node_base.specs.declared.counted.TheConstants.{PIECE_BYTES}
-use Rattle.world_base.specs.declared.item.Port.{Port}
+use Rattle.world_base.specs.declared.Port.{Port}
 use Rattle.world_base.specs.declared.item.Item.{Item}
 use Rattle.world_base.specs.declared.item.Item.TheVariants.{Opened, Bytes, Ended}
 use Rattle.connection.specs.declared.ending.Ending.{Ending}

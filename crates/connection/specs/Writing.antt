@@ -2,8 +2,8 @@
 use Rattle.std.specs.Prelude.{◌≡◌, ℕ, ◌<◌, ◌⊎◌, List, [], ◌++◌, length, Option}
 use Rattle.std.specs.Io.KnownBytes.{Appends}
 use Rattle.node_base.specs.Engines.{WritesBeginning, WritesShort}
-use Rattle.world_base.specs.declared.handed.Handed.{Handed}
-use Rattle.world_base.specs.declared.handed.Handed.TheVariants as answers
+use Rattle.world_base.specs.declared.Handed.{Handed}
+use Rattle.world_base.specs.declared.Handed.TheVariants as answers
 use Rattle.connection.specs.declared.wrote.Wrote.{Wrote}
 use Rattle.connection.specs.declared.wrote.Wrote.TheVariants.{Whole, Left, Failed}
 use Rattle.connection.specs.declared.flow.Flow.{Flow}

@@ -9,7 +9,7 @@ use world_base::{Handed, Memory};
 /// Where the bytes come from that are put out for a connection: a node, also one behind a lock.
 pub trait Outlet {
     ghost use Rattle.std.specs.Prelude.{List, ℕ};
-    ghost use Rattle.world_base.specs.declared.handed.Handed.{Handed};
+    ghost use Rattle.world_base.specs.declared.Handed.{Handed};
 
     // Before a call, the bytes that it hands over then, with its answer, and behind it.
     ghost hands: { Self → List ℕ → Handed → Self → Type 0 };

@@ -10,7 +10,7 @@ use Rattle.lists.specs.Lists.{IsPrefixOf}
 use Rattle.lists.proofs.Beginnings.{prefix_length, prefix_take, prefix_then, take_prefix}
 use Rattle.agreement.specs.Giving.{gives_from}
 use Rattle.agreement.proofs.Given.StepGives.{from_active}
-use Rattle.group_model.specs.world_base.declared.connection.Connection.{Connection}
+use Rattle.group_model.specs.world_base.declared.Connection.{Connection}
 use Rattle.group_model.specs.world_base.Handing.{bytes_of}
 use Rattle.group_model.proofs.of_node_model.Kept.{live}
 use Rattle.group_model.proofs.of_node_model.Views.{some_none}

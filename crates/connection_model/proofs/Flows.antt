@@ -6,8 +6,8 @@ use Rattle.std.proofs.lemmas.List.{append-nil}
 use Rattle.broker_base.specs.Connection.{ConnectionName, is_connection_name}
 use Rattle.lists.specs.Lists.{IsPrefixOf}
 use Rattle.lists.proofs.Beginnings.{prefix_same}
-use Rattle.group_model.specs.world_base.declared.item.Port.{Port}
-use Rattle.group_model.specs.world_base.declared.connection.Connection.{Connection}
+use Rattle.group_model.specs.world_base.declared.Port.{Port}
+use Rattle.group_model.specs.world_base.declared.Connection.{Connection}
 use Rattle.group_model.specs.world_base.Connections.{changed, closed, fresh, handed, is_at, is_listed}
 use Rattle.group_model.specs.world_base.Core.{CoreState, Turn, serves}
 use Rattle.group_model.specs.world_base.Handing.{hands_over, left_by}

@@ -4,8 +4,8 @@ use Rattle.std.specs.List.{list_any}
 use Rattle.broker_base.specs.Command.{Command}
 use Rattle.broker_base.specs.Command.TheVariants as commands
 use Rattle.broker_base.specs.Connection.{ConnectionName, is_connection_name}
-use Rattle.group_model.specs.world_base.declared.item.Port.{Port}
-use Rattle.group_model.specs.world_base.declared.connection.Connection.{Connection}
+use Rattle.group_model.specs.world_base.declared.Port.{Port}
+use Rattle.group_model.specs.world_base.declared.Connection.{Connection}
 use Rattle.group_model.specs.world_base.Connections.{asked, closed, failing, fresh, is_at, left_with}
 use Rattle.group_model.specs.world_base.Core.{CoreState, Turn, serves}
 use Rattle.group_model.specs.world_base.Failing.{closes_failed}

@@ -21,7 +21,7 @@ use Rattle.pipes.specs.Pipe.{IsPiped}
 use Rattle.story.specs.Sends.{sends_to}
 use Rattle.model.proofs.Answers.{counted_in, nothing_put}
 use Rattle.model.proofs.Lists.{same_or_other}
-use Rattle.group_model.specs.world_base.declared.connection.Connection.{Connection}
+use Rattle.group_model.specs.world_base.declared.Connection.{Connection}
 use Rattle.group_model.specs.world_base.Core.{CoreState, Turn, rules}
 use Rattle.group_model.specs.node_model.Closed.{listed_named}
 use Rattle.group_model.specs.node_model.Ends.{IsEnd, IsGiven, IsOrderly, commands_of, open_named, stream_of}

@@ -16,7 +16,7 @@ use Rattle.story.specs.Story.{is_packet_of}
 use Rattle.agreement.specs.Past.{Moment}
 use Rattle.agreement.specs.Primaries.{IsPrimary}
 use Rattle.agreement.specs.Proposals.{commands_of as commands_in}
-use Rattle.group_model.specs.world_base.declared.connection.Connection.{Connection}
+use Rattle.group_model.specs.world_base.declared.Connection.{Connection}
 use Rattle.group_model.specs.world_base.Core.{CoreState, Turn}
 use Rattle.group_model.specs.world_base.Step.{next_name}
 use Rattle.group_model.specs.node_model.Closed.{listed_named}

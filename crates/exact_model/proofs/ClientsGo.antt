@@ -32,7 +32,7 @@ use Rattle.world_model.specs.group_model.Goes.Went.{then_went}
 use Rattle.world_model.proofs.of_group_model.Placed.{get_mapped, set_mapped}
 use Rattle.world_model.specs.connection_model.Carried.{answers_to}
 use Rattle.world_model.specs.world_base.declared.item.Item.TheVariants.{Opened}
-use Rattle.world_model.specs.world_base.declared.item.Port.{Port}
+use Rattle.world_model.specs.world_base.declared.Port.{Port}
 use Rattle.world_model.specs.Goes.{Does, after_connecting, after_packet, story_alone}
 use Rattle.world_model.specs.World.{ClientPipes, HasPipe, Pipe, World, after_writing, newly_written, packets_of, sent_up, with_client}
 use Rattle.world_model.proofs.WorldsHold.{Holds}

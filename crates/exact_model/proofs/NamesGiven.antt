@@ -12,10 +12,10 @@ use Rattle.lists.specs.Lists.In.{here, there}
 use Rattle.lists.proofs.OfEach.{each_append, each_then}
 use Rattle.agreement.specs.MasterState.{refusal}
 use Rattle.model.proofs.Lists.{each_set}
-use Rattle.world_model.specs.world_base.declared.connection.Connection.{Connection}
+use Rattle.world_model.specs.world_base.declared.Connection.{Connection}
 use Rattle.world_model.specs.world_base.declared.item.Item.{Item}
 use Rattle.world_model.specs.world_base.declared.item.Item.TheVariants.{Peer, Tick, Opened, Bytes, Ended, Crash}
-use Rattle.world_model.specs.world_base.declared.item.Port.{Port}
+use Rattle.world_model.specs.world_base.declared.Port.{Port}
 use Rattle.world_model.specs.world_base.Connections.{fresh, is_at}
 use Rattle.world_model.specs.world_base.Core.{CoreState, Turn, serves}
 use Rattle.world_model.specs.world_base.LossyStep.{RunsOn}

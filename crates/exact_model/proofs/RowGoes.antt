@@ -14,7 +14,7 @@ use Rattle.story.specs.Sides.{Connection, Side}
 use Rattle.story.specs.Story.{Happens, Story}
 use Rattle.model.specs.Goes.{is_call}
 use Rattle.world_model.specs.world_base.declared.item.Item.TheVariants.{Bytes}
-use Rattle.world_model.specs.world_base.declared.item.Port.{Port}
+use Rattle.world_model.specs.world_base.declared.Port.{Port}
 use Rattle.world_model.specs.world_base.Core.{CoreState}
 use Rattle.world_model.specs.node_model.Moves.{Deed, done}
 use Rattle.world_model.specs.node_model.Moves.Deed.{takes, gives}

@@ -21,7 +21,7 @@ use Rattle.ballot.specs.Serving.{added, commit, commit_at, proposed}
 use Rattle.machine.specs.Machine.{replay}
 use Rattle.broker_base.specs.Command.{Command}
 use Rattle.broker_base.specs.Command.TheVariants as commands
-use Rattle.world_model.specs.world_base.declared.connection.Stage.TheVariants.{Proposed}
+use Rattle.world_model.specs.world_base.declared.Stage.TheVariants.{Proposed}
 use Rattle.world_model.specs.world_base.declared.item.Item.TheVariants.{Opened, Bytes}
 use Rattle.world_model.specs.world_base.Connections.{fresh}
 use Rattle.world_model.specs.world_base.Core.{CoreState, opening_core, rules}

@@ -35,8 +35,8 @@ use Rattle.agreement.proofs.Agreed.PastKnown.{past_known}
 use Rattle.agreement.proofs.Given.NextPlaces.{answers_at_the_next_places}
 use Rattle.agreement.proofs.Given.Places.{none_between}
 use Rattle.agreement.proofs.Given.StepGives.{from_active}
-use Rattle.node_model.specs.world_base.declared.connection.Connection.{Connection}
-use Rattle.node_model.specs.world_base.declared.item.Port.{Port}
+use Rattle.node_model.specs.world_base.declared.Connection.{Connection}
+use Rattle.node_model.specs.world_base.declared.Port.{Port}
 use Rattle.node_model.specs.world_base.Core.{CoreState, Turn, rules, serves}
 use Rattle.node_model.specs.world_base.Failing.{closes_failed}
 use Rattle.node_model.specs.world_base.Reading.{changes}

@@ -7,7 +7,7 @@ use Rattle.lists.proofs.OfEach.{each_append}
 use Rattle.ballot.specs.Config.{Config}
 use Rattle.agreement.specs.MasterState.{AssignRefusal, master_behind, refusal}
 use Rattle.broker_base.specs.Connection.{ConnectionName}
-use Rattle.node_model.specs.world_base.declared.connection.Connection.{Connection}
+use Rattle.node_model.specs.world_base.declared.Connection.{Connection}
 use Rattle.node_model.specs.world_base.Connections.{closed, is_listed, is_over}
 use Rattle.node_model.specs.world_base.declared.item.Item.{Item}
 use Rattle.node_model.specs.world_base.Core.{CoreState, Turn, opening_core, serves}

@@ -11,8 +11,8 @@ use Rattle.broker_base.specs.Command.{Command}
 use Rattle.broker_base.specs.Output.{Output}
 use Rattle.broker_base.specs.Output.TheVariants as outputs
 use Rattle.broker_base.specs.Connection.{ConnectionName}
-use Rattle.node_model.specs.world_base.declared.item.Port.{Port}
-use Rattle.node_model.specs.world_base.declared.connection.Connection.{Connection}
+use Rattle.node_model.specs.world_base.declared.Port.{Port}
+use Rattle.node_model.specs.world_base.declared.Connection.{Connection}
 use Rattle.node_model.specs.world_base.Connections.{closed, put_out}
 use Rattle.node_model.specs.world_base.Core.{CoreState, serves}
 use Rattle.node_model.specs.world_base.Handing.{hands_over, left_by, listed_at}

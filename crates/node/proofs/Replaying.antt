@@ -5,9 +5,9 @@ use Rattle.mailbox.specs.Ends.{Taker}
 use Rattle.world_base.specs.Command.{Command}
 use Rattle.world_base.specs.Output.{Output}
 use Rattle.world_base.specs.Effect.{Effect}
-use Rattle.world_base.specs.declared.handed.Handed.{Handed}
+use Rattle.world_base.specs.declared.Handed.{Handed}
 use Rattle.world_base.specs.declared.item.Item.{Item}
-use Rattle.world_base.specs.declared.item.Port.{Port}
+use Rattle.world_base.specs.declared.Port.{Port}
 use Rattle.world_base.specs.Core.{CountedCore}
 use Rattle.world_base.specs.Handing.{hands_over}
 use Rattle.world_base.specs.Losses.{Stepped}

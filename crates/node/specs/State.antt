@@ -5,7 +5,7 @@ use Rattle.world_base.specs.Command.{Command}
 use Rattle.world_base.specs.Output.{Output}
 use Rattle.world_base.specs.Effect.{Effect}
 use Rattle.world_base.specs.declared.item.Item.{Item}
-use Rattle.world_base.specs.declared.item.Port.{Port}
+use Rattle.world_base.specs.declared.Port.{Port}
 use Rattle.world_base.specs.Core.{CountedCore, opening_core}
 use Rattle.world_base.specs.Handing.{hands_over}
 use Rattle.world_base.specs.Losses.{Stepped}

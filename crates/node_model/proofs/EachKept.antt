@@ -13,7 +13,7 @@ use Rattle.broker_base.specs.Output.{Output}
 use Rattle.broker_base.specs.Output.TheVariants as outputs
 use Rattle.broker_base.specs.Connection.{ConnectionName}
 use Rattle.lists.specs.Lists.{Each}
-use Rattle.world_base.specs.declared.connection.Connection.{Connection}
+use Rattle.world_base.specs.declared.Connection.{Connection}
 use Rattle.world_base.specs.Connections.{has_failed, is_listed, is_open_named, closed, put_out}
 use Rattle.world_base.specs.Core.{CoreState, Turn, rules, serves}
 use Rattle.world_base.specs.Failing.{closes_failed, loses_failed, loses_if}

@@ -13,10 +13,10 @@ use Rattle.broker_base.specs.Output.{Output}
 use Rattle.broker_base.specs.Output.TheVariants as outputs
 use Rattle.broker_base.specs.Connection.{ConnectionName, same_connection}
 use Rattle.lists.specs.Lists.{Each}
-use Rattle.world_base.specs.declared.item.Port.{Port}
-use Rattle.world_base.specs.declared.connection.Connection.{Connection}
-use Rattle.world_base.specs.declared.connection.Stage.{Stage}
-use Rattle.world_base.specs.declared.connection.Stage.TheVariants.{Awaits, Proposed, Over, Failed}
+use Rattle.world_base.specs.declared.Port.{Port}
+use Rattle.world_base.specs.declared.Connection.{Connection}
+use Rattle.world_base.specs.declared.Stage.{Stage}
+use Rattle.world_base.specs.declared.Stage.TheVariants.{Awaits, Proposed, Over, Failed}
 use Rattle.world_base.specs.Connections.{is_over, is_proposed, is_failed, has_failed, is_at, is_open_at, is_open_named, is_listed, most_pending, closed, failing, put_out, putting, handed, changed}
 use Rattle.world_base.specs.Core.{CoreState, Turn, rules, serves}
 use Rattle.world_base.specs.Failing.{closes_failed}

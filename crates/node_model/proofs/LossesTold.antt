@@ -3,9 +3,9 @@ use Rattle.std.proofs.Common.{◌≡◌, ◌⊎◌, inl, inr, ◌≤◌, ◌<◌
 use Rattle.std.specs.List.{find}
 use Rattle.broker_base.specs.Command.TheVariants as commands
 use Rattle.lists.specs.Lists.{Each}
-use Rattle.world_base.specs.declared.connection.Connection.{Connection}
-use Rattle.world_base.specs.declared.connection.Stage.{Stage}
-use Rattle.world_base.specs.declared.connection.Stage.TheVariants.{Awaits, Proposed, Over, Failed}
+use Rattle.world_base.specs.declared.Connection.{Connection}
+use Rattle.world_base.specs.declared.Stage.{Stage}
+use Rattle.world_base.specs.declared.Stage.TheVariants.{Awaits, Proposed, Over, Failed}
 use Rattle.world_base.specs.Connections.{is_proposed, is_failed, has_failed, closed}
 use Rattle.world_base.specs.Core.{CoreState}
 use Rattle.world_base.specs.Failing.{closes_failed, loses_failed, loses_if}

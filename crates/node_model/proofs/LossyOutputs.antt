@@ -11,7 +11,7 @@ use Rattle.broker_base.specs.Output.{Output}
 use Rattle.broker_base.specs.Output.TheVariants as outputs
 use Rattle.broker_base.specs.Connection.{ConnectionName, same_connection}
 use Rattle.broker_model.proofs.ConnectionNames.{same_itself, same_name}
-use Rattle.world_base.specs.declared.connection.Connection.{Connection}
+use Rattle.world_base.specs.declared.Connection.{Connection}
 use Rattle.world_base.specs.Connections.{changed, closed, failing, is_open_named, put_out}
 use Rattle.world_base.specs.Core.{CoreState}
 use Rattle.world_base.specs.Lossy.{Delivers, Serves}

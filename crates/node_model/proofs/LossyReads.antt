@@ -14,8 +14,8 @@ use Rattle.broker_base.specs.Command.TheVariants as commands
 use Rattle.broker_base.specs.Connection.{ConnectionName}
 use Rattle.broker_model.proofs.ConnectionNames.{same_name}
 use Rattle.story.specs.Story.{is_packet_of}
-use Rattle.world_base.specs.declared.item.Port.{Port}
-use Rattle.world_base.specs.declared.connection.Connection.{Connection}
+use Rattle.world_base.specs.declared.Port.{Port}
+use Rattle.world_base.specs.declared.Connection.{Connection}
 use Rattle.world_base.specs.Connections.{asked, closed, failing, is_at, is_first, is_open_at, left_with}
 use Rattle.world_base.specs.Core.{CoreState, Turn, rules}
 use Rattle.world_base.specs.Lossy.{Account, Drives, Takes}

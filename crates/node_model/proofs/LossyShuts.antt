@@ -6,7 +6,7 @@ use Rattle.broker_base.specs.Command.{Command}
 use Rattle.broker_base.specs.Command.TheVariants as commands
 use Rattle.broker_base.specs.Connection.{ConnectionName}
 use Rattle.story.specs.Sends.{sends_to}
-use Rattle.world_base.specs.declared.connection.Connection.{Connection}
+use Rattle.world_base.specs.declared.Connection.{Connection}
 use Rattle.world_base.specs.Connections.{asked, closed, failing, has_failed, is_open_named, left_with}
 use Rattle.world_base.specs.Core.{CoreState, Turn}
 use Rattle.world_base.specs.Lossy.{Account, Drives, Takes}

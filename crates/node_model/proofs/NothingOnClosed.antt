@@ -5,11 +5,11 @@ use Rattle.std.proofs.lemmas.List.{append-nil}
 use Rattle.std.proofs.lemmas.Bool.{both_ways}
 use Rattle.broker_base.specs.Connection.{ConnectionName, is_connection_name}
 use Rattle.story.specs.Sends.{sends_to}
-use Rattle.world_base.specs.declared.item.Port.{Port}
-use Rattle.world_base.specs.declared.connection.Connection.{Connection}
+use Rattle.world_base.specs.declared.Port.{Port}
+use Rattle.world_base.specs.declared.Connection.{Connection}
 use Rattle.world_base.specs.Connections.{asked, closed, fresh, handed, has_failed, holding, is_at, is_failed, is_listed, is_over, left_with, changed}
-use Rattle.world_base.specs.declared.connection.Stage.{Stage}
-use Rattle.world_base.specs.declared.connection.Stage.TheVariants.{Awaits, Proposed, Over, Failed}
+use Rattle.world_base.specs.declared.Stage.{Stage}
+use Rattle.world_base.specs.declared.Stage.TheVariants.{Awaits, Proposed, Over, Failed}
 use Rattle.world_base.specs.Failing.{closes_failed}
 use Rattle.world_base.specs.Core.{CoreState, Turn, serves}
 use Rattle.world_base.specs.Handing.{hands_over, left_by}

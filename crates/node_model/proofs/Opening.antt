@@ -8,8 +8,8 @@ use Rattle.broker_model.proofs.ConnectionNames.{same_name, same_itself}
 use Rattle.lists.specs.Lists.{Each}
 use Rattle.lists.proofs.OfEach.{each_then, each_append}
 use Rattle.pipes.specs.Pipe.{IsPiped}
-use Rattle.world_base.specs.declared.item.Port.{Port}
-use Rattle.world_base.specs.declared.connection.Connection.{Connection}
+use Rattle.world_base.specs.declared.Port.{Port}
+use Rattle.world_base.specs.declared.Connection.{Connection}
 use Rattle.world_base.specs.Connections.{is_at, fresh}
 use Rattle.world_base.specs.Core.{CoreState, serves}
 use Rattle.world_base.specs.Step.{opens, next_name}

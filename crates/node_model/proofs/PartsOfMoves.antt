@@ -3,7 +3,7 @@ use Rattle.std.proofs.Common.{◌≡◌, false, ℕ, List}
 use Rattle.ballot.specs.Message.{Message}
 use Rattle.ballot.specs.Protocol.Input.{Receives}
 use Rattle.broker_base.specs.Command.{Command}
-use Rattle.world_base.specs.declared.item.Port.{Port}
+use Rattle.world_base.specs.declared.Port.{Port}
 use Rattle.world_base.specs.declared.item.Item.TheVariants.{Peer, Bytes}
 use Rattle.world_base.specs.Core.{CoreState, Turn}
 use Rattle.node_model.specs.Hearing.{HearsAtFirst, IsCalm}

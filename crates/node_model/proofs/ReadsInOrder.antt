@@ -12,8 +12,8 @@ use Rattle.broker_base.specs.Connection.{ConnectionName}
 use Rattle.broker_model.proofs.ConnectionNames.{same_name}
 use Rattle.pipes.specs.Pipe.{Joins, IsPiped}
 use Rattle.story.specs.Story.{is_packet_of}
-use Rattle.world_base.specs.declared.item.Port.{Port}
-use Rattle.world_base.specs.declared.connection.Connection.{Connection}
+use Rattle.world_base.specs.declared.Port.{Port}
+use Rattle.world_base.specs.declared.Connection.{Connection}
 use Rattle.world_base.specs.Connections.{is_first, is_at, is_open_at, asked, holding, left_with, closed, changed}
 use Rattle.world_base.specs.Core.{CoreState, Turn}
 use Rattle.world_base.specs.Reading.{changes, open_at, refused}

@@ -6,7 +6,7 @@ use Rattle.std.proofs.lemmas.Bool.{both_ways}
 use Rattle.broker_base.specs.Connection.{ConnectionName}
 use Rattle.lists.specs.Lists.{IsPrefixOf}
 use Rattle.lists.proofs.Beginnings.{prefix_then}
-use Rattle.world_base.specs.declared.connection.Connection.{Connection}
+use Rattle.world_base.specs.declared.Connection.{Connection}
 use Rattle.world_base.specs.Connections.{closed, changed, failing, most_pending, put_out, putting}
 use Rattle.node_model.specs.Ends.{AtMostOne}
 use Rattle.node_model.proofs.Views.{view, found_each, found_passes, same_some, some_none, none_changes, view_of_others, view_of_changed}

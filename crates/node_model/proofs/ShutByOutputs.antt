@@ -17,7 +17,7 @@ use Rattle.broker_base.specs.Output.TheVariants as outputs
 use Rattle.broker_base.specs.Connection.{ConnectionName, same_connection}
 use Rattle.broker_model.proofs.ConnectionNames.{same_name, same_itself}
 use Rattle.story.specs.Sends.{sends_to}
-use Rattle.world_base.specs.declared.connection.Connection.{Connection}
+use Rattle.world_base.specs.declared.Connection.{Connection}
 use Rattle.world_base.specs.Connections.{is_open_named, closed, put_out, changed}
 use Rattle.world_base.specs.Core.{CoreState, Turn, rules, serves}
 use Rattle.world_base.specs.Turns.{quiet, moved, served, proposes, changes_named, drives, heard}

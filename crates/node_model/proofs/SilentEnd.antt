@@ -5,9 +5,9 @@ use Rattle.std.proofs.lemmas.Bool.{eq-eqb, and_from, not-true}
 use Rattle.ballot.specs.Protocol.Input.{Ticks}
 use Rattle.broker_base.specs.Command.TheVariants as commands
 use Rattle.lists.specs.Lists.{Each}
-use Rattle.world_base.specs.declared.item.Port.{Port}
+use Rattle.world_base.specs.declared.Port.{Port}
 use Rattle.world_base.specs.declared.item.Item.TheVariants.{Tick}
-use Rattle.world_base.specs.declared.connection.Connection.{Connection}
+use Rattle.world_base.specs.declared.Connection.{Connection}
 use Rattle.world_base.specs.Connections.{is_over, is_proposed, is_silent, is_at, is_open_at, closed, failing}
 use Rattle.world_base.specs.Core.{CoreState, Turn}
 use Rattle.world_base.specs.KeepAlive.{lower, lower_silent, lowest_silent, ends_if, ends_silent}

@@ -14,10 +14,10 @@ use Rattle.ballot.specs.Protocol.Input.{Receives, Ticks}
 use Rattle.broker_base.specs.Command.{Command}
 use Rattle.broker_base.specs.Command.TheVariants as commands
 use Rattle.broker_base.specs.Output.{Output}
-use Rattle.world_base.specs.declared.item.Port.{Port}
+use Rattle.world_base.specs.declared.Port.{Port}
 use Rattle.world_base.specs.declared.item.Item.{Item}
 use Rattle.world_base.specs.declared.item.Item.TheVariants.{Peer, Tick, Opened, Bytes, Ended, Crash}
-use Rattle.world_base.specs.declared.connection.Connection.{Connection}
+use Rattle.world_base.specs.declared.Connection.{Connection}
 use Rattle.world_base.specs.Connections.{is_over, is_first, is_proposed, has_failed, is_at, is_open_at, asked, holding, left_with, closed, changed}
 use Rattle.world_base.specs.Core.{CoreState, Turn}
 use Rattle.world_base.specs.Reading.{changes, open_at, loses, loses_open, ends, asks, says, begins, reads, reads_of, reads_next, refused, unread_of}

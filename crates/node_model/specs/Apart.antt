@@ -6,7 +6,7 @@ use Rattle.broker_base.specs.Command.{Command}
 use Rattle.broker_base.specs.Connection.{ConnectionName}
 use Rattle.broker_base.specs.Output.{Output}
 use Rattle.world_base.specs.declared.item.Item.{Item}
-use Rattle.world_base.specs.declared.item.Port.{Port}
+use Rattle.world_base.specs.declared.Port.{Port}
 use Rattle.world_base.specs.Core.{CoreState, opening_core}
 use Rattle.world_base.specs.Handing.{hands_over}
 use Rattle.world_base.specs.LossyStep.{RunsOn}

@@ -7,7 +7,7 @@ use Rattle.packet.specs.declared.connack.Connack.TheVariants as connacks
 use Rattle.broker_base.specs.Connection.{ConnectionName, same_connection}
 use Rattle.lists.specs.Lists.{IsPrefixOf}
 use Rattle.story.specs.Sends.{sends_to}
-use Rattle.world_base.specs.declared.connection.Connection.{Connection}
+use Rattle.world_base.specs.declared.Connection.{Connection}
 use Rattle.world_base.specs.Connections.{is_over}
 use Rattle.world_base.specs.Core.{CoreState, Turn}
 use Rattle.node_model.specs.Ends.{IsOrderly, open_named}

@@ -10,7 +10,7 @@ use Rattle.lists.specs.Lists.{Each, IsPrefixOf}
 use Rattle.cutter.specs.Stream.{Stream}
 use Rattle.pipes.specs.Pipe.{Joins, IsPiped}
 use Rattle.story.specs.Story.{command_of, is_packet_of}
-use Rattle.world_base.specs.declared.connection.Connection.{Connection}
+use Rattle.world_base.specs.declared.Connection.{Connection}
 use Rattle.world_base.specs.Connections.{is_first, is_open_named}
 use Rattle.world_base.specs.Core.{CoreState, Turn, opening_core}
 use Rattle.world_base.specs.Reading.{open_at}

@@ -8,7 +8,7 @@ use Rattle.lists.specs.Lists.{In, IsPrefixOf}
 use Rattle.pipes.specs.Pipe.{Joins}
 use Rattle.story.specs.Sends.{sends_to}
 use Rattle.story.specs.Story.{is_packet_of}
-use Rattle.world_base.specs.declared.connection.Connection.{Connection}
+use Rattle.world_base.specs.declared.Connection.{Connection}
 use Rattle.world_base.specs.Connections.{is_over}
 use Rattle.world_base.specs.Core.{CoreState, Turn, opening_core, serves}
 use Rattle.node_model.specs.Closed.{listed_named}

@@ -11,9 +11,9 @@ use Rattle.ballot.specs.Protocol.{Input}
 use Rattle.ballot.specs.Protocol.Input.{Receives, Proposes, Ticks}
 use Rattle.broker_base.specs.Command.{Command}
 use Rattle.broker_base.specs.Command.TheVariants as commands
-use Rattle.world_base.specs.declared.item.Port.{Port}
+use Rattle.world_base.specs.declared.Port.{Port}
 use Rattle.world_base.specs.declared.item.Item.{Item}
-use Rattle.world_base.specs.declared.connection.Connection.{Connection}
+use Rattle.world_base.specs.declared.Connection.{Connection}
 use Rattle.world_base.specs.Connections.{has_failed, is_first, is_proposed, asked, holding, left_with, closed}
 use Rattle.world_base.specs.Core.{CoreState, Turn}
 use Rattle.world_base.specs.Failing.{closes_failed}

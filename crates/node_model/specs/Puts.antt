@@ -10,7 +10,7 @@ use Rattle.broker_base.specs.Command.TheVariants as commands
 use Rattle.broker_base.specs.Output.{Output}
 use Rattle.broker_base.specs.Connection.{ConnectionName}
 use Rattle.story.specs.Sends.{sends_to}
-use Rattle.world_base.specs.declared.connection.Connection.{Connection}
+use Rattle.world_base.specs.declared.Connection.{Connection}
 use Rattle.world_base.specs.Core.{CoreState, Turn, rules, serves}
 use Rattle.world_base.specs.Turns.{heard}
 use Rattle.node_model.specs.Moves.{Moves}

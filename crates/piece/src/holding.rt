@@ -1,12 +1,13 @@
 // Bytes in their order.
 
-ghost use Rattle.std.specs.Prelude.{◌≡◌, ◌==◌, ◌+◌, ◌++◌, true, false, [], length, nat_le, if◌then◌else◌, IfOk, OnErr};
+ghost use Rattle.std.specs.Prelude.{◌≡◌, ◌==◌, ◌+◌, ◌++◌, true, false, [], length, nat_le, if◌then◌else◌, IfOk, OnErr, OnOk};
 ghost use Rattle.packet.specs.Spelling.{IsPacket, spelling};
 
 use machine::Memory;
 use packet::{Packet, encode, spelling_spells};
 use std::alloc::Global;
 use std::marker::Model;
+use std::mem;
 
 /// Bytes in their order: what came at once, or what waits to be handed over.
 #[derive(Drop)]
@@ -86,6 +87,23 @@ impl Piece {
             return Ok(false);
         }
         Ok(true)
+    }
+
+    /// Moves all bytes to the end of `out`. Where `out` is empty no byte is copied: the two change places. The only error is
+    /// that memory runs out, and then nothing changes.
+    pub fn move_to(&mut self, out: &mut Vec<u8>) -> Result<(), Memory>
+        ensures moved { OnOk result (out.new.items ≡ out.old.items ++ self.old) }
+        ensures emptied { OnOk result (self.new ≡ []) }
+        ensures same { OnErr result (self.new ≡ self.old) }
+        ensures err { OnErr result (out.new.items ≡ out.old.items) }
+    {
+        if out.is_empty() {
+            mem::swap(&mut self.bytes, out);
+            return Ok(());
+        }
+        out.extend_from_slice(self.bytes.as_slice())?;
+        self.bytes.clear();
+        Ok(())
     }
 
     /// Takes all bytes away.

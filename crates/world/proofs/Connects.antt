@@ -7,7 +7,7 @@ use Rattle.std.proofs.lemmas.List.{reverse-reverse}
 use Rattle.std.proofs.lemmas.Option.{none-some}
 use Rattle.lists.proofs.Tests.{none_or}
 use Rattle.world_base.specs.declared.item.Item.TheVariants.{Opened}
-use Rattle.world_base.specs.declared.item.Port.{Port}
+use Rattle.world_base.specs.declared.Port.{Port}
 use Rattle.world_base.specs.Core.{CoreState, CountedCore}
 use Rattle.world_base.specs.Handing.{listed_at}
 use Rattle.exact_model.specs.node_model.Moves.Deed.{takes}

@@ -7,8 +7,8 @@ use Rattle.broker_base.specs.Place.{Client}
 use Rattle.lists.specs.Lists.{In}
 use Rattle.lists.proofs.Tests.{eq_is}
 use Rattle.story.proofs.Takes.{same_name_self}
-use Rattle.world_base.specs.declared.connection.Connection.{Connection as NodesEnd}
-use Rattle.world_base.specs.declared.item.Port.{Port}
+use Rattle.world_base.specs.declared.Connection.{Connection as NodesEnd}
+use Rattle.world_base.specs.declared.Port.{Port}
 use Rattle.world_base.specs.Connections.{is_at}
 use Rattle.world_base.specs.Core.{CoreState, CountedCore}
 use Rattle.world_base.specs.Handing.{bytes_of, listed_at}

@@ -4,7 +4,7 @@ use Rattle.std.specs.Prelude.{IfOk, IfSome, drop, take}
 use Rattle.std.proofs.lemmas.Option.{same_Some}
 use Rattle.master.specs.declared.event.Idle.{Idle}
 use Rattle.world_base.specs.declared.item.Item.TheVariants.{Bytes}
-use Rattle.world_base.specs.declared.item.Port.{Port}
+use Rattle.world_base.specs.declared.Port.{Port}
 use Rattle.exact_model.specs.node_model.Moves.Deed.{takes}
 use Rattle.world_nodes.specs.Goes.{Acts, running}
 use Rattle.world_nodes.specs.Nodes.{NodesState}

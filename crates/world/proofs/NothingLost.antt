@@ -10,7 +10,7 @@ use Rattle.exact_model.specs.node_model.Moves.Deed.{takes}
 use Rattle.world_base.specs.Core.{CountedCore}
 use Rattle.world_base.specs.declared.item.Item.{Item}
 use Rattle.world_base.specs.declared.item.Item.TheVariants.{Peer}
-use Rattle.world_base.specs.declared.item.Port.{Port}
+use Rattle.world_base.specs.declared.Port.{Port}
 use Rattle.world_nodes.specs.Goes.{behind_deed}
 use Rattle.world_nodes.specs.Nodes.{NodesState}
 use Rattle.world_nodes.specs.Steps.{ActsWithLosses, ComesIn, HearsIn, LosesNothing as NodesLoseNothing, TakesIn, forgetful}

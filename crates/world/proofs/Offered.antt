@@ -8,7 +8,7 @@ use Rattle.std.proofs.lemmas.Option.{none-some}
 use Rattle.master.specs.declared.event.Idle.{Idle}
 use Rattle.world_base.specs.declared.item.Item.{Item}
 use Rattle.world_base.specs.declared.item.Item.TheVariants.{Opened}
-use Rattle.world_base.specs.declared.item.Port.{Port}
+use Rattle.world_base.specs.declared.Port.{Port}
 use Rattle.world_base.specs.Core.{CountedCore}
 use Rattle.world_base.specs.Handing.{listed_at}
 use Rattle.exact_model.specs.node_model.Moves.Deed.{takes}

@@ -6,7 +6,7 @@ use Rattle.std.specs.Option.{is_some}
 use Rattle.std.proofs.lemmas.Bool.{both_ways}
 use Rattle.std.proofs.lemmas.Option.{none-some}
 use Rattle.world_base.specs.declared.item.Item.TheVariants.{Opened}
-use Rattle.world_base.specs.declared.item.Port.{Port}
+use Rattle.world_base.specs.declared.Port.{Port}
 use Rattle.world_base.specs.Core.{CoreState, CountedCore}
 use Rattle.world_base.specs.Handing.{listed_at}
 use Rattle.exact_model.specs.node_model.Moves.Deed.{takes}

@@ -8,7 +8,7 @@ use Rattle.agreement.specs.World.{can_open}
 use Rattle.broker_base.specs.Place.{Client}
 use Rattle.model.specs.World.{AreApart}
 use Rattle.exact_model.specs.group_model.Group.{opening_group}
-use Rattle.world_base.specs.declared.item.Port.{Port}
+use Rattle.world_base.specs.declared.Port.{Port}
 use Rattle.exact_model.specs.world_model.World.{ClientPipes, Pipe, new_client, opening}
 use Rattle.exact_model.specs.world_model.Goes.Reached.{begins}
 use Rattle.world_nodes.specs.Nodes.{StandsFor as NodesStand}

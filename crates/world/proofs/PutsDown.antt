@@ -4,8 +4,8 @@ use Rattle.std.specs.Prelude.{IfSome, IfOk, IsErr}
 use Rattle.std.proofs.lemmas.List.{append-nil, set-set}
 use Rattle.lists.proofs.Places.{get_set}
 use Rattle.master.specs.declared.event.Idle.{Idle}
-use Rattle.world_base.specs.declared.handed.Handed.{Handed}
-use Rattle.world_base.specs.declared.item.Port.{Port}
+use Rattle.world_base.specs.declared.Handed.{Handed}
+use Rattle.world_base.specs.declared.Port.{Port}
 use Rattle.world_base.specs.Core.{CountedCore}
 use Rattle.exact_model.specs.node_model.Moves.Deed.{gives}
 use Rattle.world_nodes.specs.Goes.{node_of}

@@ -3,10 +3,10 @@ use Rattle.std.specs.Prelude.{◌≡◌, ◌⊎◌, ℕ, zero, suc, ◌-◌, ◌
 use Rattle.exact_model.specs.node_model.Moves.Deed.{gives}
 use Rattle.world_base.specs.Core.{CountedCore}
 use Rattle.world_base.specs.Handing.{answer_of, bytes_of, listed_at}
-use Rattle.world_base.specs.declared.handed.Handed.{Handed}
-use Rattle.world_base.specs.declared.handed.Handed.TheVariants as answers
+use Rattle.world_base.specs.declared.Handed.{Handed}
+use Rattle.world_base.specs.declared.Handed.TheVariants as answers
 use Rattle.world_base.specs.declared.item.Item.{Item}
-use Rattle.world_base.specs.declared.item.Port.{Port}
+use Rattle.world_base.specs.declared.Port.{Port}
 use Rattle.world_nodes.specs.Goes.{TakesExactly, behind_deed, node_of}
 use Rattle.world_nodes.specs.Nodes.{NodesState}
 use Rattle.world_nodes.specs.Steps.{TakesIn, forgetful}

@@ -15,7 +15,7 @@ use Rattle.exact_model.specs.group_model.Group.{opening_group}
 use Rattle.master.specs.declared.event.Idle.{Idle}
 use Rattle.world_base.specs.Core.{CountedCore, serves}
 use Rattle.world_base.specs.declared.item.Item.TheVariants as items
-use Rattle.world_base.specs.declared.item.Port.{Port}
+use Rattle.world_base.specs.declared.Port.{Port}
 use Rattle.world_nodes.specs.Goes.{Comes, ComesToNobody, behind_giving, node_of, running}
 use Rattle.world_nodes.specs.Nodes.{NodesState, StandsFor}
 use Rattle.world_nodes.specs.Steps.{ComesIn, GivesIn, TakesIn}

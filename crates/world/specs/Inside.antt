@@ -9,8 +9,8 @@ use Rattle.master.specs.declared.event.Idle.{Idle}
 use Rattle.exact_model.specs.group_model.Group.{Group}
 use Rattle.world_base.specs.Core.{CountedCore}
 use Rattle.world_base.specs.Handing.{listed_at}
-use Rattle.world_base.specs.declared.handed.Handed.{Handed}
-use Rattle.world_base.specs.declared.item.Port.{Port}
+use Rattle.world_base.specs.declared.Handed.{Handed}
+use Rattle.world_base.specs.declared.Port.{Port}
 use Rattle.world_base.specs.declared.item.Item.TheVariants.{Bytes, Opened}
 use Rattle.exact_model.specs.node_model.Moves.Deed.{takes, gives}
 use Rattle.world_nodes.specs.Goes.{Acts, HandsOver, node_of, running}

@@ -3,9 +3,9 @@ use Rattle.std.proofs.Common.{◌≡◌, ℕ, Bool, true, false, Option, Some, N
 use Rattle.std.specs.List.{position}
 use Rattle.std.specs.Result.{is_ok, OnOk}
 use Rattle.broker_model.specs.Connection.{ConnectionName}
-use Rattle.world_base.specs.declared.item.Port.{Port}
-use Rattle.world_base.specs.declared.connection.Connection.{Connection}
-use Rattle.world_base.specs.Connections.{changed, is_open_at, is_open_named}
+use Rattle.node_connections.specs.declared.port.Port.{Port}
+use Rattle.node_connections.specs.declared.connection.Connection.{Connection}
+use Rattle.node_connections.specs.Connections.{changed, is_open_at, is_open_named}
 use Rattle.world_base.specs.Core.{CoreState}
 use Rattle.world_base.specs.Inside.{Running}
 use Rattle.world_base.specs.Reading.{changes}

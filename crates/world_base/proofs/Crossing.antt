@@ -4,7 +4,7 @@ use Rattle.ballot.proofs.replica.Replica.TheSendSync as replica
 use Rattle.broker.proofs.Crossing.{machine_send}
 use Rattle.broker_model.proofs.command.Command.TheSendSync as command
 use Rattle.std.proofs.Crossing.{crosses}
-use Rattle.world_base.proofs.connection.Connection.TheSendSync as connection
+use Rattle.node_connections.proofs.connection.Connection.TheSendSync as connection
 use Rattle.world_base.specs.contracts.node_core.NodeCore as NodeCore
 
 pub core_send : IsSend NodeCore.the_row

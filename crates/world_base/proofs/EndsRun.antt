@@ -6,9 +6,9 @@ use Rattle.broker_model.specs.declared.command.Command.{Command}
 use Rattle.broker_model.specs.declared.command.Command.TheVariants as commands
 use Rattle.broker_model.specs.declared.command.Output.{Output}
 use Rattle.ballot.specs.Effect.{Effect}
-use Rattle.world_base.specs.declared.item.Port.{Port}
-use Rattle.world_base.specs.declared.connection.Connection.{Connection}
-use Rattle.world_base.specs.Connections.{closed, failing, has_failed, holding, is_proposed}
+use Rattle.node_connections.specs.declared.port.Port.{Port}
+use Rattle.node_connections.specs.declared.connection.Connection.{Connection}
+use Rattle.node_connections.specs.Connections.{closed, failing, has_failed, holding, is_proposed}
 use Rattle.world_base.specs.Core.{CoreState}
 use Rattle.world_base.specs.Failing.{closes_failed}
 use Rattle.world_base.specs.Inside.{ProposedBy, Ran, Running, TellsLost}

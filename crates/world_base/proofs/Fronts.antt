@@ -13,15 +13,16 @@ use Rattle.broker_model.specs.declared.command.Command.{Command}
 use Rattle.broker_model.specs.declared.command.Command.TheVariants as commands
 use Rattle.broker_model.specs.declared.command.Output.{Output}
 use Rattle.ballot.specs.Effect.{Effect}
-use Rattle.world_base.specs.declared.item.Port.{Port}
-use Rattle.world_base.specs.declared.front.Front.{Front}
-use Rattle.world_base.specs.declared.front.Front.TheVariants as fronts
-use Rattle.world_base.specs.declared.connection.Stage.{Stage}
-use Rattle.world_base.specs.declared.connection.Stage.TheVariants.{Awaits, Proposed, Over, Failed}
-use Rattle.world_base.specs.declared.connection.Connection.{Connection}
-use Rattle.world_base.specs.Connections.{changed, closed, left_with, is_first, is_proposed, is_open_at}
+use Rattle.node_connections.specs.declared.port.Port.{Port}
+use Rattle.node_connections.specs.declared.front.Front.{Front}
+use Rattle.node_connections.specs.declared.front.Front.TheVariants as fronts
+use Rattle.node_connections.specs.declared.connection.Stage.{Stage}
+use Rattle.node_connections.specs.declared.connection.Stage.TheVariants.{Awaits, Proposed, Over, Failed}
+use Rattle.node_connections.specs.declared.connection.Connection.{Connection}
+use Rattle.node_connections.specs.Connections.{changed, closed, left_with, is_first, is_proposed, is_open_at}
 use Rattle.world_base.specs.Core.{CoreState, Turn}
-use Rattle.world_base.specs.Inside.{Running, Turns, TakesFront, IsFault}
+use Rattle.node_connections.specs.Inside.{TakesFront, IsFault}
+use Rattle.world_base.specs.Inside.{Running, Turns}
 use Rattle.world_base.specs.Reading.{begins, changes, loses, open_at, reads, reads_next, refused, says}
 use Rattle.world_base.specs.Turns.{proposes, quiet}
 use Rattle.world_base.proofs.TurnsJoin.{turns_idle, turns_quiet, turns_behind}

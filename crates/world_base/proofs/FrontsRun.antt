@@ -8,15 +8,16 @@ use Rattle.broker_model.specs.Connection.{ConnectionName}
 use Rattle.broker_model.specs.declared.command.Command.{Command}
 use Rattle.broker_model.specs.declared.command.Output.{Output}
 use Rattle.ballot.specs.Effect.{Effect}
-use Rattle.world_base.specs.declared.item.Port.{Port}
-use Rattle.world_base.specs.declared.front.Front.{Front}
-use Rattle.world_base.specs.declared.front.Front.TheVariants as fronts
-use Rattle.world_base.specs.declared.connection.Stage.{Stage}
-use Rattle.world_base.specs.declared.connection.Stage.TheVariants.{Awaits, Proposed, Over, Failed}
-use Rattle.world_base.specs.declared.connection.Connection.{Connection}
-use Rattle.world_base.specs.Connections.{asked, closed, is_first, is_proposed, left_with}
+use Rattle.node_connections.specs.declared.port.Port.{Port}
+use Rattle.node_connections.specs.declared.front.Front.{Front}
+use Rattle.node_connections.specs.declared.front.Front.TheVariants as fronts
+use Rattle.node_connections.specs.declared.connection.Stage.{Stage}
+use Rattle.node_connections.specs.declared.connection.Stage.TheVariants.{Awaits, Proposed, Over, Failed}
+use Rattle.node_connections.specs.declared.connection.Connection.{Connection}
+use Rattle.node_connections.specs.Connections.{asked, closed, is_first, is_proposed, left_with}
 use Rattle.world_base.specs.Core.{CoreState}
-use Rattle.world_base.specs.Inside.{BeginsOrSays, Ran, TakesFront, TellsLost}
+use Rattle.node_connections.specs.Inside.{TakesFront}
+use Rattle.world_base.specs.Inside.{BeginsOrSays, Ran, TellsLost}
 use Rattle.world_base.specs.Lossy.{quietly}
 use Rattle.world_base.specs.LossyStep.{Begins, Connects, Ends, ReadsNext, Says}
 use Rattle.world_base.specs.LossyStep.Ends.{none_open}

@@ -12,11 +12,11 @@ use Rattle.broker_model.specs.declared.command.Output.{Output}
 use Rattle.ballot.specs.Protocol.{Input}
 use Rattle.ballot.specs.Protocol.Input.{Receives, Ticks}
 use Rattle.ballot.specs.Sending.{Outcome}
-use Rattle.world_base.specs.declared.item.Port.{Port}
+use Rattle.node_connections.specs.declared.port.Port.{Port}
 use Rattle.world_base.specs.declared.item.Item.{Item}
 use Rattle.world_base.specs.declared.item.Item.TheVariants.{Peer, Tick, Opened, Bytes, Ended, Crash}
-use Rattle.world_base.specs.declared.connection.Connection.{Connection}
-use Rattle.world_base.specs.Connections.{asked, closed, failing, fresh, has_failed, holding, is_at, is_open_at, is_over, left_with}
+use Rattle.node_connections.specs.declared.connection.Connection.{Connection}
+use Rattle.node_connections.specs.Connections.{asked, closed, failing, fresh, has_failed, holding, is_at, is_open_at, is_over, left_with}
 use Rattle.world_base.specs.Core.{CoreState, serves}
 use Rattle.world_base.specs.Failing.{closes_failed}
 use Rattle.world_base.specs.Going.{AGapIsClosed, AreNamedApart, EachGoesOn, GoOn, GoesOn, IsNew}

@@ -1,9 +1,9 @@
 -- HandsOver.antt: what was put out is handed over at the place of its connection.
 use Rattle.std.proofs.Common.{◌≡◌, ℕ, Option, Some, None, List, get_or, set, refl, sym, ap, ◌∙◌}
 use Rattle.std.specs.List.{position, filter}
-use Rattle.world_base.specs.declared.item.Port.{Port}
-use Rattle.world_base.specs.declared.connection.Connection.{Connection}
-use Rattle.world_base.specs.Connections.{handed, is_at, is_listed}
+use Rattle.node_connections.specs.declared.port.Port.{Port}
+use Rattle.node_connections.specs.declared.connection.Connection.{Connection}
+use Rattle.node_connections.specs.Connections.{handed, is_at, is_listed}
 use Rattle.world_base.specs.Handing.{hands_over, listed_at}
 use Rattle.world_base.specs.Inside.{Running}
 use Rattle.world_base.proofs.Places.{place_changed}

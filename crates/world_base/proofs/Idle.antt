@@ -8,11 +8,11 @@ use Rattle.ballot.specs.Effect.{Effect}
 use Rattle.ballot.specs.Protocol.{Input}
 use Rattle.ballot.specs.Protocol.Input.{Receives, Ticks}
 use Rattle.ballot.specs.Sending.{Outcome}
-use Rattle.world_base.specs.declared.item.Port.{Port}
+use Rattle.node_connections.specs.declared.port.Port.{Port}
 use Rattle.world_base.specs.declared.item.Item.{Item}
 use Rattle.world_base.specs.declared.item.Item.TheVariants.{Peer, Tick, Opened, Bytes, Ended, Crash}
-use Rattle.world_base.specs.declared.connection.Connection.{Connection}
-use Rattle.world_base.specs.Connections.{changed, has_failed, holding, is_open_at}
+use Rattle.node_connections.specs.declared.connection.Connection.{Connection}
+use Rattle.node_connections.specs.Connections.{changed, has_failed, holding, is_open_at}
 use Rattle.world_base.specs.Core.{CoreState, Turn}
 use Rattle.world_base.specs.Failing.{loses_all_failed}
 use Rattle.world_base.specs.Inside.{Ran, Running, Turns}

@@ -8,10 +8,10 @@ use Rattle.broker_base.specs.State.{State}
 use Rattle.ballot.specs.Effect.{Effect}
 use Rattle.ballot.specs.Losses.{halted, one_more}
 use Rattle.ballot.specs.Replica.{CountedReplica}
-use Rattle.world_base.specs.declared.item.Port.{Port}
+use Rattle.node_connections.specs.declared.port.Port.{Port}
 use Rattle.world_base.specs.declared.item.Item.{Item}
 use Rattle.world_base.specs.declared.item.Item.TheVariants.{Opened, Crash}
-use Rattle.world_base.specs.Connections.{has_failed}
+use Rattle.node_connections.specs.Connections.{has_failed}
 use Rattle.world_base.specs.Core.{CoreState, CountedCore, Turn, rules}
 use Rattle.world_base.specs.Inside.{Ran, Running, Turns}
 use Rattle.world_base.specs.Losses.{DoesNothing, IsExactly, Stepped, Steps}

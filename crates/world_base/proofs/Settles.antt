@@ -1,8 +1,8 @@
 -- Settles.antt: what is done to the list at the end of a step.
 use Rattle.std.proofs.Common.{◌≡◌, true, false, List, map, ap, ◌∙◌}
 use Rattle.std.specs.List.{filter}
-use Rattle.world_base.specs.declared.connection.Connection.{Connection}
-use Rattle.world_base.specs.Connections.{closed, is_listed}
+use Rattle.node_connections.specs.declared.connection.Connection.{Connection}
+use Rattle.node_connections.specs.Connections.{closed, is_listed}
 use Rattle.world_base.specs.Core.{serves}
 use Rattle.world_base.specs.Inside.{Running}
 use Rattle.world_base.specs.Step.{settled}

@@ -4,7 +4,7 @@ use Rattle.std.proofs.lemmas.Bool.{lt-ltb, le-ltb, cases_lt}
 use Rattle.broker_model.specs.declared.command.Command.{Command}
 use Rattle.broker_model.specs.declared.command.Output.{Output}
 use Rattle.ballot.specs.Effect.{Effect}
-use Rattle.world_base.specs.declared.item.Port.{Port}
+use Rattle.node_connections.specs.declared.port.Port.{Port}
 use Rattle.world_base.specs.Core.{CoreState, Turn}
 use Rattle.world_base.specs.Inside.{Running, Turns}
 use Rattle.world_base.specs.KeepAlive.{ends_silent, lowest_silent}

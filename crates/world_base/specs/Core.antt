@@ -9,7 +9,7 @@ use Rattle.broker.specs.Standing.{broker_rules}
 use Rattle.ballot.specs.Config.{Config}
 use Rattle.ballot.specs.Effect.{Effect}
 use Rattle.ballot.specs.Replica.{CountedReplica, is_active, opening}
-use Rattle.world_base.specs.declared.connection.Connection.{Connection}
+use Rattle.node_connections.specs.declared.connection.Connection.{Connection}
 
 -- what a node keeps; its connections stand in the order in which they were opened
 pub record CoreState : Type 0 where

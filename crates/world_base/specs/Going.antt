@@ -13,8 +13,8 @@ use Rattle.ballot.specs.Effect.{Effect}
 use Rattle.ballot.specs.Effect.TheVariants.{To, Out}
 use Rattle.world_base.specs.declared.item.Item.{Item}
 use Rattle.world_base.specs.declared.item.Item.TheVariants.{Opened}
-use Rattle.world_base.specs.declared.connection.Connection.{Connection}
-use Rattle.world_base.specs.Connections.{fresh, is_over}
+use Rattle.node_connections.specs.declared.connection.Connection.{Connection}
+use Rattle.node_connections.specs.Connections.{fresh, is_over}
 use Rattle.world_base.specs.Core.{CoreState}
 use Rattle.world_base.specs.Lossy.{Account}
 use Rattle.world_base.specs.LossyStep.{ActsOn}

@@ -1,5 +1,5 @@
 -- What the helpers of a step say of it.
-use Rattle.std.specs.Prelude.{◌≡◌, ℕ, Bool, true, false, if◌then◌else◌, List, [], ◌++◌, Result, Ok, Err}
+use Rattle.std.specs.Prelude.{◌≡◌, Bool, true, false, List, [], ◌++◌}
 use Rattle.broker_base.specs.State.{State}
 use Rattle.broker_model.specs.Connection.{ConnectionName}
 use Rattle.broker_model.specs.declared.command.Command.{Command}
@@ -10,18 +10,9 @@ use Rattle.ballot.specs.Losses.{Done, Steps}
 use Rattle.ballot.specs.Replica.{CountedReplica}
 use Rattle.ballot.specs.Sending.{Outcome}
 use Rattle.ballot.specs.Serving.{added}
-use Rattle.packet.specs.Stop.{Stop}
-use Rattle.packet.specs.Stop.TheVariants as stops
 use Rattle.packet.specs.declared.packet.Packet.{Packet}
-use Rattle.packet.specs.Verdict.{verdict}
-use Rattle.broker_model.specs.Sized.{IsSized}
-use Rattle.world_base.specs.declared.connection.Connection.{Connection}
-use Rattle.world_base.specs.declared.front.Front.{Front}
-use Rattle.world_base.specs.declared.front.Front.TheVariants as fronts
-use Rattle.world_base.specs.Connections.{is_first, left_with, closed}
-use Rattle.world_base.specs.Reading.{refused}
 use Rattle.world_base.specs.Core.{CoreState, Turn, rules}
-use Rattle.world_base.specs.declared.item.Port.{Port}
+use Rattle.node_connections.specs.declared.port.Port.{Port}
 use Rattle.world_base.specs.LossyStep.{Begins, Says}
 use Rattle.world_base.specs.Lossy.{Account, Declines, Delivers, Proposes, Takes, quietly}
 use Rattle.world_base.specs.Turns.{has_room}
@@ -100,27 +91,3 @@ BeginsOrSays false port name packet core did = Says port name packet core did
 abbrev pub TellsLost : Bool → ConnectionName → CoreState → Account → Type 0
 TellsLost true name core did = Proposes (commands.Lost name) core did
 TellsLost false name core did = did ≡ quietly core
-
--- a fault of the bytes
-abbrev pub IsFault : Result (Packet × List ℕ) Stop → Type 0
-IsFault (Err (stops.Malformed kind)) = Unit {0}
-IsFault _ = ⊥
-
--- what stands at the front of the bytes of a connection, and what is left of them
-abbrev pub Reads : List ℕ → Front → List ℕ → Type 0
-Reads bytes fronts.More left = (verdict bytes ≡ Err stops.More) × (left ≡ bytes)
-Reads bytes (fronts.Packet packet) left = (verdict bytes ≡ Ok (packet, left)) × IsSized packet
-Reads bytes (fronts.Refused code) left = verdict bytes ≡ Err (stops.Refused code)
-Reads bytes fronts.Fault left = IsFault (verdict bytes)
-Reads bytes fronts.Wanting left = Unit {0}
-
--- what reading on at this time makes of a connection
-abbrev pub TakesFront : ℕ → Connection → Front → Connection → Type 0
-TakesFront now old fronts.More new = (verdict old.unread ≡ Err stops.More) × (new ≡ old)
-TakesFront now old (fronts.Packet packet) new =
-    (rest : List ℕ) × (verdict old.unread ≡ Ok (packet, rest)) × IsSized packet × (new ≡ left_with now rest old)
-TakesFront now old (fronts.Refused code) new =
-    (verdict old.unread ≡ Err (stops.Refused code))
-    × (new ≡ (if is_first old.stage then refused code old else closed old))
-TakesFront now old fronts.Fault new = IsFault (verdict old.unread) × (new ≡ closed old)
-TakesFront now old fronts.Wanting new = new ≡ closed old

@@ -1,4 +1,3 @@
-pub mod Connections
 pub mod Core
 pub mod Failing
 pub mod Going
@@ -11,6 +10,8 @@ pub mod LossyStep
 pub mod Reading
 pub mod Step
 pub mod Turns
+pub use Rattle.node_connections.specs.Connections
+pub use Rattle.node_connections.specs.Stands
 pub use Rattle.ballot.specs.LawfulConfig
 pub use Rattle.ballot.specs.Replica
 pub use Rattle.ballot.specs.Effect

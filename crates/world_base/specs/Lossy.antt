@@ -12,7 +12,7 @@ use Rattle.ballot.specs.Protocol.{Input}
 use Rattle.ballot.specs.Replica.{CountedReplica}
 use Rattle.ballot.specs.Sending.{Outcome}
 use Rattle.ballot.specs.Serving.{added, proposed}
-use Rattle.world_base.specs.Connections.{failing}
+use Rattle.node_connections.specs.Connections.{failing}
 use Rattle.world_base.specs.Core.{CoreState, rules, serves}
 use Rattle.world_base.specs.Turns.{changes_named, has_room, heard, served_by}
 

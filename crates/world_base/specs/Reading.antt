@@ -3,20 +3,19 @@ use Rattle.std.specs.Prelude.{ℕ, if◌then◌else◌, List, length, Option, So
 use Rattle.std.specs.List.{find}
 use Rattle.packet.specs.Stop.{Stop}
 use Rattle.packet.specs.Stop.TheVariants as stops
-use Rattle.packet.specs.RefusalCode.{RefusalCode}
 use Rattle.packet.specs.declared.packet.Packet.{Packet}
 use Rattle.packet.specs.declared.packet.Packet.TheVariants as packets
 use Rattle.packet.specs.declared.connect.Connect.{Connect}
-use Rattle.packet.specs.declared.connack.Connack.TheVariants as connacks
 use Rattle.packet.specs.Verdict.{verdict}
 use Rattle.broker_model.specs.Connection.{ConnectionName}
 use Rattle.broker_model.specs.declared.command.Command.TheVariants as commands
-use Rattle.world_base.specs.declared.item.Port.{Port}
-use Rattle.world_base.specs.declared.connection.Connection.{Connection}
-use Rattle.world_base.specs.Connections.{is_open_at, is_first, is_proposed, asked, left_with, closed, putting, changed}
+use Rattle.node_connections.specs.declared.port.Port.{Port}
+use Rattle.node_connections.specs.declared.connection.Connection.{Connection}
+use Rattle.node_connections.specs.Connections.{is_open_at, is_first, is_proposed, asked, left_with, closed, changed}
+use Rattle.node_connections.specs.Refusing.{refused}
 use Rattle.world_base.specs.Core.{CoreState, Turn}
-use Rattle.packet.specs.Spelling.{spelling}
 use Rattle.world_base.specs.Turns.{quiet, repeated, proposes, has_room}
+pub use Rattle.node_connections.specs.Refusing.{refused}
 
 abbrev pub open_at : Port → CoreState → Option Connection
 open_at port core = find (is_open_at port) core.connections
@@ -58,10 +57,6 @@ says port name packet core =
 abbrev pub begins : Port → ConnectionName → Packet → CoreState → Turn
 begins port name (packets.Connect connect) core = asks port name connect (changes port (asked connect.keep_alive) core)
 begins port name _ core = quiet (changes port closed core)
-
--- a CONNECT that is refused with a code is answered, and then closed (MQTT 3.2.2.3)
-abbrev pub refused : RefusalCode → Connection → Connection
-refused code c = closed (putting (spelling (packets.Connack (connacks.Refused code))) c)
 
 -- what the front of a connection's bytes makes of the node at this time: a later CONNECT that is refused with a code is a
 -- malformed packet

@@ -4,10 +4,10 @@ use Rattle.std.specs.List.{list_any}
 use Rattle.broker_model.specs.Connection.{ConnectionName, is_connection_name}
 use Rattle.ballot.specs.Losses.{halted}
 use Rattle.ballot.specs.Protocol.Input.{Receives, Ticks}
-use Rattle.world_base.specs.declared.item.Port.{Port}
+use Rattle.node_connections.specs.declared.port.Port.{Port}
 use Rattle.world_base.specs.declared.item.Item.{Item}
 use Rattle.world_base.specs.declared.item.Item.TheVariants.{Peer, Tick, Opened, Bytes, Ended, Crash}
-use Rattle.world_base.specs.Connections.{is_at, is_listed, fresh, holding, closed}
+use Rattle.node_connections.specs.Connections.{is_at, is_listed, fresh, holding, closed}
 use Rattle.world_base.specs.Core.{CoreState, Turn, rules, serves}
 use Rattle.world_base.specs.Failing.{loses_all_failed}
 use Rattle.world_base.specs.KeepAlive.{ends_all_silent}

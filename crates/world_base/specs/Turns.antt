@@ -12,8 +12,8 @@ use Rattle.ballot.specs.Protocol.{Input, replica_step}
 use Rattle.ballot.specs.Replica.{ReplicaState}
 use Rattle.ballot.specs.Sending.{Outcome, nothing_done}
 use Rattle.ballot.specs.Serving.{proposed, most_places}
-use Rattle.world_base.specs.declared.connection.Connection.{Connection}
-use Rattle.world_base.specs.Connections.{is_open_named, closed, put_out, changed}
+use Rattle.node_connections.specs.declared.connection.Connection.{Connection}
+use Rattle.node_connections.specs.Connections.{is_open_named, closed, put_out, changed}
 use Rattle.world_base.specs.Core.{CoreState, Turn, rules, serves}
 use Rattle.packet.specs.Spelling.{spelling}
 

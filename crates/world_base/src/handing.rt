@@ -2,15 +2,14 @@
 
 ghost use Rattle.std.specs.Prelude.{◌≡◌, ◌++◌, IfOk, OnErr, OnOk};
 ghost use Rattle.std.specs.List.{position};
-ghost use Rattle.world_base.specs.Connections.{is_at};
+ghost use Rattle.node_connections.specs.Connections.{is_at};
+ghost use Rattle.node_connections.specs.Stands.{standing_of};
 ghost use Rattle.lists.specs.Lists.{IsPrefixOf};
 ghost use Rattle.world_base.specs.Handing.{answer_of, bytes_of, hands_over, idle_ports, listed_at};
 
-use crate::handed::Handed;
-use crate::item::Port;
-use crate::listing::{keep_listed, push_idle};
 use crate::serving::Serving;
 use ballot::Memory;
+use node_connections::{Handed, Port, Standing, keep_listed, push_idle};
 
 impl Serving {
     /// Appends what was put out for a port and not handed over before. Where memory is wanting
@@ -43,6 +42,17 @@ impl Serving {
         ensures err { OnErr result (IsPrefixOf ports.old.items ports.new.items) }
     {
         push_idle(&self.connections, ports)
+    }
+
+    /// Returns how the connection of a port stands.
+    pub fn standing(&self, port: Port) -> Standing
+        ensures { result ≡ standing_of (listed_at port self.now.core) }
+    {
+        let Some(index) = self.place_listed(port) else {
+            return Standing::Closed;
+        };
+        let connection = &self.connections[index];
+        connection.standing()
     }
 
     // Where the listed connection of a port stands.

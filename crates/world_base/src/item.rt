@@ -2,12 +2,7 @@
 
 use ballot::Message;
 use broker_model::Command;
-use piece::Piece;
-
-/// The number by which a node knows a stream of bytes from and to a client. A number may be used
-/// again once its connection is over and all that was put out for it was handed over.
-#[derive(Clone, Copy, Debug, PartialEq, Eq)]
-pub struct Port(pub u64);
+use node_connections::{Piece, Port};
 
 /// What a node takes in at one step. Times are in milliseconds, from a moment that the node's
 /// caller chooses.

@@ -2,24 +2,18 @@
 //! clients, messages of other nodes and times come in, bytes and messages go out.
 #![tactic(auto)]
 
-mod connection;
 mod driving;
-mod front;
-mod handed;
 mod handing;
 mod ignoring;
 mod item;
 mod laws;
-mod listing;
 mod node_core;
 mod serving;
 mod taking;
-mod unread;
 
 pub use ballot::{Body, Config, Effect, Members, Memory, Message, OpeningError, Status};
 pub use broker_model::{Command, ConnectionId, Output};
-pub use handed::Handed;
-pub use item::{Item, Port};
+pub use item::Item;
 pub use laws::{a_gap_is_closed, proposals_are_steps};
+pub use node_connections::{Connection, Handed, Piece, Port, Stage, Standing};
 pub use node_core::NodeCore;
-pub use piece::Piece;

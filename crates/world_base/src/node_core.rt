@@ -8,13 +8,14 @@ ghost use Rattle.ballot.specs.Replica.{status_of};
 ghost use Rattle.world_base.specs.Core.{opening_core};
 ghost use Rattle.lists.specs.Lists.{IsPrefixOf};
 ghost use Rattle.world_base.specs.Handing.{answer_of, bytes_of, hands_over, idle_ports, listed_at};
+ghost use Rattle.node_connections.specs.Stands.{standing_of};
 ghost use Rattle.world_base.specs.Losses.{Stepped};
 
-use crate::handed::Handed;
-use crate::item::{Item, Port};
+use crate::item::Item;
 use crate::serving::Serving;
 use ballot::{Config, Effect, Memory, OpeningError, Status};
 use broker_model::{Command, Output};
+use node_connections::{Handed, Port, Standing};
 use std::alloc::Global;
 use std::marker::Model;
 
@@ -76,6 +77,13 @@ impl NodeCore {
         ensures { result ≡ is_some (listed_at port self.now.core) }
     {
         self.serving.has_port(port)
+    }
+
+    /// Returns how the connection of a port stands.
+    pub fn standing(&self, port: Port) -> Standing
+        ensures { result ≡ standing_of (listed_at port self.now.core) }
+    {
+        self.serving.standing(port)
     }
 
     /// Takes an item in and appends the messages to other nodes that follow from it. Where memory

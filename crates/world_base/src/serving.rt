@@ -5,7 +5,7 @@ ghost use Rattle.std.specs.List.{list_any, position};
 ghost use Rattle.broker_model.specs.Connection.{is_connection_name};
 ghost use Rattle.ballot.specs.LawfulConfig.{is_lawful};
 ghost use Rattle.ballot.specs.Replica.{status_of};
-ghost use Rattle.world_base.specs.Connections.{asked, closed, failing, has_failed, holding, is_at, is_open_at, is_open_named, put_out};
+ghost use Rattle.node_connections.specs.Connections.{asked, closed, failing, has_failed, holding, is_at, is_open_at, is_open_named, put_out};
 ghost use Rattle.world_base.specs.Core.{opening_core, serves};
 ghost use Rattle.world_base.specs.Inside.{Does};
 ghost use Rattle.world_base.specs.KeepAlive.{lowest_silent};
@@ -14,14 +14,13 @@ ghost use Rattle.world_base.specs.Reading.{changes, open_at, refused, unread_of}
 ghost use Rattle.world_base.specs.Step.{accepted, accepts, next_name, opens, settled};
 ghost use Rattle.world_base.specs.Turns.{changes_named};
 
-use crate::connection::Connection;
-use crate::item::Port;
-use crate::listing::{close_each, has_port, keep_listed, lowest_silent, push};
 use ballot::{Config, OpeningError, Replica, Status};
 use broker::BrokerMachine;
 use broker_model::{Command, ConnectionId};
+use node_connections::{
+    Connection, Piece, Port, close_each, has_port, keep_listed, lowest_silent, push,
+};
 use packet::{Packet, RefusalCode};
-use piece::Piece;
 use std::alloc::Global;
 use std::marker::Model;
 

@@ -4,7 +4,7 @@ ghost use Rattle.std.specs.Prelude.{◌≡◌, ◌⊎◌, false, if◌then◌els
 ghost use Rattle.std.specs.List.{find};
 ghost use Rattle.broker_model.specs.declared.command.Command.TheVariants as commands;
 ghost use Rattle.broker_model.specs.Sized.{IsSized};
-ghost use Rattle.world_base.specs.Connections.{has_failed, holding, is_first, is_proposed};
+ghost use Rattle.node_connections.specs.Connections.{has_failed, holding, is_first, is_proposed};
 ghost use Rattle.world_base.specs.Inside.{BeginsOrSays, Ran, TellsLost, Turns};
 ghost use Rattle.world_base.specs.declared.item.Item.TheVariants as items;
 ghost use Rattle.world_base.specs.Losses.{DoesNothing};
@@ -16,14 +16,12 @@ ghost use Rattle.world_base.specs.Reading.{asks, begins, changes, ends, reads_al
 ghost use Rattle.world_base.specs.Step.{acts_on, takes_in};
 ghost use Rattle.world_base.specs.Turns.{proposes, quiet};
 
-use crate::connection::Stage;
-use crate::front::Front;
-use crate::item::{Item, Port};
+use crate::item::Item;
 use crate::serving::Serving;
 use ballot::Effect;
 use broker_model::{Command, ConnectionId, Output, SizedPacket};
+use node_connections::{Front, Piece, Port, Stage};
 use packet::{Connect, Packet};
-use piece::Piece;
 
 impl Serving {
     /// Takes an item in, and has the broker hear of each connection that fails in it. Whether memory was

@@ -12,7 +12,7 @@ use Rattle.broker_base.specs.Connection.{ConnectionName}
 use Rattle.agreement.specs.MasterState.{refusal}
 use Rattle.agreement.specs.Past.{Moment, Past}
 use Rattle.agreement.proofs.Agreed.OnePrimary.{one_primary_a_ballot}
-use Rattle.connection_model.specs.world_base.declared.connection.Connection.{Connection}
+use Rattle.connection_model.specs.world_base.declared.Connection.{Connection}
 use Rattle.connection_model.specs.world_base.Core.{CoreState, Turn, rules}
 use Rattle.connection_model.specs.world_base.Turns.{quiet}
 use Rattle.connection_model.specs.node_model.Closed.{listed_named}

@@ -14,9 +14,9 @@ use Rattle.lists.proofs.Tests.{eq_is, eq_same}
 use Rattle.pipes.specs.Pipe.{Joins}
 use Rattle.story.specs.Sides.{Connection}
 use Rattle.story.proofs.Takes.{same_name_self}
-use Rattle.connection_model.specs.world_base.declared.connection.Connection.{Connection as NodesEnd}
+use Rattle.connection_model.specs.world_base.declared.Connection.{Connection as NodesEnd}
 use Rattle.connection_model.specs.world_base.declared.item.Item.TheVariants.{Peer, Tick, Opened, Bytes, Ended, Crash}
-use Rattle.connection_model.specs.world_base.declared.item.Port.{Port}
+use Rattle.connection_model.specs.world_base.declared.Port.{Port}
 use Rattle.connection_model.specs.world_base.Connections.{is_at, is_open_at}
 use Rattle.connection_model.specs.world_base.Core.{CoreState}
 use Rattle.connection_model.specs.world_base.Handing.{listed_at}

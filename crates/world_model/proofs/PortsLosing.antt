@@ -14,10 +14,10 @@ use Rattle.broker_base.specs.Output.{Output}
 use Rattle.broker_base.specs.Output.TheVariants as outputs
 use Rattle.lists.specs.Lists.{Each}
 use Rattle.lists.proofs.OfEach.{each_then}
-use Rattle.connection_model.specs.world_base.declared.connection.Connection.{Connection}
+use Rattle.connection_model.specs.world_base.declared.Connection.{Connection}
 use Rattle.connection_model.specs.world_base.declared.item.Item.{Item}
 use Rattle.connection_model.specs.world_base.declared.item.Item.TheVariants.{Peer, Tick, Opened, Bytes, Ended, Crash}
-use Rattle.connection_model.specs.world_base.declared.item.Port.{Port}
+use Rattle.connection_model.specs.world_base.declared.Port.{Port}
 use Rattle.connection_model.specs.world_base.Connections.{asked, closed, failing, has_failed, holding, is_at, left_with, put_out}
 use Rattle.connection_model.specs.world_base.Core.{CoreState}
 use Rattle.connection_model.specs.world_base.Failing.{closes_failed}

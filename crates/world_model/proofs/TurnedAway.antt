@@ -15,9 +15,9 @@ use Rattle.model.proofs.Lists.{same_or_other, set_get}
 use Rattle.pipes.specs.Pipe.{Joins}
 use Rattle.story.specs.Sides.{Connection}
 use Rattle.story.proofs.Takes.{same_name_self}
-use Rattle.connection_model.specs.world_base.declared.connection.Connection.{Connection as NodesEnd}
+use Rattle.connection_model.specs.world_base.declared.Connection.{Connection as NodesEnd}
 use Rattle.connection_model.specs.world_base.declared.item.Item.TheVariants.{Opened}
-use Rattle.connection_model.specs.world_base.declared.item.Port.{Port}
+use Rattle.connection_model.specs.world_base.declared.Port.{Port}
 use Rattle.connection_model.specs.world_base.Core.{CoreState}
 use Rattle.connection_model.specs.world_base.Connections.{is_at}
 use Rattle.connection_model.specs.world_base.Handing.{listed_at}

@@ -10,8 +10,8 @@ use Rattle.lists.specs.Lists.{Each, In}
 use Rattle.lists.proofs.Places.{get_set, get_set_other}
 use Rattle.model.proofs.Lists.{same_or_other, set_get}
 use Rattle.story.specs.Sides.{Connection}
-use Rattle.connection_model.specs.world_base.declared.connection.Connection.{Connection as NodesEnd}
-use Rattle.connection_model.specs.world_base.declared.item.Port.{Port}
+use Rattle.connection_model.specs.world_base.declared.Connection.{Connection as NodesEnd}
+use Rattle.connection_model.specs.world_base.declared.Port.{Port}
 use Rattle.connection_model.specs.world_base.Core.{CoreState}
 use Rattle.connection_model.specs.node_model.Puts.{spelled}
 use Rattle.connection_model.specs.group_model.Group.{Group}

@@ -15,8 +15,8 @@ use Rattle.lists.specs.Lists.{Each}
 use Rattle.story.specs.Sides.{Connection, Side}
 use Rattle.story.specs.Story.{Story, Happens}
 use Rattle.model.specs.Goes.{is_call}
-use Rattle.connection_model.specs.world_base.declared.connection.Connection.{Connection as NodesEnd}
-use Rattle.connection_model.specs.world_base.declared.item.Port.{Port}
+use Rattle.connection_model.specs.world_base.declared.Connection.{Connection as NodesEnd}
+use Rattle.connection_model.specs.world_base.declared.Port.{Port}
 use Rattle.connection_model.specs.world_base.declared.item.Item.TheVariants.{Peer, Tick, Opened, Bytes, Ended, Crash}
 use Rattle.connection_model.specs.world_base.Core.{CoreState, Turn}
 use Rattle.connection_model.specs.world_base.Handing.{listed_at}

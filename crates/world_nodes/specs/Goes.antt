@@ -9,10 +9,10 @@ use Rattle.agreement.specs.MasterState.{MasterOutcome, activated, assigned}
 use Rattle.agreement.specs.World.{messages}
 use Rattle.broker_base.specs.Command.{Command}
 use Rattle.world_base.specs.Core.{CountedCore}
-use Rattle.world_base.specs.declared.handed.Handed.{Handed}
+use Rattle.world_base.specs.declared.Handed.{Handed}
 use Rattle.world_base.specs.declared.item.Item.{Item}
 use Rattle.world_base.specs.declared.item.Item.TheVariants.{Peer}
-use Rattle.world_base.specs.declared.item.Port.{Port}
+use Rattle.world_base.specs.declared.Port.{Port}
 use Rattle.world_base.specs.Handing.{answer_of, bytes_of, listed_at}
 use Rattle.world_model.specs.node_model.Moves.{Deed, done}
 use Rattle.world_model.specs.node_model.Moves.Deed.{takes, gives}

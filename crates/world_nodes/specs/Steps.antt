@@ -9,11 +9,11 @@ use Rattle.ballot.specs.Losses.{Thinned, one_more}
 use Rattle.ballot.specs.Message.{Message}
 use Rattle.broker_base.specs.Command.{Command}
 use Rattle.broker_base.specs.Output.{Output}
-use Rattle.world_base.specs.declared.handed.Handed.{Handed}
-use Rattle.world_base.specs.declared.handed.Handed.TheVariants as answers
+use Rattle.world_base.specs.declared.Handed.{Handed}
+use Rattle.world_base.specs.declared.Handed.TheVariants as answers
 use Rattle.world_base.specs.declared.item.Item.{Item}
 use Rattle.world_base.specs.declared.item.Item.TheVariants.{Peer}
-use Rattle.world_base.specs.declared.item.Port.{Port}
+use Rattle.world_base.specs.declared.Port.{Port}
 use Rattle.world_base.specs.Core.{CountedCore}
 use Rattle.world_base.specs.LossyStep.{RunsOn}
 use Rattle.world_model.specs.node_model.Moves.{Deed}

@@ -16,7 +16,7 @@ use Rattle.client_base.specs.Keeper.{Keeper}
 use Rattle.client_base.specs.Steps.{Call, keeper_step}
 use Rattle.client.specs.Core.{AppendsAll, Core, Opens}
 use Rattle.world_model.specs.node_model.Puts.{spelled}
-use Rattle.world_base.specs.declared.item.Port.{Port}
+use Rattle.world_base.specs.declared.Port.{Port}
 use Rattle.world_model.specs.World.{ClientPipes, new_client}
 use Rattle.world_model.specs.Goes.{after_connecting}
 use Rattle.world_pipes.specs.declared.way.Way.{Way}

@@ -9,7 +9,7 @@ use Rattle.client_base.specs.Handled.{lost}
 use Rattle.model.specs.Goes.{is_call}
 use Rattle.story.specs.Sides.{Connection}
 use Rattle.story.specs.Story.{Happens, Story}
-use Rattle.world_base.specs.declared.item.Port.{Port}
+use Rattle.world_base.specs.declared.Port.{Port}
 use Rattle.world_model.specs.World.{ClientPipes, Pipe, after_writing, with_pipe}
 use Rattle.world_model.specs.Goes.{CanBeSpelled, after_connecting, story_alone}
 use Rattle.world_pipes.specs.declared.sending.Sending.{Sending}

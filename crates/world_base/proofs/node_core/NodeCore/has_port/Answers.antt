@@ -1,5 +1,5 @@
 use Rattle.std.proofs.Common.{◌≡◌, ◌∙◌}
-use Rattle.world_base.specs.Connections.{is_at}
+use Rattle.node_connections.specs.Connections.{is_at}
 use Rattle.world_base.proofs.FoundWhere.{any_is_found}
 use Rattle.world_base.proofs.node_core.NodeCore.has_port.Goals as goal
 

@@ -1,4 +1,4 @@
-use Rattle.world_base.specs.Connections.{asked}
+use Rattle.node_connections.specs.Connections.{asked}
 use Rattle.world_base.proofs.Changes.{changed_there, changed_nowhere}
 use Rattle.world_base.proofs.serving.Serving.ask_at.Goals as goal
 

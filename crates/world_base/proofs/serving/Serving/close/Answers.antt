@@ -1,4 +1,4 @@
-use Rattle.world_base.specs.Connections.{closed}
+use Rattle.node_connections.specs.Connections.{closed}
 use Rattle.world_base.proofs.Changes.{changed_there, changed_nowhere}
 use Rattle.world_base.proofs.serving.Serving.close.Goals as goal
 

@@ -1,4 +1,4 @@
-use Rattle.world_base.specs.Connections.{closed}
+use Rattle.node_connections.specs.Connections.{closed}
 use Rattle.world_base.proofs.Changes.{named_there, named_nowhere}
 use Rattle.world_base.proofs.serving.Serving.close_named.Goals as goal
 

@@ -1,5 +1,5 @@
 use Rattle.std.proofs.Common.{sym, ◌∙◌}
-use Rattle.world_base.specs.Connections.{is_open_at}
+use Rattle.node_connections.specs.Connections.{is_open_at}
 use Rattle.world_base.proofs.Places.{none_found, found_there}
 use Rattle.world_base.proofs.Closes.{ends_none, ends_proposed, ends_other}
 use Rattle.world_base.proofs.EndsRun.{core_of, ran_none_open, ran_told, ran_untold}

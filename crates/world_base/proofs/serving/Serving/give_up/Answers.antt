@@ -1,5 +1,5 @@
 use Rattle.std.proofs.Common.{inl, inr}
-use Rattle.world_base.specs.Connections.{closed, failing}
+use Rattle.node_connections.specs.Connections.{closed, failing}
 use Rattle.world_base.proofs.Changes.{core_changed, core_unchanged}
 use Rattle.world_base.proofs.serving.Serving.give_up.Goals as goal
 

@@ -1,5 +1,5 @@
 use Rattle.std.proofs.Common.{◌≡◌, Some, sym, ap, ◌∙◌}
-use Rattle.world_base.specs.Connections.{is_open_at}
+use Rattle.node_connections.specs.Connections.{is_open_at}
 use Rattle.world_base.specs.Reading.{open_at, unread_of}
 use Rattle.world_base.proofs.Places.{none_found, found_there}
 use Rattle.world_base.proofs.serving.Serving.held.Goals as goal

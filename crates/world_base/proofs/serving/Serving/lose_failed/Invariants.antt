@@ -1,6 +1,6 @@
 use Rattle.std.specs.Prelude.{◌≡◌, None}
 use Rattle.std.specs.List.{find}
-use Rattle.world_base.specs.Connections.{has_failed}
+use Rattle.node_connections.specs.Connections.{has_failed}
 use Rattle.world_base.specs.Failing.{loses_failed}
 use Rattle.world_base.specs.Inside.{Ran, Turns}
 use Rattle.world_base.specs.Lossy.{Repeated}

@@ -1,6 +1,6 @@
 use Rattle.std.proofs.Common.{◌++◌, sym, ap, ◌∙◌}
 use Rattle.std.proofs.lemmas.List.{append-nil}
-use Rattle.world_base.specs.Connections.{is_at}
+use Rattle.node_connections.specs.Connections.{is_at}
 use Rattle.world_base.specs.Handing.{answer_of, bytes_of}
 use Rattle.world_base.proofs.HandsOver.{handed_none, handed_there}
 use Rattle.world_base.proofs.Places.{none_found, found_there}

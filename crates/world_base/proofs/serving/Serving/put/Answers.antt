@@ -1,5 +1,5 @@
 use Rattle.std.proofs.Common.{inl, inr}
-use Rattle.world_base.specs.Connections.{failing, put_out}
+use Rattle.node_connections.specs.Connections.{failing, put_out}
 use Rattle.packet.specs.Spelling.{spelling}
 use Rattle.world_base.proofs.Changes.{named_there, named_nowhere, core_named, core_unnamed}
 use Rattle.world_base.proofs.serving.Serving.put.Goals as goal

@@ -1,5 +1,5 @@
 use Rattle.std.proofs.Common.{slice_set, refl, sym, ◌∙◌}
-use Rattle.world_base.specs.Connections.{is_open_at}
+use Rattle.node_connections.specs.Connections.{is_open_at}
 use Rattle.world_base.specs.Inside.{Running}
 use Rattle.world_base.proofs.Changes.{changed_there, core_changed}
 use Rattle.world_base.proofs.Places.{none_found, found_there}

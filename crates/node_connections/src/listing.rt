@@ -2,15 +2,15 @@
 
 ghost use Rattle.std.specs.Prelude.{◌≡◌, false, true, [], ◌∷◌, ◌++◌, map, filter, OnErr, OnOk};
 ghost use Rattle.std.specs.List.{list_any};
-ghost use Rattle.world_base.specs.Connections.{closed, is_at, is_listed};
+ghost use Rattle.node_connections.specs.Connections.{closed, is_at, is_listed};
 ghost use Rattle.lists.specs.Lists.{IsPrefixOf};
-ghost use Rattle.world_base.specs.Handing.{is_idle};
-ghost use Rattle.world_base.specs.declared.connection.Connection.{Connection};
-ghost use Rattle.world_base.specs.KeepAlive.{lower, lowest_silent};
+ghost use Rattle.node_connections.specs.Pending.{is_idle};
+ghost use Rattle.node_connections.specs.declared.connection.Connection.{Connection};
+ghost use Rattle.node_connections.specs.Silent.{lower, lowest_silent};
 
 use crate::connection::Connection;
-use crate::item::Port;
-use ballot::Memory;
+use crate::port::Port;
+use piece::Memory;
 
 /// Whether a connection of this port is listed.
 pub fn has_port(connections: &[Connection], port: Port) -> bool

@@ -1,20 +1,21 @@
 // One connection of a node.
 
 ghost use Rattle.std.specs.Prelude.{◌≡◌, ◌++◌, false, true, OnOk, OnErr};
-ghost use Rattle.world_base.specs.Connections.{asked, closed, failing, fresh, has_failed, put_out, handed, holding, is_at, is_first, is_listed, is_open_at, is_open_named, is_over, is_proposed, is_silent, putting};
-ghost use Rattle.world_base.specs.Handing.{answer_of, is_idle};
-ghost use Rattle.world_base.specs.Inside.{TakesFront};
+ghost use Rattle.node_connections.specs.Connections.{asked, closed, failing, fresh, has_failed, put_out, handed, holding, is_at, is_first, is_listed, is_open_at, is_open_named, is_over, is_proposed, is_silent, putting};
+ghost use Rattle.node_connections.specs.Pending.{answer_of, is_idle};
+ghost use Rattle.node_connections.specs.Inside.{TakesFront};
+ghost use Rattle.node_connections.specs.Stands.{standing_of};
 ghost use Rattle.packet.specs.Spelling.{spelling};
-ghost use Rattle.world_base.specs.Reading.{refused};
+ghost use Rattle.node_connections.specs.Refusing.{refused};
 
 use crate::front::Front;
 use crate::handed::Handed;
-use crate::item::Port;
+use crate::port::Port;
+use crate::standing::Standing;
 use crate::unread::Unread;
-use ballot::Memory;
 use broker_model::ConnectionId;
 use packet::{Connack, Packet, RefusalCode};
-use piece::Piece;
+use piece::{Memory, Piece};
 use std::alloc::Global;
 
 /// How many bytes may wait to be handed over on one connection: more than a client is sent again.
@@ -162,6 +163,17 @@ impl Connection {
         }
     }
 
+    /// Returns how it stands.
+    pub fn standing(&self) -> Standing
+        ensures { result ≡ standing_of (Some self.now) }
+    {
+        match self.stage {
+            Stage::Awaits => Standing::Awaits,
+            Stage::Proposed => Standing::Open,
+            Stage::Over | Stage::Failed => Standing::Closed,
+        }
+    }
+
     /// Holds bytes that came. Where memory is wanting nothing changes.
     pub fn hold(&mut self, piece: &Piece) -> Result<(), Memory>
         ensures ok { OnOk result (self.new ≡ holding piece.now self.old) }
@@ -247,16 +259,15 @@ impl Connection {
         }
     }
 
-    /// Hands over what was put out, behind what `out` holds. Where memory is wanting nothing changes.
+    /// Hands over what was put out, after what `out` holds. Where `out` is empty no byte is copied. If memory runs out,
+    /// nothing changes.
     pub fn outgoing(&mut self, out: &mut Vec<u8>) -> Result<(), Memory>
         ensures bytes { OnOk result (out.new.items ≡ out.old.items ++ self.old.pending) }
         ensures ok { OnOk result (self.new ≡ handed self.old) }
         ensures err { OnErr result (out.new.items ≡ out.old.items) }
         ensures same { OnErr result (self.new ≡ self.old) }
     {
-        out.extend_from_slice(self.pending.as_slice())?;
-        self.pending.clear();
-        Ok(())
+        self.pending.move_to(out)
     }
 
     /// Closes it. What was put out before is still handed over.

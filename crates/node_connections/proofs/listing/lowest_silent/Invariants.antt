@@ -1,7 +1,7 @@
 use Rattle.std.proofs.Common.{◌≡◌, drop}
 use Rattle.std.specs.List.{fold}
-use Rattle.world_base.specs.KeepAlive.{lower_silent, lowest_silent}
-use Rattle.world_base.proofs.listing.lowest_silent.Given as goal
+use Rattle.node_connections.specs.Silent.{lower_silent, lowest_silent}
+use Rattle.node_connections.proofs.listing.lowest_silent.Given as goal
 
 abbrev pub invariant-loop-connection : goal.invariant-loop-connection
 invariant-loop-connection l =

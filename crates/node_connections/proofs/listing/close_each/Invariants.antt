@@ -1,6 +1,6 @@
 use Rattle.std.proofs.Common.{◌≡◌, ◌++◌, map, take, drop}
-use Rattle.world_base.specs.Connections.{closed}
-use Rattle.world_base.proofs.listing.close_each.Given as goal
+use Rattle.node_connections.specs.Connections.{closed}
+use Rattle.node_connections.proofs.listing.close_each.Given as goal
 
 abbrev pub invariant-loop-index : goal.invariant-loop-index
 invariant-loop-index l =

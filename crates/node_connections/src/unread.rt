@@ -1,13 +1,12 @@
 // The bytes of a connection that came and are not read yet.
 
 ghost use Rattle.std.specs.Prelude.{◌≡◌, ◌++◌, [], length, OnErr, OnOk};
-ghost use Rattle.world_base.specs.Inside.{Reads};
+ghost use Rattle.node_connections.specs.Inside.{Reads};
 
 use crate::front::Front;
-use ballot::Memory;
 use cutter::{CutError, Cutter};
 use packet::DecodeFault;
-use piece::Piece;
+use piece::{Memory, Piece};
 use std::alloc::Global;
 use std::marker::Model;
 

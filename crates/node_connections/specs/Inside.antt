@@ -1,0 +1,36 @@
+-- What reading the front of a connection's bytes does.
+use Rattle.std.specs.Prelude.{◌≡◌, ℕ, if◌then◌else◌, List, Result, Ok, Err}
+use Rattle.packet.specs.Stop.{Stop}
+use Rattle.packet.specs.Stop.TheVariants as stops
+use Rattle.packet.specs.declared.packet.Packet.{Packet}
+use Rattle.packet.specs.Verdict.{verdict}
+use Rattle.broker_model.specs.Sized.{IsSized}
+use Rattle.node_connections.specs.declared.connection.Connection.{Connection}
+use Rattle.node_connections.specs.declared.front.Front.{Front}
+use Rattle.node_connections.specs.declared.front.Front.TheVariants as fronts
+use Rattle.node_connections.specs.Connections.{is_first, left_with, closed}
+use Rattle.node_connections.specs.Refusing.{refused}
+
+-- a fault of the bytes
+abbrev pub IsFault : Result (Packet × List ℕ) Stop → Type 0
+IsFault (Err (stops.Malformed kind)) = Unit {0}
+IsFault _ = ⊥
+
+-- what stands at the front of the bytes of a connection, and what is left of them
+abbrev pub Reads : List ℕ → Front → List ℕ → Type 0
+Reads bytes fronts.More left = (verdict bytes ≡ Err stops.More) × (left ≡ bytes)
+Reads bytes (fronts.Packet packet) left = (verdict bytes ≡ Ok (packet, left)) × IsSized packet
+Reads bytes (fronts.Refused code) left = verdict bytes ≡ Err (stops.Refused code)
+Reads bytes fronts.Fault left = IsFault (verdict bytes)
+Reads bytes fronts.Wanting left = Unit {0}
+
+-- what reading on at this time makes of a connection
+abbrev pub TakesFront : ℕ → Connection → Front → Connection → Type 0
+TakesFront now old fronts.More new = (verdict old.unread ≡ Err stops.More) × (new ≡ old)
+TakesFront now old (fronts.Packet packet) new =
+    (rest : List ℕ) × (verdict old.unread ≡ Ok (packet, rest)) × IsSized packet × (new ≡ left_with now rest old)
+TakesFront now old (fronts.Refused code) new =
+    (verdict old.unread ≡ Err (stops.Refused code))
+    × (new ≡ (if is_first old.stage then refused code old else closed old))
+TakesFront now old fronts.Fault new = IsFault (verdict old.unread) × (new ≡ closed old)
+TakesFront now old fronts.Wanting new = new ≡ closed old

@@ -1,0 +1,6 @@
+pub mod Connections
+pub mod Inside
+pub mod Pending
+pub mod Refusing
+pub mod Silent
+pub mod Stands

@@ -1,0 +1,20 @@
+-- What waits to be handed over on a connection.
+use Rattle.std.specs.Prelude.{ℕ, Bool, not, ◌&&◌, ◌==◌, if◌then◌else◌, List, [], length, Option, Some, None}
+use Rattle.node_connections.specs.declared.handed.Handed.{Handed}
+use Rattle.node_connections.specs.declared.handed.Handed.TheVariants as answers
+use Rattle.node_connections.specs.declared.connection.Connection.{Connection}
+use Rattle.node_connections.specs.Connections.{is_over}
+
+-- all that was put out and not handed over before
+abbrev pub bytes_of : Option Connection → List ℕ
+bytes_of None = []
+bytes_of (Some c) = c.pending
+
+-- whether more may come: not where the connection is over, or was never opened
+abbrev pub answer_of : Option Connection → Handed
+answer_of None = answers.Closed
+answer_of (Some c) = if is_over c.stage then answers.Closed else answers.Open
+
+-- open, with nothing to hand over
+abbrev pub is_idle : Connection → Bool
+is_idle c = not (is_over c.stage) && (length c.pending == 0)

@@ -1,0 +1,11 @@
+-- What becomes of a connection whose CONNECT is refused with a code.
+use Rattle.packet.specs.RefusalCode.{RefusalCode}
+use Rattle.packet.specs.declared.packet.Packet.TheVariants as packets
+use Rattle.packet.specs.declared.connack.Connack.TheVariants as connacks
+use Rattle.packet.specs.Spelling.{spelling}
+use Rattle.node_connections.specs.declared.connection.Connection.{Connection}
+use Rattle.node_connections.specs.Connections.{closed, putting}
+
+-- a CONNECT that is refused with a code is answered, and then closed (MQTT 3.2.2.3)
+abbrev pub refused : RefusalCode → Connection → Connection
+refused code c = closed (putting (spelling (packets.Connack (connacks.Refused code))) c)

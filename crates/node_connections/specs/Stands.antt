@@ -1,0 +1,18 @@
+-- How a connection stands, for whoever serves its stream.
+use Rattle.std.specs.Prelude.{Option, Some, None}
+use Rattle.node_connections.specs.declared.connection.Connection.{Connection}
+use Rattle.node_connections.specs.declared.connection.Stage.{Stage}
+use Rattle.node_connections.specs.declared.connection.Stage.TheVariants as stages
+use Rattle.node_connections.specs.declared.standing.Standing.{Standing}
+use Rattle.node_connections.specs.declared.standing.Standing.TheVariants.{Awaits, Open, Closed}
+
+abbrev pub standing_at : Stage → Standing
+standing_at stages.Awaits = Awaits
+standing_at stages.Proposed = Open
+standing_at stages.Over = Closed
+standing_at stages.Failed = Closed
+
+-- where there is no connection it is closed
+abbrev pub standing_of : Option Connection → Standing
+standing_of None = Closed
+standing_of (Some c) = standing_at c.stage

@@ -1,0 +1,20 @@
+//! The open connections of a node: the bytes that came and are not read yet, the bytes that wait to be handed over, and
+//! what becomes of a connection when it is read, written to or closed.
+#![tactic(auto)]
+
+mod connection;
+mod front;
+mod handed;
+mod listing;
+mod port;
+mod standing;
+mod unread;
+
+pub use connection::{Connection, Stage};
+pub use front::Front;
+pub use handed::Handed;
+pub use listing::{close_each, has_port, keep_listed, lowest_silent, push, push_idle};
+pub use piece::{Memory, Piece};
+pub use port::Port;
+pub use standing::Standing;
+pub use unread::Unread;
