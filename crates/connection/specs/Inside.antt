@@ -6,8 +6,6 @@ use Rattle.world_base.specs.declared.item.Item.{Item}
 use Rattle.connection.specs.declared.ending.Ending.{Ending}
 use Rattle.connection.specs.declared.writing.Took.{Took}
 use Rattle.connection.specs.declared.writing.Took.TheVariants as took
-use Rattle.connection.specs.declared.wrote.Wrote.{Wrote}
-use Rattle.connection.specs.declared.wrote.Wrote.TheVariants as wrotes
 use Rattle.connection.specs.Hearing.{Came, EndsSo, joined, pieces_told}
 
 -- these pieces were told, and what was read is these and what was lost
@@ -46,9 +44,3 @@ TakesOnce (took.Bytes count) old new bytes =
     (count ≤ length bytes) × Appends old new (take count bytes)
 TakesOnce took.Full old new bytes = Keeps old new
 TakesOnce took.Failed old new bytes = Keeps old new
-
--- these bytes are left, all of them, unless memory was wanting
-abbrev pub LeavesThese : Wrote → List ℕ → Type 0
-LeavesThese wrotes.Whole bytes = ⊥
-LeavesThese (wrotes.Left left) bytes = left ≡ bytes
-LeavesThese wrotes.Failed bytes = Unit {0}

@@ -1,3 +1,5 @@
 pub mod Hearing
 pub mod Inside
+pub mod Laws
+pub mod Life
 pub mod Writing

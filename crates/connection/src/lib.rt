@@ -6,6 +6,7 @@
 mod ending;
 mod flow;
 mod hearer;
+mod laws;
 mod listening;
 mod outlet;
 mod unwritten;
@@ -15,9 +16,9 @@ mod wrote;
 pub use ending::Ending;
 pub use flow::{Flow, write_out};
 pub use hearer::Hearer;
+pub use laws::nothing_is_left_out;
 pub use listening::listen;
 pub use node_base::PIECE_BYTES;
 pub use outlet::Outlet;
 pub use unwritten::Unwritten;
-pub use writing::write_some;
 pub use wrote::Wrote;

@@ -1,75 +1,133 @@
-// What a full device left.
+// What is put out and not written yet.
 
-ghost use Rattle.std.specs.Prelude.{◌≡◌, ◌==◌, ◌++◌, [], length, IfOk};
-ghost use Rattle.connection.specs.Inside.{LeavesThese};
-ghost use Rattle.connection.specs.Writing.{WritesSome};
+ghost use Rattle.std.specs.Prelude.{◌≡◌, ◌==◌, ◌≤◌, [], drop, length, IfOk, OnErr};
+ghost use Rattle.connection.specs.Writing.{HandsOver, LeavesSo, Writes};
 
-use crate::writing::write_some;
+use crate::outlet::Outlet;
+use crate::writing::{Took, write_once};
 use crate::wrote::Wrote;
 use std::alloc::{AllocError, Global};
 use std::io::Write;
 use std::marker::Model;
+use std::sync::Wait;
+use world_base::{Handed, Memory};
 
-/// Bytes that a full device did not take, in their order.
+/// How much room an empty one keeps for what comes next.
+const ROOM_KEPT: usize = 65_536;
+
+/// Bytes that are put out and not written yet, in their order. What was written is not moved: its bytes are counted.
 #[derive(Drop)]
 pub struct Unwritten {
+    alloc: Global,
     bytes: Vec<u8>,
+    /// How many of these bytes were written.
+    done: usize,
 }
 
 impl Model for Unwritten {
-    ghost use Rattle.std.specs.Prelude.{List, ℕ};
+    ghost use Rattle.std.specs.Prelude.{◌≤◌, List, ℕ, drop, length};
 
     ghost Value = { List ℕ };
 
-    ghost view = { λ left. left.bytes.items };
+    ghost view = { λ left. drop left.done left.bytes.items };
+
+    ghost invariant = { λ left. left.done ≤ length left.bytes.items };
 }
 
 impl Unwritten {
-    /// No bytes.
+    /// Returns one without bytes.
     pub fn new(alloc: Global) -> Unwritten
         ensures { result ≡ [] }
     {
         Unwritten {
+            alloc,
             bytes: Vec::new(alloc),
+            done: 0,
         }
     }
 
-    /// A copy of the bytes. The only error is want of memory.
+    /// Copies these bytes. The only error is that memory runs out.
     pub fn from_slice(alloc: Global, bytes: &[u8]) -> Result<Unwritten, AllocError>
         ensures { IfOk result (λ left. left ≡ bytes.now) }
     {
         let bytes = Vec::from_slice(alloc, bytes)?;
-        Ok(Unwritten { bytes })
+        Ok(Unwritten {
+            alloc,
+            bytes,
+            done: 0,
+        })
     }
 
-    /// Whether there is no byte.
+    /// Returns whether there is no byte.
     pub fn is_empty(&self) -> bool
         ensures { result ≡ (length self.now == 0) }
     {
-        self.bytes.is_empty()
+        self.done == self.bytes.len()
     }
 
-    /// Writes these bytes, and then those that were handed over since, as far as the device takes
-    /// them, as [`write_some`].
-    pub fn write<W: Write>(self, alloc: Global, device: &mut W, handed: &[u8]) -> Wrote
-        ensures { WritesSome result
-            (W.contents device.old) (W.contents device.new) (self ++ handed.now) }
+    /// Writes as much as the device takes. A call that was interrupted is made again. One that would have to wait, or did so
+    /// for too long, means that the device is full.
+    pub fn write<W: Write>(&mut self, device: &mut W) -> Wrote
+        ensures writes { Writes (W.contents device.old) (W.contents device.new) self.old self.new }
+        ensures leaves { LeavesSo result self.new }
     {
-        match write_some(alloc, device, self.bytes.as_slice()) {
-            Wrote::Whole => write_some(alloc, device, handed),
-            Wrote::Left(left) => left.followed_by(handed),
-            Wrote::Failed => Wrote::Failed,
+        for _ in 0..u64::MAX {
+            if self.is_empty() {
+                return Wrote::Whole;
+            }
+            match write_once(device, self.as_slice()) {
+                Took::Bytes(count) => self.skip(count),
+                Took::Full => return Wrote::Full,
+                Took::Failed => return Wrote::Failed,
+            }
+        }
+        if self.is_empty() {
+            Wrote::Whole
+        } else {
+            Wrote::Failed
         }
     }
 
-    // The same with what was handed over since, none of which was written.
-    fn followed_by(self, handed: &[u8]) -> Wrote
-        ensures { LeavesThese result (self ++ handed.now) }
+    /// Takes what an outlet hands over, if nothing is left. Where the outlet changes places with an empty list, as a node
+    /// does, no byte is copied.
+    pub(crate) fn take_from<R: Wait, O: Outlet>(
+        &mut self,
+        rt: &R,
+        outlet: &mut O,
+    ) -> Result<Handed, Memory>
+        requires { self.old ≡ [] }
+        ensures ok { IfOk result (λ answer. HandsOver O.hands outlet.old answer outlet.new [] self.new) }
+        ensures same { OnErr result (outlet.new ≡ outlet.old) }
+        ensures none { OnErr result (self.new ≡ []) }
     {
-        let mut bytes = self.bytes;
-        match bytes.extend_from_slice(handed) {
-            Ok(()) => Wrote::Left(Unwritten { bytes }),
-            Err(_) => Wrote::Failed,
-        }
+        self.done = 0;
+        empty(self.alloc, &mut self.bytes);
+        outlet.hand_over(rt, &mut self.bytes)
+    }
+
+    // The bytes that are left.
+    fn as_slice(&self) -> &[u8]
+        ensures { result.now ≡ self.now }
+    {
+        &self.bytes[self.done..]
+    }
+
+    // Counts the first bytes as written.
+    fn skip(&mut self, count: usize)
+        requires { count ≤ length self.old }
+        ensures { self.new ≡ drop count self.old }
+    {
+        self.done += count;
+    }
+}
+
+// Drops all bytes, and room that is too large to keep.
+fn empty(alloc: Global, bytes: &mut Vec<u8>)
+    ensures { bytes.new.items ≡ [] }
+{
+    if bytes.capacity() > ROOM_KEPT {
+        *bytes = Vec::new(alloc);
+    } else {
+        bytes.clear();
     }
 }

@@ -1,15 +1,12 @@
 // How far a write came.
 
-use crate::unwritten::Unwritten;
-
 /// How far a write came.
-#[derive(Drop)]
+#[derive(Clone, Copy, Debug, PartialEq, Eq)]
 pub enum Wrote {
     /// All was written.
     Whole,
-    /// The device was full: a beginning was written, and this is left.
-    Left(Unwritten),
-    /// The device takes nothing more, or there was no memory for what is left. A beginning was
-    /// written, and not all.
+    /// The device was full: a beginning was written, and the rest is left.
+    Full,
+    /// The device takes nothing more: a beginning was written, and the rest is left.
     Failed,
 }

@@ -1,30 +1,52 @@
-use Rattle.std.proofs.Common.{◌≡◌, ◌++◌, [], ◌∙◌, ap, arith, inl}
-use Rattle.connection.specs.declared.wrote.Wrote.TheVariants.{Left, Failed}
-use Rattle.connection.specs.Writing.{WritesSome}
-use Rattle.connection.proofs.WritesJoin.{flows}
+use Rattle.std.proofs.Common.{subst, inl}
+use Rattle.world_base.specs.declared.Handed.{Handed}
+use Rattle.connection.proofs.WritesJoin.{writes_behind}
 use Rattle.connection.proofs.flow.write_out.Goals as goal
 
-pub returns-in-Left-write_some : goal.returns-in-Left-write_some
-returns-in-Left-write_some g c =
+pub returns-in-Open : goal.returns-in-Open
+returns-in-Open g c =
     let h = c.in-Ok.ensures.ok in
-    let out : c.as_slice.result.now ≡ [] ++ h.bytes = c.as_slice.ensures.value ∙ h.is ∙ ap (λ l. l ++ h.bytes) c.clear.ensures.items in
     record {
       bytes = h.bytes;
-      handed = inl (c.in-Ok.handed, h.handed);
-      written =
-          flows (Left c.in-Left-write_some.left) _ _ _ c.args.left h.bytes c.as_slice.result.now c.in-Whole.ensures out
-          c.in-Left-write_some.ensures;
+      handed = subst (λ (answer : Handed). g.O.Outlet.hands c.args.outlet.now h.bytes answer c.take_from.new.outlet) c.in-Open.is h.handed;
+      writes =
+          writes_behind _ _ _ c.args.left.now h.bytes c.take_from.new.self c.write.new.self c.write-2.new.self
+          c.write.ensures.writes c.in-Whole.ensures.leaves h.is c.write-2.ensures.writes;
+      rests = c.in-Whole-write.ensures.leaves;
     }
 
-pub returns-in-Failed-write_some : goal.returns-in-Failed-write_some
-returns-in-Failed-write_some g c =
+pub returns-in-Closed : goal.returns-in-Closed
+returns-in-Closed g c =
     let h = c.in-Ok.ensures.ok in
-    let out : c.as_slice.result.now ≡ [] ++ h.bytes = c.as_slice.ensures.value ∙ h.is ∙ ap (λ l. l ++ h.bytes) c.clear.ensures.items in
-    let short : WritesSome Failed (g.W.Write.contents c.args.device.now) (g.W.Write.contents c.write_some.new.device) (c.args.left ++ h.bytes) =
-    flows Failed _ _ _ c.args.left h.bytes c.as_slice.result.now c.in-Whole.ensures out c.in-Failed-write_some.ensures in
-    let fits = short.1 in
+    record {
+      bytes = h.bytes;
+      handed = subst (λ (answer : Handed). g.O.Outlet.hands c.args.outlet.now h.bytes answer c.take_from.new.outlet) c.in-Closed.is h.handed;
+      writes =
+          writes_behind _ _ _ c.args.left.now h.bytes c.take_from.new.self c.write.new.self c.write-2.new.self
+          c.write.ensures.writes c.in-Whole.ensures.leaves h.is c.write-2.ensures.writes;
+      rests = c.in-Whole-write.ensures.leaves;
+    }
+
+pub returns-in-Full-write : goal.returns-in-Full-write
+returns-in-Full-write g c =
+    let h = c.in-Ok.ensures.ok in
     record {
       bytes = h.bytes;
       handed = inl (c.in-Ok.handed, h.handed);
-      written = (short.0, omega arith, short.2);
+      writes =
+          writes_behind _ _ _ c.args.left.now h.bytes c.take_from.new.self c.write.new.self c.write-2.new.self
+          c.write.ensures.writes c.in-Whole.ensures.leaves h.is c.write-2.ensures.writes;
+      rests = c.in-Full-write.ensures.leaves;
+    }
+
+pub returns-in-Failed-write : goal.returns-in-Failed-write
+returns-in-Failed-write g c =
+    let h = c.in-Ok.ensures.ok in
+    record {
+      bytes = h.bytes;
+      handed = inl (c.in-Ok.handed, h.handed);
+      writes =
+          writes_behind _ _ _ c.args.left.now h.bytes c.take_from.new.self c.write.new.self c.write-2.new.self
+          c.write.ensures.writes c.in-Whole.ensures.leaves h.is c.write-2.ensures.writes;
+      rests = tt;
     }
