@@ -87,7 +87,8 @@ fn pour<J: Naming, R: Wait>(rt: &R, mut lane: Lane<u64, J>, each: u64) {
         if item == each {
             return;
         }
-        if lane.send(rt, item).is_ok() {
+        let receipt = lane.receipt();
+        if lane.send(rt, item, receipt).is_ok() {
             item = item.wrapping_add(1);
         } else {
             thread::yield_now();
@@ -103,7 +104,8 @@ fn come_in_order<J: Naming, R: Wait>(rt: &R, receiver: &mut Receiver<u64, J>, ea
         if missing == 0 {
             break;
         }
-        let Some((lane, item)) = receiver.take(rt) else {
+        let receipt = receiver.receipt();
+        let Some((lane, item)) = receiver.take(rt, receipt) else {
             thread::yield_now();
             continue;
         };

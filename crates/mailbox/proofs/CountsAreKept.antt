@@ -6,8 +6,8 @@ use Rattle.std.proofs.lemmas.Grind.{get_or_default_zero}
 use Rattle.atomic_table.specs.Seated.{TableId}
 use Rattle.crossbeam_queue.specs.Passes.{Pass, view, IsSamePass}
 use Rattle.mailbox.specs.declared.view.View.{View}
-use Rattle.mailbox.specs.Delivery.{items_of, receiver_view}
-use Rattle.mailbox.specs.Inside.{Took, ReceiverKept}
+use Rattle.mailbox.specs.Delivery.{items_of, taker_view}
+use Rattle.mailbox.specs.Inside.{Took, ReceiverKept, heard}
 use Rattle.mailbox.proofs.ItemsOfALane.{items_of-append, items_of-same, items_of-other}
 use Rattle.mailbox.proofs.StepsKeepTheRule.{same_or_other}
 
@@ -36,6 +36,24 @@ module _ {T : Type 0} where
       omega (arith, split, none, new, counted lane within))
       (same_or_other x.0 lane)
 
+  -- a receiver that heard a receipt keeps what it kept
+  pub kept_hearing : (queue : TableId) (room : ℕ) (old new : Pass (ℕ × T) (View T)) (name : TableId) (counts : List ℕ) (w : View T)
+      → ReceiverKept queue room old name counts
+      → IsSamePass old new
+      → view new ≡ heard (view old) w
+      → ReceiverKept queue room new name counts
+  kept_hearing queue room old new name counts w kept same is =
+      let taken : (view new).taken ≡ (view old).taken = ap (λ (v : View T). v.taken) is in
+      let told : (view new).told ≡ w.told = ap (λ (v : View T). v.told) is in
+      record {
+        of_queue = same.0 ∙ kept.of_queue;
+        at_rest = same.2 ∙ kept.at_rest;
+        named = kept.named;
+        has_room = kept.has_room;
+        role = is ∙ ap (λ v. heard v w) kept.role ∙ (λ i. taker_view (length counts) (sym taken i) (sym told i));
+        counted = λ lane within. kept.counted lane within ∙ ap (λ l. length (items_of lane l)) (sym taken);
+      }
+
   pub kept_on : (queue : TableId) (room : ℕ) (old new : Pass (ℕ × T) (View T)) (name : TableId) (counts : List ℕ) (x : ℕ × T) (at count : ℕ)
       → ReceiverKept queue room old name counts
       → IsSamePass old new
@@ -44,9 +62,10 @@ module _ {T : Type 0} where
       → count ≡ slice_index_or counts at count
       → ReceiverKept queue room new name (slice_set counts at (count + 1))
   kept_on queue room old new name counts x at count kept same took at_is count_is =
-      let step : view new ≡ receiver_view (length counts) ((view old).taken ++ x ∷ []) =
+      let step : view new ≡ taker_view (length counts) ((view old).taken ++ x ∷ []) (view old).told =
       took.0 ∙ ap (λ (v : View T). record v { taken = v.taken ++ x ∷ [] }) kept.role in
       let taken : (view new).taken ≡ (view old).taken ++ x ∷ [] = ap (λ (v : View T). v.taken) step in
+      let told : (view new).told ≡ (view old).told = ap (λ (v : View T). v.told) step in
       let lanes = ap (λ (v : View T). v.lanes) kept.role in
       let place : at < length counts = omega (arith, at_is, lanes, took.1) in
       let value : count ≡ slice_index counts x.0 =
@@ -60,7 +79,7 @@ module _ {T : Type 0} where
         at_rest = same.2 ∙ kept.at_rest;
         named = kept.named;
         has_room = kept.has_room;
-        role = step ∙ (λ i. receiver_view (sizes i) (sym taken i));
+        role = step ∙ (λ i. taker_view (sizes i) (sym taken i) (sym told i));
         counted = λ lane within.
             rw (counts', taken)
             (counts_follow counts (view old).taken x lane kept.counted

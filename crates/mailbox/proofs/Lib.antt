@@ -5,5 +5,7 @@ mod ItemsOfALane
 mod LanesSettle
 mod MeetingKeepsTheRule
 mod PassesKeepTheRule
+mod Rights
 mod Seats
 mod StepsKeepTheRule
+mod TellingKeepsTheRule

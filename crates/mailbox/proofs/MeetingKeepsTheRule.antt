@@ -7,10 +7,11 @@ use lib.ListN.{get_elem?}
 use Rattle.crossbeam_queue.specs.Fifo.{Forks, Merges, Learns}
 use Rattle.crossbeam_queue.proofs.Lists.{at_set}
 use Rattle.mailbox.specs.declared.view.View.{View}
-use Rattle.mailbox.specs.Delivery.{items_of, FitsLane, FitsReceiver, Delivers, Moment}
+use Rattle.mailbox.specs.Delivery.{items_of, FitsLane, FitsReceiver, FitsTold, Delivers, Moment}
 use Rattle.mailbox.specs.Inside.{nobody, joined, Learned, receiver_part, lane_part}
 use Rattle.mailbox.proofs.ItemsOfALane.{items_of-append}
 use Rattle.mailbox.proofs.EachView.{Each, each_set, each_snoc}
+use Rattle.mailbox.proofs.Rights.{rights_set, rights_split}
 use Rattle.mailbox.proofs.Seats.{seated, seated-same, seated-other, not_false}
 
 module _ {T : Type 0} where
@@ -21,9 +22,10 @@ module _ {T : Type 0} where
   parts port v sends gets items views h at =
       let lane = (h.fits port v at).0 sends in
       let known = (h.fits port v at).1 gets in
+      let told = (h.fits port v at).2 in
       let vs : List (View T) = slice_set views port (receiver_part v) in
       let seat = seated v.lane (length vs) h.seat in
-      let F : ℕ → View T → Type 0 = λ j u. FitsLane seat h.sent h.taken h.made j u × FitsReceiver h.reader h.taken h.made j u in
+      let F : ℕ → View T → Type 0 = λ j u. FitsLane seat h.sent h.taken h.made j u × FitsReceiver h.reader h.taken h.made j u × FitsTold h.sent h.taken h.most u in
       let size : length (items_of v.lane v.taken) ≡ length (items_of v.lane h.taken) = ap (λ l. length (items_of v.lane l)) known.1 in
       record {
         reader = h.reader;
@@ -31,19 +33,23 @@ module _ {T : Type 0} where
         seat = seat;
         sent = h.sent;
         taken = h.taken;
+        most = h.most;
         whole = h.whole;
         few = h.few;
         unmade = h.unmade;
+        within = omega (arith, h.within, rights_split views port v (receiver_part v) (lane_part v) at (omega arith));
+        finite = h.finite;
         fits =
             each_snoc F vs (lane_part v)
             (each_set F views port (receiver_part v)
-            ((λ p. absurd (not_false p)), λ _. known)
+            ((λ p. absurd (not_false p)), (λ _. known), (h.fits port v at).2)
             (λ j u apart e. (
               (λ p.
                   let theirs = (h.fits j u e).0 p in
                   let other : u.lane ≢ v.lane = λ same. apart (theirs.0 ∙ ap h.seat same ∙ sym lane.0) in
                   (theirs.0 ∙ sym (seated-other v.lane (length vs) h.seat u.lane other), theirs.1, theirs.2, theirs.3)),
               (h.fits j u e).1,
+              (h.fits j u e).2,
             ))) (
               (λ _. (
                 sym (seated-same v.lane (length vs) h.seat v.lane refl),
@@ -51,7 +57,8 @@ module _ {T : Type 0} where
                 omega (arith, size),
                 lane.3,
               )),
-              λ p. absurd (not_false p),
+              (λ p. absurd (not_false p)),
+              (told.0, told.1, told.2, h.finite),
             );
       }
 
@@ -69,16 +76,17 @@ module _ {T : Type 0} where
       let lane = (h.fits other w was).0 sends in
       let known = (h.fits port v at).1 gets in
       let seat = seated w.lane port h.seat in
-      let F : ℕ → View T → Type 0 = λ j u. FitsLane seat h.sent h.taken h.made j u × FitsReceiver h.reader h.taken h.made j u in
+      let F : ℕ → View T → Type 0 = λ j u. FitsLane seat h.sent h.taken h.made j u × FitsReceiver h.reader h.taken h.made j u × FitsTold h.sent h.taken h.most u in
       let G : ℕ → View T → Type 0 = λ j u. j ≢ other → F j u in
       let now : Each G vs = each_set G views port both
-      (λ _. ((λ _. (sym (seated-same w.lane port h.seat w.lane refl), lane.1, lane.2, lane.3)), λ _. known))
+      (λ _. ((λ _. (sym (seated-same w.lane port h.seat w.lane refl), lane.1, lane.2, lane.3)), (λ _. known), (h.fits port v at).2))
       (λ j u _ e away. (
         (λ p.
             let theirs = (h.fits j u e).0 p in
             let elsewhere : u.lane ≢ w.lane = λ same. away (theirs.0 ∙ ap h.seat same ∙ sym lane.0) in
             (theirs.0 ∙ sym (seated-other w.lane port h.seat u.lane elsewhere), theirs.1, theirs.2, theirs.3)),
         (h.fits j u e).1,
+        (h.fits j u e).2,
       )) in
       record {
         reader = h.reader;
@@ -86,12 +94,15 @@ module _ {T : Type 0} where
         seat = seat;
         sent = h.sent;
         taken = h.taken;
+        most = h.most;
         whole = h.whole;
         few = h.few;
         unmade = h.unmade;
+        within = omega (arith, h.within, rights_set views port v both at, rights_set vs other w nobody there);
+        finite = h.finite;
         fits =
             each_set F vs other nobody
-            ((λ p. absurd (not_false p)), λ p. absurd (not_false p))
+            ((λ p. absurd (not_false p)), (λ p. absurd (not_false p)), (omega arith, omega arith, h.finite, h.finite))
             (λ j u away e. now j u e away);
       }
 

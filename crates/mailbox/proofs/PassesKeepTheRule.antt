@@ -1,46 +1,51 @@
 -- Making lanes, and sharing out what their passes know, keep the rule of the inbox.
-use Rattle.std.specs.Prelude.{◌≡◌, ◌≢◌, ℕ, ◌+◌, true, false, List, [], ◌∷◌, length, slice_set, refl}
+use Rattle.std.specs.Prelude.{◌≡◌, ◌≢◌, ℕ, ◌+◌, ◌-◌, ◌^◌, ◌≤◌, true, false, List, [], ◌∷◌, length, slice_set, refl}
 use Rattle.std.proofs.Common.{sym, ◌∙◌, ap, arith}
 use mathlib.Core.Option.{some, some-ne-none}
 use lib.ListN.{get_elem?}
 use Rattle.crossbeam_queue.specs.Fifo.{Forks}
 use Rattle.mailbox.specs.declared.view.View.{View}
-use Rattle.mailbox.specs.Delivery.{lane_view, receiver_view, FitsLane, FitsReceiver, Delivers}
-use Rattle.mailbox.specs.Inside.{nobody}
+use Rattle.mailbox.specs.Delivery.{nothing, receiver_view, FitsLane, FitsReceiver, FitsTold, Delivers}
+use Rattle.mailbox.specs.Inside.{dealing, dealt, nobody, sealed}
 use Rattle.mailbox.proofs.EachView.{each_set, each_snoc}
+use Rattle.mailbox.proofs.Rights.{rights_set, rights_snoc, rights_split}
 use Rattle.mailbox.proofs.Seats.{seated, seated-same, seated-other, not_false}
 
 module _ {T : Type 0} where
   -- an inbox that nobody used yet
-  pub begins : Delivers {T = T} [] (receiver_view 0 [] ∷ [])
+  pub begins : Delivers {T = T} [] (receiver_view 0 [] (2 ^ 64) (2 ^ 64) nothing ∷ [])
   begins = record {
     reader = 0;
     made = 0;
     seat = λ _. 0;
     sent = λ _. [];
     taken = [];
+    most = 2 ^ 64;
     whole = λ _. refl;
     few = λ _. omega arith;
     unmade = λ _ _. refl;
+    within = omega arith;
+    finite = omega arith;
     fits =
         each_snoc
-        (λ j u. FitsLane {T = T} (λ _. 0) (λ _. []) [] 0 j u × FitsReceiver {T = T} 0 [] 0 j u)
+        (λ j u. FitsLane {T = T} (λ _. 0) (λ _. []) [] 0 j u × FitsReceiver {T = T} 0 [] 0 j u × FitsTold {T = T} (λ _. []) [] (2 ^ 64) u)
         []
-        (receiver_view 0 [])
+        (receiver_view 0 [] (2 ^ 64) (2 ^ 64) nothing)
         (λ j u e. absurd (some-ne-none u (sym e)))
-        ((λ p. absurd (not_false p)), λ _. (refl, refl, refl));
+        ((λ p. absurd (not_false p)), (λ _. (refl, refl, refl)), (omega arith, omega arith, omega arith, omega arith));
   }
 
   pub deals : (port : ℕ) (v : View T)
       → v.gets ≡ true
-      → Forks Delivers port v (record v { lanes = v.lanes + 1 }) (lane_view v.lanes [] 0)
-  deals port v gets items views h at =
+      → 2 ^ 55 ≤ v.may
+      → Forks Delivers port v (dealing v) (dealt v)
+  deals port v gets has items views h at =
       let known = (h.fits port v at).1 gets in
-      let left : View T = record v { lanes = v.lanes + 1 } in
-      let right : View T = lane_view v.lanes [] 0 in
+      let left : View T = dealing v in
+      let right : View T = dealt v in
       let vs : List (View T) = slice_set views port left in
       let seat = seated h.made (length vs) h.seat in
-      let F : ℕ → View T → Type 0 = λ j u. FitsLane seat h.sent h.taken (h.made + 1) j u × FitsReceiver h.reader h.taken (h.made + 1) j u in
+      let F : ℕ → View T → Type 0 = λ j u. FitsLane seat h.sent h.taken (h.made + 1) j u × FitsReceiver h.reader h.taken (h.made + 1) j u × FitsTold h.sent h.taken h.most u in
       let still : (j : ℕ) (u : View T) → get_elem? views j ≡ some u → FitsLane seat h.sent h.taken (h.made + 1) j u = λ j u e p.
       let lane = (h.fits j u e).0 p in (
         lane.0 ∙ sym (seated-other h.made (length vs) h.seat u.lane (λ same. omega (arith, same, lane.3))),
@@ -54,16 +59,20 @@ module _ {T : Type 0} where
         seat = seat;
         sent = h.sent;
         taken = h.taken;
+        most = h.most;
         whole = h.whole;
         few = h.few;
         unmade = λ k far. h.unmade k (omega arith);
+        within = omega (arith, h.within, rights_split views port v left right at (omega (arith, has)));
+        finite = h.finite;
         fits =
             each_snoc F vs right
             (each_set F views port left
-            (still port v at, λ _. (known.0, known.1, ap (λ n. n + 1) known.2))
+            (still port v at, (λ _. (known.0, known.1, ap (λ n. n + 1) known.2)), (h.fits port v at).2)
             (λ j u apart e. (
               still j u e,
-              λ p. absurd (apart (((h.fits j u e).1 p).0 ∙ sym known.0)),
+              (λ p. absurd (apart (((h.fits j u e).1 p).0 ∙ sym known.0))),
+              (h.fits j u e).2,
             ))) (
               (λ _. (
                 sym (seated-same h.made (length vs) h.seat v.lanes known.2),
@@ -71,7 +80,8 @@ module _ {T : Type 0} where
                 omega arith,
                 omega (arith, known.2),
               )),
-              λ p. absurd (not_false p),
+              (λ p. absurd (not_false p)),
+              (omega arith, omega arith, h.finite, h.finite),
             );
       }
 
@@ -80,28 +90,64 @@ module _ {T : Type 0} where
       let known = (h.fits port v at).0 sends in
       let vs : List (View T) = slice_set views port nobody in
       let seat = seated v.lane (length vs) h.seat in
-      let F : ℕ → View T → Type 0 = λ j u. FitsLane seat h.sent h.taken h.made j u × FitsReceiver h.reader h.taken h.made j u in
+      let F : ℕ → View T → Type 0 = λ j u. FitsLane seat h.sent h.taken h.made j u × FitsReceiver h.reader h.taken h.made j u × FitsTold h.sent h.taken h.most u in
       record {
         reader = h.reader;
         made = h.made;
         seat = seat;
         sent = h.sent;
         taken = h.taken;
+        most = h.most;
         whole = h.whole;
         few = h.few;
         unmade = h.unmade;
+        within = omega (arith, h.within, rights_split views port v nobody v at (omega arith));
+        finite = h.finite;
         fits =
             each_snoc F vs v
             (each_set F views port nobody
-            ((λ p. absurd (not_false p)), λ p. absurd (not_false p))
+            ((λ p. absurd (not_false p)), (λ p. absurd (not_false p)), (omega arith, omega arith, h.finite, h.finite))
             (λ j u apart e. (
               (λ p.
                   let lane = (h.fits j u e).0 p in
                   let other : u.lane ≢ v.lane = λ same. apart (lane.0 ∙ ap h.seat same ∙ sym known.0) in
                   (lane.0 ∙ sym (seated-other v.lane (length vs) h.seat u.lane other), lane.1, lane.2, lane.3)),
               (h.fits j u e).1,
+              (h.fits j u e).2,
             ))) (
               (λ _. (sym (seated-same v.lane (length vs) h.seat v.lane refl), known.1, known.2, known.3)),
-              λ p. absurd (not_false (sym gets ∙ p)),
+              (λ p. absurd (not_false (sym gets ∙ p))),
+              (h.fits port v at).2,
+            );
+      }
+
+  -- the receiver makes no lane any more, so that no more items will be sent than its lanes may
+  pub seals : (port : ℕ) (v : View T) → Forks Delivers port v (sealed v) nobody
+  seals port v items views h at =
+      let mine = h.fits port v at in
+      let less : h.most - v.may ≤ h.most = omega arith in
+      let F : ℕ → View T → Type 0 = λ j u. FitsLane h.seat h.sent h.taken h.made j u × FitsReceiver h.reader h.taken h.made j u × FitsTold h.sent h.taken (h.most - v.may) u in
+      record {
+        reader = h.reader;
+        made = h.made;
+        seat = h.seat;
+        sent = h.sent;
+        taken = h.taken;
+        most = h.most - v.may;
+        whole = h.whole;
+        few = h.few;
+        unmade = h.unmade;
+        within = omega (arith, h.within, rights_set views port v (sealed v) at, rights_snoc (slice_set views port (sealed v)) nobody);
+        finite = omega (arith, h.finite);
+        fits =
+            each_snoc F (slice_set views port (sealed v)) nobody
+            (each_set F views port (sealed v)
+            (mine.0, mine.1, (mine.2.0, mine.2.1, omega (arith, mine.2.2), omega (arith, mine.2.3)))
+            (λ j u apart e.
+            let theirs = h.fits j u e in
+            (theirs.0, theirs.1, (theirs.2.0, theirs.2.1, omega (arith, theirs.2.2), omega (arith, theirs.2.3))))) (
+              (λ p. absurd (not_false p)),
+              (λ p. absurd (not_false p)),
+              (omega arith, omega arith, omega (arith, h.finite), omega (arith, h.finite)),
             );
       }

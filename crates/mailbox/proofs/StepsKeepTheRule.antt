@@ -1,13 +1,14 @@
 -- A push by a lane and a pop by the receiver keep the rule of the inbox.
-use Rattle.std.specs.Prelude.{◌≡◌, ◌≢◌, ◌⊎◌, ℕ, ◌^◌, ◌<◌, ◌≤◌, true, List, [], ◌∷◌, ◌++◌, length, refl}
+use Rattle.std.specs.Prelude.{◌≡◌, ◌≢◌, ◌⊎◌, ℕ, ◌-◌, ◌^◌, ◌<◌, ◌≤◌, true, List, [], ◌∷◌, ◌++◌, length, refl}
 use Rattle.std.proofs.Common.{sym, ◌∙◌, ap, subst, inl, inr, ⊎_elim, append_assoc, append-nil, length-append, lt_of_not-le, arith}
 use native.Mathlib.Decide.{ℕ_discrete}
 use Rattle.crossbeam_queue.specs.Fifo.{Pushes, Pops}
 use Rattle.mailbox.specs.declared.view.View.{View}
-use Rattle.mailbox.specs.Delivery.{items_of, FitsLane, FitsReceiver, Delivers}
+use Rattle.mailbox.specs.Delivery.{items_of, FitsLane, FitsReceiver, FitsTold, Delivers}
 use Rattle.mailbox.specs.Inside.{Sent, Took}
 use Rattle.mailbox.proofs.ItemsOfALane.{items_of-append, items_of-same, items_of-other}
 use Rattle.mailbox.proofs.EachView.{each_set}
+use Rattle.mailbox.proofs.Rights.{rights_set}
 
 decided : (a b : ℕ) → Dec (a ≡ b) → (a ≡ b) ⊎ (a ≢ b)
 decided a b (yes same) = inl same
@@ -38,18 +39,37 @@ module _ {T : Type 0} where
   others_sent sent x lane other =
       rw (items_of-other lane x [] other) (sym (append-nil (sent lane)))
 
+  -- what was told stays so when a lane sends more
+  told_when_sent : (sent : ℕ → List T) (taken : List (ℕ × T)) (most : ℕ) (x : ℕ × T) (u : View T)
+      → FitsTold sent taken most u
+      → FitsTold (λ k. sent k ++ items_of k (x ∷ [])) taken most u
+  told_when_sent sent taken most x u so = (
+    omega (arith, so.0, length-append (sent u.told.lane) (items_of u.told.lane (x ∷ []))),
+    so.1,
+    so.2,
+    so.3,
+  )
+
+  -- the same when one item more is taken
+  told_when_taken : (sent : ℕ → List T) (taken : List (ℕ × T)) (most : ℕ) (x : ℕ × T) (u : View T)
+      → FitsTold sent taken most u
+      → FitsTold sent (taken ++ x ∷ []) most u
+  told_when_taken sent taken most x u so =
+      (so.0, omega (arith, so.1, length-append taken (x ∷ [])), so.2, so.3)
+
   pub sends : (n port : ℕ) (v : View T) (x : ℕ × T)
       → v.sends ≡ true
       → x.0 ≡ v.lane
       → length v.sent < 2 ^ 55
+      → 0 < v.may
       → Pushes Delivers n port v x (Sent v x)
-  sends n port v x lane mine short items views room h at =
-      let w : View T = record v { sent = v.sent ++ x.1 ∷ [] } in
+  sends n port v x lane mine short has items views room h at =
+      let w : View T = record v { sent = v.sent ++ x.1 ∷ []; may = v.may - 1 } in
       let known = (h.fits port v at).0 lane in
       let sent = λ (k : ℕ). h.sent k ++ items_of k (x ∷ []) in
       let sent_here : h.sent v.lane ≡ h.sent x.0 = ap h.sent (sym mine) in
       let short' : length (h.sent x.0) < 2 ^ 55 = subst (λ (l : List T). length l < 2 ^ 55) (known.1 ∙ sent_here) short in
-      let F : ℕ → View T → Type 0 = λ j u. FitsLane h.seat sent h.taken h.made j u × FitsReceiver h.reader h.taken h.made j u in (
+      let F : ℕ → View T → Type 0 = λ j u. FitsLane h.seat sent h.taken h.made j u × FitsReceiver h.reader h.taken h.made j u × FitsTold sent h.taken h.most u in (
         w,
         record {
           reader = h.reader;
@@ -57,6 +77,7 @@ module _ {T : Type 0} where
           seat = h.seat;
           sent = sent;
           taken = h.taken;
+          most = h.most;
           whole = λ k.
               ap (items_of k) (sym (append_assoc h.taken items (x ∷ [])))
               ∙ items_of-append k (h.taken ++ items) (x ∷ [])
@@ -65,6 +86,8 @@ module _ {T : Type 0} where
           unmade = λ k far.
               let other : x.0 ≢ k = λ e. omega (arith, e, mine, known.3) in
               sym (others_sent h.sent x k other) ∙ h.unmade k far;
+          within = omega (arith, h.within, has, length-append items (x ∷ []), rights_set views port v w at);
+          finite = h.finite;
           fits = each_set F views port w (
             (λ _. (
               known.0,
@@ -73,6 +96,7 @@ module _ {T : Type 0} where
               known.3,
             )),
             (h.fits port v at).1,
+            told_when_sent h.sent h.taken h.most x v (h.fits port v at).2,
           )
               (λ j u apart e. (
                 (λ p.
@@ -80,6 +104,7 @@ module _ {T : Type 0} where
                     let other : x.0 ≢ u.lane = λ same. apart (theirs.0 ∙ ap h.seat (sym same ∙ mine) ∙ sym known.0) in
                     (theirs.0, theirs.1 ∙ others_sent h.sent x u.lane other, theirs.2, theirs.3)),
                 (h.fits j u e).1,
+                told_when_sent h.sent h.taken h.most x u (h.fits j u e).2,
               ));
         },
         refl,
@@ -118,7 +143,7 @@ module _ {T : Type 0} where
       let known = (h.fits port v at).1 gets in
       let w : View T = record v { taken = v.taken ++ x ∷ [] } in
       let taken = h.taken ++ x ∷ [] in
-      let F : ℕ → View T → Type 0 = λ j u. FitsLane h.seat h.sent taken h.made j u × FitsReceiver h.reader taken h.made j u in (
+      let F : ℕ → View T → Type 0 = λ j u. FitsLane h.seat h.sent taken h.made j u × FitsReceiver h.reader taken h.made j u × FitsTold h.sent taken h.most u in (
         w,
         record {
           reader = h.reader;
@@ -126,20 +151,25 @@ module _ {T : Type 0} where
           seat = h.seat;
           sent = h.sent;
           taken = taken;
+          most = h.most;
           whole = λ k. ap (items_of k) (append_assoc h.taken (x ∷ []) items) ∙ h.whole k;
           few = h.few;
           unmade = h.unmade;
+          within = omega (arith, h.within, length-append h.taken (x ∷ []), rights_set views port v w at);
+          finite = h.finite;
           fits = each_set F views port w (
             (λ p.
                 let lane = (h.fits port v at).0 p in
                 (lane.0, lane.1, taken_grows v.met v.lane h.taken x lane.2, lane.3)),
             (λ _. (known.0, ap (λ l. l ++ x ∷ []) known.1, known.2)),
+            told_when_taken h.sent h.taken h.most x v (h.fits port v at).2,
           )
               (λ j u apart e. (
                 (λ p.
                     let lane = (h.fits j u e).0 p in
                     (lane.0, lane.1, taken_grows u.met u.lane h.taken x lane.2, lane.3)),
                 (λ p. absurd (apart (((h.fits j u e).1 p).0 ∙ sym known.0))),
+                told_when_taken h.sent h.taken h.most x u (h.fits j u e).2,
               ));
         },
         (

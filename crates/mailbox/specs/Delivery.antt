@@ -1,8 +1,9 @@
 -- The rule of an inbox: for each lane, what was taken of it and what the inbox still holds of it
 -- are, in order, all that it sent.
-use Rattle.std.specs.Prelude.{◌≡◌, ◌==◌, ℕ, ◌^◌, ◌<◌, ◌≤◌, true, false, List, [], ◌∷◌, ◌++◌, length, if◌then◌else◌}
+use Rattle.std.specs.Prelude.{◌≡◌, ◌==◌, ℕ, ◌+◌, ◌*◌, ◌^◌, ◌<◌, ◌≤◌, true, false, List, [], ◌∷◌, ◌++◌, length, if◌then◌else◌}
 use mathlib.Core.Option.{some}
 use lib.ListN.{get_elem?}
+use Rattle.mailbox.specs.declared.view.Told.{Told}
 use Rattle.mailbox.specs.declared.view.View.{View}
 
 -- the items of one lane, in order
@@ -10,9 +11,14 @@ abbrev pub items_of : {T : Type 0} → ℕ → List (ℕ × T) → List T
 items_of lane [] = []
 items_of lane (x ∷ xs) = if x.0 == lane then x.1 ∷ items_of lane xs else items_of lane xs
 
--- what a lane knows: its number, what it sent, and how many of these it knows to be taken
-abbrev pub lane_view : {T : Type 0} → ℕ → List T → ℕ → View T
-lane_view lane sent met = record {
+-- somebody who was told nothing knows only that no inbox ever gets more than 2^64 items
+abbrev pub nothing : Told
+nothing = record { lane = 0; sent = 0; taken = 0; most = 2 ^ 64 }
+
+-- what a lane knows: its number, what it sent, how many of these it knows to be taken, how many more it may send, and what
+-- it was told
+abbrev pub lane_view : {T : Type 0} → ℕ → List T → ℕ → ℕ → Told → View T
+lane_view lane sent met may told = record {
   sends = true;
   lane = lane;
   sent = sent;
@@ -20,11 +26,15 @@ lane_view lane sent met = record {
   gets = false;
   lanes = 0;
   taken = [];
+  may = may;
+  all = 2 ^ 64;
+  told = told;
 }
 
--- what the receiver knows: how many lanes there are, and what it took
-abbrev pub receiver_view : {T : Type 0} → ℕ → List (ℕ × T) → View T
-receiver_view lanes taken = record {
+-- what the receiver knows: how many lanes there are, what it took, how many items the lanes may send that it has yet to
+-- make, how many all lanes may send, and what it was told
+abbrev pub receiver_view : {T : Type 0} → ℕ → List (ℕ × T) → ℕ → ℕ → Told → View T
+receiver_view lanes taken may all told = record {
   sends = false;
   lane = 0;
   sent = [];
@@ -32,7 +42,19 @@ receiver_view lanes taken = record {
   gets = true;
   lanes = lanes;
   taken = taken;
+  may = may;
+  all = all;
+  told = told;
 }
+
+-- the same once it has made all its lanes, each of which may send 2^55 items
+abbrev pub taker_view : {T : Type 0} → ℕ → List (ℕ × T) → Told → View T
+taker_view lanes taken told = receiver_view lanes taken 0 (lanes * 2 ^ 55) told
+
+-- how many items may still be sent
+abbrev pub rights : {T : Type 0} → List (View T) → ℕ
+rights [] = 0
+rights (v ∷ views) = v.may + rights views
 
 module _ {T : Type 0} where
   -- what a lane's pass knows is so, and no other pass is this lane's
@@ -49,6 +71,14 @@ module _ {T : Type 0} where
   FitsReceiver reader taken made port v =
       v.gets ≡ true → (port ≡ reader) × (v.taken ≡ taken) × (v.lanes ≡ made)
 
+  -- what a pass was told is true, and so is the greatest number of items that it knows
+  abbrev pub FitsTold : (ℕ → List T) → List (ℕ × T) → ℕ → View T → Type 0
+  FitsTold sent taken most v =
+      (v.told.sent ≤ length (sent v.told.lane))
+      × (v.told.taken ≤ length taken)
+      × (most ≤ v.told.most)
+      × (most ≤ v.all)
+
 -- the rule, over what the inbox holds and what each pass knows
 pub record Delivers {T : Type 0} (items : List (ℕ × T)) (views : List (View T)) : Type 0 where
   pub reader : ℕ
@@ -56,13 +86,18 @@ pub record Delivers {T : Type 0} (items : List (ℕ × T)) (views : List (View T
   pub seat : ℕ → ℕ
   pub sent : ℕ → List T
   pub taken : List (ℕ × T)
+  pub most : ℕ
   pub whole : (lane : ℕ) → items_of lane (taken ++ items) ≡ sent lane
   pub few : (lane : ℕ) → length (sent lane) ≤ 2 ^ 55
   pub unmade : (lane : ℕ) → made ≤ lane → sent lane ≡ []
+  pub within : length taken + length items + rights views ≤ most
+  pub finite : most ≤ 2 ^ 64
   pub fits :
       (port : ℕ) (v : View T)
       → get_elem? views port ≡ some v
-      → FitsLane seat sent taken made port v × FitsReceiver reader taken made port v
+      → FitsLane seat sent taken made port v
+      × FitsReceiver reader taken made port v
+      × FitsTold sent taken most v
 
 -- a moment at which the inbox held these items and one of its passes knew this
 pub record Moment {T : Type 0} (v : View T) (items : List (ℕ × T)) : Type 0 where

@@ -1,9 +1,10 @@
 -- What the two ends of an inbox show: its lanes, which send, and its receiver, which takes.
-use Rattle.std.specs.Prelude.{◌≡◌, ℕ, zero, suc, ◌≤◌, List, [], ◌∷◌, ◌++◌, length, map, take, slice_index}
+use Rattle.std.specs.Prelude.{◌≡◌, ℕ, zero, suc, ◌+◌, ◌-◌, ◌≤◌, List, [], ◌∷◌, ◌++◌, length, map, take, slice_index}
 use Rattle.crossbeam_queue.specs.Fifo.{Held}
 use Rattle.mailbox.specs.declared.inbox.TheConstants.{INBOX_ITEMS}
 use Rattle.mailbox.specs.declared.lane.TheConstants.{MOST_SENT}
-use Rattle.mailbox.specs.Delivery.{items_of, lane_view, receiver_view, Moment}
+use Rattle.mailbox.specs.declared.view.Told.{Told}
+use Rattle.mailbox.specs.Delivery.{items_of, lane_view, taker_view, Moment}
 
 -- a lane: the number of its inbox, its own, and how many of its items it knows to be taken
 pub record Sender (T : Type 0) : Type 0 where
@@ -20,6 +21,12 @@ pub record Taker (T : Type 0) : Type 0 where
   -- history: no field keeps it
   pub taken : List (ℕ × T)
 
+-- a receipt: the number of its inbox, and what it tells of that inbox
+pub record Receipted : Type 0 where
+  pub inbox : ℕ
+  -- history: no field keeps it
+  pub told : Told
+
 module _ {T : Type 0} where
   -- the lanes 0, 1, .. of a new inbox, in order, of which nothing was sent
   abbrev pub fresh_lanes : ℕ → ℕ → List (Sender T)
@@ -27,17 +34,28 @@ module _ {T : Type 0} where
   fresh_lanes inbox (suc lanes) =
       fresh_lanes inbox lanes ++ record { inbox = inbox; lane = lanes; met = 0; sent = [] } ∷ []
 
-  -- at one moment the inbox held as many items as it can
-  abbrev pub WasFull : Sender T → Type 0
-  WasFull s = Held INBOX_ITEMS (Moment (lane_view s.lane s.sent s.met))
+  -- at one moment, at which all that the receipt tells was true, the inbox held as many items as it can
+  abbrev pub WasFull : Sender T → Receipted → Type 0
+  WasFull s receipt =
+      Held INBOX_ITEMS (Moment (lane_view s.lane s.sent s.met (MOST_SENT - length s.sent) receipt.told))
+
+  -- as far as the receipt tells, there may be no room: what was taken, what the inbox can hold and what this lane may still
+  -- send do not pass what all lanes will ever send
+  abbrev pub IsFullAsTold : Sender T → Receipted → Type 0
+  IsFullAsTold s receipt =
+      receipt.told.taken + INBOX_ITEMS + (MOST_SENT - length s.sent) ≤ receipt.told.most
 
   -- the lane has sent as much as it ever may
   abbrev pub IsSpent : Sender T → Type 0
   IsSpent s = MOST_SENT ≤ length s.sent
 
-  -- at one moment the inbox held nothing
-  abbrev pub WasEmpty : Taker T → Type 0
-  WasEmpty r = Held 0 (Moment (receiver_view r.lanes r.taken))
+  -- at one moment, at which all that the receipt tells was true, the inbox held nothing
+  abbrev pub WasEmpty : Taker T → Receipted → Type 0
+  WasEmpty r receipt = Held 0 (Moment (taker_view r.lanes r.taken receipt.told))
+
+  -- every item that was sent, as the receipt tells, is among these items that were taken
+  abbrev pub HasArrived : Receipted → List (ℕ × T) → Type 0
+  HasArrived receipt taken = receipt.told.sent ≤ length (items_of receipt.told.lane taken)
 
   -- a lane as it was made
   abbrev pub as_made : Sender T → Sender T
@@ -50,6 +68,10 @@ module _ {T : Type 0} where
   -- a lane, whatever it knows to be taken
   abbrev pub unmet : Sender T → Sender T
   unmet s = record s { met = 0 }
+
+  -- a lane that knows that all that it sent was taken
+  abbrev pub all_met : Sender T → Sender T
+  all_met s = record s { met = length s.sent }
 
   -- what was counted of a lane and what is left over of it are, in order, all that it sent
   abbrev pub ArrivesWhole : List ℕ → List (ℕ × T) → Sender T → Type 0

@@ -1,10 +1,10 @@
 -- What each use of a pass does to what is known, and what lanes and receivers keep.
-use Rattle.std.specs.Prelude.{◌≡◌, ℕ, ◌^◌, ◌<◌, ◌≤◌, false, List, [], ◌∷◌, ◌++◌, length, slice_index}
+use Rattle.std.specs.Prelude.{◌≡◌, ℕ, ◌+◌, ◌-◌, ◌*◌, ◌^◌, ◌<◌, ◌≤◌, false, List, [], ◌∷◌, ◌++◌, length, slice_index}
 use Rattle.atomic_table.specs.Seated.{TableId}
 use Rattle.crossbeam_queue.specs.Passes.{Pass, view}
 use Rattle.mailbox.specs.declared.inbox.TheConstants.{INBOX_ITEMS}
 use Rattle.mailbox.specs.declared.view.View.{View}
-use Rattle.mailbox.specs.Delivery.{items_of, lane_view, receiver_view}
+use Rattle.mailbox.specs.Delivery.{items_of, lane_view, nothing, receiver_view, taker_view}
 use Rattle.mailbox.specs.Ends.{Sender, Taker}
 
 module _ {T : Type 0} where
@@ -18,11 +18,14 @@ module _ {T : Type 0} where
     gets = false;
     lanes = 0;
     taken = [];
+    may = 0;
+    all = 2 ^ 64;
+    told = nothing;
   }
 
   -- a push: the lane sent one item more
   abbrev pub Sent : View T → (ℕ × T) → View T → Type 0
-  Sent v x w = w ≡ record v { sent = v.sent ++ x.1 ∷ [] }
+  Sent v x w = w ≡ record v { sent = v.sent ++ x.1 ∷ []; may = v.may - 1 }
 
   -- a pop: the receiver took one item more, of a lane that was made and is not spent
   abbrev pub Took : View T → (ℕ × T) → View T → Type 0
@@ -31,9 +34,39 @@ module _ {T : Type 0} where
       × (x.0 < v.lanes)
       × (length (items_of x.0 v.taken) < 2 ^ 55)
 
+  -- the receiver makes a lane
+  abbrev pub dealing : View T → View T
+  dealing v = record v { lanes = v.lanes + 1; may = v.may - 2 ^ 55 }
+
+  -- the lane that it makes
+  abbrev pub dealt : View T → View T
+  dealt v = lane_view v.lanes [] 0 (2 ^ 55) nothing
+
+  -- the receiver makes no more lanes
+  abbrev pub sealed : View T → View T
+  sealed v = record v { may = 0; all = v.all - v.may }
+
+  -- a lane tells what it has sent
+  abbrev pub lane_tells : View T → View T
+  lane_tells v = record nobody { told = record nothing { lane = v.lane; sent = length v.sent } }
+
+  -- the receiver tells what it has taken, and how many items there will ever be
+  abbrev pub receiver_tells : View T → View T
+  receiver_tells v = record nobody { told = record nothing { taken = length v.taken; most = v.all } }
+
+  -- a lane that sends no more tells that, besides what it was told
+  abbrev pub ended : View T → View T
+  ended v = record nobody {
+    told = record v.told { lane = v.lane; sent = length v.sent; most = v.told.most - v.may };
+  }
+
+  -- what a receipt tells is taken in
+  abbrev pub heard : View T → View T → View T
+  heard v w = record v { told = w.told }
+
   -- the receiver's view with a lane's taken in
   abbrev pub joined : View T → View T → View T
-  joined v w = record v { sends = w.sends; lane = w.lane; sent = w.sent; met = w.met }
+  joined v w = record v { sends = w.sends; lane = w.lane; sent = w.sent; met = w.met; may = v.may + w.may }
 
   -- what was taken of the lane is a beginning of what it sent, and no less than it knew
   pub record Learned (v : View T) : Type 0 where
@@ -44,11 +77,11 @@ module _ {T : Type 0} where
 
   -- what is the receiver's of a view that both share
   abbrev pub receiver_part : View T → View T
-  receiver_part v = receiver_view v.lanes v.taken
+  receiver_part v = receiver_view v.lanes v.taken 0 v.all v.told
 
   -- what is the lane's, which knows now how much of it was taken
   abbrev pub lane_part : View T → View T
-  lane_part v = lane_view v.lane v.sent (length (items_of v.lane v.taken))
+  lane_part v = lane_view v.lane v.sent (length (items_of v.lane v.taken)) v.may v.told
 
 -- what a lane keeps: its pass, of the inbox that its number names, knows what the lane shows
 pub record LaneKept {T : Type 0}
@@ -58,7 +91,10 @@ pub record LaneKept {T : Type 0}
   pub at_rest : pass.me.1 ≡ []
   pub named : queue ≡ name
   pub has_room : room ≡ INBOX_ITEMS
-  pub role : view pass ≡ lane_view lane (view pass).sent (view pass).met
+  pub role :
+      view pass
+      ≡ lane_view lane (view pass).sent (view pass).met (2 ^ 55 - length (view pass).sent) (view pass).told
+  pub few : length (view pass).sent ≤ 2 ^ 55
   pub counted : count ≡ length (view pass).sent
 
 -- what a receiver keeps: the same, and how many items of each lane it took
@@ -69,11 +105,31 @@ pub record ReceiverKept {T : Type 0}
   pub at_rest : pass.me.1 ≡ []
   pub named : queue ≡ name
   pub has_room : room ≡ INBOX_ITEMS
-  pub role : view pass ≡ receiver_view (length counts) (view pass).taken
+  pub role : view pass ≡ taker_view (length counts) (view pass).taken (view pass).told
   pub counted :
       (lane : ℕ)
       → lane < length counts
       → slice_index counts lane ≡ length (items_of lane (view pass).taken)
+
+-- what a receipt keeps: its pass, of the inbox that its number names, knows what it tells
+pub record ReceiptKept {T : Type 0} (pass : Pass (ℕ × T) (View T)) (name : TableId) : Type 0 where
+  pub of_queue : pass.table_id ≡ name
+  pub at_rest : pass.me.1 ≡ []
+  pub role : view pass ≡ record nobody { told = (view pass).told }
+
+-- what a dealer keeps: its pass, of the inbox that its number names, has made so many lanes
+pub record DealerKept {T : Type 0}
+    (queue : TableId) (room : ℕ) (pass : Pass (ℕ × T) (View T)) (name : TableId) (counts : List ℕ)
+    : Type 0 where
+  pub of_queue : pass.table_id ≡ queue
+  pub at_rest : pass.me.1 ≡ []
+  pub named : queue ≡ name
+  pub has_room : room ≡ INBOX_ITEMS
+  pub role :
+      view pass
+      ≡ receiver_view (length counts) [] (2 ^ 64 - length counts * 2 ^ 55) (2 ^ 64) nothing
+  pub few : length counts ≤ 64
+  pub counted : (lane : ℕ) → slice_index counts lane ≡ 0
 
 -- what an inbox keeps that has no lanes yet
 pub record InboxKept {T : Type 0}
@@ -83,7 +139,7 @@ pub record InboxKept {T : Type 0}
   pub at_rest : pass.me.1 ≡ []
   pub has_room : room ≡ INBOX_ITEMS
   pub has_slots : queue.slots ≡ INBOX_ITEMS
-  pub role : view pass ≡ receiver_view 0 []
+  pub role : view pass ≡ receiver_view 0 [] (2 ^ 64) (2 ^ 64) nothing
 
 -- what the receiver took more is what joined the list
 pub record TakesMore {T : Type 0} (old new : Taker T) (list longer : List (ℕ × T)) : Type 0 where

@@ -3,6 +3,7 @@
 ghost use Rattle.std.specs.Prelude.{◌≡◌, ◌<◌, ◌≤◌, [], IfOk};
 ghost use Rattle.mailbox.specs.Ends.{fresh_lanes};
 
+use crate::dealer::Dealer;
 use crate::lane::Lane;
 use crate::moves::{Knowledge, Queue};
 use crate::naming::Naming;
@@ -15,7 +16,7 @@ use std::sync::Arc;
 pub const INBOX_ITEMS: usize = 1_024;
 
 /// The most lanes of an inbox.
-pub const MOST_LANES: u8 = 16;
+pub const MOST_LANES: u8 = 64;
 
 /// An empty inbox that has no number and no lanes yet. To a contract it is its identity, which no
 /// other inbox shares.
@@ -62,13 +63,13 @@ impl<T: Drop> Inbox<T> {
         lanes: u8,
     ) -> Result<(Receiver<T, J>, Vec<Lane<T, J>>), AllocError>
         requires named { self ≡ J.inbox_of number }
-        requires lanes { (1 ≤ lanes) × (lanes ≤ 16) }
+        requires lanes { (1 ≤ lanes) × (lanes ≤ 64) }
         ensures receiver { IfOk result (λ r.
             r.0 ≡ record { inbox = number; lanes = lanes; taken = [] }) }
         ensures lanes { IfOk result (λ r. r.1.items ≡ fresh_lanes number lanes) }
     {
         let Inbox { queue, pass, alloc } = self;
-        let mut receiver = Receiver {
+        let mut dealer = Dealer {
             queue,
             pass,
             inbox: number,
@@ -77,8 +78,8 @@ impl<T: Drop> Inbox<T> {
         };
         let mut all = Vec::new(alloc);
         for _ in 0..lanes {
-            all.push(receiver.deal()?)?;
+            all.push(dealer.deal()?)?;
         }
-        Ok((receiver, all))
+        Ok((dealer.done(), all))
     }
 }

@@ -1,10 +1,12 @@
 // One sender's end of an inbox.
 
-ghost use Rattle.std.specs.Prelude.{◌≡◌, ◌⊎◌, ◌++◌, ◌∷◌, [], length, OnOk, OnErr, IfErr};
-ghost use Rattle.mailbox.specs.Ends.{Sender, WasFull, IsSpent};
+ghost use Rattle.std.specs.Prelude.{◌≡◌, ◌⊎◌, ◌-◌, ◌^◌, ◌++◌, ◌∷◌, [], length, OnOk, OnErr, IfErr};
+ghost use Rattle.mailbox.specs.Ends.{Sender, WasFull, IsFullAsTold, IsSpent};
+ghost use Rattle.mailbox.specs.Delivery.{nothing};
 
-use crate::moves::{Knowledge, Queue, Sends};
+use crate::moves::{Ends, Hears, Knowledge, LaneTells, Queue, Sends};
 use crate::naming::Naming;
+use crate::receipt::Receipt;
 use std::alloc::Global;
 use std::marker::{Model, PhantomData};
 use std::sync::{Arc, Wait};
@@ -70,20 +72,66 @@ impl<T: Drop, J: Naming> Lane<T, J> {
         self.count
     }
 
-    /// Sends an item. It comes back where the inbox was full at some moment of the call, or where
-    /// the lane has sent [`MOST_SENT`] items.
-    pub fn send<R: Wait>(&mut self, rt: &R, item: T) -> Result<(), T>
+    /// Returns a receipt of what the lane has sent so far.
+    pub fn receipt(&mut self) -> Receipt<T, J>
+        ensures tells { result ≡ record {
+          inbox = self.old.inbox;
+          told = record nothing { lane = self.old.lane; sent = length self.old.sent };
+        } }
+        ensures same { self.new ≡ self.old }
+    {
+        Receipt {
+            pass: self.queue.another::<LaneTells>(&mut self.pass),
+            inbox: self.inbox,
+            naming: PhantomData,
+        }
+    }
+
+    /// Ends the lane, which then sends no more. The receipt that comes back tells all that this one told, and counts fewer
+    /// items that all lanes together will ever send.
+    pub fn end(self, receipt: Receipt<T, J>) -> Receipt<T, J>
+        requires { receipt.inbox ≡ self.inbox }
+        ensures { result ≡ record receipt {
+          told = record receipt.told {
+            lane = self.lane;
+            sent = length self.sent;
+            most = receipt.told.most - (2 ^ 55 - length self.sent);
+          };
+        } }
+    {
+        let Lane {
+            queue,
+            mut pass,
+            inbox,
+            lane: _lane,
+            count: _count,
+            naming,
+        } = self;
+        queue.absorb::<Hears>(&mut pass, receipt.pass);
+        Receipt {
+            pass: queue.another::<Ends>(&mut pass),
+            inbox,
+            naming,
+        }
+    }
+
+    /// Sends an item. It comes back only if the inbox was full at some moment of the call, or if the lane has sent
+    /// [`MOST_SENT`] items. If the receipt tells that there is room, it does not come back.
+    pub fn send<R: Wait>(&mut self, rt: &R, item: T, receipt: Receipt<T, J>) -> Result<(), T>
+        requires { receipt.inbox ≡ self.old.inbox }
         ensures sent { OnOk result
             (self.new ≡ record self.old { sent = self.old.sent ++ item ∷ [] }) }
 
         // What comes back is the item, and then nothing was sent.
-        ensures full { OnErr result (WasFull self.old ⊎ IsSpent self.old) }
+        ensures full { OnErr result (WasFull self.old receipt ⊎ IsSpent self.old) }
+        ensures room { OnErr result (IsFullAsTold self.old receipt ⊎ IsSpent self.old) }
         ensures back { IfErr result (λ x. x ≡ item) }
         ensures same { OnErr result (self.new ≡ self.old) }
     {
         if self.count >= MOST_SENT {
             return Err(item);
         }
+        self.queue.absorb::<Hears>(&mut self.pass, receipt.pass);
         match self
             .queue
             .push_as::<Sends, R>(rt, &mut self.pass, (self.lane, item))

@@ -3,14 +3,17 @@
 //! may be of any type.
 #![tactic(auto)]
 
+mod dealer;
 mod inbox;
 mod lane;
 mod moves;
 mod naming;
+mod receipt;
 mod receiver;
 mod view;
 
 pub use inbox::{INBOX_ITEMS, Inbox, MOST_LANES};
 pub use lane::{Lane, MOST_SENT};
 pub use naming::Naming;
+pub use receipt::Receipt;
 pub use receiver::Receiver;

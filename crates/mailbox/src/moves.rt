@@ -10,12 +10,12 @@ use crossbeam_queue::{Pass, RuledArrayQueue};
 pub struct Mail;
 
 impl<T> Protocol<(u8, T), View<T>> for Mail {
-    ghost use Rattle.std.specs.Prelude.{[]};
-    ghost use Rattle.mailbox.specs.Delivery.{Delivers, receiver_view};
+    ghost use Rattle.std.specs.Prelude.{◌^◌, []};
+    ghost use Rattle.mailbox.specs.Delivery.{Delivers, nothing, receiver_view};
 
     ghost holds = { Delivers };
 
-    ghost first = { receiver_view 0 [] };
+    ghost first = { receiver_view 0 [] (2 ^ 64) (2 ^ 64) nothing };
 }
 
 pub type Queue<T> = RuledArrayQueue<(u8, T), View<T>, Mail>;
@@ -56,12 +56,22 @@ impl<T> Lesson<(u8, T), View<T>> for Takes {
 pub struct Deals;
 
 impl<T> Split<View<T>> for Deals {
-    ghost use Rattle.std.specs.Prelude.{◌+◌, []};
-    ghost use Rattle.mailbox.specs.Delivery.{lane_view};
+    ghost use Rattle.mailbox.specs.Inside.{dealing, dealt};
 
-    ghost left = { λ v. record v { lanes = v.lanes + 1 } };
+    ghost left = { dealing };
 
-    ghost right = { λ v. lane_view v.lanes [] 0 };
+    ghost right = { dealt };
+}
+
+/// The receiver makes no more lanes.
+pub struct Seals;
+
+impl<T> Split<View<T>> for Seals {
+    ghost use Rattle.mailbox.specs.Inside.{nobody, sealed};
+
+    ghost left = { sealed };
+
+    ghost right = { λ v. nobody };
 }
 
 /// A lane hands all that it knows to a pass that the receiver takes in.
@@ -73,6 +83,50 @@ impl<T> Split<View<T>> for Lends {
     ghost left = { λ v. nobody };
 
     ghost right = { λ v. v };
+}
+
+/// A lane tells what it has sent, by a pass of its own.
+pub struct LaneTells;
+
+impl<T> Split<View<T>> for LaneTells {
+    ghost use Rattle.mailbox.specs.Inside.{lane_tells};
+
+    ghost left = { λ v. v };
+
+    ghost right = { lane_tells };
+}
+
+/// The receiver tells what it has taken, by a pass of its own.
+pub struct ReceiverTells;
+
+impl<T> Split<View<T>> for ReceiverTells {
+    ghost use Rattle.mailbox.specs.Inside.{receiver_tells};
+
+    ghost left = { λ v. v };
+
+    ghost right = { receiver_tells };
+}
+
+/// A lane sends no more, and tells that.
+pub struct Ends;
+
+impl<T> Split<View<T>> for Ends {
+    ghost use Rattle.mailbox.specs.Inside.{ended, nobody};
+
+    ghost left = { λ v. nobody };
+
+    ghost right = { ended };
+}
+
+/// What a receipt tells is taken in.
+pub struct Hears;
+
+impl<T> Join<View<T>> for Hears {
+    ghost use Rattle.mailbox.specs.Inside.{heard, nobody};
+
+    ghost both = { heard };
+
+    ghost spent = { nobody };
 }
 
 /// The receiver takes in what a lane knows, compares, and gives it back.

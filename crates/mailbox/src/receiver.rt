@@ -1,15 +1,16 @@
 // The receiving end of an inbox.
 
-ghost use Rattle.std.specs.Prelude.{◌≡◌, ◌++◌, ◌∷◌, [], ◌<◌, ◌≤◌, length, take, ◌+◌, IfSome, IfNone, IfOk, OnOk, All, EachIndex, IsTrue, ◌↔◌, map, slice_index, vec_capacity};
-ghost use Rattle.mailbox.specs.Delivery.{items_of};
-ghost use Rattle.mailbox.specs.Ends.{Taker, Sender, WasEmpty, AreAllLanes, ArrivesWhole, unmet};
+ghost use Rattle.std.specs.Prelude.{◌≡◌, ◌++◌, ◌∷◌, [], ◌<◌, ◌≤◌, length, take, ◌*◌, ◌^◌, IfSome, IfNone, IfOk, OnOk, All, EachIndex, IsTrue, ◌↔◌, map, slice_index, vec_capacity};
+ghost use Rattle.mailbox.specs.Delivery.{items_of, nothing};
+ghost use Rattle.mailbox.specs.Ends.{Taker, Sender, WasEmpty, HasArrived, AreAllLanes, ArrivesWhole, unmet};
 ghost use Rattle.mailbox.specs.Inside.{TakesMore, IsTaken};
 
 use crate::inbox::INBOX_ITEMS;
 use crate::lane::Lane;
-use crate::moves::{Deals, Knowledge, Lends, Meets, Queue, Takes};
+use crate::moves::{Hears, Knowledge, Lends, Meets, Queue, ReceiverTells, Takes};
 use crate::naming::Naming;
-use std::alloc::{AllocError, Global};
+use crate::receipt::Receipt;
+use std::alloc::Global;
 use std::marker::{Model, PhantomData};
 use std::sync::{Arc, Wait};
 
@@ -78,20 +79,41 @@ impl<T: Drop, J: Naming> Receiver<T, J> {
         true
     }
 
-    /// Takes the item that came first, with the number of its lane. There is none only where the
-    /// inbox was empty at some moment of the call.
-    pub fn take<R: Wait>(&mut self, rt: &R) -> Option<(u8, T)>
+    /// Takes the item that came first, with the number of its lane. There is none only if the inbox was empty at some
+    /// moment of the call. Then every item that was sent, as the receipt tells, was taken before.
+    pub fn take<R: Wait>(&mut self, rt: &R, receipt: Receipt<T, J>) -> Option<(u8, T)>
+        requires { receipt.inbox ≡ self.old.inbox }
         ensures taken { IfSome result (λ x.
             self.new ≡ record self.old { taken = self.old.taken ++ x ∷ [] }) }
         ensures lane { IfSome result (λ x. x.0 < self.old.lanes) }
 
-        // Where nothing came, nothing was there.
-        ensures empty { IfNone result (WasEmpty self.old) }
+        // If nothing came, nothing was there: all was taken of which the receipt tells.
+        ensures empty { IfNone result (WasEmpty self.old receipt) }
+        ensures arrived { IfNone result (HasArrived receipt self.old.taken) }
         ensures same { IfNone result (self.new ≡ self.old) }
     {
+        self.queue.absorb::<Hears>(&mut self.pass, receipt.pass);
         let (lane, item) = self.queue.pop_as::<Takes, R>(rt, &mut self.pass)?;
         self.counts[usize::from(lane)] += 1;
         Some((lane, item))
+    }
+
+    /// Returns a receipt of how many items were taken so far, and that each lane sends at most 2^55.
+    pub fn receipt(&mut self) -> Receipt<T, J>
+        ensures tells { result ≡ record {
+          inbox = self.old.inbox;
+          told = record nothing {
+            taken = length self.old.taken;
+            most = self.old.lanes * 2 ^ 55;
+          };
+        } }
+        ensures same { self.new ≡ self.old }
+    {
+        Receipt {
+            pass: self.queue.another::<ReceiverTells>(&mut self.pass),
+            inbox: self.inbox,
+            naming: PhantomData,
+        }
     }
 
     /// How many items of a lane of this inbox were taken. The lane then knows it too.
@@ -112,27 +134,6 @@ impl<T: Drop, J: Naming> Receiver<T, J> {
         self.queue.learn_as::<Meets>(&mut self.pass);
         lane.pass = self.queue.another::<Meets>(&mut self.pass);
         self.counts[usize::from(lane.lane)]
-    }
-
-    // Makes the next lane, before anything was taken.
-    pub(crate) fn deal(&mut self) -> Result<Lane<T, J>, AllocError>
-        requires few { self.old.lanes < 16 }
-        requires fresh { self.old.taken ≡ [] }
-        ensures lane { IfOk result (λ l.
-            l ≡ record { inbox = self.old.inbox; lane = self.old.lanes; met = 0; sent = [] }) }
-        ensures more { OnOk result (self.new ≡ record self.old { lanes = self.old.lanes + 1 }) }
-    {
-        let queue = Arc::try_clone(&self.queue)?;
-        let lane = self.counts.len() as u8;
-        self.counts.push(0)?;
-        Ok(Lane {
-            queue,
-            pass: self.queue.another::<Deals>(&mut self.pass),
-            inbox: self.inbox,
-            lane,
-            count: 0,
-            naming: PhantomData,
-        })
     }
 
     /// Takes all that is left, once the lanes send no more: `counts` gets how many items of each
@@ -177,7 +178,8 @@ impl<T: Drop, J: Naming> Receiver<T, J> {
             if left.len() >= left.capacity() {
                 return;
             }
-            let Some(item) = self.take(rt) else {
+            let receipt = self.receipt();
+            let Some(item) = self.take(rt, receipt) else {
                 return;
             };
             if left.push(item).is_err() {

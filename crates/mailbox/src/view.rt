@@ -2,8 +2,20 @@
 
 use std::collections::LinkedList;
 
-/// What a lane, the receiver, or both while they meet, know of an inbox. It exists in proofs alone:
-/// no value of it is made.
+/// What anybody may know of an inbox. It stays true whatever happens. It exists in proofs alone: no value of it is made.
+pub struct Told {
+    /// A lane.
+    pub lane: u8,
+    /// How many items that lane has sent, at least.
+    pub sent: u64,
+    /// How many items were taken of all lanes, at least.
+    pub taken: u64,
+    /// How many items all lanes together will ever have sent, at most.
+    pub most: u64,
+}
+
+/// What a lane, the receiver, both while they meet, or a receipt know of an inbox. It exists in proofs alone: no value of
+/// it is made.
 pub struct View<T> {
     /// Whether a lane knows this.
     pub sends: bool,
@@ -19,4 +31,10 @@ pub struct View<T> {
     pub lanes: u8,
     /// What the receiver took, oldest first, each item with its lane.
     pub taken: LinkedList<(u8, T)>,
+    /// How many more items it may send, or let those lanes send that are not made yet.
+    pub may: u64,
+    /// How many items all lanes together will ever have sent, at most, as the receiver knows.
+    pub all: u64,
+    /// What it was told last.
+    pub told: Told,
 }

@@ -3,6 +3,7 @@ pub mod State
 pub use Rattle.world_base.specs.Core
 pub use Rattle.world_base.specs.Losses
 pub use Rattle.world_base.specs.Handing
+pub use Rattle.world_base.specs.Stands
 pub use Rattle.world_base.specs.Effect
 pub use Rattle.world_base.specs.Message
 pub use Rattle.world_base.specs.Command

@@ -11,5 +11,5 @@ pub use node_state::NodeState;
 pub use report::Report;
 pub use world_base::{
     Body, Command, Config, ConnectionId, Effect, Handed, Item, Members, Memory, Message, NodeCore,
-    OpeningError, Output, Piece, Port, Status,
+    OpeningError, Output, Piece, Port, Standing, Status,
 };

@@ -1,20 +1,21 @@
 // A node with its inbox.
 
-ghost use Rattle.std.specs.Prelude.{◌≡◌, ◌≤◌, ◌++◌, ◌↔◌, [], length, map, slice_index, take, true, false, All, EachIndex, IfOk, IsTrue, OnErr, OnOk};
-ghost use Rattle.mailbox.specs.Delivery.{items_of};
-ghost use Rattle.mailbox.specs.Ends.{AreAllLanes, ArrivesWhole, WasEmpty, unmet};
+ghost use Rattle.std.specs.Prelude.{◌≡◌, ◌≤◌, ◌++◌, ◌*◌, ◌^◌, ◌↔◌, [], length, map, slice_index, take, true, false, All, EachIndex, IfOk, IsTrue, OnErr, OnOk};
+ghost use Rattle.mailbox.specs.Delivery.{items_of, nothing};
+ghost use Rattle.mailbox.specs.Ends.{AreAllLanes, ArrivesWhole, HasArrived, WasEmpty, unmet};
 ghost use Rattle.world_base.specs.Replica.{status_of};
 ghost use Rattle.lists.specs.Lists.{IsPrefixOf};
+ghost use Rattle.world_base.specs.Stands.{standing_of};
 ghost use Rattle.world_base.specs.Handing.{answer_of, bytes_of, hands_over, idle_ports, listed_at};
 ghost use Rattle.node.specs.Report.{HasRoom};
 ghost use Rattle.node.specs.State.{Replays, TakesOne};
 
 use crate::naming::NodeNaming;
 use crate::report::Report;
-use mailbox::{Lane, Receiver};
+use mailbox::{Lane, Receipt, Receiver};
 use std::marker::Model;
 use std::sync::Wait;
-use world_base::{Command, Effect, Handed, Item, Memory, NodeCore, Output, Port, Status};
+use world_base::{Command, Effect, Handed, Item, Memory, NodeCore, Output, Port, Standing, Status};
 
 /// A node with the receiver of its inbox. Whatever calls come, the node is what its first state became
 /// by one step for each item that was taken, in their order.
@@ -66,9 +67,29 @@ impl<J: NodeNaming> NodeState<J> {
         self.receiver.has_all(lanes)
     }
 
-    /// Takes the item that came first and does the node's step with it: whether there was one. There is
-    /// none only where the inbox was empty at some moment of the call.
-    pub fn take_one<R: Wait>(&mut self, rt: &R, effects: &mut Vec<Effect<Command, Output>>) -> bool
+    /// Returns a receipt of how many items it took so far, and that each lane sends at most 2^55.
+    pub fn receipt(&mut self) -> Receipt<Item, J>
+        ensures tells { result ≡ record {
+          inbox = self.old.taker.inbox;
+          told = record nothing {
+            taken = length self.old.taker.taken;
+            most = self.old.taker.lanes * 2 ^ 55;
+          };
+        } }
+        ensures same { self.new ≡ self.old }
+    {
+        self.receiver.receipt()
+    }
+
+    /// Takes the item that came first and does the node's step with it. Returns whether there was one. There is none only
+    /// if the inbox was empty at some moment of the call. Then every item that was sent, as the receipt tells, was taken before.
+    pub fn take_one<R: Wait>(
+        &mut self,
+        rt: &R,
+        effects: &mut Vec<Effect<Command, Output>>,
+        receipt: Receipt<Item, J>,
+    ) -> bool
+        requires { receipt.inbox ≡ self.old.taker.inbox }
         ensures took { result ≡ true →
             TakesOne self.old self.new effects.old.items effects.new.items }
 
@@ -76,12 +97,13 @@ impl<J: NodeNaming> NodeState<J> {
         ensures replays { Replays
             (J.first_of self.old.taker.inbox) self.old.taker.taken self.old.node }
 
-        // No item waited, and nothing changed.
-        ensures empty { result ≡ false → WasEmpty self.old.taker }
+        // No item waited, and nothing changed: all was taken of which the receipt tells.
+        ensures empty { result ≡ false → WasEmpty self.old.taker receipt }
+        ensures arrived { result ≡ false → HasArrived receipt self.old.taker.taken }
         ensures same { result ≡ false → self.new ≡ self.old }
         ensures silent { result ≡ false → effects.new.items ≡ effects.old.items }
     {
-        match self.receiver.take(rt) {
+        match self.receiver.take(rt, receipt) {
             Some((_, item)) => {
                 self.core.step(item, effects);
                 true
@@ -139,6 +161,13 @@ impl<J: NodeNaming> NodeState<J> {
         ensures err { OnErr result (IsPrefixOf ports.old.items ports.new.items) }
     {
         self.core.idle_ports(ports)
+    }
+
+    /// Returns how the connection of a port stands, as [`NodeCore::standing`].
+    pub fn standing(&self, port: Port) -> Standing
+        ensures { result ≡ standing_of (listed_at port self.now.node.core) }
+    {
+        self.core.standing(port)
     }
 
     /// What the node's replica shows of itself.

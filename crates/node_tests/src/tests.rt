@@ -2,6 +2,7 @@
 
 mod connections;
 mod devices;
+mod echoing;
 mod fakes;
 mod inboxes;
 mod nodes;

@@ -37,7 +37,8 @@ impl<J: Naming> Hearer for Ear<J> {
     fn tell<R: Wait + Clock>(&mut self, rt: &R, item: Item) {
         let mut unsent = item;
         for _ in rt.forever() {
-            match self.lane.send(rt, unsent) {
+            let receipt = self.lane.receipt();
+            match self.lane.send(rt, unsent, receipt) {
                 Ok(()) => return,
                 Err(back) => unsent = back,
             }
@@ -108,13 +109,19 @@ fn ends<J: Naming, R: Wait + Clock>(
     }
 }
 
+// Takes an item, with a receipt of what the receiver itself knows.
+fn take_one<J: Naming, R: Wait>(rt: &R, receiver: &mut Receiver<Item, J>) -> Option<(u8, Item)> {
+    let receipt = receiver.receipt();
+    receiver.take(rt, receipt)
+}
+
 // Takes an item of the connection, and keeps its bytes: whether it is not the last. None where it is no such item.
 fn take<J: Naming, R: Wait>(
     rt: &R,
     receiver: &mut Receiver<Item, J>,
     came: &mut Vec<u8>,
 ) -> Option<bool> {
-    match receiver.take(rt) {
+    match take_one(rt, receiver) {
         Some((_, Item::Bytes(PORT, piece, 5))) => {
             came.extend_from_slice(piece.as_slice()).ok()?;
             Some(true)
@@ -148,10 +155,10 @@ fn tells<J: Naming, R: Wait>(
     count: usize,
 ) -> bool {
     let mut came = Vec::new(alloc);
-    let opened = matches!(receiver.take(rt), Some((_, Item::Opened(PORT, 5))));
+    let opened = matches!(take_one(rt, receiver), Some((_, Item::Opened(PORT, 5))));
     opened
         && take_all(rt, receiver, &mut came)
-        && receiver.take(rt).is_none()
+        && take_one(rt, receiver).is_none()
         && came.len() == count
         && CONNECT.starts_with(came.as_slice())
 }
@@ -220,10 +227,9 @@ fn write_all<R: Wait>(
     sink: &mut Sink,
 ) -> Option<(u64, bool)> {
     let mut left = Unwritten::from_slice(alloc, LEFT).ok()?;
-    let mut out = Vec::new(alloc);
     for times in 0..9u64 {
-        match write_out(rt, alloc, left, tap, &mut out, sink) {
-            Flow::Late(more) => left = more,
+        match write_out(rt, &mut left, tap, sink) {
+            Flow::Late => {}
             flow => return Some((times, matches!(flow, Flow::Open))),
         }
     }

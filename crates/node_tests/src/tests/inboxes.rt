@@ -32,14 +32,22 @@ enum Act<'a> {
     Settle(&'a [u64], &'a [(u8, u64)]),
 }
 
-// Sends an item: what comes back, or none without that lane.
+// Sends an item, with a receipt of what the lane itself knows: what comes back, or none without that lane.
 fn send<J: Naming, R: Wait>(
     rt: &R,
     lanes: &mut [Lane<u64, J>],
     place: usize,
     item: u64,
 ) -> Option<Result<(), u64>> {
-    Some(lanes.get_mut(place)?.send(rt, item))
+    let lane = lanes.get_mut(place)?;
+    let receipt = lane.receipt();
+    Some(lane.send(rt, item, receipt))
+}
+
+// Takes an item, with a receipt of what the receiver itself knows.
+fn take<J: Naming, R: Wait>(rt: &R, receiver: &mut Receiver<u64, J>) -> Option<(u8, u64)> {
+    let receipt = receiver.receipt();
+    receiver.take(rt, receipt)
 }
 
 // Whether an item is sent, or comes back.
@@ -97,7 +105,7 @@ fn is_right<J: Naming, R: Wait>(
         }
         Act::HandBack(place, item) => sends(rt, lanes, place, item, Err(item)),
         Act::Count(place, count) => lanes.get(place).map(Lane::count) == Some(count),
-        Act::Take(wanted) => receiver.take(rt) == wanted,
+        Act::Take(wanted) => take(rt, receiver) == wanted,
         Act::Lanes(count) => receiver.lanes() == count && lanes.len() == count,
         Act::HasAll => receiver.has_all(lanes) && lacks_one(receiver, lanes),
         Act::Settle(counts, left) => settles(rt, alloc, receiver, lanes, counts, left),
@@ -197,7 +205,7 @@ impl<J: Naming> Two<J> {
     }
 
     fn take<R: Wait>(&self, rt: &R, at: usize) -> Option<(u8, u64)> {
-        self.receivers.get(at)?.lock(rt).take(rt)
+        take(rt, &mut self.receivers.get(at)?.lock(rt))
     }
 
     fn meet<R: Wait>(&self, rt: &R, at: usize, lane_at: usize) -> Option<u64> {
@@ -272,7 +280,8 @@ fn pour<J: Naming, R: Wait>(rt: &R, lane: &mut Lane<u64, J>) {
         if item == POURED {
             return;
         }
-        if lane.send(rt, item).is_ok() {
+        let receipt = lane.receipt();
+        if lane.send(rt, item, receipt).is_ok() {
             item = item.wrapping_add(1);
         } else {
             thread::yield_now();
@@ -287,7 +296,7 @@ fn come_in_order<J: Naming, R: Wait>(rt: &R, receiver: &mut Receiver<u64, J>) ->
         if next == [POURED; 4] {
             break;
         }
-        let Some((lane, item)) = receiver.take(rt) else {
+        let Some((lane, item)) = take(rt, receiver) else {
             thread::yield_now();
             continue;
         };
@@ -299,7 +308,7 @@ fn come_in_order<J: Naming, R: Wait>(rt: &R, receiver: &mut Receiver<u64, J>) ->
         }
         *wanted = wanted.wrapping_add(1);
     }
-    receiver.take(rt).is_none()
+    take(rt, receiver).is_none()
 }
 
 fn pour_two<J: Naming + Send, R: Threads + Wait + Sync>(

@@ -65,7 +65,10 @@ fn sends<J: NodeNaming, R: Wait>(
     item: Item,
 ) -> bool {
     match lanes.get_mut(place) {
-        Some(lane) => lane.send(rt, item).is_ok(),
+        Some(lane) => {
+            let receipt = lane.receipt();
+            lane.send(rt, item, receipt).is_ok()
+        }
         None => false,
     }
 }
@@ -92,7 +95,8 @@ fn takes<J: NodeNaming, R: Wait>(
     wanted: bool,
 ) -> bool {
     let mut effects = Vec::new(alloc);
-    state.take_one(rt, &mut effects) == wanted && effects.is_empty()
+    let receipt = state.receipt();
+    state.take_one(rt, &mut effects, receipt) == wanted && effects.is_empty()
 }
 
 // How many items of a lane were taken, if it is of the node's inbox, as their numbers tell.

@@ -4,6 +4,6 @@ use Rattle.mailbox.proofs.inbox.Inbox.named.Given as goal
 
 abbrev pub invariant-loop : goal.invariant-loop
 invariant-loop g l = record {
-  receiver : l.receiver ≡ record { inbox = l.number; lanes = l.counter; taken = [] };
+  dealer : l.dealer ≡ record { inbox = l.number; lanes = l.counter; taken = [] };
   lanes : l.all.items ≡ fresh_lanes l.number l.counter;
 }

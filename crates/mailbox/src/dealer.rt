@@ -1,0 +1,85 @@
+// A receiver before it has all its lanes.
+
+ghost use Rattle.std.specs.Prelude.{◌≡◌, ◌+◌, ◌<◌, [], IfOk, OnOk};
+
+use crate::lane::Lane;
+use crate::moves::{Deals, Knowledge, Queue, Seals};
+use crate::naming::Naming;
+use crate::receiver::Receiver;
+use std::alloc::{AllocError, Global};
+use std::marker::{Model, PhantomData};
+use std::sync::Arc;
+
+/// A receiver that makes the lanes of its inbox.
+#[derive(Drop)]
+pub(crate) struct Dealer<T: Drop, J: Naming> {
+    pub(crate) queue: Arc<Queue<T>, Global>,
+    pub(crate) pass: Knowledge<T>,
+    pub(crate) inbox: u8,
+    // How many items of each lane were taken, of those that it has made: none.
+    pub(crate) counts: Vec<u64>,
+    pub(crate) naming: PhantomData<J>,
+}
+
+impl<T: Drop, J: Naming> Model for Dealer<T, J> {
+    ghost use Rattle.mailbox.specs.Ends.{Taker};
+
+    ghost Value = { Taker T };
+
+    ghost use Rattle.std.specs.Prelude.{[], length};
+    ghost use Rattle.std.specs.Arc.{arc_value};
+    ghost use Rattle.crossbeam_queue.specs.Passes.{ruled_capacity};
+    ghost use Rattle.mailbox.specs.Inside.{DealerKept};
+
+    ghost view = { λ d. record { inbox = d.inbox; lanes = length d.counts.items; taken = [] } };
+
+    ghost invariant = { λ d. DealerKept
+        (arc_value d.queue).table.shared.table_id
+        (ruled_capacity (arc_value d.queue))
+        d.pass
+        (J.inbox_of d.inbox)
+        d.counts.items };
+}
+
+impl<T: Drop, J: Naming> Dealer<T, J> {
+    /// Makes the next lane.
+    pub(crate) fn deal(&mut self) -> Result<Lane<T, J>, AllocError>
+        requires few { self.old.lanes < 64 }
+        ensures lane { IfOk result (λ l.
+            l ≡ record { inbox = self.old.inbox; lane = self.old.lanes; met = 0; sent = [] }) }
+        ensures more { OnOk result (self.new ≡ record self.old { lanes = self.old.lanes + 1 }) }
+    {
+        let queue = Arc::try_clone(&self.queue)?;
+        let lane = self.counts.len() as u8;
+        self.counts.push(0)?;
+        Ok(Lane {
+            queue,
+            pass: self.queue.another::<Deals>(&mut self.pass),
+            inbox: self.inbox,
+            lane,
+            count: 0,
+            naming: PhantomData,
+        })
+    }
+
+    /// Returns the receiver, once all lanes are made.
+    pub(crate) fn done(self) -> Receiver<T, J>
+        ensures { result ≡ self }
+    {
+        let Dealer {
+            queue,
+            mut pass,
+            inbox,
+            counts,
+            naming,
+        } = self;
+        let _spent = queue.another::<Seals>(&mut pass);
+        Receiver {
+            queue,
+            pass,
+            inbox,
+            counts,
+            naming,
+        }
+    }
+}

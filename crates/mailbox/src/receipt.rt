@@ -1,0 +1,27 @@
+// What the ends of an inbox tell each other.
+
+use crate::moves::Knowledge;
+use crate::naming::Naming;
+use std::marker::{Model, PhantomData};
+
+/// Tells how many items a lane has sent at least, how many of all lanes were taken at least, and how many these will ever
+/// send at most. Only contracts know what it tells, and no field keeps it. So whoever gets one has to look at the inbox itself.
+#[derive(Drop)]
+pub struct Receipt<T: Drop, J: Naming> {
+    pub(crate) pass: Knowledge<T>,
+    pub(crate) inbox: u8,
+    pub(crate) naming: PhantomData<J>,
+}
+
+impl<T: Drop, J: Naming> Model for Receipt<T, J> {
+    ghost use Rattle.mailbox.specs.Ends.{Receipted};
+
+    ghost Value = { Receipted };
+
+    ghost use Rattle.crossbeam_queue.specs.Passes.{view as known_by};
+    ghost use Rattle.mailbox.specs.Inside.{ReceiptKept};
+
+    ghost view = { λ r. record { inbox = r.inbox; told = (known_by r.pass).told } };
+
+    ghost invariant = { λ r. ReceiptKept r.pass (J.inbox_of r.inbox) };
+}
