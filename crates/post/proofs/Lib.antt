@@ -1,4 +1,5 @@
 mod CarriesJoin
 mod CountsStand
+mod MasterIsReachable
 mod NoneAmong
 mod TrayKept

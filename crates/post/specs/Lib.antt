@@ -1,6 +1,8 @@
 pub mod Carrying
+pub mod Given
 pub mod Laws
 pub mod Letters
+pub mod Mastering
 pub mod Numbers
 pub mod Superseding
 pub mod Waiting

@@ -5,6 +5,7 @@
 mod bell;
 mod carrier;
 mod laws;
+mod messaging_master;
 mod order_error;
 mod peer;
 mod peers;

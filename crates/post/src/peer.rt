@@ -2,14 +2,15 @@
 
 ghost use Rattle.std.specs.Prelude.{◌≡◌};
 ghost use Rattle.node.specs.Lists.{Each};
-ghost use Rattle.post.specs.Letters.{IsLeft};
+ghost use Rattle.post.specs.Letters.{IsLeft, IsPosted};
 
 use crate::bell::Bell;
+use crate::messaging_master::{Answer, MessagingMaster};
+use crate::order_error::OrderError;
 use crate::tray::Tray;
 use crate::waking::is_urgent;
-use node::{Item, Status};
+use node::{Config, Item, Memory, Status};
 use std::alloc::Global;
-use std::mem;
 use std::sync::{Mutex, Wait};
 use std::time::Duration;
 
@@ -20,10 +21,10 @@ pub struct Peer {
     pub number: u8,
     /// What the other nodes and the master have for it.
     tray: Mutex<Tray>,
-    /// Somebody asks how it stands.
-    asked: Mutex<bool>,
-    /// How it stands, once it was asked and has told.
-    told: Mutex<Option<Status>>,
+    /// How it stands since its last change; none before it is served.
+    status: Mutex<Option<Status>>,
+    /// The order to crash was left for it.
+    is_crash_ordered: Mutex<bool>,
     /// On this its own thread sleeps.
     bell: Bell,
 }
@@ -35,33 +36,98 @@ impl Peer {
         Peer {
             number,
             tray: Mutex::new(Tray::new(alloc, number)),
-            asked: Mutex::new(false),
-            told: Mutex::new(None),
+            status: Mutex::new(None),
+            is_crash_ordered: Mutex::new(false),
             bell: Bell::new(),
         }
     }
 
-    /// Leaves an item for the node, and wakes it if the item asks for that. Where there is no memory for it,
+    /// Leaves an item for the node, and wakes it if the item asks for that. Returns whether there was memory for it; if not,
     /// it is lost.
-    pub(crate) fn leave<R: Wait>(&self, rt: &R, item: Item)
-        requires { IsLeft self.now.number item }
+    pub(crate) fn leave<R: Wait>(&self, rt: &R, item: Item) -> bool
+        requires { IsPosted self.now.number item }
     {
         let urgent = is_urgent(&item);
-        self.lay(rt, item);
+        let is_left = self.lay(rt, item);
         if urgent {
             self.bell.ring(rt);
         }
+        is_left
     }
 
-    // Lays an item in the node's tray.
-    fn lay<R: Wait>(&self, rt: &R, item: Item)
-        requires { IsLeft self.now.number item }
+    /// Leaves the order to crash, unless it was left before. Returns whether it is left now. If memory runs out, it is not.
+    pub(crate) fn leave_crash<R: Wait>(&self, rt: &R) -> Result<bool, Memory> {
+        let mut is_ordered = self.is_crash_ordered.lock(rt);
+        if *is_ordered {
+            return Ok(false);
+        }
+        if !self.leave(rt, Item::Crash) {
+            return Err(Memory);
+        }
+        *is_ordered = true;
+        Ok(true)
+    }
+
+    /// Has the master give the next ballot to a configuration of which this node is the primary, and tell the node.
+    pub(crate) fn assign<R: Wait>(
+        &self,
+        rt: &R,
+        alloc: Global,
+        master: &Mutex<MessagingMaster>,
+        config: Config,
+    ) -> Result<u64, OrderError>
+        requires { config.primary ≡ self.now.number }
+    {
+        let ballot = self.assign_locked(rt, alloc, master, config);
+        self.bell.ring(rt);
+        ballot
+    }
+
+    // The same, without waking the node.
+    fn assign_locked<R: Wait>(
+        &self,
+        rt: &R,
+        alloc: Global,
+        master: &Mutex<MessagingMaster>,
+        config: Config,
+    ) -> Result<u64, OrderError>
+        requires { config.primary ≡ self.now.number }
+    {
+        let mut master = master.lock(rt);
+        let mut tray = self.tray.lock(rt);
+        // It is this node's, but of what stands behind a lock no clause tells that.
+        if tray.number() != self.number {
+            return Err(OrderError::Memory);
+        }
+        tray.assign(alloc, &mut master, config)
+    }
+
+    /// Leaves an answer of the master for the node, and wakes it. If there is no memory for it, it is lost.
+    pub(crate) fn leave_answer<R: Wait>(&self, rt: &R, answer: Answer)
+        requires { answer.receiver ≡ self.now.number }
+    {
+        self.lay_answer(rt, answer);
+        self.bell.ring(rt);
+    }
+
+    // Puts an answer of the master into the node's tray.
+    fn lay_answer<R: Wait>(&self, rt: &R, answer: Answer)
+        requires { answer.receiver ≡ self.now.number }
     {
         let mut tray = self.tray.lock(rt);
         // It is this node's, but of what stands behind a lock no clause tells that.
         if tray.number() == self.number {
-            let _ = tray.leave(item);
+            let _ = tray.leave_answer(answer);
         }
+    }
+
+    // Puts an item into the node's tray. Returns whether there was memory for it.
+    fn lay<R: Wait>(&self, rt: &R, item: Item) -> bool
+        requires { IsPosted self.now.number item }
+    {
+        let mut tray = self.tray.lock(rt);
+        // It is this node's, but of what stands behind a lock no clause tells that.
+        tray.number() == self.number && tray.leave(item)
     }
 
     /// Takes all that waits, in the order of leaving.
@@ -75,9 +141,9 @@ impl Peer {
         tray.take(alloc)
     }
 
-    /// Whether something waits for the node, or somebody asks how it stands.
+    /// Whether something waits for the node.
     pub fn is_wanted<R: Wait>(&self, rt: &R) -> bool {
-        !self.tray.lock(rt).is_empty() || *self.asked.lock(rt)
+        !self.tray.lock(rt).is_empty()
     }
 
     /// Wakes the node's own thread, if it sleeps or is about to.
@@ -97,26 +163,13 @@ impl Peer {
         self.bell.sleep(rt, time);
     }
 
-    /// Whether somebody asks how the node stands, and was not told yet. Whoever hears so tells it, behind all that
-    /// waits now.
-    pub fn is_asked<R: Wait>(&self, rt: &R) -> bool {
-        mem::replace(&mut *self.asked.lock(rt), false)
+    /// Publishes how the node stands. Whoever changes the node does so before it gives up the node's lock.
+    pub fn publish<R: Wait>(&self, rt: &R, status: Status) {
+        *self.status.lock(rt) = Some(status);
     }
 
-    /// The node tells how it stands.
-    pub fn tell<R: Wait>(&self, rt: &R, status: Status) {
-        *self.told.lock(rt) = Some(status);
-    }
-
-    /// Asks how it stands: what it told before is forgotten.
-    pub(crate) fn ask<R: Wait>(&self, rt: &R) {
-        *self.told.lock(rt) = None;
-        *self.asked.lock(rt) = true;
-        self.bell.ring(rt);
-    }
-
-    /// What it told since it was asked.
-    pub(crate) fn told<R: Wait>(&self, rt: &R) -> Option<Status> {
-        *self.told.lock(rt)
+    /// Returns how the node stood after its last change. There is none before it is served.
+    pub(crate) fn status<R: Wait>(&self, rt: &R) -> Option<Status> {
+        *self.status.lock(rt)
     }
 }

@@ -4,36 +4,37 @@ ghost use Rattle.std.specs.Prelude.{◌≡◌, IfOk, IfSome, IsErrOf, IsOk, None
 ghost use Rattle.ballot_base.specs.LawfulConfig.{is_lawful};
 ghost use Rattle.lists.specs.Lists.{has_id};
 ghost use Rattle.node.specs.Lists.{Each};
-ghost use Rattle.post.specs.Letters.{IsLeft, WasGiven};
+ghost use Rattle.node.specs.Effect.TheVariants.{To};
+ghost use Rattle.post.specs.Letters.{WasGiven};
 ghost use Rattle.post.specs.Numbers.{numbers_of};
 
 use crate::carrier::{Carrier, carry_all};
+use crate::messaging_master::{Answer, MASTER, MessagingMaster};
 use crate::order_error::OrderError;
 use crate::peer::Peer;
-use master::{Activation, AssignError, Master};
-use node::{
-    Body, Command, Config, Effect, Item, Members, Memory, Message, OpeningError, Output, Status,
-};
+use master::AssignError;
+use node::{Command, Config, Effect, Item, Members, Memory, Message, OpeningError, Output, Status};
 use std::alloc::Global;
 use std::marker::Model;
 use std::sync::{Mutex, Wait};
 use std::thread;
 use std::time::{Clock, Duration};
 
-/// The number by which nodes name the master.
-const MASTER: u8 = 0;
+/// How long a look waits for the next, in milliseconds.
+const LOOK_MILLIS: u64 = 1;
 
-/// How often a node is asked again how it stands, in milliseconds, and how many times.
-const ASK_MILLIS: u64 = 1;
+/// How many times it is looked whether a node is served.
+const LOOKS: u32 = 1_000;
 
-const ASKS: u32 = 1_000;
+/// How many times it is looked whether a node has stopped that was ordered to crash.
+const STOP_LOOKS: u32 = 40;
 
 /// The nodes that serve in one program, with what they send each other, and the master that gives
 /// ballots their configurations.
 #[derive(Drop)]
 pub struct Peers {
     nodes: Vec<Peer>,
-    master: Mutex<Master>,
+    master: Mutex<MessagingMaster>,
     alloc: Global,
 }
 
@@ -56,7 +57,7 @@ impl Peers {
             is_lawful config.now.members config.now.primary ≡ false }
     {
         let nodes = peers_of(alloc, numbers)?;
-        let Ok(master) = Master::new(Config {
+        let Ok(master) = MessagingMaster::new(Config {
             members: Members::from_slice(alloc, config.members.as_slice())?,
             primary: config.primary,
         }) else {
@@ -71,48 +72,44 @@ impl Peers {
 
     /// Gives the next ballot to a configuration, and tells its primary: the ballot. It becomes active
     /// once each of its members holds all that was agreed. `BadMembers` comes for members that no ballot
-    /// may have, and for one that is no node here.
+    /// may have, and for one that is no node here. If memory runs out, nothing changes.
     pub fn assign<R: Wait>(&self, rt: &R, config: Config) -> Result<u64, OrderError> {
         if !self.has_all(config.members.as_slice()) {
             return Err(OrderError::Refused(AssignError::BadMembers));
         }
-        let primary = config.primary;
-        let members = Members::from_slice(self.alloc, config.members.as_slice())?;
-        let mut master = self.master.lock(rt);
-        let (previous, of_previous) = master.active();
-        let previous_members = Members::from_slice(self.alloc, of_previous)?;
-        let ballot = master.assign(config).map_err(OrderError::Refused)?;
-        let body = Body::NewBallot(ballot, members, previous, previous_members);
-        self.tell_as_master(rt, primary, body);
-        Ok(ballot)
-    }
-
-    /// Crashes a node, for good: whether there is one of this number that has not stopped.
-    pub fn crash<R: Wait + Clock>(&self, rt: &R, number: u8) -> bool {
-        let is_running = match self.status(rt, number) {
-            Some(status) => !status.stopped,
-            None => false,
-        };
-        match self.node(number) {
-            Some(node) if is_running => {
-                node.leave(rt, Item::Crash);
-                true
-            }
-            _ => false,
+        match self.node(config.primary) {
+            Some(node) => node.assign(rt, self.alloc, &self.master, config),
+            None => Err(OrderError::Refused(AssignError::BadMembers)),
         }
     }
 
-    /// How a node stands, as it tells at the next look of its own thread; none where there is no node of
-    /// this number, or none that is served.
+    /// Crashes a node, for good. Returns whether there is a node of this number that has not stopped, and was not ordered to
+    /// crash before. The order is left for the node, and then some time is given to the node to obey. If memory runs out, the
+    /// node is not crashed.
+    pub fn crash<R: Wait + Clock>(&self, rt: &R, number: u8) -> Result<bool, Memory> {
+        let Some(node) = self.node(number) else {
+            return Ok(false);
+        };
+        let Some(status) = self.status(rt, number) else {
+            return Ok(false);
+        };
+        if status.stopped || !node.leave_crash(rt)? {
+            return Ok(false);
+        }
+        await_stop(rt, node);
+        Ok(true)
+    }
+
+    /// Returns how a node stands since its last change. There is none if no node has this number, or if it is not served
+    /// within a second.
     pub fn status<R: Wait + Clock>(&self, rt: &R, number: u8) -> Option<Status> {
         let node = self.node(number)?;
-        node.ask(rt);
-        for _ in 0..ASKS {
-            let told = node.told(rt);
-            if told.is_some() {
-                return told;
+        for _ in 0..LOOKS {
+            let status = node.status(rt);
+            if status.is_some() {
+                return status;
             }
-            thread::sleep(rt, Duration::from_millis(ASK_MILLIS));
+            thread::sleep(rt, Duration::from_millis(LOOK_MILLIS));
         }
         None
     }
@@ -137,29 +134,41 @@ impl Peers {
         carry_all(rt, &mut Round { peers: self }, effects);
     }
 
-    // Leaves a message for a node.
+    // Leaves a message that a step of a node gave for a node.
     fn leave<R: Wait>(&self, rt: &R, number: u8, message: Message<Command>)
-        requires { IsLeft number (Item.Peer message) }
+        requires { WasGiven (To number message) }
     {
         if let Some(node) = self.node(number) {
-            node.leave(rt, Item::Peer(message));
+            // Where there is no memory for it, it is lost, as the protocol allows.
+            let _ = node.leave(rt, Item::Peer(message));
         }
     }
 
-    // A primary asks for its ballot to become the active one.
-    fn ask_master<R: Wait>(&self, rt: &R, message: Message<Command>) {
-        let Body::Activate(ballot) = message.body else {
-            return;
-        };
-        let body = match self.master.lock(rt).activate(ballot) {
-            Activation::Activated => Body::Activated(ballot),
-            Activation::Superseded => Body::Superseded(ballot),
-        };
-        self.tell_as_master(rt, message.from, body);
+    // Has the master answer a message that a step of a node gave for it.
+    fn ask_master<R: Wait>(&self, rt: &R, message: Message<Command>)
+        requires { WasGiven (To 0 message) }
+    {
+        let answer = self.master.lock(rt).answer(message);
+        if let Some(answer) = answer {
+            self.leave_answer(rt, answer);
+        }
     }
 
-    fn tell_as_master<R: Wait>(&self, rt: &R, number: u8, body: Body<Command>) {
-        self.leave(rt, number, Message { from: MASTER, body });
+    // Leaves an answer of the master for its receiver.
+    fn leave_answer<R: Wait>(&self, rt: &R, answer: Answer) {
+        if let Some(node) = self.node(answer.receiver()) {
+            node.leave_answer(rt, answer);
+        }
+    }
+}
+
+// Waits until a node has stopped, but not for long.
+fn await_stop<R: Wait + Clock>(rt: &R, node: &Peer) {
+    for _ in 0..STOP_LOOKS {
+        if matches!(node.status(rt), Some(status) if status.stopped) {
+            return;
+        }
+        thread::sleep(rt, Duration::from_millis(LOOK_MILLIS));
     }
 }
 

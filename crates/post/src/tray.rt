@@ -1,12 +1,20 @@
 // What waits for a node.
 
-ghost use Rattle.std.specs.Prelude.{◌≡◌, ◌↔◌, ◌++◌, ◌∷◌, [], true, false};
+ghost use Rattle.std.specs.Prelude.{◌≡◌, ◌↔◌, ◌+◌, ◌++◌, ◌∷◌, [], None, Some, true, false, IfOk, IsErrOf, OnErr, OnOk};
+ghost use Rattle.agreement.specs.MasterState.{assigned, refusal};
+ghost use Rattle.agreement.specs.MasterState.AssignRefusal.{bad_members, ballots_spent};
+ghost use Rattle.node.specs.Command.{Command};
 ghost use Rattle.node.specs.Lists.{Each};
-ghost use Rattle.post.specs.Letters.{IsLeft};
+ghost use Rattle.node.specs.declared.Item.TheVariants.{Peer};
+ghost use Rattle.post.specs.Letters.{IsLeft, IsPosted};
+ghost use Rattle.post.specs.Mastering.{letter_of};
 ghost use Rattle.post.specs.Superseding.{newest, still_waiting, supersedes_one};
 
+use crate::messaging_master::{Answer, MessagingMaster};
+use crate::order_error::OrderError;
 use crate::superseding::supersedes;
-use node::Item;
+use master::AssignError;
+use node::{Config, Item};
 use std::alloc::Global;
 use std::marker::Model;
 use std::mem;
@@ -59,6 +67,66 @@ impl Tray {
     /// Leaves an item behind all that waits, in the place of the newest where it supersedes that one: whether there was
     /// memory for it. Where not, it is lost.
     pub(crate) fn leave(&mut self, item: Item) -> bool
+        requires { IsPosted self.old.number item }
+        ensures left { result ≡ true →
+            self.new ≡ record self.old { items = still_waiting item self.old.items ++ item ∷ [] } }
+        ensures lost { result ≡ false →
+            self.new ≡ record self.old { items = still_waiting item self.old.items } }
+    {
+        self.push(item)
+    }
+
+    /// Leaves an answer of the master after all that waits. Returns whether there was memory for it; if not, it is lost.
+    pub(crate) fn leave_answer(&mut self, answer: Answer) -> bool
+        requires { answer.receiver ≡ self.old.number }
+        ensures left { result ≡ true →
+            self.new ≡ record self.old {
+              items = still_waiting (Peer answer.message) self.old.items ++ Peer answer.message ∷ [];
+            } }
+        ensures lost { result ≡ false →
+            self.new ≡ record self.old { items = still_waiting (Peer answer.message) self.old.items } }
+    {
+        self.push(Item::Peer(answer.into_message()))
+    }
+
+    /// Has the master give the next ballot to a configuration of which this node is the primary, and leaves what it tells the
+    /// node. Room for that is made first, so an order that is answered is not dropped. Returns the ballot.
+    pub(crate) fn assign(
+        &mut self,
+        alloc: Global,
+        master: &mut MessagingMaster,
+        config: Config,
+    ) -> Result<u64, OrderError>
+        requires { config.primary ≡ self.old.number }
+        ensures ballot { IfOk result (λ ballot. ballot ≡ master.old.given + 1) }
+        ensures left { OnOk result (self.new ≡ record self.old {
+          items = self.old.items
+              ++ Peer (letter_of (assigned Command master.old config)).message ∷ [];
+        }) }
+        ensures state { OnOk result (master.new ≡ (assigned Command master.old config).state) }
+        ensures taken { OnOk result (refusal master.old config ≡ None) }
+        ensures bad { IsErrOf result (OrderError.Refused AssignError.BadMembers)
+            → refusal master.old config ≡ Some bad_members }
+        ensures spent { IsErrOf result (OrderError.Refused AssignError.BallotsSpent)
+            → refusal master.old config ≡ Some ballots_spent }
+
+        // If it is refused, or memory runs out, nothing changes.
+        ensures same { OnErr result (self.new ≡ self.old) }
+        ensures master { OnErr result (master.new ≡ master.old) }
+    {
+        if self.items.reserve(1).is_err() {
+            return Err(OrderError::Memory);
+        }
+        let (ballot, answer) = master.assign(alloc, config)?;
+        if self.items.push(Item::Peer(answer.into_message())).is_err() {
+            unreachable!()
+        }
+        Ok(ballot)
+    }
+
+    // Leaves an item after all that waits, in place of the newest if it supersedes that one. Returns whether there was
+    // memory for it.
+    fn push(&mut self, item: Item) -> bool
         requires { IsLeft self.old.number item }
         ensures left { result ≡ true →
             self.new ≡ record self.old { items = still_waiting item self.old.items ++ item ∷ [] } }

@@ -1,0 +1,41 @@
+-- What a step of a node gave for others.
+use Rattle.std.specs.Prelude.{◌≡◌, ℕ, List}
+use Rattle.node.specs.Command.{Command}
+use Rattle.node.specs.Output.{Output}
+use Rattle.node.specs.Effect.{Effect}
+use Rattle.node.specs.declared.Config.{Config}
+use Rattle.node.specs.declared.Item.{Item}
+use Rattle.node.specs.Core.{CountedCore, opening_core}
+use Rattle.node.specs.Losses.{Stepped}
+use Rattle.node.specs.Lists.{In}
+use Rattle.node.specs.State.{Replays}
+
+-- a node as it opens, under some number in some configuration of ballot 1
+pub record Opens (core : CountedCore) : Type 0 where
+  pub number : ℕ
+  pub config : Config
+  pub is : core ≡ record { core = opening_core number config; losses = 0 }
+
+-- whatever its inbox's number, a node began as one that opens
+abbrev pub EachOpens : (ℕ → CountedCore) → Type 0
+EachOpens first_of = (inbox : ℕ) → ∥ Opens (first_of inbox) ∥₁
+
+-- whatever its inbox's number, the node began as the node of this number in this configuration of ballot 1
+abbrev pub EachOpensAs : ℕ → Config → (ℕ → CountedCore) → Type 0
+EachOpensAs number config first_of =
+    (inbox : ℕ) → first_of inbox ≡ record { core = opening_core number config; losses = 0 }
+
+-- A step of a node gave this. Before that step the node was what it became, from its opening on, by one step for each item
+-- that it took.
+pub record WasGiven (effect : Effect Command Output) : Type 0 where
+  pub first : CountedCore
+  pub opens : ∥ Opens first ∥₁
+  pub history : List (ℕ × Item)
+  pub core : CountedCore
+  pub replays : Replays first history core
+  pub item : Item
+  pub next : CountedCore
+  pub before : List (Effect Command Output)
+  pub behind : List (Effect Command Output)
+  pub step : Stepped core item next before behind
+  pub gives : In effect step.given

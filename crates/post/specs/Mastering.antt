@@ -1,0 +1,61 @@
+-- What the master of a program answers, and which states it comes to.
+use Rattle.std.specs.Prelude.{◌≡◌, ℕ, Option, Some, None}
+use Rattle.agreement.specs.MasterState.{MasterOutcome, MasterState, activated, assigned, opening_master, refusal}
+use Rattle.master.specs.declared.activation.Activation.{Activation}
+use Rattle.master.specs.declared.activation.Activation.TheVariants as activation
+use Rattle.node.specs.Command.{Command}
+use Rattle.node.specs.Message.{Message}
+use Rattle.node.specs.declared.Body.{Body}
+use Rattle.node.specs.declared.Body.TheVariants.{Activate, Activated, Superseded}
+use Rattle.node.specs.declared.Config.{Config}
+use Rattle.node.specs.Effect.TheVariants.{To}
+use Rattle.post.specs.Carrying.{Letter}
+use Rattle.post.specs.Given.{WasGiven}
+
+-- what a primary is told about its ballot
+abbrev pub body_of : Activation → ℕ → Body Command
+body_of activation.Activated ballot = Activated ballot
+body_of activation.Superseded ballot = Superseded ballot
+
+-- what it answers to a message of a node: only an Activate gets an answer
+abbrev pub answer_to : MasterState → ℕ → Body Command → Option (MasterOutcome Command)
+answer_to master from (Activate ballot) = Some (activated Command master ballot from master.waiting)
+answer_to master from _ = None
+
+-- its state afterwards
+abbrev pub master_after : MasterState → Option (MasterOutcome Command) → MasterState
+master_after master (Some outcome) = outcome.state
+master_after master None = master
+
+-- the message that tells an outcome, with its receiver; 0 is the master's own number
+abbrev pub letter_of : MasterOutcome Command → Letter
+letter_of outcome = record {
+  receiver = outcome.receiver;
+  message = record { from = 0; body = outcome.body };
+}
+
+abbrev pub letter_if : Option (MasterOutcome Command) → Option Letter
+letter_if (Some outcome) = Some (letter_of outcome)
+letter_if None = None
+
+-- what it answers, and why: an order that it does not refuse, or an Activate that a step of a node gave for it
+pub data Answers (master : MasterState) : MasterOutcome Command → Type 0 where
+  to_order : (config : Config) → refusal master config ≡ None → Answers master (assigned Command master config)
+  to_node : (asked : Message Command) (ballot : ℕ)
+      → WasGiven (To 0 asked) → asked.body ≡ Activate ballot
+      → Answers master (activated Command master ballot asked.from master.waiting)
+
+-- the states that it comes to, from its opening on, by one answer after the other
+pub data IsReachable : MasterState → Type 0 where
+  opens : (config : Config) → IsReachable (opening_master config)
+  answers : {master : MasterState} (outcome : MasterOutcome Command)
+      → IsReachable master → Answers master outcome
+      → IsReachable outcome.state
+
+-- this message is an answer of the master to the node of this number
+pub record WasAnswered (receiver : ℕ) (message : Message Command) : Type 0 where
+  pub master : MasterState
+  pub reachable : IsReachable master
+  pub outcome : MasterOutcome Command
+  pub answers : Answers master outcome
+  pub is : record { receiver = receiver; message = message } ≡ letter_of outcome
