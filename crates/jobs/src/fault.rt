@@ -4,9 +4,8 @@ ghost use Rattle.std.specs.Prelude.{◌≡◌};
 ghost use Rattle.jobs.specs.Faults.{status_of};
 
 use command_line::TableFault;
-use node::Memory;
 use play::PlayError;
-use server::ServeError;
+use server::{Memory, ServeError};
 use std::alloc::{AllocError, AllocFailed};
 use std::io::ErrorKind;
 use thiserror::Error;

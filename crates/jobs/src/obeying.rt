@@ -1,8 +1,8 @@
 // Orders to the nodes of a server: lines of its input.
 
+use crate::fault::Fault;
 use command_line::ListeningNode;
-use node::{Config, Members, Status};
-use server::{OrderError, Peers};
+use server::{Config, Members, OrderError, Peers, Status};
 use std::alloc::Global;
 use std::io::{BufRead, ErrorKind, Write};
 use std::sync::Wait;
@@ -27,63 +27,87 @@ const NO_ORDER: u8 = 24;
 /// The refusal for want of memory.
 const NO_MEMORY: u8 = 12;
 
-/// Obeys the lines of the input to its end or to `quit`, and answers each.
+/// Obeys the lines of the input to its end or to `quit`, and answers each. The only fault is an input that cannot be read.
 pub(crate) fn obey<R, I, O>(
     rt: &R,
     peers: &Peers,
     nodes: &[ListeningNode],
     input: &mut I,
     output: &mut O,
-)
+) -> Result<(), Fault>
 where
     R: AllocGlobal + Wait + Clock,
     I: BufRead,
     O: Write,
 {
     for _ in rt.forever() {
-        let mut line = String::new(rt.alloc());
-        match input.read_line(&mut line) {
-            Ok(0) => return,
-            Ok(_) => match order_of(rt.alloc(), line.as_str().trim_end_matches('\n')) {
-                Some(Order::Quit) => return,
-                Some(order) => answer(rt, peers, nodes, order, output),
-                None => refuse(output, NO_ORDER),
-            },
-            Err(error) if error.kind() == ErrorKind::InvalidData => refuse(output, NO_ORDER),
-            Err(_) => return,
+        match next_order(rt.alloc(), input)? {
+            Ok(Order::Quit) => return Ok(()),
+            Ok(order) => answer(rt, peers, nodes, order, output),
+            Err(number) => refuse(output, number),
         }
         let _ = output.flush();
     }
+    unreachable!()
 }
 
-// What a line orders, if anything.
-fn order_of(alloc: Global, line: &str) -> Option<Order> {
+// What the next line orders, or the number by which it is refused. The end of the input orders to quit.
+fn next_order<I: BufRead>(alloc: Global, input: &mut I) -> Result<Result<Order, u8>, Fault> {
+    let mut line = String::new(alloc);
+    match input.read_line(&mut line) {
+        Ok(0) => Ok(Ok(Order::Quit)),
+        Ok(_) => Ok(order_of(alloc, line.as_str().trim_end_matches('\n'))),
+        Err(error) => match error.kind() {
+            ErrorKind::InvalidData => Ok(Err(NO_ORDER)),
+            ErrorKind::OutOfMemory => {
+                // The rest of the line is no order.
+                input.skip_until(b'\n').ok().ok_or(Fault::Input)?;
+                Ok(Err(NO_MEMORY))
+            }
+            _ => Err(Fault::Input),
+        },
+    }
+}
+
+// What a line orders, or the number by which it is refused.
+fn order_of(alloc: Global, line: &str) -> Result<Order, u8> {
     let mut words = line.split(' ');
     match (words.next(), words.next(), words.next(), words.next()) {
-        (Some("quit"), None, None, None) => Some(Order::Quit),
-        (Some("status"), None, None, None) => Some(Order::Status),
-        (Some("crash"), Some(node), None, None) => Some(Order::Crash(number_of(node)?)),
-        (Some("assign"), Some(members), Some(primary), None) => Some(Order::Assign(Config {
+        (Some("quit"), None, None, None) => Ok(Order::Quit),
+        (Some("status"), None, None, None) => Ok(Order::Status),
+        (Some("crash"), Some(node), None, None) => Ok(Order::Crash(number_of(node)?)),
+        (Some("assign"), Some(members), Some(primary), None) => Ok(Order::Assign(Config {
             members: members_of(alloc, members)?,
             primary: number_of(primary)?,
         })),
-        _ => None,
+        _ => Err(NO_ORDER),
     }
 }
 
-// A number, of which those above 255 are as 255: no node has them.
-fn number_of(word: &str) -> Option<u8> {
-    let number = word.parse::<u64>().ok()?;
-    Some(u8::try_from(number).unwrap_or(u8::MAX))
+// A number, of which those above 255 are as 255: no node has them. A sign is no part of one.
+fn number_of(word: &str) -> Result<u8, u8> {
+    if word.starts_with('+') {
+        return Err(NO_ORDER);
+    }
+    match word.parse::<u64>() {
+        Ok(number) => Ok(u8::try_from(number).unwrap_or(u8::MAX)),
+        Err(_) => Err(NO_ORDER),
+    }
 }
 
 // Numbers with commas between them.
-fn members_of(alloc: Global, word: &str) -> Option<Members> {
+fn members_of(alloc: Global, word: &str) -> Result<Members, u8> {
     let mut numbers = Vec::new(alloc);
     for part in word.split(',') {
-        numbers.push(number_of(part)?).ok()?;
+        let number = number_of(part)?;
+        if numbers.push(number).is_err() {
+            return Err(NO_MEMORY);
+        }
     }
-    Members::from_slice(alloc, numbers.as_slice()).ok()
+    match Members::from_slice(alloc, numbers.as_slice()) {
+        Ok(members) => Ok(members),
+        Err(_) => Err(NO_MEMORY),
+    }
 }
 
 // Does an order and says what came of it. Clients are served also where nobody can be told.
@@ -102,13 +126,13 @@ where
             Err(OrderError::Refused(error)) => refuse(output, error.number()),
             Err(OrderError::Memory) => refuse(output, NO_MEMORY),
         },
-        Order::Crash(number) => {
-            if peers.crash(rt, number) {
+        Order::Crash(number) => match peers.crash(rt, number) {
+            Ok(true) => {
                 let _ = writeln!(output, "crashed {number}");
-            } else {
-                refuse(output, NO_ORDER);
             }
-        }
+            Ok(false) => refuse(output, NO_ORDER),
+            Err(_) => refuse(output, NO_MEMORY),
+        },
     }
 }
 

@@ -34,7 +34,8 @@ where
 }
 
 /// Serves clients as a table of nodes says, and obeys the lines of the input, until its end or the line
-/// `quit`. Where each node listens is told on `faults`, which is standard error.
+/// `quit`. Where each node listens is told on `faults`, which is standard error, and so is a listener that other machines may
+/// reach. An input that cannot be read ends it with that fault.
 pub fn serve_table<R, I, O, E>(
     rt: &R,
     text: &str,
@@ -53,8 +54,8 @@ where
     let nodes = read.nodes.as_slice();
     let places = listen_all(rt, nodes, faults)?;
     serve_while(rt, rt.alloc(), places.as_slice(), &read.config, |peers| {
-        obey(rt, peers, nodes, input, output);
-    })?;
+        obey(rt, peers, nodes, input, output)
+    })??;
     writeln!(output, "bye").ok().ok_or(Fault::Output)
 }
 
@@ -88,9 +89,16 @@ where
     }
 }
 
-// Tells where a node listens. Clients are served also where nobody can be told.
+// Tells where a node listens, and whether others than this machine may reach it. Clients are served also where nobody can
+// be told.
 fn tell<E: Write>(place: &Place, id: u8, faults: &mut E) {
     if let Ok(address) = place.address() {
         let _ = writeln!(faults, "node {id} listens on {address}");
+        if !address.ip().is_loopback() {
+            let _ = writeln!(
+                faults,
+                "node {id} is not on a loopback address: whoever reaches it can publish"
+            );
+        }
     }
 }

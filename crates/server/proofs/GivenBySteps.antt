@@ -4,16 +4,22 @@ use Rattle.node.specs.Command.{Command}
 use Rattle.node.specs.Output.{Output}
 use Rattle.node.specs.Effect.{Effect}
 use Rattle.node.specs.Core.{CountedCore}
+use Rattle.node.specs.declared.Config.{Config}
 use Rattle.node.specs.Lists.{Each, In}
 use Rattle.node.specs.Lists.In.{here, there}
 use Rattle.node.specs.State.{Replays, Seen, TakesOne}
 use Rattle.lists.proofs.OfEach.{each_append}
-use Rattle.post.specs.Letters.{EachOpens, WasGiven}
+use Rattle.post.specs.Letters.{EachOpens, EachOpensAs, WasGiven}
 
 -- what holds of whatever stands in a list holds of each
 each_in : {X : Type 0} (P : X → Type 0) (xs : List X) → ((x : X) → In x xs → P x) → Each P xs
 each_in P [] f = tt
 each_in P (x ∷ xs) f = (f x here, each_in P xs (λ y i. f y (there i)))
+
+-- a node that began as the one of a number began as one that opens
+pub each_opens : (number : ℕ) (config : Config) (first_of : ℕ → CountedCore)
+    → EachOpensAs number config first_of → EachOpens first_of
+each_opens number config first_of opens = λ inbox. ∣ record { number = number; config = config; is = opens inbox } ∣₁
 
 pub given_more : (first_of : ℕ → CountedCore) (old new : Seen) (before behind : List (Effect Command Output))
     → EachOpens first_of → Replays (first_of old.taker.inbox) old.taker.taken old.node

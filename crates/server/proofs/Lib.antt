@@ -1,3 +1,4 @@
+mod AllMet
 mod GivenBySteps
 mod HandedOver
 mod OwnSendsJoin

@@ -1,3 +1,4 @@
+pub mod Closing
 pub mod Laws
 pub mod Refusals
 pub mod Serving

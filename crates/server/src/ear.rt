@@ -7,7 +7,7 @@ use crate::served::Served;
 use crate::shared::Shared;
 use connection::Hearer;
 use mailbox::Lane;
-use node::{Gate, Item, NodeNaming};
+use node::{Gate, Item, NodeNaming, Standing};
 use std::alloc::Global;
 use std::sync::{Arc, Wait};
 use std::time::Clock;
@@ -34,14 +34,16 @@ impl<'e, 'a, J: NodeNaming, S: Served<J>, G: Gate> Hearer for Ear<'e, 'a, J, S, 
         shared.send(rt, &mut self.lane, item, place);
     }
 
-    // A port of which the node has not heard yet is one that it closed, so a link is listed behind that.
+    // A port of which the node has not heard yet is one that it closed, so a link is listed after that. One that the node
+    // did not take, since it is no primary, is not read.
     fn lets_in<R: Wait>(&self, rt: &R) -> bool {
         let Ok(link) = Arc::try_clone(self.link) else {
             return false;
         };
         let shared = self.shared;
+        let standing = shared.node.lock(rt).state().standing(self.link.port);
         let door = &shared.seat.place.door;
         door.list(rt, link);
-        !door.is_closed(rt)
+        standing != Standing::Closed && !door.is_closed(rt)
     }
 }

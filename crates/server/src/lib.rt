@@ -6,6 +6,7 @@
 
 mod door;
 mod ear;
+mod late_writer;
 mod laws;
 mod link;
 mod listening;
@@ -25,6 +26,7 @@ mod writing;
 
 pub use laws::ports_differ;
 pub use listening::{serve_gated, serve_while};
+pub use node::{Config, Gate, Members, Memory, Status};
 pub use node_report::NodeReport;
 pub use place::{CONNECTIONS, Place};
 pub use post::{OrderError, Peers};

@@ -32,6 +32,8 @@ pub(crate) struct Link {
     pub(crate) port: Port,
     /// Its place at the door.
     pub(crate) place: usize,
+    /// When it was accepted.
+    pub(crate) opened: u64,
     pub(crate) stream: TcpStream,
     case: Mutex<PenCase>,
 }
@@ -44,12 +46,19 @@ pub(crate) struct Late {
 }
 
 impl Link {
-    pub(crate) fn new(alloc: Global, port: Port, place: usize, stream: TcpStream) -> Link
+    pub(crate) fn new(
+        alloc: Global,
+        port: Port,
+        place: usize,
+        opened: u64,
+        stream: TcpStream,
+    ) -> Link
         ensures { result.port ≡ port }
     {
         Link {
             port,
             place,
+            opened,
             stream,
             case: Mutex::new(PenCase {
                 pen: Some(Pen {

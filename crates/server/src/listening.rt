@@ -1,7 +1,7 @@
 // The nodes that serve, and the threads of each.
 
 ghost use Rattle.std.specs.Prelude.{◌≡◌};
-ghost use Rattle.post.specs.Letters.{EachOpens};
+ghost use Rattle.post.specs.Letters.{EachOpensAs};
 
 use crate::node_report::NodeReport;
 use crate::outcome::Outcome;
@@ -22,7 +22,7 @@ use std::marker::{Brand, PhantomData};
 use std::net::{Net, TcpStream};
 use std::sync::{Mutex, Wait};
 use std::thread;
-use std::thread::Threads;
+use std::thread::{Parker, Threads};
 use std::time::{Clock, Instant};
 
 /// Serves the clients of several nodes, each at its place, while `attend` runs beside it with the nodes in
@@ -132,33 +132,40 @@ fn serve<G: Gate + Sync, R: Threads + Wait + Clock + Sync>(
     let Ok(inbox) = Inbox::new(alloc) else {
         return Err(ServeError::Memory);
     };
-    let report = serve_named::<Brand, G, R>(rt, alloc, seat, inbox, core, gate)?;
+    let report = serve_named::<Brand, G, R>(rt, alloc, seat, config, inbox, core, gate)?;
     Ok(NodeReport { number, report })
 }
 
-// The same by an inbox whose number names it, with the node, for all threads.
+// The same by an inbox whose number names it, with the node, for all threads. The node opened as the one of its place's
+// number in the configuration.
 fn serve_named<J: NodeNaming + Send + Sync, G: Gate + Sync, R: Threads + Wait + Clock + Sync>(
     rt: &R,
     alloc: Global,
     seat: Seat<'_>,
+    config: &Config,
     inbox: Inbox<Item>,
     core: NodeCore,
     gate: &G,
 ) -> Result<Report, Memory>
     requires named { inbox ≡ J.inbox_of 1 }
     requires first { core ≡ J.first_of 1 }
-    requires opens { EachOpens J.first_of }
+    requires opens { EachOpensAs seat.place.now.number config.now J.first_of }
 {
     let (receiver, lanes) = inbox.named::<J>(1, LANES)?;
     let room = Report::with_room(alloc, lanes.len())?;
     let mut back = Vec::with_capacity(alloc, lanes.len())?;
+    seat.node.publish(rt, core.status());
     let mut desks: Vec<Desk<J>> = lanes.into_iter().map(Some).collect(alloc)?;
+    // The desk of the thread that goes on with full sockets has no lane.
+    desks.push(None)?;
     let shared = Shared {
         alloc,
         node: Mutex::new(NodeState::new(receiver, core)),
         passage: Passage::new(gate, seat.place.number),
         seat,
+        config,
         late: Mutex::new(Vec::with_capacity(alloc, usize::from(CONNECTIONS))?),
+        late_waker: Parker::new(),
         naming: PhantomData,
     };
     run_state(rt, &shared, desks.as_mut_slice());

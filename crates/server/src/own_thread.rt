@@ -1,20 +1,26 @@
-// The node's own thread: it takes what other nodes have for it, tells the time, and writes what full
-// sockets did not take.
+// The node's own thread: it takes what other nodes have for it, tells the time, and ends connections whose first packet does not
+// come.
 
+ghost use Rattle.std.specs.Prelude.{◌≡◌};
 ghost use Rattle.post.specs.Letters.{IsLeft};
+ghost use Rattle.server.specs.Closing.{is_overdue};
 ghost use Rattle.server.specs.Serving.{SendsOwn};
 
-use crate::link::Late;
+use crate::link::Link;
+use crate::place::CONNECTIONS;
 use crate::served::Served;
 use crate::shared::Shared;
 use mailbox::Lane;
-use node::{Gate, Item, NodeNaming};
+use node::{Gate, Item, NodeNaming, Standing};
+use std::hint;
 use std::sync::Wait;
 use std::time::{Clock, Duration};
-use std::{hint, mem, thread};
 
 /// How often the node is told the time, in milliseconds.
 const TICK: u64 = 200;
+
+/// How long the first packet of a connection may take, in milliseconds.
+const FIRST_PACKET: u64 = 10_000;
 
 /// How often the thread looks for what comes before it sleeps, and how many steps it waits between two looks: all in all
 /// for about as long as it takes to wake a thread.
@@ -33,16 +39,9 @@ impl<'a, J: NodeNaming, S: Served<J>, G: Gate> Shared<'a, J, S, G> {
             if self.seat.place.door.is_closed(rt) {
                 return lane;
             }
-            let asked = self.seat.node.is_asked(rt);
             self.take_letters(rt, &mut lane);
             told = self.tick(rt, &mut lane, told);
-            if asked {
-                let status = self.node.lock(rt).state().status();
-                self.seat.node.tell(rt, status);
-            }
-            if !self.write_late(rt) {
-                self.rest(rt);
-            }
+            self.rest(rt);
         }
         unreachable!()
     }
@@ -56,7 +55,28 @@ impl<'a, J: NodeNaming, S: Served<J>, G: Gate> Shared<'a, J, S, G> {
             return told;
         }
         self.send(rt, lane, Item::Tick(now), 0);
+        self.end_overdue(rt, now);
         now
+    }
+
+    // Ends the connections whose first packet did not come in time.
+    fn end_overdue<R: Wait>(&self, rt: &R, now: u64) {
+        let mut place = 0;
+        for _ in 0..CONNECTIONS {
+            let Some((next, link)) = self.seat.place.door.link_from(rt, place) else {
+                return;
+            };
+            if self.awaits_too_long(rt, &link, now) {
+                link.shut();
+            }
+            place = next;
+        }
+    }
+
+    // Whether the first packet of a connection did not come in time.
+    fn awaits_too_long<R: Wait>(&self, rt: &R, link: &Link, now: u64) -> bool {
+        let standing = self.node.lock(rt).state().standing(link.port);
+        is_overdue(standing, link.opened, now)
     }
 
     // Takes all that other nodes and the master have for the node, and then what the inbox holds.
@@ -70,7 +90,7 @@ impl<'a, J: NodeNaming, S: Served<J>, G: Gate> Shared<'a, J, S, G> {
         for item in items {
             self.put_letter(rt, lane, item);
         }
-        self.turn(rt, 0);
+        self.turn(rt, lane, 0);
     }
 
     // Sends what was left for the node by its lane.
@@ -87,7 +107,7 @@ impl<'a, J: NodeNaming, S: Served<J>, G: Gate> Shared<'a, J, S, G> {
             return;
         }
         let is_wanted = self.seat.node.doze(rt) || self.seat.place.door.is_closed(rt);
-        if !is_wanted && self.late.lock(rt).is_empty() {
+        if !is_wanted {
             self.seat.node.sleep(rt, Duration::from_millis(TICK));
         }
     }
@@ -102,19 +122,13 @@ impl<'a, J: NodeNaming, S: Served<J>, G: Gate> Shared<'a, J, S, G> {
         }
         false
     }
+}
 
-    // Goes over the connections whose sockets were full: whether there are still some.
-    fn write_late<R: Wait>(&self, rt: &R) -> bool {
-        let left = mem::replace(&mut *self.late.lock(rt), Vec::new(self.alloc));
-        let mut late = false;
-        for Late { link, pen } in left {
-            if let Some(pen) = self.write(rt, &link, pen) {
-                late = true;
-                self.leave_late(rt, &link, pen);
-            }
-        }
-        late
-    }
+// Whether the first packet of a connection that was accepted at a time is awaited too long.
+fn is_overdue(standing: Standing, opened: u64, now: u64) -> bool
+    ensures { result ≡ is_overdue standing opened now }
+{
+    standing == Standing::Awaits && now.saturating_sub(opened) > FIRST_PACKET
 }
 
 // Waits for less than a microsecond.

@@ -57,7 +57,7 @@ impl<'a, J: NodeNaming, S: Served<J>, G: Gate> Shared<'a, J, S, G> {
         let Some(place) = door.take_place(rt) else {
             return lane;
         };
-        let lane = match self.link(port, place, stream) {
+        let lane = match self.link(rt, port, place, stream) {
             Some(link) => self.serve_link(rt, lane, link),
             None => lane,
         };
@@ -66,14 +66,25 @@ impl<'a, J: NodeNaming, S: Served<J>, G: Gate> Shared<'a, J, S, G> {
     }
 
     // The connection of a stream. Its bytes leave at once, and a write does not wait for long.
-    fn link(&self, port: Port, place: usize, stream: TcpStream) -> Option<Arc<Link, Global>>
+    fn link<R: Clock>(
+        &self,
+        rt: &R,
+        port: Port,
+        place: usize,
+        stream: TcpStream,
+    ) -> Option<Arc<Link, Global>>
         ensures { IfSome result (λ link. (arc_value link).port ≡ port) }
     {
         stream.set_nodelay(true).ok()?;
         stream
             .set_write_timeout(Some(Duration::from_millis(WRITE_MILLIS)))
             .ok()?;
-        Arc::new(self.alloc, Link::new(self.alloc, port, place, stream)).ok()
+        let opened = self.seat.now(rt);
+        Arc::new(
+            self.alloc,
+            Link::new(self.alloc, port, place, opened, stream),
+        )
+        .ok()
     }
 
     // Tells the node of a connection by a lane, until it ends: the lane, which sent that the connection was

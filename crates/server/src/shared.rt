@@ -3,17 +3,18 @@
 ghost use Rattle.std.specs.Prelude.{◌≡◌, All, IfOk, OnOk, length, map};
 ghost use Rattle.mailbox.specs.Ends.{ArrivesWhole, unmet};
 ghost use Rattle.node.specs.Report.{HasRoom};
-ghost use Rattle.post.specs.Letters.{EachOpens};
+ghost use Rattle.post.specs.Letters.{EachOpensAs};
 
 use crate::link::Late;
 use crate::passage::Passage;
 use crate::seat::Seat;
 use crate::served::Served;
 use mailbox::Lane;
-use node::{Gate, Item, Memory, NodeNaming, NodeState, Report};
+use node::{Config, Gate, Item, Memory, NodeNaming, NodeState, Report};
 use std::alloc::Global;
 use std::marker::PhantomData;
 use std::sync::{Mutex, Wait};
+use std::thread::Parker;
 
 /// What the threads of a node share. No thread holds one of the locks while it waits.
 #[derive(Drop)]
@@ -21,11 +22,15 @@ pub(crate) struct Shared<'a, J: NodeNaming, S: Served<J>, G: Gate> {
     pub(crate) alloc: Global,
     pub(crate) node: Mutex<S>,
     pub(crate) seat: Seat<'a>,
+    /// The configuration in which all nodes opened.
+    pub(crate) config: &'a Config,
     pub(crate) passage: Passage<'a, G>,
     /// The connections whose sockets were full.
     pub(crate) late: Mutex<Vec<Late>>,
+    /// On this the thread sleeps that goes on with them.
+    pub(crate) late_waker: Parker,
     pub(crate) naming: PhantomData<J>,
-    pub(crate) ghost opens: { EachOpens J.first_of },
+    pub(crate) ghost opens: { EachOpensAs seat.place.now.number config.now J.first_of },
 }
 
 impl<'a, J: NodeNaming, G: Gate> Shared<'a, J, NodeState<J>, G> {

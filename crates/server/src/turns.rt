@@ -1,6 +1,7 @@
 // A worker's turn, which whoever sent an item does itself.
 
-ghost use Rattle.std.specs.Prelude.{◌≡◌, ◌++◌, ◌∷◌, []};
+ghost use Rattle.std.specs.Prelude.{◌≡◌, ◌++◌, ◌∷◌, [], true, false};
+ghost use Rattle.mailbox.specs.Ends.{all_met, unmet};
 ghost use Rattle.node.specs.Lists.{Each};
 ghost use Rattle.post.specs.Letters.{EachOpens, WasGiven};
 
@@ -15,7 +16,7 @@ use std::time::Clock;
 
 impl<'a, J: NodeNaming, S: Served<J>, G: Gate> Shared<'a, J, S, G> {
     /// Sends an item by a lane, and takes what waits in the inbox, that item with it. The connection at this place is
-    /// written to first.
+    /// written to first. Once it returns the node has taken all that the lane sent, and the lane knows it.
     pub(crate) fn send<R: Wait + Clock>(
         &self,
         rt: &R,
@@ -23,34 +24,34 @@ impl<'a, J: NodeNaming, S: Served<J>, G: Gate> Shared<'a, J, S, G> {
         item: Item,
         first: usize,
     )
-        ensures { lane.new ≡ record lane.old { sent = lane.old.sent ++ item ∷ [] } }
+        ensures { lane.new ≡ all_met (record lane.old { sent = lane.old.sent ++ item ∷ [] }) }
     {
         self.put(rt, lane, item);
-        self.turn(rt, first);
+        self.turn(rt, lane, first);
     }
 
     /// Sends an item by a lane. Where the inbox is full a turn is done first.
     pub(crate) fn put<R: Wait + Clock>(&self, rt: &R, lane: &mut Lane<Item, J>, item: Item)
-        ensures { lane.new ≡ record lane.old { sent = lane.old.sent ++ item ∷ [] } }
+        ensures { unmet lane.new ≡ unmet (record lane.old { sent = lane.old.sent ++ item ∷ [] }) }
     {
         let mut unsent = item;
         for _ in rt.forever() {
-            match lane.send(rt, unsent) {
+            let receipt = lane.receipt();
+            match lane.send(rt, unsent, receipt) {
                 Ok(()) => return,
                 Err(back) => unsent = back,
             }
-            self.turn(rt, 0);
+            self.turn(rt, lane, 0);
         }
         unreachable!()
     }
 
-    /// Takes what waits in the inbox, and then writes what was put out, to the connection at this place first.
-    pub(crate) fn turn<R: Wait + Clock>(&self, rt: &R, first: usize) {
-        for _ in rt.forever() {
-            if !self.take_some(rt) {
-                break;
-            }
-        }
+    /// Takes what waits in the inbox, with all that this lane sent, and then writes what was put out, to the connection
+    /// at this place first.
+    pub(crate) fn turn<R: Wait + Clock>(&self, rt: &R, lane: &mut Lane<Item, J>, first: usize)
+        ensures { lane.new ≡ all_met lane.old }
+    {
+        self.take_all(rt, lane);
         let mut idle = Vec::new(self.alloc);
         // Where there is no memory for them all are looked at.
         let _ = self.node.lock(rt).state().idle_ports(&mut idle);
@@ -76,21 +77,47 @@ impl<'a, J: NodeNaming, S: Served<J>, G: Gate> Shared<'a, J, S, G> {
         }
     }
 
+    // Takes items until the inbox is empty, with all that this lane sent.
+    fn take_all<R: Wait + Clock>(&self, rt: &R, lane: &mut Lane<Item, J>)
+        ensures { lane.new ≡ all_met lane.old }
+    {
+        for _ in rt.forever() {
+            if !self.take_some(rt, lane) {
+                return;
+            }
+        }
+        unreachable!()
+    }
+
     // Takes some items: whether more may wait. Where there is a gate it is asked before each, while no lock
     // is held.
-    fn take_some<R: Wait + Clock>(&self, rt: &R) -> bool {
+    fn take_some<R: Wait + Clock>(&self, rt: &R, lane: &mut Lane<Item, J>) -> bool
+        ensures more { result ≡ true → lane.new ≡ lane.old }
+
+        // Where none waits, all was taken that the lane sent.
+        ensures none { result ≡ false → lane.new ≡ all_met lane.old }
+    {
         let leave = self.passage.pass(rt);
-        let more = self.take_locked(rt, &leave);
+        let more = self.take_locked(rt, &leave, lane);
         self.passage.done(rt, leave);
         more
     }
 
     // Takes items under one lock, as many as there is leave for: whether more may wait. What the node has for
-    // others is handed on while the lock is held, so that it keeps the order of the node's steps.
-    fn take_locked<R: Wait>(&self, rt: &R, leave: &Leave) -> bool {
+    // others is handed on while the lock is held, so that it keeps the order of the node's steps. So is how it stands.
+    fn take_locked<R: Wait>(&self, rt: &R, leave: &Leave, lane: &mut Lane<Item, J>) -> bool
+        ensures more { result ≡ true → lane.new ≡ lane.old }
+        ensures none { result ≡ false → lane.new ≡ all_met lane.old }
+    {
         let mut effects = Vec::new(self.alloc);
         let mut node = self.node.lock(rt);
-        let more = take_up_to(rt, node.state(), leave, &mut effects);
+        let state = node.state();
+        // The lane is one of this node's inbox, but of what stands behind a lock no clause tells that.
+        if state.number() != lane.number() {
+            return true;
+        }
+        let more = take_up_to(rt, state, leave, lane, &mut effects);
+        self.seat.node.publish(rt, state.status());
         self.seat.peers.hand_on(rt, effects);
         more
     }
@@ -101,14 +128,22 @@ fn take_up_to<J: NodeNaming, R: Wait>(
     rt: &R,
     node: &mut NodeState<J>,
     leave: &Leave,
+    lane: &mut Lane<Item, J>,
     effects: &mut Vec<Effect<Command, Output>>,
 ) -> bool
+    requires inbox { lane.old.inbox ≡ node.old.taker.inbox }
     requires opens { EachOpens J.first_of }
     requires before { Each WasGiven effects.old.items }
-    ensures { Each WasGiven effects.new.items }
+    ensures given { Each WasGiven effects.new.items }
+    ensures more { result ≡ true → lane.new ≡ lane.old }
+
+    // Where none waits, all was taken that the lane sent: the node has its items in its history.
+    ensures none { result ≡ false → lane.new ≡ all_met lane.old }
 {
     for _ in 0..leave.most {
-        if !node.take_one(rt, effects) {
+        let receipt = lane.receipt();
+        if !node.take_one(rt, effects, receipt) {
+            node.meet(lane);
             return false;
         }
     }

@@ -19,7 +19,7 @@ const OWN_LANE: u8 = 0;
 /// A lane for the node's own thread, for each connection, and for the thread that closes what comes on top.
 pub(crate) const LANES: u8 = CONNECTIONS + 2;
 
-/// A lane, unless its thread has it in hand.
+/// A lane, unless its thread has it in hand. The thread that goes on with full sockets has none.
 pub(crate) type Desk<J> = Option<Lane<Item, J>>;
 
 /// Works with each lane by a thread of its own, until the door is closed. Where threads are wanting lanes
@@ -37,18 +37,19 @@ where
     thread::for_each_mut(
         rt,
         desks,
-        usize::from(LANES),
+        usize::from(LANES) + 1,
         &|_, desk| shared.sit(rt, desk),
     );
 }
 
 impl<'a, J: NodeNaming, S: Served<J>, G: Gate> Shared<'a, J, S, G> {
-    // Works with the lane of a desk, and puts it back.
+    // Works with the lane of a desk, and puts it back. Where there is none it goes on with full sockets.
     fn sit<R: Wait + Clock>(&self, rt: &R, desk: &mut Desk<J>)
         ensures { ComesBack self.now.seat.node.now.number desk.old desk.new }
     {
-        if let Some(lane) = desk.take() {
-            *desk = Some(self.work(rt, lane));
+        match desk.take() {
+            Some(lane) => *desk = Some(self.work(rt, lane)),
+            None => self.write_late(rt),
         }
     }
 

@@ -1,12 +1,11 @@
 // What the node put out for a connection, onto its stream.
 
-use crate::link::{Late, Link, Pen};
+use crate::link::{Link, Pen};
 use crate::served::Served;
 use crate::shared::Shared;
-use connection::{Flow, Outlet, Unwritten, write_out};
+use connection::{Flow, Outlet, write_out};
 use node::{Gate, Handed, Memory, NodeNaming, Port};
 use std::alloc::Global;
-use std::mem;
 use std::sync::{Arc, Wait};
 
 // What the node behind its lock puts out for a port.
@@ -29,7 +28,7 @@ impl<'e, 'a, J: NodeNaming, S: Served<J>, G: Gate> Outlet for Tap<'e, 'a, J, S, 
 
 impl<'a, J: NodeNaming, S: Served<J>, G: Gate> Shared<'a, J, S, G> {
     /// Writes what the node put out for a connection, unless another thread writes there: that one is told
-    /// to look again. What a full socket does not take is left to the node's own thread.
+    /// to look again. What a full socket does not take is left to the late writer.
     pub(crate) fn flush<R: Wait>(&self, rt: &R, link: &Arc<Link, Global>) {
         let Some(pen) = link.take_pen(rt) else {
             return;
@@ -42,15 +41,11 @@ impl<'a, J: NodeNaming, S: Served<J>, G: Gate> Shared<'a, J, S, G> {
     /// Writes what a full socket left and what was put out, until nothing more was, and lays the pen back: the pen,
     /// where the socket is full. A stream that takes no more is ended, and its pen is gone with it.
     pub(crate) fn write<R: Wait>(&self, rt: &R, link: &Arc<Link, Global>, pen: Pen) -> Option<Pen> {
-        let mut out = Vec::new(self.alloc);
         let mut pen = pen;
         for _ in rt.forever() {
-            match self.write_once(rt, link, &mut pen, &mut out) {
+            match self.write_once(rt, link, &mut pen) {
                 Flow::Open => pen = link.lay_back(rt, pen)?,
-                Flow::Late(left) => {
-                    pen.rest = left;
-                    return Some(pen);
-                }
+                Flow::Late => return Some(pen),
                 Flow::Closed | Flow::Failed => {
                     link.shut();
                     return None;
@@ -62,32 +57,12 @@ impl<'a, J: NodeNaming, S: Served<J>, G: Gate> Shared<'a, J, S, G> {
 
     // Writes what a full socket left, and then what the node puts out, as far as the socket takes it within
     // its time.
-    fn write_once<R: Wait>(
-        &self,
-        rt: &R,
-        link: &Arc<Link, Global>,
-        pen: &mut Pen,
-        out: &mut Vec<u8>,
-    ) -> Flow {
-        let left = mem::replace(&mut pen.rest, Unwritten::new(self.alloc));
+    fn write_once<R: Wait>(&self, rt: &R, link: &Arc<Link, Global>, pen: &mut Pen) -> Flow {
         let mut tap = Tap {
             shared: self,
             port: link.port,
         };
         let mut device = &link.stream;
-        write_out(rt, self.alloc, left, &mut tap, out, &mut device)
-    }
-
-    /// Leaves a connection to the node's own thread.
-    pub(crate) fn leave_late<R: Wait>(&self, rt: &R, link: &Arc<Link, Global>, pen: Pen) {
-        let kept = match Arc::try_clone(link) {
-            Ok(link) => self.late.lock(rt).push(Late { link, pen }).is_ok(),
-            Err(_) => false,
-        };
-        if kept {
-            self.seat.node.wake(rt);
-        } else {
-            link.shut();
-        }
+        write_out(rt, &mut pen.rest, &mut tap, &mut device)
     }
 }

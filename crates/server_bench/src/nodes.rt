@@ -2,8 +2,7 @@
 
 use crate::host::Host;
 use anyhow::{Result, bail};
-use node::{Config, Members};
-use server::{Place, serve_while};
+use server::{Config, Members, Place, serve_while};
 use std::net::{SocketAddr, TcpListener};
 
 /// What is done beside these nodes, all members of ballot 1, by the address of node 1, which is the primary.

@@ -106,8 +106,13 @@ pub(super) fn fills(stream: &mut TcpStream, sent: &[u8], room: &mut [u8]) -> boo
 
 /// Whether nothing comes for a third of a second, and the stream stays open.
 pub(super) fn is_silent(stream: &mut TcpStream) -> bool {
+    is_open_for(stream, 333)
+}
+
+/// Whether nothing comes for so many milliseconds, and the stream stays open.
+pub(super) fn is_open_for(stream: &mut TcpStream, milliseconds: u64) -> bool {
     let mut room = [0; 1];
-    waits_for(stream, 333) && stream.read(&mut room).is_err() && waits_for(stream, 10_000)
+    waits_for(stream, milliseconds) && stream.read(&mut room).is_err() && waits_for(stream, 10_000)
 }
 
 /// Whether the server ends the stream within two seconds, and sends nothing.

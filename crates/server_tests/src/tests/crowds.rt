@@ -1,6 +1,8 @@
 // Many clients, at the same time and one after the other.
 
-use super::client::{Pair, SUBSCRIBE, SUBSCRIBED, connect, is_answered, is_closed, join, open};
+use super::client::{
+    Pair, SUBSCRIBE, SUBSCRIBED, connect, is_answered, is_closed, is_open_for, join, open,
+};
 use super::nodes::fault_in;
 use super::row::{Row, Table};
 use server::Place;
@@ -18,6 +20,11 @@ const TABLES: &[Table] = &[
         name: "clients come and go",
         members: &[1],
         row: Row::ComeAndGo,
+    },
+    Table {
+        name: "silent clients are ended",
+        members: &[1],
+        row: Row::SilentOnes,
     },
 ];
 
@@ -68,6 +75,30 @@ where
 {
     match open(rt, place) {
         Some(mut stream) => is_closed(&mut stream),
+        None => false,
+    }
+}
+
+/// Whether twelve clients that say nothing keep their places for eight seconds, and not for twelve. Then another is accepted.
+pub(super) fn are_silent_ones_ended<R>(rt: &R, place: Option<&Place>) -> bool
+where
+    R: AllocGlobal + Net<Stream = TcpStream>,
+{
+    let mut streams = Vec::new(rt.alloc());
+    (0..12).all(|_| opens(rt, place, &mut streams))
+        && is_turned_away(rt, place)
+        && streams.first_mut().map(|stream| is_open_for(stream, 8_000)) == Some(true)
+        && streams.iter_mut().all(|stream| !is_open_for(stream, 4_000))
+        && is_accepted(rt, place, b'a')
+}
+
+// Whether a stream is opened, and joins these.
+fn opens<R>(rt: &R, place: Option<&Place>, streams: &mut Vec<TcpStream>) -> bool
+where
+    R: Net<Stream = TcpStream>,
+{
+    match open(rt, place) {
+        Some(stream) => streams.push(stream).is_ok(),
         None => false,
     }
 }

@@ -1,8 +1,7 @@
 // Nodes on free ports of the loopback, and the rows that run beside them.
 
 use super::row::{Row, Table, holds};
-use node::{Config, Members, Memory};
-use server::{Peers, Place, serve_while};
+use server::{Config, Members, Memory, Peers, Place, serve_while};
 use std::alloc::Global;
 use std::net::{Net, TcpListener, TcpStream};
 use std::sync::Wait;

@@ -1,7 +1,9 @@
 // Rows: what clients do beside nodes that serve them.
 
 use super::answers::{is_flood_answered, is_silence_ended};
-use super::crowds::{are_all_accepted, are_twelve_answered, is_heard_beside};
+use super::crowds::{
+    are_all_accepted, are_silent_ones_ended, are_twelve_answered, is_heard_beside,
+};
 use super::takeovers::{moves, takes_over};
 use super::visits::visits;
 use server::{Peers, Place};
@@ -22,6 +24,8 @@ pub(super) enum Row {
     Twelve,
     /// 200 clients, one after the other, are all accepted.
     ComeAndGo,
+    /// Twelve clients that say nothing are ended after ten seconds.
+    SilentOnes,
     /// A subscriber gets 50 MB beside another one that never reads.
     NeverReads,
     /// A client finds its session at node 2, after a crash of node 1.
@@ -49,6 +53,7 @@ where
         Row::Flood => is_flood_answered(rt, first),
         Row::Twelve => are_twelve_answered(rt, first),
         Row::ComeAndGo => are_all_accepted(rt, first),
+        Row::SilentOnes => are_silent_ones_ended(rt, first),
         Row::NeverReads => is_heard_beside(rt, first),
         Row::Moves => moves(rt, peers, places),
         Row::TakesOver => takes_over(rt, peers, places),

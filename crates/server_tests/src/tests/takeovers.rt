@@ -40,7 +40,7 @@ where
 {
     visits(rt, places.first())
         && moves_to(rt, peers, &[2], 2)
-        && peers.crash(rt, 1)
+        && peers.crash(rt, 1) == Ok(true)
         && finds(rt, places.get(1))
 }
 
@@ -74,7 +74,7 @@ where
     R: Wait + Clock + Net<Stream = TcpStream>,
 {
     match Pair::join(rt, place, false) {
-        Some(mut pair) => is_begun(&mut pair, heard) && peers.crash(rt, 1),
+        Some(mut pair) => is_begun(&mut pair, heard) && peers.crash(rt, 1) == Ok(true),
         None => false,
     }
 }

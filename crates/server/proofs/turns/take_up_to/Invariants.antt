@@ -1,6 +1,11 @@
+use Rattle.std.proofs.Common.{◌≡◌}
 use Rattle.node.specs.Lists.{Each}
 use Rattle.post.specs.Letters.{WasGiven}
 use Rattle.server.proofs.turns.take_up_to.Given as goal
 
 abbrev pub invariant-loop : goal.invariant-loop
-invariant-loop g l = Each WasGiven l.effects.items
+invariant-loop g l = record {
+  given : Each WasGiven l.effects.items;
+  lane : l.lane ≡ l.initial.lane;
+  inbox : l.lane.inbox ≡ l.node.taker.inbox;
+}

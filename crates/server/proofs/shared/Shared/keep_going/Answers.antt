@@ -11,10 +11,3 @@ loop-preserved g c = record {
   ends = tt;
   own = own_join _ _ _ _ (own_join _ _ _ _ c.loop.invariant.own c.take_letters.ensures) c.tick-told.ensures;
 }
-
-pub loop-preserved-then-not-write_late : goal.loop-preserved-then-not-write_late
-loop-preserved-then-not-write_late g c = record {
-  can = tt;
-  ends = tt;
-  own = own_join _ _ _ _ (own_join _ _ _ _ c.loop.invariant.own c.take_letters.ensures) c.tick-told.ensures;
-}

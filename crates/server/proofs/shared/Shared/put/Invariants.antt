@@ -1,4 +1,5 @@
 use Rattle.std.proofs.Common.{◌≡◌}
+use Rattle.mailbox.specs.Ends.{unmet}
 use Rattle.server.proofs.shared.Shared.put.Given as goal
 
 abbrev pub invariant-loop : goal.invariant-loop
@@ -6,5 +7,5 @@ invariant-loop g l = record {
   can : (goal.iterator-loop g).can_next l.iterator';
   ends : (goal.iterator-loop g).is_finite l.iterator';
   item : l.unsent ≡ l.initial.unsent;
-  lane : l.lane ≡ l.initial.lane;
+  lane : unmet l.lane ≡ unmet l.initial.lane;
 }
