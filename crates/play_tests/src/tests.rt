@@ -1,8 +1,12 @@
-// What no clause says: what comes of each line of a script, from its text to the text of its transcript.
+// What no clause says: that scripts which are as they should be are read, what their lines order, and what comes of each
+// line, from its text to the text of the transcript.
 
 mod crashes;
 mod hand;
 mod memory;
+mod orders;
+mod reading;
 mod refusals;
 mod rows;
 mod scripts;
+mod worlds;

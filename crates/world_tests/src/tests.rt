@@ -3,9 +3,10 @@
 mod changes;
 mod course;
 mod crashes;
-mod hand;
 mod handshakes;
 mod long;
 mod losing;
 mod memory;
+mod piped;
 mod repeats;
+mod row;

@@ -1,44 +1,32 @@
-// A node crashes behind an event of a script, each node behind each event, and the script goes on.
+// A node crashes after an event of a script, each node after each event, and the script goes on.
 
-use crate::tests::scripts::{
-    ANSWER_WAITS_FOR_THE_BACKUP, BALLOT_IS_PUT_OUT, CONFIGURATION_CHANGES, PRIMARY_CRASHES,
-    STALE_PRIMARY,
-};
+use crate::tests::scripts::SCRIPTS;
 use play::play;
 use std::alloc::Global;
 use std::str;
 
-// Scripts with two nodes, but for the last, which has three.
-const SCRIPTS: [&[&str; 2]; 5] = [
-    &ANSWER_WAITS_FOR_THE_BACKUP,
-    &CONFIGURATION_CHANGES,
-    &PRIMARY_CRASHES,
-    &STALE_PRIMARY,
-    &BALLOT_IS_PUT_OUT,
-];
-
 // A crash of each node. That of a node which a script does not have is idle.
 const CRASHES: [&[u8]; 3] = [b"crash 1\n", b"crash 2\n", b"crash 3\n"];
 
-// How long the agreed list is by a line of a transcript; none where it does not tell.
+// How long the agreed list is by a line of a transcript; none where the line does not say.
 fn agreed_in(line: &str) -> Option<u64> {
-    let (_, behind) = line.split_once("agreed=")?;
-    match behind.split_once(" ") {
+    let (_, rest) = line.split_once("agreed=")?;
+    match rest.split_once(" ") {
         Some((number, _)) => number.parse::<u64>().ok(),
-        None => behind.parse::<u64>().ok(),
+        None => rest.parse::<u64>().ok(),
     }
 }
 
-// Whether the agreed list never becomes shorter, and its length is told at all.
+// Whether the agreed list never becomes shorter, and its length is given at all.
 fn only_grows(told: &str) -> bool {
     let mut agreed = None;
     for line in told.lines() {
-        let behind = agreed_in(line);
-        if behind.is_some() {
-            if behind < agreed {
+        let next = agreed_in(line);
+        if next.is_some() {
+            if next < agreed {
                 return false;
             }
-            agreed = behind;
+            agreed = next;
         }
     }
     agreed.is_some()
@@ -61,11 +49,11 @@ fn tells_no_more(told: &str, own: &str) -> bool {
 
 // A script with a line put in at this byte.
 fn with_line(alloc: Global, script: &[u8], at: usize, line: &[u8]) -> Option<Vec<u8>> {
-    let (front, behind) = script.split_at_checked(at)?;
+    let (front, rest) = script.split_at_checked(at)?;
     let mut edited = Vec::new(alloc);
     edited.extend_from_slice(front).ok()?;
     edited.extend_from_slice(line).ok()?;
-    edited.extend_from_slice(behind).ok()?;
+    edited.extend_from_slice(rest).ok()?;
     Some(edited)
 }
 
@@ -94,8 +82,8 @@ fn survives_each(alloc: Global, row: &[&str; 2], at: usize) -> bool {
     CRASHES.iter().all(|line| survives(alloc, row, at, line))
 }
 
-// Whether it does so behind each of its lines.
-fn survives_behind_each(alloc: Global, row: &[&str; 2]) -> bool {
+// Whether it does so after each of its lines.
+fn survives_after_each(alloc: Global, row: &[&str; 2]) -> bool {
     for (at, byte) in row[0].as_bytes().iter().enumerate() {
         if *byte == b'\n' && !survives_each(alloc, row, at.saturating_add(1)) {
             return false;
@@ -104,11 +92,11 @@ fn survives_behind_each(alloc: Global, row: &[&str; 2]) -> bool {
     true
 }
 
-// Whichever node crashes behind whichever event, the agreed list never becomes shorter, and nothing is taken in that
+// Whichever node crashes after whichever event, the agreed list never becomes shorter, and nothing is taken in that
 // is not in the script's own run.
 #[test]
 fn a_crash_anywhere_takes_nothing_back(rt: HostRuntime) {
     for row in &SCRIPTS {
-        assert!(rt; survives_behind_each(rt.alloc(), row), "{}", row[0]);
+        assert!(rt; survives_after_each(rt.alloc(), row), "{}", row[0]);
     }
 }

@@ -1,5 +1,5 @@
 // Memory that is refused, in the script `answer_waits_for_the_backup`. Run with each allocation failing in turn: it is
-// played as ever, or what was wanting is told.
+// played as ever, or reported to have run out of memory.
 
 use crate::tests::scripts::ANSWER_WAITS_FOR_THE_BACKUP;
 use play::{PlayError, play};

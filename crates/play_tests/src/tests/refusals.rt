@@ -1,8 +1,183 @@
 // Texts that are no scripts: the first bad line is named, and nothing is played.
 
 use crate::tests::hand::is_refused;
+use crate::tests::reading::{Outcome, comes};
+use script::ScriptError;
+use std::alloc::{AllocError, Global};
 
-const REFUSED: &[(&str, u64)] = &[
+// First lines that open no world.
+const NO_WORLDS: &[&str] = &[
+    "",
+    "world",
+    "World 2 1,2 1 a",
+    "world 2 1,2 1",
+    "world 2 1,2 1 ",
+    "world 2 1,2 1 a,",
+    "world 2 1,2 1 ,a",
+    "world 2 1,2 1 a b",
+    "world  2 1,2 1 a",
+    " world 2 1,2 1 a",
+    "world 2 1,2 1 a ",
+    "world 2 1,2 1 a,a",
+    "world 2 1,2 1 a,b,a",
+    "world 2 1,2 3 a",
+    "world 2 2,1 1 a",
+    "world 2 1,1 1 a",
+    "world 2 1,3 1 a",
+    "world 2 0,1 1 a",
+    "world 2 1, 1 a",
+    "world 0 1 1 a",
+    "world 16 1 1 a",
+    "world 256 1 1 a",
+    "world 2 257 257 a",
+    "world 2 1 257 a",
+    "world 9 1,2,3,4,5,6,7,8 1 a",
+    "world +2 1,2 1 a",
+    "world 2 1,2 -1 a",
+    "world 2 1,2 x a",
+    "world 2 1,2 1 aaaaaaaaaaaaaaaaaaaaaaaaaaaaaaaaaaaaaaaaaaaaaaaaaaaaaaaaaaaaaaaaa",
+    "world 2 1,2 1 a\u{0}",
+    "tick 1",
+];
+
+// Other lines that order nothing.
+const NO_ORDERS: &[&str] = &[
+    "",
+    " ",
+    "tick",
+    "tick ",
+    "tick  1",
+    "tick 1 ",
+    " tick 1",
+    "tick\t1",
+    "tick 1\r",
+    "tick 1 1",
+    "Tick 1",
+    "ticks 1",
+    "tick -1",
+    "tick +1",
+    "tick 1.0",
+    "tick 0x1",
+    "tick 18446744073709551616",
+    "tick 99999999999999999999999999",
+    "tick one",
+    "deliver",
+    "deliver x",
+    "crash",
+    "crash 1 2",
+    "assign",
+    "assign 1,2",
+    "assign 1,2 1 1",
+    "assign  1",
+    "assign 1,,2 1",
+    "assign ,1 1",
+    "assign 1, 1",
+    "assign 1 2 3",
+    "open a",
+    "open 1",
+    "open  1",
+    "open a b",
+    "up 1",
+    "up 1 some",
+    "up 1 All",
+    "up all 1",
+    "up 1 all\r",
+    "up 1 -",
+    "down 1",
+    "down 1 4 4",
+    "abandon",
+    "abandon ",
+    "abandon a b",
+    "disconnect",
+    "notice",
+    "notice a",
+    "publish a t/1 2 0",
+    "publish a t/1 2 0 78 78",
+    "publish a t/1 3 0 78",
+    "publish a t/1 2 2 78",
+    "publish a t/1 2 0 7",
+    "publish a t/1 2 0 7g",
+    "publish a t/1 2 0 ",
+    "publish a t/1 2 0 --",
+    "publish a t/1 2 0 78\r",
+    "publish a t/# 2 0 78",
+    "publish a + 2 0 78",
+    "publish a  2 0 78",
+    "subscribe b t/#",
+    "subscribe b t/#/u 2",
+    "subscribe b a+ 2",
+    "subscribe b t/# 3",
+    "subscribe b  2",
+    "unsubscribe b",
+    "unsubscribe b #/a",
+    "unsubscribe b t/# 2",
+    "expel b 1",
+    "world 2 1,2 1 a",
+];
+
+// Whether the text that these make is refused by this line.
+fn is_bad(alloc: Global, before: &str, line: &str, after: &str, number: u64) -> bool {
+    match format!(in alloc; "{before}{line}{after}") {
+        Ok(text) => comes(alloc, text.as_str().as_bytes(), Outcome::Bad(number)),
+        Err(_) => false,
+    }
+}
+
+#[test]
+fn no_worlds_are_refused_at_line_1(rt: HostRuntime) {
+    for line in NO_WORLDS {
+        for rest in ["", "\n", "\ntick 1\n", "\nnothing\n"] {
+            assert!(rt; is_bad(rt.alloc(), "", line, rest, 1), "{line}");
+        }
+    }
+}
+
+// What stands before a line, and its number.
+const BEFORE: &[(&str, u64)] = &[
+    ("world 2 1,2 1 a,b\n", 2),
+    ("world 2 1,2 1 a,b\ntick 1\n", 3),
+    ("world 2 1,2 1 a,b\ntick 1\ntick 2\n", 4),
+];
+
+#[test]
+fn no_orders_are_refused_at_their_line(rt: HostRuntime) {
+    for line in NO_ORDERS {
+        for (before, number) in BEFORE {
+            let is_refused = is_bad(rt.alloc(), before, line, "\nnothing\n", *number);
+            assert!(rt; is_refused, "{line}");
+        }
+    }
+}
+
+// A line that is no text is refused as any other.
+const NO_TEXTS: &[(&[u8], u64)] = &[
+    (b"\xFF\n", 1),
+    (b"world 2 1,2 1 \xC3\n", 1),
+    (b"world 2 1,2 1 a\nabandon \xC3\xA9\nabandon \xC3\n", 3),
+    (b"world 2 1,2 1 a\nnothing\nabandon \xFF\n", 2),
+];
+
+#[test]
+fn lines_that_are_no_text_are_refused(rt: HostRuntime) {
+    for (text, number) in NO_TEXTS {
+        assert!(rt; comes(rt.alloc(), text, Outcome::Bad(*number)), "{number}");
+    }
+}
+
+fn told(alloc: Global) -> Result<String, AllocError> {
+    let line = ScriptError::Line(7);
+    let memory = ScriptError::Memory;
+    format!(in alloc; "{line}; {memory}")
+}
+
+#[test]
+fn a_refusal_is_told_so(rt: HostRuntime) {
+    let text = told(rt.alloc());
+    assert!(rt; text.is_ok_and(|text| text.as_str() == "script line 7; out of memory"));
+}
+
+// Texts, and the line for which each is not played.
+const NOT_PLAYED: &[(&str, u64)] = &[
     ("", 1),
     ("world 2 1,3 1 a\n", 1),
     ("world 2 1,2 1 a,a\ntick x\n", 1),
@@ -15,8 +190,8 @@ const REFUSED: &[(&str, u64)] = &[
 ];
 
 #[test]
-fn the_first_bad_line_is_named(rt: HostRuntime) {
-    for (text, line) in REFUSED {
+fn nothing_is_played_before_a_bad_line(rt: HostRuntime) {
+    for (text, line) in NOT_PLAYED {
         assert!(rt; is_refused(rt.alloc(), text.as_bytes(), *line), "{text}");
     }
 }

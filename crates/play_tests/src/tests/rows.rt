@@ -1,7 +1,7 @@
 // Single lines: what cannot happen, and what counts.
 
 use crate::tests::hand::gives;
-use std::test::Fail;
+use std::alloc::Global;
 
 // Orders that name what no world has are of the form, and cannot happen.
 const IDLE: &[&str] = &[
@@ -35,13 +35,17 @@ const IDLE: &[&str] = &[
 ];
 
 #[test]
-fn what_cannot_happen_is_idle(rt: HostRuntime) -> Result<(), Fail> {
-    let wanted = "0 idle\nend agreed=0 active=1\n";
+fn what_cannot_happen_is_idle(rt: HostRuntime) {
     for line in IDLE {
-        let text = format!(in rt.alloc(); "world 2 1,2 1 a\n{line}\n")?;
-        assert!(rt; gives(rt.alloc(), text.as_str(), wanted), "{line}");
+        assert!(rt; is_idle(rt.alloc(), line), "{line}");
     }
-    Ok(())
+}
+
+fn is_idle(alloc: Global, line: &str) -> bool {
+    match format!(in alloc; "world 2 1,2 1 a\n{line}\n") {
+        Ok(text) => gives(alloc, text.as_str(), "0 idle\nend agreed=0 active=1\n"),
+        Err(_) => false,
+    }
 }
 
 // A client and a payload as they are printed; RETAIN; an empty payload leaves a space at the end.

@@ -1,8 +1,8 @@
 // Whole scripts with their transcripts, as they stand in the folder `examples` of the repository.
 
 use crate::tests::hand::gives;
-use std::alloc::Global;
 
+/// The primary answers a CONNECT once its backup holds it.
 pub const ANSWER_WAITS_FOR_THE_BACKUP: [&str; 2] = [
     "world 2 1,2 1 a\n\
     open a 1\n\
@@ -18,6 +18,7 @@ pub const ANSWER_WAITS_FOR_THE_BACKUP: [&str; 2] = [
     end agreed=1 active=1\n",
 ];
 
+/// A sole member is joined by another one, which becomes the primary.
 pub const CONFIGURATION_CHANGES: [&str; 2] = [
     "world 2 1 1 a\n\
     assign 1,2 2\n\
@@ -43,6 +44,8 @@ pub const CONFIGURATION_CHANGES: [&str; 2] = [
     end agreed=1 active=2\n",
 ];
 
+/// The primary crashes before it commits what its backup holds. A client publishes again what was not answered, and
+/// the subscriber takes it in once.
 pub const PRIMARY_CRASHES: [&str; 2] = [
     "world 2 1,2 1 a,b\n\
     open b 1\n\
@@ -117,6 +120,7 @@ pub const PRIMARY_CRASHES: [&str; 2] = [
     end agreed=8 active=2\n",
 ];
 
+/// A primary of a ballot that is over adds a command that nobody is told of; its message changes nothing.
 pub const STALE_PRIMARY: [&str; 2] = [
     "world 2 1,2 1 a,b\n\
     open b 1\n\
@@ -187,6 +191,7 @@ pub const STALE_PRIMARY: [&str; 2] = [
     end agreed=6 active=2\n",
 ];
 
+/// A ballot waits for its activation when the next one is assigned, and never becomes active.
 pub const BALLOT_IS_PUT_OUT: [&str; 2] = [
     "world 3 1 1 a\n\
     assign 1,2 2\n\
@@ -228,38 +233,18 @@ pub const BALLOT_IS_PUT_OUT: [&str; 2] = [
     end agreed=2 active=3\n",
 ];
 
-// Whether a script gives its transcript.
-fn goes_well(alloc: Global, row: &[&str; 2]) -> bool {
-    gives(alloc, row[0], row[1])
-}
+/// All of them. They have two nodes, but for the last, which has three.
+pub const SCRIPTS: [&[&str; 2]; 5] = [
+    &ANSWER_WAITS_FOR_THE_BACKUP,
+    &CONFIGURATION_CHANGES,
+    &PRIMARY_CRASHES,
+    &STALE_PRIMARY,
+    &BALLOT_IS_PUT_OUT,
+];
 
-// The primary answers a CONNECT once its backup holds it.
 #[test]
-fn answer_waits_for_the_backup(rt: HostRuntime) {
-    assert!(rt; goes_well(rt.alloc(), &ANSWER_WAITS_FOR_THE_BACKUP));
-}
-
-// A sole member is joined by another one, which becomes the primary.
-#[test]
-fn configuration_changes(rt: HostRuntime) {
-    assert!(rt; goes_well(rt.alloc(), &CONFIGURATION_CHANGES));
-}
-
-// The primary crashes before it commits what its backup holds. A client publishes again what was not
-// answered, and the subscriber takes it in once.
-#[test]
-fn primary_crashes(rt: HostRuntime) {
-    assert!(rt; goes_well(rt.alloc(), &PRIMARY_CRASHES));
-}
-
-// A primary of a ballot that is over adds a command that nobody is told of; its message changes nothing.
-#[test]
-fn stale_primary(rt: HostRuntime) {
-    assert!(rt; goes_well(rt.alloc(), &STALE_PRIMARY));
-}
-
-// A ballot waits for its activation when the next one is assigned, and never becomes active.
-#[test]
-fn ballot_is_put_out(rt: HostRuntime) {
-    assert!(rt; goes_well(rt.alloc(), &BALLOT_IS_PUT_OUT));
+fn scripts_give_their_transcripts(rt: HostRuntime) {
+    for row in &SCRIPTS {
+        assert!(rt; gives(rt.alloc(), row[0], row[1]), "{}", row[0]);
+    }
 }

@@ -1,23 +1,23 @@
 // Many changes of the configuration.
 
-use crate::tests::hand::{config_of, opened};
+use crate::tests::row::{config_of, opened};
 use std::alloc::Global;
 use world::{Event, World};
 
 // How often the configuration changes.
 const CHANGES: u64 = 200;
 
-// What all that was sent from a message on leads to, in the order of sending: at most so many messages of a change.
+// Delivers all messages from this one on in the order of sending, at most a hundred, with those that they lead to.
 fn deliver_from(world: &mut World, first: u64) {
-    for behind in 0..100 {
-        let number = first.saturating_add(behind);
+    for count in 0..100 {
+        let number = first.saturating_add(count);
         if number < world.messages() {
             let _ = world.step(&Event::Deliver(number));
         }
     }
 }
 
-// Whether members 1, 2 and 3 get a new ballot with this primary, which comes to be active.
+// Whether members 1, 2 and 3 get a new ballot with this primary, and it becomes active.
 fn changes(alloc: Global, world: &mut World, primary: u8, ballot: u64) -> bool {
     let first = world.messages();
     let Some(config) = config_of(alloc, &[1, 2, 3], primary) else {
@@ -53,7 +53,7 @@ fn configurations_change_many_times(rt: HostRuntime) {
     assert!(rt; go_well(rt.alloc()));
 }
 
-// Whether events one behind the other pass over the idle ones.
+// Whether a run of events passes over the idle ones.
 fn passes_over(alloc: Global, world: &mut World) -> bool {
     let Some(config) = config_of(alloc, &[1, 2], 2) else {
         return false;

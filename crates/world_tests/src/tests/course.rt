@@ -1,6 +1,6 @@
 // How a long run of events by a fixed rule goes on.
 
-use crate::tests::hand::{config_of, named};
+use crate::tests::row::{config_of, named};
 use packet::{ClientId, Payload, QoS};
 use session_base::Publication;
 use std::alloc::Global;
@@ -86,7 +86,7 @@ impl Course {
     }
 }
 
-// Lets an event happen or be idle, and looks at what is agreed behind it.
+// Lets an event happen or be idle, and looks at what is agreed after it.
 fn happens(world: &mut World, course: &mut Course, event: &Event) -> bool {
     let before = world.agreed_len();
     let happened = world.step(event).is_ok();
@@ -94,7 +94,7 @@ fn happens(world: &mut World, course: &mut Course, event: &Event) -> bool {
     happened
 }
 
-/// Lets the next event of the rule happen or be idle. False where a value of it found no memory.
+/// Lets the next event of the rule happen or be idle. False where it ran out of memory.
 pub fn goes_on(alloc: Global, world: &mut World, course: &mut Course) -> bool {
     let number = course.draw() % 128;
     if number < 32 || course.is_behind(world) {
@@ -198,7 +198,7 @@ fn active_primary(world: &World) -> u8 {
     primary_of(ballot, members)
 }
 
-/// Whether the active primary crashes. It may where no ballot waits, and where one more of its members runs.
+/// Whether the active primary crashes. It may where no ballot waits, and where another of its members runs.
 pub fn primary_crashes(world: &mut World, course: &mut Course) -> bool {
     let node = active_primary(world);
     if node == 0 || node > 3 || !is_one_left(world, course, node) {

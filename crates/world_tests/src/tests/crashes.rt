@@ -1,8 +1,8 @@
 // A primary that crashes.
 
-use crate::tests::hand::{Deed, Row, Said, goes_well};
+use crate::tests::row::{Deed, Row, Said, Table, fault_in};
 
-// The packets behind the takeover, as MQTT 3.1.1 spells them. CONNECT (3.1): 13 bytes follow, the protocol's name, its
+// The packets after the takeover, as MQTT 3.1.1 spells them. CONNECT (3.1): 13 bytes follow, the protocol's name, its
 // level 4, no flag, so that the session is kept, no keep alive, and the Client Identifier.
 const CONNECT_A: &[u8] = b"\x10\x0D\x00\x04MQTT\x04\x00\x00\x00\x00\x01a";
 
@@ -29,7 +29,7 @@ const NOTHING: &[u8] = b"";
 const BEFORE: &[Said] = &[Said::Connect("b"), Said::Packet, Said::Connect("a")];
 
 // What is agreed at the end: the publication, the backup's ballot, both CONNECTs, and the publication sent again.
-const BEHIND: &[Said] = &[
+const AFTER: &[Said] = &[
     Said::Connect("b"),
     Said::Packet,
     Said::Connect("a"),
@@ -110,15 +110,10 @@ const CRASHED: &[Row] = &[
     Row::HasDown(4, NOTHING),
     Row::HasUp(3, PUBREL),
     Row::HasDown(3, NOTHING),
-    Row::Agrees(BEHIND),
+    Row::Agrees(AFTER),
 ];
 
-#[test]
-fn the_backup_takes_over(rt: HostRuntime) {
-    assert!(rt; goes_well(rt.alloc(), 2, &[1, 2], CRASHED));
-}
-
-// Behind a crash of the sole member nothing can happen on its connections.
+// After a crash of the sole member nothing can happen on its connections.
 const NOBODY: &[Row] = &[
     Row::Does(Deed::Open("a", 1), 0, 0),
     Row::Does(Deed::Crash(1), 0, 0),
@@ -134,7 +129,22 @@ const NOBODY: &[Row] = &[
     Row::Active(1),
 ];
 
+const TABLES: &[Table] = &[
+    Table {
+        name: "crashed",
+        nodes: 2,
+        members: &[1, 2],
+        rows: CRASHED,
+    },
+    Table {
+        name: "nobody",
+        nodes: 2,
+        members: &[1],
+        rows: NOBODY,
+    },
+];
+
 #[test]
-fn nobody_serves_behind_a_crash(rt: HostRuntime) {
-    assert!(rt; goes_well(rt.alloc(), 2, &[1], NOBODY));
+fn primaries_crash(rt: HostRuntime) {
+    assert_eq!(rt; fault_in(rt.alloc(), TABLES), None);
 }

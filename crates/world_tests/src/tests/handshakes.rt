@@ -1,6 +1,6 @@
 // A publication at QoS 2 from one client to another, byte by byte.
 
-use crate::tests::hand::{Deed, Row, goes_well};
+use crate::tests::row::{Deed, Row, Table, fault_in};
 
 // A subscription of `b`, a publication of `a`, and both handshakes to their ends.
 const WHOLE: &[Row] = &[
@@ -44,7 +44,14 @@ const WHOLE: &[Row] = &[
     Row::Took("b", 1, 1),
 ];
 
+const TABLES: &[Table] = &[Table {
+    name: "whole",
+    nodes: 1,
+    members: &[1],
+    rows: WHOLE,
+}];
+
 #[test]
 fn a_publication_reaches_the_subscriber(rt: HostRuntime) {
-    assert!(rt; goes_well(rt.alloc(), 1, &[1], WHOLE));
+    assert_eq!(rt; fault_in(rt.alloc(), TABLES), None);
 }

@@ -1,14 +1,14 @@
 // Twenty thousand events by a fixed rule, over three nodes and four clients.
 
 use crate::tests::course::{CLIENTS, Course, goes_on, primary_crashes};
-use crate::tests::hand::{named, opened_for};
+use crate::tests::row::{named, opened_for};
 use packet::QoS;
 use std::alloc::Global;
 use world::{Accepted, World};
 
 const EVENTS: u32 = 20_000;
 
-// Behind so many events the active primary crashes as soon as it may, and behind twice as many the next one.
+// After so many events the active primary crashes as soon as it may, and after twice as many the next one.
 const UNTIL_A_CRASH: u32 = 8_000;
 
 // Whether all events come, two primaries crash, and nothing is lost.

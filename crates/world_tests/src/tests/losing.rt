@@ -1,13 +1,13 @@
 // Connections that are lost and ended, at one end and at the other.
 
-use crate::tests::hand::{Deed, Row, goes_well};
+use crate::tests::row::{Deed, Row, Table, fault_in};
 
 const CONNECT: &[u8] = b"\x10\x0D\x00\x04MQTT\x04\x00\x00\x00\x00\x01a";
 
 const PUBLISH: &[u8] = b"\x34\x08\x00\x03t/1\x00\x01x";
 
-// A client abandons its connection before it hears of it. What it published meanwhile is sent on the next one,
-// where its session is found. Each end is closed once.
+// A client abandons its connection before it gets the CONNACK. What it published meanwhile is sent on the next
+// connection, where its session is found. Each end is closed once.
 const ABANDONED: &[Row] = &[
     Row::Idle(Deed::Abandon("a")),
     Row::Idle(Deed::Up(1)),
@@ -36,11 +36,6 @@ const ABANDONED: &[Row] = &[
     Row::Idle(Deed::Notice(3)),
 ];
 
-#[test]
-fn an_abandoned_connection(rt: HostRuntime) {
-    assert!(rt; goes_well(rt.alloc(), 1, &[1], ABANDONED));
-}
-
 // A client leaves: its DISCONNECT still goes up, and the node closes its end.
 const LEFT: &[Row] = &[
     Row::Idle(Deed::Disconnect("a")),
@@ -55,11 +50,6 @@ const LEFT: &[Row] = &[
     Row::Idle(Deed::Disconnect("a")),
 ];
 
-#[test]
-fn a_client_leaves(rt: HostRuntime) {
-    assert!(rt; goes_well(rt.alloc(), 1, &[1], LEFT));
-}
-
 // A second connection of a client closes the first one at the node.
 const TAKEN_OVER: &[Row] = &[
     Row::Does(Deed::Open("a", 1), 0, 0),
@@ -72,7 +62,28 @@ const TAKEN_OVER: &[Row] = &[
     Row::Does(Deed::Down(2), 0, 2),
 ];
 
+const TABLES: &[Table] = &[
+    Table {
+        name: "abandoned",
+        nodes: 1,
+        members: &[1],
+        rows: ABANDONED,
+    },
+    Table {
+        name: "left",
+        nodes: 1,
+        members: &[1],
+        rows: LEFT,
+    },
+    Table {
+        name: "taken over",
+        nodes: 1,
+        members: &[1],
+        rows: TAKEN_OVER,
+    },
+];
+
 #[test]
-fn a_second_connection_takes_over(rt: HostRuntime) {
-    assert!(rt; goes_well(rt.alloc(), 1, &[1], TAKEN_OVER));
+fn connections_end(rt: HostRuntime) {
+    assert_eq!(rt; fault_in(rt.alloc(), TABLES), None);
 }

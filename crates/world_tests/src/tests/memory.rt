@@ -1,11 +1,11 @@
 // Memory that is refused, in the events of the script `answer_waits_for_the_backup` of the folder `examples`. Run with
-// each allocation failing in turn: a step in which it was wanting is counted, and where none was all comes as ever.
+// each allocation failing in turn: a step that runs out of memory is counted, and else all comes as ever.
 
-use crate::tests::hand::{named, opened};
+use crate::tests::row::{named, opened};
 use std::alloc::Global;
 use world::{Event, World};
 
-// How many messages were sent and commands are agreed behind each event.
+// How many messages were sent and commands are agreed after each event.
 const WANTED: &[(u64, u64)] = &[(0, 0), (1, 0), (2, 1), (3, 1), (3, 1)];
 
 // A CONNECT of 15 bytes goes up, and a CONNACK of 4 comes down once the backup holds it.

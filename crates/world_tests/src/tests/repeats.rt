@@ -1,6 +1,6 @@
 // Messages that come again, or in another order.
 
-use crate::tests::hand::{Deed, Row, goes_well};
+use crate::tests::row::{Deed, Row, Table, fault_in};
 
 // A CONNECT is answered once the backup holds it. Then the Commit comes again, the Held, and the Append,
 // which is held again; an Append that is already there adds nothing.
@@ -24,11 +24,6 @@ const REPEATED: &[Row] = &[
     Row::Active(1),
 ];
 
-#[test]
-fn a_message_comes_again(rt: HostRuntime) {
-    assert!(rt; goes_well(rt.alloc(), 2, &[1, 2], REPEATED));
-}
-
 // What a tick sends again is a message of its own.
 const TICKED: &[Row] = &[
     Row::Does(Deed::Open("a", 1), 0, 0),
@@ -45,7 +40,22 @@ const TICKED: &[Row] = &[
     Row::HasDown(1, b"\x20\x02\x00\x00"),
 ];
 
+const TABLES: &[Table] = &[
+    Table {
+        name: "repeated",
+        nodes: 2,
+        members: &[1, 2],
+        rows: REPEATED,
+    },
+    Table {
+        name: "ticked",
+        nodes: 2,
+        members: &[1, 2],
+        rows: TICKED,
+    },
+];
+
 #[test]
-fn a_tick_sends_again(rt: HostRuntime) {
-    assert!(rt; goes_well(rt.alloc(), 2, &[1, 2], TICKED));
+fn messages_come_again(rt: HostRuntime) {
+    assert_eq!(rt; fault_in(rt.alloc(), TABLES), None);
 }

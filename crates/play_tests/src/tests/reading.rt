@@ -1,13 +1,85 @@
-// What an order is, in the words of a script.
+// What comes of a text: whether it is a script, and what its lines order.
 
+use crate::tests::worlds::World;
 use packet::{ClientId, Payload, QoS};
-use script::{Amount, Numbers, Order};
+use script::{Amount, Numbers, Opening, Order, Script, ScriptError, read};
 use session_base::Publication;
 use std::alloc::{AllocError, Global};
 use topics::Filter;
 
-/// The line of an order, without zeros in front.
-pub(super) fn told(alloc: Global, order: &Order) -> Result<String, AllocError> {
+/// What comes of a text.
+#[derive(Clone, Copy)]
+pub enum Outcome<'a> {
+    /// It has so many orders, and these lines tell them.
+    Orders(usize, &'a str),
+    /// It has so many.
+    Counts(usize),
+    /// It opens the world of this row.
+    Opens(&'a World),
+    /// It is refused.
+    Refused,
+    /// It is refused by this line.
+    Bad(u64),
+}
+
+/// Whether this comes of a text.
+pub fn comes(alloc: Global, text: &[u8], outcome: Outcome<'_>) -> bool {
+    let read: Result<Script, ScriptError> = read(alloc, text);
+    match read {
+        Ok(script) => is_script(alloc, &script, outcome),
+        Err(error) => is_refusal(error, outcome),
+    }
+}
+
+fn is_script(alloc: Global, script: &Script, outcome: Outcome<'_>) -> bool {
+    match outcome {
+        Outcome::Orders(count, lines) => {
+            script.orders.len() == count && are_told(alloc, script.orders.as_slice(), lines)
+        }
+        Outcome::Counts(count) => script.orders.len() == count,
+        Outcome::Opens(world) => is_opened(&script.opening, world),
+        Outcome::Refused | Outcome::Bad(_) => false,
+    }
+}
+
+fn is_refusal(error: ScriptError, outcome: Outcome<'_>) -> bool {
+    match (error, outcome) {
+        (ScriptError::Line(_), Outcome::Refused) => true,
+        (ScriptError::Line(line), Outcome::Bad(number)) => line == number,
+        _ => false,
+    }
+}
+
+// Whether a first line opens the world of its row.
+fn is_opened(opening: &Opening, world: &World) -> bool {
+    let (_, nodes, members, primary, clients) = world;
+    (opening.nodes, opening.config.primary) == (*nodes, *primary)
+        && opening.config.members.as_slice() == *members
+        && opening.clients.len() == clients.len()
+        && opening
+            .clients
+            .iter()
+            .zip(*clients)
+            .all(|(client, name)| client.as_str() == *name)
+}
+
+// Whether these orders are told by the lines of a text.
+fn are_told(alloc: Global, orders: &[Order], lines: &str) -> bool {
+    orders
+        .iter()
+        .zip(lines.split('\n'))
+        .all(|(order, line)| is_told(alloc, order, line))
+}
+
+// Whether an order is told by this line, without zeros in front.
+fn is_told(alloc: Global, order: &Order, line: &str) -> bool {
+    match told(alloc, order) {
+        Ok(text) => text.as_str() == line,
+        Err(_) => false,
+    }
+}
+
+fn told(alloc: Global, order: &Order) -> Result<String, AllocError> {
     match order {
         Order::Assign(members, primary) => assignment(alloc, members, *primary),
         Order::Deliver(message) => format!(in alloc; "deliver {message}"),

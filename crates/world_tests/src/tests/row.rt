@@ -1,4 +1,4 @@
-// Rows of what happens in a world, and what is seen of it.
+// Rows of what happens in a world, and of what is seen of it.
 
 use packet::{ClientId, Payload, QoS};
 use session_base::Publication;
@@ -13,10 +13,10 @@ pub enum Deed {
     Tick(u8),
     Crash(u8),
     Open(&'static str, u8),
-    /// All that waits on a connection goes up, or down.
+    /// All bytes that wait on a connection go up, or down.
     Up(u64),
     Down(u64),
-    /// So many bytes do.
+    /// So many of them do.
     UpSome(u64, u64),
     DownSome(u64, u64),
     Abandon(&'static str),
@@ -38,21 +38,29 @@ pub enum Said {
     Start(u64),
 }
 
-/// A row of what happens.
+/// What happens in a world, or is seen of it.
 pub enum Row {
-    /// It does, and then so many messages were sent, and so many commands are agreed.
+    /// This happens. Then so many messages were sent, and so many commands are agreed.
     Does(Deed, u64, u64),
-    /// It cannot.
+    /// This cannot happen.
     Idle(Deed),
     /// These bytes wait to go up on a connection, or down.
     HasUp(u64, &'static [u8]),
     HasDown(u64, &'static [u8]),
-    /// So many publications were taken in by a client, the last of them in this session.
+    /// A client took in so many publications, the last of them in this session.
     Took(&'static str, usize, u64),
     /// This ballot is active.
     Active(u64),
     /// These commands are agreed, in this order.
     Agrees(&'static [Said]),
+}
+
+/// A world of so many nodes, these members of ballot 1 with node 1 as primary, and what happens in it.
+pub struct Table {
+    pub name: &'static str,
+    pub nodes: u8,
+    pub members: &'static [u8],
+    pub rows: &'static [Row],
 }
 
 /// A world of so many nodes, these members of ballot 1 with node 1 as primary, and clients `a` and `b`.
@@ -79,26 +87,39 @@ pub fn config_of(alloc: Global, members: &[u8], primary: u8) -> Option<Config> {
     })
 }
 
-/// Whether a world of so many nodes goes by these rows, with no memory wanting.
-pub fn goes_well(alloc: Global, nodes: u8, members: &[u8], rows: &[Row]) -> bool {
-    match opened(alloc, nodes, members) {
-        Some(mut world) => goes(alloc, &mut world, rows),
-        None => false,
-    }
-}
-
-/// Whether a world goes by these rows, with no memory wanting.
-pub fn goes(alloc: Global, world: &mut World, rows: &[Row]) -> bool {
-    for row in rows {
-        if !goes_by(alloc, world, row) {
-            return false;
+/// The first of these tables that has a row which does not hold, and the place of that row; the place after the last one
+/// where a step ran out of memory.
+pub fn fault_in(alloc: Global, tables: &[Table]) -> Option<(&'static str, usize)> {
+    for table in tables {
+        if let Some(at) = fault_of(alloc, table) {
+            return Some((table.name, at));
         }
     }
-    world.losses() == 0
+    None
 }
 
-// Whether a world goes by a row.
-fn goes_by(alloc: Global, world: &mut World, row: &Row) -> bool {
+fn fault_of(alloc: Global, table: &Table) -> Option<usize> {
+    match opened(alloc, table.nodes, table.members) {
+        Some(mut world) => first_fault(alloc, &mut world, table.rows),
+        None => Some(0),
+    }
+}
+
+fn first_fault(alloc: Global, world: &mut World, rows: &[Row]) -> Option<usize> {
+    for (at, row) in rows.iter().enumerate() {
+        if !is_right(alloc, world, row) {
+            return Some(at);
+        }
+    }
+    if world.losses() == 0 {
+        None
+    } else {
+        Some(rows.len())
+    }
+}
+
+// Whether a row holds of a world.
+fn is_right(alloc: Global, world: &mut World, row: &Row) -> bool {
     match row {
         Row::Does(deed, messages, agreed) => {
             does(alloc, world, deed)

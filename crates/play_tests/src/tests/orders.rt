@@ -1,0 +1,71 @@
+// Lines that order something.
+
+use crate::tests::reading::{Outcome, comes};
+use std::alloc::Global;
+
+const HEAD: &str = "world 2 1,2 1 a,b\n";
+
+// Lines, and what they order: the same line, where nothing stands beside it.
+const LINES: &[(&str, &str)] = &[
+    ("assign 2,3 2", "assign 2,3 2"),
+    ("assign 300 0300", "assign 300 300"),
+    ("deliver 0", "deliver 0"),
+    ("deliver 000", "deliver 0"),
+    (
+        "deliver 18446744073709551615",
+        "deliver 18446744073709551615",
+    ),
+    ("tick 1", "tick 1"),
+    ("crash 99", "crash 99"),
+    ("open a 1", "open a 1"),
+    ("open z 1", "open z 1"),
+    ("up 1 15", "up 1 15"),
+    ("up 1 all", "up 1 all"),
+    ("up 1 0", "up 1 0"),
+    ("down 1 4", "down 1 4"),
+    ("down 01 all", "down 1 all"),
+    ("abandon a", "abandon a"),
+    ("abandon a\r", "abandon a\r"),
+    ("disconnect b", "disconnect b"),
+    ("notice 1", "notice 1"),
+    ("publish a t/1 2 0 78", "publish a t/1 2 0 78"),
+    ("publish a t/1 02 01 -", "publish a t/1 2 1 -"),
+    ("publish a $x/é 0 1 aBfF00", "publish a $x/é 0 1 abff00"),
+    ("subscribe b t/# 2", "subscribe b t/# 2"),
+    ("subscribe b + 0", "subscribe b + 0"),
+    ("unsubscribe b t/#", "unsubscribe b t/#"),
+];
+
+#[test]
+fn lines_order_so(rt: HostRuntime) {
+    for (line, wanted) in LINES {
+        assert!(rt; orders(rt.alloc(), line, wanted), "{line}");
+    }
+}
+
+// Whether a line orders this, after a first line.
+fn orders(alloc: Global, line: &str, wanted: &str) -> bool {
+    match format!(in alloc; "{HEAD}{line}\n") {
+        Ok(text) => comes(alloc, text.as_str().as_bytes(), Outcome::Orders(1, wanted)),
+        Err(_) => false,
+    }
+}
+
+// Texts, and what comes of them: how many orders they have.
+const COUNTED: &[(&str, Outcome<'static>)] = &[
+    ("world 2 1,2 1 a,b", Outcome::Counts(0)),
+    ("world 2 1,2 1 a,b\n", Outcome::Counts(0)),
+    ("world 2 1,2 1 a,b\ntick 1", Outcome::Counts(1)),
+    ("world 2 1,2 1 a,b\ntick 1\n", Outcome::Counts(1)),
+    ("world 2 1,2 1 a,b\ntick 1\ntick 2", Outcome::Counts(2)),
+    ("world 2 1,2 1 a,b\ntick 1\n\n", Outcome::Refused),
+    ("\nworld 2 1,2 1 a,b\n", Outcome::Refused),
+];
+
+// The line feed after the last line may be missing.
+#[test]
+fn the_last_line_feed_may_be_missing(rt: HostRuntime) {
+    for (text, outcome) in COUNTED {
+        assert!(rt; comes(rt.alloc(), text.as_bytes(), *outcome), "{text}");
+    }
+}

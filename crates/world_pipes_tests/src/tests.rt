@@ -1,3 +1,0 @@
-mod connections;
-mod hand;
-mod handshakes;

@@ -1,0 +1,153 @@
+// Rows of what a client with its pipes does, and what is seen of it. The server's part is played by hand.
+
+use packet::{ClientId, Payload, QoS};
+use std::alloc::Global;
+use topics::{Filter, TopicName};
+use world_pipes::{ClientError, PipedClient, Port, Sending};
+
+/// What a client does, or what is seen of it.
+#[derive(Clone, Copy)]
+pub enum Row<'a> {
+    /// It opens a connection to this node, by this port.
+    Open(usize, u64),
+    /// There are so many connections.
+    Count(usize),
+    /// A connection leads to this node, by this port.
+    Leads(usize, usize, u64),
+    /// These bytes wait to go up on a connection, and go.
+    Up(usize, &'a [u8]),
+    /// These wait, and so many of them go.
+    UpSome(usize, &'a [u8], usize),
+    /// The server sends these bytes on the newest connection, and they come, so many of them first.
+    Down(&'a [u8], usize),
+    /// It sends these, which wait there.
+    Sent(&'a [u8]),
+    /// So many bytes wait to come, and end the connection.
+    Violates(usize),
+    /// It publishes `x` on `t/1` at QoS 2.
+    Publish,
+    /// It subscribes to `t/#` at QoS 2.
+    Subscribe,
+    /// It cannot.
+    CannotSubscribe,
+    /// It unsubscribes from `t/#`.
+    Unsubscribe,
+    Abandon,
+    Disconnect,
+    /// It cannot, since it has no connection.
+    CannotDisconnect,
+    /// Its CONNECT was accepted.
+    Connected,
+    /// It holds the newest connection, or none.
+    IsOpen(bool),
+    /// It keeps so many publications until they are acknowledged.
+    Kept(usize),
+    /// It took in so many publications.
+    Accepted(usize),
+}
+
+/// The first row that does not hold of client `a`. Where there is no memory for the client, it is the first row.
+pub fn fault_of(alloc: Global, rows: &[Row<'_>]) -> Option<usize> {
+    match ClientId::new(alloc, "a") {
+        Ok(client) => {
+            let mut client = PipedClient::new(alloc, client);
+            rows.iter()
+                .position(|row| !is_right(alloc, &mut client, *row))
+        }
+        Err(_) => Some(0),
+    }
+}
+
+fn is_right(alloc: Global, client: &mut PipedClient, row: Row<'_>) -> bool {
+    match row {
+        Row::Open(node, port) => !client.is_open() && client.open(node, Port(port)).is_ok(),
+        Row::Count(count) => client.len() == count,
+        Row::Leads(at, node, port) => at < client.len() && client.place(at) == (node, Port(port)),
+        Row::Up(at, bytes) => goes_up(client, at, bytes, bytes.len()),
+        Row::UpSome(at, bytes, count) => goes_up(client, at, bytes, count),
+        Row::Down(bytes, first) => comes_down(alloc, client, bytes, first),
+        Row::Sent(bytes) => is_sent(alloc, client, bytes),
+        Row::Violates(count) => violates(client, count),
+        Row::Publish => publish(alloc, client) == Some(Sending::Sent),
+        Row::Subscribe => subscribe(alloc, client) == Some(Sending::Sent),
+        Row::CannotSubscribe => subscribe(alloc, client).is_none(),
+        Row::Unsubscribe => unsubscribe(alloc, client) == Some(Sending::Sent),
+        Row::Abandon => is_abandoned(client),
+        Row::Disconnect => client.disconnect() == Ok(Sending::Sent),
+        Row::CannotDisconnect => client.disconnect() == Err(ClientError::NotActive),
+        Row::Connected => client.core().connected(),
+        Row::IsOpen(open) => client.is_open() == open,
+        Row::Kept(count) => client.core().kept() == count,
+        Row::Accepted(count) => client.core().accepted().len() == count,
+    }
+}
+
+// Whether these bytes wait to go up on a connection, and so many of them go.
+fn goes_up(client: &mut PipedClient, at: usize, bytes: &[u8], count: usize) -> bool {
+    if at >= client.len() || client.up(at) != bytes || count > client.up(at).len() {
+        return false;
+    }
+    client.take_up(at, count);
+    match bytes.get(count..) {
+        Some(rest) => client.up(at) == rest,
+        None => false,
+    }
+}
+
+// Whether the server can send these bytes on the newest connection, after what waits there.
+fn is_sent(alloc: Global, client: &mut PipedClient, bytes: &[u8]) -> bool {
+    if client.len() == 0 {
+        return false;
+    }
+    let newest = client.len() - 1;
+    let mut waiting = Vec::new(alloc);
+    client.swap_down(newest, &mut waiting);
+    let is_room = waiting.extend_from_slice(bytes).is_ok();
+    client.swap_down(newest, &mut waiting);
+    is_room
+}
+
+// Whether these bytes are sent and come, so many of them first.
+fn comes_down(alloc: Global, client: &mut PipedClient, bytes: &[u8], first: usize) -> bool {
+    first <= bytes.len()
+        && is_sent(alloc, client, bytes)
+        && hears(client, first)
+        && hears(client, bytes.len() - first)
+}
+
+// Whether so many bytes come on the connection that the client holds.
+fn hears(client: &mut PipedClient, count: usize) -> bool {
+    if client.len() == 0 || !client.is_open() || count > client.down(client.len() - 1).len() {
+        return false;
+    }
+    client.hear(count).is_ok()
+}
+
+// Whether so many bytes wait to come, and are against the protocol.
+fn violates(client: &mut PipedClient, count: usize) -> bool {
+    if client.len() == 0 || !client.is_open() || count != client.down(client.len() - 1).len() {
+        return false;
+    }
+    client.hear(count) == Err(ClientError::Protocol)
+}
+
+fn is_abandoned(client: &mut PipedClient) -> bool {
+    client.abandon();
+    true
+}
+
+fn publish(alloc: Global, client: &mut PipedClient) -> Option<Sending> {
+    let topic = TopicName::new(alloc, "t/1").ok()?;
+    let payload = Payload::new(alloc, b"x").ok()?;
+    client.publish(topic, QoS::ExactlyOnce, false, payload).ok()
+}
+
+fn subscribe(alloc: Global, client: &mut PipedClient) -> Option<Sending> {
+    let filter = Filter::new(alloc, "t/#").ok()?;
+    client.subscribe(filter, QoS::ExactlyOnce).ok()
+}
+
+fn unsubscribe(alloc: Global, client: &mut PipedClient) -> Option<Sending> {
+    let filter = Filter::new(alloc, "t/#").ok()?;
+    client.unsubscribe(filter).ok()
+}
