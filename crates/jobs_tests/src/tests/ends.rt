@@ -2,22 +2,23 @@
 
 use crate::tests::hand::ends;
 use jobs::{Fault, serve_table, tell};
+use std::alloc::Global;
 use std::net::{Net, TcpListener, TcpStream};
 use std::sync::Wait;
-use std::test::Fail;
 use std::thread::Threads;
 use std::time::Clock;
 
-// Words of a command line behind the program's name, the exit status, and what comes on standard error; nothing is
-// printed. No server listens on the address of these clients.
+// The words of a command line, the exit status, and what comes on standard error; nothing is printed. No server listens
+// on the address of these clients.
 const ENDS: &[(&[&str], u8, &str)] = &[
     (
-        &["serve", "--config", "/nowhere/nodes.toml"],
+        &["vbroker", "serve", "--config", "/nowhere/nodes.toml"],
         1,
         "vbroker: cannot read /nowhere/nodes.toml: entity not found\n",
     ),
     (
         &[
+            "vbroker",
             "pub",
             "--id",
             "a",
@@ -34,6 +35,7 @@ const ENDS: &[(&[&str], u8, &str)] = &[
     ),
     (
         &[
+            "vbroker",
             "sub",
             "--id",
             "a",
@@ -50,6 +52,7 @@ const ENDS: &[(&[&str], u8, &str)] = &[
     ),
     (
         &[
+            "vbroker",
             "pub",
             "--id",
             "a",
@@ -67,21 +70,18 @@ const ENDS: &[(&[&str], u8, &str)] = &[
         "vbroker: lost\n",
     ),
     (
-        &["play", "/nowhere/a.script"],
+        &["vbroker", "play", "/nowhere/a.script"],
         1,
         "vbroker: cannot read /nowhere/a.script: entity not found\n",
     ),
 ];
 
 #[test]
-fn jobs_end_so(rt: HostRuntime) -> Result<(), Fail> {
+fn jobs_end_so(rt: HostRuntime) {
     for (words, status, told) in ENDS {
-        assert!(rt;
-            ends(&rt, words, b"".as_slice(), (*status, "", told))?,
-            "{told}"
-        );
+        let is_so = ends(&rt, words, b"".as_slice(), (*status, "", told));
+        assert!(rt; is_so, "{told}");
     }
-    Ok(())
 }
 
 // Tables of nodes that are refused, and one whose address no program may have.
@@ -98,11 +98,10 @@ const REFUSED: &[(&str, &str)] = &[
 ];
 
 #[test]
-fn tables_are_refused_so(rt: HostRuntime) -> Result<(), Fail> {
+fn tables_are_refused_so(rt: HostRuntime) {
     for (text, told) in REFUSED {
-        assert!(rt; is_refused(&rt, text, told));
+        assert!(rt; is_refused(&rt, text, told), "{told}");
     }
-    Ok(())
 }
 
 // Whether nodes of this table are not served, for the fault that is told so.
@@ -123,39 +122,29 @@ where
     }
 }
 
-// The text of each fault, and its exit status.
+// Whether a fault has this text and this exit status.
+fn is_told(alloc: Global, fault: Fault, text: &str, status: u8) -> bool {
+    let mut faults = Vec::new(alloc);
+    tell(&mut faults, &fault) == status && faults.as_slice() == text.as_bytes()
+}
+
 #[test]
-fn faults_are_told_so(rt: HostRuntime) -> Result<(), Fail> {
-    let told = [
-        (Fault::Memory, "vbroker: out of memory\n", 1),
-        (
-            Fault::Input,
-            "vbroker: standard input could not be read\n",
-            1,
-        ),
-        (
-            Fault::Output,
-            "vbroker: standard output could not be written\n",
-            1,
-        ),
-        (Fault::Clock, "vbroker: the clock could not be read\n", 1),
-        (
-            Fault::Words,
-            "vbroker: the words of the command line could not be read; try vbroker --help\n",
-            2,
-        ),
-        (Fault::Script(3), "vbroker: script line 3\n", 3),
-        (
-            Fault::Losses,
-            "vbroker: out of memory: the transcript shows a world that lost something\n",
-            1,
-        ),
-        (Fault::SessionPresent, "vbroker: session present\n", 1),
-    ];
-    for (fault, text, status) in &told {
-        let mut faults = Vec::new(rt.alloc());
-        let ended = tell(&mut faults, fault);
-        assert!(rt; ended == *status && faults.as_slice() == text.as_bytes());
-    }
-    Ok(())
+fn faults_are_told_so(rt: HostRuntime) {
+    let alloc = rt.alloc();
+    let text = "vbroker: out of memory\n";
+    assert!(rt; is_told(alloc, Fault::Memory, text, 1));
+    let text = "vbroker: standard input could not be read\n";
+    assert!(rt; is_told(alloc, Fault::Input, text, 1));
+    let text = "vbroker: standard output could not be written\n";
+    assert!(rt; is_told(alloc, Fault::Output, text, 1));
+    let text = "vbroker: the clock could not be read\n";
+    assert!(rt; is_told(alloc, Fault::Clock, text, 1));
+    let text = "vbroker: the words of the command line could not be read; try vbroker --help\n";
+    assert!(rt; is_told(alloc, Fault::Words, text, 2));
+    let text = "vbroker: script line 3\n";
+    assert!(rt; is_told(alloc, Fault::Script(3), text, 3));
+    let text = "vbroker: out of memory: the transcript shows a world that lost something\n";
+    assert!(rt; is_told(alloc, Fault::Losses, text, 1));
+    let text = "vbroker: session present\n";
+    assert!(rt; is_told(alloc, Fault::SessionPresent, text, 1));
 }

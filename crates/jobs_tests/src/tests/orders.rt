@@ -1,13 +1,13 @@
 // Orders to the nodes of a server, and its two clients beside them.
 
 use command_line::{Publish, Subscribe};
-use jobs::{publish, serve_table, subscribe, tell};
+use jobs::{publish, serve_table, subscribe};
 use packet::QoS;
-use std::alloc::AllocError;
+use std::alloc::{AllocError, Global};
 use std::io::{BufReader, PipeReader, PipeWriter, Write};
 use std::net::{Net, TcpListener, TcpStream};
+use std::rt::Files;
 use std::sync::Wait;
-use std::test::Fail;
 use std::thread::Threads;
 use std::time::{Clock, Duration};
 use std::{io, thread};
@@ -15,7 +15,7 @@ use std::{io, thread};
 // Before the clients come.
 const FIRST: &str = "nonsense\nstatus\n";
 
-// Behind them: node 2 takes over, and node 1 crashes, once.
+// After them: node 2 takes over, and node 1 crashes, once.
 const THEN: &str = "assign 2,1 2\nassign 2,3 2\nassign 2 2\ncrash 1\ncrash 1\ncrash 3\nquit\n";
 
 const ANSWERS: &str = "refused 24\n\
@@ -32,13 +32,24 @@ const ANSWERS: &str = "refused 24\n\
 // What the subscriber prints of what the publisher publishes.
 const PRINTED: &str = "2 0 t/1 x\n";
 
-// A table of two nodes, of which the first serves on this port.
-fn table_of<R: AllocGlobal>(rt: &R, port: u16) -> Result<String, AllocError> {
-    format!(in rt.alloc();
-        "members = [1, 2]\nprimary = 1\n\
-         [[node]]\nid = 1\nlisten = \"127.0.0.1:{port}\"\n\
-         [[node]]\nid = 2\nlisten = \"127.0.0.1:0\"\n"
-    )
+// A table of two nodes, of which the first serves on an address, and that address.
+#[derive(Drop)]
+struct Served {
+    table: String,
+    address: String,
+}
+
+impl Served {
+    // On this port of the loopback.
+    fn new(alloc: Global, port: u16) -> Result<Served, AllocError> {
+        let table = format!(in alloc;
+            "members = [1, 2]\nprimary = 1\n\
+             [[node]]\nid = 1\nlisten = \"127.0.0.1:{port}\"\n\
+             [[node]]\nid = 2\nlisten = \"127.0.0.1:0\"\n"
+        )?;
+        let address = format!(in alloc; "127.0.0.1:{port}")?;
+        Ok(Served { table, address })
+    }
 }
 
 // A port on which nobody listens.
@@ -49,29 +60,38 @@ where
     Ok(TcpListener::bind(rt, "127.0.0.1:0")?.local_addr()?.port())
 }
 
-// What the nodes of a table answer to the orders that come by a pipe.
-fn serve<R>(rt: &R, table: &str, orders: PipeReader) -> Vec<u8>
+// Whether the nodes of a table answer the orders that come by a pipe as they have to.
+fn serve<R>(rt: &R, table: &str, orders: PipeReader) -> bool
+where
+    R: Threads + Wait + Clock + Sync + AllocGlobal,
+    R: Net<Listener = TcpListener, Stream = TcpStream>,
+{
+    match BufReader::new(rt.alloc(), orders) {
+        Ok(mut input) => are_answered(rt, table, &mut input),
+        Err(_) => false,
+    }
+}
+
+fn are_answered<R>(rt: &R, table: &str, input: &mut BufReader<PipeReader>) -> bool
 where
     R: Threads + Wait + Clock + Sync + AllocGlobal,
     R: Net<Listener = TcpListener, Stream = TcpStream>,
 {
     let mut output = Vec::new(rt.alloc());
     let mut faults = Vec::new(rt.alloc());
-    if let Ok(mut input) = BufReader::new(rt.alloc(), orders) {
-        if let Err(fault) = serve_table(rt, table, &mut input, &mut output, &mut faults) {
-            tell(&mut output, &fault);
-        }
-    }
-    output
+    serve_table(rt, table, input, &mut output, &mut faults).is_ok()
+        && output.as_slice() == ANSWERS.as_bytes()
 }
 
 // Whether `sub` prints what it has to.
-fn prints<R>(rt: &R, address: &str) -> Result<bool, AllocError>
+fn prints<R>(rt: &R, address: &str) -> bool
 where
     R: Clock + AllocGlobal + Net<Stream = TcpStream>,
 {
     let mut addresses = Vec::new(rt.alloc());
-    addresses.push(address)?;
+    if addresses.push(address).is_err() {
+        return false;
+    }
     let job = Subscribe {
         id: "meter",
         filter: "t/#",
@@ -80,18 +100,26 @@ where
         tries: 10,
         addresses,
     };
+    is_printed(rt, &job)
+}
+
+fn is_printed<R>(rt: &R, job: &Subscribe<'_>) -> bool
+where
+    R: Clock + AllocGlobal + Net<Stream = TcpStream>,
+{
     let mut output = Vec::new(rt.alloc());
-    let ended = subscribe(rt, &job, &mut output).is_ok();
-    Ok(ended && output.as_slice() == PRINTED.as_bytes())
+    subscribe(rt, job, &mut output).is_ok() && output.as_slice() == PRINTED.as_bytes()
 }
 
 // Whether `pub` publishes, once the subscriber may have come.
-fn publishes<R>(rt: &R, address: &str) -> Result<bool, AllocError>
+fn publishes<R>(rt: &R, address: &str) -> bool
 where
     R: Clock + AllocGlobal + Net<Stream = TcpStream>,
 {
     let mut addresses = Vec::new(rt.alloc());
-    addresses.push(address)?;
+    if addresses.push(address).is_err() {
+        return false;
+    }
     let job = Publish {
         id: "switch",
         topic: "t/1",
@@ -102,54 +130,63 @@ where
         addresses,
     };
     thread::sleep(rt, Duration::from_millis(1_500));
-    Ok(publish(rt, &job).is_ok())
+    publish(rt, &job).is_ok()
 }
 
-// Gives the orders, and has the clients talk between them: whether they did as they have to.
-fn order<R>(rt: &R, orders: PipeWriter, address: &str) -> io::Result<bool>
+// Gives the orders, and has the clients talk between them: whether these do as they have to.
+fn order<R>(rt: &R, orders: &mut PipeWriter, address: &str) -> bool
+where
+    R: Threads + Clock + Sync + AllocGlobal,
+    R: Net<Listener = TcpListener, Stream = TcpStream>,
+{
+    if orders.write_all(FIRST.as_bytes()).is_err() {
+        return false;
+    }
+    thread::sleep(rt, Duration::from_millis(500));
+    let (printed, published) = thread::join(rt, || prints(rt, address), || publishes(rt, address));
+    orders.write_all(THEN.as_bytes()).is_ok() && printed && published
+}
+
+// The same, by a pipe that then ends.
+fn order_all<R>(rt: &R, orders: PipeWriter, address: &str) -> bool
 where
     R: Threads + Clock + Sync + AllocGlobal,
     R: Net<Listener = TcpListener, Stream = TcpStream>,
 {
     let mut orders = orders;
-    orders.write_all(FIRST.as_bytes())?;
-    thread::sleep(rt, Duration::from_millis(500));
-    let (printed, published) = thread::join(
-        rt,
-        || prints(rt, address).unwrap_or(false),
-        || publishes(rt, address).unwrap_or(false),
-    );
-    orders.write_all(THEN.as_bytes())?;
-    Ok(printed && published)
+    order(rt, &mut orders, address)
 }
 
-// Whether the nodes of this table answer the orders, and the clients do as they have to.
-fn goes_well<R>(
-    rt: &R,
-    table: &str,
-    address: &str,
-    input: PipeReader,
-    orders: PipeWriter,
-) -> io::Result<bool>
+// Whether nodes on this port answer the orders, and the clients do as they have to.
+fn go_well_at<R>(rt: &R, port: u16) -> bool
 where
-    R: Threads + Wait + Clock + Sync + AllocGlobal,
+    R: Files + Threads + Wait + Clock + Sync + AllocGlobal,
     R: Net<Listener = TcpListener, Stream = TcpStream>,
 {
-    let (answers, talked) = thread::join(
+    match Served::new(rt.alloc(), port) {
+        Ok(served) => go_well(rt, &served),
+        Err(_) => false,
+    }
+}
+
+fn go_well<R>(rt: &R, served: &Served) -> bool
+where
+    R: Files + Threads + Wait + Clock + Sync + AllocGlobal,
+    R: Net<Listener = TcpListener, Stream = TcpStream>,
+{
+    let Ok((input, orders)) = io::pipe(rt) else {
+        return false;
+    };
+    let (answered, talked) = thread::join(
         rt,
-        || serve(rt, table, input),
-        || order(rt, orders, address),
+        || serve(rt, served.table.as_str(), input),
+        || order_all(rt, orders, served.address.as_str()),
     );
-    Ok(talked? && answers.as_slice() == ANSWERS.as_bytes())
+    answered && talked
 }
 
 #[test]
-fn orders_are_answered(rt: HostRuntime) -> Result<(), Fail> {
-    let port = free_port(&rt)?;
-    let table = table_of(&rt, port)?;
-    let address = format!(in rt.alloc(); "127.0.0.1:{port}")?;
-    let (input, orders) = io::pipe(&rt)?;
-    let well = goes_well(&rt, table.as_str(), address.as_str(), input, orders)?;
-    assert!(rt; well);
-    Ok(())
+fn orders_are_answered(rt: HostRuntime) {
+    let port = free_port(&rt);
+    assert!(rt; port.is_ok_and(|port| go_well_at(&rt, port)));
 }

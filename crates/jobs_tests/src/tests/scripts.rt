@@ -2,8 +2,11 @@
 
 use crate::tests::hand::{End, ends};
 use std::fs;
-use std::test::Fail;
-use std::time::{SystemTime, UNIX_EPOCH};
+use std::net::{Net, TcpListener, TcpStream};
+use std::rt::Files;
+use std::sync::Wait;
+use std::thread::Threads;
+use std::time::{Clock, SystemTime, UNIX_EPOCH};
 
 const SCRIPT: &str = "world 2 1,2 1 a\nopen a 1\nup 1 all\ndeliver 7\n";
 
@@ -24,35 +27,52 @@ const PLAYED: &[(&str, End<'static>)] = &[
 ];
 
 #[test]
-fn scripts_of_the_input_are_played(rt: HostRuntime) -> Result<(), Fail> {
+fn scripts_of_the_input_are_played(rt: HostRuntime) {
     for (script, end) in PLAYED {
-        assert!(rt; ends(&rt, &["play"], script.as_bytes(), *end)?, "{script}");
+        let is_played = ends(&rt, &["vbroker", "play"], script.as_bytes(), *end);
+        assert!(rt; is_played, "{script}");
     }
-    Ok(())
 }
 
 // A name that no file has yet.
-fn free_name(rt: &HostRuntime) -> Result<String, Fail> {
-    let Ok(now) = SystemTime::now(rt)?.duration_since(UNIX_EPOCH) else {
-        return Ok(String::from_str(rt.alloc(), "/tmp/vbroker.script")?);
-    };
+fn free_name<R: Clock + AllocGlobal>(rt: &R) -> Option<String> {
+    let now = SystemTime::now(rt).ok()?.duration_since(UNIX_EPOCH).ok()?;
     let seconds = now.as_secs();
     let nanoseconds = now.subsec_nanos();
-    Ok(format!(in rt.alloc(); "/tmp/vbroker_{seconds}_{nanoseconds}.script")?)
+    format!(in rt.alloc(); "/tmp/vbroker_{seconds}_{nanoseconds}.script").ok()
 }
 
-// Where a file is named, the input is not read.
-#[test]
-fn a_script_of_a_file_is_played(rt: HostRuntime) -> Result<(), Fail> {
-    let name = free_name(&rt)?;
-    fs::write(&rt, name.as_str(), SCRIPT)?;
+// Whether the script is played from a file of this name, and the input is not read.
+fn is_played_from<R>(rt: &R, name: &str) -> bool
+where
+    R: Files + Threads + Wait + Clock + Sync + AllocGlobal,
+    R: Net<Listener = TcpListener, Stream = TcpStream>,
+{
+    if fs::write(rt, name, SCRIPT).is_err() {
+        return false;
+    }
     let is_played = ends(
-        &rt,
-        &["play", name.as_str()],
+        rt,
+        &["vbroker", "play", name],
         b"nonsense".as_slice(),
         (0, TRANSCRIPT, ""),
     );
-    fs::remove_file(&rt, name.as_str())?;
-    assert!(rt; is_played?);
-    Ok(())
+    fs::remove_file(rt, name).is_ok() && is_played
+}
+
+// The same of a file that no program has.
+fn is_played_from_a_file<R>(rt: &R) -> bool
+where
+    R: Files + Threads + Wait + Clock + Sync + AllocGlobal,
+    R: Net<Listener = TcpListener, Stream = TcpStream>,
+{
+    match free_name(rt) {
+        Some(name) => is_played_from(rt, name.as_str()),
+        None => false,
+    }
+}
+
+#[test]
+fn a_script_of_a_file_is_played(rt: HostRuntime) {
+    assert!(rt; is_played_from_a_file(&rt));
 }

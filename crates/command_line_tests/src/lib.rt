@@ -1,5 +1,0 @@
-//! Command lines and tables of nodes. Tests alone stand here.
-#![tactic(auto)]
-
-#[cfg(test)]
-mod tests;
