@@ -1,9 +1,10 @@
 // Grants a second, over an index of many clients with 64 filters each.
 
-use anyhow::{Result, bail};
+use anyhow::{Result, ensure};
+use bench_base::nanos_each;
 use packet::{ClientId, QoS};
 use std::alloc::Global;
-use std::time::Instant;
+use std::time::CpuClock;
 use subs::{ListIndex, SubIndex};
 use topics::{Filter, TopicName};
 
@@ -18,54 +19,77 @@ pub fn run(rt: &HostRuntime) -> Result<()> {
     measure(rt, 4_000)
 }
 
+// Each function below is lent the index, so that no way out of it has to drop it.
 fn measure(rt: &HostRuntime, clients: u32) -> Result<()> {
     let mut index = ListIndex::new(rt.alloc());
     measure_over(rt, &mut index, clients)
 }
 
 fn measure_over(rt: &HostRuntime, index: &mut ListIndex, clients: u32) -> Result<()> {
-    let built = fill(rt, index, clients)?;
-    let micros = grant_micros(rt, index, clients)?;
+    let built = fill(rt, index, clients)? / 1_000_000;
+    let micros = grant(rt, index, clients)? / 1_000;
     println!(rt; "{clients} clients: set in {built} ms, {micros} us a grant")?;
     Ok(())
 }
 
-// Sets the filters of so many clients: the milliseconds that it took.
+// Sets the filters of so many clients: the time that it took.
 fn fill(rt: &HostRuntime, index: &mut ListIndex, clients: u32) -> Result<u128> {
-    let start = Instant::now(rt)?;
+    let start = rt.process_cpu_time()?;
     for number in 0..clients {
         set_filters(rt.alloc(), index, number)?;
     }
-    Ok(start.elapsed(rt)?.as_millis())
+    nanos_each(rt, start, 1)
 }
 
 /// Each client has one filter that matches the topic, and 63 that do not.
 fn set_filters(alloc: Global, index: &mut ListIndex, number: u32) -> Result<()> {
+    let client = client_of(alloc, number)?;
+    set_all(alloc, index, &client)
+}
+
+fn client_of(alloc: Global, number: u32) -> Result<ClientId> {
     let name = format!(in alloc; "client-{number}")?;
-    let client = ClientId::new(alloc, name.as_str())?;
+    Ok(ClientId::new(alloc, name.as_str())?)
+}
+
+fn set_all(alloc: Global, index: &mut ListIndex, client: &ClientId) -> Result<()> {
     for which in 0..FILTERS {
-        set_filter(alloc, index, &client, which)?;
+        set_filter(alloc, index, client, which)?;
     }
     Ok(())
 }
 
 fn set_filter(alloc: Global, index: &mut ListIndex, client: &ClientId, which: u32) -> Result<()> {
-    let text = format!(in alloc; "house/{which}/+/light")?;
-    let filter = Filter::new(alloc, text.as_str())?;
-    index.set(client, &filter, QoS::AtLeastOnce)?;
-    Ok(())
+    let filter = filter_of(alloc, which)?;
+    Ok(index.set(client, &filter, QoS::AtLeastOnce)?)
 }
 
-fn grant_micros(rt: &HostRuntime, index: &ListIndex, clients: u32) -> Result<u128> {
+fn filter_of(alloc: Global, which: u32) -> Result<Filter> {
+    let text = format!(in alloc; "house/{which}/+/light")?;
+    Ok(Filter::new(alloc, text.as_str())?)
+}
+
+fn grant(rt: &HostRuntime, index: &ListIndex, clients: u32) -> Result<u128> {
     let topic = TopicName::new(rt.alloc(), "house/63/kitchen/light")?;
-    let start = Instant::now(rt)?;
+    time_grants(rt, index, &topic, clients)
+}
+
+// The time of a grant, which has a row of each client.
+fn time_grants(
+    rt: &HostRuntime,
+    index: &ListIndex,
+    topic: &TopicName,
+    clients: u32,
+) -> Result<u128> {
+    let start = rt.process_cpu_time()?;
     for _ in 0..ROUNDS {
-        let rows = rows_granted(rt.alloc(), index, &topic)?;
-        if u64::try_from(rows) != Ok(u64::from(clients)) {
-            bail!("{rows} rows for {clients} clients");
-        }
+        let rows = rows_granted(rt.alloc(), index, topic)?;
+        ensure!(
+            u64::try_from(rows) == Ok(u64::from(clients)),
+            "{rows} rows for {clients} clients"
+        );
     }
-    Ok(start.elapsed(rt)?.as_micros() / u128::from(ROUNDS))
+    nanos_each(rt, start, ROUNDS)
 }
 
 fn rows_granted(alloc: Global, index: &ListIndex, topic: &TopicName) -> Result<usize> {

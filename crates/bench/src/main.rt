@@ -12,6 +12,7 @@ mod streams;
 mod tree;
 
 use anyhow::{Result, bail};
+use bench_base::list;
 use std::env;
 
 /// The benchmarks, each named like its file.
@@ -26,15 +27,8 @@ fn main(rt: HostRuntime) -> Result<()> {
         // It starts threads, which `main` alone may do with the runtime itself.
         Some(name) if name.as_str() == "inbox" => inbox::run(&rt, rt.alloc()),
         Some(name) => run(&rt, name.as_str()),
-        None => list(&rt),
+        None => list(&rt, &NAMES),
     }
-}
-
-fn list(rt: &impl Print) -> Result<()> {
-    for name in &NAMES {
-        println!(rt; "{name}")?;
-    }
-    Ok(())
 }
 
 fn run(rt: &HostRuntime, name: &str) -> Result<()> {

@@ -1,8 +1,9 @@
 // Matches a second, for filters and topics of 1 to 32 levels.
 
-use anyhow::{Result, bail};
-use std::alloc::Global;
-use std::time::Instant;
+use anyhow::{Result, ensure};
+use bench_base::nanos_each;
+use std::alloc::{AllocError, Global};
+use std::time::CpuClock;
 use topics::{Filter, TopicName, matches};
 
 const ROUNDS: u32 = 62_500;
@@ -16,15 +17,19 @@ const LEVEL: &str = "kitchen";
 /// Prints the time of a match whose levels are all compared, and of one by `+` alone.
 pub fn run(rt: &HostRuntime) -> Result<()> {
     for count in &[1, 2, 4, 8, 16, 32] {
-        let topic_text = repeated(rt.alloc(), LEVEL, *count)?;
-        let plus_text = repeated(rt.alloc(), "+", *count)?;
-        measure(rt, "same", topic_text.as_str(), topic_text.as_str())?;
-        measure(rt, "plus", plus_text.as_str(), topic_text.as_str())?;
+        measure(rt, "same", LEVEL, *count)?;
+        measure(rt, "plus", "+", *count)?;
     }
     Ok(())
 }
 
-fn repeated(alloc: Global, level: &str, count: u32) -> Result<String> {
+// Of a filter of so many levels that are all this one.
+fn measure(rt: &HostRuntime, name: &str, level: &str, count: u32) -> Result<()> {
+    let filter_text = repeated(rt.alloc(), level, count)?;
+    measure_filter(rt, name, filter_text.as_str(), count)
+}
+
+fn repeated(alloc: Global, level: &str, count: u32) -> Result<String, AllocError> {
     let mut text = String::from_str(alloc, level)?;
     for _ in 1..count {
         text.push_str("/")?;
@@ -33,31 +38,44 @@ fn repeated(alloc: Global, level: &str, count: u32) -> Result<String> {
     Ok(text)
 }
 
-fn measure(rt: &HostRuntime, name: &str, filter_text: &str, topic_text: &str) -> Result<()> {
-    let nanos = match_nanos(rt, filter_text, topic_text)?;
+fn measure_filter(rt: &HostRuntime, name: &str, filter_text: &str, count: u32) -> Result<()> {
+    let topic_text = repeated(rt.alloc(), LEVEL, count)?;
+    measure_texts(rt, name, filter_text, topic_text.as_str())
+}
+
+fn measure_texts(rt: &HostRuntime, name: &str, filter_text: &str, topic_text: &str) -> Result<()> {
+    let filter = Filter::new(rt.alloc(), filter_text)?;
+    let nanos = match_nanos(rt, &filter, topic_text)?;
     let bytes = filter_text.len() + topic_text.len();
     println!(rt; "{name}: {bytes} bytes, {nanos} ns a match")?;
     Ok(())
 }
 
-fn match_nanos(rt: &HostRuntime, filter_text: &str, topic_text: &str) -> Result<u128> {
-    let filter = Filter::new(rt.alloc(), filter_text)?;
+fn match_nanos(rt: &HostRuntime, filter: &Filter, topic_text: &str) -> Result<u128> {
     let topics = copies(rt.alloc(), topic_text)?;
-    let start = Instant::now(rt)?;
-    let all_match = match_all(&filter, &topics);
-    let elapsed = start.elapsed(rt)?;
-    if !all_match {
-        bail!("{filter_text} does not match {topic_text}");
-    }
-    Ok(elapsed.as_nanos() / u128::from(ROUNDS * COPIES))
+    time_matches(rt, filter, topics.as_slice())
 }
 
 fn copies(alloc: Global, topic_text: &str) -> Result<Vec<TopicName>> {
     let mut topics = Vec::new(alloc);
+    put_copies(alloc, topic_text, &mut topics)?;
+    Ok(topics)
+}
+
+// The list is lent, so that no way out of the loop has to drop it.
+fn put_copies(alloc: Global, topic_text: &str, topics: &mut Vec<TopicName>) -> Result<()> {
     for _ in 0..COPIES {
         topics.push(TopicName::new(alloc, topic_text)?)?;
     }
-    Ok(topics)
+    Ok(())
+}
+
+fn time_matches(rt: &HostRuntime, filter: &Filter, topics: &[TopicName]) -> Result<u128> {
+    let start = rt.process_cpu_time()?;
+    let all_match = match_all(filter, topics);
+    let nanos = nanos_each(rt, start, ROUNDS * COPIES)?;
+    ensure!(all_match, "a filter does not match a topic");
+    Ok(nanos)
 }
 
 fn match_all(filter: &Filter, topics: &[TopicName]) -> bool {

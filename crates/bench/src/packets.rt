@@ -4,9 +4,10 @@ ghost use Rattle.packet.specs.Spelling.{IsListed};
 
 use crate::publications::{encode_all, publication};
 use anyhow::{Result, bail};
+use bench_base::nanos_each;
 use packet::{Packet, Step, decode};
 use std::alloc::Global;
-use std::time::Instant;
+use std::time::CpuClock;
 
 /// How often each is measured; the least time counts.
 const ROUNDS: u32 = 20;
@@ -18,12 +19,30 @@ pub fn run(rt: &HostRuntime) -> Result<()> {
 }
 
 fn measure(rt: &HostRuntime, count: u32, payload_len: usize) -> Result<()> {
-    let packet = Packet::Publish(publication(rt.alloc(), payload_len)?);
     let mut spelled = Vec::new(rt.alloc());
-    let encoded = encode_time(rt, &packet, count, &mut spelled)?;
+    measure_into(rt, count, payload_len, &mut spelled)
+}
+
+fn measure_into(
+    rt: &HostRuntime,
+    count: u32,
+    payload_len: usize,
+    spelled: &mut Vec<u8>,
+) -> Result<()> {
+    let encoded = encode_some(rt, count, payload_len, spelled)?;
     print(rt, "encode", count, spelled.len(), encoded)?;
-    let decoded = decode_time(rt, count, &spelled)?;
+    let decoded = decode_time(rt, count, spelled.as_slice())?;
     print(rt, "decode", count, spelled.len(), decoded)
+}
+
+fn encode_some(
+    rt: &HostRuntime,
+    count: u32,
+    payload_len: usize,
+    out: &mut Vec<u8>,
+) -> Result<u128> {
+    let packet = Packet::Publish(publication(rt.alloc(), payload_len)?);
+    encode_time(rt, &packet, count, out)
 }
 
 // The least of the rounds; the first one makes room for the bytes.
@@ -33,9 +52,9 @@ fn encode_time(rt: &HostRuntime, packet: &Packet, count: u32, out: &mut Vec<u8>)
     let mut least = u128::MAX;
     for _ in 0..ROUNDS {
         out.clear();
-        let start = Instant::now(rt)?;
+        let start = rt.process_cpu_time()?;
         encode_all(packet, count, out)?;
-        least = least.min(start.elapsed(rt)?.as_nanos());
+        least = least.min(nanos_each(rt, start, 1)?);
     }
     Ok(least)
 }
@@ -43,9 +62,9 @@ fn encode_time(rt: &HostRuntime, packet: &Packet, count: u32, out: &mut Vec<u8>)
 fn decode_time(rt: &HostRuntime, count: u32, bytes: &[u8]) -> Result<u128> {
     let mut least = u128::MAX;
     for _ in 0..ROUNDS {
-        let start = Instant::now(rt)?;
+        let start = rt.process_cpu_time()?;
         decode_all(rt.alloc(), count, bytes)?;
-        least = least.min(start.elapsed(rt)?.as_nanos());
+        least = least.min(nanos_each(rt, start, 1)?);
     }
     Ok(least)
 }
@@ -53,10 +72,10 @@ fn decode_time(rt: &HostRuntime, count: u32, bytes: &[u8]) -> Result<u128> {
 fn decode_all(alloc: Global, count: u32, bytes: &[u8]) -> Result<()> {
     let mut at = 0usize;
     for _ in 0..count {
-        let Some(behind) = bytes.get(at..) else {
+        let Some(rest) = bytes.get(at..) else {
             bail!("the bytes end before {at}");
         };
-        match decode(alloc, behind)? {
+        match decode(alloc, rest)? {
             Step::Whole(_, len) => at = at.saturating_add(len),
             Step::More => bail!("a packet is cut short at {at}"),
         }

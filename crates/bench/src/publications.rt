@@ -15,13 +15,11 @@ pub fn append(alloc: Global, count: u32, payload_len: usize, out: &mut Vec<u8>) 
 
 /// A PUBLISH at QoS 0, whose topic has 13 bytes.
 pub fn publication(alloc: Global, payload_len: usize) -> Result<Publish> {
-    let payload = payload(alloc, payload_len)?;
-    let topic = TopicName::new(alloc, "house/kitchen")?;
     Ok(Publish {
-        topic,
+        topic: TopicName::new(alloc, "house/kitchen")?,
         delivery: Delivery::AtMostOnce,
         retain: false,
-        payload,
+        payload: payload(alloc, payload_len)?,
     })
 }
 

@@ -1,10 +1,11 @@
 // Publications that are retained and found again, over a store of many topics.
 
-use anyhow::{Result, bail};
+use anyhow::{Result, ensure};
+use bench_base::nanos_each;
 use packet::{Payload, QoS};
 use retained::RetainedStore;
 use std::alloc::Global;
-use std::time::Instant;
+use std::time::CpuClock;
 use topics::{Filter, TopicName};
 
 /// How often one topic is found by its name.
@@ -23,51 +24,58 @@ fn measure(rt: &HostRuntime, topics: u32) -> Result<()> {
 }
 
 fn measure_over(rt: &HostRuntime, store: &mut RetainedStore, topics: u32) -> Result<()> {
-    let put = put_micros(rt, store, topics)?;
-    let matched = matched_micros(rt, store, topics)?;
-    let named = named_nanos(rt, store)?;
+    let put = put_all(rt, store, topics)? / 1_000;
+    let (matched, count) = find(rt, store, "#", 1)?;
+    ensure!(
+        u64::try_from(count) == Ok(u64::from(topics)),
+        "{count} of {topics} topics found"
+    );
+    let matched = matched / 1_000;
+    let (named, _) = find(rt, store, "house/77/light", ROUNDS)?;
     println!(rt;
         "{topics} topics: put in {put} us, all found in {matched} us, one by its name in {named} ns"
     )?;
     Ok(())
 }
 
-fn put_micros(rt: &HostRuntime, store: &mut RetainedStore, topics: u32) -> Result<u128> {
-    let start = Instant::now(rt)?;
+fn put_all(rt: &HostRuntime, store: &mut RetainedStore, topics: u32) -> Result<u128> {
+    let start = rt.process_cpu_time()?;
     for number in 0..topics {
         put(rt.alloc(), store, number)?;
     }
-    Ok(start.elapsed(rt)?.as_micros())
+    nanos_each(rt, start, 1)
 }
 
 fn put(alloc: Global, store: &mut RetainedStore, number: u32) -> Result<()> {
     // The order of the numbers is not that of the texts.
     let text = format!(in alloc; "house/{number}/light")?;
-    let topic = TopicName::new(alloc, text.as_str())?;
+    put_text(alloc, store, text.as_str())
+}
+
+fn put_text(alloc: Global, store: &mut RetainedStore, text: &str) -> Result<()> {
+    let topic = TopicName::new(alloc, text)?;
     let payload = Payload::new(alloc, text.as_bytes())?;
     store.put(topic, QoS::AtLeastOnce, payload)?;
     Ok(())
 }
 
-fn matched_micros(rt: &HostRuntime, store: &RetainedStore, topics: u32) -> Result<u128> {
-    let filter = Filter::new(rt.alloc(), "#")?;
-    let mut found = Vec::new(rt.alloc());
-    let start = Instant::now(rt)?;
-    store.matching(&filter, &mut found)?;
-    let matched = start.elapsed(rt)?.as_micros();
-    if u64::try_from(found.len()) != Ok(u64::from(topics)) {
-        bail!("{} of {topics} topics found", found.len());
-    }
-    Ok(matched)
+// The time in which what matches a filter is found, and how much that is.
+fn find(rt: &HostRuntime, store: &RetainedStore, text: &str, rounds: u32) -> Result<(u128, usize)> {
+    let filter = Filter::new(rt.alloc(), text)?;
+    time_finds(rt, store, &filter, rounds)
 }
 
-fn named_nanos(rt: &HostRuntime, store: &RetainedStore) -> Result<u128> {
-    let filter = Filter::new(rt.alloc(), "house/77/light")?;
+fn time_finds(
+    rt: &HostRuntime,
+    store: &RetainedStore,
+    filter: &Filter,
+    rounds: u32,
+) -> Result<(u128, usize)> {
     let mut found = Vec::new(rt.alloc());
-    let start = Instant::now(rt)?;
-    for _ in 0..ROUNDS {
+    let start = rt.process_cpu_time()?;
+    for _ in 0..rounds {
         found.clear();
-        store.matching(&filter, &mut found)?;
+        store.matching(filter, &mut found)?;
     }
-    Ok(start.elapsed(rt)?.as_nanos() / u128::from(ROUNDS))
+    Ok((nanos_each(rt, start, rounds)?, found.len()))
 }

@@ -2,10 +2,11 @@
 // all at once.
 
 use crate::publications::append;
-use anyhow::{Result, bail};
+use anyhow::{Result, ensure};
+use bench_base::nanos_each;
 use cutter::Cutter;
 use std::alloc::Global;
-use std::time::Instant;
+use std::time::CpuClock;
 
 /// What a TCP segment carries on an Ethernet, in bytes.
 const SEGMENT: usize = 1_460;
@@ -28,12 +29,10 @@ fn measure(rt: &HostRuntime, count: u32, payload_len: usize, most: usize) -> Res
 
 fn measure_over(rt: &HostRuntime, count: u32, stream: &[u8], most: usize) -> Result<()> {
     let piece = most.min(stream.len());
-    let start = Instant::now(rt)?;
+    let start = rt.process_cpu_time()?;
     let taken = pour(rt.alloc(), stream, piece)?;
-    let micros = start.elapsed(rt)?.as_micros();
-    if taken != count {
-        bail!("{taken} of {count} packets were taken");
-    }
+    let micros = nanos_each(rt, start, 1)? / 1_000;
+    ensure!(taken == count, "{taken} of {count} packets were taken");
     let bytes = stream.len();
     println!(rt; "{count} packets, {bytes} bytes in pieces of {piece}: {micros} us")?;
     Ok(())
@@ -44,7 +43,7 @@ fn pour(alloc: Global, stream: &[u8], piece: usize) -> Result<u32> {
     pour_into(&mut cutter, stream, piece)
 }
 
-// Feeds the stream piece by piece, takes all that is whole behind each, and counts the packets.
+// Feeds the stream piece by piece, takes all that is whole after each, and counts the packets.
 fn pour_into(cutter: &mut Cutter, stream: &[u8], piece: usize) -> Result<u32> {
     let mut taken = 0u32;
     for part in stream.chunks(piece.max(1)) {

@@ -1,12 +1,11 @@
 // The index as a tree beside the one as a list: a grant, a set and a clear, over many clients with
 // 64 filters each. In processor time.
 
-ghost use Rattle.std.specs.Prelude.{◌<◌};
-
-use anyhow::{Result, bail};
+use anyhow::{Result, ensure};
+use bench_base::nanos_each;
 use packet::{ClientId, QoS};
 use std::alloc::Global;
-use std::time::{CpuClock, Duration};
+use std::time::CpuClock;
 use subs::{ListIndex, SubIndex, TreeIndex};
 use topics::{Filter, TopicName};
 
@@ -45,9 +44,7 @@ fn measure<I: SubIndex>(
     shape: Shape,
     clients: u32,
     rounds: u32,
-) -> Result<()>
-    requires { 0 < rounds }
-{
+) -> Result<()> {
     let mut index = I::new(rt.alloc());
     measure_over(rt, name, shape, &mut index, clients, rounds)
 }
@@ -59,9 +56,7 @@ fn measure_over<I: SubIndex>(
     index: &mut I,
     clients: u32,
     rounds: u32,
-) -> Result<()>
-    requires { 0 < rounds }
-{
+) -> Result<()> {
     fill(rt.alloc(), index, shape, clients)?;
     println!(rt; "{name} {shape:?}, {clients} clients of {FILTERS} filters")?;
     print_grant(rt, index, rounds)?;
@@ -100,44 +95,48 @@ fn filter_of(alloc: Global, shape: Shape, number: u32, which: u32) -> Result<Fil
     Ok(Filter::new(alloc, text.as_str())?)
 }
 
-fn print_grant<I: SubIndex>(rt: &HostRuntime, index: &I, rounds: u32) -> Result<()>
-    requires { 0 < rounds }
-{
-    let (rows, nanos) = time_grants(rt, index, rounds)?;
+fn print_grant<I: SubIndex>(rt: &HostRuntime, index: &I, rounds: u32) -> Result<()> {
+    let topic = TopicName::new(rt.alloc(), "house/63/kitchen/light")?;
+    let (rows, nanos) = time_grants(rt, index, &topic, rounds)?;
     println!(rt; "    {rows} rows granted in {nanos} ns")?;
     Ok(())
 }
 
 // The rows of a grant, and the nanoseconds that one took.
-fn time_grants<I: SubIndex>(rt: &HostRuntime, index: &I, rounds: u32) -> Result<(usize, u128)>
-    requires { 0 < rounds }
-{
-    let topic = TopicName::new(rt.alloc(), "house/63/kitchen/light")?;
+fn time_grants<I: SubIndex>(
+    rt: &HostRuntime,
+    index: &I,
+    topic: &TopicName,
+    rounds: u32,
+) -> Result<(usize, u128)> {
     let mut rows = Vec::new(rt.alloc());
     let start = rt.process_cpu_time()?;
     for _ in 0..rounds {
         rows.clear();
-        index.granted(&topic, &mut rows)?;
+        index.granted(topic, &mut rows)?;
     }
-    let nanos = nanos_since(rt, start)? / u128::from(rounds);
-    Ok((rows.len(), nanos))
+    Ok((rows.len(), nanos_each(rt, start, rounds)?))
 }
 
 /// One filter of some clients is cleared, and set again.
 fn print_changes<I: SubIndex>(rt: &HostRuntime, index: &mut I, clients: u32) -> Result<()> {
-    let filter = Filter::new(rt.alloc(), "house/7/+/light")?;
-    let some = some_clients(rt.alloc(), clients)?;
-    print_changes_of(rt, index, &filter, &some)
+    let mut some = Vec::new(rt.alloc());
+    put_clients(rt.alloc(), clients, &mut some)?;
+    print_changes_of(rt, index, some.as_slice())
 }
 
-fn print_changes_of<I: SubIndex>(
-    rt: &HostRuntime,
-    index: &mut I,
-    filter: &Filter,
-    some: &[ClientId],
-) -> Result<()> {
-    let clear = clear_nanos(rt, index, filter, some)?;
-    let set = set_nanos(rt, index, filter, some)?;
+/// Clients at equal distances.
+fn put_clients(alloc: Global, clients: u32, some: &mut Vec<ClientId>) -> Result<()> {
+    for number in 0..CHANGES {
+        some.push(client_of(alloc, number.saturating_mul(clients / CHANGES))?)?;
+    }
+    Ok(())
+}
+
+fn print_changes_of<I: SubIndex>(rt: &HostRuntime, index: &mut I, some: &[ClientId]) -> Result<()> {
+    let filter = Filter::new(rt.alloc(), "house/7/+/light")?;
+    let clear = clear_nanos(rt, index, &filter, some)?;
+    let set = set_nanos(rt, index, &filter, some)?;
     println!(rt; "    one cleared in {clear} ns, set in {set} ns")?;
     Ok(())
 }
@@ -150,11 +149,8 @@ fn clear_nanos<I: SubIndex>(
 ) -> Result<u128> {
     let start = rt.process_cpu_time()?;
     let all = some.iter().all(|client| index.clear(client, filter));
-    let clear = nanos_since(rt, start)? / u128::from(CHANGES);
-    if !all {
-        bail!("a client has not its filter");
-    }
-    Ok(clear)
+    ensure!(all, "a client has not its filter");
+    nanos_each(rt, start, CHANGES)
 }
 
 fn set_nanos<I: SubIndex>(
@@ -167,18 +163,5 @@ fn set_nanos<I: SubIndex>(
     for client in some {
         index.set(client, filter, QoS::AtLeastOnce)?;
     }
-    Ok(nanos_since(rt, start)? / u128::from(CHANGES))
-}
-
-/// Clients at equal distances.
-fn some_clients(alloc: Global, clients: u32) -> Result<Vec<ClientId>> {
-    let mut some = Vec::new(alloc);
-    for number in 0..CHANGES {
-        some.push(client_of(alloc, number.saturating_mul(clients / CHANGES))?)?;
-    }
-    Ok(some)
-}
-
-fn nanos_since(rt: &HostRuntime, start: Duration) -> Result<u128> {
-    Ok(rt.process_cpu_time()?.saturating_sub(start).as_nanos())
+    nanos_each(rt, start, CHANGES)
 }

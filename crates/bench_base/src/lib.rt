@@ -1,4 +1,5 @@
-//! What the benchmarks share: the list of their names, the processor's clock, and what the process holds of memory.
+//! What the benchmarks share: the list of their names, the processor's clock and the time of a round, and what the process holds
+//! of memory.
 #![tactic(auto)]
 
 use anyhow::Result;
@@ -17,6 +18,11 @@ pub fn list<R: Print>(rt: &R, names: &[&str]) -> Result<()> {
 /// Returns the processor time since a moment.
 pub fn time_since<R: CpuClock>(rt: &R, start: Duration) -> Result<Duration> {
     Ok(rt.process_cpu_time()?.saturating_sub(start))
+}
+
+/// Returns the nanoseconds of processor time since a moment that each of so many rounds took.
+pub fn nanos_each<R: CpuClock>(rt: &R, start: Duration, rounds: u32) -> Result<u128> {
+    Ok(time_since(rt, start)?.as_nanos() / u128::from(rounds.max(1)))
 }
 
 /// Prints what the process holds of memory and the most it ever held, as Linux tells it, each line with this text before it.

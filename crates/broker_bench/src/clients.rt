@@ -46,12 +46,8 @@ impl Clients {
         self.put(Command::Lost(name_of(count)?))
     }
 
-    /// A client asks for these filters in one packet.
-    pub fn subscribe(&mut self, count: u64, filters: Vec<Filter>, qos: QoS) -> Result<()> {
-        let mut wanted = Vec::new(self.alloc);
-        for filter in filters {
-            wanted.push(Subscription { filter, qos })?;
-        }
+    /// A client makes these subscriptions in one packet.
+    pub fn subscribe(&mut self, count: u64, wanted: Vec<Subscription>) -> Result<()> {
         let subscribe = Subscribe {
             id: PacketId::new(1),
             filters: PacketList::new(wanted),
@@ -61,19 +57,17 @@ impl Clients {
 
     /// A client asks for one filter.
     pub fn subscribe_one(&mut self, count: u64, text: &str, qos: QoS) -> Result<()> {
-        let mut filters = Vec::new(self.alloc);
-        filters.push(Filter::new(self.alloc, text)?)?;
-        self.subscribe(count, filters, qos)
+        let mut wanted = Vec::new(self.alloc);
+        wanted.push(Subscription {
+            filter: Filter::new(self.alloc, text)?,
+            qos,
+        })?;
+        self.subscribe(count, wanted)
     }
 
     /// A client publishes under identifier 1, and all clients answer what comes of it until nothing is under way.
     pub fn publish(&mut self, count: u64, topic: &TopicName, qos: QoS, retain: bool) -> Result<()> {
-        let publish = Publish {
-            topic: topic.clone()?,
-            delivery: delivery_at(qos),
-            retain,
-            payload: Payload::new(self.alloc, &PAYLOAD)?,
-        };
+        let publish = publication(self.alloc, topic, qos, retain)?;
         self.send(count, Packet::Publish(publish))
     }
 
@@ -85,28 +79,54 @@ impl Clients {
     fn put(&mut self, command: Command) -> Result<()> {
         self.under_way.push_back(command)?;
         for _ in 0..u64::MAX {
-            let Some(command) = self.under_way.pop_front() else {
+            if !self.take_next()? {
                 break;
-            };
-            self.take(&command)?;
-        }
-        Ok(())
-    }
-
-    // Does a command alone, and keeps what the clients answer.
-    fn take(&mut self, command: &Command) -> Result<()> {
-        let mut given = Vec::new(self.alloc);
-        self.broker.apply(command, &mut given)?;
-        for output in &given {
-            if let Output::Send(name, packet) = output {
-                if let Some(answer) = answer_to(packet) {
-                    let answer = Command::Packet(*name, SizedPacket::new(answer)?);
-                    self.under_way.push_back(answer)?;
-                }
             }
         }
         Ok(())
     }
+
+    // Does the command that comes next: whether there was one.
+    fn take_next(&mut self) -> Result<bool> {
+        match self.under_way.pop_front() {
+            Some(command) => self.take(&command),
+            None => Ok(false),
+        }
+    }
+
+    // Does a command alone, and keeps what the clients answer.
+    fn take(&mut self, command: &Command) -> Result<bool> {
+        let mut given = Vec::new(self.alloc);
+        self.broker.apply(command, &mut given)?;
+        self.answer_all(given.as_slice())?;
+        Ok(true)
+    }
+
+    fn answer_all(&mut self, given: &[Output]) -> Result<()> {
+        for output in given {
+            if let Output::Send(name, packet) = output {
+                self.answer(*name, packet)?;
+            }
+        }
+        Ok(())
+    }
+
+    fn answer(&mut self, name: ConnectionId, packet: &Packet) -> Result<()> {
+        if let Some(answer) = answer_to(packet) {
+            let answer = SizedPacket::new(answer)?;
+            self.under_way.push_back(Command::Packet(name, answer))?;
+        }
+        Ok(())
+    }
+}
+
+fn publication(alloc: Global, topic: &TopicName, qos: QoS, retain: bool) -> Result<Publish> {
+    Ok(Publish {
+        topic: topic.clone()?,
+        delivery: delivery_at(qos),
+        retain,
+        payload: Payload::new(alloc, &PAYLOAD)?,
+    })
 }
 
 /// The name of a connection of ballot 1.

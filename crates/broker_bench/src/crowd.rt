@@ -2,7 +2,7 @@
 
 use crate::clients::Clients;
 use anyhow::Result;
-use packet::QoS;
+use packet::{QoS, Subscription};
 use std::alloc::Global;
 use topics::Filter;
 
@@ -24,15 +24,28 @@ fn visit(clients: &mut Clients, alloc: Global, session: u32) -> Result<()> {
     let count = FIRST.saturating_add(u64::from(session));
     let name = format!(in alloc; "beside-{session}")?;
     clients.connect(count, name.as_str())?;
-    clients.subscribe(count, filters(alloc)?, QoS::AtLeastOnce)?;
+    clients.subscribe(count, wanted(alloc)?)?;
     clients.lose(count)
 }
 
-fn filters(alloc: Global) -> Result<Vec<Filter>> {
-    let mut filters = Vec::new(alloc);
+fn wanted(alloc: Global) -> Result<Vec<Subscription>> {
+    let mut wanted = Vec::new(alloc);
+    put_all(alloc, &mut wanted)?;
+    Ok(wanted)
+}
+
+// The list is lent, so that no way out of the loop has to drop it.
+fn put_all(alloc: Global, wanted: &mut Vec<Subscription>) -> Result<()> {
     for which in 0..FILTERS {
-        let text = format!(in alloc; "house/{which}/+/light")?;
-        filters.push(Filter::new(alloc, text.as_str())?)?;
+        wanted.push(subscription(alloc, which)?)?;
     }
-    Ok(filters)
+    Ok(())
+}
+
+fn subscription(alloc: Global, which: u32) -> Result<Subscription> {
+    let text = format!(in alloc; "house/{which}/+/light")?;
+    Ok(Subscription {
+        filter: Filter::new(alloc, text.as_str())?,
+        qos: QoS::AtLeastOnce,
+    })
 }

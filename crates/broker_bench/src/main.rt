@@ -12,8 +12,8 @@ mod retained_topics;
 mod traffic;
 
 use anyhow::{Result, bail};
+use bench_base::list;
 use std::env;
-use std::time::{CpuClock, Duration};
 
 /// The benchmarks, each named like its file.
 const NAMES: [&str; 5] = ["freezing", "node", "publications", "queue", "retained"];
@@ -23,15 +23,8 @@ fn main(rt: HostRuntime) -> Result<()> {
     words.next();
     match words.next() {
         Some(name) => run(&rt, name.as_str()),
-        None => list(&rt),
+        None => list(&rt, &NAMES),
     }
-}
-
-fn list(rt: &impl Print) -> Result<()> {
-    for name in &NAMES {
-        println!(rt; "{name}")?;
-    }
-    Ok(())
 }
 
 fn run(rt: &HostRuntime, name: &str) -> Result<()> {
@@ -43,9 +36,4 @@ fn run(rt: &HostRuntime, name: &str) -> Result<()> {
         "retained" => retained_topics::run(rt),
         _ => bail!("no benchmark has the name {name}"),
     }
-}
-
-/// The processor time since a start, in nanoseconds.
-fn nanos_since(rt: &HostRuntime, start: Duration) -> Result<u128> {
-    Ok(rt.process_cpu_time()?.saturating_sub(start).as_nanos())
 }

@@ -1,19 +1,19 @@
 // Publications through one node, each with all handshakes, as bytes: items by themselves, and with what is handed over.
 
-use crate::nanos_since;
 use crate::traffic::{Part, Traffic, connect, packets_of, subscribe};
 use anyhow::{Result, anyhow, ensure};
 use ballot::{Config, Members};
+use bench_base::nanos_each;
 use packet::QoS;
 use std::alloc::Global;
 use std::time::CpuClock;
 use world_base::{Item, NodeCore, Piece, Port};
 
 /// How many publications a figure rests on.
-const PUBLICATIONS: usize = 61_440;
+const PUBLICATIONS: u32 = 61_440;
 
 /// Prints the time of a publication at each QoS, with 12 and 60 connections of which every other one publishes to the one
-/// behind it, in pieces of one packet and of 64.
+/// after it, in pieces of one packet and of 64.
 pub fn run(rt: &HostRuntime) -> Result<()> {
     for connections in &[12, 60] {
         for qos in &[QoS::AtMostOnce, QoS::AtLeastOnce, QoS::ExactlyOnce] {
@@ -25,16 +25,26 @@ pub fn run(rt: &HostRuntime) -> Result<()> {
     Ok(())
 }
 
-// The same traffic with nothing handed over, and with all.
+// The same traffic with nothing handed over, and with all. What is large is lent below, so that no way out has to drop it.
 fn compare(rt: &HostRuntime, connections: u64, qos: QoS, packets: u8) -> Result<()> {
     let traffic = Traffic::new(rt.alloc(), connections, qos, packets)?;
+    compare_with(rt, connections, qos, packets, &traffic)
+}
+
+fn compare_with(
+    rt: &HostRuntime,
+    connections: u64,
+    qos: QoS,
+    packets: u8,
+    traffic: &Traffic,
+) -> Result<()> {
     // Each packet becomes a place of the log: the CONNECTs, the SUBSCRIBEs, and those of all publications.
-    let places = (PUBLICATIONS as u64)
+    let places = u64::from(PUBLICATIONS)
         .saturating_mul(packets_of(qos))
         .saturating_add(connections)
         .saturating_add(connections / 2);
-    let alone = measure(rt, connections, &traffic, places, false)?;
-    let with = measure(rt, connections, &traffic, places, true)?;
+    let alone = measure(rt, connections, traffic, places, false)?;
+    let with = measure(rt, connections, traffic, places, true)?;
     let number = qos.number();
     println!(rt;
         "{connections} connections, QoS {number}, pieces of {packets}: {alone} ns a publication, handed over {with} ns"
@@ -50,12 +60,17 @@ fn measure(
     places: u64,
     looks: bool,
 ) -> Result<u128> {
+    let mut node = fresh(rt.alloc())?;
+    figure(rt, &mut node, connections, traffic, places, looks)
+}
+
+fn fresh(alloc: Global) -> Result<NodeCore> {
+    let members = Members::from_slice(alloc, &[1])?;
     let config = Config {
-        members: Members::from_slice(rt.alloc(), &[1])?,
+        members,
         primary: 1,
     };
-    let mut node = NodeCore::new(rt.alloc(), 1, &config)?;
-    figure(rt, &mut node, connections, traffic, places, looks)
+    Ok(NodeCore::new(alloc, 1, &config)?)
 }
 
 // The time of a publication with a node that nothing came to yet.
@@ -67,7 +82,9 @@ fn figure(
     places: u64,
     looks: bool,
 ) -> Result<u128> {
-    let nanos = time(rt, node, connections, traffic, looks)?;
+    let mut out = Vec::new(rt.alloc());
+    gather(rt.alloc(), node, connections, &mut out)?;
+    let nanos = time(rt, node, traffic, looks, &mut out)?;
     ensure!(node.losses() == 0, "a step found no memory");
     ensure!(node.status().committed == places, "packets are missing");
     Ok(nanos)
@@ -76,30 +93,29 @@ fn figure(
 fn time(
     rt: &HostRuntime,
     node: &mut NodeCore,
-    connections: u64,
     traffic: &Traffic,
     looks: bool,
+    out: &mut Vec<u8>,
 ) -> Result<u128> {
-    gather(rt.alloc(), node, connections)?;
     let rounds = PUBLICATIONS / traffic.publications().max(1);
-    let mut out = Vec::new(rt.alloc());
     let start = rt.process_cpu_time()?;
     for _round in 0..rounds {
         for part in &traffic.parts {
-            take(rt.alloc(), node, part, looks, &mut out)?;
+            take(rt.alloc(), node, part, looks, out)?;
         }
     }
-    Ok(nanos_since(rt, start)? / PUBLICATIONS as u128)
+    nanos_each(rt, start, PUBLICATIONS)
 }
 
 // All clients connect, and each second one subscribes to what the one before it publishes.
-fn gather(alloc: Global, node: &mut NodeCore, connections: u64) -> Result<()> {
-    let mut out = Vec::new(alloc);
+fn gather(alloc: Global, node: &mut NodeCore, connections: u64, out: &mut Vec<u8>) -> Result<()> {
     for port in 0..connections {
         step(alloc, node, Item::Opened(Port(port), 0));
-        take(alloc, node, &connect(alloc, port)?, true, &mut out)?;
+        let connect = connect(alloc, port)?;
+        take(alloc, node, &connect, true, out)?;
         if port % 2 == 1 {
-            take(alloc, node, &subscribe(alloc, port)?, true, &mut out)?;
+            let subscribe = subscribe(alloc, port)?;
+            take(alloc, node, &subscribe, true, out)?;
         }
     }
     Ok(())

@@ -1,8 +1,9 @@
 // Publications a second, each with the handshakes of its publisher and of its subscribers.
 
 use crate::clients::Clients;
-use crate::{crowd, nanos_since};
+use crate::crowd;
 use anyhow::Result;
+use bench_base::nanos_each;
 use packet::QoS;
 use std::alloc::Global;
 use std::time::CpuClock;
@@ -29,7 +30,19 @@ pub fn run(rt: &HostRuntime) -> Result<()> {
 
 fn measure(rt: &HostRuntime, qos: QoS, subscribers: u64, beside: u32) -> Result<()> {
     let mut clients = Clients::new(rt.alloc())?;
-    let nanos = time(rt, &mut clients, qos, subscribers, beside)? / u128::from(ROUNDS);
+    measure_with(rt, &mut clients, qos, subscribers, beside)
+}
+
+// Each function below is lent the broker, so that no way out of it has to drop it.
+fn measure_with(
+    rt: &HostRuntime,
+    clients: &mut Clients,
+    qos: QoS,
+    subscribers: u64,
+    beside: u32,
+) -> Result<()> {
+    gather(rt, clients, qos, subscribers, beside)?;
+    let nanos = publish(rt, clients, qos)?;
     let number = qos.number();
     println!(rt;
         "QoS {number}, to {subscribers}, {beside} sessions beside: {nanos} ns a publication"
@@ -37,24 +50,33 @@ fn measure(rt: &HostRuntime, qos: QoS, subscribers: u64, beside: u32) -> Result<
     Ok(())
 }
 
-fn time(
+fn gather(
     rt: &HostRuntime,
     clients: &mut Clients,
     qos: QoS,
     subscribers: u64,
     beside: u32,
-) -> Result<u128> {
+) -> Result<()> {
     crowd::gather(clients, rt.alloc(), beside)?;
     clients.connect(PUBLISHER, "publisher")?;
     for number in 0..subscribers {
         subscribe(clients, rt.alloc(), number, qos)?;
     }
+    Ok(())
+}
+
+fn publish(rt: &HostRuntime, clients: &mut Clients, qos: QoS) -> Result<u128> {
     let topic = TopicName::new(rt.alloc(), "plant/1/pump/speed")?;
+    time(rt, clients, qos, &topic)
+}
+
+// The time of a publication of this topic.
+fn time(rt: &HostRuntime, clients: &mut Clients, qos: QoS, topic: &TopicName) -> Result<u128> {
     let start = rt.process_cpu_time()?;
     for _ in 0..ROUNDS {
-        clients.publish(PUBLISHER, &topic, qos, false)?;
+        clients.publish(PUBLISHER, topic, qos, false)?;
     }
-    nanos_since(rt, start)
+    nanos_each(rt, start, ROUNDS)
 }
 
 fn subscribe(clients: &mut Clients, alloc: Global, number: u64, qos: QoS) -> Result<()> {

@@ -1,8 +1,8 @@
 // A session that is away: its queue is filled, and emptied once its client is back.
 
 use crate::clients::Clients;
-use crate::nanos_since;
 use anyhow::Result;
+use bench_base::nanos_each;
 use packet::QoS;
 use std::time::CpuClock;
 use topics::TopicName;
@@ -28,8 +28,8 @@ fn measure(rt: &HostRuntime, clients: &mut Clients, qos: QoS) -> Result<()> {
     clients.subscribe_one(1, "plant/#", qos)?;
     clients.lose(1)?;
     clients.connect(2, "publisher")?;
-    let filled = fill(rt, clients, qos)? / u128::from(WAITING);
-    let drained = drain(rt, clients)? / u128::from(WAITING);
+    let filled = fill(rt, clients, qos)?;
+    let drained = drain(rt, clients)?;
     let number = qos.number();
     println!(rt;
         "QoS {number}: {WAITING} put in at {filled} ns each, sent and answered at {drained} ns each"
@@ -42,17 +42,17 @@ fn fill(rt: &HostRuntime, clients: &mut Clients, qos: QoS) -> Result<u128> {
     put_in(rt, clients, &topic, qos)
 }
 
-// The time of all publications of this topic.
+// The time of a publication of this topic.
 fn put_in(rt: &HostRuntime, clients: &mut Clients, topic: &TopicName, qos: QoS) -> Result<u128> {
     let start = rt.process_cpu_time()?;
     for _ in 0..WAITING {
         clients.publish(2, topic, qos, false)?;
     }
-    nanos_since(rt, start)
+    nanos_each(rt, start, WAITING)
 }
 
 fn drain(rt: &HostRuntime, clients: &mut Clients) -> Result<u128> {
     let start = rt.process_cpu_time()?;
     clients.connect(3, "subscriber")?;
-    nanos_since(rt, start)
+    nanos_each(rt, start, WAITING)
 }

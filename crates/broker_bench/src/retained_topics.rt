@@ -1,8 +1,8 @@
 // Retained publications of many topics, found by one filter.
 
 use crate::clients::Clients;
-use crate::nanos_since;
 use anyhow::Result;
+use bench_base::nanos_each;
 use packet::QoS;
 use std::time::CpuClock;
 use topics::TopicName;
@@ -23,14 +23,14 @@ fn measure(rt: &HostRuntime, clients: &mut Clients) -> Result<()> {
     for number in 0..TOPICS {
         keep(rt, clients, number)?;
     }
-    let kept = nanos_since(rt, start)? / u128::from(TOPICS);
+    let kept = nanos_each(rt, start, TOPICS)?;
 
     clients.connect(2, "subscriber")?;
     let start = rt.process_cpu_time()?;
     for _ in 0..ROUNDS {
         clients.subscribe_one(2, "#", QoS::AtMostOnce)?;
     }
-    let found = nanos_since(rt, start)? / u128::from(ROUNDS) / 1_000;
+    let found = nanos_each(rt, start, ROUNDS)? / 1_000;
     println!(rt; "{TOPICS} topics: kept at {kept} ns each, all found and sent in {found} us")?;
     Ok(())
 }
