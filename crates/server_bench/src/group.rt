@@ -28,19 +28,10 @@ pub struct Subscriber {
 impl Group {
     /// All clients are accepted and the subscribers have subscribed. The letters of the clients begin with this one.
     pub fn new<R: Host>(rt: &R, address: SocketAddr, letter: u8, load: &Load) -> Result<Group> {
-        let publisher = join(rt, address, letter)?;
         let mut subscribers = Vec::new(rt.alloc());
-        for count in 0..load.subscribers {
-            let own = letter.saturating_add(count).saturating_add(1);
-            let mut stream = join(rt, address, own)?;
-            subscribe(&mut stream, letter, load.qos)?;
-            subscribers.push(Subscriber {
-                stream,
-                taken: AtomicU64::new(0),
-            })?;
-        }
+        put_subscribers(rt, address, letter, load, &mut subscribers)?;
         Ok(Group {
-            publisher,
+            publisher: join(rt, address, letter)?,
             subscribers,
             letter,
             last: AtomicU64::new(load.most),
@@ -67,7 +58,31 @@ impl Group {
     }
 }
 
+// The list is lent, so that no way out of the loop has to drop it.
+fn put_subscribers<R: Host>(
+    rt: &R,
+    address: SocketAddr,
+    letter: u8,
+    load: &Load,
+    subscribers: &mut Vec<Subscriber>,
+) -> Result<()> {
+    for count in 0..load.subscribers {
+        let own = letter.saturating_add(count).saturating_add(1);
+        let mut stream = join(rt, address, own)?;
+        subscribe(&mut stream, letter, load.qos)?;
+        subscribers.push(Subscriber::new(stream))?;
+    }
+    Ok(())
+}
+
 impl Subscriber {
+    fn new(stream: TcpStream) -> Subscriber {
+        Subscriber {
+            stream,
+            taken: AtomicU64::new(0),
+        }
+    }
+
     /// How many publications are done at its end.
     pub fn taken(&self) -> u64 {
         self.taken.load(Ordering::SeqCst)

@@ -18,6 +18,7 @@ mod short;
 mod traffic;
 
 use anyhow::{Result, bail};
+use bench_base::list;
 use std::env;
 use std::net::{Net, TcpListener, TcpStream};
 use std::sync::Wait;
@@ -34,15 +35,8 @@ fn main(rt: HostRuntime) -> Result<()> {
     words.next();
     match words.next() {
         Some(name) => run(&rt, name.as_str()),
-        None => list(&rt),
+        None => list(&rt, &NAMES),
     }
-}
-
-fn list(rt: &impl Print) -> Result<()> {
-    for name in &NAMES {
-        println!(rt; "{name}")?;
-    }
-    Ok(())
 }
 
 // All bounds of `Host` stand here, since `main` gets no proof by that name.

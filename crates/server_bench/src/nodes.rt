@@ -13,16 +13,28 @@ where
     F: FnOnce(SocketAddr) -> T,
     requires { F.IsAlwaysCallable attend }
 {
+    let places = places(rt, members)?;
+    beside_places(rt, places.as_slice(), members, attend)
+}
+
+// The places are lent, so that no way out has to drop them.
+fn beside_places<R, T, F>(rt: &R, places: &[Place], members: &[u8], attend: F) -> Result<T>
+where
+    R: Host,
+    T: Drop,
+    F: FnOnce(SocketAddr) -> T,
+    requires { F.IsAlwaysCallable attend }
+{
+    let address = first_address(places)?;
+    let members = Members::from_slice(rt.alloc(), members)?;
     let config = Config {
-        members: Members::from_slice(rt.alloc(), members)?,
+        members,
         primary: 1,
     };
-    let places = places(rt, members)?;
-    let address = first_address(places.as_slice())?;
     let came = serve_while(
         rt,
         rt.alloc(),
-        places.as_slice(),
+        places,
         &config,
         |_peers|
             requires callable { F.IsAlwaysCallable attend }
@@ -34,11 +46,16 @@ where
 // The places of these nodes, each on a free port.
 fn places<R: Host>(rt: &R, numbers: &[u8]) -> Result<Vec<Place>> {
     let mut places = Vec::new(rt.alloc());
+    put_places(rt, numbers, &mut places)?;
+    Ok(places)
+}
+
+fn put_places<R: Host>(rt: &R, numbers: &[u8], places: &mut Vec<Place>) -> Result<()> {
     for number in numbers {
         let listener = TcpListener::bind(rt, "127.0.0.1:0")?;
         places.push(Place::new(rt.alloc(), *number, listener)?)?;
     }
-    Ok(places)
+    Ok(())
 }
 
 fn first_address(places: &[Place]) -> Result<SocketAddr> {

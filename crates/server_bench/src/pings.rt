@@ -6,8 +6,8 @@ use crate::nodes::beside;
 use anyhow::{Result, ensure};
 use std::alloc::{AllocError, Global};
 use std::io::{Read, Write};
-use std::net::SocketAddr;
-use std::time::{Duration, Instant};
+use std::net::{SocketAddr, TcpStream};
+use std::time::{Clock, Duration, Instant};
 
 /// How many PINGREQ are written.
 const PINGS: u32 = 32_768;
@@ -28,15 +28,22 @@ fn measure<R: Host>(rt: &R, members: &[u8]) -> Result<()> {
 
 fn flood<R: Host>(rt: &R, address: SocketAddr) -> Result<Duration> {
     let mut stream = join(rt, address, 0x41)?;
-    let sent = packets(rt.alloc(), 0xC0)?;
-    let wanted = packets(rt.alloc(), 0xD0)?;
-    let mut room = packets(rt.alloc(), 0)?;
+    let mut bytes = packets(rt.alloc(), 0xC0)?;
+    exchange(rt, &mut stream, bytes.as_mut_slice())
+}
+
+// Writes PINGREQ, and reads as many PINGRESP over them: the time that it takes.
+fn exchange<R: Clock>(rt: &R, stream: &mut TcpStream, bytes: &mut [u8]) -> Result<Duration> {
     let start = Instant::now(rt)?;
-    stream.write_all(sent.as_slice())?;
-    stream.read_exact(room.as_mut_slice())?;
+    stream.write_all(bytes)?;
+    stream.read_exact(bytes)?;
     let time = start.elapsed(rt)?;
-    ensure!(room == wanted, "what came is no PINGRESP");
+    ensure!(bytes.chunks(2).all(is_response), "what came is no PINGRESP");
     Ok(time)
+}
+
+fn is_response(packet: &[u8]) -> bool {
+    packet == [0xD0, 0].as_slice()
 }
 
 // Packets of this first byte, with nothing in them.

@@ -13,7 +13,7 @@ use std::time::{Clock, Duration, Instant};
 /// How long a publisher sleeps that is far ahead, in microseconds.
 const PAUSE: u64 = 50;
 
-/// How long subscribers may take behind the time of the publishers, in seconds.
+/// How long subscribers may take after the time of the publishers, in seconds.
 const PATIENCE: u64 = 30;
 
 // A publisher, which has sent so many publications.
@@ -33,20 +33,30 @@ pub fn publish<R: Clock>(
 ) -> Result<()> {
     let ends = Handshakes::new(alloc, &group.publisher)?;
     let mut publisher = Publisher { ends, sent: 0 };
-    let patience = load.time.saturating_add(Duration::from_secs(PATIENCE));
-    for _ in 0..u64::MAX {
-        let passed = start.elapsed(rt)?;
-        ensure!(passed < patience, "a subscriber stays behind");
-        let last = publisher.last(group, passed >= load.time);
-        if publisher.sent >= last && publisher.under_way() == 0 {
-            break;
-        }
-        publisher.go_on(rt, group, load, last)?;
-    }
-    Ok(())
+    publisher.publish(rt, group, load, start)
 }
 
 impl<'a> Publisher<'a> {
+    fn publish<R: Clock>(
+        &mut self,
+        rt: &R,
+        group: &Group,
+        load: &Load,
+        start: Instant,
+    ) -> Result<()> {
+        let patience = load.time.saturating_add(Duration::from_secs(PATIENCE));
+        for _ in 0..u64::MAX {
+            let passed = start.elapsed(rt)?;
+            ensure!(passed < patience, "a subscriber stays behind");
+            let last = self.last(group, passed >= load.time);
+            if self.sent >= last && self.under_way() == 0 {
+                break;
+            }
+            self.go_on(rt, group, load, last)?;
+        }
+        Ok(())
+    }
+
     fn under_way(&self) -> u64 {
         self.sent.saturating_sub(self.ends.done)
     }
@@ -93,6 +103,10 @@ impl<'a> Publisher<'a> {
 /// Takes in all publications, and answers them.
 pub fn take_in(alloc: Global, group: &Group, subscriber: &Subscriber) -> Result<()> {
     let mut ends = Handshakes::new(alloc, &subscriber.stream)?;
+    take_all(&mut ends, group, subscriber)
+}
+
+fn take_all(ends: &mut Handshakes<'_>, group: &Group, subscriber: &Subscriber) -> Result<()> {
     for _ in 0..u64::MAX {
         if ends.done >= group.last() {
             break;

@@ -34,11 +34,22 @@ pub fn outcome_of<R: Host>(rt: &R, members: &[u8], load: &Load) -> Result<Outcom
 
 fn run<R: Host>(rt: &R, address: SocketAddr, load: &Load) -> Result<Outcome> {
     let mut groups = Vec::new(rt.alloc());
+    put_groups(rt, address, load, &mut groups)?;
+    run_groups(rt, rt.alloc(), groups.as_slice(), load)
+}
+
+// The list is lent, so that no way out of the loop has to drop it.
+fn put_groups<R: Host>(
+    rt: &R,
+    address: SocketAddr,
+    load: &Load,
+    groups: &mut Vec<Group>,
+) -> Result<()> {
     for count in 0..load.publishers {
         let letter = 0x41u8.saturating_add(count.saturating_mul(12));
         groups.push(Group::new(rt, address, letter, load)?)?;
     }
-    run_groups(rt, rt.alloc(), groups.as_slice(), load)
+    Ok(())
 }
 
 fn run_groups<R: Host>(rt: &R, alloc: Global, groups: &[Group], load: &Load) -> Result<Outcome> {
