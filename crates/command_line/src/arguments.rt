@@ -7,71 +7,61 @@ use clap::builder::ValueParser;
 use clap::{Arg, ArgAction};
 use std::alloc::Global;
 
+// `--NAME VALUE`, which has to be there.
+fn option<'a>(alloc: Global, name: &'a str, value: &'a str, help: &'a str) -> Arg<'a>
+    ensures { IsArgument (required_option name.entry.now) result }
+{
+    Arg::new(alloc, name)
+        .long(name)
+        .value_name(value)
+        .required(true)
+        .help(help)
+}
+
 /// `--config FILE`.
 pub(crate) fn config<'a>(alloc: Global) -> Arg<'a>
     ensures { IsArgument config_rule result }
 {
-    Arg::new(alloc, "config")
-        .long("config")
-        .value_name("FILE")
-        .required(true)
-        .help("The table of nodes, in TOML")
+    option(alloc, "config", "FILE", "The table of nodes, in TOML")
 }
 
 /// `--id ID`.
 pub(crate) fn id<'a>(alloc: Global) -> Arg<'a>
     ensures { IsArgument (required_option (codes "id")) result }
 {
-    Arg::new(alloc, "id")
-        .long("id")
-        .value_name("ID")
-        .required(true)
-        .help("The client identifier, 1 to 64 bytes, used by no other client")
+    let help = "The client identifier, 1 to 64 bytes, used by no other client";
+    option(alloc, "id", "ID", help)
 }
 
 /// `--topic T`.
 pub(crate) fn topic<'a>(alloc: Global) -> Arg<'a>
     ensures { IsArgument (required_option (codes "topic")) result }
 {
-    Arg::new(alloc, "topic")
-        .long("topic")
-        .value_name("T")
-        .required(true)
-        .help("The topic, without wildcards")
+    option(alloc, "topic", "T", "The topic, without wildcards")
 }
 
 /// `--filter F`.
 pub(crate) fn filter<'a>(alloc: Global) -> Arg<'a>
     ensures { IsArgument (required_option (codes "filter")) result }
 {
-    Arg::new(alloc, "filter")
-        .long("filter")
-        .value_name("F")
-        .required(true)
-        .help("Which topics: `+` stands for one level, `#` at the end for all further ones")
+    let help = "Which topics: `+` stands for one level, `#` at the end for all further ones";
+    option(alloc, "filter", "F", help)
 }
 
 /// `--qos Q`.
 pub(crate) fn qos<'a>(alloc: Global) -> Arg<'a>
     ensures { IsArgument qos_rule result }
 {
-    Arg::new(alloc, "qos")
-        .long("qos")
-        .value_name("Q")
-        .required(true)
-        .value_parser(ValueParser::signed(0, 2))
-        .help("0 at most once, 1 at least once, 2 exactly once")
+    let help = "0 at most once, 1 at least once, 2 exactly once";
+    option(alloc, "qos", "Q", help).value_parser(ValueParser::signed(0, 2))
 }
 
 /// `--message TEXT`.
 pub(crate) fn message<'a>(alloc: Global) -> Arg<'a>
     ensures { IsArgument (required_option (codes "message")) result }
 {
-    Arg::new(alloc, "message")
-        .long("message")
-        .value_name("TEXT")
-        .required(true)
-        .help("The payload; write one that begins with a hyphen as --message=-5")
+    let help = "The payload; write one that begins with a hyphen as --message=-5";
+    option(alloc, "message", "TEXT", help)
 }
 
 /// `--retain`.
@@ -88,12 +78,8 @@ pub(crate) fn retain<'a>(alloc: Global) -> Arg<'a>
 pub(crate) fn count<'a>(alloc: Global) -> Arg<'a>
     ensures { IsArgument count_rule result }
 {
-    Arg::new(alloc, "count")
-        .long("count")
-        .value_name("N")
-        .required(true)
-        .value_parser(ValueParser::signed(1, 1_000_000))
-        .help("How many messages to print, 1 to 1000000")
+    let help = "How many messages to print, 1 to 1000000";
+    option(alloc, "count", "N", help).value_parser(ValueParser::signed(1, 1_000_000))
 }
 
 /// `--tries N`.

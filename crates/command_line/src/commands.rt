@@ -90,7 +90,8 @@ fn enter<'a>(command: Command<'a>, subcommand: Command<'a>) -> Result<Command<'a
 fn serve<'a>(alloc: Global) -> Result<Command<'a>, AllocError>
     ensures { IfOk result (IsCommand serve_app) }
 {
-    let command = bare(alloc, "serve", "Serves MQTT clients over TCP", AFTER_SERVE);
+    let about = "Serves MQTT clients over TCP";
+    let command = bare(alloc, "serve", about, AFTER_SERVE);
     add(command, arguments::config(alloc))
 }
 
