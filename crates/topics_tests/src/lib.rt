@@ -2,5 +2,8 @@
 //! which of them match (MQTT 3.1.1, section 4.7).
 #![tactic(auto)]
 
+mod rows;
 #[cfg(test)]
 mod tests;
+
+pub use rows::numbers_of_texts;
