@@ -1,97 +1,138 @@
--- LinesAppended.antt: lines of accepted publications behind each other, and the lines of one event.
-use Rattle.std.proofs.Common.{◌≡◌, ℕ, Bool, true, false, List, [], Result, Ok, Err, OnOk, ◌++◌, length, ap, refl, sym, ◌∙◌, arith}
-use Rattle.std.proofs.lemmas.List.{append-nil, append_assoc}
+-- LinesAppended.antt: what clients newly took in, line by line, and the lines of one order.
+use Rattle.std.proofs.Common.{◌≡◌, ◌<◌, ◌+◌, ℕ, zero, suc, List, [], ◌∷◌, Option, Some, None, Result, Ok, Err, OnOk, ◌++◌, length, take, drop, get_or, map, ap, refl, sym, ◌∙◌, subst, arith}
+use Rattle.std.specs.List.{position}
+use Rattle.std.proofs.lemmas.List.{append-nil, append_assoc, take_more}
 use Rattle.client_base.specs.declared.accepted.Accepted.{Accepted}
-use Rattle.transcript.specs.Lines.{accepted_line, done_line, idle_line}
+use Rattle.script.specs.declared.order.Order.{Order}
+use Rattle.transcript.specs.Lines.{accepted_line}
+use Rattle.world.specs.declared.event.Event.{Event}
+use Rattle.world.specs.declared.world.WorldClient.{WorldClient}
+use Rattle.world.specs.Found.{core_at, is_named}
 use Rattle.world.specs.Goes.Goes.{rests}
+use Rattle.world.specs.Happening.{new_world_client}
+use Rattle.world.specs.master.declared.event.Idle.{Idle}
 use Rattle.world.specs.World.{WorldState}
-use Rattle.play.specs.Transcripts.{AreAccepted}
-use Rattle.play.specs.Transcripts.AreAccepted.{none, one_more}
-use Rattle.play.specs.Transcripts.CameOf.{idle, happened}
-use Rattle.play.specs.Inside.{Appends, Steps, Tells, Written}
+use Rattle.play.specs.declared.stage.Listener.{Listener}
+use Rattle.play.specs.Events.{asked_in}
+use Rattle.play.specs.Transcripts.{ComesTo, accepted_by, accepted_in, accepted_lines, lines_after, told_lines}
+use Rattle.play.specs.Inside.{Appends, AreTold, Comes, Written, lines_untold, names_of, new_listener, told_at}
 
--- ---- publications
+-- ---- the lines of one client
 
-pub tells_none : (text : List ℕ) → Tells text text
-tells_none text = record { lines = []; accepted = none; is = sym (append-nil text) }
+lines_join : (name : List ℕ) (xs : List Accepted) (y : Accepted) → accepted_lines name (xs ++ y ∷ []) ≡ accepted_lines name xs ++ accepted_line name y
+lines_join name [] y = append-nil (accepted_line name y)
+lines_join name (x ∷ xs) y =
+    ap (λ (l : List ℕ). accepted_line name x ++ l) (lines_join name xs y) ∙ sym (append_assoc (accepted_line name x) (accepted_lines name xs) (accepted_line name y))
 
-pub tells_one : (old mid new : List ℕ) (client : List ℕ) (accepted : Accepted) → Tells old mid
-    → new ≡ mid ++ accepted_line client accepted → Tells old new
-tells_one old mid new client accepted before is =
+pub one_more_line : (name : List ℕ) (xs : List Accepted) (i : ℕ) (x : Accepted) (old mid new : List ℕ) → i < length xs → x ≡ get_or xs i x
+    → mid ≡ old ++ accepted_lines name (take i xs) → new ≡ mid ++ accepted_line name x → new ≡ old ++ accepted_lines name (take (i + 1) xs)
+one_more_line name xs i x old mid new below is before one =
+    one ∙ ap (λ (l : List ℕ). l ++ accepted_line name x) before ∙ append_assoc old (accepted_lines name (take i xs)) (accepted_line name x)
+    ∙ ap (λ (l : List ℕ). old ++ l)
+    (sym (lines_join name (take i xs) x) ∙ ap (accepted_lines name) (sym (take_more xs i x below ∙ ap (λ (z : Accepted). take i xs ++ z ∷ []) (sym is))))
+
+-- ---- the lines of all clients
+
+untold_join : (w : WorldState) (ls : List Listener) (one : Listener) → lines_untold (ls ++ one ∷ []) w ≡ lines_untold ls w ++ lines_after one.told one.client w
+untold_join w [] one = append-nil (lines_after one.told one.client w)
+untold_join w (l ∷ ls) one =
+    ap (λ (z : List ℕ). lines_after l.told l.client w ++ z) (untold_join w ls one)
+    ∙ sym (append_assoc (lines_after l.told l.client w) (lines_untold ls w) (lines_after one.told one.client w))
+
+pub one_more_client : (w : WorldState) (ls : List Listener) (i : ℕ) (one : Listener) (old mid new : List ℕ) → i < length ls → one ≡ get_or ls i one
+    → mid ≡ old ++ lines_untold (take i ls) w → new ≡ mid ++ lines_after one.told one.client w → new ≡ old ++ lines_untold (take (i + 1) ls) w
+one_more_client w ls i one old mid new below is before more =
+    more ∙ ap (λ (l : List ℕ). l ++ lines_after one.told one.client w) before ∙ append_assoc old (lines_untold (take i ls) w) (lines_after one.told one.client w)
+    ∙ ap (λ (l : List ℕ). old ++ l)
+    (sym (untold_join w (take i ls) one)
+    ∙ ap (λ (l : List Listener). lines_untold l w) (sym (take_more ls i one below ∙ ap (λ (z : Listener). take i ls ++ z ∷ []) (sym is))))
+
+-- an element that was not reached yet stands as it stood
+pub not_reached : (w : WorldState) (ls : List Listener) (i : ℕ) (d : Listener) → get_or (map (told_at w) (take i ls) ++ drop i ls) i d ≡ get_or ls i d
+not_reached w [] zero d = refl
+not_reached w [] (suc i) d = refl
+not_reached w (l ∷ ls) zero d = refl
+not_reached w (l ∷ ls) (suc i) d = not_reached w ls i d
+
+-- what is not told yet is what is new
+pub untold_is_new : (ls : List Listener) (old new : WorldState) → AreTold ls old → lines_untold ls new ≡ told_lines (names_of ls) old new
+untold_is_new [] old new told = refl
+untold_is_new (l ∷ ls) old new (told, more) =
+    ap (λ (k : ℕ). lines_after k l.client new ++ lines_untold ls new) told
+    ∙ ap (λ (z : List ℕ). lines_after (length (accepted_in l.client old)) l.client new ++ z) (untold_is_new ls old new more)
+
+pub all_told : (w : WorldState) (ls : List Listener) → AreTold (map (told_at w) ls) w
+all_told w [] = tt
+all_told w (l ∷ ls) = (refl, all_told w ls)
+
+pub names_stay : (w : WorldState) (ls : List Listener) → names_of (map (told_at w) ls) ≡ names_of ls
+names_stay w [] = refl
+names_stay w (l ∷ ls) = ap (λ (z : List (List ℕ)). l.client ∷ z) (names_stay w ls)
+
+-- ---- as a world opens
+
+pub new_names : (clients : List (List ℕ)) → names_of (map new_listener clients) ≡ clients
+new_names [] = refl
+new_names (c ∷ cs) = ap (λ (z : List (List ℕ)). c ∷ z) (new_names cs)
+
+none_at : (clients : List (List ℕ)) (at : ℕ) → accepted_by (core_at (Some at) (map new_world_client clients)) ≡ []
+none_at [] at = refl
+none_at (c ∷ cs) zero = refl
+none_at (c ∷ cs) (suc at) = none_at cs at
+
+none_of : (clients : List (List ℕ)) (o : Option ℕ) → accepted_by (core_at o (map new_world_client clients)) ≡ []
+none_of clients None = refl
+none_of clients (Some at) = none_at clients at
+
+-- nobody has taken in anything
+pub none_told : (all clients : List (List ℕ)) (w : WorldState) → w.clients ≡ map new_world_client all → AreTold (map new_listener clients) w
+none_told all [] w is = tt
+none_told all (c ∷ cs) w is = (sym (ap length none), none_told all cs w is)
+  where
+    none : accepted_in c w ≡ []
+    none =
+        ap (λ (k : List WorldClient). accepted_by (core_at (position (is_named c) k) k)) is
+        ∙ none_of all (position (is_named c) (map new_world_client all))
+
+-- ---- orders
+
+pub no_event : (order : Order) (world : WorldState) (idle : Idle) → asked_in world order ≡ None → Comes order world (Err idle) world
+no_event order world idle none =
     record {
-      lines = before.lines ++ accepted_line client accepted;
-      accepted = one_more before.accepted client accepted;
-      is = is ∙ ap (λ (text : List ℕ). text ++ accepted_line client accepted) before.is
-          ∙ append_assoc old before.lines (accepted_line client accepted);
-    }
-
-tells_behind : (old mid : List ℕ) → Tells old mid → (lines : List ℕ) → AreAccepted lines → Tells old (mid ++ lines)
-tells_behind old mid before _ none = rw (append-nil mid) before
-tells_behind old mid before _ (one_more {lines} some client accepted) =
-    tells_one old (mid ++ lines) (mid ++ (lines ++ accepted_line client accepted)) client accepted
-    (tells_behind old mid before lines some) (sym (append_assoc mid lines (accepted_line client accepted)))
-
-pub tells_join : (a b c : List ℕ) → Tells a b → Tells b c → Tells a c
-tells_join a b c one two = rw (two.is) (tells_behind a b one two.lines two.accepted)
-
--- ---- events
-
-pub no_step : (world : WorldState) → Steps world world false
-no_step world =
-    record {
+      comes = subst (λ (o : Option Event). ComesTo o world (Err idle) world) (sym none) (refl, refl);
       goes = record { rises = omega arith; goes = λ g s. record { behind = g; goes = rests; stands = s } };
       reached = λ nodes config r. r;
       exact = λ nodes config cs r. r;
-      nodes = λ same. refl;
-      losses = λ same. refl;
     }
 
-happened_appends : (index : ℕ) (before behind : WorldState) (a b c : List ℕ) → Steps before behind true
-    → Written index true behind a b → Tells b c → Appends index before behind a c
-happened_appends index before behind a b c steps (agreed, is) tells =
-    let line = done_line index (length behind.nodes.sent) agreed in
+-- an order, its line, and where the last call succeeds, what clients took in
+pub appends : {E : Type 0} (end : Result (Unit {0}) E) (clients : List (List ℕ)) (index : ℕ) (order : Order) (result : Result (Unit {0}) Idle) (before after : WorldState) (ls : List Listener)
+    (a b c : List ℕ) → Comes order before result after → Written index result after a b → names_of ls ≡ clients → AreTold ls before → OnOk end (c ≡ b ++ lines_untold ls after)
+    → OnOk end (Appends clients index order before after a c)
+appends (Err error) clients index order result before after ls a b c comes written named told tells = tells
+appends (Ok done) clients index order result before after ls a b c comes written named told tells =
     record {
-      lines = line ++ tells.lines;
+      lines = written.line ++ told_lines clients before after;
       step = record {
-        goes = steps.goes;
-        reached = steps.reached;
-        exact = steps.exact;
-        line = line;
-        came = happened agreed;
-        told = tells.lines;
-        accepted = tells.accepted;
+        result = result;
+        comes = comes.comes;
+        line = written.line;
+        is_line = written.is_line;
         whole = refl;
+        goes = comes.goes;
+        reached = comes.reached;
+        exact = comes.exact;
       };
-      is = tells.is ∙ ap (λ (text : List ℕ). text ++ tells.lines) is ∙ append_assoc a line tells.lines;
+      is = tells ∙ ap (λ (l : List ℕ). b ++ l) (untold_is_new ls before after told ∙ ap (λ (n : List (List ℕ)). told_lines n before after) named)
+          ∙ ap (λ (l : List ℕ). l ++ told_lines clients before after) written.is ∙ append_assoc a written.line (told_lines clients before after);
     }
 
-idle_appends : (index : ℕ) (before behind : WorldState) (a b c : List ℕ) → Steps before behind false
-    → Written index false behind a b → Tells b c → Appends index before behind a c
-idle_appends index before behind a b c steps is tells =
-    record {
-      lines = idle_line index ++ tells.lines;
-      step = record {
-        goes = steps.goes;
-        reached = steps.reached;
-        exact = steps.exact;
-        line = idle_line index;
-        came = idle (steps.nodes refl) (steps.losses refl);
-        told = tells.lines;
-        accepted = tells.accepted;
-        whole = refl;
-      };
-      is = tells.is ∙ ap (λ (text : List ℕ). text ++ tells.lines) is ∙ append_assoc a (idle_line index) tells.lines;
-    }
+-- and then all is told
+pub told_after : {E : Type 0} (end : Result (Unit {0}) E) (w : WorldState) (old new : List Listener) → OnOk end (new ≡ map (told_at w) old) → OnOk end (AreTold new w)
+told_after (Ok done) w old new is = subst (λ (l : List Listener). AreTold l w) (sym is) (all_told w old)
+told_after (Err error) w old new is = is
 
-event_appends : (index : ℕ) (was : Bool) (before behind : WorldState) (a b c : List ℕ) → Steps before behind was
-    → Written index was behind a b → Tells b c → Appends index before behind a c
-event_appends index true before behind a b c = happened_appends index before behind a b c
-event_appends index false before behind a b c = idle_appends index before behind a b c
-
--- an event, its line, and where the last call succeeds, what clients took in; the world stays at that
-pub appends : {E : Type 0} (result : Result (Unit {0}) E) (index : ℕ) (was : Bool) (before behind last : WorldState)
-    (a b c : List ℕ) → Steps before behind was → Written index was behind a b → last ≡ behind → OnOk result (Tells b c)
-    → OnOk result (Appends index before last a c)
-appends (Ok done) index was before behind last a b c steps written same tells =
-    rw (same) (event_appends index was before behind a b c steps written tells)
-appends (Err error) index was before behind last a b c steps written same tells = tells
+pub named_after : {E : Type 0} (end : Result (Unit {0}) E) (w : WorldState) (old mid new : List Listener) → mid ≡ old → OnOk end (new ≡ map (told_at w) mid)
+    → OnOk end (names_of new ≡ names_of old)
+named_after (Ok done) w old mid new same is = ap names_of is ∙ names_stay w mid ∙ ap names_of same
+named_after (Err error) w old mid new same is = is

@@ -1,5 +1,5 @@
 -- The event that an order asks for.
-use Rattle.std.specs.Prelude.{◌≡◌, ℕ, Bool, nat_le, if◌then◌else◌, ◌&&◌, List, Option, Some, None, option_map}
+use Rattle.std.specs.Prelude.{ℕ, Bool, nat_le, if◌then◌else◌, ◌&&◌, List, Option, Some, None, length, option_map}
 use Rattle.std.specs.List.{list_all}
 use Rattle.script.specs.declared.order.Amount.{Amount}
 use Rattle.script.specs.declared.order.Amount.TheVariants as amounts
@@ -7,6 +7,9 @@ use Rattle.script.specs.declared.order.Order.{Order}
 use Rattle.script.specs.declared.order.Order.TheVariants as orders
 use Rattle.world.specs.declared.event.Event.{Event}
 use Rattle.world.specs.declared.event.Event.TheVariants as events
+use Rattle.world.specs.Found.{way_of}
+use Rattle.world.specs.Happening.{down_of, up_of}
+use Rattle.world.specs.World.{WorldState}
 
 -- a number that a node can have
 abbrev pub is_small : ℕ → Bool
@@ -42,6 +45,12 @@ event_of waiting (orders.Publish client publication) = Some (events.Publish clie
 event_of waiting (orders.Subscribe client filter qos) = Some (events.Subscribe client filter qos)
 event_of waiting (orders.Unsubscribe client filter) = Some (events.Unsubscribe client filter)
 
--- the event of an order, or none, however many bytes wait
-abbrev pub IsEventOf : Order → Option Event → Type 0
-IsEventOf order event = (waiting : ℕ) × (event ≡ event_of waiting order)
+-- how many bytes wait on the connection that an order names, the way that they are carried
+abbrev pub waiting_for : Order → WorldState → ℕ
+waiting_for (orders.CarryUp connection amount) w = length (up_of (way_of connection w))
+waiting_for (orders.CarryDown connection amount) w = length (down_of (way_of connection w))
+waiting_for _ w = 0
+
+-- the event that an order asks for in a world
+abbrev pub asked_in : WorldState → Order → Option Event
+asked_in w order = event_of (waiting_for order w) order

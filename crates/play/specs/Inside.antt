@@ -1,54 +1,81 @@
 -- Auxiliary words.
-use Rattle.std.specs.Prelude.{◌≡◌, ℕ, Bool, true, false, List, ◌++◌, length}
-use Rattle.transcript.specs.Lines.{done_line, end_line, idle_line}
+use Rattle.std.specs.Prelude.{◌≡◌, ℕ, List, [], ◌∷◌, ◌++◌, Some, Result, length, map}
+use Rattle.world.specs.master.declared.event.Idle.{Idle}
+use Rattle.script.specs.declared.order.Order.{Order}
+use Rattle.transcript.specs.Lines.{end_line}
+use Rattle.world.specs.declared.event.Event.{Event}
 use Rattle.world.specs.Goes.{StaysReached, WorldGoesOn}
 use Rattle.world.specs.Standing.{KeepsReached}
 use Rattle.world.specs.World.{WorldState}
-use Rattle.play.specs.Transcripts.{AreAccepted, Played, Step}
+use Rattle.world.specs.world_nodes.Agreed.{AgreeOnSoMany}
+use Rattle.play.specs.declared.stage.Listener.{Listener}
+use Rattle.play.specs.Events.{asked_in, event_of}
+use Rattle.play.specs.Transcripts.{ComesTo, IsLine, Played, Step, accepted_in, lines_after}
 
--- an event happened, or could not
-pub record Steps (old new : WorldState) (happened : Bool) : Type 0 where
+-- what a client is to do, whatever waits on connections
+abbrev pub IsCallOf : Order → Event → Type 0
+IsCallOf order event = (waiting : ℕ) → event_of waiting order ≡ Some event
+
+-- what an order asks for came to this result
+pub record Comes (order : Order) (old : WorldState) (result : Result (Unit {0}) Idle) (new : WorldState) : Type 0 where
+  pub comes : ComesTo (asked_in old order) old result new
   pub goes : WorldGoesOn old new
   pub reached : StaysReached old.nodes new.nodes
   pub exact : KeepsReached old new
-  pub nodes : happened ≡ false → new.nodes ≡ old.nodes
-  pub losses : happened ≡ false → new.losses ≡ old.losses
 
--- the line of an event that happened was appended
-abbrev pub Done : ℕ → WorldState → List ℕ → List ℕ → Type 0
-Done index world old new = (agreed : ℕ) × (new ≡ old ++ done_line index (length world.nodes.sent) agreed)
-
--- the line of an event that happened, or could not, was
-abbrev pub Written : ℕ → Bool → WorldState → List ℕ → List ℕ → Type 0
-Written index true world old new = Done index world old new
-Written index false world old new = new ≡ old ++ idle_line index
+-- its line was appended
+pub record Written (index : ℕ) (result : Result (Unit {0}) Idle) (world : WorldState) (old new : List ℕ) : Type 0 where
+  pub line : List ℕ
+  pub is_line : IsLine index result world line
+  pub is : new ≡ old ++ line
 
 -- the last line was
-abbrev pub Ends : WorldState → List ℕ → List ℕ → Type 0
-Ends world old new = (agreed : ℕ) × (new ≡ old ++ end_line agreed world.nodes.master.active)
+pub record Ends (world : WorldState) (old new : List ℕ) : Type 0 where
+  pub agreed : ℕ
+  pub are_agreed : AgreeOnSoMany world.nodes agreed
+  pub is : new ≡ old ++ end_line agreed world.nodes.master.active
 
--- lines of publications that clients took in were
-pub record Tells (old new : List ℕ) : Type 0 where
+-- ---- clients
+
+abbrev pub names_of : List Listener → List (List ℕ)
+names_of listeners = map (λ (l : Listener). l.client) listeners
+
+-- all that they show is told
+abbrev pub AreTold : List Listener → WorldState → Type 0
+AreTold [] w = Unit {0}
+AreTold (one ∷ more) w = (one.told ≡ length (accepted_in one.client w)) × AreTold more w
+
+-- the lines of what is not told yet
+abbrev pub lines_untold : List Listener → WorldState → List ℕ
+lines_untold [] w = []
+lines_untold (one ∷ more) w = lines_after one.told one.client w ++ lines_untold more w
+
+-- all that it shows is told now
+abbrev pub told_at : WorldState → Listener → Listener
+told_at w listener = record listener { told = length (accepted_in listener.client w) }
+
+-- a client of whom nothing is told
+abbrev pub new_listener : List ℕ → Listener
+new_listener name = record { client = name; told = 0 }
+
+-- ---- orders
+
+-- the lines of one order were appended
+pub record Appends (clients : List (List ℕ)) (index : ℕ) (order : Order) (before after : WorldState) (old new : List ℕ) : Type 0 where
   pub lines : List ℕ
-  pub accepted : AreAccepted lines
+  pub step : Step clients index order before after lines
   pub is : new ≡ old ++ lines
 
--- the lines of one event were
-pub record Appends (index : ℕ) (before behind : WorldState) (old new : List ℕ) : Type 0 where
+-- those of these orders were
+pub record AppendsAll (clients : List (List ℕ)) (orders : List Order) (first last : WorldState) (old new : List ℕ) : Type 0 where
   pub lines : List ℕ
-  pub step : Step index before behind lines
+  pub played : Played clients first orders lines last
   pub is : new ≡ old ++ lines
 
--- those of the first so many events were
-pub record AppendsAll (count : ℕ) (first last : WorldState) (old new : List ℕ) : Type 0 where
-  pub lines : List ℕ
-  pub played : Played first count lines last
-  pub is : new ≡ old ++ lines
-
--- and the last line behind them, with so many losses
-pub record PlaysOn (count : ℕ) (first : WorldState) (old new : List ℕ) (losses : ℕ) : Type 0 where
+-- and the last line after them, with so many losses
+pub record PlaysOn (clients : List (List ℕ)) (orders : List Order) (first : WorldState) (old new : List ℕ) (losses : ℕ) : Type 0 where
   pub last : WorldState
   pub mid : List ℕ
-  pub all : AppendsAll count first last old mid
+  pub all : AppendsAll clients orders first last old mid
   pub ends : Ends last mid new
   pub are : last.losses ≡ losses

@@ -1,52 +1,88 @@
 -- The transcript of a script: the worlds that its orders lead through, and what is written of each.
-use Rattle.std.specs.Prelude.{◌≡◌, ◌+◌, ℕ, List, [], ◌++◌, length}
+use Rattle.std.specs.Prelude.{◌≡◌, ℕ, List, [], ◌∷◌, ◌++◌, Option, Some, None, Result, Ok, Err, IsErr, drop, length}
+use Rattle.world.specs.client.Core.{Core}
 use Rattle.client_base.specs.declared.accepted.Accepted.{Accepted}
+use Rattle.world.specs.master.declared.event.Idle.{Idle}
 use Rattle.script.specs.Scripts.{IsScript, lines_of}
+use Rattle.script.specs.declared.order.Order.{Order}
 use Rattle.script.specs.declared.reading.Script.{Script}
 use Rattle.transcript.specs.Lines.{accepted_line, done_line, end_line, idle_line}
+use Rattle.world.specs.declared.event.Event.{Event}
+use Rattle.world.specs.Found.{core_named}
 use Rattle.world.specs.Goes.{AreReached, StaysReached, WorldGoesOn}
+use Rattle.world.specs.Happening.{Happens}
 use Rattle.world.specs.Standing.{IsReached, KeepsReached}
 use Rattle.world.specs.World.{WorldState}
+use Rattle.world.specs.world_nodes.Agreed.{AgreeOnSoMany}
+use Rattle.play.specs.Events.{asked_in}
 
--- the line of event `index`, which led from the one world to the other
-pub data CameOf (index : ℕ) (old new : WorldState) : List ℕ → Type 0 where
-  -- it could not happen: the nodes stand as they stood
-  idle : new.nodes ≡ old.nodes → new.losses ≡ old.losses → CameOf index old new (idle_line index)
-  -- it happened: so many messages were sent so far, and so many commands are agreed
-  happened : (agreed : ℕ) → CameOf index old new (done_line index (length new.nodes.sent) agreed)
+-- ---- what clients took in
 
--- lines of publications that clients took in
-pub data AreAccepted : List ℕ → Type 0 where
-  none : AreAccepted []
-  one_more : {lines : List ℕ} → AreAccepted lines → (client : List ℕ) (accepted : Accepted)
-      → AreAccepted (lines ++ accepted_line client accepted)
+abbrev pub accepted_by : Option Core → List Accepted
+accepted_by None = []
+accepted_by (Some core) = core.state.accepted
 
--- one event: whatever memory did in it, the nodes did what they may do, and agree as before, and each client stays exact
-pub record Step (index : ℕ) (old new : WorldState) (lines : List ℕ) : Type 0 where
+-- what the client of this identifier shows as accepted
+abbrev pub accepted_in : List ℕ → WorldState → List Accepted
+accepted_in name w = accepted_by (core_named name w.clients)
+
+-- a line for each
+abbrev pub accepted_lines : List ℕ → List Accepted → List ℕ
+accepted_lines name [] = []
+accepted_lines name (one ∷ more) = accepted_line name one ++ accepted_lines name more
+
+-- a line for each that the client shows after so many
+abbrev pub lines_after : ℕ → List ℕ → WorldState → List ℕ
+lines_after count name w = accepted_lines name (drop count (accepted_in name w))
+
+-- a line for each that one of these clients shows and did not show before
+abbrev pub told_lines : List (List ℕ) → WorldState → WorldState → List ℕ
+told_lines [] old new = []
+told_lines (name ∷ names) old new = lines_after (length (accepted_in name old)) name new ++ told_lines names old new
+
+-- ---- one order
+
+-- its event came to this result, as `World::step` says; where it names no event, it is idle
+abbrev pub ComesTo : Option Event → WorldState → Result (Unit {0}) Idle → WorldState → Type 0
+ComesTo None old result new = IsErr result × (new ≡ old)
+ComesTo (Some event) old result new = Happens event old result new
+
+-- the line of event `index`: it was idle, or so many messages were sent so far, and so many commands are agreed
+abbrev pub IsLine : ℕ → Result (Unit {0}) Idle → WorldState → List ℕ → Type 0
+IsLine index (Err idle) new line = line ≡ idle_line index
+IsLine index (Ok done) new line =
+    (agreed : ℕ) × AgreeOnSoMany new.nodes agreed × (line ≡ done_line index (length new.nodes.sent) agreed)
+
+-- One order: its line, and a line for each publication that a client newly took in. Whatever memory did in it, the nodes did what
+-- they may do, and agree as before, and each client stays exact.
+pub record Step (clients : List (List ℕ)) (index : ℕ) (order : Order) (old new : WorldState) (lines : List ℕ) : Type 0 where
+  pub result : Result (Unit {0}) Idle
+  pub comes : ComesTo (asked_in old order) old result new
+  pub line : List ℕ
+  pub is_line : IsLine index result new line
+  pub whole : lines ≡ line ++ told_lines clients old new
   pub goes : WorldGoesOn old new
   pub reached : StaysReached old.nodes new.nodes
   pub exact : KeepsReached old new
-  pub line : List ℕ
-  pub came : CameOf index old new line
-  pub told : List ℕ
-  pub accepted : AreAccepted told
-  pub whole : lines ≡ line ++ told
 
--- the lines of so many events, from the opening on
-pub data Played (first : WorldState) : ℕ → List ℕ → WorldState → Type 0 where
-  opens : Played first 0 [] first
-  goes_on : {count : ℕ} {lines more : List ℕ} {old new : WorldState} → Played first count lines old
-      → Step count old new more → Played first (count + 1) (lines ++ more) new
+-- ---- the whole
 
--- each order of a script has its event, and these are the lines of its transcript
+-- the lines of these orders, from the opening on
+pub data Played (clients : List (List ℕ)) (first : WorldState) : List Order → List ℕ → WorldState → Type 0 where
+  opens : Played clients first [] [] first
+  goes_on : {orders : List Order} {lines more : List ℕ} {old new : WorldState} → Played clients first orders lines old → (order : Order)
+      → Step clients (length orders) order old new more → Played clients first (orders ++ order ∷ []) (lines ++ more) new
+
+-- each order of a script has its event, these are the lines of its transcript, and the last line says how many commands are agreed
 pub record IsTranscript (script : Script) (last : WorldState) (transcript : List ℕ) : Type 0 where
   pub first : WorldState
   pub opened : AreReached script.opening.nodes script.opening.config first.nodes
   pub exact : IsReached script.opening.nodes script.opening.config script.opening.clients.items first
   pub whole : first.losses ≡ 0
   pub lines : List ℕ
-  pub played : Played first (length script.orders.items) lines last
+  pub played : Played script.opening.clients.items first script.orders.items lines last
   pub agreed : ℕ
+  pub are_agreed : AgreeOnSoMany last.nodes agreed
   pub is : transcript ≡ lines ++ end_line agreed last.nodes.master.active
 
 -- A text is a script that was played to its end, by which its transcript was appended; memory was wanting in so many events.

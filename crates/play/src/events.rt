@@ -3,7 +3,10 @@
 ghost use Rattle.std.specs.Prelude.{◌≡◌, true, Some, length, option_map, IfOk, IsErrOf, OnErr};
 ghost use Rattle.std.specs.List.{list_all};
 ghost use Rattle.world.specs.declared.event.Event.TheVariants as events;
-ghost use Rattle.play.specs.Events.{IsEventOf, assign_of, count_of, event_of, is_small, node_of};
+ghost use Rattle.world.specs.Found.{way_of};
+ghost use Rattle.world.specs.Happening.{down_of, up_of};
+ghost use Rattle.play.specs.Events.{asked_in, assign_of, count_of, is_small, node_of};
+ghost use Rattle.play.specs.Inside.{IsCallOf};
 
 use crate::error::PlayError;
 use ballot_base::{Config, Members};
@@ -19,7 +22,7 @@ pub(crate) fn event_of(
     world: &World,
     order: &Order,
 ) -> Result<Option<Event>, PlayError>
-    ensures event { IfOk result (IsEventOf order.now) }
+    ensures event { IfOk result (λ event. event ≡ asked_in world.now order.now) }
     ensures memory { OnErr result (IsErrOf result PlayError.Memory) }
 {
     match order {
@@ -29,11 +32,11 @@ pub(crate) fn event_of(
         Order::Crash(node) => Ok(crash(*node)),
         Order::Open(client, node) => open(client, *node),
         Order::CarryUp(connection, amount) => {
-            let count = count_of(*amount, world.up(*connection));
+            let count = count_up(world, *connection, *amount);
             Ok(Some(Event::CarryUp(*connection, count)))
         }
         Order::CarryDown(connection, amount) => {
-            let count = count_of(*amount, world.down(*connection));
+            let count = count_down(world, *connection, *amount);
             Ok(Some(Event::CarryDown(*connection, count)))
         }
         Order::Notice(connection) => Ok(Some(Event::Notice(*connection))),
@@ -43,7 +46,7 @@ pub(crate) fn event_of(
 
 // What a client is to do.
 fn call(order: &Order) -> Result<Event, PlayError>
-    ensures event { IfOk result (λ event. IsEventOf order.now (Some event)) }
+    ensures event { IfOk result (λ event. IsCallOf order.now event) }
     ensures memory { OnErr result (IsErrOf result PlayError.Memory) }
 {
     match order {
@@ -115,6 +118,20 @@ fn open(client: &ClientId, node: u64) -> Result<Option<Event>, PlayError>
         return Ok(None);
     };
     Ok(Some(Event::Open(client.clone()?, node)))
+}
+
+// How many bytes of a connection are carried up.
+fn count_up(world: &World, connection: u64, amount: Amount) -> u64
+    ensures { result ≡ count_of (length (up_of (way_of connection world.now))) amount }
+{
+    count_of(amount, world.up(connection))
+}
+
+// How many bytes of a connection are carried down.
+fn count_down(world: &World, connection: u64, amount: Amount) -> u64
+    ensures { result ≡ count_of (length (down_of (way_of connection world.now))) amount }
+{
+    count_of(amount, world.down(connection))
 }
 
 // How many bytes are carried of those that wait.

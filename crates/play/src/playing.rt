@@ -1,10 +1,10 @@
 // Playing a script.
 
-ghost use Rattle.std.specs.Prelude.{◌≡◌, ◌<◌, ◌++◌, ℕ, List, length, OnOk, OnErr, IsErrOf};
+ghost use Rattle.std.specs.Prelude.{◌≡◌, ◌<◌, ◌++◌, ℕ, List, OnOk, OnErr, IsErrOf};
 ghost use Rattle.script.specs.declared.error.ScriptError.TheVariants.{Line};
 ghost use Rattle.script.specs.Scripts.{Refuses, lines_of};
 ghost use Rattle.play.specs.Transcripts.{Plays};
-ghost use Rattle.play.specs.Inside.{AppendsAll, PlaysOn};
+ghost use Rattle.play.specs.Inside.{AppendsAll, AreTold, PlaysOn, names_of};
 
 use crate::error::PlayError;
 use crate::stage::Stage;
@@ -39,12 +39,13 @@ fn play_whole(
     orders: &[Order],
     transcript: &mut Vec<u8>,
 ) -> Result<(), PlayError>
-    ensures played { OnOk result (PlaysOn (length orders.now) stage.old.world
-        transcript.old.items transcript.new.items 0) }
+    requires told { AreTold stage.old.listeners.items stage.old.world }
+    ensures played { OnOk result (PlaysOn (names_of stage.old.listeners.items) orders.now
+        stage.old.world transcript.old.items transcript.new.items 0) }
     ensures form { (number : ℕ) → IsErrOf result (PlayError.Line number) → ⊥ }
     ensures wanting { IsErrOf result PlayError.Losses → (losses : ℕ) × ((0 < losses)
-        × PlaysOn (length orders.now) stage.old.world transcript.old.items transcript.new.items
-        losses) }
+        × PlaysOn (names_of stage.old.listeners.items) orders.now stage.old.world
+        transcript.old.items transcript.new.items losses) }
 {
     play_all(stage, orders, transcript)?;
     stage.end(transcript)
@@ -52,8 +53,9 @@ fn play_whole(
 
 // Lets happen what the orders ask for, one after the other, and appends what came of it.
 fn play_all(stage: &mut Stage, orders: &[Order], transcript: &mut Vec<u8>) -> Result<(), PlayError>
-    ensures lines { OnOk result (AppendsAll (length orders.now) stage.old.world stage.new.world
-        transcript.old.items transcript.new.items) }
+    requires told { AreTold stage.old.listeners.items stage.old.world }
+    ensures lines { OnOk result (AppendsAll (names_of stage.old.listeners.items) orders.now
+        stage.old.world stage.new.world transcript.old.items transcript.new.items) }
     ensures memory { OnErr result (IsErrOf result PlayError.Memory) }
 {
     for (index, order) in orders.iter().enumerate() {

@@ -1,11 +1,12 @@
 // A world in which a script is played.
 
-ghost use Rattle.std.specs.Prelude.{◌≡◌, ◌<◌, ℕ, false, IfOk, OnOk, OnErr, IsErrOf};
+ghost use Rattle.std.specs.Prelude.{◌≡◌, ◌<◌, ◌++◌, ℕ, false, map, IfOk, OnOk, OnErr, IsErrOf};
 ghost use Rattle.agreement.specs.World.{can_open};
 ghost use Rattle.model.specs.World.{AreApart};
 ghost use Rattle.world.specs.Goes.{AreReached};
 ghost use Rattle.world.specs.Standing.{IsReached};
-ghost use Rattle.play.specs.Inside.{Appends, Ends, Steps, Tells, Written};
+ghost use Rattle.play.specs.Inside.{Appends, AreTold, Comes, Ends, Written, lines_untold, names_of, new_listener, told_at};
+ghost use Rattle.play.specs.Transcripts.{accepted_in, accepted_lines, lines_after};
 
 use crate::error::PlayError;
 use crate::events::event_of;
@@ -13,13 +14,13 @@ use packet::ClientId;
 use script::{Opening, Order};
 use std::alloc::Global;
 use transcript::{write_accepted, write_done, write_end, write_idle};
-use world::{Accepted, World};
+use world::{Accepted, Idle, World};
 
-// A client, and how many of the publications that it took in are told.
+/// A client, and how many of the publications that it took in are told.
 #[derive(Drop)]
-struct Listener {
-    client: ClientId,
-    told: usize,
+pub(crate) struct Listener {
+    pub(crate) client: ClientId,
+    pub(crate) told: usize,
 }
 
 /// A world in which a script is played.
@@ -27,7 +28,7 @@ struct Listener {
 pub(crate) struct Stage {
     alloc: Global,
     pub(crate) world: World,
-    listeners: Vec<Listener>,
+    pub(crate) listeners: Vec<Listener>,
 }
 
 impl Stage {
@@ -38,6 +39,9 @@ impl Stage {
         ensures exact { AreApart opening.clients.items → IfOk result (λ stage.
             IsReached opening.nodes opening.config opening.clients.items stage.world) }
         ensures losses { IfOk result (λ stage. stage.world.losses ≡ 0) }
+        ensures named { IfOk result (λ stage.
+            names_of stage.listeners.items ≡ opening.clients.items) }
+        ensures told { IfOk result (λ stage. AreTold stage.listeners.items stage.world) }
         ensures bad { (number : ℕ) → IsErrOf result (PlayError.Line number)
             → can_open opening.nodes opening.config ≡ false }
         ensures whole { IsErrOf result PlayError.Losses → ⊥ }
@@ -63,23 +67,34 @@ impl Stage {
         order: &Order,
         transcript: &mut Vec<u8>,
     ) -> Result<(), PlayError>
-        ensures lines { OnOk result (Appends index self.old.world self.new.world
-            transcript.old.items transcript.new.items) }
+        requires told { AreTold self.old.listeners.items self.old.world }
+        ensures lines { OnOk result (Appends (names_of self.old.listeners.items) index order.now
+            self.old.world self.new.world transcript.old.items transcript.new.items) }
+        ensures told { OnOk result (AreTold self.new.listeners.items self.new.world) }
+        ensures named { OnOk result
+            (names_of self.new.listeners.items ≡ names_of self.old.listeners.items) }
         ensures memory { OnErr result (IsErrOf result PlayError.Memory) }
     {
-        let happened = self.happens(order)?;
-        self.write_line(index, happened, transcript)?;
-        self.tell_accepted(transcript)
+        let came = self.happens(order)?;
+        self.write_line(index, came, transcript)?;
+        tell_all(
+            self.alloc,
+            &self.world,
+            self.listeners.as_mut_slice(),
+            transcript,
+        )
     }
 
     // Lets happen what an order asks for, if it can.
-    fn happens(&mut self, order: &Order) -> Result<bool, PlayError>
-        ensures steps { IfOk result (Steps self.old.world self.new.world) }
+    fn happens(&mut self, order: &Order) -> Result<Result<(), Idle>, PlayError>
+        ensures comes { IfOk result (λ result.
+            Comes order.now self.old.world result self.new.world) }
+        ensures listeners { self.new.listeners.items ≡ self.old.listeners.items }
         ensures memory { OnErr result (IsErrOf result PlayError.Memory) }
     {
         match event_of(self.alloc, &self.world, order)? {
-            Some(event) => Ok(self.world.step(&event).is_ok()),
-            None => Ok(false),
+            Some(event) => Ok(self.world.step(&event)),
+            None => Ok(Err(Idle)),
         }
     }
 
@@ -87,33 +102,20 @@ impl Stage {
     fn write_line(
         &self,
         index: u64,
-        happened: bool,
+        came: Result<(), Idle>,
         transcript: &mut Vec<u8>,
     ) -> Result<(), PlayError>
-        ensures line { OnOk result (Written index happened self.now.world
+        ensures line { OnOk result (Written index came self.now.world
             transcript.old.items transcript.new.items) }
         ensures memory { OnErr result (IsErrOf result PlayError.Memory) }
     {
-        match happened {
-            true => {
+        match came {
+            Ok(()) => {
                 let messages = self.world.messages();
                 let agreed = self.world.agreed_len();
                 write_done(self.alloc, index, messages, agreed, transcript)?;
             }
-            false => write_idle(self.alloc, index, transcript)?,
-        }
-        Ok(())
-    }
-
-    // Appends what the clients took in and was not told before.
-    fn tell_accepted(&mut self, transcript: &mut Vec<u8>) -> Result<(), PlayError>
-        ensures world { self.new.world ≡ self.old.world }
-        ensures lines { OnOk result (Tells transcript.old.items transcript.new.items) }
-        ensures memory { OnErr result (IsErrOf result PlayError.Memory) }
-    {
-        let world = &self.world;
-        for listener in &mut self.listeners {
-            tell_new(self.alloc, world, listener, transcript)?;
+            Err(Idle) => write_idle(self.alloc, index, transcript)?,
         }
         Ok(())
     }
@@ -139,7 +141,8 @@ impl Stage {
 
 // The clients, of which nothing is told.
 fn listeners_of(alloc: Global, clients: &[ClientId]) -> Result<Vec<Listener>, PlayError>
-    ensures { OnErr result (IsErrOf result PlayError.Memory) }
+    ensures made { IfOk result (λ made. made.items ≡ map new_listener clients.now) }
+    ensures memory { OnErr result (IsErrOf result PlayError.Memory) }
 {
     let mut listeners = Vec::new(alloc);
     for client in clients {
@@ -151,6 +154,24 @@ fn listeners_of(alloc: Global, clients: &[ClientId]) -> Result<Vec<Listener>, Pl
     Ok(listeners)
 }
 
+// Appends what the clients took in and was not told before.
+fn tell_all(
+    alloc: Global,
+    world: &World,
+    listeners: &mut [Listener],
+    transcript: &mut Vec<u8>,
+) -> Result<(), PlayError>
+    ensures listeners { OnOk result (listeners.new ≡ map (told_at world.now) listeners.old) }
+    ensures lines { OnOk result (transcript.new.items
+        ≡ transcript.old.items ++ lines_untold listeners.old world.now) }
+    ensures memory { OnErr result (IsErrOf result PlayError.Memory) }
+{
+    for listener in listeners.iter_mut() {
+        tell_new(alloc, world, listener, transcript)?;
+    }
+    Ok(())
+}
+
 // Appends what a client took in and was not told before.
 fn tell_new(
     alloc: Global,
@@ -158,17 +179,26 @@ fn tell_new(
     listener: &mut Listener,
     transcript: &mut Vec<u8>,
 ) -> Result<(), PlayError>
-    ensures lines { OnOk result (Tells transcript.old.items transcript.new.items) }
+    ensures listener { OnOk result (listener.new ≡ told_at world.now listener.old) }
+    ensures lines { OnOk result (transcript.new.items
+        ≡ transcript.old.items ++ lines_after listener.old.told listener.old.client world.now) }
     ensures memory { OnErr result (IsErrOf result PlayError.Memory) }
 {
-    let Some(client) = world.client(&listener.client) else {
-        return Ok(());
-    };
-    let accepted = client.accepted();
+    let accepted = accepted_in(world, &listener.client);
     let told = listener.told.min(accepted.len());
     tell(alloc, &listener.client, &accepted[told..], transcript)?;
     listener.told = accepted.len();
     Ok(())
+}
+
+// What a client shows as accepted; nothing where there is no such client.
+fn accepted_in<'a>(world: &'a World, client: &ClientId) -> &'a [Accepted]
+    ensures { result.now ≡ accepted_in client.now world.now }
+{
+    match world.client(client) {
+        Some(core) => core.accepted(),
+        None => &[],
+    }
 }
 
 // Appends the lines of publications that a client took in.
@@ -178,7 +208,8 @@ fn tell(
     accepted: &[Accepted],
     transcript: &mut Vec<u8>,
 ) -> Result<(), PlayError>
-    ensures lines { OnOk result (Tells transcript.old.items transcript.new.items) }
+    ensures lines { OnOk result (transcript.new.items
+        ≡ transcript.old.items ++ accepted_lines client.now accepted.now) }
     ensures memory { OnErr result (IsErrOf result PlayError.Memory) }
 {
     for one in accepted {

@@ -1,4 +1,4 @@
-use Rattle.std.proofs.Common.{ap, length}
+use Rattle.play.specs.Inside.{names_of}
 use Rattle.play.proofs.PlayedToTheEnd.{plays_losing, plays_well}
 use Rattle.play.proofs.ScriptsOpen.{other_err, script_apart, script_opens}
 use Rattle.play.proofs.playing.play.Goals as goal
@@ -10,12 +10,13 @@ returns-in-Err-clause-refused c = λ number is.
 pub returns-clause-played : goal.returns-clause-played
 returns-clause-played c =
     plays_well c.play_whole.result c.args.text.now c.args.transcript.now.items c.play_whole.new.transcript.items
-    c.in_ok-opening.field-0 c.in-Ok.stage.world _ c.in_ok-opening.ensures.script c.in-Ok.ensures.opened
-    (c.in-Ok.ensures.exact (script_apart _ c.in_ok-opening.field-0 c.in_ok-opening.ensures.script)) c.in-Ok.ensures.losses (ap length c.as_slice.ensures.value) c.play_whole.ensures.played
+    c.in_ok-opening.field-0 c.in-Ok.stage.world (names_of c.in-Ok.stage.listeners.items) c.as_slice.result.now c.in_ok-opening.ensures.script c.in-Ok.ensures.opened
+    (c.in-Ok.ensures.exact (script_apart _ c.in_ok-opening.field-0 c.in_ok-opening.ensures.script)) c.in-Ok.ensures.losses c.in-Ok.ensures.named c.as_slice.ensures.value
+    c.play_whole.ensures.played
 
 pub returns-clause-wanting : goal.returns-clause-wanting
 returns-clause-wanting c = λ is.
     plays_losing c.args.text.now c.args.transcript.now.items c.play_whole.new.transcript.items c.in_ok-opening.field-0
-    c.in-Ok.stage.world _ c.in_ok-opening.ensures.script c.in-Ok.ensures.opened
+    c.in-Ok.stage.world (names_of c.in-Ok.stage.listeners.items) c.as_slice.result.now c.in_ok-opening.ensures.script c.in-Ok.ensures.opened
     (c.in-Ok.ensures.exact (script_apart _ c.in_ok-opening.field-0 c.in_ok-opening.ensures.script)) c.in-Ok.ensures.losses
-    (ap length c.as_slice.ensures.value) (c.play_whole.ensures.wanting is)
+    c.in-Ok.ensures.named c.as_slice.ensures.value (c.play_whole.ensures.wanting is)

@@ -4,7 +4,7 @@ use Rattle.play.proofs.playing.play_whole.Goals as goal
 
 pub returns-clause-played : goal.returns-clause-played
 returns-clause-played c =
-    plays_on c.end.result _ _ _ _ _ _ c.in_ok-play_all.ensures.lines c.end.ensures.line c.end.ensures.whole
+    plays_on c.end.result _ _ _ _ _ _ _ c.in_ok-play_all.ensures.lines c.end.ensures.line c.end.ensures.whole
 
 pub returns-clause-wanting : goal.returns-clause-wanting
 returns-clause-wanting c = λ is.

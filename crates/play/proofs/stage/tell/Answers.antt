@@ -1,9 +1,12 @@
-use Rattle.play.proofs.LinesAppended.{tells_none, tells_one}
+use Rattle.std.proofs.Common.{sym, arith}
+use Rattle.std.proofs.lemmas.List.{append-nil}
+use Rattle.play.proofs.LinesAppended.{one_more_line}
 use Rattle.play.proofs.stage.tell.Goals as goal
 
 pub loop-one-init : goal.loop-one-init
-loop-one-init c = tells_none _
+loop-one-init c = sym (append-nil _)
 
 pub loop-one-preserved : goal.loop-one-preserved
 loop-one-preserved c =
-    tells_one _ _ _ c.args.client.now c.one-item.result c.loop-one.invariant c.in_ok-write_accepted.ensures
+    one_more_line c.args.client.now c.args.accepted.now c.loop-one.one-index c.one-item.result _ _ _ (omega arith) c.one-item.is c.loop-one.invariant
+    c.in_ok-write_accepted.ensures

@@ -1,5 +1,6 @@
-use Rattle.play.proofs.LinesAppended.{no_step}
+use Rattle.std.proofs.Common.{sym, ◌∙◌}
+use Rattle.play.proofs.LinesAppended.{no_event}
 use Rattle.play.proofs.stage.Stage.happens.Goals as goal
 
-pub returns-in-None-clause-steps : goal.returns-in-None-clause-steps
-returns-in-None-clause-steps c = no_step _
+pub returns-in-None-clause-comes : goal.returns-in-None-clause-comes
+returns-in-None-clause-comes c = no_event _ _ _ (sym c.in_ok-event.ensures.event ∙ c.in-None.is)

@@ -1,7 +1,29 @@
-use Rattle.play.proofs.LinesAppended.{appends}
+use Rattle.std.proofs.Common.{◌≡◌, ◌++◌, List, OnOk, ap, sym, ◌∙◌, subst, arith}
+use Rattle.std.proofs.lemmas.List.{take_at}
+use Rattle.play.specs.declared.stage.Listener.{Listener}
+use Rattle.play.specs.Inside.{AreTold, lines_untold, names_of}
+use Rattle.play.proofs.LinesAppended.{appends, named_after, told_after}
 use Rattle.play.proofs.stage.Stage.play.Goals as goal
 
 pub returns-clause-lines : goal.returns-clause-lines
 returns-clause-lines c =
-    appends c.tell_accepted.result c.args.index c.in_ok-happened.happened _ _ _ _ _ _ c.in_ok-happened.ensures.steps
-    c.in_ok-write_line.ensures.line c.tell_accepted.ensures.world c.tell_accepted.ensures.lines
+    let ls = c.happens.new.self.listeners.items in
+    appends c.tell_all.result (names_of c.args.self.now.listeners.items) c.args.index c.args.order.now c.in_ok-came.came c.args.self.now.world c.happens.new.self.world ls
+    c.args.transcript.now.items c.write_line.new.transcript.items c.tell_all.new.transcript.items c.in_ok-came.ensures.comes c.in_ok-write_line.ensures.line
+    (ap names_of c.in_ok-came.ensures.listeners)
+    (subst (λ (l : List Listener). AreTold l c.args.self.now.world) (sym c.in_ok-came.ensures.listeners) c.requires.told)
+    (subst (λ (l : List Listener). OnOk c.tell_all.result (c.tell_all.new.transcript.items ≡ c.write_line.new.transcript.items ++ lines_untold l c.happens.new.self.world))
+    c.as_mut_slice.ensures.value c.tell_all.ensures.lines)
+
+pub returns-clause-told : goal.returns-clause-told
+returns-clause-told c =
+    subst (λ (l : List Listener). OnOk c.tell_all.result (AreTold l c.happens.new.self.world))
+    (sym (take_at c.tell_all.new.listeners _ c.happens.new.self.listeners.len (omega (arith, c.as_mut_slice.ensures.len))))
+    (told_after c.tell_all.result c.happens.new.self.world c.as_mut_slice.result.now c.tell_all.new.listeners c.tell_all.ensures.listeners)
+
+pub returns-clause-named : goal.returns-clause-named
+returns-clause-named c =
+    subst (λ (l : List Listener). OnOk c.tell_all.result (names_of l ≡ names_of c.args.self.now.listeners.items))
+    (sym (take_at c.tell_all.new.listeners _ c.happens.new.self.listeners.len (omega (arith, c.as_mut_slice.ensures.len))))
+    (named_after c.tell_all.result c.happens.new.self.world c.args.self.now.listeners.items c.as_mut_slice.result.now c.tell_all.new.listeners
+    (c.as_mut_slice.ensures.value ∙ c.in_ok-came.ensures.listeners) c.tell_all.ensures.listeners)
