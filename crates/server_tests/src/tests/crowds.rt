@@ -79,7 +79,7 @@ where
     }
 }
 
-/// Whether twelve clients that say nothing keep their places for eight seconds, and not for twelve. Then another is accepted.
+/// Whether twelve clients that say nothing keep their places for six seconds, and not for fourteen. Then another is accepted.
 pub(super) fn are_silent_ones_ended<R>(rt: &R, place: Option<&Place>) -> bool
 where
     R: AllocGlobal + Net<Stream = TcpStream>,
@@ -87,8 +87,8 @@ where
     let mut streams = Vec::new(rt.alloc());
     (0..12).all(|_| opens(rt, place, &mut streams))
         && is_turned_away(rt, place)
-        && streams.first_mut().map(|stream| is_open_for(stream, 8_000)) == Some(true)
-        && streams.iter_mut().all(|stream| !is_open_for(stream, 4_000))
+        && streams.first_mut().map(|stream| is_open_for(stream, 6_000)) == Some(true)
+        && streams.iter_mut().all(|stream| !is_open_for(stream, 8_000))
         && is_accepted(rt, place, b'a')
 }
 
