@@ -38,7 +38,7 @@ impl Course {
     /// The course of three nodes in ballot 1.
     pub fn new() -> Course {
         Course {
-            state: 29,
+            state: 30,
             next: 0,
             published: 0,
             opened: 0,
