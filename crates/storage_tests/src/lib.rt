@@ -1,5 +1,5 @@
 //! Tests of what a broker stores, through public calls: sessions, the indexes of subscriptions,
-//! retained publications, and the functions that carry laws. Only tests and three laws stand here.
+//! retained publications, and the functions that carry laws. Only tests and a few laws stand here.
 #![tactic(auto)]
 
 #[cfg(test)]
@@ -15,5 +15,6 @@ mod retaining;
 mod sessions;
 
 pub use readings::{
-    live_connections_are_current, released_entries_are_read, removing_needs_no_room,
+    answers_fit_the_qos, filters_keep_their_order, live_connections_are_current,
+    names_have_their_ranges, released_entries_are_read, removing_needs_no_room,
 };

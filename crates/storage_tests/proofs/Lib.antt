@@ -1,0 +1,3 @@
+mod AnswersByQoS
+mod FiltersInOrder
+mod QoSOfEntries
