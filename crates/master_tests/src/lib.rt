@@ -2,5 +2,8 @@
 //! memory, and that a want of memory is counted.
 #![tactic(auto)]
 
+mod rows;
 #[cfg(test)]
 mod tests;
+
+pub use rows::ranges_have_their_edges;

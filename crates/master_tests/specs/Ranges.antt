@@ -1,0 +1,17 @@
+-- How many ballots a master can give, and how many places a log can have: rows at both edges.
+use Rattle.std.specs.Prelude.{◌≡◌, true, Some, None}
+use Rattle.ballot.specs.Config.{Config}
+use Rattle.ballot.specs.LawfulConfig.{is_lawful}
+use Rattle.ballot_base.specs.Serving.{most_places}
+use Rattle.agreement.specs.MasterState.{MasterState, refusal, ballots_spent}
+
+-- the 4,294,967,296th ballot is given, and none after it
+abbrev pub LastBallotIs : Type 0
+LastBallotIs =
+    (m : MasterState) (config : Config) → is_lawful config.members config.primary ≡ true →
+    (m.given ≡ 4294967295 → refusal m config ≡ None)
+    × (m.given ≡ 4294967296 → refusal m config ≡ Some ballots_spent)
+
+-- a log has room for 1,099,511,627,776 commands
+abbrev pub MostPlacesAre : Type 0
+MostPlacesAre = most_places ≡ 1099511627776
