@@ -10,14 +10,15 @@ mod publications;
 mod retained_topics;
 mod streams;
 mod tree;
+mod windows;
 
 use anyhow::{Result, bail};
 use bench_base::list;
 use std::env;
 
 /// The benchmarks, each named like its file.
-const NAMES: [&str; 7] = [
-    "granted", "inbox", "matching", "packets", "retained", "streams", "tree",
+const NAMES: [&str; 8] = [
+    "granted", "inbox", "matching", "packets", "retained", "streams", "tree", "windows",
 ];
 
 fn main(rt: HostRuntime) -> Result<()> {
@@ -39,6 +40,7 @@ fn run(rt: &HostRuntime, name: &str) -> Result<()> {
         "retained" => retained_topics::run(rt),
         "streams" => streams::run(rt),
         "tree" => tree::run(rt),
+        "windows" => windows::run(rt),
         _ => bail!("no benchmark has the name {name}"),
     }
 }
