@@ -1,8 +1,8 @@
 -- A filter is set in its place, or comes last.
-use Rattle.std.proofs.Common.{◌≡◌, ◌<◌, ◌≤◌, ℕ, suc, Bool, true, false, nat_lt, if◌then◌else◌, List, [], ◌∷◌, ◌++◌, length, refl, ap, sym, arith}
+use Rattle.std.proofs.Common.{◌≡◌, ◌<◌, ◌≤◌, ℕ, suc, Bool, true, false, nat_lt, ◌||◌, if◌then◌else◌, List, [], ◌∷◌, ◌++◌, length, refl, ap, sym, arith}
 use Rattle.std.specs.Prelude.{bytes_eq, slice_index_or, slice_set}
 use Rattle.packet.specs.declared.qos.QoS.{QoS}
-use Rattle.session_base.specs.Subscriptions.{HeldFilter, with_subscription}
+use Rattle.session_base.specs.Subscriptions.{HeldFilter, is_held, with_subscription}
 use Rattle.session.specs.Inside.{place_of}
 
 one_less : (i n : ℕ) (b : Bool) → nat_lt (suc i) (suc n) ≡ b → nat_lt i n ≡ b
@@ -42,3 +42,17 @@ below i n h = grind arith
 
 pub not_below : (i n : ℕ) → n ≤ i → nat_lt i n ≡ false
 not_below i n h = grind arith
+
+-- a filter that is held has its place among those held
+pub never_missed : (filter : List ℕ) (held : List HeldFilter) → nat_lt (place_of filter held) (length held) ≡ false → is_held filter held ≡ true → ⊥
+never_missed filter [] missed h = absurd (cc)
+never_missed filter (first ∷ others) missed h = by (bytes_eq filter first.0) missed h (never_missed filter others)
+  where
+    by : (b : Bool) → nat_lt (if b then 0 else suc (place_of filter others)) (suc (length others)) ≡ false →
+        (b || is_held filter others) ≡ true →
+        (nat_lt (place_of filter others) (length others) ≡ false → is_held filter others ≡ true → ⊥) → ⊥
+    by true missed h rest = no (length others) missed
+      where
+        no : (n : ℕ) → nat_lt 0 (suc n) ≡ false → ⊥
+        no n g = grind arith
+    by false missed h rest = rest (one_less (place_of filter others) (length others) false missed) h

@@ -11,21 +11,15 @@ use Rattle.session_base.specs.Subscriptions.{HeldFilter}
 use Rattle.session_base.specs.Queue.{Flight, Queue, started_flight}
 use Rattle.session_form.specs.Form.{IsWritable}
 
+-- the first that waits starts
 abbrev pub started_with : List Flight → List Publication → Queue
 started_with flights (p ∷ waiting) = record { in_flight = flights ++ started_flight flights p ∷ []; waiting = waiting }
 started_with flights [] = record { in_flight = flights; waiting = [] }
 
--- the first that waits starts
-abbrev pub started : Queue → Queue
-started queue = started_with queue.in_flight queue.waiting
-
+-- and is sent
 abbrev pub sends_with : List Flight → List Publication → List Packet
 sends_with flights (p ∷ waiting) = packets.Publish (publish_of false (started_flight flights p).0 p) ∷ []
 sends_with flights [] = []
-
--- and is sent
-abbrev pub start_sends : Queue → List Packet
-start_sends queue = sends_with queue.in_flight queue.waiting
 
 -- the entry with this identifier waits for PUBREC
 abbrev pub IsAwaited : ℕ → List Flight → Type 0

@@ -1,6 +1,6 @@
 // One client's session (MQTT 3.1.2.4, 4.1).
 
-ghost use Rattle.std.specs.Prelude.{◌≡◌, ◌≢◌, ◌<◌, ◌++◌, ◌↔◌, true, length, take, Ok, Err, OnOk, OnErr};
+ghost use Rattle.std.specs.Prelude.{◌≡◌, ◌≢◌, ◌<◌, ◌++◌, ◌↔◌, [], true, length, IsOk, Ok, Err, OnOk, OnErr};
 ghost use Rattle.lists.specs.Lists.{has_id};
 ghost use Rattle.session_base.specs.Identifiers.{with_id, without_id};
 ghost use Rattle.session_base.specs.Subscriptions.{is_held, with_subscription, without_filter, granted_qos};
@@ -119,15 +119,18 @@ impl Session {
     }
 
     /// While fewer entries are in flight than the window, the first that waits starts with the least
-    /// free identifier, and its PUBLISH is appended (MQTT 4.6). Without memory what is appended may
-    /// be cut off, and so may the queue: the session is not to be used again.
+    /// free identifier, and its PUBLISH is appended (MQTT 4.6). Without memory nothing changes.
     pub fn fill(&mut self, window: usize, out: &mut Vec<Packet>) -> Result<(), AllocError>
         requires { window < 65536 }
         ensures state { OnOk result (self.new ≡ with_queue (filled window self.old.queue) self.old) }
         ensures sends { OnOk result
             (out.new.items
             ≡ out.old.items ++ fill_sends window self.old.queue.in_flight self.old.queue.waiting) }
-        ensures kept { OnErr result (out.old.items ≡ take (length out.old.items) out.new.items) }
+        ensures err { OnErr result (self.new ≡ self.old) }
+        ensures unsent { OnErr result (out.new.items ≡ out.old.items) }
+
+        // `Err` only where something is sent.
+        ensures quiet { fill_sends window self.old.queue.in_flight self.old.queue.waiting ≡ [] → IsOk result }
     {
         self.queue.fill(window, out)
     }
@@ -149,6 +152,9 @@ impl Session {
             (out.new.items ≡ out.old.items ++ pubrec_sends id (on_pubrec id self.old.queue.in_flight)) }
         ensures err { OnErr result (self.new ≡ self.old) }
         ensures unsent { OnErr result (out.new.items ≡ out.old.items) }
+
+        // `Err` only where something is sent.
+        ensures quiet { pubrec_sends id (on_pubrec id self.old.queue.in_flight) ≡ [] → IsOk result }
     {
         resend_keeps_the_order();
         self.queue.on_pubrec(id, out)
@@ -163,10 +169,11 @@ impl Session {
     }
 
     /// Appends what a client that comes back is sent of what is in flight: PUBREL for each released
-    /// entry, then PUBLISH with DUP 1 (MQTT 4.4).
+    /// entry, then PUBLISH with DUP 1 (MQTT 4.4). Without memory nothing is appended.
     pub fn resend(&self, out: &mut Vec<Packet>) -> Result<(), AllocError>
         ensures ok { OnOk result (out.new.items ≡ out.old.items ++ resend self.now.queue.in_flight) }
-        ensures err { OnErr result (out.old.items ≡ take (length out.old.items) out.new.items) }
+        ensures err { OnErr result (out.new.items ≡ out.old.items) }
+        ensures quiet { self.now.queue.in_flight ≡ [] → IsOk result }
     {
         self.queue.resend(out)
     }
@@ -177,6 +184,9 @@ impl Session {
         ensures ok { OnOk result
             (self.new ≡ with_filters (with_subscription (filter, qos) self.old.subscriptions) self.old) }
         ensures err { OnErr result (self.new ≡ self.old) }
+
+        // `Err` only for a new filter.
+        ensures held { is_held filter self.old.subscriptions ≡ true → IsOk result }
     {
         self.subscriptions.set(filter, qos)
     }

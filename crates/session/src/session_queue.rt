@@ -1,13 +1,13 @@
 // What goes out to a client: the entries in flight, and what waits (MQTT 4.3, 4.4, 4.6).
 
-ghost use Rattle.std.specs.Prelude.{◌≡◌, ◌<◌, ◌++◌, [], ◌∷◌, true, false, length, filter, take, OnOk, OnErr};
+ghost use Rattle.std.specs.Prelude.{◌≡◌, ◌≤◌, ◌<◌, ◌++◌, [], ◌∷◌, true, false, length, filter, take, drop, IsOk, IfOk, OnOk, OnErr};
 ghost use Rattle.std.specs.List.{list_any};
 ghost use Rattle.lists.specs.Lists.{has_id};
 ghost use Rattle.session_base.specs.Identifiers.{least_free};
 ghost use Rattle.session_base.specs.Session.{with_flights};
 ghost use Rattle.session_base.specs.OrderLaws.{IsReleasedFirst};
 ghost use Rattle.session_base.specs.Sending.{fill_sends, resend, pubrec_sends};
-ghost use Rattle.session.specs.Inside.{started, start_sends, IsAwaited, with_released};
+ghost use Rattle.session.specs.Inside.{started_with, sends_with, IsAwaited, with_released};
 ghost use Rattle.session_base.specs.Queue.{empty_queue, is_released, awaits_pubrec, awaits_pubcomp, on_puback, on_pubrec, on_pubcomp, released_with, enqueue, room, filled, ids_of};
 
 use crate::sending::{
@@ -64,41 +64,90 @@ impl SessionQueue {
         self.waiting.push_back(publication)
     }
 
-    /// Starts what waits while fewer are in flight than the window, and appends what is sent.
+    /// Starts what waits while fewer are in flight than the window, and appends what is sent. Without
+    /// memory nothing changes.
     pub(crate) fn fill(&mut self, window: usize, out: &mut Vec<Packet>) -> Result<(), AllocError>
         requires { window < 65536 }
         ensures state { OnOk result (self.new ≡ filled window self.old) }
         ensures sends { OnOk result
             (out.new.items ≡ out.old.items ++ fill_sends window self.old.in_flight self.old.waiting) }
         ensures first { IsReleasedFirst self.old.in_flight → IsReleasedFirst self.new.in_flight }
+        ensures err { OnErr result (self.new ≡ self.old) }
+        ensures unsent { OnErr result (out.new.items ≡ out.old.items) }
+        ensures quiet { fill_sends window self.old.in_flight self.old.waiting ≡ [] → IsOk result }
+    {
+        let flights = self.in_flight.len();
+        let packets = out.len();
+        match self.start_all(window, out) {
+            Ok(many) => {
+                self.take_off(many);
+                Ok(())
+            }
+            Err(error) => {
+                self.in_flight.truncate(flights);
+                out.truncate(packets);
+                Err(error)
+            }
+        }
+    }
+
+    // Starts what may start, appends what is sent, and returns how many they are. They still wait as well.
+    fn start_all(&mut self, window: usize, out: &mut Vec<Packet>) -> Result<usize, AllocError>
+        requires { window < 65536 }
+        ensures state { IfOk result
+            (λ many. record { in_flight = self.new.in_flight; waiting = drop many self.old.waiting }
+            ≡ filled window self.old) }
+        ensures sends { OnOk result
+            (out.new.items ≡ out.old.items ++ fill_sends window self.old.in_flight self.old.waiting) }
+        ensures few { IfOk result (λ many. many ≤ length self.old.waiting) }
+        ensures first { IsReleasedFirst self.old.in_flight → IsReleasedFirst self.new.in_flight }
+        ensures waiting { self.new.waiting ≡ self.old.waiting }
+        ensures flights { OnErr result
+            (self.old.in_flight ≡ take (length self.old.in_flight) self.new.in_flight) }
+        ensures kept { OnErr result (out.old.items ≡ take (length out.old.items) out.new.items) }
+        ensures quiet { fill_sends window self.old.in_flight self.old.waiting ≡ [] → IsOk result }
+    {
+        for place in 0..self.waiting.len() {
+            if self.in_flight.len() >= window {
+                return Ok(place);
+            }
+            self.start(place, out)?;
+        }
+        Ok(self.waiting.len())
+    }
+
+    // Starts the one that waits at this place. It still waits there as well.
+    fn start(&mut self, place: usize, out: &mut Vec<Packet>) -> Result<(), AllocError>
+        requires { length self.old.in_flight < 65535 }
+        ensures state { OnOk result
+            (self.new.in_flight
+            ≡ (started_with self.old.in_flight (drop place self.old.waiting)).in_flight) }
+        ensures sends { OnOk result
+            (out.new.items ≡ out.old.items ++ sends_with self.old.in_flight (drop place self.old.waiting)) }
+        ensures first { IsReleasedFirst self.old.in_flight → IsReleasedFirst self.new.in_flight }
+        ensures waiting { self.new.waiting ≡ self.old.waiting }
+        ensures err { OnErr result (self.new.in_flight ≡ self.old.in_flight) }
         ensures kept { OnErr result (out.old.items ≡ take (length out.old.items) out.new.items) }
     {
-        let many = self.waiting.len();
-        for _ in 0..many {
-            if self.in_flight.len() >= window {
-                return Ok(());
-            }
-            self.start(out)?;
+        if let Some(publication) = self.waiting.get(place) {
+            let id = free_id(&self.in_flight);
+            fill_takes_what_waits();
+            resend_keeps_the_order();
+            send_publish(publication, id, out)?;
+            put_last(&mut self.in_flight, id, awaits_of(publication.clone()?))?;
         }
         Ok(())
     }
 
-    // Starts the first that waits.
-    fn start(&mut self, out: &mut Vec<Packet>) -> Result<(), AllocError>
-        requires { length self.old.in_flight < 65535 }
-        ensures state { OnOk result (self.new ≡ started self.old) }
-        ensures sends { OnOk result (out.new.items ≡ out.old.items ++ start_sends self.old) }
-        ensures first { IsReleasedFirst self.old.in_flight → IsReleasedFirst self.new.in_flight }
-        ensures kept { OnErr result (out.old.items ≡ take (length out.old.items) out.new.items) }
+    // The first so many no longer wait.
+    fn take_off(&mut self, many: usize)
+        requires { many ≤ length self.old.waiting }
+        ensures { self.new
+            ≡ record { in_flight = self.old.in_flight; waiting = drop many self.old.waiting } }
     {
-        if let Some(publication) = self.waiting.pop_front() {
-            let id = free_id(&self.in_flight);
-            fill_takes_what_waits();
-            resend_keeps_the_order();
-            send_publish(&publication, id, out)?;
-            put_last(&mut self.in_flight, id, awaits_of(publication))?;
+        for _ in 0..many {
+            self.waiting.pop_front();
         }
-        Ok(())
     }
 
     /// PUBACK finishes the QoS 1 entry with this identifier.
@@ -122,6 +171,7 @@ impl SessionQueue {
             (out.new.items ≡ out.old.items ++ pubrec_sends id (on_pubrec id self.old.in_flight)) }
         ensures err { OnErr result (self.new ≡ self.old) }
         ensures unsent { OnErr result (out.new.items ≡ out.old.items) }
+        ensures quiet { pubrec_sends id (on_pubrec id self.old.in_flight) ≡ [] → IsOk result }
     {
         if self.is_awaited(id) {
             out.push(Packet::Pubrel(id))?;
@@ -190,10 +240,26 @@ impl SessionQueue {
         self.in_flight.retain(|other, awaits| !(id == *other && waits_for_pubcomp(awaits)));
     }
 
-    /// Appends what a client that comes back is sent of what is in flight, in its order.
+    /// Appends what a client that comes back is sent of what is in flight, in its order. Without memory
+    /// nothing is appended.
     pub(crate) fn resend(&self, out: &mut Vec<Packet>) -> Result<(), AllocError>
         ensures ok { OnOk result (out.new.items ≡ out.old.items ++ resend self.now.in_flight) }
+        ensures err { OnErr result (out.new.items ≡ out.old.items) }
+        ensures quiet { self.now.in_flight ≡ [] → IsOk result }
+    {
+        let before = out.len();
+        let appended = self.append_anew(out);
+        if appended.is_err() {
+            out.truncate(before);
+        }
+        appended
+    }
+
+    // Appends it. Without memory some of it may stand there.
+    fn append_anew(&self, out: &mut Vec<Packet>) -> Result<(), AllocError>
+        ensures ok { OnOk result (out.new.items ≡ out.old.items ++ resend self.now.in_flight) }
         ensures err { OnErr result (out.old.items ≡ take (length out.old.items) out.new.items) }
+        ensures quiet { self.now.in_flight ≡ [] → IsOk result }
     {
         for (id, awaits) in &self.in_flight {
             out.push(packet_anew(*id, awaits)?)?;

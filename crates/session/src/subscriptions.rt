@@ -1,6 +1,6 @@
 // The subscriptions of a session (MQTT 3.8.4, 3.10.4).
 
-ghost use Rattle.std.specs.Prelude.{◌≡◌, [], OnOk, OnErr, length};
+ghost use Rattle.std.specs.Prelude.{◌≡◌, [], true, IsOk, OnOk, OnErr, length};
 ghost use Rattle.session_base.specs.Subscriptions.{is_held, with_subscription, without_filter, granted_qos};
 ghost use Rattle.session_base.specs.Publication.{greater_qos};
 ghost use Rattle.session.specs.Inside.{place_of};
@@ -65,6 +65,7 @@ impl Subscriptions {
     pub(crate) fn set(&mut self, filter: Filter, qos: QoS) -> Result<(), AllocError>
         ensures ok { OnOk result (self.new ≡ with_subscription (filter, qos) self.old) }
         ensures err { OnErr result (self.new ≡ self.old) }
+        ensures held { is_held filter self.old ≡ true → IsOk result }
     {
         let place = self.place_of(&filter);
         if place < self.len() {

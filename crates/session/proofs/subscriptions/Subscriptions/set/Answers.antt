@@ -2,7 +2,7 @@ use Rattle.std.proofs.Common.{◌≡◌, ◌∙◌, ap, ap₂, sym, true, false,
 use Rattle.std.specs.Prelude.{slice_index_or, slice_set}
 use Rattle.session_base.specs.Subscriptions.{HeldFilter}
 use Rattle.session.specs.Inside.{place_of}
-use Rattle.session.proofs.FilterSet.{in_place, at_the_end, below, not_below}
+use Rattle.session.proofs.FilterSet.{in_place, at_the_end, never_missed, below, not_below}
 use Rattle.session.proofs.subscriptions.Subscriptions.set.Goals as goal
 
 pub returns-then-place-len-clause-ok : goal.returns-then-place-len-clause-ok
@@ -21,3 +21,9 @@ returns-clause-ok c =
     c.in_ok-push.ensures.items
     ∙ ap (λ (held : List HeldFilter). held ++ (c.args.filter, c.args.qos) ∷ []) c.self.view_is
     ∙ at_the_end c.args.filter c.args.qos c.args.self.now missing
+
+pub returns-in_err-push-clause-held : goal.returns-in_err-push-clause-held
+returns-in_err-push-clause-held c held =
+    let missing : nat_lt (place_of c.args.filter c.args.self.now) (length c.args.self.now) ≡ false
+    = ap₂ nat_lt (sym c.place_of-place.ensures) (sym c.len.ensures) ∙ not_below c.place_of-place.result c.len.result c.if-place-len.false in
+    absurd (never_missed c.args.filter c.args.self.now missing held)
