@@ -1,5 +1,5 @@
 -- A filter without wildcards finds what is kept of the topic of its text.
-use Rattle.std.proofs.Common.{Less, ◌≡◌, ℕ, List, [], ◌∷◌, ◌++◌, Bool, true, false, bytes_eq, refl, ◌∙◌, sym}
+use Rattle.std.proofs.Common.{Less, ◌≡◌, ℕ, List, [], ◌∷◌, ◌++◌, Bool, true, false, bytes_eq, refl, ◌∙◌, sym, Some}
 use Rattle.std.specs.Map.{keys_of}
 use Rattle.std.specs.List.{AllByRecursion}
 use Rattle.std.specs.List.Sorted.{IsStrictlySortedBy}
@@ -9,6 +9,7 @@ use Rattle.std.proofs.lemmas.List.{append-nil}
 use Rattle.std.proofs.lemmas.Map.Keys.{sorted_head, sorted_tail}
 use Rattle.topics.specs.Text.{has_no_wildcard}
 use Rattle.topics.proofs.ItselfAlone.{alone}
+use Rattle.retained.specs.declared.retained_publication.RetainedPublication.{RetainedPublication}
 use Rattle.retained.specs.Retained.{RetainedTopics, publication_on, matching_entries}
 use Rattle.retained.specs.Inside.{entry_of}
 
@@ -32,3 +33,7 @@ one_topic asked (entry ∷ content) bare rising = go (bytes_eq asked entry.0) re
 
 pub none_more : (entries found : RetainedTopics) → found ≡ [] → entries ≡ entries ++ found
 none_more entries found none = rw (none) (sym (append-nil entries))
+
+-- where it is kept, something is found
+pub never_none : (asked : List ℕ) (found : RetainedTopics) (kept : RetainedPublication) → found ≡ entry_of asked (Some kept) → found ≡ [] → ⊥
+never_none asked found kept is none = absurd (let clash : (asked, kept) ∷ [] ≡ (let empty : RetainedTopics = [] in empty) = sym is ∙ none in cc)

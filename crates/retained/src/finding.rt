@@ -3,9 +3,11 @@
 ghost use Rattle.std.specs.Prelude.{
   ◌≡◌,
   ◌++◌,
+  [],
   length,
   take,
   true,
+  IsOk,
   OnOk,
   OnErr,
   IfSome,
@@ -34,10 +36,12 @@ pub(crate) fn append_matching(
     ensures ok { OnOk result
         (entries.new.items ≡ entries.old.items ++ matching_entries topics.now.entries filter.now) }
     ensures err { OnErr result (entries.old.items ≡ take (length entries.old.items) entries.new.items) }
+    ensures none { matching_entries topics.now.entries filter.now ≡ [] → IsOk result }
 {
-    match filter.as_topic()? {
-        Some(topic) => append_topic(topics, topic, entries),
-        None => append_in_range(topics, filter, entries),
+    match filter.as_topic() {
+        Ok(Some(topic)) => append_topic(topics, topic, entries),
+        // Where the text cannot be shared, the filter is held against all topics.
+        Ok(None) | Err(_) => append_in_range(topics, filter, entries),
     }
 }
 
@@ -51,6 +55,7 @@ fn append_topic(
     ensures ok { OnOk result
         (entries.new.items ≡ entries.old.items ++ matching_entries topics.now.entries topic) }
     ensures err { OnErr result (entries.new.items ≡ entries.old.items) }
+    ensures none { matching_entries topics.now.entries topic ≡ [] → IsOk result }
 {
     // That the topics are in order.
     let _len = topics.len();
@@ -69,6 +74,7 @@ fn append_in_range(
     ensures ok { OnOk result
         (entries.new.items ≡ entries.old.items ++ matching_entries topics.now.entries filter.now) }
     ensures err { OnErr result (entries.old.items ≡ take (length entries.old.items) entries.new.items) }
+    ensures none { matching_entries topics.now.entries filter.now ≡ [] → IsOk result }
 {
     let bounds = bounds_of(*entries.allocator(), filter.as_str());
     for (topic, kept) in topics.range(bounds) {

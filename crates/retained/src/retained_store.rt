@@ -115,7 +115,7 @@ impl RetainedStore {
     }
 
     /// Appends each topic that the filter matches, with what is retained of it, in the order of the
-    /// topics' bytes. Without memory the entries stay as they were.
+    /// topics' bytes. Without memory the entries stay as they were; where no topic matches it takes none.
     pub fn matching(
         &self,
         filter: &Filter,
@@ -124,6 +124,7 @@ impl RetainedStore {
         ensures ok { OnOk result
             (entries.new.items ≡ entries.old.items ++ matching_entries self.now filter.now) }
         ensures err { OnErr result (entries.new.items ≡ entries.old.items) }
+        ensures none { matching_entries self.now filter.now ≡ [] → IsOk result }
     {
         let before = entries.len();
         let appended = append_matching(&self.topics, filter, entries);

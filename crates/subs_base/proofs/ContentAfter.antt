@@ -137,3 +137,13 @@ on_err (Err e) step h = step h
 pub on_ok_both : {X E A B C : Type 0} (r : Result X E) → (A → B → C) → OnOk r A → OnOk r B → OnOk r C
 on_ok_both (Ok x) step h k = step h k
 on_ok_both (Err e) step h k = h
+
+pub anyhow_err : {X E A : Type 0} (r : Result X E) → A → OnErr r A
+anyhow_err (Ok x) a = tt
+anyhow_err (Err e) a = a
+
+-- a client that is not there has no subscription
+pub content_nowhere : (m : Map) (client filter : List ℕ) → None ≡ get (slice_cmp nat_cmp) m client → content_of (listed m.entries) client filter ≡ None
+content_nowhere m client filter none =
+    content_held m client filter
+    ∙ sym (ap (option_and_then (λ filters. get (slice_cmp nat_cmp) filters filter)) none)

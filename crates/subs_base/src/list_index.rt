@@ -139,6 +139,7 @@ fn set_filter(
     ensures ok { OnOk result
         (Updates (slice_cmp nat_cmp) filters.old filters.new filter.now (Some qos)) }
     ensures err { OnErr result (filters.new.entries ≡ filters.old.entries) }
+    ensures absent { OnErr result (get (slice_cmp nat_cmp) filters.old filter.now ≡ None) }
 {
     if let Some(kept) = filters.get_mut(filter) {
         *kept = qos;

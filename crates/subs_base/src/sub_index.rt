@@ -1,6 +1,6 @@
 // What an index of subscriptions has to do.
 
-ghost use Rattle.std.specs.Prelude.{◌≡◌, ◌↔◌, IsTrue, IsSome, OnOk, OnErr};
+ghost use Rattle.std.specs.Prelude.{◌≡◌, ◌↔◌, None, IsTrue, IsSome, OnOk, OnErr};
 ghost use Rattle.subs_base.specs.Content.{
   Content,
   no_subscriptions,
@@ -22,11 +22,13 @@ pub trait SubIndex: Drop {
     fn new(alloc: Global) -> Self
         ensures { content result ≡ no_subscriptions };
 
-    /// Sets the client's subscription of this filter, replacing an identical one (MQTT 3.8.4).
+    /// Sets the client's subscription of this filter, replacing an identical one, which takes no memory
+    /// (MQTT 3.8.4).
     fn set(&mut self, client: &ClientId, filter: &Filter, qos: QoS) -> Result<(), AllocError>
         ensures ok { OnOk result
             (content self.new ≡ with_row (content self.old) client.now filter.now qos) }
-        ensures err { OnErr result (content self.new ≡ content self.old) };
+        ensures err { OnErr result (content self.new ≡ content self.old) }
+        ensures absent { OnErr result (content self.old client.now filter.now ≡ None) };
 
     /// Removes the client's subscription of this very filter, and says whether there was one
     /// (MQTT 3.10.4). Takes no memory.

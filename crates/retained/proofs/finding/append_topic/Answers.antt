@@ -1,8 +1,8 @@
 -- What is kept of the topic is all that its filter matches.
 use Rattle.std.proofs.Common.{◌≡◌, [], ◌∷◌, ◌++◌, ◌∙◌, Some, ap, refl, sym}
-use Rattle.retained.specs.Retained.{RetainedTopics}
+use Rattle.retained.specs.Retained.{RetainedTopics, matching_entries}
 use Rattle.retained.specs.Inside.{entry_of}
-use Rattle.retained.proofs.OneTopic.{one_topic, none_more}
+use Rattle.retained.proofs.OneTopic.{one_topic, never_none, none_more}
 use Rattle.retained.proofs.finding.append_topic.Goals as goal
 
 pub returns-in_ok-push-clause-ok : goal.returns-in_ok-push-clause-ok
@@ -19,3 +19,15 @@ returns-in_default-clause-ok c =
     none_more c.args.entries.now.items _
     (one_topic c.args.topic c.args.topics.now.entries c.requires c.len-len.ensures.ordered
     ∙ sym (ap (entry_of c.args.topic) c.in_default.ensures.value))
+
+pub returns-in_err-clone-clause-none : goal.returns-in_err-clone-clause-none
+returns-in_err-clone-clause-none c none =
+    absurd (never_none c.args.topic (matching_entries c.args.topics.now.entries c.args.topic) c.in-Some.kept.now
+    (one_topic c.args.topic c.args.topics.now.entries c.requires c.len-len.ensures.ordered
+    ∙ sym (ap (entry_of c.args.topic) c.in-Some.ensures.value)) none)
+
+pub returns-in_err-push-clause-none : goal.returns-in_err-push-clause-none
+returns-in_err-push-clause-none c none =
+    absurd (never_none c.args.topic (matching_entries c.args.topics.now.entries c.args.topic) c.in-Some.kept.now
+    (one_topic c.args.topic c.args.topics.now.entries c.requires c.len-len.ensures.ordered
+    ∙ sym (ap (entry_of c.args.topic) c.in-Some.ensures.value)) none)

@@ -6,7 +6,7 @@ use Rattle.std.specs.Ordering.{nat_cmp}
 use Rattle.subs_base.specs.Content.{with_row}
 use Rattle.subs_base.specs.ListIndex.{content_of}
 use Rattle.subs_base.specs.Inside.{listed}
-use Rattle.subs_base.proofs.ContentAfter.{content_changed, content_kept, held_some, held_none, on_ok, on_err}
+use Rattle.subs_base.proofs.ContentAfter.{content_held, content_changed, content_kept, held_some, held_none, content_nowhere, on_ok, on_err, anyhow_err}
 use Rattle.subs_base.proofs.list_index.ListIndexSubIndex.set.Goals as goal
 
 pub returns-in-Some-clause-ok : goal.returns-in-Some-clause-ok
@@ -31,6 +31,16 @@ returns-in-Some-clause-err c =
     ∙ ap content_of c.self.view_is)
     c.set_filter.ensures.err
 
+pub returns-in-Some-clause-absent : goal.returns-in-Some-clause-absent
+returns-in-Some-clause-absent c =
+    on_err c.set_filter.result
+    (λ none.
+    ap (λ v. content_of v c.args.client.now c.args.filter.now) (sym c.self.view_is)
+    ∙ content_held c.self.inside.clients c.args.client.now c.args.filter.now
+    ∙ held_some c.self.inside.clients c.args.client.now c.args.filter.now c.in-Some.filters.now c.in-Some.ensures.value
+    ∙ none)
+    c.set_filter.ensures.absent
+
 pub returns-in_ok-insert-in-None-clause-ok : goal.returns-in_ok-insert-in-None-clause-ok
 returns-in_ok-insert-in-None-clause-ok c =
     content_changed c.get_mut.follows.lender-at-none c.insert.new.self c.args.client.now c.args.filter.now (Some c.args.qos)
@@ -45,3 +55,21 @@ returns-in_ok-insert-in-None-clause-ok c =
     c.in_ok-insert-in-None.ensures.updates.0)
     ∙ ap (λ m. with_row (content_of (listed m.entries)) c.args.client.now c.args.filter.now c.args.qos) c.get_mut.follows.holds-at-none
     ∙ ap (λ v. with_row (content_of v) c.args.client.now c.args.filter.now c.args.qos) c.self.view_is
+
+pub returns-in_err-set_filter-in-None-clause-absent : goal.returns-in_err-set_filter-in-None-clause-absent
+returns-in_err-set_filter-in-None-clause-absent c =
+    anyhow_err c.from_residual.result
+    (ap (λ v. content_of v c.args.client.now c.args.filter.now) (sym c.self.view_is)
+    ∙ content_nowhere c.self.inside.clients c.args.client.now c.args.filter.now c.in-None.ensures.value)
+
+pub returns-in_err-clone-in-None-clause-absent : goal.returns-in_err-clone-in-None-clause-absent
+returns-in_err-clone-in-None-clause-absent c =
+    anyhow_err c.from_residual-in_err-clone-in-None.result
+    (ap (λ v. content_of v c.args.client.now c.args.filter.now) (sym c.self.view_is)
+    ∙ content_nowhere c.self.inside.clients c.args.client.now c.args.filter.now c.in-None.ensures.value)
+
+pub returns-in_err-insert-in-None-clause-absent : goal.returns-in_err-insert-in-None-clause-absent
+returns-in_err-insert-in-None-clause-absent c =
+    anyhow_err c.from_residual-in_err-insert-in-None.result
+    (ap (λ v. content_of v c.args.client.now c.args.filter.now) (sym c.self.view_is)
+    ∙ content_nowhere c.self.inside.clients c.args.client.now c.args.filter.now c.in-None.ensures.value)

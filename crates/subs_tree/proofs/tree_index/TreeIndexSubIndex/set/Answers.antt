@@ -43,3 +43,13 @@ returns-then-is_err-clause-err c =
     ∙ ap (λ v. without_row v c.args.client.now c.args.filter.now) c.in_ok-set.ensures.ok
     ∙ put_back (content_of c.self.inside.clients) c.args.client.now c.args.filter.now c.args.qos none
     ∙ ap content_of c.self.view_is)
+
+pub returns-then-is_err-clause-absent : goal.returns-then-is_err-clause-absent
+returns-then-is_err-clause-absent c =
+    let failed = sym c.is_err.ensures.value ∙ c.if-is_err.true in
+    let text : c.as_bytes-text.result.now ≡ c.args.filter.now = c.as_bytes-text.ensures.value ∙ c.as_str.ensures.value in
+    anyhow c.set-set.result
+    (ap (λ v. content_of v c.args.client.now c.args.filter.now) (sym c.self.view_is)
+    ∙ ap (λ (v : Content). v c.args.client.now c.args.filter.now) c.self.invariant
+    ∙ sym (ap (λ t. asked c.self.inside.root (levels t) c.args.client.now) text)
+    ∙ at_err c.set-set.result failed c.set-set.ensures.absent)
