@@ -13,7 +13,7 @@ use Rattle.node.specs.declared.Body.TheVariants.{Activate, Activated, NewBallot,
 use Rattle.node.specs.declared.Config.{Config}
 use Rattle.node.specs.Effect.TheVariants.{To}
 use Rattle.post.specs.Given.{WasGiven}
-use Rattle.post.specs.Mastering.{Answers, IsReachable, WasAnswered, body_of}
+use Rattle.post.specs.Mastering.{IsReachable, WasAnswered, body_of}
 use Rattle.post.specs.Mastering.Answers.{to_node, to_order}
 use Rattle.post.specs.Mastering.IsReachable.{answers, opens}
 

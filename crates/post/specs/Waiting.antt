@@ -1,8 +1,31 @@
 -- What waits for a node.
-use Rattle.std.specs.Prelude.{ℕ, List}
+use Rattle.std.specs.Prelude.{ℕ, ◌+◌, ◌≤◌, Bool, false, ◌||◌, not, nat_lt, if◌then◌else◌, List, [], ◌∷◌, length}
+use Rattle.node.specs.Lists.{Each}
 use Rattle.node.specs.declared.Item.{Item}
+use Rattle.node.specs.declared.Item.TheVariants.{Peer}
+use Rattle.post.specs.Letters.{IsLeft}
 
 -- the number of the node, and the items that were left for it and not taken yet, the oldest first
 pub record Waiting : Type 0 where
   pub number : ℕ
   pub items : List Item
+
+-- whether an item is a message of another node; the master's number is 0
+abbrev pub is_of_node : Item → Bool
+is_of_node (Peer message) = nat_lt 0 message.from
+is_of_node _ = false
+
+-- how many messages of other nodes are among these items
+abbrev pub of_nodes : List Item → ℕ
+of_nodes [] = 0
+of_nodes (item ∷ items) = (if is_of_node item then 1 else 0) + of_nodes items
+
+-- Whether an item may be left beside these: a message of another node while fewer than 131,072 items wait, and a message of the
+-- master or an order whatever waits.
+abbrev pub has_room : Item → List Item → Bool
+has_room item items = not (is_of_node item) || nat_lt (length items) 131072
+
+-- What may wait for the node of a number: what was left for it, and of messages of other nodes no more than 131,072.
+pub record Waits (number : ℕ) (items : List Item) : Type 0 where
+  pub left : Each (IsLeft number) items
+  pub bounded : of_nodes items ≤ 131072

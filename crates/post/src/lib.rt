@@ -4,6 +4,7 @@
 
 mod bell;
 mod carrier;
+mod intake;
 mod laws;
 mod messaging_master;
 mod order_error;

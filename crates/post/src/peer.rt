@@ -1,10 +1,11 @@
 // A node as the other nodes of its program see it.
 
-ghost use Rattle.std.specs.Prelude.{◌≡◌};
+ghost use Rattle.std.specs.Prelude.{◌≡◌, ◌≤◌};
 ghost use Rattle.node.specs.Lists.{Each};
 ghost use Rattle.post.specs.Letters.{IsLeft, IsPosted};
 
 use crate::bell::Bell;
+use crate::intake::Intake;
 use crate::messaging_master::{Answer, MessagingMaster};
 use crate::order_error::OrderError;
 use crate::tray::Tray;
@@ -21,8 +22,8 @@ pub struct Peer {
     pub number: u8,
     /// What the other nodes and the master have for it.
     tray: Mutex<Tray>,
-    /// How it stands since its last change; none before it is served.
-    status: Mutex<Option<Status>>,
+    /// How it stands since its last change, and what it takes from its clients.
+    intake: Mutex<Intake>,
     /// The order to crash was left for it.
     is_crash_ordered: Mutex<bool>,
     /// On this its own thread sleeps.
@@ -36,7 +37,7 @@ impl Peer {
         Peer {
             number,
             tray: Mutex::new(Tray::new(alloc, number)),
-            status: Mutex::new(None),
+            intake: Mutex::new(Intake::new()),
             is_crash_ordered: Mutex::new(false),
             bell: Bell::new(),
         }
@@ -165,11 +166,24 @@ impl Peer {
 
     /// Publishes how the node stands. Whoever changes the node does so before it gives up the node's lock.
     pub fn publish<R: Wait>(&self, rt: &R, status: Status) {
-        *self.status.lock(rt) = Some(status);
+        self.intake.lock(rt).show(status);
+    }
+
+    /// Returns whether the node takes this many bytes more from a client. They then count as on their way to it. It takes none
+    /// while too much of what it took is not agreed, so that what waits for a member that lags is bounded.
+    pub fn admit<R: Wait>(&self, rt: &R, bytes: u64) -> bool
+        requires { bytes ≤ 65536 }
+    {
+        self.intake.lock(rt).admit(bytes)
+    }
+
+    /// Counts bytes that were on their way as taken.
+    pub fn take_in<R: Wait>(&self, rt: &R, bytes: u64) {
+        self.intake.lock(rt).take(bytes);
     }
 
     /// Returns how the node stood after its last change. There is none before it is served.
     pub(crate) fn status<R: Wait>(&self, rt: &R) -> Option<Status> {
-        *self.status.lock(rt)
+        self.intake.lock(rt).status()
     }
 }

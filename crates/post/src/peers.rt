@@ -114,6 +114,11 @@ impl Peers {
         None
     }
 
+    /// Returns whether there are several nodes.
+    pub fn are_several(&self) -> bool {
+        self.nodes.len() > 1
+    }
+
     // Whether each of these numbers is that of a node.
     fn has_all(&self, numbers: &[u8]) -> bool {
         numbers.iter().all(|number| self.node(*number).is_some())

@@ -9,8 +9,9 @@ ghost use Rattle.node.specs.declared.Item.TheVariants.{Peer};
 ghost use Rattle.post.specs.Letters.{IsLeft, IsPosted};
 ghost use Rattle.post.specs.Mastering.{letter_of};
 ghost use Rattle.post.specs.Superseding.{newest, still_waiting, supersedes_one};
+ghost use Rattle.post.specs.Waiting.{has_room, is_of_node};
 
-use crate::messaging_master::{Answer, MessagingMaster};
+use crate::messaging_master::{Answer, MASTER, MessagingMaster};
 use crate::order_error::OrderError;
 use crate::superseding::supersedes;
 use master::AssignError;
@@ -19,8 +20,11 @@ use std::alloc::Global;
 use std::marker::Model;
 use std::mem;
 
+/// How many items may wait where a message of another node is left.
+const MOST_WAITING: usize = 131_072;
+
 /// What the other nodes and the master have for a node, in the order of leaving. It stands behind a lock, so its type
-/// says where each item is from.
+/// says where each item is from, and how many messages of other nodes wait at most.
 #[derive(Drop)]
 pub(crate) struct Tray {
     number: u8,
@@ -28,15 +32,13 @@ pub(crate) struct Tray {
 }
 
 impl Model for Tray {
-    ghost use Rattle.node.specs.Lists.{Each};
-    ghost use Rattle.post.specs.Letters.{IsLeft};
-    ghost use Rattle.post.specs.Waiting.{Waiting};
+    ghost use Rattle.post.specs.Waiting.{Waiting, Waits};
 
     ghost Value = { Waiting };
 
     ghost view = { λ tray. record { number = tray.number; items = tray.items.items } };
 
-    ghost invariant = { λ tray. Each (IsLeft tray.number) tray.items.items };
+    ghost invariant = { λ tray. Waits tray.number tray.items.items };
 }
 
 impl Tray {
@@ -64,14 +66,15 @@ impl Tray {
         self.items.is_empty()
     }
 
-    /// Leaves an item behind all that waits, in the place of the newest where it supersedes that one: whether there was
-    /// memory for it. Where not, it is lost.
+    /// Leaves an item after all that waits, in the place of the newest if it supersedes that one. Returns whether there was room
+    /// and memory for it; if not, it is lost.
     pub(crate) fn leave(&mut self, item: Item) -> bool
         requires { IsPosted self.old.number item }
         ensures left { result ≡ true →
             self.new ≡ record self.old { items = still_waiting item self.old.items ++ item ∷ [] } }
         ensures lost { result ≡ false →
             self.new ≡ record self.old { items = still_waiting item self.old.items } }
+        ensures full { has_room item (still_waiting item self.old.items) ≡ false → result ≡ false }
     {
         self.push(item)
     }
@@ -125,16 +128,27 @@ impl Tray {
     }
 
     // Leaves an item after all that waits, in place of the newest if it supersedes that one. Returns whether there was
-    // memory for it.
+    // room and memory for it.
     fn push(&mut self, item: Item) -> bool
         requires { IsLeft self.old.number item }
         ensures left { result ≡ true →
             self.new ≡ record self.old { items = still_waiting item self.old.items ++ item ∷ [] } }
         ensures lost { result ≡ false →
             self.new ≡ record self.old { items = still_waiting item self.old.items } }
+        ensures full { has_room item (still_waiting item self.old.items) ≡ false → result ≡ false }
     {
         self.drop_superseded(&item);
+        if !self.has_room(&item) {
+            return false;
+        }
         self.items.push(item).is_ok()
+    }
+
+    // Whether an item may be left beside those that wait.
+    fn has_room(&self, item: &Item) -> bool
+        ensures { result ≡ has_room item.now self.now.items }
+    {
+        !is_of_node(item) || self.items.len() < MOST_WAITING
     }
 
     // Drops the newest of the items that wait, where this one supersedes it.
@@ -142,7 +156,8 @@ impl Tray {
         ensures { self.new ≡ record self.old { items = still_waiting item.now self.old.items } }
     {
         if self.is_newest_superseded(item) {
-            let _ = self.items.pop();
+            let kept = self.items.len().saturating_sub(1);
+            self.items.truncate(kept);
         }
     }
 
@@ -163,5 +178,15 @@ impl Tray {
         ensures empty { self.new ≡ record self.old { items = [] } }
     {
         mem::replace(&mut self.items, Vec::new(alloc))
+    }
+}
+
+// Whether an item is a message of another node.
+fn is_of_node(item: &Item) -> bool
+    ensures { result ≡ is_of_node item.now }
+{
+    match item {
+        Item::Peer(message) => message.from > MASTER,
+        _ => false,
     }
 }

@@ -1,11 +1,11 @@
 // A connection's lane, by which the node hears of it.
 
-ghost use Rattle.std.specs.Prelude.{◌≡◌, ◌++◌, ◌∷◌, []};
+ghost use Rattle.std.specs.Prelude.{◌≡◌, ◌≤◌, ◌++◌, ◌∷◌, []};
 
 use crate::link::Link;
 use crate::served::Served;
 use crate::shared::Shared;
-use connection::Hearer;
+use connection::{Hearer, PIECE_BYTES};
 use mailbox::Lane;
 use node::{Gate, Item, NodeNaming, Standing};
 use std::alloc::Global;
@@ -28,10 +28,13 @@ impl<'e, 'a, J: NodeNaming, S: Served<J>, G: Gate> Hearer for Ear<'e, 'a, J, S, 
         shared.seat.now(rt)
     }
 
+    // Bytes are told once the node takes more of them, and count as on their way until it has taken them.
     fn tell<R: Wait + Clock>(&mut self, rt: &R, item: Item) {
         let shared = self.shared;
         let place = self.link.place;
+        let entering = shared.await_room(rt, self.link.port, size_of(&item));
         shared.send(rt, &mut self.lane, item, place);
+        shared.seat.node.take_in(rt, entering);
     }
 
     // A port of which the node has not heard yet is one that it closed, so a link is listed after that. One that the node
@@ -45,5 +48,15 @@ impl<'e, 'a, J: NodeNaming, S: Served<J>, G: Gate> Hearer for Ear<'e, 'a, J, S, 
         let door = &shared.seat.place.door;
         door.list(rt, link);
         standing != Standing::Closed && !door.is_closed(rt)
+    }
+}
+
+// How many bytes of a client an item carries, at most as many as a read gives.
+fn size_of(item: &Item) -> u64
+    ensures { result ≤ 65536 }
+{
+    match item {
+        Item::Bytes(_, piece, _) => piece.as_slice().len().min(PIECE_BYTES) as u64,
+        _ => 0,
     }
 }

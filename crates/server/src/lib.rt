@@ -15,6 +15,7 @@ mod outcome;
 mod own_thread;
 mod passage;
 mod place;
+mod room;
 mod seat;
 mod serve_error;
 mod served;

@@ -6,6 +6,7 @@ mod client;
 mod crowds;
 mod gates;
 mod heard;
+mod lagging;
 mod nodes;
 mod row;
 mod takeovers;

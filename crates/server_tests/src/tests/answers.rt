@@ -5,7 +5,7 @@ use super::nodes::fault_in;
 use super::row::{Row, Table};
 use server::Place;
 use std::alloc::{AllocError, Global};
-use std::io::Read;
+use std::io::{Read, Write};
 use std::net::{Net, TcpStream};
 use std::time::{Clock, Instant};
 
@@ -74,17 +74,17 @@ fn has_taken<R: Clock>(rt: &R, start: Instant) -> bool {
     }
 }
 
-// What is sent in a flood, what has to be answered, and room for what is.
+/// What is sent in a flood, what has to be answered, and room for what is.
 #[derive(Drop)]
-struct Flood {
+pub(super) struct Flood {
     sent: Vec<u8>,
     wanted: Vec<u8>,
     room: Vec<u8>,
 }
 
 impl Flood {
-    // 32,768 PINGREQ, and as many PINGRESP.
-    fn new(alloc: Global) -> Result<Flood, AllocError> {
+    /// 32,768 PINGREQ, and as many PINGRESP.
+    pub(super) fn new(alloc: Global) -> Result<Flood, AllocError> {
         Ok(Flood {
             sent: packets(alloc, 0xC0)?,
             wanted: packets(alloc, 0xD0)?,
@@ -92,8 +92,14 @@ impl Flood {
         })
     }
 
-    fn is_answered(&mut self, stream: &mut TcpStream) -> bool {
-        fills(stream, self.sent.as_slice(), self.room.as_mut_slice()) && self.room == self.wanted
+    /// Whether the PINGREQ are sent.
+    pub(super) fn is_sent(&self, stream: &mut TcpStream) -> bool {
+        stream.write_all(self.sent.as_slice()).is_ok()
+    }
+
+    /// Whether the PINGRESP come.
+    pub(super) fn is_heard(&mut self, stream: &mut TcpStream) -> bool {
+        stream.read_exact(self.room.as_mut_slice()).is_ok() && self.room == self.wanted
     }
 }
 
@@ -122,7 +128,7 @@ where
     R: Net<Stream = TcpStream>,
 {
     match join(rt, place, b'a', false) {
-        Some(mut stream) => flood.is_answered(&mut stream),
+        Some(mut stream) => flood.is_sent(&mut stream) && flood.is_heard(&mut stream),
         None => false,
     }
 }

@@ -43,6 +43,13 @@ fn waits_for(stream: &TcpStream, milliseconds: u64) -> bool {
         .is_ok()
 }
 
+/// Whether a write on this stream ends after so many milliseconds from now on.
+pub(super) fn waits_to_write(stream: &TcpStream, milliseconds: u64) -> bool {
+    stream
+        .set_write_timeout(Some(Duration::from_millis(milliseconds)))
+        .is_ok()
+}
+
 /// Opens a stream of the client of this letter. There is none unless its CONNECT is accepted, and the CONNACK says so
 /// of its session.
 pub(super) fn join<R>(

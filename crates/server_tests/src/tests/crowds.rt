@@ -148,9 +148,9 @@ impl Large {
     }
 }
 
-// A PUBLISH at QoS 0 on `t/1` with 1,000,000 bytes of payload. The 1,000,005 bytes after its length are 69 + 128 * (4 +
-// 128 * 61).
-fn large_publish(alloc: Global) -> Result<Vec<u8>, AllocError> {
+/// A PUBLISH at QoS 0 on `t/1` with 1,000,000 bytes of payload. The 1,000,005 bytes after its length are 69 + 128 * (4 +
+/// 128 * 61).
+pub(super) fn large_publish(alloc: Global) -> Result<Vec<u8>, AllocError> {
     let mut bytes = Vec::from_elem(alloc, 0u8, 1_000_009)?;
     if let Some(beginning) = bytes.first_chunk_mut() {
         *beginning = [0x30, 0x80 + 69, 0x80 + 4, 61, 0, 3, 0x74, 0x2F, 0x31];

@@ -2,9 +2,10 @@
 
 use super::client::{Pair, is_answered, is_silent, publish};
 use super::heard::Heard;
+use super::lagging::{are_bytes_bounded, are_places_bounded};
 use super::nodes::{listen_all, opening};
 use super::visits::visits;
-use server::{Gate, NodeReport, Place, serve_gated};
+use server::{Gate, NodeReport, Peers, Place, serve_gated};
 use std::io::Write;
 use std::net::{Net, TcpListener, TcpStream};
 use std::sync::{Mutex, Wait};
@@ -14,7 +15,7 @@ use std::time::{Clock, Duration};
 
 // A gate, and what is done while nodes ask it.
 trait Watched: Gate {
-    fn attend<R>(&self, rt: &R, place: Option<&Place>) -> bool
+    fn attend<R>(&self, rt: &R, peers: &Peers, place: Option<&Place>) -> bool
     where
         R: AllocGlobal + Wait + Clock + Net<Stream = TcpStream>;
 }
@@ -49,7 +50,7 @@ where
         places,
         &config,
         gate,
-        |_peers| gate.attend(rt, places.first()),
+        |peers| gate.attend(rt, peers, places.first()),
     );
     match served {
         Ok((went_well, reports)) => went_well && are_through(reports.as_slice(), places.len()),
@@ -120,7 +121,7 @@ impl Gate for Meeting {
 
 impl Watched for Meeting {
     // Whether the nodes meet within ten seconds, and client `a` is answered then.
-    fn attend<R>(&self, rt: &R, place: Option<&Place>) -> bool
+    fn attend<R>(&self, rt: &R, _peers: &Peers, place: Option<&Place>) -> bool
     where
         R: AllocGlobal + Wait + Clock + Net<Stream = TcpStream>,
     {
@@ -143,15 +144,40 @@ fn nodes_run_apart(rt: HostRuntime) {
     }
 }
 
-// A gate that is shut for node 3 alone, for a while.
+// What clients send while node 3 is held.
+#[derive(Clone, Copy, Debug)]
+enum Load {
+    // A publication.
+    One,
+    // Many small packets.
+    Packets,
+    // Large publications.
+    Bytes,
+}
+
+/// A gate that is shut for node 3 alone, for a while.
 #[derive(Drop)]
-struct Bar {
+pub(super) struct Bar {
     shut: Mutex<bool>,
+    load: Load,
 }
 
 impl Bar {
-    fn set<R: Wait>(&self, rt: &R, shut: bool) {
+    /// Shuts or opens it.
+    pub(super) fn set<R: Wait>(&self, rt: &R, shut: bool) {
         *self.shut.lock(rt) = shut;
+    }
+
+    // Whether `holds` holds of a subscriber and a publisher.
+    fn passes<R>(&self, rt: &R, place: Option<&Place>) -> bool
+    where
+        R: AllocGlobal + Wait + Net<Stream = TcpStream>,
+    {
+        let mut heard = Heard::new(rt);
+        match Pair::join(rt, place, false) {
+            Some(mut pair) => self.holds(rt, &mut pair, &mut heard),
+            None => false,
+        }
     }
 
     // Whether a publication at QoS 2 is answered, and comes to its subscriber, but neither while node 3 is held.
@@ -183,22 +209,25 @@ impl Gate for Bar {
 }
 
 impl Watched for Bar {
-    fn attend<R>(&self, rt: &R, place: Option<&Place>) -> bool
+    fn attend<R>(&self, rt: &R, peers: &Peers, place: Option<&Place>) -> bool
     where
         R: AllocGlobal + Wait + Clock + Net<Stream = TcpStream>,
     {
-        let mut heard = Heard::new(rt);
-        match Pair::join(rt, place, false) {
-            Some(mut pair) => self.holds(rt, &mut pair, &mut heard),
-            None => false,
+        match self.load {
+            Load::One => self.passes(rt, place),
+            Load::Packets => are_places_bounded(rt, self, peers, place),
+            Load::Bytes => are_bytes_bounded(rt, self, peers, place),
         }
     }
 }
 
 #[test]
-fn an_answer_waits_for_all_members(rt: HostRuntime) {
-    let bar = Bar {
-        shut: Mutex::new(false),
-    };
-    assert!(rt; goes_well(&rt, &[1, 2, 3], &bar));
+fn what_waits_for_a_held_member_is_bounded(rt: HostRuntime) {
+    for load in [Load::One, Load::Packets, Load::Bytes] {
+        let bar = Bar {
+            shut: Mutex::new(false),
+            load,
+        };
+        assert!(rt; goes_well(&rt, &[1, 2, 3], &bar), "{load:?}");
+    }
 }

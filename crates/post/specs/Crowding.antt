@@ -1,0 +1,46 @@
+-- When a node takes nothing more from its clients, since other members lag.
+use Rattle.std.specs.Prelude.{ℕ, ◌+◌, ◌-◌, ◌≤◌, Bool, ◌&&◌, nat_le, min, if◌then◌else◌, Option, Some, None}
+use Rattle.node.specs.declared.Status.{Status}
+use Rattle.node.specs.Replica.{is_active}
+
+-- What a node takes from its clients. `entering` bytes are on their way to it. Of those that it took, `earlier` stand in the
+-- first `mark` places of its log, and `later` in places behind these; what every member holds is counted no more.
+pub record Taking : Type 0 where
+  pub status : Option Status
+  pub entering : ℕ
+  pub mark : ℕ
+  pub earlier : ℕ
+  pub later : ℕ
+
+-- how many places of its log are not known to be held by every member, while it is the active primary
+abbrev pub open_places : Option Status → ℕ
+open_places None = 0
+open_places (Some status) = if is_active status.role then status.held - status.committed else 0
+
+-- Whether a node takes more bytes from its clients: while no more than 4,096 places are open, what it took and is not known to
+-- be agreed has no more than 64 MiB, and no more than 32 KiB are on their way.
+abbrev pub admits : Taking → Bool
+admits taking = nat_le (open_places taking.status) 4096
+    && (nat_le (taking.earlier + taking.later) 67108864 && nat_le taking.entering 32768)
+
+-- The bound of all that a node took and is not known to be agreed, with what is on its way: 64 MiB, 32 KiB, and one piece.
+abbrev pub IsBounded : Taking → Type 0
+IsBounded taking = taking.entering + (taking.earlier + taking.later) ≤ 67207168
+
+-- some bytes that were on their way were taken
+abbrev pub took : ℕ → Taking → Taking
+took bytes taking = record taking {
+  entering = taking.entering - min bytes taking.entering;
+  later = taking.later + min bytes taking.entering;
+}
+
+-- whether all that stands in the first `mark` places is agreed, or all that stands in the log
+abbrev pub is_agreed : ℕ → Status → Bool
+is_agreed mark status = nat_le (min mark status.held) status.committed
+
+-- The node shows how it stands. Once the first `mark` places are agreed the others take their place.
+abbrev pub shown : Status → Taking → Taking
+shown status taking =
+    if is_agreed taking.mark status
+    then record taking { status = Some status; mark = status.held; earlier = taking.later; later = 0 }
+    else record taking { status = Some status }

@@ -1,0 +1,127 @@
+// What a node takes from its clients, and when it takes nothing more.
+
+ghost use Rattle.std.specs.Prelude.{◌≡◌, ◌+◌, ◌≤◌, None, false, true};
+ghost use Rattle.post.specs.Crowding.{admits, is_agreed, open_places, shown, took};
+
+use node::Status;
+use std::marker::Model;
+
+/// How many places may be open when more bytes are taken.
+const MOST_OPEN: u64 = 4_096;
+
+/// How many bytes may stand in open places when more bytes are taken.
+const MOST_BYTES: u64 = 67_108_864;
+
+/// How many bytes may be on their way when more are taken.
+const MOST_ENTERING: u64 = 32_768;
+
+/// What a node takes from its clients, and how it stands. Of bytes that are not known to be agreed, as many are counted as may
+/// stand in places that some member does not hold. They are bounded by the type.
+#[derive(Drop)]
+pub(crate) struct Intake {
+    /// None before the node is served.
+    status: Option<Status>,
+    entering: u64,
+    mark: u64,
+    earlier: u64,
+    later: u64,
+}
+
+impl Model for Intake {
+    ghost use Rattle.post.specs.Crowding.{IsBounded, Taking};
+
+    ghost Value = { Taking };
+
+    ghost view = { λ it. record {
+      status = it.status;
+      entering = it.entering;
+      mark = it.mark;
+      earlier = it.earlier;
+      later = it.later;
+    } };
+
+    ghost invariant = { λ it. IsBounded (record {
+      status = it.status;
+      entering = it.entering;
+      mark = it.mark;
+      earlier = it.earlier;
+      later = it.later;
+    }) };
+}
+
+impl Intake {
+    /// Returns that of a node which is not served yet.
+    pub(crate) fn new() -> Intake
+        ensures { result ≡ record { status = None; entering = 0; mark = 0; earlier = 0; later = 0 } }
+    {
+        Intake {
+            status: None,
+            entering: 0,
+            mark: 0,
+            earlier: 0,
+            later: 0,
+        }
+    }
+
+    /// Returns how the node stands.
+    pub(crate) fn status(&self) -> Option<Status>
+        ensures { result ≡ self.now.status }
+    {
+        self.status
+    }
+
+    /// Counts bytes as on their way to the node, if it takes more.
+    pub(crate) fn admit(&mut self, bytes: u64) -> bool
+        requires { bytes ≤ 65536 }
+        ensures admits { result ≡ admits self.old }
+        ensures counted { result ≡ true →
+            self.new ≡ record self.old { entering = self.old.entering + bytes } }
+        ensures same { result ≡ false → self.new ≡ self.old }
+    {
+        let admits = open_places(&self.status) <= MOST_OPEN
+            && self.earlier + self.later <= MOST_BYTES
+            && self.entering <= MOST_ENTERING;
+        if admits {
+            self.entering += bytes;
+        }
+        admits
+    }
+
+    /// Counts bytes that were on their way as taken.
+    pub(crate) fn take(&mut self, bytes: u64)
+        ensures { self.new ≡ took bytes self.old }
+    {
+        let taken = bytes.min(self.entering);
+        self.entering -= taken;
+        self.later += taken;
+    }
+
+    /// Shows how the node stands. Bytes that every member holds by now are counted no more.
+    pub(crate) fn show(&mut self, status: Status)
+        ensures { self.new ≡ shown status self.old }
+    {
+        if is_agreed(self.mark, &status) {
+            self.mark = status.held;
+            self.earlier = self.later;
+            self.later = 0;
+        }
+        self.status = Some(status);
+    }
+}
+
+// How many places are not known to be held by every member, while the node is the active primary.
+fn open_places(status: &Option<Status>) -> u64
+    ensures { result ≡ open_places status.now }
+{
+    match status {
+        Some(status) if status.role.is_active() => status.held.saturating_sub(status.committed),
+        _ => 0,
+    }
+}
+
+// Whether all that stands in the first places of the log is agreed, or all that stands in the log.
+fn is_agreed(mark: u64, status: &Status) -> bool
+    ensures { result ≡ is_agreed mark status.now }
+{
+    mark.min(status.held) <= status.committed
+}

@@ -1,0 +1,78 @@
+// A member that is held, while a client sends on. What the primary takes then is bounded.
+
+use super::answers::Flood;
+use super::client::{join, waits_to_write};
+use super::crowds::large_publish;
+use super::gates::Bar;
+use super::visits::visits;
+use server::{Peers, Place};
+use std::io::Write;
+use std::net::{Net, TcpStream};
+use std::sync::Wait;
+use std::thread;
+use std::time::{Clock, Duration};
+
+/// Whether of 98,304 PINGREQ that come while a member is held no more than 53,400 become places until it goes on, and then all
+/// are answered.
+pub(super) fn are_places_bounded<R>(rt: &R, bar: &Bar, peers: &Peers, place: Option<&Place>) -> bool
+where
+    R: AllocGlobal + Wait + Clock + Net<Stream = TcpStream>,
+{
+    match (Flood::new(rt.alloc()), join(rt, place, b'a', false)) {
+        (Ok(mut flood), Some(mut stream)) => waits(rt, bar, peers, &mut flood, &mut stream),
+        _ => false,
+    }
+}
+
+fn waits<R: Wait + Clock>(
+    rt: &R,
+    bar: &Bar,
+    peers: &Peers,
+    flood: &mut Flood,
+    stream: &mut TcpStream,
+) -> bool {
+    bar.set(rt, true);
+    let sent = (0..3u8).all(|_| flood.is_sent(stream));
+    thread::sleep(rt, Duration::from_millis(1_500));
+    let open = open_places(rt, peers);
+    bar.set(rt, false);
+    sent && open > 4_096 && open <= 53_400 && (0..3u8).all(|_| flood.is_heard(stream))
+}
+
+// How many places of the primary's log are not known to be held by all.
+fn open_places<R: Wait + Clock>(rt: &R, peers: &Peers) -> u64 {
+    match peers.status(rt, 1) {
+        Some(status) => status.held.saturating_sub(status.committed),
+        None => u64::MAX,
+    }
+}
+
+/// Whether of 150 MB that a client sends while a member is held no more than 64 MiB become places, and the rest is not read. Once
+/// the member goes on another client is answered.
+pub(super) fn are_bytes_bounded<R>(rt: &R, bar: &Bar, peers: &Peers, place: Option<&Place>) -> bool
+where
+    R: AllocGlobal + Wait + Clock + Net<Stream = TcpStream>,
+{
+    match (large_publish(rt.alloc()), join(rt, place, b's', false)) {
+        (Ok(large), Some(mut stream)) => {
+            is_held_back(rt, bar, peers, large.as_slice(), &mut stream) && visits(rt, place)
+        }
+        _ => false,
+    }
+}
+
+// A write is given up after a second, as the socket is full.
+fn is_held_back<R: Wait + Clock>(
+    rt: &R,
+    bar: &Bar,
+    peers: &Peers,
+    large: &[u8],
+    stream: &mut TcpStream,
+) -> bool {
+    bar.set(rt, true);
+    let limited = waits_to_write(stream, 1_000);
+    let sent = (0..150u8).all(|_| stream.write_all(large).is_ok());
+    let open = open_places(rt, peers);
+    bar.set(rt, false);
+    limited && !sent && open > 32 && open <= 72
+}
