@@ -6,7 +6,8 @@ use Rattle.packet_base.specs.declared.stop.Stop.TheVariants as stops
 use Rattle.packet_base.specs.declared.header.Header.{Header}
 use Rattle.packet_base.specs.declared.header.Header.TheVariants as headers
 use Rattle.packet_base.specs.Header.{header_of}
-use Rattle.packet_base.specs.Reading.{◌>>=◌, ◌>>◌, check, ended, length_at, id_at, topic_at}
+use Rattle.packet_base.specs.Reading.{◌>>=◌, ◌>>◌, check, ended, length_at, topic_at}
+use Rattle.packet_base.specs.Lists.{begins_list}
 use Rattle.packet_base.specs.Outcome.{StopsBy}
 use Rattle.packet.specs.declared.packet.Packet.{Packet}
 use Rattle.packet.specs.declared.packet.Packet.TheVariants as packets
@@ -62,13 +63,13 @@ abbrev pub IsUnfinished : List ℕ → Type 0
 IsUnfinished bytes = verdict bytes ≡ Err stops.More
 
 -- Whether memory is asked for, and so whether what comes before is right: all of a CONNECT, the topic
--- of a PUBLISH, the identifier of a packet with a list. No other packet has a text or a list.
+-- of a PUBLISH, the identifier of a packet with a list, which is not empty. No other packet has a text or a list.
 abbrev pub asks_in_body : Header → List ℕ → Bool
 asks_in_body headers.Connect body = is_ok (connect_of body)
 asks_in_body (headers.Publish flags retain) body = is_ok (topic_at body)
-asks_in_body headers.Subscribe body = is_ok (id_at body)
-asks_in_body headers.Suback body = is_ok (id_at body)
-asks_in_body headers.Unsubscribe body = is_ok (id_at body)
+asks_in_body headers.Subscribe body = begins_list body
+asks_in_body headers.Suback body = begins_list body
+asks_in_body headers.Unsubscribe body = begins_list body
 asks_in_body header body = false
 
 -- the same behind a first byte and a length, once the whole body is there

@@ -1,11 +1,11 @@
 -- Items that a loop reads one by one are all the items of the bytes.
-use Rattle.std.proofs.Common.{◌≡◌, ℕ, zero, suc, ◌+◌, ◌-◌, ◌<◌, ◌≤◌, true, false, eqb, List, [], ◌∷◌, ◌++◌, length, Result, Ok, Err, refl, sym, ap, subst, ◌∙◌, append_assoc, arith, inl, inr}
+use Rattle.std.proofs.Common.{◌≡◌, ℕ, zero, suc, ◌+◌, ◌-◌, ◌<◌, ◌≤◌, true, false, eqb, List, [], ◌∷◌, ◌++◌, length, Result, Ok, Err, refl, sym, ap, subst, ◌∙◌, append_assoc, arith, inl, inr, IsOk}
 use Rattle.std.specs.Prelude.{◌⊎◌}
 use Rattle.std.proofs.lemmas.List.{append-nil}
 use Rattle.topics.specs.declared.malformed.MalformedKind.TheVariants as kinds
 use Rattle.packet_base.specs.declared.stop.Stop.{Stop}
 use Rattle.packet_base.specs.declared.stop.Stop.TheVariants as stops
-use Rattle.packet_base.specs.Reading.{◌>>=◌}
+use Rattle.packet_base.specs.Reading.{◌>>=◌, byte_at}
 use Rattle.packet_base.specs.Lists.{ItemAt, items_of, items_at}
 use Rattle.packet_base.specs.Outcome.{StopsBy}
 
@@ -96,3 +96,8 @@ items_begin {A = A} item front most bytes empty all =
     let e : most - 0 ≡ length bytes = omega (arith, all) in
     ap (λ (xs : List A). prefixed xs (left_after item most 0 bytes)) empty
     ∙ prefixed_nil (left_after item most 0 bytes) ∙ ap (λ (n : ℕ). items_of item n bytes) e
+
+-- where there is a turn, there is a byte
+pub a_byte : (turns most : ℕ) (bytes : List ℕ) → turns < most → most ≡ length bytes → IsOk (byte_at bytes)
+a_byte turns most [] less all = absurd (omega (arith, less, all))
+a_byte turns most (b ∷ rest) less all = refl

@@ -1,9 +1,9 @@
 -- Lists that go to the end of a body.
-use Rattle.std.specs.Prelude.{ℕ, zero, suc, ◌==◌, not, if◌then◌else◌, List, [], ◌∷◌, length, Result, Ok}
+use Rattle.std.specs.Prelude.{Bool, is_ok, ℕ, zero, suc, ◌==◌, not, if◌then◌else◌, List, [], ◌∷◌, length, Result, Ok}
 use Rattle.topics.specs.declared.malformed.MalformedKind.TheVariants as kinds
 use Rattle.packet_base.specs.declared.stop.Stop.{Stop}
 use Rattle.packet_base.specs.declared.stop.Stop.TheVariants as stops
-use Rattle.packet_base.specs.Reading.{◌>>=◌, ◌>>◌, check}
+use Rattle.packet_base.specs.Reading.{◌>>=◌, ◌>>◌, check, byte_at, id_at}
 
 -- how an item is read: its value, and the bytes after it
 abbrev pub ItemAt : Type 0 → Type 0
@@ -27,3 +27,7 @@ list_of item bytes = do
   items ← items_at item bytes
   check (not (length items == 0)) (stops.Malformed kinds.Shape)
   Ok items
+
+-- whether an identifier stands at the front, and something of a list after it
+abbrev pub begins_list : List ℕ → Bool
+begins_list body = is_ok (id_at body >>= (λ id. byte_at id.1))

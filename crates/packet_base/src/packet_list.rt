@@ -10,10 +10,12 @@ ghost use Rattle.std.specs.Prelude.{
   min,
   vec_len,
   vec_capacity,
+  IsOk,
 };
 ghost use Rattle.std.specs.List.{AllZip, All, flat_map};
 ghost use Rattle.std.specs.Cmp.Lexicographic.{pointwise, lists_per, lists_equiv};
-ghost use Rattle.packet_base.specs.Outcome.{Gives};
+ghost use Rattle.packet_base.specs.Outcome.{Gives, WantsMemory};
+ghost use Rattle.packet_base.specs.Reading.{byte_at};
 ghost use Rattle.packet_base.specs.Lists.{items_at, list_of};
 
 use crate::item::Item;
@@ -55,10 +57,11 @@ impl<T> PacketList<T> {
 }
 
 impl<T: Item> PacketList<T> {
-    /// Reads items to the end of the body. A list without any is `Shape` (MQTT 3.8.3, 3.9.3,
-    /// 3.10.3).
+    /// Reads items to the end of the body. A list without any is `Shape`, and takes no memory (MQTT
+    /// 3.8.3, 3.9.3, 3.10.3).
     pub fn read(alloc: Global, body: &mut Reader) -> Result<PacketList<T>, Stop>
-        ensures { Gives (λ x. x) result (list_of T.item_at body.old) }
+        ensures exact { Gives (λ x. x) result (list_of T.item_at body.old) }
+        ensures memory { WantsMemory result → IsOk (byte_at body.old) }
     {
         let items = read_items(alloc, body)?;
         if items.is_empty() {
@@ -100,7 +103,8 @@ impl<T: Item> PacketList<T> {
 
 // Reads items to the end of the body.
 fn read_items<T: Item>(alloc: Global, body: &mut Reader) -> Result<Vec<T>, Stop>
-    ensures { Gives (λ x. x.items) result (items_at T.item_at body.old) }
+    ensures exact { Gives (λ x. x.items) result (items_at T.item_at body.old) }
+    ensures memory { WantsMemory result → IsOk (byte_at body.old) }
 {
     let mut items = Vec::new(alloc);
     // Each takes a byte at least, so there are no more than bytes.

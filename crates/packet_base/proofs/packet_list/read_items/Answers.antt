@@ -2,7 +2,7 @@
 use Rattle.std.proofs.Common.{sym, ◌∙◌}
 use Rattle.std.proofs.lemmas.Result.{err_from_is_err_and}
 use Rattle.packet_base.specs.Lists.{items_at}
-use Rattle.packet_base.proofs.ItemsInALoop.{items_begin, items_all, items_most, items_next, items_stop}
+use Rattle.packet_base.proofs.ItemsInALoop.{items_begin, items_all, items_most, items_next, items_stop, a_byte}
 use Rattle.packet_base.proofs.packet_list.read_items.Goals as goal
 
 pub loop-init : goal.loop-init
@@ -10,14 +10,14 @@ loop-init g c =
     items_begin g.T.Item.item_at c.new-items.result.items c.len-end.result c.args.body.now
     c.new-items.ensures.items c.len-end.ensures
 
-pub returns-then-is_empty : goal.returns-then-is_empty
-returns-then-is_empty g c =
+pub returns-then-is_empty-clause-exact : goal.returns-then-is_empty-clause-exact
+returns-then-is_empty-clause-exact g c =
     items_all g.T.Item.item_at c.loop.items.items c.len-end.result c.loop.counter c.loop.body
     (items_at g.T.Item.item_at c.args.body.now) (sym c.is_empty.ensures ∙ c.if-is_empty.true)
     c.loop.invariant
 
-pub returns-in_err-read : goal.returns-in_err-read
-returns-in_err-read g c =
+pub returns-in_err-read-clause-exact : goal.returns-in_err-read-clause-exact
+returns-in_err-read-clause-exact g c =
     let p = err_from_is_err_and c.from_residual.result c.from_residual.ensures.1 in
     rw (p.1, p.2) (
     items_stop g.T.Item.item_at c.loop.items.items c.len-end.result c.loop.counter c.loop.body
@@ -32,7 +32,15 @@ loop-preserved g c =
     c.loop-test.true (sym c.is_empty.ensures ∙ c.if-is_empty.false) c.in_ok-read.ensures
     c.in_ok-push.ensures.items c.loop.invariant
 
-pub returns : goal.returns
-returns g c =
+pub returns-clause-exact : goal.returns-clause-exact
+returns-clause-exact g c =
     items_most g.T.Item.item_at c.loop.items.items c.len-end.result c.loop.counter c.loop.body
     (items_at g.T.Item.item_at c.args.body.now) c.loop-test.false c.loop.invariant
+
+pub returns-in_err-read-clause-memory : goal.returns-in_err-read-clause-memory
+returns-in_err-read-clause-memory g c memory =
+    a_byte c.loop.counter c.len-end.result c.args.body.now c.loop-test.true c.len-end.ensures
+
+pub returns-in_err-push-clause-memory : goal.returns-in_err-push-clause-memory
+returns-in_err-push-clause-memory g c memory =
+    a_byte c.loop.counter c.len-end.result c.args.body.now c.loop-test.true c.len-end.ensures
