@@ -1,5 +1,5 @@
 -- The rows that `ListIndex` appends are those that its content grants.
-use Rattle.std.proofs.Common.{◌≡◌, ℕ, ◌≤◌, List, [], ◌∷◌, ◌++◌, true, false, cond, Option, Some, None, refl, sym, ◌∙◌, ap, subst, arith, ◌⊎◌, inl, inr, All, Contains, nat_lt}
+use Rattle.std.proofs.Common.{◌≡◌, ℕ, ◌≤◌, List, [], ◌∷◌, ◌++◌, true, false, cond, Option, Some, None, refl, sym, ◌∙◌, ap, subst, arith, ◌⊎◌, inl, inr, All, Contains, nat_lt, length, take, append_assoc}
 use Rattle.std.specs.Prelude.{option_and_then}
 use Rattle.std.specs.BTreeMap.{BTreeMap, is_at}
 use Rattle.std.specs.Map.{keys_of}
@@ -13,12 +13,13 @@ use Rattle.std.proofs.lemmas.Bool.Decides.{nat_tests}
 use Rattle.std.proofs.lemmas.Map.{lookup-none}
 use Rattle.std.proofs.lemmas.Map.Entries.{none_past_head}
 use Rattle.std.proofs.lemmas.Map.Keys.{sorted_tail, IsDistinct-from_sorted}
+use Rattle.std.proofs.lemmas.List.{length-take, take-append-le}
 use Rattle.std.proofs.lemmas.List.Elements.{All-nil, All-cons, All-weaker, Contains-append_right}
 use Rattle.topics.specs.Matching.{Matches, is_match}
 use Rattle.topics.proofs.MatchingIsTested.{tested}
 use Rattle.packet.specs.declared.qos.QoS.{QoS}
 use Rattle.packet.specs.QoS.{qos_number}
-use Rattle.subs_base.specs.Granted.{Row, clients_of, IsGreatest, IsGranted, AppendsGranted, row_of}
+use Rattle.subs_base.specs.Granted.{Row, clients_of, IsGreatest, IsGranted, IsWanted, AppendsGranted, row_of}
 use Rattle.subs_base.specs.ListIndex.{Filters, Clients, at, content_of}
 use Rattle.subs_base.specs.Inside.{greater, greatest_from, rows_of, AreOrdered, listed}
 
@@ -189,6 +190,15 @@ is_greatest topic es row o = record {
       subst (λ (p : QoS). qos_number other ≤ qos_number p) n r.2;
 }
 
+-- a client's filter that matches
+pub wanted_by : (topic : List ℕ) (all : Clients) (c : List ℕ) (fs : Filters) (p : QoS) → at c all ≡ Some fs →
+    IsStrictlySortedBy (slice_cmp nat_cmp) (keys_of fs) → greatest_from topic None fs ≡ Some p → IsWanted (content_of all) topic
+wanted_by topic all c fs p found sorted is =
+    elim (comes topic None fs p sorted is) as (λ _. IsWanted (content_of all) topic) [
+      | inl h ↦ absurd cc
+      | inr h ↦ (c, h.0, p, ap (option_and_then (at h.0)) found ∙ h.1, (tested h.0 topic).0 h.2)
+    ]
+
 pub rows_granted : (topic : List ℕ) (es : Clients) → IsStrictlySortedBy (slice_cmp nat_cmp) (keys_of es) → AreOrdered es → IsGranted (content_of es) topic (rows_of topic es)
 rows_granted topic es sorted ordered = record {
   rising = rising topic es sorted;
@@ -206,3 +216,48 @@ pub appends_granted :
     → AppendsGranted (content_of (listed es)) topic old new
 appends_granted topic es old new sorted ordered is =
     (rows_of topic (listed es), rows_granted topic (listed es) (subst (IsStrictlySortedBy (slice_cmp nat_cmp)) (sym (keys_listed es)) sorted) ordered, is)
+
+-- ---- what a walk over the clients has in hand
+
+abbrev Entries : Type 0
+Entries = List (List ℕ × BTreeMap (List ℕ) QoS)
+
+-- what the clients that are left have stands in all
+pub rest_is_there :
+    (es rest : Entries) (client : List ℕ) (filters : BTreeMap (List ℕ) QoS) (all : Clients)
+    → es ≡ (client, filters) ∷ rest → IsStrictlySortedBy (slice_cmp nat_cmp) (keys_of es)
+    → ((c : List ℕ) (fs : Filters) → at c (listed es) ≡ Some fs → at c all ≡ Some fs)
+    → (c : List ℕ) (fs : Filters) → at c (listed rest) ≡ Some fs → at c all ≡ Some fs
+rest_is_there es rest client filters all cut sorted there c fs found =
+    let in_order : IsStrictlySortedBy (slice_cmp nat_cmp) (keys_of ((client, filters.entries) ∷ listed rest)) =
+    subst (IsStrictlySortedBy (slice_cmp nat_cmp)) (ap (λ (xs : Entries). keys_of xs) cut ∙ sym (keys_listed ((client, filters) ∷ rest))) sorted in
+    there c fs (ap (λ (xs : Entries). at c (listed xs)) cut ∙ later c (client, filters.entries) (listed rest) fs in_order found)
+
+-- and so does a filter that matches of the client whose turn it is
+pub head_is_wanted :
+    (topic : List ℕ) (es rest : Entries) (client : List ℕ) (filters : BTreeMap (List ℕ) QoS) (all : Clients) (p : QoS)
+    → es ≡ (client, filters) ∷ rest
+    → ((c : List ℕ) (fs : Filters) → at c (listed es) ≡ Some fs → at c all ≡ Some fs)
+    → IsStrictlySortedBy (slice_cmp nat_cmp) (keys_of filters.entries) → greatest_from topic None filters.entries ≡ Some p
+    → IsWanted (content_of all) topic
+head_is_wanted topic es rest client filters all p cut there sorted is =
+    wanted_by topic all client filters.entries p
+    (there client filters.entries (ap (λ (xs : Entries). at client (listed xs)) cut ∙ first (client, filters.entries) (listed rest))) sorted is
+
+-- and has its row behind those before it
+pub row_appended :
+    (topic : List ℕ) (es rest : Entries) (client key : List ℕ) (filters : BTreeMap (List ℕ) QoS) (p : QoS) (rows more : List Row)
+    → es ≡ (client, filters) ∷ rest → greatest_from topic None filters.entries ≡ Some p → more ≡ rows ++ (key, p) ∷ [] → key ≡ client
+    → more ++ rows_of topic (listed rest) ≡ rows ++ rows_of topic (listed es)
+row_appended topic es rest client key filters p rows more cut is added same =
+    ap (λ (rs : List Row). rs ++ rows_of topic (listed rest)) (added ∙ ap (λ (k : List ℕ). rows ++ (k, p) ∷ []) same)
+    ∙ append_assoc rows ((client, p) ∷ []) (rows_of topic (listed rest))
+    ∙ ap (λ (rs : List Row). rows ++ rs)
+    (ap (λ (v : Option QoS). row_of client v ++ rows_of topic (listed rest)) (sym is)
+    ∙ ap (λ (xs : Entries). rows_of topic (listed xs)) (sym cut))
+
+-- what stood in front stands in front of more
+pub still_front : {X : Type 0} (before out xs more : List X) → more ≡ out ++ xs → before ≡ take (length before) out → before ≡ take (length before) more
+still_front before out xs more is e =
+    let long = ap length e in let cut = length-take (length before) out in
+    e ∙ sym (take-append-le (length before) out xs (omega (arith, long, cut))) ∙ ap (take (length before)) (sym is)

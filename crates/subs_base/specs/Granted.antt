@@ -40,6 +40,11 @@ pub record IsGranted (content : Content) (topic : List ℕ) (rows : List Row) : 
       → Matches filter topic
       → Contains (clients_of rows) client
 
+-- somebody asked for a filter that matches the topic
+abbrev pub IsWanted : Content → List ℕ → Type 0
+IsWanted content topic =
+    (client : List ℕ) × (filter : List ℕ) × (qos : QoS) × (content client filter ≡ Some qos) × Matches filter topic
+
 -- those rows come behind the ones that were there
 abbrev pub AppendsGranted : Content → List ℕ → List Row → List Row → Type 0
 AppendsGranted content topic old new =

@@ -25,6 +25,7 @@ ghost use Rattle.std.specs.Cmp.Lexicographic.{slice_cmp};
 ghost use Rattle.std.specs.Ordering.{nat_cmp};
 ghost use Rattle.std.specs.BTreeMap.{Updates, IsOrdered, get};
 ghost use Rattle.subs_base.specs.Content.{without_row};
+ghost use Rattle.subs_base.specs.Granted.{IsWanted};
 ghost use Rattle.subs_base.specs.ListIndex.{content_of, at};
 ghost use Rattle.subs_base.specs.Inside.{listed, greater, greatest_from, rows_of, AreOrdered};
 
@@ -167,6 +168,7 @@ fn append_rows(
     ensures ordered { OnOk result (AreOrdered (listed clients.now.entries)) }
     ensures clients_ordered { IsOrdered (slice_cmp nat_cmp) clients.now }
     ensures err { OnErr result (rows.old.items ≡ take (length rows.old.items) rows.new.items) }
+    ensures wanted { OnErr result (IsWanted (content_of (listed clients.now.entries)) topic.now) }
 {
     for (client, filters) in clients {
         if let Some(qos) = greatest(filters, topic) {

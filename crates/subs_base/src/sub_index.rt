@@ -8,7 +8,7 @@ ghost use Rattle.subs_base.specs.Content.{
   without_row,
   without_client,
 };
-ghost use Rattle.subs_base.specs.Granted.{AppendsGranted};
+ghost use Rattle.subs_base.specs.Granted.{AppendsGranted, IsWanted};
 
 use packet::{ClientId, QoS};
 use std::alloc::{AllocError, Global};
@@ -43,9 +43,10 @@ pub trait SubIndex: Drop {
 
     /// Appends a row for each client with a filter that matches the topic, with the greatest QoS of
     /// these filters, in the order of the clients' bytes (MQTT 3.3.5). Without memory the rows stay
-    /// as they were.
+    /// as they were. Where no filter matches it takes none.
     fn granted(&self, topic: &TopicName, rows: &mut Vec<(ClientId, QoS)>) -> Result<(), AllocError>
         ensures ok { OnOk result
             (AppendsGranted (content self.now) topic.now rows.old.items rows.new.items) }
-        ensures err { OnErr result (rows.new.items ≡ rows.old.items) };
+        ensures err { OnErr result (rows.new.items ≡ rows.old.items) }
+        ensures wanted { OnErr result (IsWanted (content self.now) topic.now) };
 }

@@ -1,5 +1,5 @@
 -- The greatest of several QoS, and what stands at a client that was raised.
-use Rattle.std.proofs.Common.{◌≡◌, ℕ, ◌≤◌, List, ◌∷◌, true, false, cond, Option, Some, None, Result, Ok, Err, OnOk, refl, sym, ◌∙◌, ap, subst, arith, ◌⊎◌, inl, inr, nat_lt}
+use Rattle.std.proofs.Common.{◌≡◌, ℕ, ◌≤◌, List, ◌∷◌, true, false, cond, Option, Some, None, Result, Ok, Err, OnOk, refl, sym, ◌∙◌, ap, subst, arith, ◌⊎◌, inl, inr, nat_lt, [], ◌++◌, length, take, codes}
 use Rattle.std.specs.BTreeMap.{BTreeMap, get, is_at, Updates}
 use Rattle.std.specs.Map.{lookup, keys_of}
 use Rattle.std.specs.List.Sorted.{IsStrictlySortedBy}
@@ -11,9 +11,13 @@ use Rattle.std.proofs.lemmas.Map.{lookup-none}
 use Rattle.std.proofs.lemmas.Map.Entries.{none_past_head}
 use Rattle.std.proofs.lemmas.Map.Keys.{IsDistinct-from_sorted}
 use Rattle.std.proofs.lemmas.Map.Text.{is_eq-slice_cmp}
+use Rattle.std.proofs.lemmas.List.{length-append, length-take}
+use Rattle.topics.specs.Text.{Levels}
 use Rattle.packet.specs.declared.qos.QoS.{QoS}
 use Rattle.packet.specs.QoS.{qos_number}
-use Rattle.subs_tree.specs.Walk.{greatest, Raises}
+use Rattle.subs_base.proofs.RowsAreGranted.{first}
+use Rattle.subs_tree.specs.declared.node.Node.{Node, out-Node}
+use Rattle.subs_tree.specs.Walk.{greatest, Raises, GivesSome, found_at, found_below}
 
 below_twice : (p q r : QoS) → nat_lt (qos_number p) (qos_number q) ≡ true → nat_lt (qos_number q) (qos_number r) ≡ true → nat_lt (qos_number p) (qos_number r) ≡ true
 below_twice p q r e f = grind (arith, nat_tests)
@@ -124,3 +128,42 @@ greatest_either None b q is = inr is
 greatest_either (Some p) None q is = inl is
 greatest_either (Some p) (Some r) q is =
     elim (nat_lt (qos_number p) (qos_number r)) as (λ v. cond v (Some r) (Some p) ≡ Some q → (Some p ≡ Some q) ⊎ (Some r ≡ Some q)) [ true ↦ λ e. inr e | false ↦ λ e. inl e ] is
+
+-- ---- whom a walk gives something
+
+pub rest_gives : (node : Node) (topic : Levels) → GivesSome (get (slice_cmp nat_cmp) (out-Node node).rest) → GivesSome (found_at node topic)
+rest_gives node [] h =
+    let r = greatest_left (get (slice_cmp nat_cmp) (out-Node node).rest h.0) (get (slice_cmp nat_cmp) (out-Node node).here h.0) h.1 h.2 in
+    (h.0, r.0, r.1)
+rest_gives node (level ∷ rest) h =
+    let r = greatest_left (get (slice_cmp nat_cmp) (out-Node node).rest h.0)
+    (greatest (found_below node level rest h.0) (found_below node (codes "+") rest h.0)) h.1 h.2 in
+    (h.0, r.0, r.1)
+
+pub here_gives : (node : Node) → GivesSome (get (slice_cmp nat_cmp) (out-Node node).here) → GivesSome (found_at node [])
+here_gives node h =
+    let r = greatest_right (get (slice_cmp nat_cmp) (out-Node node).rest h.0) (get (slice_cmp nat_cmp) (out-Node node).here h.0) h.1 h.2 in
+    (h.0, r.0, r.1)
+
+pub below_gives : (node : Node) (level : List ℕ) (rest : Levels) → GivesSome (found_below node level rest) → GivesSome (found_at node (level ∷ rest))
+below_gives node level rest h =
+    let one = greatest_left (found_below node level rest h.0) (found_below node (codes "+") rest h.0) h.1 h.2 in
+    let r = greatest_right (get (slice_cmp nat_cmp) (out-Node node).rest h.0)
+    (greatest (found_below node level rest h.0) (found_below node (codes "+") rest h.0)) one.0 one.1 in
+    (h.0, r.0, r.1)
+
+pub plus_gives : (node : Node) (level : List ℕ) (rest : Levels) → GivesSome (found_below node (codes "+") rest) → GivesSome (found_at node (level ∷ rest))
+plus_gives node level rest h =
+    let one = greatest_right (found_below node level rest h.0) (found_below node (codes "+") rest h.0) h.1 h.2 in
+    let r = greatest_right (get (slice_cmp nat_cmp) (out-Node node).rest h.0)
+    (greatest (found_below node level rest h.0) (found_below node (codes "+") rest h.0)) one.0 one.1 in
+    (h.0, r.0, r.1)
+
+-- where some are left, some are found
+pub left_gives : (found : List (List ℕ × QoS)) (rows old rest : List (List ℕ × QoS)) (e : List ℕ × QoS) → rows ++ (e ∷ rest) ≡ old ++ found → old ≡ take (length old) rows →
+    GivesSome (λ client. lookup (is_at (slice_cmp nat_cmp client)) found)
+left_gives [] rows old rest e whole front =
+    let all = ap length whole in let more = length-append rows (e ∷ rest) in let none = length-append old [] in
+    let long = ap length front in let cut = length-take (length old) rows in
+    absurd (omega (arith, all, more, none, long, cut))
+left_gives (f ∷ found) rows old rest e whole front = (f.0, f.1, first f found)

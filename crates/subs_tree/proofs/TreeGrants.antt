@@ -21,12 +21,12 @@ use Rattle.topics.proofs.OnePass.{bare, bare_levels}
 use Rattle.topics.proofs.LevelByLevel.{is_last_levels}
 use Rattle.packet.specs.declared.qos.QoS.{QoS}
 use Rattle.packet.specs.QoS.{qos_number}
-use Rattle.subs_base.specs.Granted.{Row, clients_of, IsGreatest, IsGranted}
+use Rattle.subs_base.specs.Granted.{Row, clients_of, IsGreatest, IsGranted, IsWanted}
 use Rattle.subs_base.proofs.RowsAreGranted.{later, first}
 use Rattle.subs_tree.specs.declared.node.Node.{Node, out-Node}
 use Rattle.subs_tree.specs.Tree.{asked, child}
 use Rattle.subs_tree.specs.TreeIndex.{tree_content}
-use Rattle.subs_tree.specs.Walk.{found_at, found_below, found_named, found_for}
+use Rattle.subs_tree.specs.Walk.{GivesSome, found_at, found_below, found_named, found_for}
 use Rattle.subs_tree.proofs.WalkFinds.{AreClean, levels_clean, text_of, found_origin, named_origin, found_reaches, below_reached, matching}
 
 -- ---- a text's first byte, and that of its first level
@@ -227,3 +227,8 @@ topic_plain topic is =
     first_part false true true shallow h = refl
     first_part false true false shallow h = absurd cc
     first_part false false plain shallow h = absurd cc
+
+-- whom a walk gives something has a filter that matches
+pub wanted_by_walk : (root : Node) (topic : List ℕ) → has_no_wildcard topic ≡ true → GivesSome (found_for root topic) → IsWanted (tree_content root) topic
+wanted_by_walk root topic plain h =
+    let asks = for_asks root topic h.0 h.1 plain h.2 in (h.0, asks.0, h.1, asks.1, asks.2)

@@ -22,6 +22,10 @@ Raises old new given =
     (client : List ℕ)
     → get (slice_cmp nat_cmp) new client ≡ greatest (get (slice_cmp nat_cmp) old client) (given client)
 
+-- some client is given something
+abbrev pub GivesSome : (List ℕ → Option QoS) → Type 0
+GivesSome given = (client : List ℕ) × (qos : QoS) × (given client ≡ Some qos)
+
 -- the greatest QoS of the client's filters that match these levels of a topic
 abbrev pub found_at : Node → Levels → List ℕ → Option QoS
 found_at node [] client =

@@ -8,7 +8,7 @@ ghost use Rattle.topics.specs.Text.{levels_of};
 ghost use Rattle.topics.specs.Matching.{is_all};
 ghost use Rattle.subs_tree.specs.Tree.{asked};
 ghost use Rattle.subs_tree.specs.Inside.{nothing, with_asked};
-ghost use Rattle.subs_tree.specs.Walk.{greatest, Raises, found_at, found_below};
+ghost use Rattle.subs_tree.specs.Walk.{greatest, Raises, GivesSome, found_at, found_below};
 
 use packet::{ClientId, QoS};
 use std::alloc::{AllocError, Global};
@@ -97,8 +97,9 @@ impl Node {
     /// Raises each client of a filter that matches the topic of these levels to its QoS there.
     #[cycle(find)]
     pub(crate) fn find(&self, topic: Option<&[u8]>, found: &mut Clients) -> Result<(), AllocError>
-        ensures { OnOk result
+        ensures ok { OnOk result
             (Raises found.old found.new (found_at self.now (levels_of topic.entry))) }
+        ensures some { OnErr result (GivesSome (found_at self.now (levels_of topic.entry))) }
     {
         raise_all(&self.rest, found)?;
         let Some(text) = topic else {
@@ -117,8 +118,9 @@ impl Node {
         behind: Option<&[u8]>,
         found: &mut Clients,
     ) -> Result<(), AllocError>
-        ensures { OnOk result
+        ensures ok { OnOk result
             (Raises found.old found.new (found_below self.now level.now (levels_of behind.entry))) }
+        ensures some { OnErr result (GivesSome (found_below self.now level.now (levels_of behind.entry))) }
     {
         match self.children.get(level) {
             Some(child) => child.find(behind, found),
@@ -176,7 +178,8 @@ fn clear_client(clients: &mut Clients, client: &ClientId) -> bool
 
 /// Raises each of the clients to its QoS there.
 fn raise_all(clients: &Clients, found: &mut Clients) -> Result<(), AllocError>
-    ensures { OnOk result (Raises found.old found.new (get (slice_cmp nat_cmp) clients.now)) }
+    ensures ok { OnOk result (Raises found.old found.new (get (slice_cmp nat_cmp) clients.now)) }
+    ensures some { OnErr result (GivesSome (get (slice_cmp nat_cmp) clients.now)) }
 {
     for (client, qos) in clients {
         raise(client, *qos, found)?;

@@ -1,13 +1,13 @@
 // The index as a tree of the filters' levels.
 
 ghost use Rattle.std.specs.Prelude.{◌≡◌, ◌++◌, OnOk, OnErr, take, length};
-ghost use Rattle.std.specs.BTreeMap.{IsOrdered};
+ghost use Rattle.std.specs.BTreeMap.{IsOrdered, get};
 ghost use Rattle.std.specs.Cmp.Lexicographic.{slice_cmp};
 ghost use Rattle.std.specs.Ordering.{nat_cmp};
 ghost use Rattle.subs_base.specs.ListIndex.{content_of};
 ghost use Rattle.subs_tree.specs.Inside.{cleared};
 ghost use Rattle.subs_tree.specs.TreeIndex.{tree_content};
-ghost use Rattle.subs_tree.specs.Walk.{Raises, found_for};
+ghost use Rattle.subs_tree.specs.Walk.{Raises, GivesSome, found_for};
 
 use crate::node::Node;
 use packet::{ClientId, QoS};
@@ -101,7 +101,8 @@ fn clear_all(root: &mut Node, filters: &BTreeMap<Filter, QoS>, client: &ClientId
 /// Raises the clients whose filters match: no wildcard at the front matches a topic that begins
 /// with `$` (MQTT 4.7.2).
 fn find(root: &Node, topic: &[u8], found: &mut BTreeMap<ClientId, QoS>) -> Result<(), AllocError>
-    ensures { OnOk result (Raises found.old found.new (found_for root.now topic.now)) }
+    ensures ok { OnOk result (Raises found.old found.new (found_for root.now topic.now)) }
+    ensures some { OnErr result (GivesSome (found_for root.now topic.now)) }
 {
     if !topic.starts_with(b"$".as_slice()) {
         return root.find(Some(topic), found);
@@ -118,6 +119,7 @@ fn append_rows(
     ensures ok { OnOk result (rows.new.items ≡ rows.old.items ++ found.now.entries) }
     ensures ordered { IsOrdered (slice_cmp nat_cmp) found.now }
     ensures err { OnErr result (rows.old.items ≡ take (length rows.old.items) rows.new.items) }
+    ensures some { OnErr result (GivesSome (get (slice_cmp nat_cmp) found.now)) }
 {
     for (client, qos) in found {
         rows.push((client.clone()?, *qos))?;

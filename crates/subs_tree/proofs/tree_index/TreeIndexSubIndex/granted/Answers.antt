@@ -5,12 +5,14 @@ use Rattle.std.specs.Map.{lookup}
 use Rattle.std.specs.Cmp.Lexicographic.{slice_cmp}
 use Rattle.std.specs.Ordering.{nat_cmp}
 use Rattle.subs_base.specs.Content.{Content}
-use Rattle.subs_base.specs.Granted.{AppendsGranted, IsGranted}
+use Rattle.subs_base.specs.Granted.{AppendsGranted, IsGranted, IsWanted}
 use Rattle.subs_base.specs.ListIndex.{content_of}
-use Rattle.subs_tree.specs.Walk.{greatest, found_for}
+use Rattle.subs_base.proofs.ContentAfter.{on_err}
+use Rattle.subs_tree.specs.Walk.{greatest, GivesSome, found_for}
+use Rattle.subs_tree.proofs.NodeAfter.{anyhow}
 use Rattle.subs_tree.proofs.Raising.{then_ok}
 use Rattle.subs_tree.proofs.ContentOfTree.{never_ok}
-use Rattle.subs_tree.proofs.TreeGrants.{tree_grants, topic_plain}
+use Rattle.subs_tree.proofs.TreeGrants.{tree_grants, topic_plain, wanted_by_walk}
 use Rattle.subs_tree.proofs.tree_index.TreeIndexSubIndex.granted.Goals as goal
 use Rattle.subs_tree.proofs.tree_index.TreeIndexSubIndex.granted.Goals.{then-is_err, else-is_err}
 
@@ -18,7 +20,7 @@ pub returns-clause-ok : goal.returns-clause-ok
 returns-clause-ok c =
     let text : c.as_bytes.result.now ≡ c.args.topic.now = c.as_bytes.ensures.value ∙ c.as_str.ensures.value in
     let found : (client : List ℕ) → get (slice_cmp nat_cmp) c.find.new.found client ≡ found_for c.self.inside.root c.args.topic.now client = λ client.
-    c.in_ok-find.ensures client
+    c.in_ok-find.ensures.ok client
     ∙ ap (λ es. greatest (lookup (is_at (slice_cmp nat_cmp client)) es) (found_for c.self.inside.root c.as_bytes.result.now client)) c.new-found.ensures.empty
     ∙ ap (λ t. found_for c.self.inside.root t client) text in
     let grants : IsGranted (content_of c.args.self.now) c.args.topic.now c.find.new.found.entries =
@@ -33,3 +35,25 @@ returns-clause-ok c =
           (λ is. (c.find.new.found.entries, grants, ap (λ r. r.items) w.rows-is ∙ is))
           c.append_rows-appended.ensures.ok
     ]
+
+pub returns-in_err-find-clause-wanted : goal.returns-in_err-find-clause-wanted
+returns-in_err-find-clause-wanted c =
+    let text : c.as_bytes.result.now ≡ c.args.topic.now = c.as_bytes.ensures.value ∙ c.as_str.ensures.value in
+    anyhow c.from_residual.result
+    (subst (λ (v : Content). IsWanted v c.args.topic.now) (sym c.self.invariant ∙ ap content_of c.self.view_is)
+    (wanted_by_walk c.self.inside.root c.args.topic.now (topic_plain c.args.topic.now c.as_str.ensures.checked)
+    (subst (λ (t : List ℕ). GivesSome (found_for c.self.inside.root t)) text c.in_err-find.ensures.some)))
+
+pub returns-clause-wanted : goal.returns-clause-wanted
+returns-clause-wanted c =
+    let text : c.as_bytes.result.now ≡ c.args.topic.now = c.as_bytes.ensures.value ∙ c.as_str.ensures.value in
+    let found : (client : List ℕ) → get (slice_cmp nat_cmp) c.find.new.found client ≡ found_for c.self.inside.root c.args.topic.now client = λ client.
+    c.in_ok-find.ensures.ok client
+    ∙ ap (λ es. greatest (lookup (is_at (slice_cmp nat_cmp client)) es) (found_for c.self.inside.root c.as_bytes.result.now client)) c.new-found.ensures.empty
+    ∙ ap (λ t. found_for c.self.inside.root t client) text in
+    on_err c.append_rows-appended.result
+    (λ h.
+    subst (λ (v : Content). IsWanted v c.args.topic.now) (sym c.self.invariant ∙ ap content_of c.self.view_is)
+    (wanted_by_walk c.self.inside.root c.args.topic.now (topic_plain c.args.topic.now c.as_str.ensures.checked)
+    (h.0, h.1, sym (found h.0) ∙ h.2)))
+    c.append_rows-appended.ensures.some
