@@ -4,6 +4,7 @@ pub mod Handshakes
 pub mod Connections
 pub mod Losses
 pub mod Publications
+pub mod RoomForCopies
 pub mod Unsubscriptions
 pub mod Connects
 pub mod Starts

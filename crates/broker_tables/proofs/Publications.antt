@@ -1,7 +1,9 @@
 -- Publications.antt: the step at a PUBLISH, by the tables.
-use Rattle.std.proofs.Common.{◌≡◌, ◌∙◌, ap, sym, true, false, List, [], ◌∷◌, ◌++◌}
+use Rattle.std.proofs.Common.{◌≡◌, ◌∙◌, ap, sym, subst, true, false, List, [], ◌∷◌, ◌++◌}
 use Rattle.std.specs.BTreeMap.{is_at}
+use Rattle.std.specs.List.{list_any}
 use Rattle.std.specs.Map.{lookup}
+use Rattle.std.proofs.lemmas.Bool.{or_parts}
 use Rattle.packet.specs.declared.publish.Publish.{Publish}
 use Rattle.packet.specs.declared.packet.Packet.TheVariants as packets
 use Rattle.session_base.specs.Publication.{publication_of}
@@ -15,11 +17,13 @@ use Rattle.broker_model.specs.Commands.{usual_limits}
 use Rattle.broker_model.specs.declared.command.Command.TheVariants as commands
 use Rattle.broker_model.specs.declared.command.Output.TheVariants as outputs
 use Rattle.broker_base.specs.ClientSession.{ClientSession}
-use Rattle.broker_base.specs.Decisions.{is_again}
+use Rattle.broker_base.specs.State.{Sessions, session_in}
+use Rattle.broker_base.specs.Decisions.{is_again, is_one_topic_over}
 use Rattle.broker_rows.specs.Served.{IsServed}
-use Rattle.broker_rows.specs.Published.{granted_rows, changed, received_on, all_delivered, answered_in_turn}
-use Rattle.broker_rows.specs.PublishLaws.{is_refused_in}
+use Rattle.broker_rows.specs.Published.{granted_rows, changed, received_on, all_delivered, answered_in_turn, is_full_at}
+use Rattle.broker_rows.specs.PublishLaws.{is_refused_in, HaveRoomInTurn}
 use Rattle.broker_rows.proofs.PacketSteps.{repeat_step}
+use Rattle.broker_rows.proofs.publications.RoomInTurn.{room_lasts}
 use Rattle.broker_rows.proofs.PublishSteps.{refused_step, taken_step}
 use Rattle.broker_rows.proofs.maps.PublishKeepsMaps.{publishing_keeps_owners, publishing_keeps_content}
 use Rattle.broker_tables.specs.declared.tables.Tables.{Tables}
@@ -72,6 +76,19 @@ module _ (tables : Tables) (x : ConnectionName) (c : Client) (kept : ClientSessi
         acknowledged x p.delivery
             ++ answered_in_turn tables.window (publication_of p) rows (changed c (received_on p.delivery) tables.sessions.entries),
       )) (sym is)
+
+  -- each session that is granted one finds room for it when its turn comes
+  pub room_of_taken : is_refused_in usual_limits (state_in tables) (publication_of p) ≡ false →
+      (granted : List Row) → granted ≡ granted_rows p.topic tables.sessions.entries →
+      (noted : Sessions) → noted ≡ changed c (received_on p.delivery) tables.sessions.entries →
+      HaveRoomInTurn usual_limits tables.window (publication_of p) granted noted
+  room_of_taken taken granted is noted after =
+      subst (λ (rows : List Row). HaveRoomInTurn usual_limits tables.window (publication_of p) rows noted) (sym is)
+      (subst (λ (sessions : Sessions). HaveRoomInTurn usual_limits tables.window (publication_of p) (granted_rows p.topic tables.sessions.entries) sessions) (sym after)
+      (room_lasts usual_limits tables.window (publication_of p) c p.delivery tables.sessions.entries served.sound.by_client
+      (or_parts
+      (list_any (λ (row : Row). is_full_at usual_limits (publication_of p) row.1 (session_in row.0 tables.sessions.entries)) (granted_rows p.topic tables.sessions.entries))
+      (is_one_topic_over usual_limits tables.retained (publication_of p)) taken).0))
 
 -- the ties behind it
 pub ties_of_taken : (tables after : Tables) (c : Client) (p : Publish) (granted : List Row) → IsTied tables →

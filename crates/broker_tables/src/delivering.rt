@@ -1,15 +1,16 @@
 // Copies of publications on their way into sessions (MQTT 3.3.5, 4.6).
 
-ghost use Rattle.std.specs.Prelude.{◌≡◌, ◌++◌, [], ◌∷◌, false, Some, OnOk, IfOk};
+ghost use Rattle.std.specs.Prelude.{◌≡◌, ◌≤◌, ◌++◌, [], ◌∷◌, true, false, Some, OnOk, IfOk};
 ghost use Rattle.packet.specs.declared.packet.Packet.TheVariants as packets;
-ghost use Rattle.session_base.specs.Publication.{publish_of, lower_qos, publication_of};
+ghost use Rattle.session_base.specs.Publication.{publish_of, lower_qos, publication_of, is_answered};
 ghost use Rattle.packet.specs.declared.qos.QoS.TheVariants as levels;
-ghost use Rattle.session_base.specs.Queue.{copies_left};
+ghost use Rattle.session_base.specs.Queue.{copies_left, room};
 ghost use Rattle.session_base.specs.Sending.{copies_sent};
 ghost use Rattle.session_base.specs.Session.{with_queue};
 ghost use Rattle.broker_base.specs.SessionStep.{copied_queue};
 ghost use Rattle.broker_base.specs.StepAnswers.{sent_on};
-ghost use Rattle.broker_rows.specs.Published.{delivered_on};
+ghost use Rattle.broker_model.specs.Commands.{usual_limits};
+ghost use Rattle.broker_rows.specs.Published.{delivered_on, is_full_at};
 ghost use Rattle.broker_tables.specs.Inside.{lowered};
 
 use crate::client_row::ClientRow;
@@ -64,6 +65,7 @@ pub(crate) fn take_copy(
     copy: Publication,
     sent: &mut Vec<Packet>,
 ) -> Result<(), Halted>
+    requires room { is_answered copy.qos ≡ true → 1 ≤ room 4096 session.old.queue }
     ensures state { OnOk result
         (session.new ≡ with_queue (copies_left window (copy ∷ []) session.old.queue) session.old) }
     ensures sends { OnOk result
@@ -73,7 +75,6 @@ pub(crate) fn take_copy(
         sent.push(unanswered(copy))?;
         return Ok(());
     }
-    // There is room for it where the publication is taken.
     session.admit(copy)?;
     session.fill(window.size(), sent)?;
     Ok(())
@@ -100,6 +101,7 @@ pub(crate) fn deliver(
     qos: QoS,
     out: &mut Vec<Output>,
 ) -> Result<(), Halted>
+    requires room { is_full_at usual_limits publication.now qos (Some row.old) ≡ false }
     ensures state { OnOk result (row.new ≡ delivered_on window publication.now qos row.old) }
     ensures outputs { OnOk result
         (out.new.items

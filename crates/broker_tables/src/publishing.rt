@@ -5,7 +5,7 @@ ghost use Rattle.std.specs.List.{list_any};
 ghost use Rattle.packet.specs.declared.packet.Packet.TheVariants as packets;
 ghost use Rattle.broker_model.specs.declared.command.Command.TheVariants as commands;
 ghost use Rattle.broker_rows.specs.Owners.{owners_in};
-ghost use Rattle.broker_rows.specs.PublishLaws.{is_refused_in};
+ghost use Rattle.broker_rows.specs.PublishLaws.{is_refused_in, HaveRoomInTurn};
 ghost use Rattle.broker_tables.specs.Tables.{IsInStep, IsTied, state_in, stepped};
 ghost use Rattle.broker_tables.specs.Inside.{HasOthersOf};
 ghost use Rattle.broker_model.specs.Answers.{acknowledged};
@@ -186,6 +186,7 @@ fn deliver_all(
     granted: &[(ClientId, QoS)],
     out: &mut Vec<Output>,
 ) -> Result<(), Halted>
+    requires room { HaveRoomInTurn usual_limits window publication.now granted.now sessions.old.entries }
     ensures state { OnOk result
         (sessions.new.entries
         ≡ all_delivered window publication.now granted.now sessions.old.entries) }
@@ -207,6 +208,8 @@ fn deliver_to(
     granted: &(ClientId, QoS),
     out: &mut Vec<Output>,
 ) -> Result<(), Halted>
+    requires room { is_full_at usual_limits publication.now granted.now.1
+        (session_in granted.now.0 sessions.old.entries) ≡ false }
     ensures state { OnOk result
         (sessions.new.entries
         ≡ changed granted.now.0 (delivered_on window publication.now granted.now.1) sessions.old.entries) }

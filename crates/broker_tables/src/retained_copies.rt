@@ -1,7 +1,7 @@
 // What a subscriber is sent of the retained publications (MQTT 3.3.1.3, 3.8.4).
 
-ghost use Rattle.std.specs.Prelude.{◌≡◌, ◌++◌, length, OnOk, IfOk};
-ghost use Rattle.session_base.specs.Queue.{copies_left};
+ghost use Rattle.std.specs.Prelude.{◌≡◌, ◌≤◌, ◌++◌, length, OnOk, IfOk};
+ghost use Rattle.session_base.specs.Queue.{copies_left, room};
 ghost use Rattle.session_base.specs.Sending.{copies_sent};
 ghost use Rattle.session_base.specs.Session.{with_queue};
 ghost use Rattle.broker_model.specs.Entries.{copies_for, queued, retained_copy};
@@ -65,6 +65,7 @@ pub(crate) fn take_copies(
     copies: Vec<Publication>,
     sent: &mut Vec<Packet>,
 ) -> Result<(), Halted>
+    requires room { length (queued copies.items) ≤ room 4096 session.old.queue }
     ensures state { OnOk result
         (session.new ≡ with_queue (copies_left window copies.items session.old.queue) session.old) }
     ensures sends { OnOk result

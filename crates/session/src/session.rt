@@ -1,6 +1,6 @@
 // One client's session (MQTT 3.1.2.4, 4.1).
 
-ghost use Rattle.std.specs.Prelude.{◌≡◌, ◌≢◌, ◌<◌, ◌++◌, ◌↔◌, [], true, length, IsOk, Ok, Err, OnOk, OnErr};
+ghost use Rattle.std.specs.Prelude.{◌≡◌, ◌≢◌, ◌≤◌, ◌<◌, ◌++◌, ◌↔◌, [], true, length, IsOk, Ok, Err, OnOk, OnErr};
 ghost use Rattle.lists.specs.Lists.{has_id};
 ghost use Rattle.session_base.specs.Identifiers.{with_id, without_id};
 ghost use Rattle.session_base.specs.Subscriptions.{is_held, with_subscription, without_filter, granted_qos};
@@ -108,9 +108,10 @@ impl Session {
         Ok(())
     }
 
-    /// Queues a publication behind the others, where `room` said that there is a place for it. The
-    /// only error is want of memory.
+    /// Queues a publication after the others, where `room` said that there is a place for it. The only
+    /// error is that memory ran out.
     pub fn admit(&mut self, publication: Publication) -> Result<(), AllocError>
+        requires room { 1 ≤ room 4096 self.old.queue }
         ensures ok { OnOk result (self.new ≡ with_queue (enqueue publication self.old.queue) self.old) }
         ensures err { OnErr result (self.new ≡ self.old) }
     {

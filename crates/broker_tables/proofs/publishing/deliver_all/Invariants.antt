@@ -1,7 +1,9 @@
 -- What was delivered so far, and what is still to come, make the whole.
 use Rattle.std.proofs.Common.{◌≡◌, ◌++◌}
 use Rattle.std.specs.Prelude.{drop}
+use Rattle.broker_model.specs.Commands.{usual_limits}
 use Rattle.broker_rows.specs.Published.{all_delivered, answered_in_turn}
+use Rattle.broker_rows.specs.PublishLaws.{HaveRoomInTurn}
 use Rattle.broker_tables.proofs.publishing.deliver_all.Given as goal
 
 abbrev pub invariant-loop-row : goal.invariant-loop-row
@@ -10,3 +12,4 @@ invariant-loop-row l =
     ≡ all_delivered l.window l.publication l.granted l.fn.sessions.entries)
     × (l.out.items ++ answered_in_turn l.window l.publication (drop l.row-index l.granted) l.sessions.entries
     ≡ l.fn.out.items ++ answered_in_turn l.window l.publication l.granted l.fn.sessions.entries)
+    × HaveRoomInTurn usual_limits l.window l.publication (drop l.row-index l.granted) l.sessions.entries

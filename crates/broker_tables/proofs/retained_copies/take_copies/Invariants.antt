@@ -1,6 +1,7 @@
 -- What came so far, and what is still to come, make the whole.
-use Rattle.std.proofs.Common.{◌≡◌, ◌++◌}
-use Rattle.session_base.specs.Queue.{copies_left}
+use Rattle.std.proofs.Common.{◌≡◌, ◌≤◌, ◌++◌, length}
+use Rattle.session_base.specs.Queue.{copies_left, room}
+use Rattle.broker_model.specs.Entries.{queued}
 use Rattle.session_base.specs.Sending.{copies_sent}
 use Rattle.session_base.specs.Session.{with_queue}
 use Rattle.broker_tables.proofs.retained_copies.take_copies.Given as goal
@@ -11,3 +12,4 @@ invariant-loop-copy l =
     ≡ with_queue (copies_left l.window l.fn.copies.items l.fn.session.queue) l.fn.session)
     × (l.sent.items ++ copies_sent l.window l.copy-iterator.rest.items l.session.queue
     ≡ l.fn.sent.items ++ copies_sent l.window l.fn.copies.items l.fn.session.queue)
+    × (length (queued l.copy-iterator.rest.items) ≤ room 4096 l.session.queue)

@@ -1,15 +1,17 @@
 -- By what becomes of the publication: another try, a refused one, a taken one.
-use Rattle.std.proofs.Common.{◌≡◌, ◌∙◌, ◌++◌, ap, sym, true, false}
+use Rattle.std.proofs.Common.{◌≡◌, ◌∙◌, ◌++◌, ap, sym, subst, ℕ, List, true, false}
 use Rattle.std.proofs.lemmas.List.{append_assoc}
+use Rattle.session_base.specs.declared.publication.Publication.{Publication}
 use Rattle.session_base.specs.Publication.{publication_of}
+use Rattle.subs_base.specs.Granted.{Row}
 use Rattle.broker_model.specs.Answers.{acknowledged}
 use Rattle.broker_model.specs.Retained.{retains}
 use Rattle.broker_model.specs.Commands.{usual_limits}
 use Rattle.broker_rows.specs.Published.{all_delivered, answered_in_turn, changed, received_on}
-use Rattle.broker_rows.specs.PublishLaws.{is_refused_in}
+use Rattle.broker_rows.specs.PublishLaws.{is_refused_in, HaveRoomInTurn}
 use Rattle.broker_tables.specs.Tables.{state_in}
 use Rattle.broker_tables.proofs.FoundByMaps.{has_session, is_served}
-use Rattle.broker_tables.proofs.Publications.{repeat_of, refused_of, taken_of, ties_of_taken}
+use Rattle.broker_tables.proofs.Publications.{repeat_of, refused_of, taken_of, room_of_taken, ties_of_taken}
 use Rattle.broker_tables.proofs.tables.Tables.publish.Goals as goal
 
 pub index-requires : goal.index-requires
@@ -97,3 +99,21 @@ returns-clause-tied c =
     (c.in_ok-deliver_all.ensures.state
     ∙ (λ j. all_delivered (c.in_ok-note.ensures.others.window j) (c.in_ok-publication.ensures j) (c.deref-2.ensures.value j) (c.in_ok-note.ensures.sessions j)))
     c.in_ok-note.ensures.others.owners c.in_ok-note.ensures.others.index
+
+pub deliver_all-requires : goal.deliver_all-requires
+deliver_all-requires c =
+    let t = c.args.self.now in
+    let kept = c.index.result.now in
+    let served = is_served t c.args.connection c.args.client.now kept c.requires.in_step c.requires.served c.index.ensures in
+    let taken : is_refused_in usual_limits (state_in t) (publication_of c.args.publish.now) ≡ false
+    = ap (is_refused_in usual_limits (state_in t)) (sym c.in_ok-publication.ensures) ∙ sym c.refuses.ensures ∙ c.if-refuses.false in
+    record {
+      room = subst (λ (w : ℕ). HaveRoomInTurn usual_limits w c.in_ok-publication.publication c.deref-2.result.now c.note.new.self.sessions.entries)
+          (sym c.in_ok-note.ensures.others.window)
+          (subst (λ (p : Publication). HaveRoomInTurn usual_limits t.window p c.deref-2.result.now c.note.new.self.sessions.entries)
+          (sym c.in_ok-publication.ensures)
+          (subst (λ (rows : List Row). HaveRoomInTurn usual_limits t.window (publication_of c.args.publish.now) rows c.note.new.self.sessions.entries)
+          (sym c.deref-2.ensures.value)
+          (room_of_taken t c.args.connection c.args.client.now kept served c.args.publish.now taken
+          c.in_ok-granted.granted.items c.in_ok-granted.ensures c.note.new.self.sessions.entries c.in_ok-note.ensures.sessions)));
+    }
