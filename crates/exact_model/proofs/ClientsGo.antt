@@ -103,7 +103,7 @@ module _ {nodes : ℕ} {config : Config} {cs : List Client} (v : World) (went : 
       }
 
   -- the next packet that it cuts is the next answer
-  next_there : (i : ℕ) (c : ClientPipes) (j : ℕ) (κ : Connection) (p : Pipe) (packet : Packet) (left : Stream) → HasPipe v i c j κ p → Takes p.came (Ok (Some packet)) left
+  pub next_there : (i : ℕ) (c : ClientPipes) (j : ℕ) (κ : Connection) (p : Pipe) (packet : Packet) (left : Stream) → HasPipe v i c j κ p → Takes p.came (Ok (Some packet)) left
       → slice_get (put_to usual_limits (past_of usual_limits agreed) κ.name) κ.handled ≡ Some packet
   next_there i c j κ p packet left has cut =
       let h = s.holds.each i c j κ p has in

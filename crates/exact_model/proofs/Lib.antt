@@ -15,6 +15,14 @@ pub mod AnswersFit
 pub mod CommandsFit
 pub mod NextAnswer
 pub mod ClientsGo
+pub mod AllBeside
+pub mod AllNumbered
+pub mod OwnCarried
+pub mod NewByPlace
+pub mod StillKept
+pub mod PromisesKept
+pub mod ToldBeside
+pub mod OwnPublished
 pub mod WorldsExact
 pub mod RowGoes
 pub mod ServedNode

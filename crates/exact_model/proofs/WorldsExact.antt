@@ -1,92 +1,42 @@
 -- Every world that is reached is exact.
-use Rattle.std.proofs.Common.{◌≡◌, ◌≤◌, ℕ, List, [], ◌++◌, true, map, Some, refl, sym, ap, ◌∙◌, subst}
+use Rattle.std.proofs.Common.{◌≡◌, ◌≤◌, ℕ, List, Some, sym, ap, ◌∙◌, subst}
 use Rattle.std.specs.Prelude.{slice_get}
+use Rattle.session_base.specs.declared.publication.Publication.{Publication}
 use Rattle.ballot.specs.Config.{Config}
 use Rattle.broker_base.specs.Command.{Command}
 use Rattle.broker_base.specs.Commands.{past_of, usual_limits}
 use Rattle.broker_base.specs.EndingLaws.{EndsWithTheSession, connects_of}
-use Rattle.broker_base.specs.Place.{Client}
-use Rattle.lists.specs.Lists.{Each}
+use Rattle.broker_base.specs.Place.{Client, Past}
+use Rattle.client_base.specs.History as history
+use Rattle.client_base.specs.Keeper.{Keeper}
+use Rattle.client_base.specs.State.{ClientState}
+use Rattle.story.specs.Carried.{publications_of}
 use Rattle.story.specs.Headline.{ExactlyOnce}
-use Rattle.agreement.specs.World.{can_open}
 use Rattle.agreement.proofs.Agreed.PastAgrees.{has_agreed}
-use Rattle.model.specs.World.{AreApart, ClientEnds, opening as opening_beside, story_of as story_beside}
-use Rattle.model.specs.World as model
-use Rattle.model.specs.Goes.Reached.{begins as begins_beside}
+use Rattle.model.specs.World.{AreApart, ClientEnds, story_of as story_beside}
 use Rattle.model.proofs.Lists.{each_by, each_get}
 use Rattle.model.proofs.WorldsExact.{worlds_are_exact as worlds_beside_are_exact}
 use Rattle.world_model.specs.world_base.Core.{rules}
 use Rattle.world_model.specs.group_model.Group.{moment_of}
 use Rattle.world_model.specs.group_model.Goes.{Went}
-use Rattle.world_model.specs.group_model.Goes.Went.{opened}
 use Rattle.world_model.proofs.of_group_model.Placed.{get_mapped}
-use Rattle.world_model.specs.Carried.{went_of, went_on}
-use Rattle.world_model.specs.Goes.{Reached, WorldStep}
-use Rattle.world_model.specs.Goes.Reached.{begins, goes_on}
-use Rattle.world_model.specs.Goes.WorldStep.{goes_on as group_goes, calls, connects, is_turned_away, comes_up, goes_down, arrives, handles}
-use Rattle.world_model.specs.World.{ClientPipes, World, new_client, opening}
-use Rattle.world_model.proofs.PipesInOrder.{in_order, opens_hold, step_holds}
-use Rattle.world_model.proofs.WorldsHold.{Holds}
-use Rattle.exact_model.specs.Exact.{IsExactBy, WorldsAreExact, story_of}
-use Rattle.exact_model.proofs.AllPutOut.{IsFull}
-use Rattle.exact_model.proofs.Beside.{Alone, Beside, ends_alone, grows_beside}
-use Rattle.exact_model.proofs.ClientsGo.{calls_so, connects_so, handles_so}
+use Rattle.world_model.specs.Carried.{went_of}
+use Rattle.world_model.specs.Published.{published_of, published_on}
+use Rattle.world_model.specs.World.{ClientPipes, World}
+use Rattle.world_model.proofs.PipesInOrder.{in_order}
+use Rattle.exact_model.specs.Exact.{IsExactBy, IsShownBy, WorldsAreExact, story_of}
+use Rattle.exact_model.specs.Promise.{Promise, PromiseBy}
+use Rattle.exact_model.specs.Shown.{AcceptsInOrder}
+use Rattle.exact_model.proofs.AllBeside.{goes_beside}
+use Rattle.exact_model.proofs.Beside.{Alone, Beside, ends_alone}
 use Rattle.exact_model.proofs.ExactUntaken.{exactly_once_untaken}
-use Rattle.exact_model.proofs.GoesBeside.{GoesBeside, group_beside, pipe_beside, pipe_rests}
-use Rattle.world_model.proofs.of_connection_model.CarriedInOrder.{IsAgreedSo, carried_at_first}
-use Rattle.exact_model.proofs.Places.{each_of_made, map_back, map_twice}
-use Rattle.exact_model.proofs.WorldsWrite.{HasAllPipes, clients_alone, is_of_written, pipes_alone}
-
--- ---- as it opens
-
--- beside it a world of `model` opens
-opens_beside : (cs : List Client) → Beside cs [] (map pipes_alone (map new_client cs))
-opens_beside cs =
-    record {
-      world = opening_beside cs;
-      reached = begins_beside;
-      is = refl;
-      full = each_of_made model.new_client (IsFull []) cs (each_by (λ c. IsFull [] (model.new_client c)) cs (λ i c at. refl));
-      same = map_twice model.new_client ends_alone cs ∙ sym (map_twice new_client pipes_alone cs);
-    }
-
-opens_so : (nodes : ℕ) (config : Config) (cs : List Client) → AreApart cs → (can : can_open nodes config ≡ true) → GoesBeside nodes config cs (opening nodes config cs) (opened can)
-opens_so nodes config cs apart can =
-    let so = carried_at_first nodes config can in
-    let holds = opens_hold nodes config cs (opened can) (λ x. (refl, refl)) in
-    let piped : Each HasAllPipes (opening nodes config cs).clients = each_of_made new_client HasAllPipes cs (each_by (λ c. HasAllPipes (new_client c)) cs (λ i c at. refl)) in
-    record {
-      holds = holds;
-      piped = piped;
-      so = so;
-      beside = λ agreed is.
-          grows_beside cs apart [] agreed (clients_alone (opening nodes config cs)) (opens_beside cs) (record { rest = agreed; is = refl })
-          (is_of_written (opening nodes config cs) (opened can) holds piped so agreed is);
-    }
-
--- ---- each step
-
-step_goes : {nodes : ℕ} {config : Config} {cs : List Client} → AreApart cs → (v w : World) (went : Went nodes config v.group) → GoesBeside nodes config cs v went
-    → (step : WorldStep v w) → Holds w (went_on went step) → GoesBeside nodes config cs w (went_on went step)
-step_goes apart v w went s (group_goes deed d is_apart) holds =
-    group_beside apart (record v { group = d.behind }) v.group went s.so d.step (λ agreed is. s.beside agreed is) holds s.piped
-step_goes apart v w went s (calls i c t h at call spelled) holds = calls_so v went i c t h s at call holds
-step_goes apart v w went s (connects i n c port now d core end at unused behind there_so spelled) holds = connects_so apart v went i n c end.name port now d s at holds
-step_goes apart v w went s (is_turned_away n port now d core unused behind none) holds =
-    group_beside apart (record v { group = d.behind }) v.group went s.so d.step (λ agreed is. s.beside agreed is) holds s.piped
-step_goes apart v w went s (comes_up i j c κ p piece rest now d has is) holds = pipe_beside apart v went d.behind i j c (record p { up = rest }) s d.step has.client holds
-step_goes apart v w went s (goes_down i j c κ p d has) holds = pipe_beside apart v went d.behind i j c _ s d.step has.client holds
-step_goes apart v w went s (arrives i j c κ p piece rest has is) holds =
-    pipe_rests v went i j c (record p { down = rest; came = record p.came { held = p.came.held ++ piece } }) s has.client holds
-step_goes apart v w went s (handles i c κ others p pipes packet left at first piped is_open cut spelled) holds =
-    handles_so v went i c κ others p pipes packet left s at first piped is_open cut holds
-
-goes_beside : {nodes : ℕ} {config : Config} {cs : List Client} → AreApart cs → (w : World) (trail : Reached nodes config cs w) → GoesBeside nodes config cs w (went_of trail)
-goes_beside {nodes = nodes} {config = config} {cs = cs} apart w (begins can) = opens_so nodes config cs apart can
-goes_beside apart w (goes_on {v = v} before step) =
-    let s = goes_beside apart v before in step_goes apart v w (went_of before) s step (step_holds v w (went_of before) s.holds step)
-
--- ---- the law
+use Rattle.exact_model.proofs.GoesBeside.{GoesBeside}
+use Rattle.world_model.proofs.of_connection_model.CarriedInOrder.{IsAgreedSo}
+use Rattle.exact_model.proofs.OwnPublished.{own_published}
+use Rattle.exact_model.proofs.Places.{map_back}
+use Rattle.exact_model.proofs.PromisesKept.{promise_kept}
+use Rattle.exact_model.proofs.ToldBeside.{told_beside}
+use Rattle.exact_model.proofs.WorldsWrite.{clients_alone, pipes_alone}
 
 exact_by : {nodes : ℕ} {config : Config} {cs : List Client} → AreApart cs → (w : World) (went : Went nodes config w.group) (s : GoesBeside nodes config cs w went) (agreed : List Command) → IsAgreedSo s.so agreed
     → IsExactBy agreed w
@@ -109,8 +59,31 @@ exact_by {cs = cs} apart w went s agreed is =
         exactly_once_untaken usual_limits (story_beside b.world.agreed z.0) (story_of agreed c) (ap (past_of usual_limits) b.is) (ap (λ (a : Alone). a.keeper) z.2)
         (ap (λ (a : Alone). a.connections) z.2) (each z.0 z.1)
 
+-- what is promised of a client by what it shows
+promised : {nodes : ℕ} {config : Config} {cs : List Client} → AreApart cs → (w : World) (went : Went nodes config w.group) (s : GoesBeside nodes config cs w went) (agreed : List Command) → IsAgreedSo s.so agreed
+    → (published : List Publication) (i : ℕ) (c : ClientPipes) (state : ClientState) → slice_get w.clients i ≡ Some c → publications_of c.keeper.own ≡ published → IsShownBy c state
+    → Promise published agreed state
+promised apart w went s agreed is published i c state at said shown =
+    let h = told_beside apart w went s agreed is i c at in
+    let exact = exact_by apart w went s agreed is in
+    let mine = (each_get (λ c. ExactlyOnce usual_limits (story_of agreed c)) w.clients i c exact.clients at).subscribers in
+    let accepts : AcceptsInOrder c.keeper.client (past_of usual_limits agreed) state =
+    record { old = mine.old; new = mine.new; entries = mine.is; accepted = shown.accepted ∙ mine.accepted; rest = mine.rest } in
+    subst (λ (d : Client). PromiseBy d published (past_of usual_limits agreed) state) (ap (λ (k : Keeper). k.client) h.keeper ∙ sym shown.keeper.client)
+    (subst (λ (past : Past). PromiseBy h.story.keeper.client published past state) h.past
+    (promise_kept h.story h.told published state (ap (λ (k : Keeper). publications_of k.own) h.keeper ∙ said) (subst (λ (k : Keeper). history.StandsFor k state) (sym h.keeper) shown.keeper)
+    (subst (λ (past : Past). AcceptsInOrder h.story.keeper.client past state) (sym h.past)
+    (subst (λ (k : Keeper). AcceptsInOrder k.client (past_of usual_limits agreed) state) (sym h.keeper) accepts))
+    (λ x. subst (λ (past : Past). connects_of x past ≤ 1) (sym h.past) (exact.names x)) (subst (EndsWithTheSession usual_limits) (sym h.past) exact.sessions)))
+
 pub worlds_are_exact : WorldsAreExact
 worlds_are_exact nodes config cs w apart trail =
     let s = goes_beside apart w trail in
     let list = has_agreed rules config (moment_of w.group) s.so.of.earlier s.so.of.past in
-    record { of = s.so.of; agreed = list.0; is_agreed = list.1; exact = λ agreed is. exact_by apart w (went_of trail) s agreed is }
+    record {
+      of = s.so.of;
+      agreed = list.0;
+      is_agreed = list.1;
+      exact = λ agreed is. exact_by apart w (went_of trail) s agreed is;
+      promises = λ agreed is i c state at shown. promised apart w (went_of trail) s agreed is (published_of i (published_on trail)) i c state at (own_published apart w trail i c at) shown;
+    }

@@ -1,5 +1,5 @@
 -- What holds of every world of clients and a group of nodes: the headline for each client, by the list on which the nodes agree.
-use Rattle.std.specs.Prelude.{◌≤◌, ℕ, List, ◌∷◌}
+use Rattle.std.specs.Prelude.{◌≡◌, ◌≤◌, ℕ, List, ◌∷◌, Some, slice_get}
 use Rattle.lists.specs.Lists.{Each}
 use Rattle.ballot.specs.Config.{Config}
 use Rattle.broker_base.specs.Command.{Command}
@@ -7,7 +7,9 @@ use Rattle.broker_base.specs.Commands.{past_of, usual_limits}
 use Rattle.broker_base.specs.Connection.{ConnectionName}
 use Rattle.broker_base.specs.EndingLaws.{EndsWithTheSession, connects_of}
 use Rattle.broker_base.specs.Place.{Client}
-use Rattle.story.specs.Headline.{ExactlyOnce}
+use Rattle.client_base.specs.History as history
+use Rattle.client_base.specs.State.{ClientState}
+use Rattle.story.specs.Headline.{ExactlyOnce, accepted_on}
 use Rattle.story.specs.Sides.{Connection}
 use Rattle.story.specs.Story.{Story}
 use Rattle.agreement.specs.Past.{IsAgreed}
@@ -17,12 +19,20 @@ use Rattle.world_model.specs.group_model.Goes.{all_put, groups_of}
 use Rattle.world_model.specs.group_model.Pasts.{HasPast}
 use Rattle.world_model.specs.World.{ClientPipes, HasPipe, Pipe, World}
 use Rattle.world_model.specs.Carried.{went_of}
+use Rattle.world_model.specs.Published.{published_of, published_on}
 use Rattle.world_model.specs.Goes.{Reached}
 use Rattle.world_model.specs.InPipes.{IsInOrder}
+use Rattle.exact_model.specs.Promise.{Promise}
+use Rattle.exact_model.specs.Shown.{accepted_once}
 
 -- one client's story, by the list on which the nodes agree
 abbrev pub story_of : List Command → ClientPipes → Story
 story_of agreed c = record { past = past_of usual_limits agreed; connections = c.connections; keeper = c.keeper }
+
+-- what a client shows that keeps no history
+pub record IsShownBy (c : ClientPipes) (state : ClientState) : Type 0 where
+  pub keeper : history.StandsFor c.keeper state
+  pub accepted : accepted_once state.accepted ≡ accepted_on c.connections
 
 -- by this list
 pub record IsExactBy (agreed : List Command) (w : World) : Type 0 where
@@ -41,6 +51,9 @@ pub record IsExact {nodes : ℕ} {config : Config} {cs : List Client} {w : World
   pub agreed : List Command
   pub is_agreed : IsAgreed config (moment_of w.group ∷ of.earlier) agreed
   pub exact : (list : List Command) → IsAgreed config (moment_of w.group ∷ of.earlier) list → IsExactBy list w
+  -- and what a client shows, with what it was asked to publish on the way, is as promised
+  pub promises : (list : List Command) → IsAgreed config (moment_of w.group ∷ of.earlier) list → (i : ℕ) (c : ClientPipes) (state : ClientState) →
+      slice_get w.clients i ≡ Some c → IsShownBy c state → Promise (published_of i (published_on trail)) list state
 
 -- of clients with identifiers of their own, and on every way
 abbrev pub WorldsAreExact : Type 0

@@ -1,3 +1,5 @@
+pub mod Shown
+pub mod Promise
 pub mod Exact
 pub mod Rows
 pub use Rattle.world_model.specs as world_model

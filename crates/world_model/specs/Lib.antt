@@ -1,6 +1,7 @@
 pub mod World
 pub mod Goes
 pub mod Carried
+pub mod Published
 pub mod InPipes
 pub mod Apart
 pub mod Deeds

@@ -1,0 +1,75 @@
+-- What is seen of one client: what it keeps and what it accepted, and its places in the list on which the nodes agree.
+use Rattle.std.specs.Prelude.{◌≡◌, ◌&&◌, Bool, false, if◌then◌else◌, List, [], ◌∷◌, ◌++◌, Some, filter, map}
+use Rattle.lists.specs.Lists.{Each, In}
+use Rattle.packet.specs.declared.packet.Packet.{Packet}
+use Rattle.packet.specs.declared.packet.Packet.TheVariants as packets
+use Rattle.packet.specs.declared.publish.Publish.{Publish}
+use Rattle.session_base.specs.Publication.{publication_of}
+use Rattle.session_base.specs.declared.publication.Publication.{Publication}
+use Rattle.broker_base.specs.Answers.{answers_at}
+use Rattle.broker_base.specs.Command.{Command}
+use Rattle.broker_base.specs.Command.TheVariants as commands
+use Rattle.broker_base.specs.Commands.{usual_limits}
+use Rattle.broker_base.specs.Connection.{ConnectionName}
+use Rattle.broker_base.specs.EndingLaws.{StandsAt}
+use Rattle.broker_base.specs.Entries.{Entry}
+use Rattle.broker_base.specs.Output.TheVariants.{Send}
+use Rattle.broker_base.specs.Owner.{owner_of}
+use Rattle.broker_base.specs.Place.{Client, Mark, Past, Place, same_client}
+use Rattle.broker_base.specs.Readings.{publication_in}
+use Rattle.broker_base.specs.Received.{is_exactly_once}
+use Rattle.broker_base.specs.Times.{entries_of}
+use Rattle.client_base.specs.State.{ClientState}
+use Rattle.client_base.specs.declared.accepted.Accepted.{Accepted}
+use Rattle.client_base.specs.declared.kept_publication.KeptPublication.{KeptPublication}
+use Rattle.story.specs.Carried.{is_two}
+use Rattle.story.specs.Headline.{is_released, two_entries}
+
+-- ---- of its publications
+
+abbrev pub is_at_two : Publication → Bool
+is_at_two p = is_two p.qos
+
+abbrev pub at_two : List Publication → List Publication
+at_two = filter is_at_two
+
+-- those that it keeps, the oldest first, since neither PUBACK nor PUBREC came to it for them
+abbrev pub kept_of : ClientState → List Publication
+kept_of state = map (λ (k : KeptPublication). k.publication) (state.sent ++ state.unsent)
+
+-- those that are new in the list, by place (MQTT 4.3.3)
+abbrev pub new_at : Client → Command → Mark → List Publication
+new_at c (commands.Packet x (packets.Publish p)) (Mark.Taken d) = if same_client d c && is_exactly_once p.delivery then publication_of p ∷ [] else []
+new_at c command mark = []
+
+abbrev pub new_of : Client → Past → List Publication
+new_of c (place ∷ below) = new_of c below ++ new_at c place.command place.mark
+new_of c [] = []
+
+-- a place has a PUBLISH on its current connection, which is answered with this packet
+pub record IsAnswered (past : Past) (c : Client) (packet : Packet) (place : Place) (below : Past) (p : Publish) : Type 0 where
+  pub stands : StandsAt past place below
+  pub on : ConnectionName
+  pub own : owner_of below on ≡ Some c
+  pub command : place.command ≡ commands.Packet on (packets.Publish p)
+  pub answer : In (Send on packet) (answers_at usual_limits place below)
+
+-- ---- of what it accepted
+
+-- at QoS 2, the oldest first
+abbrev pub publication_accepted : Accepted → Publication
+publication_accepted a = record { retain = a.retain; qos = a.qos; topic = a.topic; payload = a.payload }
+
+abbrev pub is_accepted_once : Accepted → Bool
+is_accepted_once a = is_two a.qos
+
+abbrev pub accepted_once : List Accepted → List Publication
+accepted_once accepted = map publication_accepted (filter is_accepted_once accepted)
+
+-- At QoS 2 it is a beginning of its QoS 2 entries: `old`, in order, each once. No entry after it is released.
+pub record AcceptsInOrder (c : Client) (past : Past) (state : ClientState) : Type 0 where
+  pub old : List Entry
+  pub new : List Entry
+  pub entries : two_entries (entries_of usual_limits past c) ≡ old ++ new
+  pub accepted : accepted_once state.accepted ≡ map publication_in old
+  pub rest : Each (λ (entry : Entry). is_released entry ≡ false) new
