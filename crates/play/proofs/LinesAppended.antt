@@ -3,18 +3,22 @@ use Rattle.std.proofs.Common.{◌≡◌, ◌<◌, ◌+◌, ℕ, zero, suc, List,
 use Rattle.std.specs.List.{position}
 use Rattle.std.proofs.lemmas.List.{append-nil, append_assoc, take_more}
 use Rattle.client_base.specs.declared.accepted.Accepted.{Accepted}
+use Rattle.session_base.specs.declared.publication.Publication.{Publication}
 use Rattle.script.specs.declared.order.Order.{Order}
 use Rattle.transcript.specs.Lines.{accepted_line}
 use Rattle.world.specs.declared.event.Event.{Event}
 use Rattle.world.specs.declared.world.WorldClient.{WorldClient}
 use Rattle.world.specs.Found.{core_at, is_named}
+use Rattle.world.specs.Asking.{IsAsked}
+use Rattle.world.specs.Goes.{StaysReached, WorldGoesOn}
 use Rattle.world.specs.Goes.Goes.{rests}
-use Rattle.world.specs.Happening.{new_world_client}
+use Rattle.world.specs.Happening.{Happens, new_world_client}
+use Rattle.world.specs.Standing.{KeepsReached, WorldGoesBy, asked_on}
 use Rattle.world.specs.master.declared.event.Idle.{Idle}
 use Rattle.world.specs.World.{WorldState}
 use Rattle.play.specs.declared.stage.Listener.{Listener}
 use Rattle.play.specs.Events.{asked_in}
-use Rattle.play.specs.Transcripts.{ComesTo, accepted_by, accepted_in, accepted_lines, lines_after, told_lines}
+use Rattle.play.specs.Transcripts.{ComesTo, IsAskedIn, accepted_by, accepted_in, accepted_lines, lines_after, told_lines}
 use Rattle.play.specs.Inside.{Appends, AreTold, Comes, Written, lines_untold, names_of, new_listener, told_at}
 
 -- ---- the lines of one client
@@ -102,7 +106,21 @@ no_event order world idle none =
       comes = subst (λ (o : Option Event). ComesTo o world (Err idle) world) (sym none) (refl, refl);
       goes = record { rises = omega arith; goes = λ g s. record { behind = g; goes = rests; stands = s } };
       reached = λ nodes config r. r;
-      exact = λ nodes config cs r. r;
+      asked = [];
+      asks = subst (λ (o : Option Event). IsAskedIn o world (Err idle) [] world) (sym none) refl;
+      exact = λ nodes config cs r. (r, sym (append-nil (asked_on r)));
+    }
+
+pub happened : (order : Order) (old : WorldState) (event : Event) (result : Result (Unit {0}) Idle) (new : WorldState) → asked_in old order ≡ Some event → Happens event old result new
+    → WorldGoesOn old new → StaysReached old.nodes new.nodes → (asked : List (ℕ × Publication)) × IsAsked event old result asked new × WorldGoesBy asked old new × KeepsReached asked old new → Comes order old result new
+happened order old event result new is happens goes reached asks =
+    record {
+      comes = subst (λ (o : Option Event). ComesTo o old result new) (sym is) happens;
+      goes = goes;
+      reached = reached;
+      asked = asks.0;
+      asks = subst (λ (o : Option Event). IsAskedIn o old result asks.0 new) (sym is) asks.1;
+      exact = asks.3;
     }
 
 -- an order, its line, and where the last call succeeds, what clients took in
@@ -121,6 +139,8 @@ appends (Ok done) clients index order result before after ls a b c comes written
         whole = refl;
         goes = comes.goes;
         reached = comes.reached;
+        asked = comes.asked;
+        asks = comes.asks;
         exact = comes.exact;
       };
       is = tells ∙ ap (λ (l : List ℕ). b ++ l) (untold_is_new ls before after told ∙ ap (λ (n : List (List ℕ)). told_lines n before after) named)

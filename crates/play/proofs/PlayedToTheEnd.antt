@@ -2,12 +2,13 @@
 use Rattle.std.proofs.Common.{◌≡◌, ◌<◌, ◌≤◌, ◌+◌, ℕ, List, [], ◌∷◌, Result, Ok, Err, OnOk, ◌++◌, length, take, get_or, ap, subst, refl, sym, ◌∙◌, arith}
 use Rattle.std.proofs.lemmas.List.{append-nil, append_assoc, length-take-le, take_more}
 use Rattle.ballot.specs.Config.{Config}
+use Rattle.model.specs.World.{AreApart}
 use Rattle.script.specs.Scripts.{IsScript, lines_of}
 use Rattle.script.specs.declared.order.Order.{Order}
 use Rattle.script.specs.declared.reading.Script.{Script}
 use Rattle.transcript.specs.Lines.{end_line}
 use Rattle.world.specs.Goes.{AreReached}
-use Rattle.world.specs.Standing.{IsReached}
+use Rattle.world.specs.Standing.{IsReached, asked_on}
 use Rattle.world.specs.World.{WorldState}
 use Rattle.play.specs.Transcripts.{Played, Plays, Step}
 use Rattle.play.specs.Transcripts.Played.{opens, goes_on}
@@ -36,6 +37,15 @@ pub renamed : {clients names : List (List ℕ)} {i : ℕ} {order : Order} {old n
 renamed {i = i} {order = order} {old = old} {new = new} {a = a} {b = b} is one =
     subst (λ (n : List (List ℕ)). Appends n i order old new a b) is one
 
+-- ---- the opening
+
+-- the same clients by another name
+pub opened_exact : {nodes : ℕ} {config : Config} {ids clients : List (List ℕ)} {world : WorldState} → ids ≡ clients
+    → (AreApart ids → (reached : IsReached nodes config ids world) × (asked_on reached ≡ []))
+    → AreApart clients → (reached : IsReached nodes config clients world) × (asked_on reached ≡ [])
+opened_exact {nodes = nodes} {config = config} {world = world} is exact =
+    subst (λ (cs : List (List ℕ)). AreApart cs → (reached : IsReached nodes config cs world) × (asked_on reached ≡ [])) is exact
+
 -- ---- agreement
 
 agrees_on : (nodes : ℕ) (config : Config) (clients : List (List ℕ)) (first : WorldState) (orders : List Order) (lines : List ℕ) (last : WorldState)
@@ -49,7 +59,7 @@ exact_on : (nodes : ℕ) (config : Config) (cs clients : List (List ℕ)) (first
     → Played clients first orders lines last → IsReached nodes config cs first → IsReached nodes config cs last
 exact_on nodes config cs clients first _ _ last opens reached = reached
 exact_on nodes config cs clients first _ _ last (goes_on {orders} {lines} {more} {old} played order step) reached =
-    step.exact nodes config cs (exact_on nodes config cs clients first orders lines old played reached)
+    (step.exact nodes config cs (exact_on nodes config cs clients first orders lines old played reached)).0
 
 -- ---- the whole
 
@@ -63,7 +73,7 @@ plays_on (Err error) clients orders first last old mid new all ends none = ends
 
 plays : (text old new : List ℕ) (script : Script) (first : WorldState) (losses : ℕ) → IsScript (lines_of text) script
     → AreReached script.opening.nodes script.opening.config first.nodes
-    → IsReached script.opening.nodes script.opening.config script.opening.clients.items first → first.losses ≡ 0
+    → (reached : IsReached script.opening.nodes script.opening.config script.opening.clients.items first) × (asked_on reached ≡ []) → first.losses ≡ 0
     → PlaysOn script.opening.clients.items script.orders.items first old new losses → Plays text old new losses
 plays text old new script first losses is opened exact whole on =
     let clients = script.opening.clients.items in
@@ -76,7 +86,8 @@ plays text old new script first losses is opened exact whole on =
       is_transcript = record {
         first = first;
         opened = opened;
-        exact = exact;
+        exact = exact.0;
+        unasked = exact.1;
         whole = whole;
         lines = on.all.lines;
         played = on.all.played;
@@ -87,13 +98,13 @@ plays text old new script first losses is opened exact whole on =
       appended = on.ends.is ∙ ap (λ (written : List ℕ). written ++ end) on.all.is ∙ append_assoc old on.all.lines end;
       losses_are = on.are;
       reached = agrees_on script.opening.nodes script.opening.config clients first script.orders.items on.all.lines on.last on.all.played opened;
-      exact = exact_on script.opening.nodes script.opening.config clients clients first script.orders.items on.all.lines on.last on.all.played exact;
+      exact = exact_on script.opening.nodes script.opening.config clients clients first script.orders.items on.all.lines on.last on.all.played exact.0;
     }
 
 pub plays_well : {E : Type 0} (result : Result (Unit {0}) E) (text old new : List ℕ) (script : Script) (first : WorldState)
     (clients : List (List ℕ)) (orders : List Order) → IsScript (lines_of text) script
     → AreReached script.opening.nodes script.opening.config first.nodes
-    → IsReached script.opening.nodes script.opening.config script.opening.clients.items first → first.losses ≡ 0
+    → (reached : IsReached script.opening.nodes script.opening.config script.opening.clients.items first) × (asked_on reached ≡ []) → first.losses ≡ 0
     → clients ≡ script.opening.clients.items → orders ≡ script.orders.items → OnOk result (PlaysOn clients orders first old new 0) → OnOk result (Plays text old new 0)
 plays_well (Ok done) text old new script first clients orders is opened exact whole named all on =
     plays text old new script first 0 is opened exact whole
@@ -102,7 +113,7 @@ plays_well (Err error) text old new script first clients orders is opened exact 
 
 pub plays_losing : (text old new : List ℕ) (script : Script) (first : WorldState) (clients : List (List ℕ)) (orders : List Order) → IsScript (lines_of text) script
     → AreReached script.opening.nodes script.opening.config first.nodes
-    → IsReached script.opening.nodes script.opening.config script.opening.clients.items first → first.losses ≡ 0
+    → (reached : IsReached script.opening.nodes script.opening.config script.opening.clients.items first) × (asked_on reached ≡ []) → first.losses ≡ 0
     → clients ≡ script.opening.clients.items → orders ≡ script.orders.items → (losses : ℕ) × ((0 < losses) × PlaysOn clients orders first old new losses)
     → (losses : ℕ) × ((0 < losses) × Plays text old new losses)
 plays_losing text old new script first clients orders is opened exact whole named all (losses, (some, on)) = (

@@ -1,6 +1,7 @@
 -- Auxiliary words.
 use Rattle.std.specs.Prelude.{◌≡◌, ℕ, List, [], ◌∷◌, ◌++◌, Some, Result, length, map}
 use Rattle.world.specs.master.declared.event.Idle.{Idle}
+use Rattle.session_base.specs.declared.publication.Publication.{Publication}
 use Rattle.script.specs.declared.order.Order.{Order}
 use Rattle.transcript.specs.Lines.{end_line}
 use Rattle.world.specs.declared.event.Event.{Event}
@@ -10,7 +11,7 @@ use Rattle.world.specs.World.{WorldState}
 use Rattle.world.specs.world_nodes.Agreed.{AgreeOnSoMany}
 use Rattle.play.specs.declared.stage.Listener.{Listener}
 use Rattle.play.specs.Events.{asked_in, event_of}
-use Rattle.play.specs.Transcripts.{ComesTo, IsLine, Played, Step, accepted_in, lines_after}
+use Rattle.play.specs.Transcripts.{ComesTo, IsAskedIn, IsLine, Played, Step, accepted_in, lines_after}
 
 -- what a client is to do, whatever waits on connections
 abbrev pub IsCallOf : Order → Event → Type 0
@@ -21,7 +22,9 @@ pub record Comes (order : Order) (old : WorldState) (result : Result (Unit {0}) 
   pub comes : ComesTo (asked_in old order) old result new
   pub goes : WorldGoesOn old new
   pub reached : StaysReached old.nodes new.nodes
-  pub exact : KeepsReached old new
+  pub asked : List (ℕ × Publication)
+  pub asks : IsAskedIn (asked_in old order) old result asked new
+  pub exact : KeepsReached asked old new
 
 -- its line was appended
 pub record Written (index : ℕ) (result : Result (Unit {0}) Idle) (world : WorldState) (old new : List ℕ) : Type 0 where

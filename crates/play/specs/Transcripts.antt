@@ -2,6 +2,7 @@
 use Rattle.std.specs.Prelude.{◌≡◌, ℕ, List, [], ◌∷◌, ◌++◌, Option, Some, None, Result, Ok, Err, IsErr, drop, length}
 use Rattle.world.specs.client.Core.{Core}
 use Rattle.client_base.specs.declared.accepted.Accepted.{Accepted}
+use Rattle.session_base.specs.declared.publication.Publication.{Publication}
 use Rattle.world.specs.master.declared.event.Idle.{Idle}
 use Rattle.script.specs.Scripts.{IsScript, lines_of}
 use Rattle.script.specs.declared.order.Order.{Order}
@@ -11,7 +12,8 @@ use Rattle.world.specs.declared.event.Event.{Event}
 use Rattle.world.specs.Found.{core_named}
 use Rattle.world.specs.Goes.{AreReached, StaysReached, WorldGoesOn}
 use Rattle.world.specs.Happening.{Happens}
-use Rattle.world.specs.Standing.{IsReached, KeepsReached}
+use Rattle.world.specs.Asking.{IsAsked}
+use Rattle.world.specs.Standing.{IsReached, KeepsReached, asked_on}
 use Rattle.world.specs.World.{WorldState}
 use Rattle.world.specs.world_nodes.Agreed.{AgreeOnSoMany}
 use Rattle.play.specs.Events.{asked_in}
@@ -47,6 +49,11 @@ abbrev pub ComesTo : Option Event → WorldState → Result (Unit {0}) Idle → 
 ComesTo None old result new = IsErr result × (new ≡ old)
 ComesTo (Some event) old result new = Happens event old result new
 
+-- what its event asked clients to publish
+abbrev pub IsAskedIn : Option Event → WorldState → Result (Unit {0}) Idle → List (ℕ × Publication) → WorldState → Type 0
+IsAskedIn None old result asked new = asked ≡ []
+IsAskedIn (Some event) old result asked new = IsAsked event old result asked new
+
 -- the line of event `index`: it was idle, or so many messages were sent so far, and so many commands are agreed
 abbrev pub IsLine : ℕ → Result (Unit {0}) Idle → WorldState → List ℕ → Type 0
 IsLine index (Err idle) new line = line ≡ idle_line index
@@ -54,7 +61,7 @@ IsLine index (Ok done) new line =
     (agreed : ℕ) × AgreeOnSoMany new.nodes agreed × (line ≡ done_line index (length new.nodes.sent) agreed)
 
 -- One order: its line, and a line for each publication that a client newly took in. Whatever memory did in it, the nodes did what
--- they may do, and agree as before, and each client stays exact.
+-- they may do, and agree as before, and each client stays exact, by what it was asked to publish.
 pub record Step (clients : List (List ℕ)) (index : ℕ) (order : Order) (old new : WorldState) (lines : List ℕ) : Type 0 where
   pub result : Result (Unit {0}) Idle
   pub comes : ComesTo (asked_in old order) old result new
@@ -63,7 +70,9 @@ pub record Step (clients : List (List ℕ)) (index : ℕ) (order : Order) (old n
   pub whole : lines ≡ line ++ told_lines clients old new
   pub goes : WorldGoesOn old new
   pub reached : StaysReached old.nodes new.nodes
-  pub exact : KeepsReached old new
+  pub asked : List (ℕ × Publication)
+  pub asks : IsAskedIn (asked_in old order) old result asked new
+  pub exact : KeepsReached asked old new
 
 -- ---- the whole
 
@@ -78,6 +87,7 @@ pub record IsTranscript (script : Script) (last : WorldState) (transcript : List
   pub first : WorldState
   pub opened : AreReached script.opening.nodes script.opening.config first.nodes
   pub exact : IsReached script.opening.nodes script.opening.config script.opening.clients.items first
+  pub unasked : asked_on exact ≡ []
   pub whole : first.losses ≡ 0
   pub lines : List ℕ
   pub played : Played script.opening.clients.items first script.orders.items lines last

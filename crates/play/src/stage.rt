@@ -1,10 +1,10 @@
 // A world in which a script is played.
 
-ghost use Rattle.std.specs.Prelude.{◌≡◌, ◌<◌, ◌++◌, ℕ, false, map, IfOk, OnOk, OnErr, IsErrOf};
+ghost use Rattle.std.specs.Prelude.{◌≡◌, ◌<◌, ◌++◌, ℕ, false, [], map, IfOk, OnOk, OnErr, IsErrOf};
 ghost use Rattle.agreement.specs.World.{can_open};
 ghost use Rattle.model.specs.World.{AreApart};
 ghost use Rattle.world.specs.Goes.{AreReached};
-ghost use Rattle.world.specs.Standing.{IsReached};
+ghost use Rattle.world.specs.Standing.{IsReached, asked_on};
 ghost use Rattle.play.specs.Inside.{Appends, AreTold, Comes, Ends, Written, lines_untold, names_of, new_listener, told_at};
 ghost use Rattle.play.specs.Transcripts.{accepted_in, accepted_lines, lines_after};
 
@@ -36,8 +36,9 @@ impl Stage {
     pub(crate) fn new(alloc: Global, opening: Opening) -> Result<Stage, PlayError>
         ensures opened { IfOk result (λ stage.
             AreReached opening.nodes opening.config stage.world.nodes) }
-        ensures exact { AreApart opening.clients.items → IfOk result (λ stage.
-            IsReached opening.nodes opening.config opening.clients.items stage.world) }
+        ensures exact { AreApart opening.clients.items → IfOk result (λ stage. (reached
+            : IsReached opening.nodes opening.config opening.clients.items stage.world)
+            × (asked_on reached ≡ [])) }
         ensures losses { IfOk result (λ stage. stage.world.losses ≡ 0) }
         ensures named { IfOk result (λ stage.
             names_of stage.listeners.items ≡ opening.clients.items) }

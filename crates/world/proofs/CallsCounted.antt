@@ -1,5 +1,5 @@
 -- CallsCounted.antt: a call of a client takes its world where it may go, want of memory is counted, and a refusal changes nothing.
-use Rattle.std.proofs.Common.{◌≡◌, ◌≤◌, ℕ, Bool, true, false, if◌then◌else◌, Some, Result, Ok, Err, IsOk, IsErr, OnErr, slice_get, refl, sym, ◌∙◌, subst}
+use Rattle.std.proofs.Common.{◌≡◌, ◌≤◌, ℕ, Bool, true, false, if◌then◌else◌, [], Some, Result, Ok, Err, IsOk, IsErr, OnErr, slice_get, refl, sym, ◌∙◌, subst}
 use Rattle.std.proofs.lemmas.Bool.{both_ways}
 use Rattle.client_base.specs.declared.error.ClientError.{ClientError}
 use Rattle.client_base.specs.declared.error.ClientError.TheVariants as errors
@@ -36,11 +36,11 @@ idle_call old i client piped result new found same counts =
     record { goes = goes_on_rest old new still; same = on_err result (new ≡ old) still }
 
 pub call_counted : (old : WorldState) (i : ℕ) (client : WorldClient) (piped : Piped) (done : Result Sending ClientError) (result : Result (Unit {0}) Idle) (new : WorldState) →
-    slice_get old.clients i ≡ Some client → CallingFollows client.piped done piped → old.losses ≤ (forgetful old).losses → Counts done (with_piped i client piped old) result new →
+    slice_get old.clients i ≡ Some client → CallingFollows [] client.piped done piped → old.losses ≤ (forgetful old).losses → Counts done (with_piped i client piped old) result new →
     IsCounted old result new
 call_counted old i client piped (Ok sendings.Sent) result new found follows rises counts =
     record {
-      goes = subst (λ w. GoesOn old w) (sym counts.1) (client_goes_on old i client piped found (calling_goes client.piped (Ok sendings.Sent) piped follows));
+      goes = subst (λ w. GoesOn old w) (sym counts.1) (client_goes_on old i client piped found (calling_goes [] client.piped (Ok sendings.Sent) piped follows));
       same = done_no_err result (new ≡ old) counts.0;
     }
 call_counted old i client piped (Ok sendings.Lost) result new found follows rises counts =
@@ -51,7 +51,7 @@ call_counted old i client piped (Ok sendings.Lost) result new found follows rise
 call_counted old i client piped (Err errors.Memory) result new found follows rises counts =
     record {
       goes = subst (λ w. GoesOn old w) (sym counts.1)
-          (client_goes_forgetful old i client piped found (calling_goes client.piped (Err errors.Memory) piped follows) rises);
+          (client_goes_forgetful old i client piped found (calling_goes [] client.piped (Err errors.Memory) piped follows) rises);
       same = done_no_err result (new ≡ old) counts.0;
     }
 call_counted old i client piped (Err errors.NotActive) result new found follows rises counts = idle_call old i client piped result new found follows counts
@@ -71,4 +71,4 @@ hearing_counted old i client piped false new found follows rises is = subst (λ 
 
 -- one that hears nothing stays as it is
 pub stays_all : (old new : Piped) → new ≡ old → FollowsAll old new
-stays_all old new same m s = record { next = m; goes = ClientGoes.stays; stands = subst (λ p. StandsFor p m) (sym same) s }
+stays_all old new same m s = record { next = m; goes = ClientGoes.stays; publishes = refl; stands = subst (λ p. StandsFor p m) (sym same) s }

@@ -1,5 +1,5 @@
 -- CallsMet.antt: a call of a client is done, or it is refused and changes nothing.
-use Rattle.std.proofs.Common.{◌≡◌, ◌⊎◌, inl, inr, ℕ, Bool, true, false, List, Option, Some, None, Result, Ok, Err, IsOk, IsErr, slice_get, refl, sym, ap, ◌∙◌, subst}
+use Rattle.std.proofs.Common.{◌≡◌, ◌⊎◌, inl, inr, ℕ, Bool, true, false, List, [], Option, Some, None, Result, Ok, Err, IsOk, IsErr, slice_get, refl, sym, ap, ◌∙◌, subst}
 use Rattle.std.specs.List.{position}
 use Rattle.std.proofs.lemmas.Bool.{both_ways}
 use Rattle.std.proofs.lemmas.Option.{none-some}
@@ -104,16 +104,16 @@ client_meets name cannot does old at client piped (Err (errors.Malformed kind)) 
 some_cause : (refusal : Option ClientError) (cause : ClientError) → refusal ≡ Some cause → refusal ≡ None → ⊥
 some_cause refusal cause some none = none-some cause (sym none ∙ some)
 
-pub call_outcome : (call : Call) (old : Piped) (done : Result Sending ClientError) (new : Piped) → IsCall call old done new → CallingFollows old done new → Outcome (Refuses call) (Asks call) old done new
-call_outcome call old (Ok sendings.Sent) new calls follows = (λ no. no calls.1.0, calls, (sendings.Sent, calls))
-call_outcome call old (Ok sendings.Lost) new calls follows = (sendings.Lost, calls)
-call_outcome call old (Err errors.Memory) new calls follows = follows
-call_outcome call old (Err errors.NotActive) new calls follows = (some_cause _ errors.NotActive calls.0.0, follows)
-call_outcome call old (Err errors.WindowFull) new calls follows = (some_cause _ errors.WindowFull calls.0.0, follows)
-call_outcome call old (Err errors.TooLarge) new calls follows = (some_cause _ errors.TooLarge calls.0.0, follows)
-call_outcome call old (Err errors.SessionLost) new calls follows = (some_cause _ errors.SessionLost calls.0.0, follows)
-call_outcome call old (Err errors.Protocol) new calls follows = (some_cause _ errors.Protocol calls.0.0, follows)
-call_outcome call old (Err (errors.Malformed kind)) new calls follows = (some_cause _ (errors.Malformed kind) calls.0.0, follows)
+pub call_outcome : (published : List Publication) (call : Call) (old : Piped) (done : Result Sending ClientError) (new : Piped) → IsCall call old done new → CallingFollows published old done new → Outcome (Refuses call) (Asks call) old done new
+call_outcome published call old (Ok sendings.Sent) new calls follows = (λ no. no calls.1.0, calls, (sendings.Sent, calls))
+call_outcome published call old (Ok sendings.Lost) new calls follows = (sendings.Lost, calls)
+call_outcome published call old (Err errors.Memory) new calls follows = follows
+call_outcome published call old (Err errors.NotActive) new calls follows = (some_cause _ errors.NotActive calls.0.0, follows)
+call_outcome published call old (Err errors.WindowFull) new calls follows = (some_cause _ errors.WindowFull calls.0.0, follows)
+call_outcome published call old (Err errors.TooLarge) new calls follows = (some_cause _ errors.TooLarge calls.0.0, follows)
+call_outcome published call old (Err errors.SessionLost) new calls follows = (some_cause _ errors.SessionLost calls.0.0, follows)
+call_outcome published call old (Err errors.Protocol) new calls follows = (some_cause _ errors.Protocol calls.0.0, follows)
+call_outcome published call old (Err (errors.Malformed kind)) new calls follows = (some_cause _ (errors.Malformed kind) calls.0.0, follows)
 
 pub is_call : (call : Call) (old : Piped) (done : Result Sending ClientError) (new : Piped) → Calls (keeper_step call old.core.state) old done new → IsCall call old done new
 is_call call old (Ok sending) new calls = calls
@@ -141,7 +141,7 @@ may_not_leave stages.Closed state cause some = refl
 may_not_leave stages.Opened state cause some = absurd (none-some cause some)
 may_not_leave stages.Online state cause some = absurd (none-some cause some)
 
-pub leave_outcome : (old : Piped) (done : Result Sending ClientError) (new : Piped) → TakesLeave (keeper_step Call.Disconnects old.core.state) old done new → CallingFollows old done new
+pub leave_outcome : (old : Piped) (done : Result Sending ClientError) (new : Piped) → TakesLeave (keeper_step Call.Disconnects old.core.state) old done new → CallingFollows [] old done new
     → Outcome HoldsNone Leaves old done new
 leave_outcome old (Ok sendings.Sent) new leaves follows = (may_leave old.core.state.stage old.core.state leaves.1.0, leaves, (sendings.Sent, leaves))
 leave_outcome old (Ok sendings.Lost) new leaves follows = (sendings.Lost, leaves)

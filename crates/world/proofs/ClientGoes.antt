@@ -1,43 +1,55 @@
 -- ClientGoes.antt: where a client goes, its world does.
-use Rattle.std.proofs.Common.{◌≡◌, ◌≤◌, ℕ, List, Some, set, slice_get, refl, sym, ap, ◌∙◌, subst, arith}
-use Rattle.std.proofs.lemmas.List.{set-set}
+use Rattle.std.proofs.Common.{◌≡◌, ◌≤◌, ℕ, List, [], ◌++◌, Some, set, slice_get, refl, sym, ap, ap₂, ◌∙◌, subst, arith}
+use Rattle.std.proofs.lemmas.List.{append-nil, map-append, set-set}
 use Rattle.lists.proofs.Places.{get_set}
 use Rattle.exact_model.specs.world_model.World.{ClientPipes, World, with_client}
-use Rattle.world_pipes.specs.Following.{FollowsAll, FollowsLosing, after_losing}
-use Rattle.world_pipes.specs.Goes.{ClientGoes}
+use Rattle.exact_model.specs.world_model.Published.{from_client}
+use Rattle.session_base.specs.declared.publication.Publication.{Publication}
+use Rattle.world_pipes.specs.Following.{FollowsAll, FollowsBy, FollowsLosing, after_losing}
+use Rattle.world_pipes.specs.Goes.{ClientGoes, published_along as published_with, published_with as published_with_one}
 use Rattle.world_pipes.specs.Piped.{Piped}
 use Rattle.world_pipes.proofs.StepsInWorlds.{steps_in_worlds}
 use Rattle.world.specs.declared.place.Place.{Place}
 use Rattle.world.specs.declared.world.WorldClient.{WorldClient}
 use Rattle.world.specs.Housed.{AreHoused, leads, leads_of}
-use Rattle.world.specs.Inside.{GoesOn, forgetful}
-use Rattle.world.specs.Standing.{Steps, WorldGoes}
+use Rattle.world.specs.Inside.{GoesOn, GoesOnBy, forgetful}
+use Rattle.world.specs.Standing.{Steps, WorldGoes, WorldGoesBy, published_along}
 use Rattle.world.specs.Standing.Steps.{rests, goes_on}
 use Rattle.world.specs.World.{WorldState}
 use Rattle.world.proofs.ClientsStand.{client_at, stand_set}
-use Rattle.world.proofs.Joined.{world_goes_join, world_stays}
+use Rattle.world.proofs.Joined.{asked_goes_join, world_stays}
 use Rattle.world.proofs.LeadsKept.{housed_set}
 use Rattle.world.proofs.NodesGoOn.{nodes_rest}
 use Rattle.world.proofs.Turned.{set_itself}
 
 -- ---- the model
 
+-- steps to a world of these clients, with what is published
+record StepsBy (asked : List (ℕ × Publication)) (w : World) (cs : List ClientPipes) : Type 0 where
+  pub steps : Steps w (record w { clients = cs })
+  pub asked_is : published_along steps ≡ asked
+
 -- where one client goes, and the place at which it stands then
-record StepsTo (w : World) (i : ℕ) (d : ClientPipes) : Type 0 where
-  pub steps : Steps w (with_client i d w)
+record StepsTo (asked : List Publication) (w : World) (i : ℕ) (d : ClientPipes) : Type 0 where
+  pub by : StepsBy (from_client i asked) w (set w.clients i d)
   pub at : slice_get (with_client i d w).clients i ≡ Some d
 
-steps_to : (w : World) (i : ℕ) {c d : ClientPipes} → slice_get w.clients i ≡ Some c → ClientGoes c d → StepsTo w i d
+steps_to : (w : World) (i : ℕ) {c d : ClientPipes} → slice_get w.clients i ≡ Some c → (goes : ClientGoes c d) → StepsTo (published_with goes) w i d
 steps_to w i {c = c} at ClientGoes.stays =
     record {
-      steps = subst (λ (cs : List ClientPipes). Steps w (record w { clients = cs })) (sym (set_itself w.clients i c at)) rests;
+      by = subst (λ (cs : List ClientPipes). StepsBy [] w cs) (sym (set_itself w.clients i c at)) (record { steps = rests; asked_is = refl });
       at = get_set w.clients i c c at;
     }
 steps_to w i {c = c} at (ClientGoes.goes_on {d = d} {e = e} goes step) =
     let first = steps_to w i at goes in
+    let last = steps_in_worlds (with_client i d w) i d e first.at step in
     record {
-      steps = subst (λ (cs : List ClientPipes). Steps w (record w { clients = cs })) (set-set w.clients i d e)
-          (goes_on first.steps (steps_in_worlds (with_client i d w) i d e first.at step));
+      by = subst (λ (cs : List ClientPipes). StepsBy (from_client i (published_with goes ++ published_with_one step)) w cs) (set-set w.clients i d e)
+          (record {
+            steps = goes_on first.by.steps last.is;
+            asked_is = ap₂ (λ (x y : List (ℕ × Publication)). x ++ y) first.by.asked_is last.published
+                ∙ sym (map-append (λ (p : Publication). (i, p)) (published_with goes) (published_with_one step));
+          });
       at = get_set w.clients i c e at;
     }
 
@@ -47,32 +59,49 @@ steps_to w i {c = c} at (ClientGoes.goes_on {d = d} {e = e} goes step) =
 abbrev pub with_piped : ℕ → WorldClient → Piped → WorldState → WorldState
 with_piped i client piped w = record w { clients = set w.clients i (record client { piped = piped }) }
 
-pub client_goes : (old : WorldState) (i : ℕ) (client : WorldClient) (piped : Piped) → slice_get old.clients i ≡ Some client → FollowsAll client.piped piped →
-    WorldGoes old (with_piped i client piped old)
-client_goes old i client piped found follows nodes config cs m trail s =
+pub client_asked : (asked : List Publication) (old : WorldState) (i : ℕ) (client : WorldClient) (piped : Piped) → slice_get old.clients i ≡ Some client
+    → FollowsBy asked client.piped piped → WorldGoesBy (from_client i asked) old (with_piped i client piped old)
+client_asked asked old i client piped found follows nodes config cs m trail s =
     let a = client_at old.clients m.clients i client s.clients found in
     let f = follows a.c a.stands in
+    let to = (steps_to m i a.at f.goes).by in
     record {
       behind = with_client i f.next m;
-      steps = (steps_to m i a.at f.goes).steps;
+      steps = to.steps;
+      asked_is = to.asked_is ∙ ap (from_client i) f.publishes;
       stands = record { nodes = s.nodes; clients = stand_set old.clients m.clients i (record client { piped = piped }) f.next s.clients f.stands };
     }
 
+pub client_goes : (old : WorldState) (i : ℕ) (client : WorldClient) (piped : Piped) → slice_get old.clients i ≡ Some client → FollowsAll client.piped piped →
+    WorldGoes old (with_piped i client piped old)
+client_goes = client_asked []
+
 -- only clients change, and no count falls
-pub clients_go_on : (old new : WorldState) → new.nodes ≡ old.nodes → old.losses ≤ new.losses → WorldGoes old new → GoesOn old new
-clients_go_on old new nodes rises goes = record { rises = rises; nodes = nodes_rest old.nodes new.nodes nodes; goes = goes }
+pub clients_go_on : (asked : List (ℕ × Publication)) (old new : WorldState) → new.nodes ≡ old.nodes → old.losses ≤ new.losses → WorldGoesBy asked old new → GoesOnBy asked old new
+clients_go_on asked old new nodes rises goes = record { rises = rises; nodes = nodes_rest old.nodes new.nodes nodes; goes = goes }
+
+pub client_asked_on : (asked : List Publication) (old : WorldState) (i : ℕ) (client : WorldClient) (piped : Piped) → slice_get old.clients i ≡ Some client
+    → FollowsBy asked client.piped piped → GoesOnBy (from_client i asked) old (with_piped i client piped old)
+client_asked_on asked old i client piped found follows =
+    clients_go_on (from_client i asked) old (with_piped i client piped old) refl (omega arith) (client_asked asked old i client piped found follows)
 
 pub client_goes_on : (old : WorldState) (i : ℕ) (client : WorldClient) (piped : Piped) → slice_get old.clients i ≡ Some client → FollowsAll client.piped piped →
     GoesOn old (with_piped i client piped old)
-client_goes_on old i client piped found follows =
-    clients_go_on old (with_piped i client piped old) refl (omega arith) (client_goes old i client piped found follows)
+client_goes_on = client_asked_on []
 
 -- it finds no memory, which is counted
+pub client_asked_forgetful : (asked : List Publication) (old : WorldState) (i : ℕ) (client : WorldClient) (piped : Piped) → slice_get old.clients i ≡ Some client
+    → FollowsBy asked client.piped piped → old.losses ≤ (forgetful old).losses → GoesOnBy (from_client i asked) old (forgetful (with_piped i client piped old))
+client_asked_forgetful asked old i client piped found follows rises =
+    let mid = with_piped i client piped old in
+    let all = from_client i asked in
+    clients_go_on all old (forgetful mid) refl rises
+    (subst (λ (l : List (ℕ × Publication)). WorldGoesBy l old (forgetful mid)) (append-nil all)
+    (asked_goes_join all [] old mid (forgetful mid) (client_asked asked old i client piped found follows) (world_stays mid (forgetful mid) refl refl)))
+
 pub client_goes_forgetful : (old : WorldState) (i : ℕ) (client : WorldClient) (piped : Piped) → slice_get old.clients i ≡ Some client → FollowsAll client.piped piped →
     old.losses ≤ (forgetful old).losses → GoesOn old (forgetful (with_piped i client piped old))
-client_goes_forgetful old i client piped found follows rises =
-    let mid = with_piped i client piped old in
-    clients_go_on old (forgetful mid) refl rises (world_goes_join old mid (forgetful mid) (client_goes old i client piped found follows) (world_stays mid (forgetful mid) refl refl))
+client_goes_forgetful = client_asked_forgetful []
 
 -- a client that stays as it is leaves the world as it is
 pub same_piped : (old : WorldState) (i : ℕ) (client : WorldClient) (piped : Piped) → slice_get old.clients i ≡ Some client → piped ≡ client.piped → with_piped i client piped old ≡ old
@@ -88,4 +117,4 @@ housed_still clients connections i client piped found same housed =
 
 -- a client that loses its connection
 pub losing_goes : (old new : Piped) → FollowsLosing old new → FollowsAll old new
-losing_goes old new follows m s = let f = follows m s in record { next = after_losing m; goes = f.1; stands = f.0 }
+losing_goes old new follows m s = let f = follows m s in record { next = after_losing m; goes = f.1; publishes = f.2; stands = f.0 }

@@ -1,5 +1,5 @@
 -- ComesUp.antt: bytes that come to a node are gone from the connection.
-use Rattle.std.proofs.Common.{◌≡◌, ◌-◌, ◌≤◌, ℕ, suc, List, ◌++◌, take, drop, length, slice_get, Some, refl, sym, ap, ◌∙◌, subst, arith}
+use Rattle.std.proofs.Common.{◌≡◌, ◌-◌, ◌≤◌, ℕ, suc, List, [], ◌++◌, take, drop, length, slice_get, Some, refl, sym, ap, ◌∙◌, subst, arith}
 use Rattle.std.proofs.lemmas.List.{take-append-drop, take-append-le, drop-append-le}
 use Rattle.std.proofs.lemmas.Option.{same_Some}
 use Rattle.world_base.specs.declared.item.Item.TheVariants.{Bytes}
@@ -26,7 +26,7 @@ use Rattle.world.proofs.WaysStand.{PipeAt, pipe_at, way_changes}
 
 taken_up : (old : WorldState) (m : World) (s : StandsFor m old) (place : Place) (client : WorldClient) (one : StandsAt m.clients place.client client.piped) (way : Way)
     (x : PipeAt client.piped one.c place.at way) (new : NodesState) (count : ℕ) → count ≤ length way.up
-    → Acts x.p.node (takes (Bytes x.p.port (take count way.up) 0)) old.nodes new → GoesTo m (put_down place.client client (with_less place.at count way client.piped) new old)
+    → Acts x.p.node (takes (Bytes x.p.port (take count way.up) 0)) old.nodes new → GoesTo [] m (put_down place.client client (with_less place.at count way client.piped) new old)
 taken_up old m s place client one way x new count part acts =
     let d = acts m.group s.nodes in
     let has : HasPipe m place.client one.c x.turned.place x.κ x.p = record { client = one.at; connection = x.connection; pipe = x.pipe } in
@@ -38,6 +38,7 @@ taken_up old m s place client one way x new count part acts =
     record {
       behind = with_client place.client (with_pipe x.turned.place q one.c) (record m { group = d.does.behind });
       steps = goes_on rests (comes_up place.client x.turned.place one.c x.κ x.p (take count way.up) (drop count x.p.up) 0 d.does has whole);
+      asked_is = refl;
       stands = record {
         nodes = d.stands;
         clients = stand_set old.clients m.clients place.client (record client { piped = with_less place.at count way client.piped }) (with_pipe x.turned.place q one.c) s.clients
@@ -63,7 +64,7 @@ takes_up old number count place client new later there at t nodes config cs m tr
     let port : (let q : Port = record { 0 = number } in q) ≡ x.p.port = sym l.port ∙ ap (λ (z : Way). z.port) same ∙ sym x.is.port in
     let leads : place.node ≡ suc x.p.node = sym l.node ∙ ap (λ (z : Way). suc z.node) same ∙ ap suc (sym x.is.node) in
     let low : place.node - 1 ≡ x.p.node = omega (arith, leads) in
-    subst (λ (z : Piped). GoesTo m (put_down place.client client z new old)) (sym t.is)
+    subst (λ (z : Piped). GoesTo [] m (put_down place.client client z new old)) (sym t.is)
     (taken_up old m s place client one t.way x new count t.part
     (subst (λ (k : ℕ). Acts k (takes (Bytes x.p.port (take count t.way.up) 0)) old.nodes new) low
     (subst (λ (q : Port). Acts (place.node - 1) (takes (Bytes q (take count t.way.up) 0)) old.nodes new) port t.acts)))

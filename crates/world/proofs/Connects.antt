@@ -85,7 +85,7 @@ connects_goes i node old new housed one nodes config cs m trail s = by node refl
     has : IsKnown true node port one.between
     has = one.reaches.hears.known
 
-    by : (k : ℕ) → node ≡ k → GoesTo m new
+    by : (k : ℕ) → node ≡ k → GoesTo [] m new
     by zero is = absurd (none-some has.core (sym (ap (node_of one.between.nodes) is) ∙ has.stands))
     by (suc n) is =
         let low : node - 1 ≡ n = omega (arith, is) in
@@ -102,6 +102,7 @@ connects_goes i node old new housed one nodes config cs m trail s = by node refl
         record {
           behind = behind;
           steps = goes_on rests step;
+          asked_is = refl;
           stands = record {
             nodes = subst (λ (z : NodesState). NodesStand d.does.behind z) (sym (ap (λ (w : WorldState). w.nodes) one.is)) d.stands;
             clients = subst (λ (l : List WorldClient). ClientsStand l behind.clients) (sym (ap (λ (w : WorldState). w.clients) one.is))

@@ -42,7 +42,7 @@ nodes_go old new (stays stay) = staying_goes old new stay
 nodes_go old new (acts deed apart by) = acts_go deed old new by
 
 pub world_stands : (old : WorldState) (new : NodesState) → NodesStay old.nodes new → WorldGoes old (with_nodes new old)
-world_stands old new stay nodes config cs m trail s = record { behind = m; steps = rests; stands = record { nodes = stay m.group s.nodes; clients = s.clients } }
+world_stands old new stay nodes config cs m trail s = record { behind = m; steps = rests; asked_is = refl; stands = record { nodes = stay m.group s.nodes; clients = s.clients } }
 
 world_goes : (old : WorldState) (new : NodesState) → GoesApart old.nodes new → WorldGoes old (with_nodes new old)
 world_goes old new (stays stay) nodes config cs m trail s = world_stands old new stay nodes config cs m trail s
@@ -51,6 +51,7 @@ world_goes old new (acts deed apart by) nodes config cs m trail s =
     record {
       behind = (let w : World = record m { group = d.does.behind } in w);
       steps = goes_on rests (group_goes deed d.does apart);
+      asked_is = refl;
       stands = record { nodes = d.stands; clients = s.clients };
     }
 

@@ -1,18 +1,21 @@
 -- Joined.antt: steps of worlds, one behind the other.
-use Rattle.std.proofs.Common.{◌≡◌, ◌<◌, ◌≤◌, ◌^◌, ◌-◌, ℕ, List, refl, sym, subst, arith}
+use Rattle.std.proofs.Common.{◌≡◌, ◌<◌, ◌≤◌, ◌^◌, ◌-◌, ℕ, List, [], ◌++◌, refl, sym, ap, ap₂, ◌∙◌, subst, arith, append_assoc}
+use Rattle.std.proofs.lemmas.List.{append-nil}
 use Rattle.ballot.specs.Config.{Config}
 use Rattle.ballot.specs.Losses.{one_more}
 use Rattle.broker_base.specs.Place.{Client}
 use Rattle.exact_model.proofs.WorldsExact.{worlds_are_exact}
 use Rattle.model.specs.World.{AreApart}
+use Rattle.session_base.specs.declared.publication.Publication.{Publication}
 use Rattle.exact_model.specs.world_model.World.{World}
 use Rattle.exact_model.specs.world_model.Goes.{Reached}
 use Rattle.exact_model.specs.world_model.Goes.Reached.{goes_on as reached_more}
+use Rattle.exact_model.specs.world_model.Published.{published_in, published_on}
 use Rattle.world_nodes.specs.Nodes.{NodesState, StandsFor as NodesStand}
 use Rattle.world.specs.Goes.{LosesNothing, WorldGoesOn}
-use Rattle.world.specs.Inside.{GoesOn}
+use Rattle.world.specs.Inside.{GoesOn, GoesOnBy}
 use Rattle.world.specs.declared.world.WorldClient.{WorldClient}
-use Rattle.world.specs.Standing.{ClientsStand, GoesTo, IsReached, KeepsReached, StandsFor, Steps, WorldGoes}
+use Rattle.world.specs.Standing.{ClientsStand, GoesTo, IsReached, KeepsReached, StandsFor, Steps, WorldGoes, WorldGoesBy, asked_on, published_along}
 use Rattle.world.specs.Standing.Steps.{rests, goes_on}
 use Rattle.world.specs.World.{WorldState}
 use Rattle.world.proofs.NodesGoOn.{nodes_go_join, nodes_join, nodes_rest}
@@ -23,9 +26,22 @@ pub steps_join : {m n o : World} → Steps m n → Steps n o → Steps m o
 steps_join one rests = one
 steps_join one (goes_on two step) = goes_on (steps_join one two) step
 
+pub along_join : {m n o : World} (one : Steps m n) (two : Steps n o) → published_along (steps_join one two) ≡ published_along one ++ published_along two
+unfolding steps_join
+along_join one rests = sym (append-nil (published_along one))
+along_join one (goes_on two step) =
+    ap (λ (l : List (ℕ × Publication)). l ++ published_in step) (along_join one two) ∙ append_assoc (published_along one) (published_along two) (published_in step)
+
 pub reached_on : {nodes : ℕ} {config : Config} {cs : List Client} {m n : World} → Reached nodes config cs m → Steps m n → Reached nodes config cs n
 reached_on trail rests = trail
 reached_on trail (goes_on steps step) = reached_more (reached_on trail steps) step
+
+pub reached_asked : {nodes : ℕ} {config : Config} {cs : List Client} {m n : World} (trail : Reached nodes config cs m) (steps : Steps m n)
+    → published_on (reached_on trail steps) ≡ published_on trail ++ published_along steps
+unfolding reached_on
+reached_asked trail rests = sym (append-nil (published_on trail))
+reached_asked trail (goes_on steps step) =
+    ap (λ (l : List (ℕ × Publication)). l ++ published_in step) (reached_asked trail steps) ∙ append_assoc (published_on trail) (published_along steps) (published_in step)
 
 -- ---- worlds in code
 
@@ -38,16 +54,24 @@ stands_as m a b nodes clients s =
     }
 
 pub world_stays : (a b : WorldState) → b.nodes ≡ a.nodes → b.clients ≡ a.clients → WorldGoes a b
-world_stays a b same clients nodes config cs m trail s = record { behind = m; steps = rests; stands = stands_as m a b same clients s }
+world_stays a b same clients nodes config cs m trail s = record { behind = m; steps = rests; asked_is = refl; stands = stands_as m a b same clients s }
 
 pub world_rests : (a b : WorldState) → b ≡ a → WorldGoes a b
-world_rests a b same nodes config cs m trail s = subst (λ (w : WorldState). GoesTo m w) (sym same) (record { behind = m; steps = rests; stands = s })
+world_rests a b same nodes config cs m trail s = subst (λ (w : WorldState). GoesTo [] m w) (sym same) (record { behind = m; steps = rests; asked_is = refl; stands = s })
 
-pub world_goes_join : (a b c : WorldState) → WorldGoes a b → WorldGoes b c → WorldGoes a c
-world_goes_join a b c one two nodes config cs m trail s =
+pub asked_goes_join : (asked later : List (ℕ × Publication)) (a b c : WorldState) → WorldGoesBy asked a b → WorldGoesBy later b c → WorldGoesBy (asked ++ later) a c
+asked_goes_join asked later a b c one two nodes config cs m trail s =
     let first = one nodes config cs m trail s in
     let next = two nodes config cs first.behind (reached_on trail first.steps) first.stands in
-    record { behind = next.behind; steps = steps_join first.steps next.steps; stands = next.stands }
+    record {
+      behind = next.behind;
+      steps = steps_join first.steps next.steps;
+      asked_is = along_join first.steps next.steps ∙ ap₂ (λ (x y : List (ℕ × Publication)). x ++ y) first.asked_is next.asked_is;
+      stands = next.stands;
+    }
+
+pub world_goes_join : (a b c : WorldState) → WorldGoes a b → WorldGoes b c → WorldGoes a c
+world_goes_join a b c one two = asked_goes_join [] [] a b c one two
 
 -- where nothing is lost from end to end, nothing is on the way
 pub worlds_split : (a b c : WorldState) → a.losses ≤ b.losses → b.losses ≤ c.losses → LosesNothing a c → LosesNothing a b × LosesNothing b c
@@ -72,16 +96,26 @@ goes_on_join a b c one two =
     let x = one.rises in let y = two.rises in
     record { rises = omega (arith, x, y); nodes = nodes_join a.nodes b.nodes c.nodes one.nodes two.nodes; goes = world_goes_join a b c one.goes two.goes }
 
+-- nothing is published behind it
+pub goes_on_then : (asked : List (ℕ × Publication)) (a b c : WorldState) → GoesOnBy asked a b → GoesOn b c → GoesOnBy asked a c
+goes_on_then asked a b c one two =
+    let x = one.rises in let y = two.rises in
+    record {
+      rises = omega (arith, x, y);
+      nodes = nodes_join a.nodes b.nodes c.nodes one.nodes two.nodes;
+      goes = subst (λ (l : List (ℕ × Publication)). WorldGoesBy l a c) (append-nil asked) (asked_goes_join asked [] a b c one.goes two.goes);
+    }
+
 pub goes_on_still : (a b : WorldState) → b.nodes ≡ a.nodes → b.clients ≡ a.clients → a.losses ≤ b.losses → GoesOn a b
 goes_on_still a b nodes clients rises = record { rises = rises; nodes = nodes_rest a.nodes b.nodes nodes; goes = world_stays a b nodes clients }
 
 -- ---- whole steps
 
-pub world_goes_on : (old new : WorldState) → GoesOn old new → WorldGoesOn old new
-world_goes_on old new on = record { rises = on.rises; goes = on.nodes.goes }
+pub world_goes_on : (asked : List (ℕ × Publication)) (old new : WorldState) → GoesOnBy asked old new → WorldGoesOn old new
+world_goes_on asked old new on = record { rises = on.rises; goes = on.nodes.goes }
 
 pub world_on_rest : (a b : WorldState) → b ≡ a → WorldGoesOn a b
-world_on_rest a b same = world_goes_on a b (goes_on_rest a b same)
+world_on_rest a b same = world_goes_on [] a b (goes_on_rest a b same)
 
 pub world_on_join : (a b c : WorldState) → WorldGoesOn a b → WorldGoesOn b c → WorldGoesOn a c
 world_on_join a b c one two =
@@ -94,7 +128,14 @@ pub is_reached : (nodes : ℕ) (config : Config) (cs : List Client) (m : World) 
 is_reached nodes config cs m w apart trail stands =
     record { apart = apart; world = m; trail = trail; stands = stands; exact = worlds_are_exact nodes config cs m apart trail }
 
-pub keeps_reached : (old new : WorldState) → WorldGoes old new → KeepsReached old new
-keeps_reached old new goes nodes config cs r =
-    let to = goes nodes config cs r.world r.trail r.stands in
-    is_reached nodes config cs to.behind new r.apart (reached_on r.trail to.steps) to.stands
+pub is_reached_asked : (nodes : ℕ) (config : Config) (cs : List Client) (m : World) (w : WorldState) (apart : AreApart cs) (trail : Reached nodes config cs m) (stands : StandsFor m w)
+    → asked_on (is_reached nodes config cs m w apart trail stands) ≡ published_on trail
+unfolding is_reached
+is_reached_asked nodes config cs m w apart trail stands = refl
+
+pub keeps_reached : (asked : List (ℕ × Publication)) (old new : WorldState) → WorldGoesBy asked old new → KeepsReached asked old new
+keeps_reached asked old new goes nodes config cs r =
+    let to = goes nodes config cs r.world r.trail r.stands in (
+      is_reached nodes config cs to.behind new r.apart (reached_on r.trail to.steps) to.stands,
+      is_reached_asked nodes config cs to.behind new r.apart (reached_on r.trail to.steps) to.stands ∙ reached_asked r.trail to.steps ∙ ap (λ (l : List (ℕ × Publication)). published_on r.trail ++ l) to.asked_is,
+    )

@@ -26,6 +26,7 @@ mod CallsMet
 mod ItemsMet
 mod OneAgreed
 mod AgreedOnlyGrows
+mod AskedSo
 mod CountedOnce
-mod AcceptedShown
+mod PromiseShown
 mod UncountedIsExact

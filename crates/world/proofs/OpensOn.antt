@@ -75,7 +75,7 @@ turned old new node port housed beyond (inr hears) nodes config cs m trail s = b
     has : IsKnown false node port new
     has = hears.known
 
-    by : (k : ℕ) → node ≡ k → GoesTo m (with_nodes new old)
+    by : (k : ℕ) → node ≡ k → GoesTo [] m (with_nodes new old)
     by zero is = absurd (none-some has.core (sym (ap (node_of new.nodes) is) ∙ has.stands))
     by (suc n) is =
         let low : node - 1 ≡ n = omega (arith, is) in
@@ -87,6 +87,7 @@ turned old new node port housed beyond (inr hears) nodes config cs m trail s = b
           behind = (let w : World = record m { group = d.does.behind } in w);
           steps = goes_on rests (is_turned_away n port 0 d.does has.core.core (unused n (length old.connections) port beyond old.clients m.clients s.clients housed.used) stands
               (is_none (listed_at port has.core.core) has.known));
+          asked_is = refl;
           stands = record { nodes = d.stands; clients = s.clients };
         }
 

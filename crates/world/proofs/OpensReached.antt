@@ -17,10 +17,10 @@ use Rattle.world_pipes.specs.Standing.{StandsFor as ClientStands}
 use Rattle.world.specs.declared.world.WorldClient.{WorldClient}
 use Rattle.world.specs.Happening.{new_world_client}
 use Rattle.world.specs.Housed.{AreHoused, leads, leads_of}
-use Rattle.world.specs.Standing.{ClientsStand, IsReached, identifiers}
+use Rattle.world.specs.Standing.{ClientsStand, IsReached, StandsFor, asked_on, identifiers}
 use Rattle.world.specs.World.{WorldState}
 use Rattle.world.proofs.ClientsStand.{client_at}
-use Rattle.world.proofs.Joined.{is_reached}
+use Rattle.world.proofs.Joined.{is_reached, is_reached_asked}
 use Rattle.world.proofs.Turned.{mapped_from}
 use Rattle.world.proofs.WaysStand.{pipe_at}
 
@@ -71,6 +71,7 @@ housed_none clients ids all =
 -- ---- the world
 
 pub opens_reached : (nodes : ℕ) (config : Config) (ids : List Client) (w : WorldState) → can_open nodes config ≡ true → NodesStand (opening_group nodes config) w.nodes
-    → ClientsStand w.clients (map new_client ids) → AreApart ids → IsReached nodes config ids w
+    → ClientsStand w.clients (map new_client ids) → AreApart ids → (reached : IsReached nodes config ids w) × (asked_on reached ≡ [])
 opens_reached nodes config ids w can stands clients apart =
-    is_reached nodes config ids (opening nodes config ids) w apart (begins can) (record { nodes = stands; clients = clients })
+    let so : StandsFor (opening nodes config ids) w = record { nodes = stands; clients = clients } in
+    (is_reached nodes config ids (opening nodes config ids) w apart (begins can) so, is_reached_asked nodes config ids (opening nodes config ids) w apart (begins can) so)

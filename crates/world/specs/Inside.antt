@@ -7,6 +7,7 @@ use Rattle.client_base.specs.declared.error.ClientError.{ClientError}
 use Rattle.client_base.specs.declared.error.ClientError.TheVariants as errors
 use Rattle.master.specs.declared.event.Idle.{Idle}
 use Rattle.exact_model.specs.group_model.Group.{Group}
+use Rattle.session_base.specs.declared.publication.Publication.{Publication}
 use Rattle.world_base.specs.Core.{CountedCore}
 use Rattle.world_base.specs.Handing.{listed_at}
 use Rattle.world_base.specs.declared.Handed.{Handed}
@@ -24,19 +25,30 @@ use Rattle.world_pipes.specs.Piped.{Calls, Connects as Opens, Piped, is_holding}
 use Rattle.world.specs.declared.place.Place.{Place}
 use Rattle.world.specs.declared.event.Event.{Event}
 use Rattle.world.specs.declared.world.WorldClient.{WorldClient}
+use Rattle.world.specs.Asking.{IsAsked}
 use Rattle.world.specs.Found.{place_numbered, port_of, with_down, with_less, with_piped}
 use Rattle.world.specs.Gathering.{AskedWhere, Gathers, Gives, is_more, is_open_at, is_told_open, put_out}
 use Rattle.world.specs.Goes.{NodesGoOn}
 use Rattle.world.specs.Happening.{CannotHappen, Does, HappensLosing, HearsThem, IsNoPart, NoneOpens, next_number}
 use Rattle.world.specs.Housed.{open_from}
-use Rattle.world.specs.Standing.{WorldGoes}
+use Rattle.world.specs.Standing.{WorldGoesBy}
 use Rattle.world.specs.World.{WorldState}
 
--- counts do not fall, and whichever world stood for it goes on
-pub record GoesOn (old new : WorldState) : Type 0 where
+-- counts do not fall, and whichever world stood for it goes on, while its clients publish this
+pub record GoesOnBy (asked : List (ℕ × Publication)) (old new : WorldState) : Type 0 where
   pub rises : old.losses ≤ new.losses
   pub nodes : NodesGoOn old.nodes new.nodes
-  pub goes : WorldGoes old new
+  pub goes : WorldGoesBy asked old new
+
+-- nothing is published
+abbrev pub GoesOn : WorldState → WorldState → Type 0
+GoesOn old new = GoesOnBy [] old new
+
+-- what an event asked was published, and nothing else
+pub record GoesAsked (event : Event) (old : WorldState) (result : Result (Unit {0}) Idle) (new : WorldState) : Type 0 where
+  pub asked : List (ℕ × Publication)
+  pub is : IsAsked event old result asked new
+  pub goes : GoesOnBy asked old new
 
 -- whichever group stands for the nodes before stands for them still
 abbrev pub NodesStay : NodesState → NodesState → Type 0

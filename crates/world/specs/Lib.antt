@@ -6,6 +6,7 @@ pub mod Inside
 pub mod Found
 pub mod Gathering
 pub mod Happening
+pub mod Asking
 pub mod Laws
 pub use Rattle.client.specs as client
 pub use Rattle.master.specs as master

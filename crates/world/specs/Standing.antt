@@ -1,21 +1,15 @@
 -- Which worlds of the model a world in code stands for, and how these go on.
-use Rattle.std.specs.Prelude.{◌≡◌, ℕ, false, List, [], ◌∷◌, ◌++◌, map}
-use Rattle.lists.specs.Lists.{Each}
+use Rattle.std.specs.Prelude.{◌≡◌, ℕ, List, [], ◌∷◌, ◌++◌, map}
 use Rattle.ballot.specs.Config.{Config}
-use Rattle.broker_base.specs.Command.{Command}
-use Rattle.broker_base.specs.Commands.{past_of, usual_limits}
-use Rattle.broker_base.specs.Entries.{Entry}
 use Rattle.broker_base.specs.Place.{Client}
-use Rattle.broker_base.specs.Readings.{publication_in}
-use Rattle.broker_base.specs.Times.{entries_of}
-use Rattle.client.specs.Core.{Core}
-use Rattle.story.specs.Headline.{is_released, two_entries}
 use Rattle.model.specs.World.{AreApart}
+use Rattle.session_base.specs.declared.publication.Publication.{Publication}
 use Rattle.exact_model.specs.Exact.{IsExact}
 use Rattle.exact_model.specs.world_model.World.{ClientPipes, World}
 use Rattle.exact_model.specs.world_model.Goes.{Reached, WorldStep}
+use Rattle.exact_model.specs.world_model.Published.{published_in, published_on}
 use Rattle.world_nodes.specs.Nodes.{StandsFor as NodesStand}
-use Rattle.world_pipes.specs.Standing.{StandsFor as ClientStands, accepted_once}
+use Rattle.world_pipes.specs.Standing.{StandsFor as ClientStands}
 use Rattle.world.specs.World.{WorldState}
 use Rattle.world.specs.declared.world.WorldClient.{WorldClient}
 
@@ -38,15 +32,26 @@ pub data Steps (m : World) : World → Type 0 where
   rests : Steps m m
   goes_on : {n o : World} → Steps m n → WorldStep n o → Steps m o
 
--- a world goes on so, and then the world in code stands for it
-pub record GoesTo (m : World) (new : WorldState) : Type 0 where
+-- what clients publish with them, the oldest first
+abbrev pub published_along : {m n : World} → Steps m n → List (ℕ × Publication)
+published_along rests = []
+published_along (goes_on steps step) = published_along steps ++ published_in step
+
+-- a world goes on so, its clients publish this on the way, and then the world in code stands for it
+pub record GoesTo (asked : List (ℕ × Publication)) (m : World) (new : WorldState) : Type 0 where
   pub behind : World
   pub steps : Steps m behind
+  pub asked_is : published_along steps ≡ asked
   pub stands : StandsFor behind new
 
 -- whichever world that can be reached stood for it before
+abbrev pub WorldGoesBy : List (ℕ × Publication) → WorldState → WorldState → Type 0
+WorldGoesBy asked old new =
+    (nodes : ℕ) (config : Config) (cs : List Client) (m : World) → Reached nodes config cs m → StandsFor m old → GoesTo asked m new
+
+-- nothing is published
 abbrev pub WorldGoes : WorldState → WorldState → Type 0
-WorldGoes old new = (nodes : ℕ) (config : Config) (cs : List Client) (m : World) → Reached nodes config cs m → StandsFor m old → GoesTo m new
+WorldGoes old new = WorldGoesBy [] old new
 
 -- ---- what is promised of it
 
@@ -59,19 +64,16 @@ pub record IsReached (nodes : ℕ) (config : Config) (cs : List Client) (w : Wor
   pub stands : StandsFor world w
   pub exact : IsExact trail
 
--- a world that is reached still is behind it
-abbrev pub KeepsReached : WorldState → WorldState → Type 0
-KeepsReached old new = (nodes : ℕ) (config : Config) (cs : List Client) → IsReached nodes config cs old → IsReached nodes config cs new
+-- what its clients published on the way to it: with each publication the place of its client
+abbrev pub asked_on : {nodes : ℕ} {config : Config} {cs : List Client} {w : WorldState} → IsReached nodes config cs w → List (ℕ × Publication)
+asked_on reached = published_on reached.trail
+
+-- a world that is reached still is after it, and this was published since
+abbrev pub KeepsReached : List (ℕ × Publication) → WorldState → WorldState → Type 0
+KeepsReached asked old new =
+    (nodes : ℕ) (config : Config) (cs : List Client) (before : IsReached nodes config cs old) →
+    (after : IsReached nodes config cs new) × (asked_on after ≡ asked_on before ++ asked)
 
 -- the identifiers of clients, in their order
 abbrev pub identifiers : List WorldClient → List Client
 identifiers clients = map (λ (c : WorldClient). c.name) clients
-
--- What a client shows as accepted at QoS 2 is a beginning of its QoS 2 entries in this list: `old`, in order, each once. No entry
--- after it is released.
-pub record AcceptsInOrder (agreed : List Command) (core : Core) : Type 0 where
-  pub old : List Entry
-  pub new : List Entry
-  pub entries : two_entries (entries_of usual_limits (past_of usual_limits agreed) core.state.client) ≡ old ++ new
-  pub accepted : accepted_once core.state.accepted ≡ map publication_in old
-  pub rest : Each (λ (entry : Entry). is_released entry ≡ false) new

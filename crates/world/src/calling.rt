@@ -1,6 +1,6 @@
 // What clients do in a world.
 
-ghost use Rattle.std.specs.Prelude.{◌≡◌, ◌<◌, if◌then◌else◌, true, false, length, slice_get, IfSome};
+ghost use Rattle.std.specs.Prelude.{◌≡◌, ◌<◌, if◌then◌else◌, true, false, [], ◌∷◌, length, slice_get, IfSome};
 ghost use Rattle.client_base.specs.Steps.{Call, keeper_step};
 ghost use Rattle.world_nodes.specs.Goes.{node_of};
 ghost use Rattle.world_pipes.specs.Following.{CallingFollows, FollowsAll};
@@ -8,7 +8,7 @@ ghost use Rattle.world_pipes.specs.Piped.{TakesLeave, is_holding, taken_back};
 ghost use Rattle.world.specs.Goes.{CountsOnce, NodesGoOn};
 ghost use Rattle.world.specs.Happening.{Loses, is_serving};
 ghost use Rattle.world.specs.Housed.{leads};
-ghost use Rattle.world.specs.Inside.{Begins, ConnectsAt, Counts, GoesOn, HearsOfOne, IsCall, MayOpenNone, Meets, Reaches};
+ghost use Rattle.world.specs.Inside.{Begins, ConnectsAt, Counts, GoesAsked, GoesOn, HearsOfOne, IsCall, MayOpenNone, Meets, Reaches};
 
 use crate::event::Event;
 use crate::place::Place;
@@ -125,7 +125,8 @@ impl World {
         client: &ClientId,
         publication: &Publication,
     ) -> Result<(), Idle>
-        ensures goes { GoesOn self.old self.new }
+        ensures asked { GoesAsked (Event.Publish client.now publication.now)
+            self.old result self.new }
         ensures meets { Meets (Event.Publish client.now publication.now)
             self.old result self.new }
         ensures once { CountsOnce self.old self.new }
@@ -250,7 +251,7 @@ fn lose(piped: &mut PipedClient)
 fn leave(piped: &mut PipedClient) -> Result<Sending, ClientError>
     ensures leaves { TakesLeave (keeper_step Call.Disconnects piped.old.core.state)
         piped.old result piped.new }
-    ensures goes { CallingFollows piped.old result piped.new }
+    ensures goes { CallingFollows [] piped.old result piped.new }
     ensures leads { leads piped.new.ways ≡ leads piped.old.ways }
 {
     piped.disconnect()
@@ -259,7 +260,7 @@ fn leave(piped: &mut PipedClient) -> Result<Sending, ClientError>
 // A client publishes a copy.
 fn publish_copy(piped: &mut PipedClient, publication: &Publication) -> Result<Sending, ClientError>
     ensures calls { IsCall (Call.Publishes publication.now) piped.old result piped.new }
-    ensures goes { CallingFollows piped.old result piped.new }
+    ensures goes { CallingFollows (publication.now ∷ []) piped.old result piped.new }
     ensures leads { leads piped.new.ways ≡ leads piped.old.ways }
 {
     let copied = publication.clone()?;
@@ -274,7 +275,7 @@ fn subscribe_copy(
     qos: QoS,
 ) -> Result<Sending, ClientError>
     ensures calls { IsCall (Call.Subscribes filter.now qos) piped.old result piped.new }
-    ensures goes { CallingFollows piped.old result piped.new }
+    ensures goes { CallingFollows [] piped.old result piped.new }
     ensures leads { leads piped.new.ways ≡ leads piped.old.ways }
 {
     let copied = filter.clone()?;
@@ -284,7 +285,7 @@ fn subscribe_copy(
 // A client gives up a copy of a filter.
 fn unsubscribe_copy(piped: &mut PipedClient, filter: &Filter) -> Result<Sending, ClientError>
     ensures calls { IsCall (Call.Unsubscribes filter.now) piped.old result piped.new }
-    ensures goes { CallingFollows piped.old result piped.new }
+    ensures goes { CallingFollows [] piped.old result piped.new }
     ensures leads { leads piped.new.ways ≡ leads piped.old.ways }
 {
     let copied = filter.clone()?;

@@ -7,7 +7,9 @@ ghost use Rattle.broker_base.specs.Place.{Client};
 ghost use Rattle.world_nodes.specs.Agreed.{AgreeOn, AgreeOnSoMany};
 ghost use Rattle.world.specs.Found.{core_named, is_named, place_numbered, way_of};
 ghost use Rattle.world.specs.Goes.{AreReached};
-ghost use Rattle.world.specs.Standing.{AcceptsInOrder, IsReached};
+ghost use Rattle.exact_model.specs.Promise.{Promise};
+ghost use Rattle.exact_model.specs.world_model.Published.{published_of, published_on};
+ghost use Rattle.world.specs.Standing.{IsReached};
 
 use crate::place::Place;
 use crate::world::{World, WorldClient};
@@ -58,10 +60,11 @@ impl World {
             (λ core. core_named client.now self.now.clients ≡ Some core.now) }
         ensures none { result ≡ None → core_named client.now self.now.clients ≡ None }
 
-        // What it shows as accepted at QoS 2 is in order, by the list on which the nodes agree.
-        ensures accepted { (nodes : ℕ) (config : Config) (clients : List Client)
-            (reached : IsReached nodes config clients self.now) →
-            IfSome result (λ core. AcceptsInOrder reached.exact.agreed core.now) }
+        // What it shows is as promised, by what it was asked to publish and the list on which the nodes agree.
+        ensures promised { (nodes : ℕ) (config : Config) (clients : List Client)
+            (reached : IsReached nodes config clients self.now) (at : ℕ) →
+            position (is_named client.now) self.now.clients ≡ Some at → IfSome result (λ core.
+            Promise (published_of at (published_on reached.trail)) reached.exact.agreed core.now.state) }
     {
         let at = self.place_of(client)?;
         let found = self.clients.get(at)?;

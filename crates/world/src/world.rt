@@ -1,15 +1,17 @@
 // A world.
 
-ghost use Rattle.std.specs.Prelude.{◌≡◌, ◌≤◌, ◌<◌, ◌^◌, ◌-◌, ◌↔◌, true, false, Some, length, map, slice_get, IfOk, IfSome, IsErrOf, OnErr};
+ghost use Rattle.std.specs.Prelude.{ℕ, List, [], ◌≡◌, ◌≤◌, ◌<◌, ◌^◌, ◌-◌, ◌↔◌, true, false, Some, length, map, slice_get, IfOk, IfSome, IsErrOf, OnErr};
+ghost use Rattle.session_base.specs.declared.publication.Publication.{Publication};
 ghost use Rattle.agreement.specs.World.{can_open};
 ghost use Rattle.ballot.specs.Losses.{one_more};
 ghost use Rattle.model.specs.World.{AreApart};
 ghost use Rattle.exact_model.specs.world_model.World.{new_client};
 ghost use Rattle.world_pipes.specs.Standing.{StandsFor};
 ghost use Rattle.world.specs.Goes.{AgreedGrows, AreReached, CountsOnce, StaysReached, WorldGoesOn};
+ghost use Rattle.world.specs.Asking.{IsAsked, RunAsks};
 ghost use Rattle.world.specs.Happening.{Happens, Opens, Run, new_world_client};
-ghost use Rattle.world.specs.Inside.{GoesOn, IsCounted, Meets};
-ghost use Rattle.world.specs.Standing.{ClientsStand, IsReached, KeepsReached, WorldGoes, identifiers};
+ghost use Rattle.world.specs.Inside.{GoesAsked, IsCounted, Meets};
+ghost use Rattle.world.specs.Standing.{ClientsStand, IsReached, KeepsReached, WorldGoesBy, asked_on, identifiers};
 
 use crate::event::Event;
 use crate::place::Place;
@@ -72,9 +74,9 @@ impl World {
         config: Config,
         clients: &[ClientId],
     ) -> Result<World, OpeningError>
-        // Where each client has an identifier of its own, each is exact.
-        ensures exact { AreApart clients.now →
-            IfOk result (λ world. IsReached nodes config clients.now world) }
+        // Where each client has an identifier of its own, each is exact; none was asked to publish.
+        ensures exact { AreApart clients.now → IfOk result
+            (λ world. (reached : IsReached nodes config clients.now world) × (asked_on reached ≡ [])) }
         ensures clients { IfOk result (λ world. identifiers world.clients ≡ clients.now) }
         ensures opens { IfOk result (λ world. Opens nodes config clients.now world) }
         // The nodes agree.
@@ -99,8 +101,9 @@ impl World {
     pub fn step(&mut self, event: &Event) -> Result<(), Idle>
         // Whatever led up to here, and whatever memory did, each client is exact behind the event:
         // the world goes by steps of the model, some of them perhaps with losses.
-        ensures exact { KeepsReached self.old self.new }
-        ensures steps { WorldGoes self.old self.new }
+        // Of publications, its clients are asked just what the event asks.
+        ensures exact { (asked : List (ℕ × Publication)) × IsAsked event.now self.old result asked self.new
+            × WorldGoesBy asked self.old self.new × KeepsReached asked self.old self.new }
         // Its nodes go on as a group, and agree behind the event.
         ensures goes { WorldGoesOn self.old self.new }
         ensures reached { StaysReached self.old.nodes self.new.nodes }
@@ -123,8 +126,9 @@ impl World {
     /// Lets events happen one after the other. Idle ones are passed over.
     pub fn run(&mut self, events: &[Event])
         // Whatever led up to here, and whatever memory did, each client is exact behind the events.
-        ensures exact { KeepsReached self.old self.new }
-        ensures steps { WorldGoes self.old self.new }
+        // Of publications, its clients are asked just what the events ask, in their order.
+        ensures exact { (asked : List (ℕ × Publication)) × RunAsks events.now self.old asked self.new
+            × WorldGoesBy asked self.old self.new × KeepsReached asked self.old self.new }
         // Its nodes go on as a group, and agree behind them.
         ensures goes { WorldGoesOn self.old self.new }
         ensures reached { StaysReached self.old.nodes self.new.nodes }
@@ -192,7 +196,7 @@ impl World {
     }
 
     fn happen(&mut self, event: &Event) -> Result<(), Idle>
-        ensures goes { GoesOn self.old self.new }
+        ensures asked { GoesAsked event.now self.old result self.new }
         ensures meets { Meets event.now self.old result self.new }
         ensures once { CountsOnce self.old self.new }
     {

@@ -10,9 +10,11 @@ use Rattle.client_base.specs.History as history
 use Rattle.client_base.specs.Written.{writes, writes_first}
 use Rattle.client.specs.Core.{AppendsAll, Core, gone}
 use Rattle.world_model.specs.node_model.Puts.{spelled}
+use Rattle.session_base.specs.declared.publication.Publication.{Publication}
 use Rattle.story.specs.Sides.{Connection}
 use Rattle.world_model.specs.World.{ClientPipes, Pipe, after_writing, newly_written, sent_up}
 use Rattle.world_model.specs.Goes.{CanBeSpelled}
+use Rattle.world_model.specs.Published.{published_by}
 use Rattle.world_model.proofs.OnTheWay.{newly_is}
 use Rattle.world_pipes.specs.declared.sending.Sending.{Sending}
 use Rattle.world_pipes.specs.declared.sending.Sending.TheVariants as sendings
@@ -27,7 +29,7 @@ use Rattle.world_pipes.proofs.HearingFollows.{IsLeft, finished, left_lost, way_u
 use Rattle.world_pipes.proofs.ModelsCalls.{IsCalled}
 use Rattle.world_pipes.proofs.PacketsHandled.{appended}
 use Rattle.world_pipes.proofs.Spellable.{AllSpelled}
-use Rattle.world_pipes.proofs.Ways.{last_same, losing, newest_way}
+use Rattle.world_pipes.proofs.Ways.{last_same, losing, losing_silent, newest_way}
 
 -- ---- what was written, on the connection that is held
 
@@ -103,36 +105,40 @@ lost_stands turn core older way m c h =
 -- ---- what a call needs
 
 -- what a call of the model's client and of this are to each other
-pub record HasCall (turn : Turn) (old : Piped) (core : Core) : Type 0 where
+pub record HasCall (published : List Publication) (turn : Turn) (old : Piped) (core : Core) : Type 0 where
   pub state : core.state ≡ turn.state
   pub appends : AppendsAll old.core.out core.out turn.writes
   pub unread : is_open core.state.stage ≡ true → core.unread ≡ old.core.unread
   pub fits : CanGoOut old.core.state → AllSpelled turn
   pub accepts_none : turn.state.accepted ≡ old.core.state.accepted
-  pub too : (m : ClientPipes) → history.StandsFor m.keeper old.core.state → old.core.state.keep_alive ≡ 0 → IsCalled turn m
+  pub too : (m : ClientPipes) → history.StandsFor m.keeper old.core.state → old.core.state.keep_alive ≡ 0 → (c : IsCalled turn m) × (published_by c.call ≡ published)
 
 -- a call of a client that holds a connection
-pub up_follows : (turn : Turn) (old : Piped) (core : Core) (sending : Sending) (new : Piped) → is_holding old ≡ true → HasCall turn old core →
-    GoesUp core old.ways sending new → CallingFollows old (Ok sending) new
-up_follows turn old core sendings.Sent new up has (older, way, splits, is) = λ m s.
-    let c = has.too m s.keeper s.fits.keep_alive in
+pub up_follows : (published : List Publication) (turn : Turn) (old : Piped) (core : Core) (sending : Sending) (new : Piped) → is_holding old ≡ true → HasCall published turn old core →
+    GoesUp core old.ways sending new → CallingFollows published old (Ok sending) new
+up_follows published turn old core sendings.Sent new up has (older, way, splits, is) = λ m s.
+    let called = has.too m s.keeper s.fits.keep_alive in
+    let c = called.0 in
     let h = has_called turn old core older way m c s up splits (has.fits s.fits) has.state has.appends has.unread has.accepts_none in
     record {
       story = record { past = []; connections = c.connections; keeper = c.keeper };
       call = c.call;
       is_one = c.is_one;
+      publishes = called.1;
       spelled = h.spelled;
       stands = subst (λ p. StandsFor p (after_writing c.keeper c.connections m)) (sym is) (sent_stands turn core older way m c h);
     }
-up_follows turn old core sendings.Lost new up has is = λ m s.
+up_follows published turn old core sendings.Lost new up has is = λ m s.
     let held = s.held up in
-    let c = has.too m s.keeper s.fits.keep_alive in
+    let called = has.too m s.keeper s.fits.keep_alive in
+    let c = called.0 in
     let m₁ = after_writing c.keeper c.connections m in
     let h = has_called turn old core held.older held.way m c s up held.ways (has.fits s.fits) has.state has.appends has.unread has.accepts_none in
     let step : ClientStep m m₁ = ClientStep.calls (record { past = []; connections = c.connections; keeper = c.keeper }) c.call c.is_one h.spelled in
     record {
       next = after_losing m₁;
       goes = ClientGoes.goes_on (ClientGoes.goes_on ClientGoes.stays step) (losing m₁);
+      publishes = ap (λ l. published_by c.call ++ l) (losing_silent m₁) ∙ append-nil (published_by c.call) ∙ called.1;
       stands = subst (λ p. StandsFor p (after_losing m₁)) (sym (is ∙ ap (λ l. broken core l) held.ways))
           (lost_stands turn core held.older held.way m c h);
     }

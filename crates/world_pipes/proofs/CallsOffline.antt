@@ -80,10 +80,11 @@ same_accepted : (more : List Written) (connections : List Connection) → accept
 same_accepted more [] = refl
 same_accepted more (κ ∷ others) = refl
 
-idle_follows : (turn : Turn) (old : Piped) (core : Core) (new : Piped) → is_holding old ≡ false → turn.state.stage ≡ old.core.state.stage → turn.writes ≡ [] →
-    HasCall turn old core → new ≡ piped core old.ways → CallingFollows old (Ok sendings.Sent) new
-idle_follows turn old core new closed stays none has is = λ m s.
-    let c = has.too m s.keeper s.fits.keep_alive in
+idle_follows : (published : List Publication) (turn : Turn) (old : Piped) (core : Core) (new : Piped) → is_holding old ≡ false → turn.state.stage ≡ old.core.state.stage → turn.writes ≡ [] →
+    HasCall published turn old core → new ≡ piped core old.ways → CallingFollows published old (Ok sendings.Sent) new
+idle_follows published turn old core new closed stays none has is = λ m s.
+    let called = has.too m s.keeper s.fits.keep_alive in
+    let c = called.0 in
     let newly : newly_written m.connections c.connections ≡ [] =
     ap (λ l. newly_written m.connections l) c.on_first ∙ newly_none c.more m.connections (c.writes ∙ none) in
     let same : sent_up (newly_written m.connections c.connections) m.pipes ≡ m.pipes = ap (λ l. sent_up l m.pipes) newly ∙ none_sent m.pipes in
@@ -92,6 +93,7 @@ idle_follows turn old core new closed stays none has is = λ m s.
       story = record { past = []; connections = c.connections; keeper = c.keeper };
       call = c.call;
       is_one = c.is_one;
+      publishes = called.1;
       spelled = subst (Each IsPacket) (sym newly) tt;
       stands = subst (λ p. StandsFor p (after_writing c.keeper c.connections m)) (sym is)
           (record {
@@ -107,9 +109,9 @@ idle_follows turn old core new closed stays none has is = λ m s.
 
 -- ---- a call, whether a connection is held or not
 
-pub call_follows : (turn : Turn) (old : Piped) (core : Core) (new : Piped) (up : Bool) → is_holding old ≡ up → turn.state.stage ≡ old.core.state.stage →
-    (is_holding old ≡ false → turn.writes ≡ []) → HasCall turn old core → (sending : Sending) → GoesUpWhere up core old.ways sending new →
-    CallingFollows old (Ok sending) new
-call_follows turn old core new true held stays none has sending goes = up_follows turn old core sending new held has goes
-call_follows turn old core new false held stays none has sending goes =
-    subst (λ sending. CallingFollows old (Ok sending) new) (sym goes.0) (idle_follows turn old core new held stays (none held) has goes.1)
+pub call_follows : (published : List Publication) (turn : Turn) (old : Piped) (core : Core) (new : Piped) (up : Bool) → is_holding old ≡ up → turn.state.stage ≡ old.core.state.stage →
+    (is_holding old ≡ false → turn.writes ≡ []) → HasCall published turn old core → (sending : Sending) → GoesUpWhere up core old.ways sending new →
+    CallingFollows published old (Ok sending) new
+call_follows published turn old core new true held stays none has sending goes = up_follows published turn old core sending new held has goes
+call_follows published turn old core new false held stays none has sending goes =
+    subst (λ sending. CallingFollows published old (Ok sending) new) (sym goes.0) (idle_follows published turn old core new held stays (none held) has goes.1)

@@ -134,6 +134,6 @@ connecting_follows node port old new (Ok done) closed (core, opens, is) = λ m x
   connect_is_packet m.keeper.client (subst (λ c. IsTrue (is_client c)) s.keeper.client s.fits.client),
 )
 connecting_follows node port old new (Err cause) closed (memory, ways, inl same) = λ m s.
-    record { next = m; goes = ClientGoes.stays; stands = subst (λ p. StandsFor p m) (sym (ap₂ piped same ways)) s }
+    record { next = m; goes = ClientGoes.stays; publishes = refl; stands = subst (λ p. StandsFor p m) (sym (ap₂ piped same ways)) s }
 connecting_follows node port old new (Err cause) closed (memory, ways, inr (core, opens, lost)) =
     subst (λ p. FollowsAll old p) (sym (ap₂ piped lost ways)) (opened_and_lost old core opens.0)

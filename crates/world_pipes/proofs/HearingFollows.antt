@@ -1,5 +1,5 @@
 -- HearingFollows.antt: what comes to a client takes it where the model's may go.
-use Rattle.std.proofs.Common.{◌≡◌, ℕ, suc, true, false, ◌⊎◌, inl, inr, List, [], ◌∷◌, ◌++◌, length, take, drop, reverse, set, slice_get, Result, Ok, Err, refl, ap, sym, subst, ◌∙◌, arith}
+use Rattle.std.proofs.Common.{◌≡◌, ℕ, suc, true, false, ◌⊎◌, inl, inr, List, [], ◌∷◌, ◌++◌, length, take, drop, reverse, set, slice_get, Result, Ok, Err, refl, ap, ap₂, sym, subst, ◌∙◌, arith, append_assoc}
 use Rattle.std.proofs.lemmas.Bool.{both_ways}
 use Rattle.std.proofs.lemmas.List.{append-nil, take-append-drop}
 use Rattle.cutter.specs.Stream.{Stream}
@@ -16,13 +16,13 @@ use Rattle.story.specs.Sides.{Connection}
 use Rattle.world_model.specs.World.{ClientPipes, Pipe, with_pipe}
 use Rattle.world_pipes.specs.declared.way.Way.{Way}
 use Rattle.world_pipes.specs.Following.{Follows, HearingFollows, after_losing}
-use Rattle.world_pipes.specs.Goes.{ClientGoes, ClientStep}
+use Rattle.world_pipes.specs.Goes.{ClientGoes, ClientStep, published_along, published_with}
 use Rattle.world_pipes.specs.Piped.{Hears, Piped, broken, come_down, piped, sent_up}
 use Rattle.story.specs.Headline.{accepted_on}
 use Rattle.world_pipes.specs.Standing.{AreWays, CanGoOut, IsWay, StandsFor, accepted_once}
 use Rattle.world_pipes.proofs.PacketsHandled.{GoFar, IsInMidst, all_go, one_goes}
 use Rattle.world_pipes.proofs.StaysOpen.{handled_stays}
-use Rattle.world_pipes.proofs.Ways.{last_same, losing, lost_fits, newest_way, same_pipes, with_newest}
+use Rattle.world_pipes.proofs.Ways.{last_same, losing, losing_silent, lost_fits, newest_way, same_pipes, with_newest}
 
 -- ---- behind a piece
 
@@ -42,6 +42,7 @@ pub record IsLeft (before : List ℕ) (core : Core) (m : ClientPipes) (others : 
 record Leaves (before : List ℕ) (core : Core) (m : ClientPipes) (others : List Connection) (p₀ : Pipe) (further : List Pipe) : Type 0 where
   pub last : ClientPipes
   pub steps : ClientGoes m last
+  pub silent : published_along steps ≡ []
   pub left : IsLeft before core last others p₀ further
 
 left_so : (before : List ℕ) (core : Core) (m : ClientPipes) (others : List Connection) (p₀ : Pipe) (further : List Pipe) →
@@ -82,6 +83,7 @@ lose before core new m others p₀ further is l =
     record {
       last = after_losing l.last;
       steps = ClientGoes.goes_on l.steps (losing l.last);
+      silent = ap₂ (λ a b. a ++ b) l.silent (losing_silent l.last);
       left = subst (λ c. IsLeft before c (after_losing l.last) others p₀ further) (sym is) (left_lost before core l.last others p₀ further l.left);
     }
 
@@ -90,13 +92,13 @@ ends : (before : List ℕ) (last new : Core) (m : ClientPipes) (others : List Co
 ends before last new m others p₀ further read up far end = by read end
   where
     kept : Leaves before last m others p₀ further
-    kept = record { last = far.last; steps = far.steps; left = left_so before last far.last others p₀ further far.stands }
+    kept = record { last = far.last; steps = far.steps; silent = far.silent; left = left_so before last far.last others p₀ further far.stands }
 
     by : (read : Result (Unit {0}) ClientError) → EndsWith last read new → Leaves before new m others p₀ further
     by (Ok done) end = subst (λ c. Leaves before c m others p₀ further) (sym end.1) kept
     by (Err errors.SessionLost) end =
         let one = one_goes before last end.1 new far.last others p₀ further end.0 up far.stands end.2 end.4 in
-        record { last = one.next; steps = ClientGoes.goes_on far.steps one.step; left = left_so before new one.next others p₀ further one.stands }
+        record { last = one.next; steps = ClientGoes.goes_on far.steps one.step; silent = ap₂ (λ a b. a ++ b) far.silent one.silent; left = left_so before new one.next others p₀ further one.stands }
     by (Err errors.Memory) end = lose before last new m others p₀ further end kept
     by (Err errors.NotActive) end = lose before last new m others p₀ further end.1 kept
     by (Err errors.WindowFull) end = lose before last new m others p₀ further end.1 kept
@@ -160,6 +162,16 @@ first_then : {c d e : ClientPipes} → ClientStep c d → ClientGoes d e → Cli
 first_then step ClientGoes.stays = ClientGoes.goes_on ClientGoes.stays step
 first_then step (ClientGoes.goes_on goes later) = ClientGoes.goes_on (first_then step goes) later
 
+then_along : {c d e : ClientPipes} (step : ClientStep c d) (goes : ClientGoes d e) → published_along (first_then step goes) ≡ published_with step ++ published_along goes
+unfolding first_then
+then_along step ClientGoes.stays = sym (append-nil (published_with step))
+then_along step (ClientGoes.goes_on goes later) =
+    ap (λ a. a ++ published_with later) (then_along step goes) ∙ append_assoc (published_with step) (published_along goes) (published_with later)
+
+-- where no step publishes anything
+then_silent : {c d e : ClientPipes} (step : ClientStep c d) (goes : ClientGoes d e) → published_with step ≡ [] → published_along goes ≡ [] → published_along (first_then step goes) ≡ []
+then_silent step goes silent none = then_along step goes ∙ ap₂ (λ a b. a ++ b) silent none
+
 pub hearing_follows : HearingFollows
 hearing_follows count old new result m s up h =
     let held = s.held up in
@@ -193,28 +205,30 @@ hearing_follows count old new result m s up h =
     let r = has_read piece old.core.state.stage old.core h.core h.read up h.heard in
     let l = ends h.way.up r.last h.core m₁ others p₁ further h.read (handled_stays (fed piece old.core) r.last r.handled up)
     (all_go h.way.up (fed piece old.core) r.last m₁ others p₁ further up start r.handled) r.ends in
-    shown count old new result m h others further p₁ m₁ many ways.1 ways.0.node ways.0.port refl coming l h.goes_up
+    shown count old new result m h others further p₁ m₁ many ways.1 ways.0.node ways.0.port refl coming refl l h.goes_up
   where
     shown : (count : ℕ) (old new : Piped) (result : Result (Unit {0}) ClientError) (m : ClientPipes) (h : Hears count old result new) (others : List Connection)
         (further : List Pipe) (p₁ : Pipe) (m₁ : ClientPipes) → length others ≡ length further → AreWays (reverse h.older) further → p₁.node ≡ h.way.node →
-        p₁.port ≡ h.way.port → p₁.down ≡ drop count h.way.down → ClientStep m m₁ → Leaves h.way.up h.core m₁ others p₁ further →
+        p₁.port ≡ h.way.port → p₁.down ≡ drop count h.way.down → (coming : ClientStep m m₁) → published_with coming ≡ [] → Leaves h.way.up h.core m₁ others p₁ further →
         ((result ≡ h.read) × (new ≡ sent_up h.core h.older (come_down count h.way)))
-        ⊎ ((result ≡ Err errors.Memory) × (new ≡ broken h.core (h.older ++ come_down count h.way ∷ []))) → Follows m new
-    shown count old new result m h others further p₁ m₁ many ways node port down coming l (inl end) =
+        ⊎ ((result ≡ Err errors.Memory) × (new ≡ broken h.core (h.older ++ come_down count h.way ∷ []))) → Follows [] m new
+    shown count old new result m h others further p₁ m₁ many ways node port down coming silent l (inl end) =
         let up = h.way.up ++ h.core.out in
         record {
           next = l.last;
           goes = first_then coming l.steps;
+          publishes = then_silent coming l.steps silent l.silent;
           stands = subst (λ q. StandsFor q l.last) (sym end.1)
               (finished h.older (come_down count h.way) h.way.up h.core (record h.core { out = [] }) l.last others p₁ further up [] l.left refl many ways
               (way_up h.older (come_down count h.way) h.way.up h.core l.last others p₁ further up [] l.left node port down (sym (append-nil up)))
               (λ on. (l.left.up, refl, refl)));
         }
-    shown count old new result m h others further p₁ m₁ many ways node port down coming l (inr end) =
+    shown count old new result m h others further p₁ m₁ many ways node port down coming silent l (inr end) =
         let gone-now = lose h.way.up h.core (gone h.core) m₁ others p₁ further refl l in
         record {
           next = gone-now.last;
           goes = first_then coming gone-now.steps;
+          publishes = then_silent coming gone-now.steps silent gone-now.silent;
           stands = subst (λ q. StandsFor q gone-now.last) (sym end.1)
               (finished h.older (come_down count h.way) h.way.up (gone h.core) (gone h.core) gone-now.last others p₁ further h.way.up h.core.out gone-now.left
               refl many ways

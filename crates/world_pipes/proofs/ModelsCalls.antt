@@ -27,6 +27,7 @@ use Rattle.story.specs.Sides.{Connection}
 use Rattle.story.specs.Story.{Happens}
 use Rattle.world_model.specs.World.{ClientPipes, packets_of}
 use Rattle.world_model.specs.Goes.{story_alone}
+use Rattle.world_model.specs.Published.{published_by}
 use Rattle.world_pipes.proofs.NotRefused.{asked_so, is_published, not_refused}
 
 -- a call of the model's client, and what it writes on its newest connection
@@ -62,6 +63,11 @@ publishes_too p m state s zero taken =
       writes = ap packets_of f.1.1 ∙ f.1.2;
     }
 
+pub publishes_it : (p : Publication) (m : ClientPipes) (state : ClientState) (s : history.StandsFor m.keeper state) (zero : state.keep_alive ≡ 0)
+    (taken : (keeper_step (Call.Publishes p) state).refusal ≡ None) → published_by (publishes_too p m state s zero taken).call ≡ p ∷ []
+unfolding publishes_too
+publishes_it p m state s zero taken = refl
+
 -- ---- asking
 
 pub subscribes_too : (filter : List ℕ) (qos : QoS) (m : ClientPipes) (state : ClientState) → history.StandsFor m.keeper state → state.keep_alive ≡ 0 →
@@ -81,6 +87,11 @@ subscribes_too filter qos m state s zero taken =
       writes = ap packets_of f.1.1 ∙ f.1.2;
     }
 
+pub subscribes_silently : (filter : List ℕ) (qos : QoS) (m : ClientPipes) (state : ClientState) (s : history.StandsFor m.keeper state) (zero : state.keep_alive ≡ 0)
+    (taken : (keeper_step (Call.Subscribes filter qos) state).refusal ≡ None) → published_by (subscribes_too filter qos m state s zero taken).call ≡ []
+unfolding subscribes_too
+subscribes_silently filter qos m state s zero taken = refl
+
 pub unsubscribes_too : (filter : List ℕ) (m : ClientPipes) (state : ClientState) → history.StandsFor m.keeper state → state.keep_alive ≡ 0 →
     (keeper_step (Call.Unsubscribes filter) state).refusal ≡ None → IsCalled (keeper_step (Call.Unsubscribes filter) state) m
 unsubscribes_too filter m state s zero taken =
@@ -96,6 +107,11 @@ unsubscribes_too filter m state s zero taken =
       on_first = refl;
       writes = ap packets_of f.1.1 ∙ f.1.2;
     }
+
+pub unsubscribes_silently : (filter : List ℕ) (m : ClientPipes) (state : ClientState) (s : history.StandsFor m.keeper state) (zero : state.keep_alive ≡ 0)
+    (taken : (keeper_step (Call.Unsubscribes filter) state).refusal ≡ None) → published_by (unsubscribes_too filter m state s zero taken).call ≡ []
+unfolding unsubscribes_too
+unsubscribes_silently filter m state s zero taken = refl
 
 -- ---- leaving
 
@@ -121,6 +137,11 @@ leaves_too m state s zero taken =
       on_first = written_where m.keeper.is_online m.connections;
       writes = ap packets_of f.1.1 ∙ f.1.2;
     }
+
+pub leaves_silently : (m : ClientPipes) (state : ClientState) (s : history.StandsFor m.keeper state) (zero : state.keep_alive ≡ 0)
+    (taken : (keeper_step Call.Disconnects state).refusal ≡ None) → published_by (leaves_too m state s zero taken).call ≡ []
+unfolding leaves_too
+leaves_silently m state s zero taken = refl
 
 -- only a client that has a connection leaves, and it has none then
 pub leaves_open : (stage : Stage) (state : ClientState) → (disconnected stage state).refusal ≡ None →

@@ -20,7 +20,7 @@ use Rattle.story.specs.Sides.{Connection, Side}
 use Rattle.world_model.specs.World.{ClientPipes, Pipe, newly_written}
 use Rattle.world_model.specs.Goes.{after_packet}
 use Rattle.world_model.proofs.OnTheWay.{newly_is}
-use Rattle.world_pipes.specs.Goes.{ClientGoes, ClientStep}
+use Rattle.world_pipes.specs.Goes.{ClientGoes, ClientStep, published_along, published_with}
 use Rattle.story.specs.Headline.{accepted_on}
 use Rattle.world_pipes.specs.Standing.{CanGoOut, accepted_once}
 use Rattle.world_pipes.proofs.AcceptedAlike.{accepts_alike}
@@ -58,6 +58,7 @@ pub record IsInMidst (before : List ℕ) (core : Core) (m : ClientPipes) (others
 pub record GoesOn (before : List ℕ) (core : Core) (m : ClientPipes) (others : List Connection) (p₀ : Pipe) (further : List Pipe) : Type 0 where
   pub next : ClientPipes
   pub step : ClientStep m next
+  pub silent : published_with step ≡ []
   pub stands : IsInMidst before core next others p₀ further
 
 taken_fits : (old left : Stream) (packet : Packet) → Takes old (Ok (Some packet)) left → IsPacket packet
@@ -89,6 +90,7 @@ one_goes before core next after m others p₀ further packet up s reads done =
       step = ClientStep.handles κ others p further packet next.unread s.connections s.pipes (sym s.keeper.is_open ∙ up)
           (subst (λ (came : Stream). Takes came (Ok (Some packet)) next.unread) (sym s.came) reads.0)
           (subst (Each IsPacket) (sym newly) whole.writes);
+      silent = refl;
       stands = record {
         keeper = subst (history.StandsFor later.keeper) (sym done.0) same.stands;
         fits = subst CanGoOut (sym done.0) whole.left;
@@ -109,12 +111,13 @@ one_goes before core next after m others p₀ further packet up s reads done =
 pub record GoFar (before : List ℕ) (core : Core) (m : ClientPipes) (others : List Connection) (p₀ : Pipe) (further : List Pipe) : Type 0 where
   pub last : ClientPipes
   pub steps : ClientGoes m last
+  pub silent : published_along steps ≡ []
   pub stands : IsInMidst before core last others p₀ further
 
 pub all_go : (before : List ℕ) (start last : Core) (m : ClientPipes) (others : List Connection) (p₀ : Pipe) (further : List Pipe) → is_open start.state.stage ≡ true →
     IsInMidst before start m others p₀ further → Handles start last → GoFar before last m others p₀ further
-all_go before start last m others p₀ further up s Handles.none = record { last = m; steps = ClientGoes.stays; stands = s }
+all_go before start last m others p₀ further up s Handles.none = record { last = m; steps = ClientGoes.stays; silent = refl; stands = s }
 all_go before start last m others p₀ further up s (Handles.more {s = mid} {t = next} packet run reads taken done) =
     let far = all_go before start mid m others p₀ further up s run in
     let one = one_goes before mid next last far.last others p₀ further packet (handled_stays start mid run up) far.stands reads done in
-    record { last = one.next; steps = ClientGoes.goes_on far.steps one.step; stands = one.stands }
+    record { last = one.next; steps = ClientGoes.goes_on far.steps one.step; silent = ap₂ (λ a b. a ++ b) far.silent one.silent; stands = one.stands }

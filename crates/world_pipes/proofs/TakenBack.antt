@@ -14,7 +14,7 @@ use Rattle.world_pipes.specs.declared.way.Way.{Way}
 use Rattle.world_pipes.specs.Following.{FollowsAll, after_losing}
 use Rattle.world_pipes.specs.Piped.{Connects, Piped, new_way, piped, taken_back}
 use Rattle.world_pipes.specs.Standing.{AreWays, CanGoOut, accepted_once}
-use Rattle.world_pipes.proofs.Ways.{losing_goes, same_pipes}
+use Rattle.world_pipes.proofs.Ways.{losing_goes, losing_publishes, same_pipes}
 
 -- the model's client lost its connection, and opened none
 pub opened_and_lost : (old : Piped) (core : Core) → core.state ≡ (keeper_step Call.Opens old.core.state).state → FollowsAll old (piped (gone core) old.ways)
@@ -22,6 +22,7 @@ opened_and_lost old core opens m s =
     record {
       next = after_losing m;
       goes = losing_goes m;
+      publishes = losing_publishes m;
       stands = record {
         keeper = subst (λ state. history.StandsFor (lost m.keeper) (closing.lost state)) (sym opens) (lost_stands m.keeper old.core.state s.keeper);
         fits = subst (λ state. CanGoOut (closing.lost state)) (sym opens)

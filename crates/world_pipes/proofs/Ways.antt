@@ -13,7 +13,7 @@ use Rattle.world_model.specs.World.{ClientPipes, Pipe, newly_written, sent_up}
 use Rattle.world_model.proofs.OnTheWay.{newly_is}
 use Rattle.world_pipes.specs.declared.way.Way.{Way}
 use Rattle.world_pipes.specs.Following.{FollowsLosing, after_losing}
-use Rattle.world_pipes.specs.Goes.{ClientGoes, ClientStep}
+use Rattle.world_pipes.specs.Goes.{ClientGoes, ClientStep, published_along, published_with}
 use Rattle.world_pipes.specs.Piped.{Piped, piped}
 use Rattle.world_pipes.specs.Standing.{AreWays, CanGoOut, IsWay}
 use Rattle.world_pipes.proofs.Newest.{last_index}
@@ -54,8 +54,16 @@ losing m =
     ClientStep.calls (record { past = []; connections = m.connections; keeper = lost m.keeper }) Happens.loses refl
     (subst (Each IsPacket) (sym (none_newly m.connections)) tt)
 
+pub losing_silent : (m : ClientPipes) → published_with (losing m) ≡ []
+unfolding losing
+losing_silent m = refl
+
 pub losing_goes : (m : ClientPipes) → ClientGoes m (after_losing m)
 losing_goes m = ClientGoes.goes_on ClientGoes.stays (losing m)
+
+pub losing_publishes : (m : ClientPipes) → published_along (losing_goes m) ≡ []
+unfolding losing_goes losing
+losing_publishes m = refl
 
 pub lost_fits : (core : Core) → CanGoOut core.state → CanGoOut (gone core).state
 lost_fits core fits = record { keep_alive = fits.keep_alive; client = fits.client; released = fits.released; sent = fits.sent; unsent = fits.unsent }
@@ -71,4 +79,5 @@ losing_follows old m s = (
     held = λ up. absurd (both_ways false refl up);
   },
   losing_goes m,
+  losing_publishes m,
 )

@@ -1,5 +1,5 @@
 -- A `PipedClient` goes where clients of worlds may go.
-use Rattle.std.specs.Prelude.{◌≡◌, ◌-◌, ℕ, true, false, List, ◌++◌, length, take, slice_get, IfSome, Some, Result, Ok, Err}
+use Rattle.std.specs.Prelude.{◌≡◌, ◌-◌, ℕ, true, false, List, [], ◌++◌, length, take, slice_get, IfSome, Some, Result, Ok, Err}
 use Rattle.packet.specs.Spelling.{IsPacket}
 use Rattle.packet.specs.declared.packet.Packet.TheVariants as packets
 use Rattle.broker_base.specs.Commands.{usual_limits}
@@ -7,26 +7,33 @@ use Rattle.broker_base.specs.Connection.{ConnectionName}
 use Rattle.client_base.specs.declared.error.ClientError.{ClientError}
 use Rattle.client_base.specs.Handled.{lost}
 use Rattle.model.specs.Goes.{is_call}
+use Rattle.session_base.specs.declared.publication.Publication.{Publication}
 use Rattle.story.specs.Sides.{Connection}
 use Rattle.story.specs.Story.{Happens, Story}
 use Rattle.world_base.specs.declared.Port.{Port}
 use Rattle.world_model.specs.World.{ClientPipes, Pipe, after_writing, with_pipe}
 use Rattle.world_model.specs.Goes.{CanBeSpelled, after_connecting, story_alone}
+use Rattle.world_model.specs.Published.{published_by}
 use Rattle.world_pipes.specs.declared.sending.Sending.{Sending}
 use Rattle.world_pipes.specs.declared.sending.Sending.TheVariants as sendings
 use Rattle.world_pipes.specs.declared.way.Way.{Way}
-use Rattle.world_pipes.specs.Goes.{ClientGoes}
+use Rattle.world_pipes.specs.Goes.{ClientGoes, published_along}
 use Rattle.world_pipes.specs.Piped.{Hears, Piped, is_holding}
 use Rattle.world_pipes.specs.Standing.{IsWay, StandsFor}
 
--- the model's client may go to one that this stands for
-pub record Follows (m : ClientPipes) (new : Piped) : Type 0 where
+-- the model's client may go to one that this stands for, and publishes this on the way
+pub record Follows (published : List Publication) (m : ClientPipes) (new : Piped) : Type 0 where
   pub next : ClientPipes
   pub goes : ClientGoes m next
+  pub publishes : published_along goes ≡ published
   pub stands : StandsFor new next
 
+abbrev pub FollowsBy : List Publication → Piped → Piped → Type 0
+FollowsBy published old new = (m : ClientPipes) → StandsFor old m → Follows published m new
+
+-- it publishes nothing
 abbrev pub FollowsAll : Piped → Piped → Type 0
-FollowsAll old new = (m : ClientPipes) → StandsFor old m → Follows m new
+FollowsAll old new = FollowsBy [] old new
 
 -- ---- a lost connection
 
@@ -35,7 +42,9 @@ abbrev pub after_losing : ClientPipes → ClientPipes
 after_losing m = after_writing (lost m.keeper) m.connections m
 
 abbrev pub FollowsLosing : Piped → Piped → Type 0
-FollowsLosing old new = (m : ClientPipes) → StandsFor old m → StandsFor new (after_losing m) × ClientGoes m (after_losing m)
+FollowsLosing old new =
+    (m : ClientPipes) → StandsFor old m →
+    StandsFor new (after_losing m) × (goes : ClientGoes m (after_losing m)) × (published_along goes ≡ [])
 
 -- ---- a new connection: the model's, under whatever name its node gives it
 
@@ -48,25 +57,27 @@ ConnectingFollows node port old (Err cause) new = FollowsAll old new
 
 -- ---- a call
 
--- one call of the model's client leads to one that this stands for
-pub record FollowsCalling (m : ClientPipes) (new : Piped) : Type 0 where
+-- one call of the model's client, which publishes this, leads to one that this stands for
+pub record FollowsCalling (published : List Publication) (m : ClientPipes) (new : Piped) : Type 0 where
   pub story : Story
   pub call : Happens usual_limits (story_alone m) story
   pub is_one : is_call call ≡ true
+  pub publishes : published_by call ≡ published
   pub spelled : CanBeSpelled m.connections story.connections
   pub stands : StandsFor new (after_writing story.keeper story.connections m)
 
--- A refusal changes nothing. Where what was written found no memory, the model's client lost its connection behind its call.
-abbrev pub CallingFollows : Piped → Result Sending ClientError → Piped → Type 0
-CallingFollows old (Ok sendings.Sent) new = (m : ClientPipes) → StandsFor old m → FollowsCalling m new
-CallingFollows old (Ok sendings.Lost) new = FollowsAll old new
-CallingFollows old (Err cause) new = new ≡ old
+-- A refusal changes nothing, and nothing is published. Where what was written found no memory, the model's client lost its connection
+-- after its call.
+abbrev pub CallingFollows : List Publication → Piped → Result Sending ClientError → Piped → Type 0
+CallingFollows published old (Ok sendings.Sent) new = (m : ClientPipes) → StandsFor old m → FollowsCalling published m new
+CallingFollows published old (Ok sendings.Lost) new = FollowsBy published old new
+CallingFollows published old (Err cause) new = new ≡ old
 
 -- ---- hearing: a piece arrives, whole packets are handled, and the connection may be lost
 
 abbrev pub HearingFollows : Type 0
 HearingFollows = (count : ℕ) (old new : Piped) (result : Result (Unit {0}) ClientError) (m : ClientPipes) → StandsFor old m → is_holding old ≡ true →
-    Hears count old result new → Follows m new
+    Hears count old result new → Follows [] m new
 
 -- ---- bytes that come to a node, and that go down from it
 

@@ -1,14 +1,16 @@
 -- What one client of a world does, of which the nodes have no part.
-use Rattle.std.specs.Prelude.{◌≡◌, ℕ, true, List, ◌∷◌, ◌++◌, Some, Ok, slice_get}
+use Rattle.std.specs.Prelude.{◌≡◌, ℕ, true, List, [], ◌∷◌, ◌++◌, Some, Ok, slice_get}
 use Rattle.packet.specs.declared.packet.Packet.{Packet}
 use Rattle.cutter.specs.Stream.{Stream, Takes}
 use Rattle.broker_base.specs.Commands.{usual_limits}
+use Rattle.session_base.specs.declared.publication.Publication.{Publication}
 use Rattle.client_base.specs.Handled.{handled}
 use Rattle.story.specs.Sides.{Connection}
 use Rattle.story.specs.Story.{Story, Happens}
 use Rattle.model.specs.Goes.{is_call}
 use Rattle.world_model.specs.World.{ClientPipes, Pipe, World, after_writing, with_client, with_pipe}
 use Rattle.world_model.specs.Goes.{CanBeSpelled, WorldStep, after_packet, story_alone}
+use Rattle.world_model.specs.Published.{from_client, published_by, published_in}
 
 -- a step of a world, as the client that takes it sees it
 pub data ClientStep (c : ClientPipes) : ClientPipes → Type 0 where
@@ -27,6 +29,23 @@ pub data ClientGoes (c : ClientPipes) : ClientPipes → Type 0 where
   stays : ClientGoes c c
   goes_on : {d e : ClientPipes} → ClientGoes c d → ClientStep d e → ClientGoes c e
 
--- it is a step of every world in which it is a client
+-- ---- what it publishes
+
+abbrev pub published_with : {c d : ClientPipes} → ClientStep c d → List Publication
+published_with (ClientStep.calls t h is spelled) = published_by h
+published_with (ClientStep.arrives j κ p piece rest connection pipe down) = []
+published_with (ClientStep.handles κ others p pipes packet left connections are up cut spelled) = []
+
+abbrev pub published_along : {c d : ClientPipes} → ClientGoes c d → List Publication
+published_along ClientGoes.stays = []
+published_along (ClientGoes.goes_on goes step) = published_along goes ++ published_with step
+
+-- ---- in a world
+
+-- it is a step of every world in which it is a client, and what it publishes is published there
+pub record StepsIn (w : World) (i : ℕ) {c d : ClientPipes} (step : ClientStep c d) : Type 0 where
+  pub is : WorldStep w (with_client i d w)
+  pub published : published_in is ≡ from_client i (published_with step)
+
 abbrev pub ClientsStepInWorlds : Type 0
-ClientsStepInWorlds = (w : World) (i : ℕ) (c d : ClientPipes) → slice_get w.clients i ≡ Some c → ClientStep c d → WorldStep w (with_client i d w)
+ClientsStepInWorlds = (w : World) (i : ℕ) (c d : ClientPipes) → slice_get w.clients i ≡ Some c → (step : ClientStep c d) → StepsIn w i step

@@ -1,6 +1,6 @@
 // What a client is called for, and what it writes.
 
-ghost use Rattle.std.specs.Prelude.{◌≡◌};
+ghost use Rattle.std.specs.Prelude.{◌≡◌, [], ◌∷◌};
 ghost use Rattle.client.specs.Core.{publication_with};
 ghost use Rattle.client_base.specs.Steps.{Call, keeper_step};
 ghost use Rattle.world_pipes.specs.Following.{CallingFollows};
@@ -23,7 +23,8 @@ impl PipedClient {
     ) -> Result<Sending, ClientError>
         ensures calls { let call = Call.Publishes (publication_with retain qos topic payload) in
             Calls (keeper_step call self.old.core.state) self.old result self.new }
-        ensures goes { CallingFollows self.old result self.new }
+        ensures goes { CallingFollows (publication_with retain qos topic payload ∷ [])
+            self.old result self.new }
     {
         let _known = topic.as_str();
         self.core.publish(topic, qos, retain, payload)?;
@@ -34,7 +35,7 @@ impl PipedClient {
     pub fn subscribe(&mut self, filter: Filter, qos: QoS) -> Result<Sending, ClientError>
         ensures calls { Calls (keeper_step (Call.Subscribes filter qos) self.old.core.state)
             self.old result self.new }
-        ensures goes { CallingFollows self.old result self.new }
+        ensures goes { CallingFollows [] self.old result self.new }
     {
         let _known = filter.as_str();
         self.core.subscribe(filter, qos)?;
@@ -45,7 +46,7 @@ impl PipedClient {
     pub fn unsubscribe(&mut self, filter: Filter) -> Result<Sending, ClientError>
         ensures calls { Calls (keeper_step (Call.Unsubscribes filter) self.old.core.state)
             self.old result self.new }
-        ensures goes { CallingFollows self.old result self.new }
+        ensures goes { CallingFollows [] self.old result self.new }
     {
         let _known = filter.as_str();
         self.core.unsubscribe(filter)?;

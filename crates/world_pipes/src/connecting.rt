@@ -1,6 +1,6 @@
 // The beginning and the end of a client's connections.
 
-ghost use Rattle.std.specs.Prelude.{◌≡◌, false};
+ghost use Rattle.std.specs.Prelude.{◌≡◌, false, []};
 ghost use Rattle.client_base.specs.Steps.{Call, keeper_step};
 ghost use Rattle.world_pipes.specs.Following.{CallingFollows, ConnectingFollows};
 ghost use Rattle.world_pipes.specs.Piped.{Connects, TakesLeave, is_holding, taken_back};
@@ -53,7 +53,7 @@ impl PipedClient {
     /// none; a refusal, and `Memory`, leave everything as it was.
     pub fn disconnect(&mut self) -> Result<Sending, ClientError>
         ensures leaves { TakesLeave (keeper_step Call.Disconnects self.old.core.state) self.old result self.new }
-        ensures goes { CallingFollows self.old result self.new }
+        ensures goes { CallingFollows [] self.old result self.new }
     {
         self.core.disconnect()?;
         let sending = send_up(&mut self.core, &mut self.ways, &mut self.holds);

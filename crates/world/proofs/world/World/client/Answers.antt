@@ -1,22 +1,27 @@
-use Rattle.std.proofs.Common.{◌≡◌, List, Some, slice_get, subst, sym}
+use Rattle.std.proofs.Common.{◌≡◌, ℕ, List, Some, slice_get, sym, subst, ◌∙◌}
 use Rattle.client.specs.Core.{Core}
+use Rattle.exact_model.specs.Promise.{Promise}
+use Rattle.exact_model.specs.world_model.Published.{published_of, published_on}
 use Rattle.master.proofs.Counting.{get_there}
 use Rattle.world.specs.declared.world.WorldClient.{WorldClient}
-use Rattle.world.specs.Standing.{AcceptsInOrder}
 use Rattle.world.specs.World.{WorldState}
-use Rattle.world.proofs.AcceptedShown.{accepted_shown}
+use Rattle.world.proofs.PromiseShown.{promise_shown, same_place}
 use Rattle.world.proofs.world.World.client.Goals as goal
 
-pub returns-clause-accepted : goal.returns-clause-accepted
-returns-clause-accepted c =
+pub returns-clause-promised : goal.returns-clause-promised
+returns-clause-promised c =
     let h = c.in_ok-found.ensures in
     let found = subst (λ (l : List WorldClient). slice_get l c.in_ok-at.at ≡ Some c.in_ok-found.found.now) c.deref.ensures.value
     (get_there c.deref.result.now c.in_ok-at.at c.in_ok-found.found.now h.lookup.3.0 h.lookup.1) in
+    let here = rw (← c.self.view_is) at c.in_ok-at.ensures.exact in
     let old : WorldState = record {
       nodes = c.self.inside.nodes;
       clients = c.self.inside.clients.items;
       connections = c.self.inside.connections.items;
       losses = c.self.inside.losses;
     } in
-    rw (← c.self.view_is) (λ nodes config clients r. subst (λ (k : Core). AcceptsInOrder r.exact.agreed k) (sym c.core.ensures)
-    (accepted_shown nodes config clients old r c.in_ok-at.at c.in_ok-found.found.now found))
+    rw (← c.self.view_is)
+    (λ nodes config clients r at first.
+    subst (λ (k : Core). Promise (published_of at (published_on r.trail)) r.exact.agreed k.state) (sym c.core.ensures)
+    (subst (λ (i : ℕ). Promise (published_of i (published_on r.trail)) r.exact.agreed c.in_ok-found.found.now.piped.core.state) (same_place c.in_ok-at.at at (here ∙ first))
+    (promise_shown nodes config clients old r c.in_ok-at.at c.in_ok-found.found.now found)))

@@ -1,17 +1,17 @@
-use Rattle.std.proofs.Common.{◌≤◌, ◌<◌, length, refl, sym, arith}
+use Rattle.std.proofs.Common.{◌≤◌, ◌<◌, [], ◌∷◌, length, refl, sym, arith}
 use Rattle.master.proofs.Counting.{get_there}
 use Rattle.client_base.specs.Steps.{Call}
 use Rattle.world.specs.Happening.{Asks, Refuses}
 use Rattle.world.specs.Inside.{forgetful}
 use Rattle.world.specs.World.{WorldState}
-use Rattle.world.proofs.CallsCounted.{call_counted}
+use Rattle.world.proofs.AskedSo.{publish_asked}
 use Rattle.world.proofs.CallsMet.{call_outcome, client_meets, publish_meets}
 use Rattle.world.proofs.ClientGoes.{housed_still}
 use Rattle.world.proofs.Joined.{goes_on_rest}
 use Rattle.world.proofs.world.World.publish.Goals as goal
 
-pub returns-in_default-clause-goes : goal.returns-in_default-clause-goes
-returns-in_default-clause-goes c = goes_on_rest _ _ refl
+pub returns-in_default-clause-asked : goal.returns-in_default-clause-asked
+returns-in_default-clause-asked c = record { asked = []; is = refl; goes = goes_on_rest _ _ refl }
 
 pub invariant_of-self : goal.invariant_of-self
 invariant_of-self c =
@@ -22,10 +22,11 @@ invariant_of-self c =
       c.self.invariant.1,
     )
 
-pub returns-clause-goes : goal.returns-clause-goes
-returns-clause-goes c =
+pub returns-clause-asked : goal.returns-clause-asked
+returns-clause-asked c =
     let few : c.in-Some.at < length c.self.inside.clients.items = rw (← c.self.view_is) at c.in-Some.ensures.below in
     let found = get_there c.self.inside.clients.items c.in-Some.at c.index_mut.result.now few c.index_mut.ensures.value in
+    let first = rw (← c.self.view_is) at c.in-Some.ensures.exact in
     let old : WorldState = record {
       nodes = c.self.inside.nodes;
       clients = c.self.inside.clients.items;
@@ -34,8 +35,8 @@ returns-clause-goes c =
     } in
     let rises : old.losses ≤ (forgetful old).losses = omega arith in
     rw (← c.self.view_is)
-    (call_counted old c.in-Some.at c.index_mut.result.now c.publish_copy-done.new.piped c.publish_copy-done.result c.called.result c.called.new.self found
-    c.publish_copy-done.ensures.goes rises c.called.ensures).goes
+    (publish_asked c.args.client.now c.args.publication.now old c.in-Some.at c.index_mut.result.now c.publish_copy-done.new.piped c.called.new.self (sym first) found
+    c.publish_copy-done.result c.called.result c.publish_copy-done.ensures.calls c.publish_copy-done.ensures.goes rises c.called.ensures)
 
 pub returns-clause-meets : goal.returns-clause-meets
 returns-clause-meets c =
@@ -52,4 +53,4 @@ returns-clause-meets c =
     rw (← c.self.view_is)
     (publish_meets c.args.client.now c.args.publication.now old c.called.result c.called.new.self
     (client_meets c.args.client.now (Refuses call) (Asks call) old c.in-Some.at c.index_mut.result.now c.publish_copy-done.new.piped c.publish_copy-done.result c.called.result c.called.new.self (sym first) found
-    (call_outcome call c.index_mut.result.now.piped c.publish_copy-done.result c.publish_copy-done.new.piped c.publish_copy-done.ensures.calls c.publish_copy-done.ensures.goes) c.called.ensures))
+    (call_outcome (c.args.publication.now ∷ []) call c.index_mut.result.now.piped c.publish_copy-done.result c.publish_copy-done.new.piped c.publish_copy-done.ensures.calls c.publish_copy-done.ensures.goes) c.called.ensures))

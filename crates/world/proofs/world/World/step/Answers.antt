@@ -1,37 +1,36 @@
 use Rattle.std.proofs.Common.{refl}
+use Rattle.std.proofs.lemmas.Result.{err_from_is_err_and}
 use Rattle.world.proofs.AgreedOnlyGrows.{agreed_grows}
+use Rattle.world.proofs.AskedSo.{idle_asks, step_asks}
 use Rattle.world.proofs.CountedOnce.{step_once}
 use Rattle.world.proofs.ItemsMet.{step_happens}
-use Rattle.world.proofs.Joined.{goes_on_join, goes_on_rest, goes_on_still, keeps_reached, world_goes_on}
+use Rattle.world.proofs.Joined.{goes_on_rest, goes_on_still, goes_on_then, world_goes_on}
 use Rattle.world.proofs.NodesGoOn.{stays_reached}
 use Rattle.world.proofs.world.World.step.Goals as goal
 
 pub returns-in_err-happen-clause-exact : goal.returns-in_err-happen-clause-exact
-returns-in_err-happen-clause-exact c = keeps_reached _ _ (goes_on_rest _ _ c.in_err-happen.ensures.meets.1).goes
-
-pub returns-in_err-happen-clause-steps : goal.returns-in_err-happen-clause-steps
-returns-in_err-happen-clause-steps c = (goes_on_rest _ _ c.in_err-happen.ensures.meets.1).goes
+returns-in_err-happen-clause-exact c =
+    let p = err_from_is_err_and c.from_residual.result c.from_residual.ensures.1 in
+    idle_asks c.args.event.now c.args.self.now p.0 c.from_residual.result c.happen.new.self p.1 c.in_err-happen.ensures.meets.1
 
 pub returns-in_err-happen-clause-goes : goal.returns-in_err-happen-clause-goes
-returns-in_err-happen-clause-goes c = world_goes_on _ _ (goes_on_rest _ _ c.in_err-happen.ensures.meets.1)
+returns-in_err-happen-clause-goes c = world_goes_on _ _ _ (goes_on_rest _ _ c.in_err-happen.ensures.meets.1)
 
 pub returns-in_err-happen-clause-reached : goal.returns-in_err-happen-clause-reached
 returns-in_err-happen-clause-reached c = stays_reached _ _ (goes_on_rest _ _ c.in_err-happen.ensures.meets.1).nodes.goes
 
 pub returns-clause-exact : goal.returns-clause-exact
 returns-clause-exact c =
-    keeps_reached _ _ (goes_on_join c.args.self.now c.happen.new.self c.count.new.self c.happen.ensures.goes (goes_on_still _ _ c.count.ensures.nodes c.count.ensures.clients c.count.ensures.rises)).goes
-
-pub returns-clause-steps : goal.returns-clause-steps
-returns-clause-steps c = (goes_on_join c.args.self.now c.happen.new.self c.count.new.self c.happen.ensures.goes (goes_on_still _ _ c.count.ensures.nodes c.count.ensures.clients c.count.ensures.rises)).goes
+    step_asks c.args.event.now c.args.self.now c.happen.new.self c.count.new.self c.losses-before.result c.self.inside.losses (rw (← c.self.view_is) refl)
+    c.in_ok-happen.ensures.asked c.count.ensures.counts (goes_on_still _ _ c.count.ensures.nodes c.count.ensures.clients c.count.ensures.rises)
 
 pub returns-clause-goes : goal.returns-clause-goes
 returns-clause-goes c =
-    world_goes_on _ _ (goes_on_join c.args.self.now c.happen.new.self c.count.new.self c.happen.ensures.goes (goes_on_still _ _ c.count.ensures.nodes c.count.ensures.clients c.count.ensures.rises))
+    world_goes_on _ _ _ (goes_on_then c.happen.ensures.asked.asked c.args.self.now c.happen.new.self c.count.new.self c.happen.ensures.asked.goes (goes_on_still _ _ c.count.ensures.nodes c.count.ensures.clients c.count.ensures.rises))
 
 pub returns-clause-reached : goal.returns-clause-reached
 returns-clause-reached c =
-    stays_reached c.args.self.now.nodes c.count.new.self.nodes (goes_on_join c.args.self.now c.happen.new.self c.count.new.self c.happen.ensures.goes (goes_on_still _ _ c.count.ensures.nodes c.count.ensures.clients c.count.ensures.rises)).nodes.goes
+    stays_reached c.args.self.now.nodes c.count.new.self.nodes (goes_on_then c.happen.ensures.asked.asked c.args.self.now c.happen.new.self c.count.new.self c.happen.ensures.asked.goes (goes_on_still _ _ c.count.ensures.nodes c.count.ensures.clients c.count.ensures.rises)).nodes.goes
 
 pub returns-clause-happens : goal.returns-clause-happens
 returns-clause-happens c =
@@ -43,7 +42,7 @@ returns-in_err-happen-clause-grown c = agreed_grows _ _ (goes_on_rest _ _ c.in_e
 
 pub returns-clause-grown : goal.returns-clause-grown
 returns-clause-grown c =
-    agreed_grows c.args.self.now.nodes c.count.new.self.nodes (goes_on_join c.args.self.now c.happen.new.self c.count.new.self c.happen.ensures.goes (goes_on_still _ _ c.count.ensures.nodes c.count.ensures.clients c.count.ensures.rises)).nodes.goes
+    agreed_grows c.args.self.now.nodes c.count.new.self.nodes (goes_on_then c.happen.ensures.asked.asked c.args.self.now c.happen.new.self c.count.new.self c.happen.ensures.asked.goes (goes_on_still _ _ c.count.ensures.nodes c.count.ensures.clients c.count.ensures.rises)).nodes.goes
 
 pub returns-clause-count : goal.returns-clause-count
 returns-clause-count c =

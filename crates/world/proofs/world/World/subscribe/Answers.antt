@@ -1,4 +1,4 @@
-use Rattle.std.proofs.Common.{◌≤◌, ◌<◌, length, refl, sym, arith}
+use Rattle.std.proofs.Common.{◌≤◌, ◌<◌, [], length, refl, sym, arith}
 use Rattle.master.proofs.Counting.{get_there}
 use Rattle.client_base.specs.Steps.{Call}
 use Rattle.world.specs.Happening.{Asks, Refuses}
@@ -52,4 +52,4 @@ returns-clause-meets c =
     rw (← c.self.view_is)
     (subscribe_meets c.args.client.now c.args.filter.now c.args.qos old c.called.result c.called.new.self
     (client_meets c.args.client.now (Refuses call) (Asks call) old c.in-Some.at c.index_mut.result.now c.subscribe_copy-done.new.piped c.subscribe_copy-done.result c.called.result c.called.new.self (sym first) found
-    (call_outcome call c.index_mut.result.now.piped c.subscribe_copy-done.result c.subscribe_copy-done.new.piped c.subscribe_copy-done.ensures.calls c.subscribe_copy-done.ensures.goes) c.called.ensures))
+    (call_outcome [] call c.index_mut.result.now.piped c.subscribe_copy-done.result c.subscribe_copy-done.new.piped c.subscribe_copy-done.ensures.calls c.subscribe_copy-done.ensures.goes) c.called.ensures))

@@ -1,0 +1,42 @@
+-- What clients are asked to publish: the Publish events that were done, in order.
+use Rattle.std.specs.Prelude.{◌≡◌, ◌⊎◌, ℕ, false, List, [], ◌∷◌, ◌++◌, Result, Ok, Err}
+use Rattle.ballot.specs.Losses.{one_more}
+use Rattle.client_base.specs.Steps.{Call}
+use Rattle.master.specs.declared.event.Idle.{Idle}
+use Rattle.session_base.specs.declared.publication.Publication.{Publication}
+use Rattle.world_pipes.specs.Piped.{Piped}
+use Rattle.world.specs.declared.event.Event.{Event}
+use Rattle.world.specs.declared.event.Event.TheVariants as events
+use Rattle.world.specs.Found.{Named, with_piped}
+use Rattle.world.specs.Happening.{Asks, Happens}
+use Rattle.world.specs.World.{WorldState}
+
+-- the client of this identifier was asked to publish: its call was done, once, though its connection may be lost with it
+pub record AsksOne (name : List ℕ) (p : Publication) (old : WorldState) (asked : List (ℕ × Publication)) (new : WorldState) : Type 0 where
+  pub client : Named name old
+  pub piped : Piped
+  pub does : Asks (Call.Publishes p) false client.client.piped piped
+  pub is : new ≡ record (with_piped client.at client.client piped old) { losses = new.losses }
+  pub asked_is : asked ≡ (client.at, p) ∷ []
+
+-- it ran out of memory before that: nothing was done, and that is counted
+pub record AsksNone (old : WorldState) (asked : List (ℕ × Publication)) (new : WorldState) : Type 0 where
+  pub is : new ≡ record old { losses = one_more old.losses }
+  pub none : asked ≡ []
+
+-- only a Publish asks
+abbrev pub AskedBy : Event → WorldState → List (ℕ × Publication) → WorldState → Type 0
+AskedBy (events.Publish name p) old asked new = AsksOne name p old asked new ⊎ AsksNone old asked new
+AskedBy _ old asked new = asked ≡ []
+
+-- and only one that was not idle
+abbrev pub IsAsked : Event → WorldState → Result (Unit {0}) Idle → List (ℕ × Publication) → WorldState → Type 0
+IsAsked event old (Err idle) asked new = asked ≡ []
+IsAsked event old (Ok done) asked new = AskedBy event old asked new
+
+-- events, one after the other, and what they asked
+abbrev pub RunAsks : List Event → WorldState → List (ℕ × Publication) → WorldState → Type 0
+RunAsks [] old asked new = (asked ≡ []) × (new ≡ old)
+RunAsks (event ∷ events) old asked new =
+    (between : WorldState) × (result : Result (Unit {0}) Idle) × (first : List (ℕ × Publication)) × (later : List (ℕ × Publication))
+    × Happens event old result between × IsAsked event old result first between × RunAsks events between later new × (asked ≡ first ++ later)
