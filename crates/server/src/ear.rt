@@ -2,7 +2,6 @@
 
 ghost use Rattle.std.specs.Prelude.{◌≡◌, ◌≤◌, ◌++◌, ◌∷◌, []};
 
-use crate::link::Link;
 use crate::served::Served;
 use crate::shared::Shared;
 use connection::{Hearer, PIECE_BYTES};
@@ -11,6 +10,7 @@ use node::{Gate, Item, NodeNaming, Standing};
 use std::alloc::Global;
 use std::sync::{Arc, Wait};
 use std::time::Clock;
+use streams::Link;
 
 /// A connection's lane. What it heard is what the lane sent.
 #[derive(Drop)]

@@ -4,17 +4,14 @@
 //! takes what other nodes and the master have for it.
 #![tactic(auto)]
 
-mod door;
 mod ear;
 mod late_writer;
 mod laws;
-mod link;
 mod listening;
 mod node_report;
 mod outcome;
 mod own_thread;
 mod passage;
-mod place;
 mod room;
 mod seat;
 mod serve_error;
@@ -29,6 +26,6 @@ pub use laws::ports_differ;
 pub use listening::{serve_gated, serve_while};
 pub use node::{Config, Gate, Members, Memory, Status};
 pub use node_report::NodeReport;
-pub use place::{CONNECTIONS, Place};
 pub use post::{OrderError, Peers};
 pub use serve_error::ServeError;
+pub use streams::{CONNECTIONS, Place};

@@ -6,7 +6,6 @@ ghost use Rattle.post.specs.Letters.{EachOpensAs};
 use crate::node_report::NodeReport;
 use crate::outcome::Outcome;
 use crate::passage::Passage;
-use crate::place::{CONNECTIONS, Place};
 use crate::seat::Seat;
 use crate::serve_error::ServeError;
 use crate::served::Served;
@@ -24,6 +23,7 @@ use std::sync::{Mutex, Wait};
 use std::thread;
 use std::thread::{Parker, Threads};
 use std::time::{Clock, Instant};
+use streams::{CONNECTIONS, Place};
 
 /// Serves the clients of several nodes, each at its place, while `attend` runs beside it with the nodes in
 /// hand, and gives what that returned; all connections are ended then. The nodes open in ballot 1 of this

@@ -6,8 +6,6 @@ ghost use Rattle.post.specs.Letters.{IsLeft};
 ghost use Rattle.server.specs.Closing.{is_overdue};
 ghost use Rattle.server.specs.Serving.{SendsOwn};
 
-use crate::link::Link;
-use crate::place::CONNECTIONS;
 use crate::served::Served;
 use crate::shared::Shared;
 use mailbox::Lane;
@@ -15,6 +13,7 @@ use node::{Gate, Item, NodeNaming, Standing};
 use std::hint;
 use std::sync::Wait;
 use std::time::{Clock, Duration};
+use streams::{CONNECTIONS, Link};
 
 /// How often the node is told the time, in milliseconds.
 const TICK: u64 = 200;

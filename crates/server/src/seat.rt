@@ -1,8 +1,8 @@
 // A place with its node among the others.
 
-use crate::place::Place;
 use post::{Peer, Peers};
 use std::time::{Clock, Instant};
+use streams::Place;
 
 /// A place with its node among the others.
 #[derive(Clone, Copy)]

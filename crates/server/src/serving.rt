@@ -5,7 +5,6 @@ ghost use Rattle.std.specs.Arc.{arc_value};
 ghost use Rattle.server.specs.Serving.{SendsRow, SendsWhole, TellsOne, port_of};
 
 use crate::ear::Ear;
-use crate::link::Link;
 use crate::served::Served;
 use crate::shared::Shared;
 use connection::listen;
@@ -15,8 +14,9 @@ use std::alloc::Global;
 use std::net::TcpStream;
 use std::sync::{Arc, Wait};
 use std::time::{Clock, Duration};
+use streams::{Link, Patient};
 
-/// How long a write may wait before the rest is left to the node's own thread, in milliseconds.
+/// How long a write may wait before the rest is left to the late writer, in milliseconds.
 const WRITE_MILLIS: u64 = 1;
 
 /// How many connections a lane serves, each at a port of its own.
@@ -118,7 +118,7 @@ impl<'a, J: NodeNaming, S: Served<J>, G: Gate> Shared<'a, J, S, G> {
             link,
             lane,
         };
-        let mut source = &link.stream;
+        let mut source = Patient::new(&link.stream);
         // However it ended, the node was told so.
         let _ending = listen(rt, self.alloc, link.port, &mut source, &mut ear);
         ear.lane

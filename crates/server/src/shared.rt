@@ -5,7 +5,6 @@ ghost use Rattle.mailbox.specs.Ends.{ArrivesWhole, unmet};
 ghost use Rattle.node.specs.Report.{HasRoom};
 ghost use Rattle.post.specs.Letters.{EachOpensAs};
 
-use crate::link::Late;
 use crate::passage::Passage;
 use crate::seat::Seat;
 use crate::served::Served;
@@ -15,6 +14,7 @@ use std::alloc::Global;
 use std::marker::PhantomData;
 use std::sync::{Mutex, Wait};
 use std::thread::Parker;
+use streams::Late;
 
 /// What the threads of a node share. No thread holds one of the locks while it waits.
 #[derive(Drop)]

@@ -6,13 +6,18 @@ ghost use Rattle.node.specs.Lists.{Each};
 ghost use Rattle.post.specs.Letters.{EachOpens, WasGiven};
 
 use crate::passage::Leave;
-use crate::place::CONNECTIONS;
 use crate::served::Served;
 use crate::shared::Shared;
+use crate::working::OWN_LANE;
 use mailbox::Lane;
-use node::{Command, Effect, Gate, Item, NodeNaming, NodeState, Output, Port};
-use std::sync::Wait;
+use node::{Command, Effect, Gate, Item, NodeNaming, NodeState, Output};
+use std::alloc::Global;
+use std::sync::{Arc, Wait};
 use std::time::Clock;
+use streams::{CONNECTIONS, IdleLanes, Link};
+
+/// How many connections are written to in most turns.
+const FEW: usize = 8;
 
 impl<'a, J: NodeNaming, S: Served<J>, G: Gate> Shared<'a, J, S, G> {
     /// Sends an item by a lane, and takes what waits in the inbox, that item with it. The connection at this place is
@@ -52,29 +57,24 @@ impl<'a, J: NodeNaming, S: Served<J>, G: Gate> Shared<'a, J, S, G> {
         ensures { lane.new ≡ all_met lane.old }
     {
         self.take_all(rt, lane);
-        let mut idle = Vec::new(self.alloc);
-        // Where there is no memory for them all are looked at.
-        let _ = self.node.lock(rt).state().idle_ports(&mut idle);
-        self.write_between(rt, first, usize::from(CONNECTIONS), &idle);
-        self.write_between(rt, 0, first, &idle);
+        let waits = lane.lane() != OWN_LANE;
+        let busy = self.busy_links(rt, first);
+        for link in &busy {
+            self.flush(rt, link, waits);
+        }
     }
 
-    // Writes what was put out for the connections that are listed from one place up to another, but for those of these
-    // ports.
-    fn write_between<R: Wait>(&self, rt: &R, first: usize, end: usize, idle: &Vec<Port>) {
-        let mut place = first;
-        for _ in first..end {
-            let Some((behind, link)) = self.seat.place.door.link_from(rt, place) else {
-                return;
-            };
-            if behind > end {
-                return;
-            }
-            if !idle.contains(&link.port) {
-                self.flush(rt, &link);
-            }
-            place = behind;
-        }
+    // Returns the connections for which something may have been put out, that at this place first. Room is made before a lock is
+    // taken. If memory runs out, idle ones are among them, or some are missing.
+    fn busy_links<R: Wait>(&self, rt: &R, first: usize) -> Vec<Arc<Link, Global>> {
+        let mut idle = room_for(self.alloc, usize::from(CONNECTIONS));
+        let mut busy = room_for(self.alloc, FEW);
+        let _ = self.node.lock(rt).state().idle_ports(&mut idle);
+        self.seat
+            .place
+            .door
+            .add_busy(rt, IdleLanes::of(&idle), first, &mut busy);
+        busy
     }
 
     // Takes items until the inbox is empty, with all that this lane sent.
@@ -148,4 +148,12 @@ fn take_up_to<J: NodeNaming, R: Wait>(
         }
     }
     true
+}
+
+// Returns a list with room for so many, or without room if memory runs out.
+fn room_for<T: Drop>(alloc: Global, count: usize) -> Vec<T> {
+    match Vec::with_capacity(alloc, count) {
+        Ok(list) => list,
+        Err(_) => Vec::new(alloc),
+    }
 }

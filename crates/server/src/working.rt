@@ -3,7 +3,6 @@
 ghost use Rattle.std.specs.Prelude.{ℕ, ◌<◌, length, slice_index_or};
 ghost use Rattle.server.specs.Working.{ComesBack, SendsSo};
 
-use crate::place::CONNECTIONS;
 use crate::served::Served;
 use crate::shared::Shared;
 use mailbox::Lane;
@@ -12,9 +11,10 @@ use std::sync::Wait;
 use std::thread;
 use std::thread::Threads;
 use std::time::Clock;
+use streams::CONNECTIONS;
 
 /// The lane of the node's own thread.
-const OWN_LANE: u8 = 0;
+pub(crate) const OWN_LANE: u8 = 0;
 
 /// A lane for the node's own thread, for each connection, and for the thread that closes what comes on top.
 pub(crate) const LANES: u8 = CONNECTIONS + 2;

@@ -1,12 +1,12 @@
 // What the node put out for a connection, onto its stream.
 
-use crate::link::{Link, Pen};
 use crate::served::Served;
 use crate::shared::Shared;
 use connection::{Flow, Outlet, write_out};
 use node::{Gate, Handed, Memory, NodeNaming, Port};
 use std::alloc::Global;
 use std::sync::{Arc, Wait};
+use streams::{Link, Pen};
 
 // What the node behind its lock puts out for a port.
 #[derive(Drop)]
@@ -28,22 +28,28 @@ impl<'e, 'a, J: NodeNaming, S: Served<J>, G: Gate> Outlet for Tap<'e, 'a, J, S, 
 
 impl<'a, J: NodeNaming, S: Served<J>, G: Gate> Shared<'a, J, S, G> {
     /// Writes what the node put out for a connection, unless another thread writes there: that one is told
-    /// to look again. What a full socket does not take is left to the late writer.
-    pub(crate) fn flush<R: Wait>(&self, rt: &R, link: &Arc<Link, Global>) {
+    /// to look again. What a full socket does not take is left to the late writer. The node's own thread does not wait for it.
+    pub(crate) fn flush<R: Wait>(&self, rt: &R, link: &Arc<Link, Global>, waits: bool) {
         let Some(pen) = link.take_pen(rt) else {
             return;
         };
-        if let Some(pen) = self.write(rt, link, pen) {
+        if let Some(pen) = self.write(rt, link, pen, waits) {
             self.leave_late(rt, link, pen);
         }
     }
 
-    /// Writes what a full socket left and what was put out, until nothing more was, and lays the pen back: the pen,
-    /// where the socket is full. A stream that takes no more is ended, and its pen is gone with it.
-    pub(crate) fn write<R: Wait>(&self, rt: &R, link: &Arc<Link, Global>, pen: Pen) -> Option<Pen> {
+    /// Writes what a full socket left and what was put out, until nothing more was, and lays the pen back. Returns the pen
+    /// if the socket is full. A stream that takes no more is ended, and its pen is gone with it.
+    pub(crate) fn write<R: Wait>(
+        &self,
+        rt: &R,
+        link: &Arc<Link, Global>,
+        pen: Pen,
+        waits: bool,
+    ) -> Option<Pen> {
         let mut pen = pen;
         for _ in rt.forever() {
-            match self.write_once(rt, link, &mut pen) {
+            match self.write_so(rt, link, &mut pen, waits) {
                 Flow::Open => pen = link.lay_back(rt, pen)?,
                 Flow::Late => return Some(pen),
                 Flow::Closed | Flow::Failed => {
@@ -53,6 +59,28 @@ impl<'a, J: NodeNaming, S: Served<J>, G: Gate> Shared<'a, J, S, G> {
             }
         }
         unreachable!()
+    }
+
+    // Writes once, waiting for a full socket or not.
+    fn write_so<R: Wait>(
+        &self,
+        rt: &R,
+        link: &Arc<Link, Global>,
+        pen: &mut Pen,
+        waits: bool,
+    ) -> Flow {
+        if waits {
+            return self.write_once(rt, link, pen);
+        }
+        if !link.set_waiting(false) {
+            return Flow::Failed;
+        }
+        let flow = self.write_once(rt, link, pen);
+        if link.set_waiting(true) {
+            flow
+        } else {
+            Flow::Failed
+        }
     }
 
     // Writes what a full socket left, and then what the node puts out, as far as the socket takes it within

@@ -9,12 +9,15 @@ use server::Place;
 use std::alloc::{AllocError, Global};
 use std::io::{Read, Write};
 use std::net::{Net, TcpStream};
+use std::sync::Wait;
+use std::thread;
+use std::time::{Clock, Duration};
 
 const TABLES: &[Table] = &[
     Table {
-        name: "a thirteenth client is closed",
+        name: "a sixty-first client is closed",
         members: &[1],
-        row: Row::Twelve,
+        row: Row::Sixty,
     },
     Table {
         name: "clients come and go",
@@ -25,6 +28,16 @@ const TABLES: &[Table] = &[
         name: "silent clients are ended",
         members: &[1],
         row: Row::SilentOnes,
+    },
+    Table {
+        name: "a deaf client loses its place",
+        members: &[1],
+        row: Row::Deaf,
+    },
+    Table {
+        name: "and beside three members",
+        members: &[1, 2, 3],
+        row: Row::Deaf,
     },
 ];
 
@@ -44,13 +57,13 @@ fn a_client_that_never_reads_keeps_nobody_waiting(rt: HostRuntime) {
     assert_eq!(rt; fault_in(&rt, NEVER_READS), None);
 }
 
-/// Whether twelve clients are answered by PINGRESP while they are connected and a thirteenth has come.
-pub(super) fn are_twelve_answered<R>(rt: &R, place: Option<&Place>) -> bool
+/// Whether sixty clients are answered by PINGRESP while they are connected and one more has come.
+pub(super) fn are_sixty_answered<R>(rt: &R, place: Option<&Place>) -> bool
 where
     R: AllocGlobal + Net<Stream = TcpStream>,
 {
     let mut streams = Vec::new(rt.alloc());
-    (b'a'..b'm').all(|letter| joins(rt, place, letter, &mut streams))
+    (b'A'..b'}').all(|letter| joins(rt, place, letter, &mut streams))
         && is_turned_away(rt, place)
         && streams
             .iter_mut()
@@ -79,13 +92,13 @@ where
     }
 }
 
-/// Whether twelve clients that say nothing keep their places for six seconds, and not for fourteen. Then another is accepted.
+/// Whether sixty clients that say nothing keep their places for six seconds, and not for fourteen. Then another is accepted.
 pub(super) fn are_silent_ones_ended<R>(rt: &R, place: Option<&Place>) -> bool
 where
     R: AllocGlobal + Net<Stream = TcpStream>,
 {
     let mut streams = Vec::new(rt.alloc());
-    (0..12).all(|_| opens(rt, place, &mut streams))
+    (0..60u8).all(|_| opens(rt, place, &mut streams))
         && is_turned_away(rt, place)
         && streams.first_mut().map(|stream| is_open_for(stream, 6_000)) == Some(true)
         && streams.iter_mut().all(|stream| !is_open_for(stream, 8_000))
@@ -185,4 +198,64 @@ fn are_fifty_heard(alloc: Global, pair: &mut Pair) -> bool {
         Ok(mut large) => (0..50).all(|count| large.passes(pair, count)),
         Err(_) => false,
     }
+}
+
+/// Whether a subscriber with keep alive 4 that never reads, and says nothing more, keeps its place for a while, and then
+/// loses it to another client.
+pub(super) fn is_deaf_one_ended<R>(rt: &R, place: Option<&Place>) -> bool
+where
+    R: AllocGlobal + Wait + Clock + Net<Stream = TcpStream>,
+{
+    let mut streams = Vec::new(rt.alloc());
+    match deaf(rt, place) {
+        Some(_deaf) => {
+            (b'$'..b'^').all(|letter| joins(rt, place, letter, &mut streams))
+                && joins(rt, place, b's', &mut streams)
+                && are_twenty_sent(rt.alloc(), streams.last_mut())
+                && is_turned_away(rt, place)
+                && is_accepted_in_time(rt, place)
+        }
+        None => false,
+    }
+}
+
+// A subscriber with keep alive 4.
+fn deaf<R>(rt: &R, place: Option<&Place>) -> Option<TcpStream>
+where
+    R: Net<Stream = TcpStream>,
+{
+    let mut stream = open(rt, place)?;
+    let mut sent = connect(b'd', false);
+    sent[11] = 4;
+    let accepted = is_answered(&mut stream, &sent, &[0x20, 2, 0, 0]);
+    if accepted && is_answered(&mut stream, &SUBSCRIBE, &SUBSCRIBED) {
+        Some(stream)
+    } else {
+        None
+    }
+}
+
+// Whether a client publishes 20 MB, and is answered after that.
+fn are_twenty_sent(alloc: Global, stream: Option<&mut TcpStream>) -> bool {
+    match (large_publish(alloc), stream) {
+        (Ok(large), Some(stream)) => {
+            (0..20u8).all(|_| stream.write_all(large.as_slice()).is_ok())
+                && is_answered(stream, &[0xC0, 0], &[0xD0, 0])
+        }
+        _ => false,
+    }
+}
+
+// Whether client `a` is accepted within ten seconds.
+fn is_accepted_in_time<R>(rt: &R, place: Option<&Place>) -> bool
+where
+    R: Wait + Clock + Net<Stream = TcpStream>,
+{
+    for _ in 0..100 {
+        if is_accepted(rt, place, b'a') {
+            return true;
+        }
+        thread::sleep(rt, Duration::from_millis(100));
+    }
+    false
 }

@@ -2,7 +2,7 @@
 
 use super::answers::{is_flood_answered, is_silence_ended};
 use super::crowds::{
-    are_all_accepted, are_silent_ones_ended, are_twelve_answered, is_heard_beside,
+    are_all_accepted, are_silent_ones_ended, are_sixty_answered, is_deaf_one_ended, is_heard_beside,
 };
 use super::takeovers::{moves, takes_over};
 use super::visits::visits;
@@ -20,12 +20,14 @@ pub(super) enum Row {
     Silence,
     /// 32,768 PINGREQ in one write are all answered.
     Flood,
-    /// Twelve clients are answered, and a thirteenth is closed.
-    Twelve,
+    /// Sixty clients are answered, and one more is closed.
+    Sixty,
     /// 200 clients, one after the other, are all accepted.
     ComeAndGo,
-    /// Twelve clients that say nothing are ended after ten seconds.
+    /// Sixty clients that say nothing are ended after ten seconds.
     SilentOnes,
+    /// A client that never reads and falls silent loses its place.
+    Deaf,
     /// A subscriber gets 50 MB beside another one that never reads.
     NeverReads,
     /// A client finds its session at node 2, after a crash of node 1.
@@ -51,9 +53,10 @@ where
         Row::Visits => visits(rt, first),
         Row::Silence => is_silence_ended(rt, first),
         Row::Flood => is_flood_answered(rt, first),
-        Row::Twelve => are_twelve_answered(rt, first),
+        Row::Sixty => are_sixty_answered(rt, first),
         Row::ComeAndGo => are_all_accepted(rt, first),
         Row::SilentOnes => are_silent_ones_ended(rt, first),
+        Row::Deaf => is_deaf_one_ended(rt, first),
         Row::NeverReads => is_heard_beside(rt, first),
         Row::Moves => moves(rt, peers, places),
         Row::TakesOver => takes_over(rt, peers, places),

@@ -9,7 +9,7 @@ use std::time::{Clock, Duration};
 use std::{io, thread};
 
 /// How many connections a node serves at once.
-pub const CONNECTIONS: u8 = 12;
+pub const CONNECTIONS: u8 = 60;
 
 /// How long a thread sleeps before it tries to accept, or to wake those that do, once more, in milliseconds.
 const PAUSE_MILLIS: u64 = 1;
@@ -20,15 +20,15 @@ const WAKES: u32 = 10_000;
 /// Where a node serves its clients.
 #[derive(Drop)]
 pub struct Place {
-    pub(crate) number: u8,
+    /// The node's number.
+    pub number: u8,
     listener: TcpListener,
     /// The connections that are served.
-    pub(crate) door: Door,
+    pub door: Door,
 }
 
 impl Place {
-    /// The place of the node of this number, whose clients come to the listener. The only error is want of
-    /// memory.
+    /// Returns the place of the node of this number, whose clients come to the listener. The only error is that memory runs out.
     pub fn new(alloc: Global, number: u8, listener: TcpListener) -> Result<Place, Memory> {
         Ok(Place {
             number,
@@ -37,13 +37,13 @@ impl Place {
         })
     }
 
-    /// The address to which clients connect. The errors are those of the listener.
+    /// Returns the address to which clients connect. The errors are those of the listener.
     pub fn address(&self) -> io::Result<SocketAddr> {
         self.listener.local_addr()
     }
 
-    /// The stream of the next client. There is none once the door is closed.
-    pub(crate) fn accept<R: Wait + Clock>(&self, rt: &R) -> Option<TcpStream> {
+    /// Returns the stream of the next client. There is none once the door is closed.
+    pub fn accept<R: Wait + Clock>(&self, rt: &R) -> Option<TcpStream> {
         for _ in rt.forever() {
             if !self.door.begin_wait(rt) {
                 return None;
@@ -61,7 +61,7 @@ impl Place {
     }
 
     /// Ends all connections, and lets nobody in any more: the threads that wait for clients go on.
-    pub(crate) fn close<R: Wait + Clock + Net<Stream = TcpStream>>(&self, rt: &R) {
+    pub fn close<R: Wait + Clock + Net<Stream = TcpStream>>(&self, rt: &R) {
         self.door.close(rt);
         for _ in 0..WAKES {
             if !self.door.is_waited_at(rt) {

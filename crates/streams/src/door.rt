@@ -1,5 +1,6 @@
 // Who waits at a node's place for clients, and the connections that are served there.
 
+use crate::idle_lanes::IdleLanes;
 use crate::link::Link;
 use crate::place::CONNECTIONS;
 use slab::Slab;
@@ -11,21 +12,21 @@ use std::sync::{Arc, Mutex, Wait};
 struct Waiting {
     /// Nobody is to be let in any more.
     closed: bool,
-    /// So many threads wait.
+    /// How many threads wait.
     threads: u32,
 }
 
 /// The connections that a node serves, each at a place of its own, and whether it is to serve any.
 #[derive(Drop)]
-pub(crate) struct Door {
+pub struct Door {
     waiting: Mutex<Waiting>,
     /// A place is taken before the node hears of its connection, which is listed there behind that.
     links: Mutex<Slab<Option<Arc<Link, Global>>>>,
 }
 
 impl Door {
-    /// A door that is open. The only error is want of memory.
-    pub(crate) fn new(alloc: Global) -> Result<Door, AllocError> {
+    /// Makes one that is open. The only error is that memory runs out.
+    pub fn new(alloc: Global) -> Result<Door, AllocError> {
         Ok(Door {
             waiting: Mutex::new(Waiting {
                 closed: false,
@@ -36,7 +37,7 @@ impl Door {
     }
 
     /// Ends all connections, and lets nobody in any more.
-    pub(crate) fn close<R: Wait>(&self, rt: &R) {
+    pub fn close<R: Wait>(&self, rt: &R) {
         self.waiting.lock(rt).closed = true;
         for (_, link) in self.links.lock(rt).iter() {
             if let Some(link) = link {
@@ -45,12 +46,13 @@ impl Door {
         }
     }
 
-    pub(crate) fn is_closed<R: Wait>(&self, rt: &R) -> bool {
+    /// Returns whether nobody is let in any more.
+    pub fn is_closed<R: Wait>(&self, rt: &R) -> bool {
         self.waiting.lock(rt).closed
     }
 
-    /// Whether a thread may wait for a client. It then counts as waiting.
-    pub(crate) fn begin_wait<R: Wait>(&self, rt: &R) -> bool {
+    /// Returns whether a thread may wait for a client. It then counts as waiting.
+    pub fn begin_wait<R: Wait>(&self, rt: &R) -> bool {
         let mut waiting = self.waiting.lock(rt);
         if waiting.closed {
             return false;
@@ -59,20 +61,20 @@ impl Door {
         true
     }
 
-    /// A thread waits no more: whether clients are still let in.
-    pub(crate) fn end_wait<R: Wait>(&self, rt: &R) -> bool {
+    /// Counts a thread as waiting no longer. Returns whether clients are still let in.
+    pub fn end_wait<R: Wait>(&self, rt: &R) -> bool {
         let mut waiting = self.waiting.lock(rt);
         waiting.threads = waiting.threads.saturating_sub(1);
         !waiting.closed
     }
 
-    /// Whether a thread waits for a client.
-    pub(crate) fn is_waited_at<R: Wait>(&self, rt: &R) -> bool {
+    /// Returns whether a thread waits for a client.
+    pub fn is_waited_at<R: Wait>(&self, rt: &R) -> bool {
         self.waiting.lock(rt).threads > 0
     }
 
-    /// A place for a connection. There is none where [`CONNECTIONS`] are taken.
-    pub(crate) fn take_place<R: Wait>(&self, rt: &R) -> Option<usize> {
+    /// Takes a place for a connection. There is none if [`CONNECTIONS`] are taken.
+    pub fn take_place<R: Wait>(&self, rt: &R) -> Option<usize> {
         let mut links = self.links.lock(rt);
         if links.len() >= usize::from(CONNECTIONS) {
             return None;
@@ -81,7 +83,7 @@ impl Door {
     }
 
     /// Lists a connection at its place, which it has taken.
-    pub(crate) fn list<R: Wait>(&self, rt: &R, link: Arc<Link, Global>) {
+    pub fn list<R: Wait>(&self, rt: &R, link: Arc<Link, Global>) {
         let place = link.place;
         let mut links = self.links.lock(rt);
         if let Some(listed) = links.get_mut(place) {
@@ -90,16 +92,26 @@ impl Door {
     }
 
     /// Gives a place back.
-    pub(crate) fn leave<R: Wait>(&self, rt: &R, place: usize) {
+    pub fn leave<R: Wait>(&self, rt: &R, place: usize) {
         let _ = self.links.lock(rt).try_remove(place);
     }
 
-    /// The first connection that is listed at this place or behind it, and the place behind that.
-    pub(crate) fn link_from<R: Wait>(
+    /// Adds the connections that are listed, from this place on and then those before it, but for those of idle lanes. If memory
+    /// runs out for one, it is left out.
+    pub fn add_busy<R: Wait>(
         &self,
         rt: &R,
+        idle: IdleLanes,
         first: usize,
-    ) -> Option<(usize, Arc<Link, Global>)> {
+        busy: &mut Vec<Arc<Link, Global>>,
+    ) {
+        let links = self.links.lock(rt);
+        add_between(&*links, idle, first, usize::from(CONNECTIONS), busy);
+        add_between(&*links, idle, 0, first.min(usize::from(CONNECTIONS)), busy);
+    }
+
+    /// Returns the first connection that is listed at this place or after it, and the place after that.
+    pub fn link_from<R: Wait>(&self, rt: &R, first: usize) -> Option<(usize, Arc<Link, Global>)> {
         let links = self.links.lock(rt);
         for place in first..usize::from(CONNECTIONS) {
             if let Some(Some(link)) = links.get(place) {
@@ -107,5 +119,30 @@ impl Door {
             }
         }
         None
+    }
+}
+
+// Adds the connections that are listed from one place up to another, but for those of idle lanes.
+fn add_between(
+    links: &Slab<Option<Arc<Link, Global>>>,
+    idle: IdleLanes,
+    first: usize,
+    end: usize,
+    busy: &mut Vec<Arc<Link, Global>>,
+) {
+    for place in first..end {
+        if let Some(Some(link)) = links.get(place) {
+            add_unless_idle(link, idle, busy);
+        }
+    }
+}
+
+// Adds a connection unless its lane is idle.
+fn add_unless_idle(link: &Arc<Link, Global>, idle: IdleLanes, busy: &mut Vec<Arc<Link, Global>>) {
+    if idle.has(link.port) {
+        return;
+    }
+    if let Ok(link) = Arc::try_clone(link) {
+        let _ = busy.push(link);
     }
 }

@@ -1,0 +1,28 @@
+// Which lanes have a connection that is open and has nothing to hand over.
+
+use node::Port;
+
+/// Lanes whose connections are idle, a bit for each. A lane has one connection at a time, and its number is below 64.
+#[derive(Clone, Copy)]
+pub struct IdleLanes(u64);
+
+impl IdleLanes {
+    /// Returns the lanes of these ports.
+    pub fn of(ports: &[Port]) -> IdleLanes {
+        let mut lanes = 0u64;
+        for port in ports {
+            lanes |= bit(*port);
+        }
+        IdleLanes(lanes)
+    }
+
+    /// Returns whether the lane of a port is one of these.
+    pub fn has(self, port: Port) -> bool {
+        self.0 & bit(port) != 0
+    }
+}
+
+// The bit of a port's lane.
+fn bit(port: Port) -> u64 {
+    1u64 << (port.0 % 64)
+}

@@ -1,0 +1,32 @@
+// A stream that is read until something comes.
+
+use std::io::{ErrorKind, Read};
+use std::net::TcpStream;
+use std::{hint, io};
+
+/// A stream that is read until something comes. While a thread writes on it that is not to wait, a read does not wait either,
+/// and is made again.
+#[derive(Drop)]
+pub struct Patient<'a> {
+    stream: &'a TcpStream,
+}
+
+impl<'a> Patient<'a> {
+    /// Reads this stream.
+    pub fn new(stream: &'a TcpStream) -> Patient<'a> {
+        Patient { stream }
+    }
+}
+
+impl<'a> Read for Patient<'a> {
+    fn read(&mut self, buf: &mut [u8]) -> io::Result<usize> {
+        let mut source = self.stream;
+        for _ in 0..u64::MAX {
+            match source.read(buf) {
+                Err(error) if error.kind() == ErrorKind::WouldBlock => hint::spin_loop(),
+                read => return read,
+            }
+        }
+        Ok(0)
+    }
+}
