@@ -8,6 +8,7 @@ use Rattle.packet.specs.declared.suback.SubackCode.TheVariants as answers
 use Rattle.packet.specs.declared.packet.Packet.TheVariants as packets
 use Rattle.broker_model.specs.Place.{Past}
 use Rattle.broker_model.specs.Commands.{limits_with, usual_limits}
+use Rattle.broker_model.specs.Connection.{is_connection_name}
 use Rattle.broker_model.specs.RowWords.{Gives, a, b, nth, connect, gets, sends, connack, small, publish_on, asks, asked_at, published_on}
 use Rattle.broker_model.specs.declared.command.Command.{Command}
 use Rattle.broker_model.specs.declared.command.Command.TheVariants as commands
@@ -22,6 +23,16 @@ LimitsAre =
     × ((window : Past → ℕ) → (limits_with window).entries ≡ 4096)
     × ((window : Past → ℕ) → (limits_with window).retained ≡ 16384)
     × ((past : Past) → usual_limits.window past ≡ 64)
+
+-- ballots are 1 to 4,294,967,296, and the connections of a ballot 1 to 1,099,511,627,776
+abbrev pub NamesAre : Type 0
+NamesAre =
+    (is_connection_name (record { ballot = 1; count = 1 }) ≡ true)
+    × (is_connection_name (record { ballot = 4294967296; count = 1099511627776 }) ≡ true)
+    × (is_connection_name (record { ballot = 0; count = 1 }) ≡ false)
+    × (is_connection_name (record { ballot = 4294967297; count = 1 }) ≡ false)
+    × (is_connection_name (record { ballot = 1; count = 0 }) ≡ false)
+    × (is_connection_name (record { ballot = 1; count = 1099511627777 }) ≡ false)
 
 -- ---- with four sessions, four subscriptions of each and four retained topics
 

@@ -2,7 +2,7 @@
 
 ghost use Rattle.broker_model.specs.Rows.{ConnectIsAnswered, SecondConnectionTakesOver, OlderConnectionIsSilent, SubscribeIsGranted, PublishReachesTheSubscriber, RepeatBeforePubrel, DupAfterPubrel, PubrelTwice, RetainedAtSubscribe, TwoFiltersOnePublication};
 ghost use Rattle.broker_model.specs.MoreRows.{FullQueueRefuses, FullQueueGoesOn, FullQueueKeepsTheOrder, PingAndUnsubscribe, ViolationsClose, PubackFreesItsIdentifier, WideWindowSendsAll, WindowOf64, WindowGrowsAtStart};
-ghost use Rattle.broker_model.specs.LimitRows.{LimitsAre, FifthSessionIsRefused, FifthFilterIsRefused, FifthTopicIsRefused, RoomIsLessWhatEarlierFiltersNeed, ConnectOnACurrentConnection};
+ghost use Rattle.broker_model.specs.LimitRows.{LimitsAre, NamesAre, FifthSessionIsRefused, FifthFilterIsRefused, FifthTopicIsRefused, RoomIsLessWhatEarlierFiltersNeed, ConnectOnACurrentConnection};
 ghost use Rattle.broker_model.specs.QosRows.{LowerQosIsDelivered, RetainedAtTheLowerQos, LastIsRetained, ExactlyOnceIsSentAgain, CopiesComeByClient};
 ghost use Rattle.broker_model.specs.SessionRows.{SessionsBegin, SessionsEnd, PlacesStandInSessions, EntriesHaveTheirPlaces, NewOnce, LastConnectionIsLive};
 
@@ -79,9 +79,11 @@ pub fn window_of_64()
 {}
 
 /// A broker holds 4,096 sessions, 64 subscriptions and 4,096 unfinished entries of each, and 16,384
-/// retained topics; and one more of each is refused (MQTT 3.2.2.3, 3.9.3).
+/// retained topics; and one more of each is refused (MQTT 3.2.2.3, 3.9.3). A connection's name is a
+/// ballot of 1 to 2^32 and a number of 1 to 2^40.
 pub fn limits_are_met()
     ensures numbers { LimitsAre }
+    ensures names { NamesAre }
     ensures sessions { FifthSessionIsRefused }
     ensures subscriptions { FifthFilterIsRefused }
     ensures topics { FifthTopicIsRefused }

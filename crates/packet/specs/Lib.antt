@@ -12,6 +12,7 @@ pub mod Spelling
 pub mod Verdict
 pub mod Numbers
 pub mod Laws
+pub mod FaultRows
 pub use Rattle.packet_base.specs.declared.stop.Stop
 pub use Rattle.packet_base.specs.declared.refusal_code.RefusalCode
 pub use Rattle.packet_base.specs.declared.packet_id.PacketId

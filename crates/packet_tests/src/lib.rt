@@ -2,8 +2,5 @@
 //! what each fault is, and what memory that is refused does.
 #![tactic(auto)]
 
-mod rows;
 #[cfg(test)]
 mod tests;
-
-pub use rows::{first_fault_counts, numbers_of_packets};

@@ -9,3 +9,5 @@ pub mod IdentifiersStayApart
 pub mod FiltersApart
 pub mod ReceivedRise
 pub mod KeptIdentifiers
+pub mod FiltersInOrder
+pub mod AnswersByQoS

@@ -1,5 +1,5 @@
 -- What calls leave of subscriptions and of received identifiers: each filter once, and rising numbers (MQTT 2.3.1, 3.8.4).
-use Rattle.std.specs.Prelude.{◌≡◌, ℕ, false, List, [], ◌∷◌}
+use Rattle.std.specs.Prelude.{◌≡◌, ℕ, false, if◌then◌else◌, List, [], ◌∷◌, ◌++◌, map}
 use Rattle.std.specs.List.Sorted.{IsStrictlySortedBy}
 use Rattle.std.specs.Ordering.{nat_cmp}
 use Rattle.session_base.specs.Identifiers.{with_id, without_id}
@@ -22,3 +22,14 @@ abbrev pub ReceivedStayRising : Type 0
 ReceivedStayRising =
     (id : ℕ) → (ids : List ℕ) → IsStrictlySortedBy nat_cmp ids →
     IsStrictlySortedBy nat_cmp (with_id id ids) × IsStrictlySortedBy nat_cmp (without_id id ids)
+
+-- the filters alone, in their order
+abbrev pub filters_of : List HeldFilter → List (List ℕ)
+filters_of = map (λ held. held.0)
+
+-- a filter that is held keeps its place, and a new one comes last (MQTT 3.8.4)
+abbrev pub FiltersKeepTheirOrder : Type 0
+FiltersKeepTheirOrder =
+    (new : HeldFilter) → (held : List HeldFilter) →
+    filters_of (with_subscription new held)
+    ≡ (if is_held new.0 held then filters_of held else filters_of held ++ new.0 ∷ [])

@@ -2,11 +2,12 @@
 use Rattle.std.specs.Prelude.{◌≡◌, ℕ, true, false, ◌⊎◌, List, [], ◌∷◌, ◌++◌, length, filter}
 use Rattle.std.specs.List.{list_any}
 use Rattle.packet.specs.declared.packet.Packet.TheVariants as packets
+use Rattle.packet.specs.declared.qos.QoS.TheVariants as levels
 use Rattle.session_base.specs.declared.publication.Publication.{Publication}
 use Rattle.session_base.specs.declared.awaits.Awaits.TheVariants as waits_for
 use Rattle.session_base.specs.Publication.{publish_of}
 use Rattle.lists.specs.Lists.{IsDistinct}
-use Rattle.session_base.specs.Queue.{Flight, ids_of, is_released, awaits_puback, awaits_pubrec, awaits_pubcomp, on_puback, on_pubrec, on_pubcomp, fill}
+use Rattle.session_base.specs.Queue.{Flight, ids_of, awaited, is_released, awaits_puback, awaits_pubrec, awaits_pubcomp, on_puback, on_pubrec, on_pubcomp, fill}
 use Rattle.session_base.specs.Sending.{resend}
 
 -- none of these is released
@@ -65,3 +66,15 @@ ResendsInOrder =
     × ((id : ℕ) → resend ((id, waits_for.Pubcomp) ∷ []) ≡ packets.Pubrel id ∷ [])
     × ((id : ℕ) → (p : Publication) → resend ((id, waits_for.Puback p) ∷ []) ≡ packets.Publish (publish_of true id p) ∷ [])
     × ((id : ℕ) → (p : Publication) → resend ((id, waits_for.Pubrec p) ∷ []) ≡ packets.Publish (publish_of true id p) ∷ [])
+
+-- An entry of QoS 1 that was sent is finished by its PUBACK, and a PUBREC is nothing to it. One of QoS 2 is released by
+-- its PUBREC and finished by the PUBCOMP after it, and a PUBACK is nothing to it (MQTT 4.3.2, 4.3.3).
+abbrev pub AnswersFitTheQoS : Type 0
+AnswersFitTheQoS =
+    (id : ℕ) → (p : Publication) →
+    (p.qos ≡ levels.AtLeastOnce →
+    (on_puback id ((id, awaited p) ∷ []) ≡ []) × (on_pubrec id ((id, awaited p) ∷ []) ≡ (id, awaited p) ∷ []))
+    × (p.qos ≡ levels.ExactlyOnce →
+    (on_puback id ((id, awaited p) ∷ []) ≡ (id, awaited p) ∷ [])
+    × (on_pubrec id ((id, awaited p) ∷ []) ≡ (id, waits_for.Pubcomp) ∷ [])
+    × (on_pubcomp id (on_pubrec id ((id, awaited p) ∷ [])) ≡ []))

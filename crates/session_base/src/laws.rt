@@ -1,8 +1,8 @@
 // Laws of a client's queue. The calls do nothing; their contracts are the laws.
 
 ghost use Rattle.session_base.specs.Laws.{IsLeastFree, FillKeepsApart, FillIsDone, FillStaysWithin, FillKeepsOrder, FillSendsWhatStarts, FillsJoin, CopiesAreOneFill};
-ghost use Rattle.session_base.specs.OrderLaws.{AnswersKeepApart, OtherAnswersChangeNothing, SecondPubrecChangesNothing, ReleasedComesLast, KeepsReleasedFirst, ResendsInOrder};
-ghost use Rattle.session_base.specs.KeepingLaws.{FiltersStayApart, ReceivedStayRising};
+ghost use Rattle.session_base.specs.OrderLaws.{AnswersFitTheQoS, AnswersKeepApart, OtherAnswersChangeNothing, SecondPubrecChangesNothing, ReleasedComesLast, KeepsReleasedFirst, ResendsInOrder};
+ghost use Rattle.session_base.specs.KeepingLaws.{FiltersStayApart, FiltersKeepTheirOrder, ReceivedStayRising};
 
 /// A fill starts what waits in its order, with free identifiers, until nothing waits or the window
 /// is full; and it sends what it starts.
@@ -40,9 +40,15 @@ pub fn resend_keeps_the_order()
     ensures order { ResendsInOrder }
 {}
 
-/// Each filter of a session stands once, and received identifiers in rising order, whatever is
-/// granted, given up, received or released.
+/// PUBACK finishes an entry of QoS 1 alone, and PUBREC and PUBCOMP one of QoS 2.
+pub fn answers_fit_the_qos()
+    ensures { AnswersFitTheQoS }
+{}
+
+/// Each filter of a session stands once, in the order of their first granting, and received identifiers
+/// in rising order, whatever is granted, given up, received or released.
 pub fn sessions_keep_their_form()
     ensures filters { FiltersStayApart }
+    ensures order { FiltersKeepTheirOrder }
     ensures received { ReceivedStayRising }
 {}

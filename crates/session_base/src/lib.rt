@@ -8,7 +8,7 @@ mod publication;
 
 pub use awaits::Awaits;
 pub use laws::{
-    answers_keep_identifiers_apart, fill_takes_what_waits, fills_join,
+    answers_fit_the_qos, answers_keep_identifiers_apart, fill_takes_what_waits, fills_join,
     other_answers_change_nothing, resend_keeps_the_order, sessions_keep_their_form,
 };
 pub use publication::Publication;

@@ -1,3 +1,1 @@
-mod AnswersByQoS
-mod FiltersInOrder
 mod QoSOfEntries

@@ -60,7 +60,5 @@ fn laws_of_readings() {
     crate::readings::live_connections_are_current();
     crate::readings::released_entries_are_read();
     crate::readings::removing_needs_no_room();
-    crate::readings::filters_keep_their_order();
     crate::readings::answers_fit_the_qos();
-    crate::readings::names_have_their_ranges();
 }

@@ -15,6 +15,5 @@ mod retaining;
 mod sessions;
 
 pub use readings::{
-    answers_fit_the_qos, filters_keep_their_order, live_connections_are_current,
-    names_have_their_ranges, released_entries_are_read, removing_needs_no_room,
+    answers_fit_the_qos, live_connections_are_current, released_entries_are_read, removing_needs_no_room,
 };

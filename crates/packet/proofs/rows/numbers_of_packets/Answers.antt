@@ -1,5 +1,5 @@
 use Rattle.std.proofs.Common.{refl}
-use Rattle.packet_tests.proofs.rows.numbers_of_packets.Goals as goal
+use Rattle.packet.proofs.rows.numbers_of_packets.Goals as goal
 
 pub returns : goal.returns
 returns c =

@@ -3,7 +3,7 @@
 ghost use Rattle.std.specs.Prelude.{◌≡◌, ℕ, true, false, List, length};
 ghost use Rattle.packet.specs.ClientId.{has_client_length};
 ghost use Rattle.packet.specs.Spelling.{longest_body};
-ghost use Rattle.packet_tests.specs.FaultRows.{
+ghost use Rattle.packet.specs.FaultRows.{
   AllCount,
   first_byte_rows,
   length_rows,

@@ -1,6 +1,6 @@
 -- AnswersByQoS.antt: each entry is finished by the answers of its QoS alone.
 use Rattle.std.proofs.Common.{◌≡◌, ℕ, true, ◌==◌, refl, arith}
-use Rattle.storage_tests.specs.Guards.{AnswersFitTheQoS}
+use Rattle.session_base.specs.OrderLaws.{AnswersFitTheQoS}
 
 same : (id : ℕ) → (id == id) ≡ true
 same id = grind arith
