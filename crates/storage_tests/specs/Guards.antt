@@ -1,16 +1,11 @@
 -- Which answer finishes which entry of a list of commands, by its QoS: no worked row of the broker reaches it (MQTT 4.3.2, 4.3.3).
-use Rattle.std.specs.Prelude.{◌≡◌, ℕ, true, false, if◌then◌else◌, List, [], ◌∷◌, ◌++◌, map, Some, None, codes}
+use Rattle.std.specs.Prelude.{◌≡◌, true, false, [], ◌∷◌, ◌++◌, Some, None, codes}
 use Rattle.std.specs.List.{AllByRecursion}
 use Rattle.packet.specs.declared.delivery.Delivery.TheVariants as deliveries
 use Rattle.packet.specs.declared.packet.Packet.TheVariants as packets
 use Rattle.packet.specs.declared.qos.QoS.TheVariants as levels
-use Rattle.session_base.specs.declared.publication.Publication.{Publication}
-use Rattle.session_base.specs.declared.awaits.Awaits.TheVariants as waits_for
 use Rattle.session_base.specs.Publication.{is_acknowledged}
-use Rattle.session_base.specs.Queue.{awaited, on_puback, on_pubrec, on_pubcomp}
-use Rattle.session_base.specs.Subscriptions.{HeldFilter, is_held, with_subscription}
 use Rattle.broker_model.specs.Commands.{usual_limits}
-use Rattle.broker_model.specs.Connection.{is_connection_name}
 use Rattle.broker_model.specs.Entries.{Entry}
 use Rattle.broker_model.specs.Place.{Client, Past, Limits}
 use Rattle.broker_model.specs.RowWords.{Gives, b, nth, connect, gets, sends, connack, publish, subscribed_at}

@@ -15,5 +15,6 @@ mod retaining;
 mod sessions;
 
 pub use readings::{
-    answers_fit_the_qos, live_connections_are_current, released_entries_are_read, removing_needs_no_room,
+    answers_fit_the_qos, live_connections_are_current, released_entries_are_read,
+    removing_needs_no_room,
 };
