@@ -2,4 +2,5 @@ mod CarriesJoin
 mod CountsStand
 mod MasterIsReachable
 mod NoneAmong
+mod OpenBytes
 mod TrayKept

@@ -46,8 +46,8 @@ waits_taken number n items waits = record {
 }
 
 -- where there is room the bound is kept
-roomy : (b : Bool) (count size : ℕ) → (not b || nat_lt size 131072) ≡ true → count ≤ size → count ≤ 131072
-    → count + (if b then 1 else 0) ≤ 131072
+roomy : (b : Bool) (count size : ℕ) → (not b || nat_lt size 524288) ≡ true → count ≤ size → count ≤ 524288
+    → count + (if b then 1 else 0) ≤ 524288
 roomy true count size room least bounded = grind (arith, room, least, bounded)
 roomy false count size room least bounded = grind (arith, bounded)
 
@@ -55,7 +55,7 @@ waits_more : (number : ℕ) (item : Item) (items : List Item)
     → IsLeft number item → has_room item items ≡ true → Waits number items → Waits number (items ++ item ∷ [])
 waits_more number item items left room waits = record {
   left = each_append (IsLeft number) items (item ∷ []) waits.left (left, tt);
-  bounded = subst (λ (count : ℕ). count ≤ 131072) (sym (of_nodes_more items item))
+  bounded = subst (λ (count : ℕ). count ≤ 524288) (sym (of_nodes_more items item))
       (roomy (is_of_node item) (of_nodes items) (length items) room (of_nodes_least items) waits.bounded);
 }
 
@@ -73,8 +73,8 @@ left_more tray number item false old new view left room waits is =
 from_master : (from : ℕ) → from ≡ 0 → nat_lt 0 from ≡ false
 from_master from is = ap (λ (n : ℕ). nat_lt 0 n) is
 
-room_always : (b : Bool) (size : ℕ) → b ≡ false → (not b || nat_lt size 131072) ≡ true
-room_always b size is = ap (λ (c : Bool). not c || nat_lt size 131072) is
+room_always : (b : Bool) (size : ℕ) → b ≡ false → (not b || nat_lt size 524288) ≡ true
+room_always b size is = ap (λ (c : Bool). not c || nat_lt size 524288) is
 
 -- the same of an answer of the master, for which room was made before
 pub left_answer : (tray : Waiting) (number receiver primary : ℕ) (message : Message Command) (kept : Bool) (before old new : List Item)

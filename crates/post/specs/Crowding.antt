@@ -18,14 +18,14 @@ open_places None = 0
 open_places (Some status) = if is_active status.role then status.held - status.committed else 0
 
 -- Whether a node takes more bytes from its clients: while no more than 4,096 places are open, what it took and is not known to
--- be agreed has no more than 64 MiB, and no more than 32 KiB are on their way.
+-- be agreed has no more than 64 MiB, and no more than 256 KiB are on their way.
 abbrev pub admits : Taking → Bool
 admits taking = nat_le (open_places taking.status) 4096
-    && (nat_le (taking.earlier + taking.later) 67108864 && nat_le taking.entering 32768)
+    && (nat_le (taking.earlier + taking.later) 67108864 && nat_le taking.entering 262144)
 
--- The bound of all that a node took and is not known to be agreed, with what is on its way: 64 MiB, 32 KiB, and one piece.
+-- The bound of all that a node took and is not known to be agreed, with what is on its way: 64 MiB, 256 KiB, and one piece.
 abbrev pub IsBounded : Taking → Type 0
-IsBounded taking = taking.entering + (taking.earlier + taking.later) ≤ 67207168
+IsBounded taking = taking.entering + (taking.earlier + taking.later) ≤ 67436544
 
 -- some bytes that were on their way were taken
 abbrev pub took : ℕ → Taking → Taking

@@ -1,8 +1,10 @@
--- Laws.antt: which waiting messages may be left out.
-use Rattle.std.specs.Prelude.{◌≡◌, ℕ, true, List, max}
+-- Laws.antt: which waiting messages may be left out, and which bytes are counted.
+use Rattle.std.specs.Prelude.{◌≡◌, ℕ, ◌+◌, ◌≤◌, true, List, max}
 use Rattle.ballot_base.specs.declared.status.Progress.{Progress}
 use Rattle.ballot_base.specs.Serving.{raised}
 use Rattle.node.specs.declared.Body.TheVariants.{Held, Commit}
+use Rattle.post.specs.Counting.{Counts, Taken, bytes_behind, committed_of}
+use Rattle.post.specs.Crowding.{Taking}
 use Rattle.post.specs.Superseding.{covers}
 
 -- A Held that replaces an earlier one is of the same ballot, and a primary that hears it alone knows as much as one that hears both.
@@ -18,3 +20,9 @@ LaterCommitsSuffice =
     (ballot held earlier fewer committed : ℕ) →
     covers (Commit ballot held) (Commit earlier fewer) ≡ true →
     (ballot ≡ earlier) × (max (max committed fewer) held ≡ max committed held)
+
+-- Of the bytes that a node took none is left out of its count that may stand in a place which is not agreed.
+abbrev pub OpenBytesAreCounted : Type 0
+OpenBytesAreCounted =
+    (all : List Taken) (taking : Taking) → Counts all taking →
+    bytes_behind (committed_of taking.status) all ≤ taking.earlier + taking.later

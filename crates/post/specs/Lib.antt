@@ -1,4 +1,5 @@
 pub mod Carrying
+pub mod Counting
 pub mod Crowding
 pub mod Given
 pub mod Laws

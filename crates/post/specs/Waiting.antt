@@ -20,12 +20,12 @@ abbrev pub of_nodes : List Item → ℕ
 of_nodes [] = 0
 of_nodes (item ∷ items) = (if is_of_node item then 1 else 0) + of_nodes items
 
--- Whether an item may be left beside these: a message of another node while fewer than 131,072 items wait, and a message of the
+-- Whether an item may be left beside these: a message of another node while fewer than 524,288 items wait, and a message of the
 -- master or an order whatever waits.
 abbrev pub has_room : Item → List Item → Bool
-has_room item items = not (is_of_node item) || nat_lt (length items) 131072
+has_room item items = not (is_of_node item) || nat_lt (length items) 524288
 
--- What may wait for the node of a number: what was left for it, and of messages of other nodes no more than 131,072.
+-- What may wait for the node of a number: what was left for it, and of messages of other nodes no more than 524,288.
 pub record Waits (number : ℕ) (items : List Item) : Type 0 where
   pub left : Each (IsLeft number) items
-  pub bounded : of_nodes items ≤ 131072
+  pub bounded : of_nodes items ≤ 524288

@@ -13,7 +13,7 @@ const MOST_OPEN: u64 = 4_096;
 const MOST_BYTES: u64 = 67_108_864;
 
 /// How many bytes may be on their way when more are taken.
-const MOST_ENTERING: u64 = 32_768;
+const MOST_ENTERING: u64 = 262_144;
 
 /// What a node takes from its clients, and how it stands. Of bytes that are not known to be agreed, as many are counted as may
 /// stand in places that some member does not hold. They are bounded by the type.

@@ -21,7 +21,7 @@ use std::marker::Model;
 use std::mem;
 
 /// How many items may wait where a message of another node is left.
-const MOST_WAITING: usize = 131_072;
+const MOST_WAITING: usize = 524_288;
 
 /// What the other nodes and the master have for a node, in the order of leaving. It stands behind a lock, so its type
 /// says where each item is from, and how many messages of other nodes wait at most.

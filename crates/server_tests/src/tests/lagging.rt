@@ -12,7 +12,7 @@ use std::sync::Wait;
 use std::thread;
 use std::time::{Clock, Duration};
 
-/// Whether of 98,304 PINGREQ that come while a member is held no more than 53,400 become places until it goes on, and then all
+/// Whether of 98,304 PINGREQ that come while a member is held no more than 37,000 become places until it goes on, and then all
 /// are answered.
 pub(super) fn are_places_bounded<R>(rt: &R, bar: &Bar, peers: &Peers, place: Option<&Place>) -> bool
 where
@@ -36,7 +36,7 @@ fn waits<R: Wait + Clock>(
     thread::sleep(rt, Duration::from_millis(1_500));
     let open = open_places(rt, peers);
     bar.set(rt, false);
-    sent && open > 4_096 && open <= 53_400 && (0..3u8).all(|_| flood.is_heard(stream))
+    sent && open > 4_096 && open <= 37_000 && (0..3u8).all(|_| flood.is_heard(stream))
 }
 
 // How many places of the primary's log are not known to be held by all.

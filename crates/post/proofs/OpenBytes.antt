@@ -1,0 +1,84 @@
+-- OpenBytes.antt: no byte is left out of the count of those that are not known to be agreed.
+use Rattle.std.proofs.Common.{◌≡◌, ℕ, ◌+◌, ◌≤◌, Bool, true, false, nat_le, nat_lt, min, if◌then◌else◌, List, [], ◌∷◌, Some, refl, arith}
+use Rattle.node.specs.declared.Status.{Status}
+use Rattle.post.specs.Crowding.{Taking, is_agreed, took}
+use Rattle.post.specs.Counting.{Counts, Taken, bytes_behind, committed_of, held_of}
+use Rattle.post.specs.Counting.Counts.{admits, begins, shows, takes}
+use Rattle.post.specs.Laws.{OpenBytesAreCounted}
+
+-- what is known of the bytes that were taken and their count
+record Known (all : List Taken) (taking : Taking) : Type 0 where
+  none : bytes_behind (held_of taking.status) all ≤ 0
+  marked : bytes_behind taking.mark all ≤ taking.later
+  counted : bytes_behind (committed_of taking.status) all ≤ taking.earlier + taking.later
+
+falls_one : (low high bytes places : ℕ) → low ≤ high
+    → (if nat_lt high places then bytes else 0) ≤ (if nat_lt low places then bytes else 0)
+falls_one low high bytes places least = grind (arith, least)
+
+-- behind more places there are no more bytes
+falls : (low high : ℕ) (all : List Taken) → low ≤ high → bytes_behind high all ≤ bytes_behind low all
+falls low high [] least = omega arith
+falls low high (taken ∷ all) least =
+    let a = falls_one low high taken.bytes taken.places least in let e = falls low high all least in omega (arith, a, e)
+
+at_most : (places bytes place : ℕ) → (if nat_lt places place then bytes else 0) ≤ bytes
+at_most places bytes place = grind arith
+
+none_behind : (places bytes : ℕ) → (if nat_lt places places then bytes else 0) ≤ 0
+none_behind places bytes = grind arith
+
+known_taken : (bytes : ℕ) (all : List Taken) (taking : Taking) → Known all taking
+    → Known (record { bytes = min bytes taking.entering; places = held_of taking.status } ∷ all) (took bytes taking)
+known_taken bytes all taking known = record {
+  none = let a = none_behind (held_of taking.status) (min bytes taking.entering) in let e = known.none in omega (arith, a, e);
+  marked = let a = at_most taking.mark (min bytes taking.entering) (held_of taking.status) in let e = known.marked in omega (arith, a, e);
+  counted = let a = at_most (committed_of taking.status) (min bytes taking.entering) (held_of taking.status) in
+      let e = known.counted in omega (arith, a, e);
+}
+
+below_mark : (mark committed : ℕ) → nat_le mark committed ≡ true → mark ≤ committed
+below_mark mark committed below = grind (arith, below)
+
+below_held : (mark held committed : ℕ) → nat_le (min mark held) committed ≡ true → nat_le mark committed ≡ false → held ≤ committed
+below_held mark held committed agreed above = grind (arith, agreed, above)
+
+-- what is agreed reaches to the mark, or to the end of the log
+reaches : (b : Bool) (mark held committed : ℕ) (all : List Taken) (later : ℕ) → nat_le mark committed ≡ b
+    → nat_le (min mark held) committed ≡ true
+    → bytes_behind mark all ≤ later → bytes_behind held all ≤ 0 → bytes_behind committed all ≤ later
+reaches true mark held committed all later below agreed marked none =
+    let a = falls mark committed all (below_mark mark committed below) in omega (arith, a, marked)
+reaches false mark held committed all later above agreed marked none =
+    let a = falls held committed all (below_held mark held committed agreed above) in omega (arith, a, none)
+
+known_shown : (b : Bool) (status : Status) (all : List Taken) (taking : Taking) → is_agreed taking.mark status ≡ b
+    → Known all taking → held_of taking.status ≤ status.held → committed_of taking.status ≤ status.committed
+    → Known all
+    (if b
+    then record taking { status = Some status; mark = status.held; earlier = taking.later; later = 0 }
+    else record taking { status = Some status })
+known_shown true status all taking agreed known held committed =
+    let n = known.none in
+    let f = falls (held_of taking.status) status.held all held in
+    let none : bytes_behind status.held all ≤ 0 = omega (arith, n, f) in
+    let r = reaches (nat_le taking.mark status.committed) taking.mark status.held status.committed all taking.later refl agreed known.marked none in
+    record { none = none; marked = none; counted = omega (arith, r) }
+known_shown false status all taking unagreed known held committed =
+    let n = known.none in
+    let f = falls (held_of taking.status) status.held all held in
+    let m = known.marked in
+    let c = known.counted in
+    let g = falls (committed_of taking.status) status.committed all committed in
+    record { none = omega (arith, n, f); marked = m; counted = omega (arith, c, g) }
+
+known : (all : List Taken) (taking : Taking) → Counts all taking → Known all taking
+known _ _ begins = record { none = omega arith; marked = omega arith; counted = omega arith }
+known all _ (admits {taking = taking} bytes counts) =
+    let k = known all taking counts in record { none = k.none; marked = k.marked; counted = k.counted }
+known _ _ (takes {all = all} {taking = taking} bytes counts) = known_taken bytes all taking (known all taking counts)
+known all _ (shows {taking = taking} status counts held committed) =
+    known_shown (is_agreed taking.mark status) status all taking refl (known all taking counts) held committed
+
+pub open_bytes_counted : OpenBytesAreCounted
+open_bytes_counted all taking counts = (known all taking counts).counted

@@ -1,0 +1,35 @@
+-- What becomes of a node's count of bytes that are not known to be agreed, while its log only grows.
+use Rattle.std.specs.Prelude.{ℕ, ◌+◌, ◌≤◌, nat_lt, min, if◌then◌else◌, List, [], ◌∷◌, Option, Some, None}
+use Rattle.node.specs.declared.Status.{Status}
+use Rattle.post.specs.Crowding.{Taking, shown, took}
+
+-- bytes that a node took, and how many places its log had once it had taken them
+pub record Taken : Type 0 where
+  pub bytes : ℕ
+  pub places : ℕ
+
+-- how many of these bytes may stand in places behind so many
+abbrev pub bytes_behind : ℕ → List Taken → ℕ
+bytes_behind places [] = 0
+bytes_behind places (taken ∷ others) = (if nat_lt places taken.places then taken.bytes else 0) + bytes_behind places others
+
+-- how many places a log has, and how many of them are agreed; none before a node is served
+abbrev pub held_of : Option Status → ℕ
+held_of None = 0
+held_of (Some status) = status.held
+
+abbrev pub committed_of : Option Status → ℕ
+committed_of None = 0
+committed_of (Some status) = status.committed
+
+-- A node took these bytes, the newest first, and then its count is this one. Each time it shows itself its log has no fewer
+-- places, and no fewer of them are agreed.
+pub data Counts : List Taken → Taking → Type 0 where
+  begins : Counts [] (record { status = None; entering = 0; mark = 0; earlier = 0; later = 0 })
+  admits : {all : List Taken} {taking : Taking} (bytes : ℕ) → Counts all taking
+      → Counts all (record taking { entering = taking.entering + bytes })
+  takes : {all : List Taken} {taking : Taking} (bytes : ℕ) → Counts all taking
+      → Counts (record { bytes = min bytes taking.entering; places = held_of taking.status } ∷ all) (took bytes taking)
+  shows : {all : List Taken} {taking : Taking} (status : Status) → Counts all taking
+      → held_of taking.status ≤ status.held → committed_of taking.status ≤ status.committed
+      → Counts all (shown status taking)
