@@ -1,0 +1,4 @@
+pub mod Acknowledged
+pub mod CallsAreSteps
+pub mod PrintsJoin
+pub mod TracesJoin

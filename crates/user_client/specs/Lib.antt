@@ -1,1 +1,4 @@
+pub mod Listening
 pub mod Printing
+pub mod Publishing
+pub mod Tracing

@@ -2,7 +2,7 @@
 //! what is published. They run over any streams, and open a new one where one is lost.
 #![tactic(auto)]
 
-mod errand;
+mod caller;
 mod fault;
 mod printing;
 mod publisher;

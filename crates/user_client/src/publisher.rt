@@ -1,12 +1,20 @@
 // Publishing once.
 
-use crate::errand::{Errand, Progress};
+ghost use Rattle.std.specs.Prelude.{◌≡◌, ◌≢◌, true, [], OnOk, IfOk};
+ghost use Rattle.client_base.specs.State.{kept_count};
+ghost use Rattle.user_client.specs.Tracing.{Trace};
+ghost use Rattle.user_client.specs.Publishing.{IsAcknowledged};
+
+use crate::caller::{Caller, News};
 use crate::fault::ClientFault;
 use crate::servers::Servers;
-use crate::visiting::{Caller, run};
-use client::{ClientCore, ClientError};
+use crate::visiting::{exchange, leave, next_stream, send};
+use client::ClientError;
+use node_base::{Counted, PIECE_BYTES};
 use packet::{ClientId, Delivery, Packet, Payload, Publish, QoS};
 use std::alloc::Global;
+use std::io::{Read, Write};
+use std::marker::Model;
 use topics::TopicName;
 
 /// A client that publishes once.
@@ -14,20 +22,32 @@ use topics::TopicName;
 pub struct Publisher {
     alloc: Global,
     caller: Caller,
-    sending: Sending,
+    // A publication at QoS 0, which is sent on each connection until one has taken it. At QoS 1 and 2 the client keeps it until
+    // its handshake has ended.
+    once: Option<Publish>,
 }
 
-// How the publication is sent.
-#[derive(Drop)]
-enum Sending {
-    // The client keeps it until its handshake has ended.
-    Kept,
-    // It is sent on each connection until one has taken it.
-    Once(Publish),
+impl Model for Publisher {
+    ghost use Rattle.user_client.specs.Publishing.{Publishing};
+
+    ghost Value = { Publishing };
+
+    ghost view = { λ p. record { caller = p.caller; once = p.once } };
+}
+
+/// How far a publisher came on one connection.
+#[derive(Clone, Copy, Debug, PartialEq, Eq)]
+enum Progress {
+    /// It waits for the server.
+    Waits,
+    /// The publication is acknowledged, or written where nothing is to be answered.
+    Done,
+    /// The connection is lost.
+    Lost,
 }
 
 impl Publisher {
-    /// A client of this identifier and its publication. They are refused in this order: identifier,
+    /// Makes a client of this identifier with its publication. They are refused in this order: identifier,
     /// topic, and a packet that would be too large.
     pub fn new(
         alloc: Global,
@@ -40,35 +60,139 @@ impl Publisher {
         let id = ClientId::new(alloc, id)?;
         let topic = TopicName::new(alloc, topic)?;
         let payload = Payload::new(alloc, message.as_bytes())?;
-        let mut core = ClientCore::new(alloc, id, 0);
-        let sending = match qos {
-            QoS::AtMostOnce => Sending::Once(unanswered(topic, retain, payload)?),
+        let mut caller = Caller::new(alloc, id);
+        let once = match qos {
+            QoS::AtMostOnce => Some(unanswered(topic, retain, payload)?),
             QoS::AtLeastOnce | QoS::ExactlyOnce => {
-                core.publish(topic, qos, retain, payload)?;
-                Sending::Kept
+                caller.publish(topic, qos, retain, payload)?;
+                None
             }
-        };
-        let caller = Caller {
-            core,
-            was_accepted: false,
         };
         Ok(Publisher {
             alloc,
             caller,
-            sending,
+            once,
         })
     }
 
     /// Publishes over the connections of these servers, at most `tries` of them: at QoS 1 and 2 until
-    /// the handshake has ended, at QoS 0 until a connection has taken the bytes.
-    pub fn run<S: Servers>(&mut self, servers: &mut S, tries: u32) -> Result<(), ClientFault> {
-        run(
-            self.alloc,
-            servers,
-            &mut self.caller,
-            &mut self.sending,
-            tries,
-        )
+    /// the handshake has ended, at QoS 0 until a connection has taken the bytes. What comes of the DISCONNECT does not matter.
+    pub fn run<S: Servers>(&mut self, servers: &mut S, tries: u32) -> Result<(), ClientFault>
+        ensures acknowledged { OnOk result (IsAcknowledged self.new) }
+        ensures trace { OnOk result (Trace self.old.caller [] self.new.caller) }
+        ensures same { self.new.once ≡ self.old.once }
+    {
+        for opened in 0..tries {
+            let Some(stream) = next_stream(servers, opened) else {
+                continue;
+            };
+            if self.visit(stream)? {
+                return Ok(());
+            }
+        }
+        Err(ClientFault::Lost)
+    }
+
+    // One connection: whether the publication was acknowledged, or written.
+    fn visit<D: Read + Write + Drop>(&mut self, stream: D) -> Result<bool, ClientFault>
+        ensures acknowledged { IfOk result (λ done. done ≡ true → IsAcknowledged self.new) }
+        ensures trace { OnOk result (Trace self.old.caller [] self.new.caller) }
+        ensures same { self.new.once ≡ self.old.once }
+    {
+        let mut stream = Counted::new(stream);
+        let mut room = Vec::from_elem(self.alloc, 0u8, PIECE_BYTES)?;
+        self.caller.open()?;
+        for _ in 0..u64::MAX {
+            match self.turn(&mut stream, room.as_mut_slice())? {
+                Progress::Waits => {}
+                Progress::Lost => return Ok(false),
+                Progress::Done => {
+                    leave(self.alloc, &mut stream, &mut self.caller);
+                    return Ok(true);
+                }
+            }
+        }
+        Ok(false)
+    }
+
+    // Writes, reads once, and goes on after what came.
+    fn turn<D: Read + Write>(
+        &mut self,
+        stream: &mut Counted<D>,
+        room: &mut [u8],
+    ) -> Result<Progress, ClientFault>
+        ensures acknowledged { IfOk result (λ progress. progress ≡ Progress.Done → IsAcknowledged self.new) }
+        ensures trace { OnOk result (Trace self.old.caller [] self.new.caller) }
+        ensures same { self.new.once ≡ self.old.once }
+    {
+        let news = exchange(self.alloc, stream, room, &mut self.caller)?;
+        self.go_on(news, stream)
+    }
+
+    // Goes on after what came on a connection.
+    fn go_on<D: Read + Write>(
+        &mut self,
+        news: News,
+        stream: &mut Counted<D>,
+    ) -> Result<Progress, ClientFault>
+        ensures acknowledged { IfOk result (λ progress. progress ≡ Progress.Done → IsAcknowledged self.new) }
+        ensures trace { OnOk result (Trace self.old.caller [] self.new.caller) }
+        ensures same { self.new.once ≡ self.old.once }
+    {
+        match &self.once {
+            None => Ok(kept_on(news, &self.caller)),
+            Some(publish) if news == News::Accepted => {
+                send_once(self.alloc, publish, stream, &mut self.caller)
+            }
+            Some(_) => Ok(after(news)),
+        }
+    }
+}
+
+// How far a publication is that the client keeps.
+fn kept_on(news: News, caller: &Caller) -> Progress
+    ensures { result ≡ Progress.Done → kept_count caller.now.core.state ≡ 0 }
+{
+    if caller.core.kept() == 0 {
+        Progress::Done
+    } else {
+        after(news)
+    }
+}
+
+// Sends a publication at QoS 0 on a connection that the server has just accepted.
+fn send_once<D: Read + Write>(
+    alloc: Global,
+    publish: &Publish,
+    stream: &mut Counted<D>,
+    caller: &mut Caller,
+) -> Result<Progress, ClientFault>
+    ensures trace { OnOk result (Trace caller.old [] caller.new) }
+{
+    let topic = publish.topic.clone()?;
+    let payload = publish.payload.clone()?;
+    caller.publish(topic, QoS::AtMostOnce, publish.retain, payload)?;
+    let is_whole = send(alloc, stream, caller)?;
+    Ok(written(is_whole))
+}
+
+// How far a publication at QoS 0 is after it was written, or not.
+fn written(is_whole: bool) -> Progress {
+    if is_whole {
+        Progress::Done
+    } else {
+        Progress::Lost
+    }
+}
+
+// How far a publisher is whose publication is not done.
+fn after(news: News) -> Progress
+    ensures { result ≢ Progress.Done }
+{
+    if news == News::Lost {
+        Progress::Lost
+    } else {
+        Progress::Waits
     }
 }
 
@@ -84,24 +208,4 @@ fn unanswered(topic: TopicName, retain: bool, payload: Payload) -> Result<Publis
         return Err(ClientFault::from(ClientError::TooLarge));
     }
     Ok(publish)
-}
-
-impl Errand for Sending {
-    fn begin(&mut self, core: &mut ClientCore) -> Result<(), ClientFault> {
-        let Sending::Once(publish) = self else {
-            return Ok(());
-        };
-        let topic = publish.topic.clone()?;
-        let payload = publish.payload.clone()?;
-        core.publish(topic, QoS::AtMostOnce, publish.retain, payload)?;
-        Ok(())
-    }
-
-    fn go_on(&mut self, core: &mut ClientCore) -> Result<Progress, ClientFault> {
-        if core.kept() == 0 {
-            Ok(Progress::Done)
-        } else {
-            Ok(Progress::Waits)
-        }
-    }
 }

@@ -1,14 +1,21 @@
 // Printing what is published.
 
-use crate::errand::{Errand, Progress};
+ghost use Rattle.std.specs.Prelude.{◌≡◌, true, [], ◌∷◌, OnOk, IfOk};
+ghost use Rattle.std.specs.Io.KnownBytes.{Appends};
+ghost use Rattle.user_client.specs.Printing.{line_of};
+ghost use Rattle.user_client.specs.Listening.{Asks, Hears, Shows, begun};
+
+use crate::caller::{Caller, News};
 use crate::fault::ClientFault;
 use crate::printing::print_line;
 use crate::servers::Servers;
-use crate::visiting::{Caller, run};
-use client::{Accepted, ClientCore};
+use crate::visiting::{exchange, leave, next_stream};
+use client::Accepted;
+use node_base::{Counted, PIECE_BYTES};
 use packet::{ClientId, QoS};
 use std::alloc::Global;
-use std::io::Write;
+use std::io::{Read, Write};
+use std::marker::Model;
 use topics::Filter;
 
 /// A client that prints what is published.
@@ -19,23 +26,20 @@ pub struct Subscriber {
     filter: Filter,
     qos: QoS,
     count: u32,
+    // How many publications are still to be printed. Once one is printed, the server has the subscription.
+    left: u32,
 }
 
-// A client that prints to an output.
-#[derive(Drop)]
-struct Listening<'a, W> {
-    alloc: Global,
-    filter: &'a Filter,
-    qos: QoS,
-    // How many publications are still to be printed.
-    left: u32,
-    // Whether one was received: then the server has the subscription.
-    has_heard: bool,
-    output: &'a mut W,
+impl Model for Subscriber {
+    ghost use Rattle.user_client.specs.Listening.{Listening};
+
+    ghost Value = { Listening };
+
+    ghost view = { λ s. record { caller = s.caller; count = s.count; left = s.left } };
 }
 
 impl Subscriber {
-    /// A client of this identifier that asks for a filter, and ends behind so many publications. The
+    /// Makes a client of this identifier that asks for a filter, and stops after `count` publications. The
     /// identifier is refused first, then the filter.
     pub fn new(
         alloc: Global,
@@ -46,72 +50,159 @@ impl Subscriber {
     ) -> Result<Subscriber, ClientFault> {
         let id = ClientId::new(alloc, id)?;
         let filter = Filter::new(alloc, filter)?;
-        let caller = Caller {
-            core: ClientCore::new(alloc, id, 0),
-            was_accepted: false,
-        };
         Ok(Subscriber {
             alloc,
-            caller,
+            caller: Caller::new(alloc, id),
             filter,
             qos,
             count,
+            left: count,
         })
     }
 
     /// Prints over the connections of these servers, at most `tries` of them, a line for each
-    /// publication, which is flushed before its receipt is answered.
+    /// publication, which is flushed before its receipt is answered. What comes of the last answers and of the DISCONNECT does
+    /// not matter.
     pub fn run<S: Servers, W: Write + Drop>(
         &mut self,
         servers: &mut S,
         output: &mut W,
         tries: u32,
-    ) -> Result<(), ClientFault> {
-        let mut listening = Listening {
-            alloc: self.alloc,
-            filter: &self.filter,
-            qos: self.qos,
-            left: self.count,
-            has_heard: false,
-            output,
-        };
-        run(self.alloc, servers, &mut self.caller, &mut listening, tries)
-    }
-}
-
-impl<'a, W: Write> Listening<'a, W> {
-    fn print(&mut self, accepted: &Accepted) -> Result<(), ClientFault> {
-        let mut line = Vec::new(self.alloc);
-        print_line(accepted, &mut line)?;
-        let written = self.output.write_all(line.as_slice());
-        if written.is_err() || self.output.flush().is_err() {
-            return Err(ClientFault::Output);
-        }
-        self.left = self.left.saturating_sub(1);
-        Ok(())
-    }
-}
-
-impl<'a, W: Write> Errand for Listening<'a, W> {
-    // Before anything was received the subscription may have been lost with its connection.
-    fn begin(&mut self, core: &mut ClientCore) -> Result<(), ClientFault> {
-        if !self.has_heard {
-            core.subscribe(self.filter.clone()?, self.qos)?;
-        }
-        Ok(())
-    }
-
-    fn go_on(&mut self, core: &mut ClientCore) -> Result<Progress, ClientFault> {
-        for accepted in core.take_accepted() {
-            self.has_heard = true;
-            if self.left > 0 {
-                self.print(&accepted)?;
+    ) -> Result<(), ClientFault>
+        ensures printed { OnOk result
+            (Hears (begun self.old) (W.contents output.old) self.new (W.contents output.new)) }
+        ensures all { OnOk result (self.new.left ≡ 0) }
+    {
+        self.left = self.count;
+        for opened in 0..tries {
+            let Some(stream) = next_stream(servers, opened) else {
+                continue;
+            };
+            if self.visit(stream, output)? {
+                return Ok(());
             }
         }
-        if self.left == 0 {
-            Ok(Progress::Done)
-        } else {
-            Ok(Progress::Waits)
-        }
+        Err(ClientFault::Lost)
     }
+
+    // One connection: whether all was printed.
+    fn visit<D: Read + Write + Drop, W: Write>(
+        &mut self,
+        stream: D,
+        output: &mut W,
+    ) -> Result<bool, ClientFault>
+        ensures printed { OnOk result
+            (Hears self.old (W.contents output.old) self.new (W.contents output.new)) }
+        ensures all { IfOk result (λ done. done ≡ true → self.new.left ≡ 0) }
+    {
+        let mut stream = Counted::new(stream);
+        let mut room = Vec::from_elem(self.alloc, 0u8, PIECE_BYTES)?;
+        self.caller.open()?;
+        for _ in 0..u64::MAX {
+            let is_lost = self.turn(&mut stream, room.as_mut_slice(), output)?;
+            if self.left == 0 {
+                leave(self.alloc, &mut stream, &mut self.caller);
+                return Ok(true);
+            }
+            if is_lost {
+                return Ok(false);
+            }
+        }
+        Ok(false)
+    }
+
+    // Writes, reads once, and goes on after what came: whether the connection is lost.
+    fn turn<D: Read + Write, W: Write>(
+        &mut self,
+        stream: &mut Counted<D>,
+        room: &mut [u8],
+        output: &mut W,
+    ) -> Result<bool, ClientFault>
+        ensures printed { OnOk result
+            (Hears self.old (W.contents output.old) self.new (W.contents output.new)) }
+    {
+        let news = exchange(self.alloc, stream, room, &mut self.caller)?;
+        self.go_on(news, output)?;
+        Ok(news == News::Lost)
+    }
+
+    // Asks for the filter on a new connection, and prints what was accepted.
+    fn go_on<W: Write>(&mut self, news: News, output: &mut W) -> Result<(), ClientFault>
+        ensures printed { OnOk result
+            (Hears self.old (W.contents output.old) self.new (W.contents output.new)) }
+    {
+        self.ask(news)?;
+        self.print_accepted(output)
+    }
+
+    // Asks for the filter where a connection was accepted: before anything was printed the subscription may have been lost
+    // with the connection before.
+    fn ask(&mut self, news: News) -> Result<(), ClientFault>
+        ensures asked { OnOk result (Asks self.old self.new) }
+    {
+        if !is_to_ask(news, self.left, self.count) {
+            return Ok(());
+        }
+        self.caller.subscribe(&self.filter, self.qos)
+    }
+
+    // Prints what was accepted, as much as is to be printed.
+    fn print_accepted<W: Write>(&mut self, output: &mut W) -> Result<(), ClientFault>
+        ensures printed { OnOk result
+            (Hears self.old (W.contents output.old) self.new (W.contents output.new)) }
+    {
+        let accepted = self.caller.take_accepted();
+        self.left = print_all(self.alloc, accepted.as_slice(), self.left, output)?;
+        Ok(())
+    }
+}
+
+// Whether the filter is to be asked for.
+fn is_to_ask(news: News, left: u32, count: u32) -> bool {
+    news == News::Accepted && left == count
+}
+
+// Prints these, as many as are to be printed: how many then are.
+fn print_all<W: Write>(
+    alloc: Global,
+    accepted: &[Accepted],
+    left: u32,
+    output: &mut W,
+) -> Result<u32, ClientFault>
+    ensures { IfOk result (λ rest. Shows accepted.now left rest (W.contents output.old) (W.contents output.new)) }
+{
+    let mut rest = left;
+    for one in accepted {
+        rest = print_next(alloc, one, rest, output)?;
+    }
+    Ok(rest)
+}
+
+// Prints one more, if one is to be printed.
+fn print_next<W: Write>(
+    alloc: Global,
+    accepted: &Accepted,
+    left: u32,
+    output: &mut W,
+) -> Result<u32, ClientFault>
+    ensures { IfOk result (λ rest. Shows (accepted.now ∷ []) left rest (W.contents output.old) (W.contents output.new)) }
+{
+    if left == 0 {
+        return Ok(0);
+    }
+    print(alloc, accepted, output)?;
+    Ok(left - 1)
+}
+
+// Prints one line, and flushes it.
+fn print<W: Write>(alloc: Global, accepted: &Accepted, output: &mut W) -> Result<(), ClientFault>
+    ensures { OnOk result
+        (Appends (W.contents output.old) (W.contents output.new) (line_of accepted.now)) }
+{
+    let mut line = Vec::new(alloc);
+    print_line(accepted, &mut line)?;
+    if output.write_all(line.as_slice()).is_err() || output.flush().is_err() {
+        return Err(ClientFault::Output);
+    }
+    Ok(())
 }

@@ -1,76 +1,41 @@
-// The connections of a client, one after the other.
+// One connection of a client, from CONNECT to its end.
 
-use crate::errand::{Errand, Progress};
+ghost use Rattle.std.specs.Prelude.{◌≡◌, true, [], OnOk, IfOk};
+ghost use Rattle.std.specs.Io.KnownBytes.{Appends};
+ghost use Rattle.client_base.specs.State.{kept_count};
+ghost use Rattle.user_client.specs.Tracing.{Trace};
+
+use crate::caller::{Caller, News};
 use crate::fault::ClientFault;
 use crate::servers::Servers;
-use client::{ClientCore, ClientError};
-use node_base::{Counted, PIECE_BYTES, ReadOutcome, Written};
+use node_base::{Counted, ReadOutcome, Written};
 use std::alloc::Global;
 use std::io::{Read, Write};
 
-/// How a connection ended.
-#[derive(Clone, Copy, Debug, PartialEq, Eq)]
-enum Visit {
-    /// The errand is done, and the client has taken its leave.
-    Done,
-    /// The connection was lost, or the server did not accept it.
-    Lost,
-}
-
-/// A client, and whether a server has accepted a connection of it.
-#[derive(Drop)]
-pub(crate) struct Caller {
-    pub(crate) core: ClientCore,
-    pub(crate) was_accepted: bool,
-}
-
-/// Opens connections, at most `tries` of them, until the errand is done.
-pub(crate) fn run<S: Servers, E: Errand>(
-    alloc: Global,
-    servers: &mut S,
-    caller: &mut Caller,
-    errand: &mut E,
-    tries: u32,
-) -> Result<(), ClientFault> {
-    for opening in 0..tries {
-        if opening > 0 {
-            servers.rest();
-        }
-        let Some(stream) = servers.open() else {
-            continue;
-        };
-        if connect(alloc, stream, caller, errand)? == Visit::Done {
-            return Ok(());
-        }
+/// Opens the next connection, after a while where one was opened before.
+pub(crate) fn next_stream<S: Servers>(servers: &mut S, opened: u32) -> Option<S::Stream> {
+    if opened > 0 {
+        servers.rest();
     }
-    Err(ClientFault::Lost)
+    servers.open()
 }
 
-// One connection, from CONNECT to its end.
-fn connect<D: Read + Write + Drop, E: Errand>(
+/// Writes what the client has for the server, reads once, and takes in what came.
+pub(crate) fn exchange<D: Read + Write>(
     alloc: Global,
-    stream: D,
+    stream: &mut Counted<D>,
+    room: &mut [u8],
     caller: &mut Caller,
-    errand: &mut E,
-) -> Result<Visit, ClientFault> {
-    let mut stream = Counted::new(stream);
-    let mut room = Vec::from_elem(alloc, 0u8, PIECE_BYTES)?;
-    caller.core.open()?;
-    for _ in 0..u64::MAX {
-        if !send(alloc, &mut stream, &mut caller.core)? {
-            break;
-        }
-        let Some(piece) = next_piece(&mut stream, room.as_mut_slice()) else {
-            break;
-        };
-        match take_in(piece, caller, errand)? {
-            None => break,
-            Some(Progress::Waits) => {}
-            Some(Progress::Done) => return leave(alloc, &mut stream, &mut caller.core),
-        }
+) -> Result<News, ClientFault>
+    ensures trace { OnOk result (Trace caller.old [] caller.new) }
+{
+    if !send(alloc, stream, caller)? {
+        return Ok(News::Lost);
     }
-    caller.core.lost();
-    Ok(Visit::Lost)
+    match next_piece(stream, room) {
+        Some(piece) => caller.take_in(piece),
+        None => Ok(News::Lost),
+    }
 }
 
 // The next piece that the server sent, at the front of the room; None where the connection is lost.
@@ -84,53 +49,27 @@ fn next_piece<'r, D: Read>(stream: &mut Counted<D>, room: &'r mut [u8]) -> Optio
     }
 }
 
-// Takes in what the server sent, and goes on with the errand. None where the connection is lost by it.
-fn take_in<E: Errand>(
-    piece: &[u8],
+/// Takes leave of the server. The client has done what it was asked for, so nothing hangs on whether the server hears of it.
+pub(crate) fn leave<D: Read + Write>(alloc: Global, stream: &mut Counted<D>, caller: &mut Caller)
+    ensures trace { Trace caller.old [] caller.new }
+    ensures kept { kept_count caller.new.core.state ≡ kept_count caller.old.core.state }
+{
+    caller.disconnect();
+    let _ = send(alloc, stream, caller);
+}
+
+/// Writes what the client has for the server: whether all of it was taken.
+pub(crate) fn send<D: Read + Write>(
+    alloc: Global,
+    stream: &mut Counted<D>,
     caller: &mut Caller,
-    errand: &mut E,
-) -> Result<Option<Progress>, ClientFault> {
-    let was_connected = caller.core.connected();
-    match caller.core.on_bytes(piece) {
-        Ok(()) => {}
-        Err(ClientError::Memory) => return Err(ClientFault::Memory),
-        Err(ClientError::SessionLost) => return Err(ClientFault::Lost),
-        Err(_) => return Ok(None),
-    }
-    if !caller.core.connected() {
-        return Ok(Some(Progress::Waits));
-    }
-    if !was_connected {
-        if caller.core.present() && !caller.was_accepted {
-            return Err(ClientFault::SessionPresent);
-        }
-        caller.was_accepted = true;
-        errand.begin(&mut caller.core)?;
-    }
-    Ok(Some(errand.go_on(&mut caller.core)?))
-}
-
-// Takes leave of the server. What it was sent before has to be written, at QoS 0 above all.
-fn leave<D: Read + Write>(
-    alloc: Global,
-    stream: &mut Counted<D>,
-    core: &mut ClientCore,
-) -> Result<Visit, ClientFault> {
-    core.disconnect()?;
-    if send(alloc, stream, core)? {
-        Ok(Visit::Done)
-    } else {
-        Ok(Visit::Lost)
-    }
-}
-
-// Writes what the client has for the server: whether all of it was taken.
-fn send<D: Read + Write>(
-    alloc: Global,
-    stream: &mut Counted<D>,
-    core: &mut ClientCore,
-) -> Result<bool, ClientFault> {
+) -> Result<bool, ClientFault>
+    ensures trace { Trace caller.old [] caller.new }
+    ensures kept { caller.new.core.state ≡ caller.old.core.state }
+    ensures written { IfOk result (λ whole. whole ≡ true →
+        Appends (D.contents stream.old.device) (D.contents stream.new.device) caller.old.core.out) }
+{
     let mut out = Vec::new(alloc);
-    core.outgoing(&mut out)?;
+    caller.outgoing(&mut out)?;
     Ok(stream.write_whole(out.as_slice()) == Written::Whole)
 }

@@ -4,7 +4,7 @@ use packet::QoS;
 use std::alloc::Global;
 use std::cell::RefCell;
 use std::io;
-use std::io::{Read, Write};
+use std::io::{ErrorKind, Read, Write};
 use std::test::Fail;
 use user_client::{ClientFault, Publisher, Servers, Subscriber, print_text};
 
@@ -15,6 +15,8 @@ type Pieces = &'static [&'static [u8]];
 #[derive(Drop)]
 struct Told<'a> {
     connections: &'a [Pieces],
+    // How many bytes the first connection takes. Then each write fails.
+    room: usize,
     opened: usize,
     rests: u32,
     log: &'a RefCell<Vec<u8>>,
@@ -24,6 +26,7 @@ struct Told<'a> {
 struct Pipe<'a> {
     pieces: Pieces,
     sent: usize,
+    room: usize,
     log: &'a RefCell<Vec<u8>>,
 }
 
@@ -32,10 +35,16 @@ impl<'a> Servers for Told<'a> {
 
     fn open(&mut self) -> Option<Pipe<'a>> {
         let pieces = *self.connections.get(self.opened)?;
+        let room = if self.opened == 0 {
+            self.room
+        } else {
+            usize::MAX
+        };
         self.opened = self.opened.saturating_add(1);
         Some(Pipe {
             pieces,
             sent: 0,
+            room,
             log: self.log,
         })
     }
@@ -59,6 +68,10 @@ impl<'a> Read for Pipe<'a> {
 
 impl<'a> Write for Pipe<'a> {
     fn write(&mut self, buf: &[u8]) -> io::Result<usize> {
+        if buf.len() > self.room {
+            return Err(io::Error::from(ErrorKind::BrokenPipe));
+        }
+        self.room = self.room.saturating_sub(buf.len());
         self.log.try_borrow_mut()?.extend_from_slice(buf)?;
         Ok(buf.len())
     }
@@ -76,6 +89,11 @@ const PUBREC: &[u8] = &[0x50, 2, 0, 1];
 
 const PUBCOMP: &[u8] = &[0x70, 2, 0, 1];
 
+const PUBACK: &[u8] = &[0x40, 2, 0, 1];
+
+// PUBACK, and a byte with which no packet begins.
+const PUBACK_AND_NONSENSE: &[u8] = &[0x40, 2, 0, 1, 0, 0];
+
 const SUBACK: &[u8] = &[0x90, 3, 0, 1, 2];
 
 // CONNECT of client `a` with keep alive 0.
@@ -83,10 +101,12 @@ const CONNECT: &[u8] = &[
     0x10, 13, 0, 4, b'M', b'Q', b'T', b'T', 4, 0, 0, 0, 0, 1, b'a',
 ];
 
-// PUBLISH of `x` on `t/1` at QoS 2, the same again, and at QoS 0.
+// PUBLISH of `x` on `t/1` at QoS 2, the same again, at QoS 1, and at QoS 0.
 const PUBLISH: &[u8] = &[0x34, 8, 0, 3, b't', b'/', b'1', 0, 1, b'x'];
 
 const PUBLISH_AGAIN: &[u8] = &[0x3C, 8, 0, 3, b't', b'/', b'1', 0, 1, b'x'];
+
+const PUBLISH_ANSWERED: &[u8] = &[0x32, 8, 0, 3, b't', b'/', b'1', 0, 1, b'x'];
 
 const PUBLISH_ONCE: &[u8] = &[0x30, 6, 0, 3, b't', b'/', b'1', b'x'];
 
@@ -124,9 +144,23 @@ fn publishes(
     ended: Result<(), ClientFault>,
     rests: u32,
 ) -> bool {
+    publishes_within(alloc, qos, usize::MAX, connections, written, ended, rests)
+}
+
+// The same, where the first connection takes so many bytes.
+fn publishes_within(
+    alloc: Global,
+    qos: QoS,
+    room: usize,
+    connections: &[Pieces],
+    written: &[&[u8]],
+    ended: Result<(), ClientFault>,
+    rests: u32,
+) -> bool {
     let log = RefCell::new(Vec::new(alloc));
     let mut servers = Told {
         connections,
+        room,
         opened: 0,
         rests: 0,
         log: &log,
@@ -166,6 +200,83 @@ fn a_publication_is_given_up(rt: HostRuntime) {
     assert!(rt; publishes(rt.alloc(), QoS::ExactlyOnce, pieces, written, lost, 1));
 }
 
+// What is acknowledged is done, also where the DISCONNECT cannot be written: nothing is published twice.
+#[test]
+fn an_acknowledged_publication_is_done(rt: HostRuntime) {
+    let pieces: &[Pieces] = &[&[CONNACK, PUBREC, PUBCOMP], &[SESSION_PRESENT]];
+    let written: &[&[u8]] = &[CONNECT, PUBLISH, PUBREL];
+    let room = CONNECT.len() + PUBLISH.len() + PUBREL.len();
+    assert!(rt;
+        publishes_within(
+            rt.alloc(),
+            QoS::ExactlyOnce,
+            room,
+            pieces,
+            written,
+            Ok(()),
+            0
+        )
+    );
+    let pieces: &[Pieces] = &[&[CONNACK, PUBACK], &[SESSION_PRESENT]];
+    let written: &[&[u8]] = &[CONNECT, PUBLISH_ANSWERED];
+    let room = CONNECT.len() + PUBLISH_ANSWERED.len();
+    assert!(rt;
+        publishes_within(
+            rt.alloc(),
+            QoS::AtLeastOnce,
+            room,
+            pieces,
+            written,
+            Ok(()),
+            0
+        )
+    );
+}
+
+// Bytes that are no packet, in the piece of the last answer.
+#[test]
+fn what_comes_after_the_last_answer_does_not_matter(rt: HostRuntime) {
+    let pieces: &[Pieces] = &[&[CONNACK, PUBACK_AND_NONSENSE], &[SESSION_PRESENT]];
+    let written: &[&[u8]] = &[CONNECT, PUBLISH_ANSWERED];
+    assert!(rt; publishes(rt.alloc(), QoS::AtLeastOnce, pieces, written, Ok(()), 0));
+}
+
+// At QoS 0 a publication is done where its bytes are written, and not before.
+#[test]
+fn a_publication_at_qos_0_is_written(rt: HostRuntime) {
+    let pieces: &[Pieces] = &[&[CONNACK], &[CONNACK]];
+    let lost = Err(ClientFault::Lost);
+    let room = CONNECT.len();
+    let written: &[&[u8]] = &[CONNECT, CONNECT];
+    assert!(rt; publishes_within(rt.alloc(), QoS::AtMostOnce, room, pieces, written, lost, 1));
+    let pieces: &[Pieces] = &[&[CONNACK], &[SESSION_PRESENT]];
+    let written: &[&[u8]] = &[CONNECT, CONNECT, PUBLISH_ONCE, DISCONNECT];
+    assert!(rt;
+        publishes_within(
+            rt.alloc(),
+            QoS::AtMostOnce,
+            room,
+            pieces,
+            written,
+            Ok(()),
+            1
+        )
+    );
+    let room = CONNECT.len() + PUBLISH_ONCE.len();
+    let written: &[&[u8]] = &[CONNECT, PUBLISH_ONCE];
+    assert!(rt;
+        publishes_within(
+            rt.alloc(),
+            QoS::AtMostOnce,
+            room,
+            pieces,
+            written,
+            Ok(()),
+            0
+        )
+    );
+}
+
 fn subscribe(
     alloc: Global,
     count: u32,
@@ -185,9 +296,22 @@ fn hears(
     printed: &[u8],
     written: &[&[u8]],
 ) -> bool {
+    hears_within(alloc, count, usize::MAX, connections, printed, written)
+}
+
+// The same, where the first connection takes so many bytes.
+fn hears_within(
+    alloc: Global,
+    count: u32,
+    room: usize,
+    connections: &[Pieces],
+    printed: &[u8],
+    written: &[&[u8]],
+) -> bool {
     let log = RefCell::new(Vec::new(alloc));
     let mut servers = Told {
         connections,
+        room,
         opened: 0,
         rests: 0,
         log: &log,
@@ -204,6 +328,18 @@ fn publications_are_printed(rt: HostRuntime) {
     let pieces: &[Pieces] = &[&[CONNACK, SUBACK, PUBLISH, PUBLISH_ONCE]];
     let written: &[&[u8]] = &[CONNECT, SUBSCRIBE, PUBREC, DISCONNECT];
     assert!(rt; hears(rt.alloc(), 2, pieces, b"2 0 t/1 x\n0 0 t/1 x\n", written));
+}
+
+// What is printed is done, also where neither the last answer nor the DISCONNECT can be written.
+#[test]
+fn printed_publications_are_done(rt: HostRuntime) {
+    let pieces: &[Pieces] = &[
+        &[CONNACK, SUBACK, PUBLISH],
+        &[SESSION_PRESENT, PUBLISH_AGAIN],
+    ];
+    let written: &[&[u8]] = &[CONNECT, SUBSCRIBE];
+    let room = CONNECT.len() + SUBSCRIBE.len();
+    assert!(rt; hears_within(rt.alloc(), 1, room, pieces, b"2 0 t/1 x\n", written));
 }
 
 // A subscription may be lost with its connection; one that has brought something is there.

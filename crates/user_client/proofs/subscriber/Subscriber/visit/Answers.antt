@@ -1,0 +1,33 @@
+use Rattle.user_client.proofs.PrintsJoin.{made_of, asks_made, asks_hears, hears_asks, hears_join, hears_none}
+use Rattle.user_client.proofs.subscriber.Subscriber.visit.Goals as goal
+
+pub loop-init : goal.loop-init
+loop-init g c =
+    let begun = made_of c.open.new.self c.self.inside.count c.self.inside.left in
+    let out = g.W.Write.contents c.args.output.now in
+    asks_hears out out c.args.self.now begun begun
+    (asks_made c.self.inside.caller c.open.new.self c.self.inside.count c.self.inside.left c.self.view_is
+    c.in_ok-open.ensures.trace) (hears_none begun out)
+
+pub returns-then-self-eq0-clause-printed : goal.returns-then-self-eq0-clause-printed
+returns-then-self-eq0-clause-printed g c =
+    let old = g.W.Write.contents c.args.output.now in
+    let new = g.W.Write.contents c.turn.new.output in
+    hears_asks old new c.args.self.now c.turn.new.self
+    (made_of c.leave.new.caller c.self-in-loop.inside.count c.self-in-loop.inside.left)
+    (hears_join old (g.W.Write.contents c.loop.output) new c.args.self.now c.loop.self c.turn.new.self c.loop.invariant
+    c.in_ok-is_lost.ensures.printed)
+    (asks_made c.self-in-loop.inside.caller c.leave.new.caller c.self-in-loop.inside.count c.self-in-loop.inside.left
+    c.self-in-loop.view_is c.leave.ensures.trace)
+
+pub returns-then-is_lost-clause-printed : goal.returns-then-is_lost-clause-printed
+returns-then-is_lost-clause-printed g c =
+    hears_join (g.W.Write.contents c.args.output.now) (g.W.Write.contents c.loop.output)
+    (g.W.Write.contents c.turn.new.output) c.args.self.now c.loop.self c.turn.new.self c.loop.invariant
+    c.in_ok-is_lost.ensures.printed
+
+pub loop-preserved : goal.loop-preserved
+loop-preserved g c =
+    hears_join (g.W.Write.contents c.args.output.now) (g.W.Write.contents c.loop.output)
+    (g.W.Write.contents c.turn.new.output) c.args.self.now c.loop.self c.turn.new.self c.loop.invariant
+    c.in_ok-is_lost.ensures.printed

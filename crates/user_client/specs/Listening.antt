@@ -1,0 +1,38 @@
+-- A client that prints what is published.
+use Rattle.std.specs.Prelude.{◌≡◌, ℕ, ◌-◌, List, [], length, take, Option}
+use Rattle.std.specs.List.{flat_map}
+use Rattle.std.specs.Io.KnownBytes.{Appends}
+use Rattle.client_base.specs.declared.accepted.Accepted.{Accepted}
+use Rattle.user_client.specs.Printing.{line_of}
+use Rattle.user_client.specs.Tracing.{Called, Trace}
+
+-- a client, how many publications it was asked for, and how many of them are still to be printed
+pub record Listening : Type 0 where
+  pub caller : Called
+  pub count : ℕ
+  pub left : ℕ
+
+-- it begins anew
+abbrev pub begun : Listening → Listening
+begun listening = record listening { left = listening.count }
+
+-- what is printed of these, in order, where so many are still to be printed
+abbrev pub lines_of : ℕ → List Accepted → List ℕ
+lines_of left accepted = flat_map line_of (take left accepted)
+
+-- each of these was printed once, in order, as many as were to be printed
+abbrev pub Shows : List Accepted → ℕ → ℕ → Option (List ℕ) → Option (List ℕ) → Type 0
+Shows accepted left rest before after =
+    (rest ≡ left - length accepted) × Appends before after (lines_of left accepted)
+
+-- what was accepted between the two was printed
+abbrev pub Hears : Listening → Option (List ℕ) → Listening → Option (List ℕ) → Type 0
+Hears old before new after =
+    (accepted : List Accepted)
+    × Trace old.caller accepted new.caller
+    × (new.count ≡ old.count)
+    × Shows accepted old.left new.left before after
+
+-- nothing was printed between the two
+abbrev pub Asks : Listening → Listening → Type 0
+Asks old new = Trace old.caller [] new.caller × (new.count ≡ old.count) × (new.left ≡ old.left)

@@ -1,0 +1,18 @@
+-- A client that publishes once.
+use Rattle.std.specs.Prelude.{◌≡◌, ⊤, Option, Some, None}
+use Rattle.packet.specs.declared.publish.Publish.{Publish}
+use Rattle.client_base.specs.State.{kept_count}
+use Rattle.user_client.specs.Tracing.{Called}
+
+-- a client, and its publication where that has QoS 0: else the client keeps it
+pub record Publishing : Type 0 where
+  pub caller : Called
+  pub once : Option Publish
+
+-- what is answered is acknowledged, whole: the client keeps no publication
+abbrev pub IsAcknowledgedAs : Option Publish → Called → Type 0
+IsAcknowledgedAs None caller = kept_count caller.core.state ≡ 0
+IsAcknowledgedAs (Some publish) caller = ⊤
+
+abbrev pub IsAcknowledged : Publishing → Type 0
+IsAcknowledged publishing = IsAcknowledgedAs publishing.once publishing.caller

@@ -1,0 +1,57 @@
+-- What a client does on its connections, step by step: calls of its keeper, and bytes of its servers (MQTT 4.3, 4.4).
+use Rattle.std.specs.Prelude.{◌≡◌, ◌≢◌, ℕ, Bool, false, ◌||◌, List, [], ◌++◌, Result, Ok, Err}
+use Rattle.packet.specs.declared.qos.QoS.{QoS}
+use Rattle.client_base.specs.declared.accepted.Accepted.{Accepted}
+use Rattle.client_base.specs.declared.error.ClientError.{ClientError}
+use Rattle.client_base.specs.declared.error.ClientError.TheVariants as errors
+use Rattle.client_base.specs.State.{is_online}
+use Rattle.client_base.specs.Steps.{Call, keeper_step}
+use Rattle.client.specs.Core.{Core, Does, Opens, Leaves, publication_with, without_accepted}
+use Rattle.client.specs.Reading.{OnBytes}
+
+-- a client, and whether a server has accepted a connection of it
+pub record Called : Type 0 where
+  pub core : Core
+  pub was_accepted : Bool
+
+-- the client does this, and nothing changes but its keeper
+abbrev pub with_core : Core → Called → Called
+with_core core called = record called { core = core }
+
+-- the server sent bytes: whether it has accepted a connection by now
+abbrev pub after_bytes : Core → Called → Called
+after_bytes core called =
+    record { core = core; was_accepted = called.was_accepted || is_online core.state.stage }
+
+-- before the first accepted connection the server had no session of the client
+abbrev pub IsFirst : Called → Core → Type 0
+IsFirst called core = called.was_accepted ≡ false → core.state.present ≡ false
+
+-- One step. Bytes of a server that lost the session are none.
+pub data Step (old : Called) : Called → Type 0 where
+  opens : (core : Core) → Opens (keeper_step Call.Opens old.core.state) old.core (Ok tt) core
+      → Step old (with_core core old)
+  publishes : (retain : Bool) (qos : QoS) (topic payload : List ℕ) (core : Core)
+      → Does (keeper_step (Call.Publishes (publication_with retain qos topic payload)) old.core.state)
+      old.core (Ok tt) core
+      → Step old (with_core core old)
+  subscribes : (filter : List ℕ) (qos : QoS) (core : Core)
+      → Does (keeper_step (Call.Subscribes filter qos) old.core.state) old.core (Ok tt) core
+      → Step old (with_core core old)
+  -- what it wrote is handed over
+  writes : Step old (with_core (record old.core { out = [] }) old)
+  hears : (piece : List ℕ) (heard : Result (Unit {0}) ClientError) (core : Core)
+      → OnBytes piece old.core.state.stage old.core heard core
+      → heard ≢ Err errors.SessionLost → IsFirst old core
+      → Step old (after_bytes core old)
+  leaves : (core : Core)
+      → Leaves (keeper_step Call.Disconnects old.core.state) old.core (Ok tt) core
+      → Step old (with_core core old)
+
+-- Steps one after the other, and what was accepted and taken out meanwhile, in order.
+pub data Trace (start : Called) : List Accepted → Called → Type 0 where
+  starts : Trace start [] start
+  goes : {taken : List Accepted} {old : Called} (new : Called)
+      → Trace start taken old → Step old new → Trace start taken new
+  takes : {taken : List Accepted} {old : Called} → Trace start taken old
+      → Trace start (taken ++ old.core.state.accepted) (with_core (without_accepted old.core) old)

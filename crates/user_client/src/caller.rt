@@ -1,0 +1,153 @@
+// A client, and whether a server has accepted a connection of it.
+
+ghost use Rattle.std.specs.Prelude.{◌≡◌, ◌≢◌, ◌++◌, false, OnOk, Err, []};
+ghost use Rattle.client_base.specs.declared.error.ClientError.TheVariants as errors;
+ghost use Rattle.client_base.specs.State.{kept_count};
+ghost use Rattle.client.specs.Core.{new_core};
+ghost use Rattle.user_client.specs.Tracing.{IsFirst, Trace};
+
+use crate::fault::ClientFault;
+use client::{Accepted, ClientCore, ClientError};
+use packet::{ClientId, Payload, QoS};
+use std::alloc::Global;
+use std::marker::Model;
+use topics::{Filter, TopicName};
+
+/// What came of the bytes that a server sent.
+#[derive(Clone, Copy, Debug, PartialEq, Eq)]
+pub(crate) enum News {
+    /// The server has not accepted the connection yet.
+    Waits,
+    /// The server accepted the connection just now.
+    Accepted,
+    /// Packets came, or parts of packets.
+    Packets,
+    /// The connection is lost.
+    Lost,
+}
+
+/// A client, and whether a server has accepted a connection of it.
+#[derive(Drop)]
+pub(crate) struct Caller {
+    pub(crate) core: ClientCore,
+    pub(crate) was_accepted: bool,
+}
+
+impl Model for Caller {
+    ghost use Rattle.user_client.specs.Tracing.{Called};
+
+    ghost Value = { Called };
+
+    ghost view = { λ c. record { core = c.core; was_accepted = c.was_accepted } };
+}
+
+impl Caller {
+    /// Makes a client of this identifier, with keep alive 0, that was never connected.
+    pub(crate) fn new(alloc: Global, id: ClientId) -> Caller
+        ensures { result ≡ record { core = new_core id 0; was_accepted = false } }
+    {
+        Caller {
+            core: ClientCore::new(alloc, id, 0),
+            was_accepted: false,
+        }
+    }
+
+    /// Opens a connection.
+    pub(crate) fn open(&mut self) -> Result<(), ClientFault>
+        ensures trace { OnOk result (Trace self.old [] self.new) }
+    {
+        Ok(self.core.open()?)
+    }
+
+    /// Publishes.
+    pub(crate) fn publish(
+        &mut self,
+        topic: TopicName,
+        qos: QoS,
+        retain: bool,
+        payload: Payload,
+    ) -> Result<(), ClientFault>
+        ensures trace { OnOk result (Trace self.old [] self.new) }
+    {
+        Ok(self.core.publish(topic, qos, retain, payload)?)
+    }
+
+    /// Asks for the publications of a filter.
+    pub(crate) fn subscribe(&mut self, filter: &Filter, qos: QoS) -> Result<(), ClientFault>
+        ensures trace { OnOk result (Trace self.old [] self.new) }
+    {
+        Ok(self.core.subscribe(filter.clone()?, qos)?)
+    }
+
+    /// Takes out what was accepted, in order.
+    pub(crate) fn take_accepted(&mut self) -> Vec<Accepted>
+        ensures trace { Trace self.old result.items self.new }
+    {
+        self.core.take_accepted()
+    }
+
+    /// Hands over what the client wrote and did not hand over before.
+    pub(crate) fn outgoing(&mut self, out: &mut Vec<u8>) -> Result<(), ClientFault>
+        ensures trace { Trace self.old [] self.new }
+        ensures kept { self.new.core.state ≡ self.old.core.state }
+        ensures bytes { OnOk result (out.new.items ≡ out.old.items ++ self.old.core.out) }
+    {
+        Ok(self.core.outgoing(out)?)
+    }
+
+    /// Ends the connection, if memory is found for a DISCONNECT.
+    pub(crate) fn disconnect(&mut self)
+        ensures trace { Trace self.old [] self.new }
+        ensures kept { kept_count self.new.core.state ≡ kept_count self.old.core.state }
+    {
+        let _ = self.core.disconnect();
+    }
+
+    /// Takes in what the server sent. A server that had a session before the first accepted connection, and one that lost it
+    /// later, is a fault.
+    pub(crate) fn take_in(&mut self, piece: &[u8]) -> Result<News, ClientFault>
+        ensures trace { OnOk result (Trace self.old [] self.new) }
+    {
+        let was_connected = self.core.connected();
+        let goes_on = goes_on(self.core.on_bytes(piece))?;
+        self.is_first()?;
+        let is_connected = self.core.connected();
+        self.was_accepted = self.was_accepted || is_connected;
+        Ok(news_of(goes_on, was_connected, is_connected))
+    }
+
+    // Before the first accepted connection the server may have no session of the client.
+    fn is_first(&self) -> Result<(), ClientFault>
+        ensures { OnOk result (IsFirst self.now self.now.core) }
+    {
+        if !self.was_accepted && self.core.present() {
+            return Err(ClientFault::SessionPresent);
+        }
+        Ok(())
+    }
+}
+
+// Whether the connection goes on after this answer to a piece. A session that is lost is a fault, and so is memory.
+fn goes_on(heard: Result<(), ClientError>) -> Result<bool, ClientFault>
+    ensures { OnOk result (heard ≢ Err errors.SessionLost) }
+{
+    match heard {
+        Ok(()) => Ok(true),
+        Err(ClientError::Memory) => Err(ClientFault::Memory),
+        Err(ClientError::SessionLost) => Err(ClientFault::Lost),
+        Err(_) => Ok(false),
+    }
+}
+
+// What came, where the server had accepted the connection before or not, and has now or not.
+fn news_of(goes_on: bool, was_connected: bool, is_connected: bool) -> News {
+    if !goes_on {
+        News::Lost
+    } else if !is_connected {
+        News::Waits
+    } else if was_connected {
+        News::Packets
+    } else {
+        News::Accepted
+    }
+}
