@@ -1,11 +1,16 @@
 -- The exit status of a program that ends with a fault, and how the faults of its parts become the program's.
 use Rattle.std.specs.Prelude.{ℕ}
+use Rattle.clap.specs.Values.{kind_of}
+use Rattle.clap.specs.declared.error.kind.ErrorKind.{ErrorKind}
+use Rattle.clap.specs.declared.error.kind.ErrorKind.TheVariants as kinds
 use Rattle.play.specs.declared.error.PlayError.{PlayError}
 use Rattle.play.specs.declared.error.PlayError.TheVariants as plays
 use Rattle.server.specs.declared.serve_error.ServeError.{ServeError}
 use Rattle.server.specs.declared.serve_error.ServeError.TheVariants as serves
 use Rattle.command_line.specs.declared.fault.TableFault.{TableFault}
 use Rattle.command_line.specs.declared.fault.TableFault.TheVariants as tables
+use Rattle.command_line.specs.declared.fault.LineFault.{LineFault}
+use Rattle.command_line.specs.declared.fault.LineFault.TheVariants as lines
 use Rattle.user_client.specs.declared.fault.ClientFault.{ClientFault}
 use Rattle.user_client.specs.declared.fault.ClientFault.TheVariants as clients
 use Rattle.jobs.specs.declared.fault.Fault.{Fault}
@@ -26,6 +31,18 @@ status_of faults.Losses = 1
 status_of (faults.Refused number) = 3
 status_of faults.SessionPresent = 1
 status_of faults.Lost = 1
+
+-- 0 where the version was asked for, 1 where memory ran out, 2 for help and for each refused word or number
+abbrev pub words_status : ErrorKind → ℕ
+words_status kinds.DisplayVersion = 0
+words_status kinds.OutOfMemory = 1
+words_status kind = 2
+
+-- of a command line that gives no job
+abbrev pub line_status : LineFault → ℕ
+line_status (lines.Words error) = words_status (kind_of error)
+line_status lines.Incomplete = status_of faults.Words
+line_status lines.Memory = status_of faults.Memory
 
 -- of a script that was not played as it should be
 abbrev pub played_fault_of : PlayError → Fault

@@ -5,12 +5,14 @@ mod fault;
 mod obeying;
 mod performing;
 mod reading;
+mod refusing;
 mod scripts;
 mod serving;
 mod talking;
 
 pub use fault::Fault;
 pub use performing::{perform, tell};
+pub use refusing::refuse;
 pub use scripts::play_text;
 pub use serving::serve_table;
 pub use talking::{publish, subscribe};

@@ -1,5 +1,8 @@
 // Doing a job.
 
+ghost use Rattle.std.specs.Prelude.{◌≡◌};
+ghost use Rattle.jobs.specs.Faults.{status_of};
+
 use crate::fault::Fault;
 use crate::{scripts, serving, talking};
 use command_line::Job;
@@ -37,8 +40,10 @@ where
     }
 }
 
-/// Tells a fault, and gives its exit status.
-pub fn tell<E: Write>(faults: &mut E, fault: &Fault) -> u8 {
+/// Tells a fault in one line, and returns its exit status.
+pub fn tell<E: Write>(faults: &mut E, fault: &Fault) -> u8
+    ensures { result ≡ status_of fault.now }
+{
     // There is nowhere else to tell it.
     let _ = writeln!(faults, "vbroker: {fault}");
     fault.status()

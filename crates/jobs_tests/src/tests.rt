@@ -3,6 +3,7 @@
 
 mod ends;
 mod hand;
+mod inputs;
 mod lines;
 mod orders;
 mod scripts;

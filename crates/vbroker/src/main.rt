@@ -4,9 +4,8 @@
 
 mod standard_error;
 
-use clap::error::ErrorKind;
-use command_line::{LineFault, line};
-use jobs::{Fault, perform, tell};
+use command_line::line;
+use jobs::{Fault, perform, refuse, tell};
 use standard_error::StandardError;
 use std::net::{Net, TcpListener, TcpStream};
 use std::process::ExitCode;
@@ -37,7 +36,7 @@ where
             let mut output = io::writer(rt);
             perform(rt, &job, &mut input, &mut output, &mut faults)
         }
-        Err(fault) => refuse(rt, fault),
+        Err(fault) => refuse(&fault, &mut io::writer(rt), &mut faults),
     }
 }
 
@@ -45,21 +44,4 @@ where
 fn words<R: Env + AllocGlobal>(rt: &R) -> Result<Vec<String>, Fault> {
     let words = env::args(rt).ok().ok_or(Fault::Words)?;
     Ok(words.collect(rt.alloc())?)
-}
-
-// Says why a command line gives no job. Help and the version go to standard output where they were asked for.
-fn refuse<R: Print + Eprint>(rt: &R, fault: LineFault) -> u8 {
-    match fault {
-        LineFault::Words(error) => {
-            // There is nowhere else to tell it.
-            let _ = error.print(rt);
-            if error.kind() == ErrorKind::DisplayVersion {
-                0
-            } else {
-                2
-            }
-        }
-        LineFault::Incomplete => tell(&mut StandardError::new(rt), &Fault::Words),
-        LineFault::Memory => tell(&mut StandardError::new(rt), &Fault::Memory),
-    }
 }

@@ -1,9 +1,11 @@
 // How each job ends: its exit status, and what it writes.
 
-use crate::tests::hand::ends;
-use jobs::{Fault, serve_table, tell};
+use crate::tests::hand::{does, ends};
+use command_line::LineFault;
+use jobs::{Fault, refuse, serve_table, tell};
 use std::alloc::Global;
 use std::net::{Net, TcpListener, TcpStream};
+use std::rt::Files;
 use std::sync::Wait;
 use std::thread::Threads;
 use std::time::Clock;
@@ -82,6 +84,74 @@ fn jobs_end_so(rt: HostRuntime) {
         let is_so = ends(&rt, words, b"".as_slice(), (*status, "", told));
         assert!(rt; is_so, "{told}");
     }
+}
+
+// Command lines that give no job, and their exit status; whether standard error says why, or standard output where that was
+// asked for. The other one stays empty.
+const REFUSED_LINES: &[(&str, u8, bool)] = &[
+    ("vbroker", 2, true),
+    ("vbroker --help", 2, false),
+    ("vbroker pub --help", 2, false),
+    ("vbroker --version", 0, false),
+    ("vbroker two", 2, true),
+    ("vbroker serve", 2, true),
+    ("vbroker serve --port 1", 2, true),
+    (
+        "vbroker pub --id a --topic t --qos 3 --message x h:1",
+        2,
+        true,
+    ),
+    (
+        "vbroker sub --id a --filter t --qos 1 --count 0 h:1",
+        2,
+        true,
+    ),
+    (
+        "vbroker sub --id a --filter t --qos 1 --count 1 --tries 1001 h:1",
+        2,
+        true,
+    ),
+];
+
+// Whether the words, which blanks part, are refused so.
+fn line_is_refused<R>(rt: &R, words: &str, wanted: u8, is_fault: bool) -> bool
+where
+    R: Files + Threads + Wait + Clock + Sync + AllocGlobal,
+    R: Net<Listener = TcpListener, Stream = TcpStream>,
+{
+    let parted: Result<Vec<&str>, _> = words.split(' ').collect(rt.alloc());
+    let Ok(parted) = parted else {
+        return false;
+    };
+    let mut output = Vec::new(rt.alloc());
+    let mut faults = Vec::new(rt.alloc());
+    let mut input = b"".as_slice();
+    let status = does(rt, parted.as_slice(), &mut input, &mut output, &mut faults);
+    status == wanted && output.is_empty() == is_fault && faults.is_empty() != is_fault
+}
+
+#[test]
+fn lines_are_refused_with_a_status(rt: HostRuntime) {
+    for (words, status, is_fault) in REFUSED_LINES {
+        assert!(rt; line_is_refused(&rt, words, *status, *is_fault), "{words}");
+    }
+}
+
+// Whether a refusal that no word shows has this exit status and is told so.
+fn is_refused_as(alloc: Global, fault: &LineFault, status: u8, told: &str) -> bool {
+    let mut output = Vec::new(alloc);
+    let mut faults = Vec::new(alloc);
+    refuse(fault, &mut output, &mut faults) == status
+        && output.is_empty()
+        && faults.as_slice() == told.as_bytes()
+}
+
+#[test]
+fn other_refusals_have_their_status(rt: HostRuntime) {
+    let told = "vbroker: out of memory\n";
+    assert!(rt; is_refused_as(rt.alloc(), &LineFault::Memory, 1, told));
+    let told = "vbroker: the words of the command line could not be read; try vbroker --help\n";
+    assert!(rt; is_refused_as(rt.alloc(), &LineFault::Incomplete, 2, told));
 }
 
 // Tables of nodes that are refused, and one whose address no program may have.

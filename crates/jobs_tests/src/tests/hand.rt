@@ -1,7 +1,8 @@
 // Doing a job by the words of a command line.
 
-use command_line::{Job, line};
-use jobs::perform;
+use command_line::line;
+use jobs::{perform, refuse};
+use std::io::BufRead;
 use std::net::{Net, TcpListener, TcpStream};
 use std::rt::Files;
 use std::sync::Wait;
@@ -17,20 +18,28 @@ where
     R: Files + Threads + Wait + Clock + Sync + AllocGlobal,
     R: Net<Listener = TcpListener, Stream = TcpStream>,
 {
-    match line(rt.alloc(), words) {
-        Ok(job) => is_done(rt, &job, input, end),
-        Err(_) => false,
-    }
+    let mut input = input;
+    let mut output = Vec::new(rt.alloc());
+    let mut faults = Vec::new(rt.alloc());
+    let status = does(rt, words, &mut input, &mut output, &mut faults);
+    (status, output.as_slice(), faults.as_slice()) == (end.0, end.1.as_bytes(), end.2.as_bytes())
 }
 
-fn is_done<R>(rt: &R, job: &Job<'_>, input: &[u8], end: End<'_>) -> bool
+/// Does what a command line of these words says, and returns the exit status.
+pub fn does<R, I>(
+    rt: &R,
+    words: &[&str],
+    input: &mut I,
+    output: &mut Vec<u8>,
+    faults: &mut Vec<u8>,
+) -> u8
 where
     R: Files + Threads + Wait + Clock + Sync + AllocGlobal,
     R: Net<Listener = TcpListener, Stream = TcpStream>,
+    I: BufRead + Drop,
 {
-    let mut output = Vec::new(rt.alloc());
-    let mut faults = Vec::new(rt.alloc());
-    let mut input = input;
-    let status = perform(rt, job, &mut input, &mut output, &mut faults);
-    (status, output.as_slice(), faults.as_slice()) == (end.0, end.1.as_bytes(), end.2.as_bytes())
+    match line(rt.alloc(), words) {
+        Ok(job) => perform(rt, &job, input, output, faults),
+        Err(fault) => refuse(&fault, output, faults),
+    }
 }
