@@ -37,9 +37,10 @@ MOVES = {
     "proofs.Agreed.OnePrimary": {"one_primary_a_ballot": ("p", "PastsAgree")},
     "proofs.Agreed.PastOrder": {"keeps_the_order": ("p", "Orders")},
     "proofs.Agreed.OneNodeTakes": {"one_node_takes_a_ballot": ("p", "Orders")},
-    "proofs.Given.NextPlaces": {"answers_at_the_next_places": ("p", "Orders")},
+    "proofs.Given.NextPlaces": {"answers_at_the_next_places": ("p", "NextPlaces")},
     "proofs.Given.WhileItLeads": {"answers_while_it_leads": ("p", "Orders")},
-    "proofs.Orders.TakenStands": {"taken_stand_at_once": ("p", "Orders")},
+    "proofs.Orders.TakenStands": {"taken_stand_at_once": ("p", "TakenStands"), "taken_at_in": ("p", "Orders")},
+    "proofs.Effects": {n: ("p", "Effects") for n in ("messages-append", "outputs-append")},
 }
 USE = re.compile(r"^(\s*(?:ghost )?use )Rattle\.agreement\.([A-Za-z_.]+)\.\{([^}]*)\}(;?)$")
 
