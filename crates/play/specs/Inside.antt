@@ -75,7 +75,7 @@ pub record AppendsAll (clients : List (List ℕ)) (orders : List Order) (first l
   pub played : Played clients first orders lines last
   pub is : new ≡ old ++ lines
 
--- and the last line after them, with so many losses
+-- and the last line after them, with this count of losses
 pub record PlaysOn (clients : List (List ℕ)) (orders : List Order) (first : WorldState) (old new : List ℕ) (losses : ℕ) : Type 0 where
   pub last : WorldState
   pub mid : List ℕ

@@ -33,7 +33,7 @@ abbrev pub accepted_lines : List ℕ → List Accepted → List ℕ
 accepted_lines name [] = []
 accepted_lines name (one ∷ more) = accepted_line name one ++ accepted_lines name more
 
--- a line for each that the client shows after so many
+-- a line for each that the client shows after the first `count`
 abbrev pub lines_after : ℕ → List ℕ → WorldState → List ℕ
 lines_after count name w = accepted_lines name (drop count (accepted_in name w))
 
@@ -54,7 +54,7 @@ abbrev pub IsAskedIn : Option Event → WorldState → Result (Unit {0}) Idle �
 IsAskedIn None old result asked new = asked ≡ []
 IsAskedIn (Some event) old result asked new = IsAsked event old result asked new
 
--- the line of event `index`: it was idle, or so many messages were sent so far, and so many commands are agreed
+-- the line of event `index`: it was idle, or the line counts the messages sent so far and the agreed commands
 abbrev pub IsLine : ℕ → Result (Unit {0}) Idle → WorldState → List ℕ → Type 0
 IsLine index (Err idle) new line = line ≡ idle_line index
 IsLine index (Ok done) new line =

@@ -16,7 +16,7 @@ falls_one : (low high bytes places : ℕ) → low ≤ high
     → (if nat_lt high places then bytes else 0) ≤ (if nat_lt low places then bytes else 0)
 falls_one low high bytes places least = grind (arith, least)
 
--- behind more places there are no more bytes
+-- after more places there are no more bytes
 falls : (low high : ℕ) (all : List Taken) → low ≤ high → bytes_behind high all ≤ bytes_behind low all
 falls low high [] least = omega arith
 falls low high (taken ∷ all) least =

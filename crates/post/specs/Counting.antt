@@ -8,7 +8,7 @@ pub record Taken : Type 0 where
   pub bytes : ℕ
   pub places : ℕ
 
--- how many of these bytes may stand in places behind so many
+-- how many of these bytes may stand in places after the first `places`
 abbrev pub bytes_behind : ℕ → List Taken → ℕ
 bytes_behind places [] = 0
 bytes_behind places (taken ∷ others) = (if nat_lt places taken.places then taken.bytes else 0) + bytes_behind places others

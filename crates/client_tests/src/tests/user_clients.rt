@@ -147,7 +147,7 @@ fn publishes(
     publishes_within(alloc, qos, usize::MAX, connections, written, ended, rests)
 }
 
-// The same, where the first connection takes so many bytes.
+// The same, where the first connection takes no more than `room` bytes.
 fn publishes_within(
     alloc: Global,
     qos: QoS,
@@ -299,7 +299,7 @@ fn hears(
     hears_within(alloc, count, usize::MAX, connections, printed, written)
 }
 
-// The same, where the first connection takes so many bytes.
+// The same, where the first connection takes no more than `room` bytes.
 fn hears_within(
     alloc: Global,
     count: u32,

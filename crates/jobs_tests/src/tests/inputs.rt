@@ -127,7 +127,7 @@ fn an_input_that_cannot_be_read_ends_the_server(rt: HostRuntime) {
     assert!(rt; ends_so(&rt, ErrorKind::Other, b"status\n", 1, "", told));
 }
 
-// The server goes on behind a line for which no memory was found.
+// The server goes on after a line for which memory ran out.
 #[test]
 fn a_line_without_memory_is_refused(rt: HostRuntime) {
     let rest = b"status\nquit\n".as_slice();

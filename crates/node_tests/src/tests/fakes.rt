@@ -15,6 +15,7 @@ pub struct Source<'a> {
 }
 
 impl<'a> Source<'a> {
+    /// Makes a source of these bytes, which gives `most` at a time and fails at the call of number `bad_call`.
     pub fn new(bytes: &'a [u8], most: usize, bad_call: u64) -> Source<'a> {
         Source {
             bytes,
@@ -49,6 +50,7 @@ pub struct Sink {
 }
 
 impl Sink {
+    /// Makes a sink that takes `most` bytes at a time, and fails with `fault` at the call of number `bad_call`.
     pub fn new(alloc: Global, most: usize, bad_call: u64, fault: ErrorKind) -> Sink {
         Sink {
             bytes: Vec::new(alloc),
