@@ -1,13 +1,11 @@
 -- The messages and the outputs among effects.
 use Rattle.std.proofs.Common.{◌≡◌, ℕ, List, [], ◌∷◌, ◌++◌, map, refl, ap}
-use Rattle.ballot.specs.Message.{Message}
-use Rattle.ballot.specs.Body.{Body}
-use Rattle.ballot.specs.Effect.{Effect}
-use Rattle.ballot.specs.Effect.TheVariants.{To, Out}
-use Rattle.ballot.specs.Progress.{Progress}
-use Rattle.ballot.specs.Losses.{Thinned}
-use Rattle.ballot.specs.Losses.Thinned.{none, keeps, loses}
-use Rattle.ballot.specs.Sending.{message_to_followed}
+use Rattle.whole.specs.Messages.{Message, Body, Effect}
+use Rattle.whole.specs.Messages.Effect.{To, Out}
+use Rattle.whole.specs.Progress.{Progress}
+use Rattle.whole.specs.Losses.{Thinned}
+use Rattle.whole.specs.Losses.Thinned.{none, keeps, loses}
+use Rattle.whole.specs.Sending.{message_to_followed}
 use Rattle.agreement.specs.World.{messages, outputs}
 use Rattle.lists.specs.Lists.{In}
 use Rattle.lists.specs.Lists.In.{here, there}

@@ -3,8 +3,8 @@ use Rattle.std.proofs.Common.{◌≡◌, ℕ, ◌+◌, ◌-◌, ◌<◌, ◌⊎�
 use Rattle.std.specs.Prelude.{◌==◌, ◌&&◌, nat_le, nat_lt}
 use Rattle.std.specs.List.{list_any}
 use Rattle.std.proofs.lemmas.Bool.{and_parts, or_cases, eqb-true, ltb-true}
-use Rattle.ballot.specs.LawfulConfig.{are_rising, is_lawful}
-use Rattle.ballot.specs.Config.{Config}
+use Rattle.whole.specs.LawfulConfig.{are_rising, is_lawful}
+use Rattle.whole.specs.Config.{Config}
 use Rattle.lists.specs.Lists.{In}
 use Rattle.lists.specs.Lists.In.{here, there}
 

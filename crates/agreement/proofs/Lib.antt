@@ -10,3 +10,4 @@ pub mod Orders
 pub mod Runs
 pub mod Serving
 pub mod Starts
+pub use Rattle.whole.proofs as of_whole

@@ -1,7 +1,7 @@
 -- Agreement.antt: what it means that nodes agree on a list.
 use Rattle.std.specs.Prelude.{ℕ, ◌+◌, ◌≡◌, ◌⊎◌, List, take, slice_get, Some}
 use Rattle.machine.specs.Machine.{Rules}
-use Rattle.ballot.specs.Replica.{ReplicaState}
+use Rattle.whole.specs.Replica.{ReplicaState}
 use Rattle.agreement.specs.World.{World}
 use Rattle.lists.specs.Lists.{In, IsPrefixOf}
 use Rattle.agreement.specs.MasterState.{MasterState}

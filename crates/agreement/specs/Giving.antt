@@ -1,9 +1,9 @@
 -- Giving.antt: what one node gives, in a step and between two moments at which it leads one ballot.
 use Rattle.std.specs.Prelude.{ℕ, true, false, ◌≤◌, ◌≡◌, ◌==◌, List, [], ◌∷◌, ◌++◌, length, if◌then◌else◌}
 use Rattle.machine.specs.Machine.{Rules}
-use Rattle.ballot.specs.Applying.{outputs_between}
-use Rattle.ballot.specs.Config.{Config}
-use Rattle.ballot.specs.Replica.{ReplicaState, is_active}
+use Rattle.whole.specs.Applying.{outputs_between}
+use Rattle.whole.specs.Config.{Config}
+use Rattle.whole.specs.Replica.{ReplicaState, is_active}
 use Rattle.agreement.specs.MasterState.{MasterState}
 use Rattle.agreement.specs.Past.{Learns, Moment, Past}
 use Rattle.agreement.specs.Past.Past.{began, went_on, learned}

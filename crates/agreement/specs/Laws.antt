@@ -2,9 +2,9 @@
 use Rattle.std.specs.Prelude.{ℕ, Bool, ◌≤◌, ◌≡◌, List, [], ◌∷◌, ◌++◌, filter, length, slice_get, Some}
 use Rattle.machine.specs.Machine.{Rules}
 use Rattle.lists.specs.Lists.{In, IsPrefixOf}
-use Rattle.ballot.specs.Applying.{outputs_between}
-use Rattle.ballot.specs.Config.{Config}
-use Rattle.ballot.specs.Replica.{ReplicaState}
+use Rattle.whole.specs.Applying.{outputs_between}
+use Rattle.whole.specs.Config.{Config}
+use Rattle.whole.specs.Replica.{ReplicaState}
 use Rattle.agreement.specs.Agreement.{Agrees, Holds}
 use Rattle.agreement.specs.Giving.{GivesNext, LeadsOn, given_in, given_of}
 use Rattle.agreement.specs.Leaving.{LeftInOrder}

@@ -3,7 +3,7 @@ use Rattle.std.specs.Prelude.{ℕ, ◌<◌, ◌≤◌, ◌≡◌, ◌⊎◌, Lis
 use Rattle.std.specs.List.{flat_map}
 use Rattle.machine.specs.Machine.{Rules}
 use Rattle.lists.specs.Lists.{In}
-use Rattle.ballot.specs.Applying.{outputs_between}
+use Rattle.whole.specs.Applying.{outputs_between}
 use Rattle.agreement.specs.Past.{Moment, WasActive}
 use Rattle.agreement.specs.World.{World, outputs}
 

@@ -10,3 +10,4 @@ pub mod Proposals
 pub mod Replays
 pub mod Steps
 pub mod World
+pub use Rattle.whole.specs as whole

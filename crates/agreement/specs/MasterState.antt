@@ -1,9 +1,9 @@
 -- MasterState.antt: what the master keeps, and what it does on Assign and Activate.
 use Rattle.std.specs.Prelude.{ℕ, Bool, true, ◌+◌, ◌==◌, List, Option, Some, None, if◌then◌else◌, ◌^◌, nat_le}
-use Rattle.ballot.specs.Config.{Config}
-use Rattle.ballot.specs.LawfulConfig.{is_lawful}
-use Rattle.ballot.specs.Body.{Body}
-use Rattle.ballot.specs.Body.TheVariants.{NewBallot, Activated, Superseded}
+use Rattle.whole.specs.Config.{Config}
+use Rattle.whole.specs.LawfulConfig.{is_lawful}
+use Rattle.whole.specs.Messages.{Body}
+use Rattle.whole.specs.Messages.Body.{NewBallot, Activated, Superseded}
 
 -- the active ballot and its members, the ballot that waits to be activated, and how many were given
 pub record MasterState : Type 0 where

@@ -3,10 +3,10 @@
 use Rattle.std.specs.Prelude.{ℕ, true, false, ◌+◌, ◌≤◌, ◌≡◌, ◌⊎◌, List, [], ◌∷◌, length, slice_get, take, Some}
 use Rattle.lists.specs.Lists.{In, IsPrefixOf}
 use Rattle.machine.specs.Machine.{Rules}
-use Rattle.ballot.specs.Body.TheVariants.{Held, Installed}
-use Rattle.ballot.specs.Applying.{applied_to}
-use Rattle.ballot.specs.Config.{Config}
-use Rattle.ballot.specs.Replica.{ReplicaState, is_active}
+use Rattle.whole.specs.Messages.Body.{Held, Installed}
+use Rattle.whole.specs.Applying.{applied_to}
+use Rattle.whole.specs.Config.{Config}
+use Rattle.whole.specs.Replica.{ReplicaState, is_active}
 use Rattle.agreement.specs.Steps.{MayHappen}
 use Rattle.agreement.specs.MasterState.{MasterState, opening_master}
 use Rattle.agreement.specs.World.{World, can_open, moved, opening_world}

@@ -1,6 +1,6 @@
 -- Primaries.antt: who is the active primary of a ballot.
 use Rattle.std.specs.Prelude.{ℕ, true, ◌≡◌, slice_get, Some}
-use Rattle.ballot.specs.Replica.{ReplicaState, is_active}
+use Rattle.whole.specs.Replica.{ReplicaState, is_active}
 use Rattle.agreement.specs.World.{World}
 
 -- the node at a place is the active primary of a ballot, which it has joined

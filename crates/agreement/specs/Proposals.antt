@@ -3,10 +3,10 @@
 use Rattle.std.specs.Prelude.{ℕ, Bool, true, false, ◌≡◌, List, [], ◌∷◌, ◌++◌, length, filter, slice_get, Some, nat_lt, ◌==◌, if◌then◌else◌}
 use Rattle.machine.specs.Machine.{Rules}
 use Rattle.lists.specs.Lists.{In}
-use Rattle.ballot.specs.Config.{Config}
-use Rattle.ballot.specs.Protocol.{Input}
-use Rattle.ballot.specs.Protocol.Input.{Receives, Proposes, Ticks}
-use Rattle.ballot.specs.Replica.{ReplicaState}
+use Rattle.whole.specs.Config.{Config}
+use Rattle.whole.specs.Protocol.{Input}
+use Rattle.whole.specs.Protocol.Input.{Receives, Proposes, Ticks}
+use Rattle.whole.specs.Replica.{ReplicaState}
 use Rattle.agreement.specs.MasterState.{MasterState}
 use Rattle.agreement.specs.Past.{Moment, Past}
 use Rattle.agreement.specs.Past.Past.{began, went_on, learned}

@@ -2,17 +2,17 @@
 -- master answers an Assign, or hears an Activate. Messages of the master may be lost, too.
 use Rattle.std.specs.Prelude.{ℕ, ◌+◌, ◌≡◌, false, List, [], slice_get, Some, ◌∷◌, ◌++◌, Option, None}
 use Rattle.machine.specs.Machine.{Rules}
-use Rattle.ballot.specs.Config.{Config}
-use Rattle.ballot.specs.Body.TheVariants.{Activate}
-use Rattle.ballot.specs.Effect.{Effect}
-use Rattle.ballot.specs.Losses.{Loses, halted}
-use Rattle.ballot.specs.Protocol.{Input, replica_step}
-use Rattle.ballot.specs.Protocol.Input.{Receives, Proposes, Ticks}
-use Rattle.ballot.specs.Replica.{ReplicaState}
+use Rattle.whole.specs.Config.{Config}
+use Rattle.whole.specs.Messages.Body.{Activate}
+use Rattle.whole.specs.Messages.{Effect}
+use Rattle.whole.specs.Losses.{Loses, halted}
+use Rattle.whole.specs.Protocol.{Input, replica_step}
+use Rattle.whole.specs.Protocol.Input.{Receives, Proposes, Ticks}
+use Rattle.whole.specs.Replica.{ReplicaState}
 use Rattle.agreement.specs.World.{World, moved}
 use Rattle.lists.specs.Lists.{In}
 use Rattle.agreement.specs.MasterState.{MasterState, assigned, activated, MasterOutcome, AssignRefusal, refusal, master_behind}
-use Rattle.ballot.specs.Sending.{master}
+use Rattle.whole.specs.Sending.{master}
 
 -- a node may take a message only if it was sent to it
 abbrev pub MayTake : {S C O : Type 0} → World S C O → ℕ → Input C → Type 0

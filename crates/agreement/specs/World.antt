@@ -2,12 +2,11 @@
 use Rattle.std.specs.Prelude.{Option, Some, None, ℕ, zero, suc, Bool, ◌+◌, List, [], ◌∷◌, ◌++◌, slice_set, ◌&&◌, nat_le}
 use Rattle.std.specs.List.{list_all}
 use Rattle.machine.specs.Machine.{Rules}
-use Rattle.ballot.specs.LawfulConfig.{is_lawful}
-use Rattle.ballot.specs.Config.{Config}
-use Rattle.ballot.specs.Message.{Message}
-use Rattle.ballot.specs.Effect.{Effect}
-use Rattle.ballot.specs.Effect.TheVariants.{To, Out}
-use Rattle.ballot.specs.Replica.{ReplicaState, opening}
+use Rattle.whole.specs.LawfulConfig.{is_lawful}
+use Rattle.whole.specs.Config.{Config}
+use Rattle.whole.specs.Messages.{Message, Effect}
+use Rattle.whole.specs.Messages.Effect.{To, Out}
+use Rattle.whole.specs.Replica.{ReplicaState, opening}
 
 -- the nodes, number n + 1 at place n, the messages with their receivers in the order of sending,
 -- and the outputs that left with their places

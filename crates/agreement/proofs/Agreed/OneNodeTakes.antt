@@ -6,13 +6,13 @@ use Rattle.std.proofs.lemmas.List.Elements.{filter-append}
 use Rattle.machine.specs.Machine.{Rules}
 use Rattle.lists.specs.Lists.{In}
 use Rattle.lists.specs.Lists.In.{here, there}
-use Rattle.ballot.specs.Config.{Config}
-use Rattle.ballot.specs.Effect.{Effect}
-use Rattle.ballot.specs.Losses.{Loses}
-use Rattle.ballot.specs.Protocol.{Input, replica_step}
-use Rattle.ballot.specs.Protocol.Input.{Receives, Proposes, Ticks}
-use Rattle.ballot.specs.Replica.{ReplicaState}
-use Rattle.ballot.proofs.StepRows.{added-log}
+use Rattle.whole.specs.Config.{Config}
+use Rattle.whole.specs.Messages.{Effect}
+use Rattle.whole.specs.Losses.{Loses}
+use Rattle.whole.specs.Protocol.{Input, replica_step}
+use Rattle.whole.specs.Protocol.Input.{Receives, Proposes, Ticks}
+use Rattle.whole.specs.Replica.{ReplicaState}
+use Rattle.whole.proofs.StepRows.{added-log}
 use Rattle.agreement.specs.Laws.{OneNodeTakesABallot}
 use Rattle.agreement.specs.MasterState.{MasterState}
 use Rattle.agreement.specs.Past.{Moment, Past}

@@ -3,7 +3,7 @@ use Rattle.std.proofs.Common.{◌≡◌, ℕ, zero, suc, ◌+◌, ◌<◌, ◌�
 use Rattle.machine.specs.Machine.{Rules}
 use Rattle.lists.specs.Lists.{In, IsPrefixOf}
 use Rattle.lists.proofs.Beginnings.{prefix_then, prefix_take, prefix_length, take_prefix}
-use Rattle.ballot.specs.Config.{Config}
+use Rattle.whole.specs.Config.{Config}
 use Rattle.agreement.specs.Inside.Chosen.{ChosenList}
 use Rattle.agreement.specs.Inside.Ballots.{Given, Line, Told}
 use Rattle.agreement.specs.Past.{Moment, HasConfig, WasActive, HasTold, IsChosen}

@@ -2,7 +2,7 @@
 use Rattle.std.proofs.Common.{◌≡◌, ℕ, ◌⊎◌, inl, inr, List, [], ◌∷◌, refl, sym, subst}
 use Rattle.lists.specs.Lists.{IsPrefixOf}
 use Rattle.lists.specs.Lists.In.{there}
-use Rattle.ballot.specs.Config.{Config}
+use Rattle.whole.specs.Config.{Config}
 use Rattle.machine.specs.Machine.{Rules}
 use Rattle.agreement.specs.Laws.{AgreedGrows}
 use Rattle.agreement.specs.Past.{Moment, HasConfig, WasActive, HasTold, IsChosen, IsAgreed}

@@ -6,8 +6,8 @@ use Rattle.machine.specs.Machine.{Rules}
 use Rattle.lists.specs.Lists.{In}
 use Rattle.lists.specs.Lists.In.{here}
 use Rattle.lists.proofs.Beginnings.{prefix_take}
-use Rattle.ballot.specs.Config.{Config}
-use Rattle.ballot.specs.Replica.{ReplicaState}
+use Rattle.whole.specs.Config.{Config}
+use Rattle.whole.specs.Replica.{ReplicaState}
 use Rattle.agreement.specs.Inside.Ballots.{Given, History, Told, TellsHere, Extends}
 use Rattle.agreement.specs.Inside.Ballots.Told.{told_at_opening, told_by_held, told_by_installed, told_as_primary}
 use Rattle.agreement.specs.Inside.Serves.{Serves}

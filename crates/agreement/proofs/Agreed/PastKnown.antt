@@ -3,7 +3,7 @@ use Rattle.std.proofs.Common.{◌≡◌, ℕ, ◌+◌, ◌⊎◌, inl, inr, true
 use Rattle.machine.specs.Machine.{Rules}
 use Rattle.lists.specs.Lists.{In}
 use Rattle.lists.specs.Lists.In.{here, there}
-use Rattle.ballot.specs.Config.{Config}
+use Rattle.whole.specs.Config.{Config}
 use Rattle.agreement.specs.Inside.Ballots.{Given, History, Extends}
 use Rattle.agreement.specs.Inside.GroupSteps.{adds_of, GroupStep}
 use Rattle.agreement.specs.Inside.Serves.{Serves}

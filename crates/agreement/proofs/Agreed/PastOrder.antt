@@ -3,9 +3,9 @@ use Rattle.std.proofs.Common.{◌≡◌, ℕ, ◌⊎◌, inl, inr, List, [], ◌
 use Rattle.std.specs.Prelude.{filter, slice_get}
 use Rattle.std.proofs.lemmas.List.{append-nil}
 use Rattle.machine.specs.Machine.{Rules}
-use Rattle.ballot.specs.Applying.{applied_to}
-use Rattle.ballot.specs.Config.{Config}
-use Rattle.ballot.specs.Replica.{ReplicaState}
+use Rattle.whole.specs.Applying.{applied_to}
+use Rattle.whole.specs.Config.{Config}
+use Rattle.whole.specs.Replica.{ReplicaState}
 use Rattle.lists.specs.Lists.{In}
 use Rattle.lists.specs.Lists.In.{here, there}
 use Rattle.agreement.specs.Inside.Ballots.{Applied, Line}

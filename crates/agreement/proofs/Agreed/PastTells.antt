@@ -5,9 +5,9 @@ use Rattle.machine.specs.Machine.{Rules}
 use Rattle.lists.specs.Lists.{In, IsPrefixOf}
 use Rattle.lists.specs.Lists.In.{here}
 use Rattle.lists.proofs.Beginnings.{prefix_then, prefix_length}
-use Rattle.ballot.specs.Body.TheVariants.{Held, Installed}
-use Rattle.ballot.specs.Config.{Config}
-use Rattle.ballot.specs.Replica.{ReplicaState}
+use Rattle.whole.specs.Messages.Body.{Held, Installed}
+use Rattle.whole.specs.Config.{Config}
+use Rattle.whole.specs.Replica.{ReplicaState}
 use Rattle.agreement.specs.Inside.Ballots.{Given, Line, Told}
 use Rattle.agreement.specs.Inside.Ballots.Told.{told_by_held, told_by_installed, told_as_primary}
 use Rattle.agreement.specs.Inside.OpeningHistory.{first_ballot}

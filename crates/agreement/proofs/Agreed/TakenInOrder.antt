@@ -4,13 +4,13 @@ use Rattle.std.specs.Prelude.{slice_get, nat_lt}
 use Rattle.std.proofs.lemmas.List.{append-nil}
 use Rattle.machine.specs.Machine.{Rules}
 use Rattle.lists.proofs.Places.{get_set}
-use Rattle.ballot.specs.Effect.{Effect}
-use Rattle.ballot.specs.Losses.{Loses, halted}
-use Rattle.ballot.specs.Protocol.{replica_step}
-use Rattle.ballot.specs.Protocol.Input.{Receives, Proposes, Ticks}
-use Rattle.ballot.specs.Replica.{ReplicaState}
-use Rattle.ballot.specs.Role.TheVariants.{Active}
-use Rattle.ballot.specs.Serving.{added}
+use Rattle.whole.specs.Messages.{Effect}
+use Rattle.whole.specs.Losses.{Loses, halted}
+use Rattle.whole.specs.Protocol.{replica_step}
+use Rattle.whole.specs.Protocol.Input.{Receives, Proposes, Ticks}
+use Rattle.whole.specs.Replica.{ReplicaState}
+use Rattle.whole.specs.Role.TheVariants.{Active}
+use Rattle.whole.specs.Serving.{added}
 use Rattle.agreement.specs.Inside.Ballots.{History}
 use Rattle.agreement.specs.Inside.GroupSteps.{GroupStep, adds_of}
 use Rattle.agreement.specs.Inside.GroupSteps.GroupStep.{takes}

@@ -3,15 +3,15 @@ use Rattle.std.proofs.Common.{◌≡◌, ℕ, ◌+◌, ◌≤◌, ◌⊎◌, inl
 use Rattle.std.specs.Prelude.{slice_get, nat_lt, nat_le, ◌&&◌, ◌==◌}
 use Rattle.std.proofs.lemmas.Bool.{cases_Bool, and_parts, leb-true, eqb-true}
 use Rattle.machine.specs.Machine.{Rules, replay}
-use Rattle.ballot.proofs.AppliesInOrder.{replay_goes_on}
-use Rattle.ballot.specs.Applying.{applied_to}
-use Rattle.ballot.specs.Body.TheVariants.{Activated}
-use Rattle.ballot.specs.Progress.{Progress}
-use Rattle.ballot.specs.Role.TheVariants.{Active}
-use Rattle.ballot.specs.Replica.{ReplicaState, is_installing, others, progress_at}
-use Rattle.ballot.specs.Sending.{Outcome}
-use Rattle.ballot.specs.Serving.{most_places}
-use Rattle.ballot.specs.Changing.{on_activated}
+use Rattle.whole.proofs.AppliesInOrder.{replay_goes_on}
+use Rattle.whole.specs.Applying.{applied_to}
+use Rattle.whole.specs.Messages.Body.{Activated}
+use Rattle.whole.specs.Progress.{Progress}
+use Rattle.whole.specs.Role.TheVariants.{Active}
+use Rattle.whole.specs.Replica.{ReplicaState, is_installing, others, progress_at}
+use Rattle.whole.specs.Sending.{Outcome}
+use Rattle.whole.specs.Serving.{most_places}
+use Rattle.whole.specs.Changing.{on_activated}
 use Rattle.agreement.specs.World.{World}
 use Rattle.lists.specs.Lists.{In, IsPrefixOf}
 use Rattle.lists.specs.Lists.In.{here, there}
@@ -29,7 +29,7 @@ use Rattle.agreement.proofs.Frame.Later.{takes}
 use Rattle.agreement.proofs.Frame.Quiet.{keeps_nothing}
 use Rattle.agreement.proofs.Frame.Bases.{chosen_told}
 use Rattle.agreement.proofs.Frame.Roles.{role_installing}
-use Rattle.ballot.proofs.ChangeRows.{on_activated-stays, on_activated-adds}
+use Rattle.whole.proofs.ChangeRows.{on_activated-stays, on_activated-adds}
 
 -- the progress that are made for some members
 pub reached_of : (held : ℕ) (ms : List ℕ) (reached : Progress) → In reached (progress_at held ms) → In reached.member ms × (reached.held ≡ held)

@@ -3,10 +3,10 @@ use Rattle.std.proofs.Common.{◌≡◌, ℕ, ◌+◌, ◌<◌, ◌≤◌, ◌�
 use Rattle.std.specs.Prelude.{slice_get, nat_lt, nat_le, ◌&&◌, ◌||◌, ◌==◌}
 use Rattle.std.proofs.lemmas.Bool.{cases_Bool, and_parts, or_cases, ltb-true, leb-true, eqb-true}
 use Rattle.machine.specs.Machine.{Rules}
-use Rattle.ballot.specs.Body.TheVariants.{Install, Installed}
-use Rattle.ballot.specs.Replica.{ReplicaState}
-use Rattle.ballot.specs.Sending.{Outcome, message_to}
-use Rattle.ballot.specs.Changing.{on_install}
+use Rattle.whole.specs.Messages.Body.{Install, Installed}
+use Rattle.whole.specs.Replica.{ReplicaState}
+use Rattle.whole.specs.Sending.{Outcome, message_to}
+use Rattle.whole.specs.Changing.{on_install}
 use Rattle.agreement.specs.World.{World, moved}
 use Rattle.lists.specs.Lists.{In, IsPrefixOf}
 use Rattle.agreement.specs.Inside.Ballots.{Given, Line, History}
@@ -23,7 +23,7 @@ use Rattle.agreement.proofs.Changing.Installs.{install_taken}
 use Rattle.agreement.proofs.Frame.Leaving.{left_same}
 use Rattle.agreement.proofs.Frame.Moved.{move_sound}
 use Rattle.agreement.proofs.Frame.Quiet.{keeps_nothing}
-use Rattle.ballot.proofs.ChangeRows.{on_install-takes, on_install-answers, on_install-stays}
+use Rattle.whole.proofs.ChangeRows.{on_install-takes, on_install-answers, on_install-stays}
 use Rattle.agreement.proofs.Changing.SameNode.{same_node}
 
 -- an Install that is answered

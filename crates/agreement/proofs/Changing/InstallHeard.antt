@@ -3,12 +3,11 @@ use Rattle.std.proofs.Common.{◌≡◌, ℕ, zero, suc, ◌+◌, ◌≤◌, Lis
 use Rattle.std.specs.Prelude.{slice_get}
 use Rattle.std.proofs.lemmas.List.{length-take-le}
 use Rattle.machine.specs.Machine.{Rules}
-use Rattle.ballot.specs.Message.{Message}
-use Rattle.ballot.specs.Body.TheVariants.{Install, Installed}
-use Rattle.ballot.specs.Effect.{Effect}
-use Rattle.ballot.specs.Losses.{Thinned}
-use Rattle.ballot.specs.Replica.{ReplicaState}
-use Rattle.ballot.specs.Sending.{message_to}
+use Rattle.whole.specs.Messages.{Message, Effect}
+use Rattle.whole.specs.Messages.Body.{Install, Installed}
+use Rattle.whole.specs.Losses.{Thinned}
+use Rattle.whole.specs.Replica.{ReplicaState}
+use Rattle.whole.specs.Sending.{message_to}
 use Rattle.agreement.specs.World.{World, messages, outputs}
 use Rattle.lists.specs.Lists.{In, IsPrefixOf}
 use Rattle.lists.specs.Lists.In.{here, there}

@@ -2,11 +2,10 @@
 use Rattle.std.proofs.Common.{◌≡◌, ℕ, ◌+◌, ◌⊎◌, inl, inr, true, List, [], ◌∷◌, length, Some, refl, ap, sym, ◌∙◌, subst, arith}
 use Rattle.std.specs.Prelude.{slice_get}
 use Rattle.machine.specs.Machine.{Rules}
-use Rattle.ballot.specs.Message.{Message}
-use Rattle.ballot.specs.Body.TheVariants.{Installed}
-use Rattle.ballot.specs.Effect.{Effect}
-use Rattle.ballot.specs.Replica.{ReplicaState, is_installing, others}
-use Rattle.ballot.specs.Changing.{activates}
+use Rattle.whole.specs.Messages.{Message, Effect}
+use Rattle.whole.specs.Messages.Body.{Installed}
+use Rattle.whole.specs.Replica.{ReplicaState, is_installing, others}
+use Rattle.whole.specs.Changing.{activates}
 use Rattle.agreement.specs.World.{World, messages, outputs, moved}
 use Rattle.lists.specs.Lists.{In}
 use Rattle.lists.specs.Lists.In.{here, there}

@@ -4,17 +4,17 @@ use Rattle.std.specs.Prelude.{slice_get, ◌&&◌, ◌==◌}
 use Rattle.std.specs.List.{list_any}
 use Rattle.std.proofs.lemmas.Bool.{cases_Bool, and_parts, eqb-true}
 use Rattle.machine.specs.Machine.{Rules}
-use Rattle.ballot.specs.Body.TheVariants.{Installed}
-use Rattle.ballot.specs.Replica.{ReplicaState, is_installing}
-use Rattle.ballot.specs.Sending.{Outcome}
-use Rattle.ballot.specs.Changing.{on_installed}
+use Rattle.whole.specs.Messages.Body.{Installed}
+use Rattle.whole.specs.Replica.{ReplicaState, is_installing}
+use Rattle.whole.specs.Sending.{Outcome}
+use Rattle.whole.specs.Changing.{on_installed}
 use Rattle.agreement.specs.World.{World}
 use Rattle.lists.specs.Lists.{In}
 use Rattle.agreement.specs.Inside.Ballots.{History}
 use Rattle.agreement.specs.Inside.Keeps.{Keeps}
 use Rattle.agreement.specs.Inside.Sound.{IsSound}
 use Rattle.agreement.proofs.Frame.Quiet.{keeps_nothing}
-use Rattle.ballot.proofs.ChangeRows.{on_installed-stays, on_installed-counts}
+use Rattle.whole.proofs.ChangeRows.{on_installed-stays, on_installed-counts}
 use Rattle.agreement.proofs.Changing.InstalledCounts.{installed_noted}
 
 -- an Installed that comes

@@ -2,10 +2,10 @@
 use Rattle.std.proofs.Common.{◌≡◌, ℕ, ◌+◌, ◌<◌, ◌≤◌, inl, inr, List, [], ◌∷◌, length, take, Some, refl, ap, sym, ◌∙◌, subst, arith}
 use Rattle.std.specs.Prelude.{slice_get}
 use Rattle.machine.specs.Machine.{Rules}
-use Rattle.ballot.specs.Body.TheVariants.{Installed}
-use Rattle.ballot.specs.Role.TheVariants.{Backup}
-use Rattle.ballot.specs.Replica.{ReplicaState}
-use Rattle.ballot.specs.Sending.{message_to}
+use Rattle.whole.specs.Messages.Body.{Installed}
+use Rattle.whole.specs.Role.TheVariants.{Backup}
+use Rattle.whole.specs.Replica.{ReplicaState}
+use Rattle.whole.specs.Sending.{message_to}
 use Rattle.agreement.specs.World.{World, moved}
 use Rattle.lists.specs.Lists.{In, IsPrefixOf}
 use Rattle.agreement.specs.Inside.Ballots.{Given, History, Applied}

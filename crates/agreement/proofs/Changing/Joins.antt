@@ -3,13 +3,12 @@ use Rattle.std.proofs.Common.{◌≡◌, ℕ, ◌+◌, ◌<◌, ◌≤◌, ◌�
 use Rattle.std.specs.Prelude.{slice_get, nat_lt, nat_le, ◌&&◌}
 use Rattle.std.proofs.lemmas.Bool.{cases_Bool, and_parts, ltb-true, leb-true, ltb-false}
 use Rattle.machine.specs.Machine.{Rules}
-use Rattle.ballot.specs.Message.{Message}
-use Rattle.ballot.specs.Body.TheVariants.{Join, State}
-use Rattle.ballot.specs.Effect.{Effect}
-use Rattle.ballot.specs.Role.TheVariants.{Backup}
-use Rattle.ballot.specs.Replica.{ReplicaState}
-use Rattle.ballot.specs.Sending.{Outcome, message_to}
-use Rattle.ballot.specs.Changing.{on_join}
+use Rattle.whole.specs.Messages.{Message, Effect}
+use Rattle.whole.specs.Messages.Body.{Join, State}
+use Rattle.whole.specs.Role.TheVariants.{Backup}
+use Rattle.whole.specs.Replica.{ReplicaState}
+use Rattle.whole.specs.Sending.{Outcome, message_to}
+use Rattle.whole.specs.Changing.{on_join}
 use Rattle.agreement.specs.World.{World, messages, moved}
 use Rattle.lists.specs.Lists.{In}
 use Rattle.lists.specs.Lists.In.{here, there}
@@ -23,7 +22,7 @@ use Rattle.agreement.proofs.Frame.SaysLater.{joined_kept}
 use Rattle.agreement.proofs.Frame.Joining.{AreSilent, MovesQuietly, quiet_extends}
 use Rattle.agreement.proofs.Frame.QuietWorlds.{quiet_lines}
 use Rattle.agreement.proofs.Frame.Quiet.{before_quiet, quiet_keeps, keeps_nothing}
-use Rattle.ballot.proofs.ChangeRows.{on_join-stays, on_join-answers}
+use Rattle.whole.proofs.ChangeRows.{on_join-stays, on_join-answers}
 use Rattle.agreement.proofs.Frame.Sealing.{joined_seals, joined_offers}
 
 -- what a node is that answers a Join: as it was, or a backup of the ballot

@@ -3,14 +3,12 @@ use Rattle.std.proofs.Common.{◌≡◌, ℕ, ◌+◌, ◌<◌, ◌≤◌, ◌�
 use Rattle.std.specs.Prelude.{slice_get}
 use Rattle.std.proofs.lemmas.Bool.{cases_lt}
 use Rattle.machine.specs.Machine.{Rules}
-use Rattle.ballot.specs.Message.{Message}
-use Rattle.ballot.specs.Body.{Body}
-use Rattle.ballot.specs.Body.TheVariants.{NewBallot, Join}
-use Rattle.ballot.specs.Effect.{Effect}
-use Rattle.ballot.specs.Role.TheVariants.{Fetching}
-use Rattle.ballot.specs.Replica.{ReplicaState}
-use Rattle.ballot.specs.Sending.{Outcome, message_to_each}
-use Rattle.ballot.specs.Changing.{on_new_ballot}
+use Rattle.whole.specs.Messages.{Message, Body, Effect}
+use Rattle.whole.specs.Messages.Body.{NewBallot, Join}
+use Rattle.whole.specs.Role.TheVariants.{Fetching}
+use Rattle.whole.specs.Replica.{ReplicaState}
+use Rattle.whole.specs.Sending.{Outcome, message_to_each}
+use Rattle.whole.specs.Changing.{on_new_ballot}
 use Rattle.agreement.specs.World.{World, messages, outputs, moved}
 use Rattle.lists.specs.Lists.{In}
 use Rattle.lists.specs.Lists.In.{here, there}
@@ -22,7 +20,7 @@ use Rattle.agreement.specs.Inside.Sound.{Says, IsSoundNode, IsSound}
 use Rattle.lists.proofs.Places.{get_set}
 use Rattle.agreement.proofs.Frame.Joining.{IsSilent, MovesQuietly}
 use Rattle.agreement.proofs.Frame.Quiet.{before_quiet, quiet_keeps, keeps_nothing}
-use Rattle.ballot.proofs.ChangeRows.{on_new_ballot-joins, on_new_ballot-stays}
+use Rattle.whole.proofs.ChangeRows.{on_new_ballot-joins, on_new_ballot-stays}
 
 -- a message to each of some nodes
 pub said_to_each : {C : Type 0} (O : Type 0) (P : ℕ → Message C → Type 0) (id : ℕ) (body : Body C) (tos : List ℕ) →

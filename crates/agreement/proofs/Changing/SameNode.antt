@@ -1,7 +1,7 @@
 -- SameNode.antt: a node that stays as it is, in a world that went on.
 use Rattle.std.proofs.Common.{ℕ, ◌⊎◌, inl, inr, List, length, refl, arith}
-use Rattle.ballot.specs.Effect.{Effect}
-use Rattle.ballot.specs.Replica.{ReplicaState}
+use Rattle.whole.specs.Messages.{Effect}
+use Rattle.whole.specs.Replica.{ReplicaState}
 use Rattle.agreement.specs.World.{World, moved}
 use Rattle.agreement.specs.Inside.Ballots.{Line, History, Told, Extends, IsWithin}
 use Rattle.agreement.specs.Inside.Moves.{Moves, with_lines}

@@ -1,7 +1,7 @@
 -- StateHears.antt: what a fetching primary knows when a State of its ballot comes.
 use Rattle.std.proofs.Common.{◌≡◌, ℕ, ◌+◌, ◌<◌, inl, inr, List, Some, None, ap, sym, ◌∙◌}
-use Rattle.ballot.specs.Body.TheVariants.{State}
-use Rattle.ballot.specs.Replica.{ReplicaState}
+use Rattle.whole.specs.Messages.Body.{State}
+use Rattle.whole.specs.Replica.{ReplicaState}
 use Rattle.agreement.specs.World.{World}
 use Rattle.lists.specs.Lists.{IsPrefixOf}
 use Rattle.agreement.specs.Inside.Ballots.{Given, Line, History, Sealed}

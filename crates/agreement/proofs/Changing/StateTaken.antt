@@ -2,9 +2,9 @@
 use Rattle.std.proofs.Common.{◌≡◌, ℕ, ◌+◌, ◌≤◌, ◌⊎◌, inl, inr, List, length, take, Some, Option, refl, ap, sym, ◌∙◌, subst, arith}
 use Rattle.std.specs.Prelude.{slice_get}
 use Rattle.machine.specs.Machine.{Rules}
-use Rattle.ballot.specs.Role.TheVariants.{Installing}
-use Rattle.ballot.specs.Replica.{ReplicaState, others}
-use Rattle.ballot.specs.Changing.{installs}
+use Rattle.whole.specs.Role.TheVariants.{Installing}
+use Rattle.whole.specs.Replica.{ReplicaState, others}
+use Rattle.whole.specs.Changing.{installs}
 use Rattle.agreement.specs.World.{World, moved}
 use Rattle.lists.specs.Lists.{In, IsPrefixOf}
 use Rattle.agreement.specs.Inside.Ballots.{Given, Line, History, Told, Applied, Extends}

@@ -3,11 +3,11 @@ use Rattle.std.proofs.Common.{◌≡◌, ℕ, ◌+◌, ◌⊎◌, inl, inr, true
 use Rattle.std.specs.Prelude.{slice_get, nat_le, ◌&&◌, ◌==◌}
 use Rattle.std.proofs.lemmas.Bool.{cases_Bool, and_parts, leb-true, eqb-true}
 use Rattle.machine.specs.Machine.{Rules}
-use Rattle.ballot.specs.Body.TheVariants.{State}
-use Rattle.ballot.specs.Role.TheVariants.{Installing}
-use Rattle.ballot.specs.Replica.{ReplicaState, is_fetching, others}
-use Rattle.ballot.specs.Sending.{Outcome}
-use Rattle.ballot.specs.Changing.{installs, on_state}
+use Rattle.whole.specs.Messages.Body.{State}
+use Rattle.whole.specs.Role.TheVariants.{Installing}
+use Rattle.whole.specs.Replica.{ReplicaState, is_fetching, others}
+use Rattle.whole.specs.Sending.{Outcome}
+use Rattle.whole.specs.Changing.{installs, on_state}
 use Rattle.agreement.specs.World.{World}
 use Rattle.lists.specs.Lists.{In}
 use Rattle.agreement.specs.Inside.Ballots.{History}
@@ -15,7 +15,7 @@ use Rattle.agreement.specs.Inside.Keeps.{Keeps}
 use Rattle.agreement.specs.Inside.Sound.{IsSound}
 use Rattle.agreement.proofs.Frame.Quiet.{keeps_nothing}
 use Rattle.agreement.proofs.Frame.Roles.{role_fetching}
-use Rattle.ballot.proofs.ChangeRows.{on_state-stays, on_state-takes}
+use Rattle.whole.proofs.ChangeRows.{on_state-stays, on_state-takes}
 use Rattle.agreement.proofs.Changing.StateHears.{state_heard}
 use Rattle.agreement.proofs.Changing.StateTaken.{state_taken}
 

@@ -3,11 +3,11 @@ use Rattle.std.proofs.Common.{◌≡◌, ℕ, ◌⊎◌, inl, inr, true, false, 
 use Rattle.std.specs.Prelude.{slice_get, ◌&&◌, ◌==◌}
 use Rattle.std.proofs.lemmas.Bool.{cases_Bool}
 use Rattle.machine.specs.Machine.{Rules}
-use Rattle.ballot.specs.Effect.{Effect}
-use Rattle.ballot.specs.Role.TheVariants.{Backup}
-use Rattle.ballot.specs.Replica.{ReplicaState, is_installing}
-use Rattle.ballot.specs.Sending.{Outcome}
-use Rattle.ballot.specs.Changing.{on_superseded}
+use Rattle.whole.specs.Messages.{Effect}
+use Rattle.whole.specs.Role.TheVariants.{Backup}
+use Rattle.whole.specs.Replica.{ReplicaState, is_installing}
+use Rattle.whole.specs.Sending.{Outcome}
+use Rattle.whole.specs.Changing.{on_superseded}
 use Rattle.agreement.specs.World.{World, moved}
 use Rattle.agreement.specs.Inside.Ballots.{History, Applied}
 use Rattle.agreement.specs.Inside.Ballots.Applied.{nothing, in_ballot}
@@ -15,7 +15,7 @@ use Rattle.agreement.specs.Inside.Keeps.{Keeps}
 use Rattle.agreement.specs.Inside.Sound.{IsSoundNode, IsSound}
 use Rattle.agreement.proofs.Frame.Joining.{MovesQuietly}
 use Rattle.agreement.proofs.Frame.Quiet.{before_quiet, quiet_keeps, keeps_nothing}
-use Rattle.ballot.proofs.ChangeRows.{on_superseded-stays, on_superseded-leaves}
+use Rattle.whole.proofs.ChangeRows.{on_superseded-stays, on_superseded-leaves}
 
 -- a Superseded that comes; nothing that it says is needed
 pub keeps_superseded : {S C O : Type 0} (rules : Rules S C O) (w : World S C O) (h : History C) (n : ℕ) (r : ReplicaState S C) (b : ℕ) →

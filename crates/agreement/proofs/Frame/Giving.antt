@@ -5,9 +5,9 @@ use Rattle.std.specs.List.{flat_map}
 use Rattle.std.proofs.lemmas.Grind.{flat_map-append}
 use Rattle.std.proofs.lemmas.List.{append-nil, take-take}
 use Rattle.machine.specs.Machine.{Rules, replay}
-use Rattle.ballot.specs.Effect.{Effect}
-use Rattle.ballot.specs.Replica.{ReplicaState}
-use Rattle.ballot.specs.Applying.{outputs_from, outputs_between}
+use Rattle.whole.specs.Messages.{Effect}
+use Rattle.whole.specs.Replica.{ReplicaState}
+use Rattle.whole.specs.Applying.{outputs_from, outputs_between}
 use Rattle.agreement.specs.World.{World, outputs, moved}
 use Rattle.lists.specs.Lists.{In, IsPrefixOf}
 use Rattle.lists.specs.Lists.In.{here, there}

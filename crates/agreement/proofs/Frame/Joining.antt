@@ -2,11 +2,9 @@
 use Rattle.std.proofs.Common.{◌≡◌, ℕ, ◌+◌, ◌≤◌, ◌⊎◌, inl, inr, List, [], length, set, Some, refl, ap, sym, ◌∙◌, arith}
 use Rattle.std.specs.Prelude.{slice_get}
 use Rattle.std.proofs.lemmas.Bool.{cases_eq}
-use Rattle.ballot.specs.Message.{Message}
-use Rattle.ballot.specs.Body.{Body}
-use Rattle.ballot.specs.Body.TheVariants.{Installed, Held}
-use Rattle.ballot.specs.Effect.{Effect}
-use Rattle.ballot.specs.Replica.{ReplicaState}
+use Rattle.whole.specs.Messages.{Message, Body, Effect}
+use Rattle.whole.specs.Messages.Body.{Installed, Held}
+use Rattle.whole.specs.Replica.{ReplicaState}
 use Rattle.agreement.specs.World.{World, messages, outputs, moved}
 use Rattle.lists.specs.Lists.{In}
 use Rattle.agreement.specs.Inside.Ballots.{Line, History, Told, Extends, IsWithin}

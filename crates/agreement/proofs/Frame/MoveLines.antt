@@ -1,7 +1,7 @@
 -- MoveLines.antt: a move keeps the rows on lists, and what is newly told is told by the node that moved.
 use Rattle.std.proofs.Common.{◌≡◌, ℕ, ◌+◌, ◌<◌, ◌⊎◌, inl, inr, List, length, Some, Option, sym, subst}
-use Rattle.ballot.specs.Effect.{Effect}
-use Rattle.ballot.specs.Replica.{ReplicaState}
+use Rattle.whole.specs.Messages.{Effect}
+use Rattle.whole.specs.Replica.{ReplicaState}
 use Rattle.agreement.specs.World.{World, moved}
 use Rattle.lists.specs.Lists.{In, IsPrefixOf}
 use Rattle.agreement.specs.Inside.Ballots.{TellsHere, Given, Line, History, Told, IsChosenIn, Sealed, AreLines, IsWithin}

@@ -1,7 +1,7 @@
 -- Others.antt: the nodes that did not move stay as they should be.
 use Rattle.std.proofs.Common.{◌≡◌, ℕ, ◌+◌, ◌⊎◌, inl, inr, List, length, Some, Option, sym, ◌∙◌, subst, arith}
-use Rattle.ballot.specs.Effect.{Effect}
-use Rattle.ballot.specs.Replica.{ReplicaState}
+use Rattle.whole.specs.Messages.{Effect}
+use Rattle.whole.specs.Replica.{ReplicaState}
 use Rattle.agreement.specs.World.{World, moved}
 use Rattle.lists.specs.Lists.{IsPrefixOf}
 use Rattle.agreement.specs.Inside.Ballots.{Given, Line, History, Told, Extends, IsWithin}

@@ -1,11 +1,11 @@
 -- Outputs.antt: outputs are no messages, and the least of the progress is at most each.
 use Rattle.std.proofs.Common.{◌≡◌, ℕ, ◌+◌, ◌≤◌, min, List, [], ◌∷◌, ◌++◌, map, refl, ap, ◌∙◌, arith}
 use Rattle.machine.specs.Machine.{Rules}
-use Rattle.ballot.specs.Effect.TheVariants.{Out}
-use Rattle.ballot.specs.Progress.{Progress}
-use Rattle.ballot.specs.Applying.{outputs_from}
-use Rattle.ballot.specs.Serving.{least}
-use Rattle.ballot.proofs.StepRows.{least-le}
+use Rattle.whole.specs.Messages.Effect.{Out}
+use Rattle.whole.specs.Progress.{Progress}
+use Rattle.whole.specs.Applying.{outputs_from}
+use Rattle.whole.specs.Serving.{least}
+use Rattle.whole.proofs.StepRows.{least-le}
 use Rattle.agreement.specs.World.{messages}
 use Rattle.lists.specs.Lists.{In}
 use Rattle.lists.specs.Lists.In.{here, there}

@@ -1,8 +1,8 @@
 -- Roles.antt: a role by its test.
 use Rattle.std.proofs.Common.{◌≡◌, true, refl}
-use Rattle.ballot.specs.Role.{Role}
-use Rattle.ballot.specs.Role.TheVariants.{Backup, Fetching, Installing, Active}
-use Rattle.ballot.specs.Replica.{is_active, is_backup, is_fetching, is_installing}
+use Rattle.whole.specs.Role.{Role}
+use Rattle.whole.specs.Role.TheVariants.{Backup, Fetching, Installing, Active}
+use Rattle.whole.specs.Replica.{is_active, is_backup, is_fetching, is_installing}
 
 -- a role by its test
 pub role_active : (r : Role) → is_active r ≡ true → r ≡ Active

@@ -1,7 +1,7 @@
 -- SaysLater.antt: what messages say stays so in a later world.
 use Rattle.std.proofs.Common.{ℕ, ◌≤◌, inl, inr, List, length, ap, sym, ◌∙◌, subst, arith}
-use Rattle.ballot.specs.Body.{Body}
-use Rattle.ballot.specs.Body.TheVariants.{NewBallot, Join, State, Install, Installed, Activate, Activated, Superseded, Append, Held, Commit}
+use Rattle.whole.specs.Messages.{Body}
+use Rattle.whole.specs.Messages.Body.{NewBallot, Join, State, Install, Installed, Activate, Activated, Superseded, Append, Held, Commit}
 use Rattle.agreement.specs.World.{World}
 use Rattle.lists.specs.Lists.{In, IsPrefixOf}
 use Rattle.agreement.specs.Inside.Ballots.{Given, History, Told, IsChosenIn, Extends, IsWithin}

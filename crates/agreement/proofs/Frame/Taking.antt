@@ -1,7 +1,7 @@
 -- Taking.antt: a sealed list has all that a node applied that may take it.
 use Rattle.std.proofs.Common.{◌≡◌, ℕ, ◌+◌, ◌<◌, ◌≤◌, ◌⊎◌, inl, inr, List, [], ◌∷◌, length, take, Some, refl, ap, sym, ◌∙◌, subst, arith}
 use Rattle.std.proofs.lemmas.Bool.{cases_lt}
-use Rattle.ballot.specs.Replica.{ReplicaState}
+use Rattle.whole.specs.Replica.{ReplicaState}
 use Rattle.agreement.specs.World.{World}
 use Rattle.lists.specs.Lists.{In, IsPrefixOf}
 use Rattle.lists.specs.Lists.In.{here, there}

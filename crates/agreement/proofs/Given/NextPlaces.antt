@@ -6,11 +6,11 @@ use Rattle.std.proofs.lemmas.List.{length-take-le}
 use Rattle.machine.specs.Machine.{Rules, replay}
 use Rattle.lists.proofs.Beginnings.{prefix_length}
 use Rattle.lists.proofs.Places.{get_set, get_set_other}
-use Rattle.ballot.specs.Applying.{outputs_between}
-use Rattle.ballot.specs.Effect.{Effect}
-use Rattle.ballot.specs.Losses.{Loses, halted}
-use Rattle.ballot.specs.Protocol.{Input, replica_step}
-use Rattle.ballot.specs.Replica.{ReplicaState, is_active}
+use Rattle.whole.specs.Applying.{outputs_between}
+use Rattle.whole.specs.Messages.{Effect}
+use Rattle.whole.specs.Losses.{Loses, halted}
+use Rattle.whole.specs.Protocol.{Input, replica_step}
+use Rattle.whole.specs.Replica.{ReplicaState, is_active}
 use Rattle.agreement.specs.Giving.{GivesNext, given_in, gives_from}
 use Rattle.agreement.specs.Laws.{AnswersAtTheNextPlaces}
 use Rattle.agreement.specs.MasterState.{AssignRefusal, MasterState, refusal}

@@ -4,8 +4,8 @@ use Rattle.std.proofs.lemmas.List.{length-drop, length-take-le, take-take}
 use Rattle.machine.specs.Machine.{Rules, replay, replay_from}
 use Rattle.lists.specs.Lists.{IsPrefixOf}
 use Rattle.lists.proofs.Beginnings.{take_prefix}
-use Rattle.ballot.specs.Applying.{outputs_from, outputs_between}
-use Rattle.ballot.proofs.AppliesInOrder.{outputs_from-append, part_none, replay_goes_on}
+use Rattle.whole.specs.Applying.{outputs_from, outputs_between}
+use Rattle.whole.proofs.AppliesInOrder.{outputs_from-append, part_none, replay_goes_on}
 use Rattle.agreement.specs.World.{outputs}
 use Rattle.agreement.proofs.Effects.{outputs-append}
 use Rattle.agreement.proofs.Frame.Giving.{same_outputs}

@@ -3,14 +3,14 @@ use Rattle.std.proofs.Common.{◌≡◌, ℕ, ◌⊎◌, inl, inr, true, false, 
 use Rattle.std.specs.Prelude.{nat_lt, nat_le, ◌&&◌, ◌||◌, ◌==◌}
 use Rattle.std.specs.List.{list_any}
 use Rattle.std.proofs.lemmas.Bool.{cases_Bool}
-use Rattle.ballot.specs.Body.TheVariants.{Join, Commit}
-use Rattle.ballot.specs.Changing.{on_new_ballot, on_join, on_install, on_superseded, on_state, on_installed, activates}
-use Rattle.ballot.specs.Replica.{ReplicaState, is_fetching, is_installing, others}
-use Rattle.ballot.specs.Role.{Role}
-use Rattle.ballot.specs.Role.TheVariants.{Backup, Fetching, Installing, Active}
-use Rattle.ballot.specs.Protocol.{ticked}
-use Rattle.ballot.specs.Sending.{Outcome, message_to_followed}
-use Rattle.ballot.specs.Serving.{appends_behind, follows, on_append, on_tick_active}
+use Rattle.whole.specs.Messages.Body.{Join, Commit}
+use Rattle.whole.specs.Changing.{on_new_ballot, on_join, on_install, on_superseded, on_state, on_installed, activates}
+use Rattle.whole.specs.Replica.{ReplicaState, is_fetching, is_installing, others}
+use Rattle.whole.specs.Role.{Role}
+use Rattle.whole.specs.Role.TheVariants.{Backup, Fetching, Installing, Active}
+use Rattle.whole.specs.Protocol.{ticked}
+use Rattle.whole.specs.Sending.{Outcome, message_to_followed}
+use Rattle.whole.specs.Serving.{appends_behind, follows, on_append, on_tick_active}
 use Rattle.agreement.specs.World.{outputs}
 use Rattle.agreement.proofs.Changing.NewBallots.{outputs_to_each}
 use Rattle.agreement.proofs.Effects.{outputs-append, outputs_of_messages}

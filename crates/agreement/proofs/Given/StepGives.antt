@@ -4,19 +4,19 @@ use Rattle.std.specs.Prelude.{nat_lt, nat_le, ◌&&◌, ◌==◌}
 use Rattle.std.proofs.lemmas.Bool.{and_parts, cases_Bool, cases_lt}
 use Rattle.std.proofs.lemmas.List.{take-append-le}
 use Rattle.machine.specs.Machine.{Rules, replay}
-use Rattle.ballot.specs.Applying.{applied_to, outputs_between}
-use Rattle.ballot.specs.Body.{Body}
-use Rattle.ballot.specs.Body.TheVariants.{NewBallot, Join, State, Install, Installed, Activate, Activated, Superseded, Append, Held, Commit}
-use Rattle.ballot.specs.Changing.{on_activated}
-use Rattle.ballot.specs.Protocol.{Input, received, replica_step}
-use Rattle.ballot.specs.Protocol.Input.{Receives, Proposes, Ticks}
-use Rattle.ballot.specs.Replica.{ReplicaState, is_active, is_backup, is_installing, others, progress_at}
-use Rattle.ballot.specs.Role.TheVariants.{Active}
-use Rattle.ballot.specs.Sending.{Outcome, message_to_followed, nothing_done}
-use Rattle.ballot.specs.Serving.{added, commit, follows, leads, least, most_places, on_commit, on_held, proposed, raised}
-use Rattle.ballot.proofs.AppliesInOrder.{replay_goes_on}
-use Rattle.ballot.proofs.ChangeRows.{on_activated-adds, on_activated-stays}
-use Rattle.ballot.proofs.StepRows.{added-is, proposed-adds, proposed-full, proposed-not_active}
+use Rattle.whole.specs.Applying.{applied_to, outputs_between}
+use Rattle.whole.specs.Messages.{Body}
+use Rattle.whole.specs.Messages.Body.{NewBallot, Join, State, Install, Installed, Activate, Activated, Superseded, Append, Held, Commit}
+use Rattle.whole.specs.Changing.{on_activated}
+use Rattle.whole.specs.Protocol.{Input, received, replica_step}
+use Rattle.whole.specs.Protocol.Input.{Receives, Proposes, Ticks}
+use Rattle.whole.specs.Replica.{ReplicaState, is_active, is_backup, is_installing, others, progress_at}
+use Rattle.whole.specs.Role.TheVariants.{Active}
+use Rattle.whole.specs.Sending.{Outcome, message_to_followed, nothing_done}
+use Rattle.whole.specs.Serving.{added, commit, follows, leads, least, most_places, on_commit, on_held, proposed, raised}
+use Rattle.whole.proofs.AppliesInOrder.{replay_goes_on}
+use Rattle.whole.proofs.ChangeRows.{on_activated-adds, on_activated-stays}
+use Rattle.whole.proofs.StepRows.{added-is, proposed-adds, proposed-full, proposed-not_active}
 use Rattle.agreement.specs.Giving.{gives_from}
 use Rattle.agreement.specs.World.{outputs}
 use Rattle.agreement.proofs.Effects.{outputs_of_messages}

@@ -6,9 +6,9 @@ use Rattle.std.proofs.lemmas.List.{append-nil, length-take-le}
 use Rattle.machine.specs.Machine.{Rules}
 use Rattle.lists.proofs.Beginnings.{prefix_length, take_prefix}
 use Rattle.lists.proofs.Places.{get_set_other}
-use Rattle.ballot.specs.Applying.{applied_to, outputs_between}
-use Rattle.ballot.specs.Config.{Config}
-use Rattle.ballot.specs.Replica.{ReplicaState, is_active}
+use Rattle.whole.specs.Applying.{applied_to, outputs_between}
+use Rattle.whole.specs.Config.{Config}
+use Rattle.whole.specs.Replica.{ReplicaState, is_active}
 use Rattle.agreement.specs.Giving.{LeadsOn, given_in, given_of}
 use Rattle.agreement.specs.Giving.LeadsOn.{leads_there, leads_still, leads_beside}
 use Rattle.agreement.specs.Laws.{AnswersWhileItLeads}

@@ -3,20 +3,20 @@ use Rattle.std.proofs.Common.{◌≡◌, ℕ, ◌<◌, ◌≤◌, ◌⊎◌, inl
 use Rattle.std.specs.Prelude.{nat_lt, nat_le, ◌&&◌, ◌==◌}
 use Rattle.std.proofs.lemmas.Bool.{cases_Bool, cases_lt}
 use Rattle.machine.specs.Machine.{Rules}
-use Rattle.ballot.specs.Applying.{applied_to}
-use Rattle.ballot.specs.Changing.{on_activated}
-use Rattle.ballot.specs.Body.{Body}
-use Rattle.ballot.specs.Body.TheVariants.{NewBallot, Join, State, Install, Installed, Activate, Activated, Superseded, Append, Held, Commit}
-use Rattle.ballot.specs.Role.{Role}
-use Rattle.ballot.specs.Role.TheVariants.{Backup, Fetching, Installing, Active}
-use Rattle.ballot.specs.Protocol.{Input, received, ticked, replica_step}
-use Rattle.ballot.specs.Protocol.Input.{Receives, Proposes, Ticks}
-use Rattle.ballot.specs.Replica.{ReplicaState, is_installing, is_active, others, progress_at}
-use Rattle.ballot.specs.Sending.{Outcome}
-use Rattle.ballot.specs.Serving.{most_places, proposed, follows, leads, least, raised, commit, on_append, on_held, on_commit, on_tick_active}
-use Rattle.ballot.proofs.StepRows.{proposed-adds, proposed-full, proposed-not_active}
+use Rattle.whole.specs.Applying.{applied_to}
+use Rattle.whole.specs.Changing.{on_activated}
+use Rattle.whole.specs.Messages.{Body}
+use Rattle.whole.specs.Messages.Body.{NewBallot, Join, State, Install, Installed, Activate, Activated, Superseded, Append, Held, Commit}
+use Rattle.whole.specs.Role.{Role}
+use Rattle.whole.specs.Role.TheVariants.{Backup, Fetching, Installing, Active}
+use Rattle.whole.specs.Protocol.{Input, received, ticked, replica_step}
+use Rattle.whole.specs.Protocol.Input.{Receives, Proposes, Ticks}
+use Rattle.whole.specs.Replica.{ReplicaState, is_installing, is_active, others, progress_at}
+use Rattle.whole.specs.Sending.{Outcome}
+use Rattle.whole.specs.Serving.{most_places, proposed, follows, leads, least, raised, commit, on_append, on_held, on_commit, on_tick_active}
+use Rattle.whole.proofs.StepRows.{proposed-adds, proposed-full, proposed-not_active}
 use Rattle.agreement.proofs.Machines.Applies.{Applies, applies_nothing, applies_to, commit_applies, added_applies, added_behind}
-use Rattle.ballot.proofs.ChangeRows.{on_activated-stays, on_activated-adds}
+use Rattle.whole.proofs.ChangeRows.{on_activated-stays, on_activated-adds}
 use Rattle.agreement.proofs.Starts.StaysActive.{added_keeps}
 use Rattle.agreement.proofs.Machines.ChangingApplies.{new_ballot_applies, join_applies, state_applies, install_applies, installed_applies, superseded_applies}
 

@@ -1,7 +1,7 @@
 -- Assigning.antt: the master gives the next ballot to a configuration.
 use Rattle.std.proofs.Common.{◌≡◌, ℕ, ◌+◌, ◌<◌, ◌≤◌, ◌⊎◌, inl, inr, Some, Option, refl, ap, sym, ◌∙◌, subst, arith}
 use Rattle.machine.specs.Machine.{Rules}
-use Rattle.ballot.specs.Config.{Config}
+use Rattle.whole.specs.Config.{Config}
 use Rattle.agreement.specs.World.{World}
 use Rattle.lists.specs.Lists.{In}
 use Rattle.lists.specs.Lists.In.{here}

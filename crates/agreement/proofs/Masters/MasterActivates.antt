@@ -3,8 +3,8 @@ use Rattle.std.proofs.Common.{◌≡◌, ℕ, ◌<◌, ◌≤◌, ◌⊎◌, inl
 use Rattle.std.specs.Prelude.{◌==◌}
 use Rattle.std.proofs.lemmas.Bool.{cases_Bool, eqb-true}
 use Rattle.machine.specs.Machine.{Rules}
-use Rattle.ballot.specs.Config.{Config}
-use Rattle.ballot.specs.Body.TheVariants.{Activate, Activated}
+use Rattle.whole.specs.Config.{Config}
+use Rattle.whole.specs.Messages.Body.{Activate, Activated}
 use Rattle.agreement.specs.World.{World}
 use Rattle.lists.specs.Lists.{In}
 use Rattle.lists.specs.Lists.In.{here, there}

@@ -3,7 +3,7 @@ use Rattle.std.proofs.Common.{◌≡◌, ℕ, inl, Bool, true, false, cond, None
 use Rattle.std.specs.Prelude.{◌==◌}
 use Rattle.std.proofs.lemmas.Bool.{eqb-true}
 use Rattle.machine.specs.Machine.{Rules}
-use Rattle.ballot.specs.Body.TheVariants.{Activate, Activated, Superseded}
+use Rattle.whole.specs.Messages.Body.{Activate, Activated, Superseded}
 use Rattle.agreement.specs.World.{World}
 use Rattle.lists.specs.Lists.{In}
 use Rattle.lists.specs.Lists.In.{here}

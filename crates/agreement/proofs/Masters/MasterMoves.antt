@@ -2,7 +2,7 @@
 use Rattle.std.proofs.Common.{◌≡◌, ℕ, ◌<◌, List, [], ◌∷◌, length, Some, Option, subst}
 use Rattle.std.proofs.lemmas.List.{append-nil}
 use Rattle.machine.specs.Machine.{Rules}
-use Rattle.ballot.specs.Message.{Message}
+use Rattle.whole.specs.Messages.{Message}
 use Rattle.agreement.specs.World.{World}
 use Rattle.lists.specs.Lists.{In}
 use Rattle.lists.specs.Lists.In.{here, there}

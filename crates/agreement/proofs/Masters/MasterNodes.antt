@@ -1,7 +1,7 @@
 -- MasterNodes.antt: nodes stay as they should be when ballots are given or activated.
 use Rattle.std.proofs.Common.{◌≡◌, ℕ, ◌+◌, ◌<◌, ◌≤◌, ◌⊎◌, inl, inr, List, length, Some, Option, arith}
 use Rattle.std.proofs.lemmas.Bool.{cases_lt}
-use Rattle.ballot.specs.Replica.{ReplicaState}
+use Rattle.whole.specs.Replica.{ReplicaState}
 use Rattle.agreement.specs.World.{World}
 use Rattle.lists.specs.Lists.{In}
 use Rattle.agreement.specs.Inside.Ballots.{Given, Line, History, Told, AreLines, Extends, IsWithin}

@@ -1,8 +1,8 @@
 -- MasterSends.antt: messages of the master keep a world sound.
 use Rattle.std.proofs.Common.{◌≡◌, ℕ, ◌+◌, ◌<◌, ◌⊎◌, inl, inr, List, [], ◌∷◌, ◌++◌, length, Some, Option, refl, ap, sym, ◌∙◌, subst, arith}
 use Rattle.machine.specs.Machine.{Rules}
-use Rattle.ballot.specs.Message.{Message}
-use Rattle.ballot.specs.Body.TheVariants.{Held, Installed}
+use Rattle.whole.specs.Messages.{Message}
+use Rattle.whole.specs.Messages.Body.{Held, Installed}
 use Rattle.agreement.specs.World.{World}
 use Rattle.lists.specs.Lists.{In}
 use Rattle.lists.specs.Lists.In.{here, there}

@@ -5,14 +5,14 @@ use Rattle.std.proofs.lemmas.Bool.{cases_Bool, cases_lt, lt-ltb, le-ltb}
 use Rattle.std.proofs.lemmas.List.{length-append}
 use Rattle.machine.specs.Machine.{Rules}
 use Rattle.lists.specs.Lists.{In}
-use Rattle.ballot.specs.Effect.{Effect}
-use Rattle.ballot.specs.Losses.{Loses, Thinned, halted}
-use Rattle.ballot.specs.Losses.Thinned.{none}
-use Rattle.ballot.specs.Protocol.Input.{Proposes}
-use Rattle.ballot.specs.Replica.{ReplicaState, is_active}
-use Rattle.ballot.specs.Sending.{Outcome, nothing_done}
-use Rattle.ballot.specs.Serving.{added, most_places, proposed}
-use Rattle.ballot.proofs.StepRows.{proposed-adds, proposed-full, proposed-not_active}
+use Rattle.whole.specs.Messages.{Effect}
+use Rattle.whole.specs.Losses.{Loses, Thinned, halted}
+use Rattle.whole.specs.Losses.Thinned.{none}
+use Rattle.whole.specs.Protocol.Input.{Proposes}
+use Rattle.whole.specs.Replica.{ReplicaState, is_active}
+use Rattle.whole.specs.Sending.{Outcome, nothing_done}
+use Rattle.whole.specs.Serving.{added, most_places, proposed}
+use Rattle.whole.proofs.StepRows.{proposed-adds, proposed-full, proposed-not_active}
 use Rattle.agreement.specs.Proposals.{taken_by}
 
 -- a proposal to a node: it was added, or refused, or the node stopped

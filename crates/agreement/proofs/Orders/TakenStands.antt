@@ -6,12 +6,12 @@ use Rattle.machine.specs.Machine.{Rules}
 use Rattle.lists.specs.Lists.{In}
 use Rattle.lists.specs.Lists.In.{here, there}
 use Rattle.lists.proofs.Places.{get_set, get_set_other}
-use Rattle.ballot.specs.Effect.{Effect}
-use Rattle.ballot.specs.Losses.{Loses}
-use Rattle.ballot.specs.Protocol.{Input, replica_step}
-use Rattle.ballot.specs.Protocol.Input.{Receives, Proposes, Ticks}
-use Rattle.ballot.specs.Replica.{ReplicaState}
-use Rattle.ballot.proofs.StepRows.{added-log}
+use Rattle.whole.specs.Messages.{Effect}
+use Rattle.whole.specs.Losses.{Loses}
+use Rattle.whole.specs.Protocol.{Input, replica_step}
+use Rattle.whole.specs.Protocol.Input.{Receives, Proposes, Ticks}
+use Rattle.whole.specs.Replica.{ReplicaState}
+use Rattle.whole.proofs.StepRows.{added-log}
 use Rattle.agreement.specs.Laws.{TakenStandAtOnce}
 use Rattle.agreement.specs.MasterState.{MasterState}
 use Rattle.agreement.specs.Proposals.{IsTaken, proposal_of, taken_by, taken_in, takes_at}

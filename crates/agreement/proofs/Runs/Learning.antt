@@ -3,13 +3,13 @@ use Rattle.std.proofs.Common.{inl, ◌≡◌, ℕ, ◌≤◌, false, List, [], l
 use Rattle.std.specs.Prelude.{slice_get}
 use Rattle.std.proofs.lemmas.List.{length-set, take-take}
 use Rattle.machine.specs.Machine.{Rules}
-use Rattle.ballot.specs.Applying.{applied_to}
-use Rattle.ballot.specs.Effect.{Effect}
-use Rattle.ballot.specs.Losses.Thinned.{none}
-use Rattle.ballot.specs.Protocol.Input.{Ticks}
-use Rattle.ballot.specs.Replica.{ReplicaState, is_active}
-use Rattle.ballot.specs.Role.TheVariants.{Active}
-use Rattle.ballot.proofs.AppliesInOrder.{replay_goes_on}
+use Rattle.whole.specs.Applying.{applied_to}
+use Rattle.whole.specs.Messages.{Effect}
+use Rattle.whole.specs.Losses.Thinned.{none}
+use Rattle.whole.specs.Protocol.Input.{Ticks}
+use Rattle.whole.specs.Replica.{ReplicaState, is_active}
+use Rattle.whole.specs.Role.TheVariants.{Active}
+use Rattle.whole.proofs.AppliesInOrder.{replay_goes_on}
 use Rattle.lists.specs.Lists.{In, IsPrefixOf}
 use Rattle.lists.proofs.Beginnings.{prefix_take, prefix_then}
 use Rattle.agreement.specs.Inside.Ballots.{History, Applied}

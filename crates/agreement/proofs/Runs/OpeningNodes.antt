@@ -5,10 +5,10 @@ use Rattle.std.specs.List.{list_any}
 use Rattle.std.proofs.lemmas.Bool.{cases_eq, eq-eqb, ne_eqb}
 use Rattle.machine.specs.Machine.{Rules}
 use Rattle.agreement.proofs.LawfulConfigs.{any_in}
-use Rattle.ballot.specs.Config.{Config}
-use Rattle.ballot.specs.Progress.{Progress}
-use Rattle.ballot.specs.Role.TheVariants.{Backup, Active}
-use Rattle.ballot.specs.Replica.{ReplicaState, opening, others, progress_at}
+use Rattle.whole.specs.Config.{Config}
+use Rattle.whole.specs.Progress.{Progress}
+use Rattle.whole.specs.Role.TheVariants.{Backup, Active}
+use Rattle.whole.specs.Replica.{ReplicaState, opening, others, progress_at}
 use Rattle.agreement.specs.World.{opening_world}
 use Rattle.lists.specs.Lists.{In, IsPrefixOf}
 use Rattle.lists.specs.Lists.In.{here}
@@ -30,7 +30,6 @@ opens_in rules id ballot =
       joined = ballot;
       held_in = ballot;
       log = [];
-      base = 0;
       committed = 0;
       machine = rules.opening;
       role = Backup;

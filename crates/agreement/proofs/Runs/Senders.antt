@@ -4,22 +4,20 @@ use Rattle.std.specs.Prelude.{nat_lt, nat_le, ◌&&◌, ◌||◌, ◌==◌, slic
 use Rattle.std.specs.List.{list_any}
 use Rattle.std.proofs.lemmas.Bool.{cases_Bool, cases_lt}
 use Rattle.machine.specs.Machine.{Rules}
-use Rattle.ballot.specs.Applying.{outputs_from}
-use Rattle.ballot.specs.Body.{Body}
-use Rattle.ballot.specs.Body.TheVariants.{NewBallot, Join, State, Install, Installed, Activate, Activated, Superseded, Append, Held, Commit}
-use Rattle.ballot.specs.Changing.{on_new_ballot, on_join, installs, on_state, on_install, activates, on_installed, on_activated, on_superseded}
-use Rattle.ballot.specs.Effect.{Effect}
-use Rattle.ballot.specs.Effect.TheVariants.{To, Out}
-use Rattle.ballot.specs.Message.{Message}
-use Rattle.ballot.specs.Progress.{Progress}
-use Rattle.ballot.specs.Protocol.{Input, received, ticked, replica_step}
-use Rattle.ballot.specs.Protocol.Input.{Receives, Proposes, Ticks}
-use Rattle.ballot.specs.Replica.{ReplicaState, is_active, is_fetching, is_installing, others}
-use Rattle.ballot.specs.Role.{Role}
-use Rattle.ballot.specs.Role.TheVariants.{Backup, Fetching, Installing, Active}
-use Rattle.ballot.specs.Sending.{Outcome, message_to_each, message_to_followed}
-use Rattle.ballot.specs.Serving.{append_at, appends_behind, follows, leads, commit_at, commit, most_places, added, proposed, on_append, on_held, on_commit, on_tick_active}
-use Rattle.ballot.proofs.StepRows.{commit_at-stays, commit_at-goes}
+use Rattle.whole.specs.Applying.{outputs_from}
+use Rattle.whole.specs.Messages.{Body, Effect, Message}
+use Rattle.whole.specs.Messages.Body.{NewBallot, Join, State, Install, Installed, Activate, Activated, Superseded, Append, Held, Commit}
+use Rattle.whole.specs.Changing.{on_new_ballot, on_join, installs, on_state, on_install, activates, on_installed, on_activated, on_superseded}
+use Rattle.whole.specs.Messages.Effect.{To, Out}
+use Rattle.whole.specs.Progress.{Progress}
+use Rattle.whole.specs.Protocol.{Input, received, ticked, replica_step}
+use Rattle.whole.specs.Protocol.Input.{Receives, Proposes, Ticks}
+use Rattle.whole.specs.Replica.{ReplicaState, is_active, is_fetching, is_installing, others}
+use Rattle.whole.specs.Role.{Role}
+use Rattle.whole.specs.Role.TheVariants.{Backup, Fetching, Installing, Active}
+use Rattle.whole.specs.Sending.{Outcome, message_to_each, message_to_followed}
+use Rattle.whole.specs.Serving.{append_at, appends_behind, follows, leads, commit_at, commit, most_places, added, proposed, on_append, on_held, on_commit, on_tick_active}
+use Rattle.whole.proofs.StepRows.{commit_at-stays, commit_at-goes}
 use Rattle.agreement.specs.World.{messages}
 use Rattle.lists.specs.Lists.{In}
 use Rattle.lists.specs.Lists.In.{here, there}

@@ -2,14 +2,13 @@
 use Rattle.std.proofs.Common.{◌≡◌, ℕ, ◌+◌, ◌≤◌, ◌⊎◌, inl, inr, List, [], ◌∷◌, ◌++◌, length, Some, None, Option, refl, ap, sym, ◌∙◌, subst, arith}
 use Rattle.std.specs.Prelude.{slice_get}
 use Rattle.machine.specs.Machine.{Rules}
-use Rattle.ballot.specs.Message.{Message}
-use Rattle.ballot.specs.Body.{Body}
-use Rattle.ballot.specs.Body.TheVariants.{Append, Commit}
-use Rattle.ballot.specs.Progress.{Progress}
-use Rattle.ballot.specs.Replica.{ReplicaState}
-use Rattle.ballot.specs.Sending.{Outcome, message_to_followed}
-use Rattle.ballot.specs.Serving.{append_at, appends_behind, on_tick_active}
-use Rattle.ballot.proofs.MessageRows.{on_tick_active-is}
+use Rattle.whole.specs.Messages.{Message, Body}
+use Rattle.whole.specs.Messages.Body.{Append, Commit}
+use Rattle.whole.specs.Progress.{Progress}
+use Rattle.whole.specs.Replica.{ReplicaState}
+use Rattle.whole.specs.Sending.{Outcome, message_to_followed}
+use Rattle.whole.specs.Serving.{append_at, appends_behind, on_tick_active}
+use Rattle.whole.proofs.MessageRows.{on_tick_active-is}
 use Rattle.agreement.specs.World.{World, messages, outputs}
 use Rattle.lists.specs.Lists.{In}
 use Rattle.lists.specs.Lists.In.{here, there}

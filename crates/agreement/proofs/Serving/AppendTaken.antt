@@ -2,11 +2,11 @@
 use Rattle.std.proofs.Common.{◌≡◌, ℕ, ◌+◌, ◌≤◌, inr, List, [], ◌∷◌, length, take, Some, refl, ap, sym, ◌∙◌, subst, arith}
 use Rattle.std.specs.Prelude.{slice_get}
 use Rattle.machine.specs.Machine.{Rules}
-use Rattle.ballot.specs.Message.{Message}
-use Rattle.ballot.specs.Body.TheVariants.{Append, Held}
-use Rattle.ballot.specs.Replica.{ReplicaState}
-use Rattle.ballot.specs.Sending.{message_to}
-use Rattle.ballot.specs.Serving.{extended}
+use Rattle.whole.specs.Messages.{Message}
+use Rattle.whole.specs.Messages.Body.{Append, Held}
+use Rattle.whole.specs.Replica.{ReplicaState}
+use Rattle.whole.specs.Sending.{message_to}
+use Rattle.whole.specs.Serving.{extended}
 use Rattle.agreement.specs.World.{World, messages, moved}
 use Rattle.lists.specs.Lists.{In, IsPrefixOf}
 use Rattle.lists.specs.Lists.In.{here, there}

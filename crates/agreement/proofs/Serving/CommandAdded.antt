@@ -2,11 +2,11 @@
 use Rattle.std.proofs.Common.{◌≡◌, ℕ, ◌+◌, ◌≤◌, List, [], ◌∷◌, ◌++◌, length, take, Some, ap, sym, ◌∙◌, subst, arith}
 use Rattle.std.specs.Prelude.{slice_get}
 use Rattle.machine.specs.Machine.{Rules, replay}
-use Rattle.ballot.specs.Body.TheVariants.{Append}
-use Rattle.ballot.specs.Replica.{ReplicaState}
-use Rattle.ballot.specs.Sending.{Outcome, message_to_followed}
-use Rattle.ballot.specs.Serving.{added}
-use Rattle.ballot.proofs.StepRows.{added-is}
+use Rattle.whole.specs.Messages.Body.{Append}
+use Rattle.whole.specs.Replica.{ReplicaState}
+use Rattle.whole.specs.Sending.{Outcome, message_to_followed}
+use Rattle.whole.specs.Serving.{added}
+use Rattle.whole.proofs.StepRows.{added-is}
 use Rattle.agreement.specs.World.{World, moved}
 use Rattle.lists.specs.Lists.{In}
 use Rattle.agreement.specs.Inside.Ballots.{History}

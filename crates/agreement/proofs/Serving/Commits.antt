@@ -3,15 +3,14 @@ use Rattle.std.proofs.Common.{◌≡◌, ℕ, ◌+◌, ◌<◌, ◌≤◌, ◌�
 use Rattle.std.proofs.lemmas.Bool.{cases_lt}
 use Rattle.std.proofs.lemmas.List.{append-nil}
 use Rattle.machine.specs.Machine.{Rules, replay}
-use Rattle.ballot.specs.Message.{Message}
-use Rattle.ballot.specs.Body.TheVariants.{Commit}
-use Rattle.ballot.specs.Effect.{Effect}
-use Rattle.ballot.specs.Progress.{Progress}
-use Rattle.ballot.specs.Replica.{ReplicaState}
-use Rattle.ballot.specs.Sending.{Outcome, message_to_followed, sent_first}
-use Rattle.ballot.specs.Applying.{applied_to, outputs_from, outputs_to, outputs_between}
-use Rattle.ballot.specs.Serving.{least, commit_at}
-use Rattle.ballot.proofs.StepRows.{commit_at-goes, commit_at-stays, least-le}
+use Rattle.whole.specs.Messages.{Message, Effect}
+use Rattle.whole.specs.Messages.Body.{Commit}
+use Rattle.whole.specs.Progress.{Progress}
+use Rattle.whole.specs.Replica.{ReplicaState}
+use Rattle.whole.specs.Sending.{Outcome, message_to_followed, sent_first}
+use Rattle.whole.specs.Applying.{applied_to, outputs_from, outputs_to, outputs_between}
+use Rattle.whole.specs.Serving.{least, commit_at}
+use Rattle.whole.proofs.StepRows.{commit_at-goes, commit_at-stays, least-le}
 use Rattle.agreement.specs.World.{World, messages, outputs, moved}
 use Rattle.lists.specs.Lists.{In}
 use Rattle.agreement.specs.Inside.Ballots.{Line, History, IsChosenIn}

@@ -3,13 +3,13 @@ use Rattle.std.proofs.Common.{◌≡◌, ℕ, ◌+◌, ◌<◌, ◌≤◌, ◌�
 use Rattle.std.specs.Prelude.{slice_get, ◌&&◌, ◌==◌}
 use Rattle.std.proofs.lemmas.Bool.{cases_Bool, cases_lt, and_parts, eqb-true}
 use Rattle.machine.specs.Machine.{Rules}
-use Rattle.ballot.specs.Applying.{applied_to}
-use Rattle.ballot.specs.Body.TheVariants.{Commit}
-use Rattle.ballot.specs.Effect.{Effect}
-use Rattle.ballot.specs.Replica.{ReplicaState, is_backup}
-use Rattle.ballot.specs.Sending.{Outcome}
-use Rattle.ballot.specs.Serving.{follows, on_commit}
-use Rattle.ballot.proofs.MessageRows.{on_commit-elsewhere, on_commit-past, on_commit-takes}
+use Rattle.whole.specs.Applying.{applied_to}
+use Rattle.whole.specs.Messages.Body.{Commit}
+use Rattle.whole.specs.Messages.{Effect}
+use Rattle.whole.specs.Replica.{ReplicaState, is_backup}
+use Rattle.whole.specs.Sending.{Outcome}
+use Rattle.whole.specs.Serving.{follows, on_commit}
+use Rattle.whole.proofs.MessageRows.{on_commit-elsewhere, on_commit-past, on_commit-takes}
 use Rattle.agreement.specs.World.{World, moved}
 use Rattle.lists.specs.Lists.{In, IsPrefixOf}
 use Rattle.agreement.specs.Inside.Ballots.{Given, Line, History, Applied}

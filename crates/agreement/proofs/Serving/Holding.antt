@@ -3,14 +3,14 @@ use Rattle.std.proofs.Common.{◌≡◌, ℕ, ◌+◌, ◌≤◌, ◌⊎◌, inl
 use Rattle.std.specs.Prelude.{slice_get, ◌==◌}
 use Rattle.std.proofs.lemmas.Bool.{cases_Bool, and_parts, eqb-true}
 use Rattle.machine.specs.Machine.{Rules, replay}
-use Rattle.ballot.specs.Body.TheVariants.{Held}
-use Rattle.ballot.specs.Effect.{Effect}
-use Rattle.ballot.specs.Progress.{Progress}
-use Rattle.ballot.specs.Role.TheVariants.{Active}
-use Rattle.ballot.specs.Replica.{ReplicaState, is_active}
-use Rattle.ballot.specs.Sending.{Outcome}
-use Rattle.ballot.specs.Serving.{raised, raised_progress, leads, on_held}
-use Rattle.ballot.proofs.MessageRows.{raised_progress-member, on_held-elsewhere, on_held-raises}
+use Rattle.whole.specs.Messages.Body.{Held}
+use Rattle.whole.specs.Messages.{Effect}
+use Rattle.whole.specs.Progress.{Progress}
+use Rattle.whole.specs.Role.TheVariants.{Active}
+use Rattle.whole.specs.Replica.{ReplicaState, is_active}
+use Rattle.whole.specs.Sending.{Outcome}
+use Rattle.whole.specs.Serving.{raised, raised_progress, leads, on_held}
+use Rattle.whole.proofs.MessageRows.{raised_progress-member, on_held-elsewhere, on_held-raises}
 use Rattle.agreement.specs.World.{World, moved}
 use Rattle.lists.specs.Lists.{In}
 use Rattle.agreement.specs.Inside.Ballots.{History, Told, Applied}

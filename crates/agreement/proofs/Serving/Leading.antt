@@ -1,8 +1,8 @@
 -- Leading.antt: a primary of an activated ballot, before a command is added.
 use Rattle.std.proofs.Common.{◌≡◌, ℕ, ◌+◌, ◌≤◌, ◌⊎◌, [], ◌∷◌, ◌++◌, length, Some}
-use Rattle.ballot.specs.Progress.{Progress}
-use Rattle.ballot.specs.Role.TheVariants.{Active}
-use Rattle.ballot.specs.Replica.{ReplicaState}
+use Rattle.whole.specs.Progress.{Progress}
+use Rattle.whole.specs.Role.TheVariants.{Active}
+use Rattle.whole.specs.Replica.{ReplicaState}
 use Rattle.agreement.specs.World.{World}
 use Rattle.lists.specs.Lists.{In}
 use Rattle.agreement.specs.Inside.Ballots.{Given, Line, History, Told, Applied}

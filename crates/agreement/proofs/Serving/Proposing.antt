@@ -3,10 +3,10 @@ use Rattle.std.proofs.Common.{take, ◌≡◌, ℕ, ◌<◌, ◌≤◌, ◌⊎�
 use Rattle.std.specs.Prelude.{slice_get}
 use Rattle.std.proofs.lemmas.Bool.{cases_Bool, cases_lt}
 use Rattle.machine.specs.Machine.{Rules, replay}
-use Rattle.ballot.specs.Replica.{ReplicaState, is_active}
-use Rattle.ballot.specs.Sending.{Outcome}
-use Rattle.ballot.specs.Serving.{proposed, most_places}
-use Rattle.ballot.proofs.StepRows.{proposed-adds, proposed-not_active, proposed-full}
+use Rattle.whole.specs.Replica.{ReplicaState, is_active}
+use Rattle.whole.specs.Sending.{Outcome}
+use Rattle.whole.specs.Serving.{proposed, most_places}
+use Rattle.whole.proofs.StepRows.{proposed-adds, proposed-not_active, proposed-full}
 use Rattle.agreement.specs.World.{World}
 use Rattle.agreement.specs.Inside.Ballots.{History}
 use Rattle.agreement.specs.Inside.Keeps.{KeepsAdding}

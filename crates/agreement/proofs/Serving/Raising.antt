@@ -1,8 +1,8 @@
 -- Raising.antt: progress that is raised is told.
 use Rattle.std.proofs.Common.{◌≡◌, ℕ, ◌<◌, ◌≤◌, ◌⊎◌, inl, inr, cond, max, List, [], ◌∷◌, refl, ap, sym, subst, arith}
 use Rattle.std.proofs.lemmas.Bool.{cases_eq, cases_lt, eq-eqb, ne_eqb}
-use Rattle.ballot.specs.Progress.{Progress}
-use Rattle.ballot.specs.Serving.{raised, raised_progress}
+use Rattle.whole.specs.Progress.{Progress}
+use Rattle.whole.specs.Serving.{raised, raised_progress}
 use Rattle.agreement.specs.World.{World}
 use Rattle.lists.specs.Lists.{In}
 use Rattle.lists.specs.Lists.In.{here, there}

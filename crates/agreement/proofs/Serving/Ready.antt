@@ -1,12 +1,11 @@
 -- Ready.antt: a primary whose log or progress has changed, and that has not committed yet.
 use Rattle.std.proofs.Common.{◌≡◌, ℕ, ◌+◌, ◌≤◌, List, length, Some, Option, ap, arith}
 use Rattle.machine.specs.Machine.{Rules}
-use Rattle.ballot.specs.Message.{Message}
-use Rattle.ballot.specs.Effect.{Effect}
-use Rattle.ballot.specs.Progress.{Progress}
-use Rattle.ballot.specs.Role.TheVariants.{Active}
-use Rattle.ballot.specs.Replica.{ReplicaState}
-use Rattle.ballot.specs.Applying.{applied_to}
+use Rattle.whole.specs.Messages.{Message, Effect}
+use Rattle.whole.specs.Progress.{Progress}
+use Rattle.whole.specs.Role.TheVariants.{Active}
+use Rattle.whole.specs.Replica.{ReplicaState}
+use Rattle.whole.specs.Applying.{applied_to}
 use Rattle.agreement.specs.World.{World, messages, moved}
 use Rattle.lists.specs.Lists.{In}
 use Rattle.agreement.specs.Inside.Ballots.{Line, History}

@@ -2,16 +2,15 @@
 use Rattle.std.proofs.Common.{◌≡◌, ℕ, ◌+◌, List, [], ◌∷◌, Some, Option, refl, ap, sym, ◌∙◌, subst, arith}
 use Rattle.std.specs.Prelude.{slice_get}
 use Rattle.machine.specs.Machine.{Rules}
-use Rattle.ballot.specs.Message.{Message}
-use Rattle.ballot.specs.Body.TheVariants.{Join, Install}
-use Rattle.ballot.specs.Effect.{Effect}
-use Rattle.ballot.specs.Role.{Role}
-use Rattle.ballot.specs.Role.TheVariants.{Backup, Fetching, Installing, Active}
-use Rattle.ballot.specs.Replica.{ReplicaState}
-use Rattle.ballot.specs.Sending.{message_to_each}
-use Rattle.ballot.specs.Changing.{on_tick_fetching, installs}
-use Rattle.ballot.specs.Serving.{on_tick_active}
-use Rattle.ballot.specs.Protocol.{ticked}
+use Rattle.whole.specs.Messages.{Message, Effect}
+use Rattle.whole.specs.Messages.Body.{Join, Install}
+use Rattle.whole.specs.Role.{Role}
+use Rattle.whole.specs.Role.TheVariants.{Backup, Fetching, Installing, Active}
+use Rattle.whole.specs.Replica.{ReplicaState}
+use Rattle.whole.specs.Sending.{message_to_each}
+use Rattle.whole.specs.Changing.{on_tick_fetching, installs}
+use Rattle.whole.specs.Serving.{on_tick_active}
+use Rattle.whole.specs.Protocol.{ticked}
 use Rattle.agreement.specs.World.{World, messages, outputs, moved}
 use Rattle.lists.specs.Lists.{In}
 use Rattle.lists.specs.Lists.In.{here, there}

@@ -4,12 +4,12 @@ use Rattle.std.specs.Prelude.{nat_lt, nat_le, ◌&&◌, ◌||◌, ◌==◌}
 use Rattle.std.specs.List.{list_any}
 use Rattle.std.proofs.lemmas.Bool.{cases_Bool}
 use Rattle.machine.specs.Machine.{Rules}
-use Rattle.ballot.specs.Role.TheVariants.{Active}
-use Rattle.ballot.specs.Replica.{ReplicaState, is_fetching, is_installing}
-use Rattle.ballot.specs.Sending.{Outcome}
-use Rattle.ballot.specs.Changing.{on_new_ballot, on_join, on_install, on_superseded, on_state, on_installed}
-use Rattle.ballot.specs.Serving.{on_append, on_held, on_commit, commit, commit_at, added, least, raised, follows, leads}
-use Rattle.ballot.proofs.StepRows.{added-is}
+use Rattle.whole.specs.Role.TheVariants.{Active}
+use Rattle.whole.specs.Replica.{ReplicaState, is_fetching, is_installing}
+use Rattle.whole.specs.Sending.{Outcome}
+use Rattle.whole.specs.Changing.{on_new_ballot, on_join, on_install, on_superseded, on_state, on_installed}
+use Rattle.whole.specs.Serving.{on_append, on_held, on_commit, commit, commit_at, added, least, raised, follows, leads}
+use Rattle.whole.proofs.StepRows.{added-is}
 
 -- a node that is active behind a step was so before, in the same ballot
 abbrev pub StaysActive : {S C O : Type 0} → ReplicaState S C → Outcome S C O → Type 0

@@ -1,8 +1,8 @@
 -- Ballots.antt: what is said of several ballots.
 use Rattle.std.specs.Prelude.{ℕ, ◌+◌, ◌<◌, ◌≤◌, ◌≡◌, ◌⊎◌, List, [], ◌∷◌, length, take, slice_get, Option, Some}
-use Rattle.ballot.specs.Message.{Message}
-use Rattle.ballot.specs.Body.TheVariants.{Held, Installed}
-use Rattle.ballot.specs.Replica.{ReplicaState}
+use Rattle.whole.specs.Messages.{Message}
+use Rattle.whole.specs.Messages.Body.{Held, Installed}
+use Rattle.whole.specs.Replica.{ReplicaState}
 use Rattle.agreement.specs.World.{World}
 use Rattle.lists.specs.Lists.{In, IsPrefixOf}
 

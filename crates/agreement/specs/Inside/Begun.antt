@@ -1,7 +1,7 @@
 -- Begun.antt: where a ballot begins in its list.
 use Rattle.std.specs.Prelude.{ℕ, ◌<◌, ◌≡◌, ◌⊎◌, length, slice_get, Some}
-use Rattle.ballot.specs.Role.TheVariants.{Active}
-use Rattle.ballot.specs.Replica.{ReplicaState}
+use Rattle.whole.specs.Role.TheVariants.{Active}
+use Rattle.whole.specs.Replica.{ReplicaState}
 use Rattle.agreement.specs.World.{World}
 use Rattle.agreement.specs.Inside.Ballots.{Line, History}
 

@@ -3,9 +3,9 @@
 use Rattle.agreement.specs.Inside.Moves.{with_lines}
 use Rattle.std.specs.Prelude.{◌⊎◌, ℕ, ◌≡◌, List, [], ◌∷◌, ◌++◌, Some, None}
 use Rattle.machine.specs.Machine.{Rules}
-use Rattle.ballot.specs.Effect.{Effect}
-use Rattle.ballot.specs.Losses.{Thinned}
-use Rattle.ballot.specs.Sending.{Outcome}
+use Rattle.whole.specs.Messages.{Effect}
+use Rattle.whole.specs.Losses.{Thinned}
+use Rattle.whole.specs.Sending.{Outcome}
 use Rattle.agreement.specs.World.{World, moved}
 use Rattle.lists.specs.Lists.{In, IsPrefixOf}
 use Rattle.agreement.specs.Inside.Ballots.{Told, TellsHere, Given, Line, History, Extends}

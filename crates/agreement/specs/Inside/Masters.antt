@@ -1,6 +1,6 @@
 -- Masters.antt: what the master's fields say of the history of ballots.
 use Rattle.std.specs.Prelude.{ℕ, ◌+◌, ◌<◌, ◌≤◌, ◌≡◌, List, ◌∷◌, Some}
-use Rattle.ballot.specs.Config.{Config}
+use Rattle.whole.specs.Config.{Config}
 use Rattle.agreement.specs.Inside.Ballots.{Given, History}
 use Rattle.lists.specs.Lists.{In}
 use Rattle.agreement.specs.MasterState.{MasterState, last_ballot}

@@ -8,7 +8,7 @@ use Rattle.agreement.specs.MasterState.{MasterState}
 use Rattle.agreement.specs.Replays.{AreReplays}
 use Rattle.agreement.specs.Inside.Sound.{IsSound}
 use Rattle.agreement.specs.World.{World}
-use Rattle.ballot.specs.Message.{Message}
+use Rattle.whole.specs.Messages.{Message}
 use Rattle.lists.specs.Lists.{In}
 
 -- the number of a node that there is

@@ -2,13 +2,12 @@
 use Rattle.std.specs.Prelude.{ℕ, ◌+◌, ◌<◌, ◌≤◌, ◌≡◌, ◌⊎◌, List, [], length, take, slice_get, Some, None}
 use Rattle.std.specs.List.{flat_map}
 use Rattle.machine.specs.Machine.{Rules}
-use Rattle.ballot.specs.Message.{Message}
-use Rattle.ballot.specs.Body.{Body}
-use Rattle.ballot.specs.Body.TheVariants.{NewBallot, Join, State, Install, Installed, Activate, Activated, Superseded, Append, Held, Commit}
-use Rattle.ballot.specs.Progress.{Progress}
-use Rattle.ballot.specs.Role.TheVariants.{Fetching, Installing, Active}
-use Rattle.ballot.specs.Replica.{ReplicaState}
-use Rattle.ballot.specs.Applying.{outputs_between}
+use Rattle.whole.specs.Messages.{Message, Body}
+use Rattle.whole.specs.Messages.Body.{NewBallot, Join, State, Install, Installed, Activate, Activated, Superseded, Append, Held, Commit}
+use Rattle.whole.specs.Progress.{Progress}
+use Rattle.whole.specs.Role.TheVariants.{Fetching, Installing, Active}
+use Rattle.whole.specs.Replica.{ReplicaState}
+use Rattle.whole.specs.Applying.{outputs_between}
 use Rattle.agreement.specs.World.{World, outputs}
 use Rattle.lists.specs.Lists.{In, IsPrefixOf}
 use Rattle.agreement.specs.Inside.Ballots.{Given, Line, History, Told, IsChosenIn, Sealed, AreBallots, AreLines, IsPlaced, Applied}

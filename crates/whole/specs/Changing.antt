@@ -1,0 +1,123 @@
+-- Changing.antt: the rows of the protocol between ballots, from NewBallot to Activated, and the
+-- ticks of a new primary. A message that a row's condition does not cover changes nothing.
+use Rattle.std.specs.Prelude.{ℕ, List, [], ◌∷◌, length, ◌==◌, ◌&&◌, ◌||◌, nat_lt, nat_le, if◌then◌else◌}
+use Rattle.std.specs.List.{list_any}
+use Rattle.machine.specs.Machine.{Rules}
+use Rattle.whole.specs.Messages.Body.{Join, State, Install, Installed, Activate}
+use Rattle.whole.specs.Messages.{Effect}
+use Rattle.ballot_base.specs.declared.status.Role.TheVariants.{Backup, Fetching, Installing, Active}
+use Rattle.whole.specs.Sending.{Outcome, nothing_done, message_to, message_to_each, master}
+use Rattle.whole.specs.Applying.{applied_to}
+use Rattle.whole.specs.Serving.{most_places, added}
+use Rattle.whole.specs.Replica.{ReplicaState, is_fetching, is_installing, others, progress_at}
+
+-- a new primary asks the earlier ballot's members, itself included where it is one, for their logs
+unfoldable pub on_new_ballot : {S C : Type 0} (O : Type 0) →
+    ReplicaState S C → ℕ → List ℕ → ℕ → List ℕ → Outcome S C O
+on_new_ballot O r ballot members previous previous_members =
+    if nat_lt r.joined ballot
+    then record {
+      state = record r {
+        joined = ballot;
+        role = Fetching;
+        members = members;
+        previous = previous;
+        previous_members = previous_members;
+        lacking = [];
+        progress = [];
+      };
+      effects = message_to_each O r.id (Join ballot previous) previous_members;
+    }
+    else nothing_done O r
+
+-- Join(ballot, previous): whoever joins leaves all lower ballots, and sends its log
+unfoldable pub on_join : {S C : Type 0} (O : Type 0) → ReplicaState S C → ℕ → ℕ → ℕ → Outcome S C O
+on_join O r from ballot previous =
+    if nat_le r.joined ballot && nat_le previous r.held_in
+    then record {
+      state = if nat_lt r.joined ballot then record r { joined = ballot; role = Backup } else r;
+      effects = message_to O r.id (State ballot r.log) from ∷ [];
+    }
+    else nothing_done O r
+
+-- the log goes to the members that lack it; with none, the master may activate the ballot
+abbrev pub installs : {S C : Type 0} (O : Type 0) → ReplicaState S C → List ℕ → List (Effect C O)
+installs O r [] = message_to O r.id (Activate r.joined) master ∷ []
+installs O r (member ∷ members) =
+    message_to_each O r.id (Install r.joined r.log) (member ∷ members)
+
+-- State(ballot, log): the first log that comes is taken, unless it lacks an applied place; all
+-- other members lack it then
+unfoldable pub on_state : {S C : Type 0} (O : Type 0) →
+    ReplicaState S C → ℕ → List C → Outcome S C O
+on_state O r ballot log =
+    let taken = record r {
+      held_in = ballot;
+      log = log;
+      role = Installing;
+      lacking = others r.id r.members;
+    } in
+    if r.joined == ballot && (is_fetching r.role && nat_le r.committed (length log))
+    then record { state = taken; effects = installs O taken taken.lacking }
+    else nothing_done O r
+
+-- Install(ballot, log): a log is taken once, unless it lacks an applied place; later it is only
+-- answered, since more may have been added behind it
+unfoldable pub on_install : {S C : Type 0} (O : Type 0) →
+    ReplicaState S C → ℕ → ℕ → List C → Outcome S C O
+on_install O r from ballot log =
+    let installed = message_to O r.id (Installed ballot (length log)) from ∷ [] in
+    if (nat_lt r.joined ballot || (r.joined == ballot && nat_lt r.held_in ballot))
+    && nat_le r.committed (length log)
+    then record {
+      state = record r { joined = ballot; held_in = ballot; log = log; role = Backup };
+      effects = installed;
+    }
+    else if r.joined == ballot && r.held_in == ballot
+    then record { state = r; effects = installed }
+    else nothing_done O r
+
+-- with the last that lacked the log the master may activate the ballot
+abbrev pub activates : {S C : Type 0} (O : Type 0) → ReplicaState S C → List ℕ → List (Effect C O)
+activates O r [] = message_to O r.id (Activate r.joined) master ∷ []
+activates O r (member ∷ members) = []
+
+-- Installed(ballot, ..): the sender lacks the log no more
+unfoldable pub on_installed : {S C : Type 0} (O : Type 0) → ReplicaState S C → ℕ → ℕ → Outcome S C O
+on_installed O r from ballot =
+    let fewer = record r { lacking = others from r.lacking } in
+    if (r.joined == ballot && is_installing r.role)
+    && list_any (λ member. member == from) r.lacking
+    then record { state = fewer; effects = activates O fewer fewer.lacking }
+    else nothing_done O r
+
+-- Activated(ballot), where no member lacks the log: its places are applied, their outputs dropped,
+-- and the start of the ballot is added behind them
+unfoldable pub on_activated : {S C O : Type 0} → Rules S C O → ReplicaState S C → ℕ → Outcome S C O
+on_activated {O = O} rules r ballot =
+    let active = record (applied_to rules r (length r.log)) {
+      role = Active;
+      progress = progress_at (length r.log) (others r.id r.members);
+    } in
+    if (r.joined == ballot && is_installing r.role)
+    && (nat_le (length r.lacking) 0 && nat_lt (length r.log) most_places)
+    then added rules active (rules.start_of ballot)
+    else nothing_done O r
+
+-- Superseded(ballot)
+unfoldable pub on_superseded : {S C : Type 0} (O : Type 0) → ReplicaState S C → ℕ → Outcome S C O
+on_superseded O r ballot =
+    if r.joined == ballot && is_installing r.role
+    then record { state = record r { role = Backup }; effects = [] }
+    else nothing_done O r
+
+-- a new primary says again what it waits for
+abbrev pub on_tick_fetching : {S C : Type 0} (O : Type 0) → ReplicaState S C → Outcome S C O
+on_tick_fetching O r =
+    record {
+      state = r;
+      effects = message_to_each O r.id (Join r.joined r.previous) r.previous_members;
+    }
+
+abbrev pub on_tick_installing : {S C : Type 0} (O : Type 0) → ReplicaState S C → Outcome S C O
+on_tick_installing O r = record { state = r; effects = installs O r r.lacking }

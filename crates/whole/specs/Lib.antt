@@ -1,0 +1,13 @@
+pub mod Applying
+pub mod Changing
+pub mod Losses
+pub mod Messages
+pub mod Protocol
+pub mod Replica
+pub mod Sending
+pub mod Serving
+pub use Rattle.ballot_base.specs.LawfulConfig
+pub use Rattle.ballot_base.specs.declared.config.Config
+pub use Rattle.ballot_base.specs.declared.status.Progress
+pub use Rattle.ballot_base.specs.declared.status.Role
+pub use Rattle.machine.specs.Machine

@@ -1,0 +1,26 @@
+-- Losses.antt: a step in which memory was wanting.
+use Rattle.std.specs.Prelude.{ℕ, ◌≡◌, ◌⊎◌, true, List, [], ◌∷◌}
+use Rattle.machine.specs.Machine.{Rules}
+use Rattle.whole.specs.Messages.{Message, Effect}
+use Rattle.whole.specs.Messages.Effect.{To}
+use Rattle.whole.specs.Replica.{ReplicaState}
+use Rattle.whole.specs.Sending.{Outcome}
+
+-- the first list is the second with some messages missing; no output is
+pub data Thinned {C O : Type 0} : List (Effect C O) → List (Effect C O) → Type 0 where
+  none : Thinned [] []
+  keeps : {e : Effect C O} {xs ys : List (Effect C O)} → Thinned xs ys → Thinned (e ∷ xs) (e ∷ ys)
+  loses : {receiver : ℕ} {m : Message C} {xs ys : List (Effect C O)} →
+      Thinned xs ys → Thinned xs (To receiver m ∷ ys)
+
+-- a replica that found no memory while it applied: its fields stay as before the call, and its
+-- machine, which may have done a part, is shown no more
+abbrev pub halted : {S C O : Type 0} → Rules S C O → ReplicaState S C → ReplicaState S C
+halted rules r = record r { stopped = true; machine = rules.opening }
+
+-- a step with losses: some messages are missing, or nothing was done, or the replica stopped
+abbrev pub Loses : {S C O : Type 0} → Rules S C O →
+    ReplicaState S C → Outcome S C O → ReplicaState S C → List (Effect C O) → Type 0
+Loses rules old outcome new given =
+    ((new ≡ outcome.state) × Thinned given outcome.effects)
+    ⊎ (((new ≡ old) × (given ≡ [])) ⊎ ((new ≡ halted rules old) × (given ≡ [])))

@@ -1,0 +1,47 @@
+-- Protocol.antt: the step of a replica on a message, a proposal or a tick.
+use Rattle.std.specs.Prelude.{ℕ}
+use Rattle.machine.specs.Machine.{Rules}
+use Rattle.whole.specs.Messages.{Message, Body}
+use Rattle.whole.specs.Messages.Body.{NewBallot, Join, State, Install, Installed, Activate, Activated, Superseded, Append, Held, Commit}
+use Rattle.ballot_base.specs.declared.status.Role.{Role}
+use Rattle.ballot_base.specs.declared.status.Role.TheVariants.{Backup, Fetching, Installing, Active}
+use Rattle.whole.specs.Sending.{Outcome, nothing_done}
+use Rattle.whole.specs.Serving.{proposed, on_append, on_held, on_commit, on_tick_active}
+use Rattle.whole.specs.Changing.{on_new_ballot, on_join, on_state, on_install, on_installed, on_activated, on_superseded, on_tick_fetching, on_tick_installing}
+use Rattle.whole.specs.Replica.{ReplicaState}
+
+-- what a replica takes in at one step
+pub data Input (C : Type 0) : Type 0 where
+  Receives : Message C → Input C
+  Proposes : C → Input C
+  Ticks : Input C
+
+-- a message, by its kind
+abbrev pub received : {S C O : Type 0} → Rules S C O → ReplicaState S C → ℕ → Body C → Outcome S C O
+received {O = O} rules r from (NewBallot ballot members previous previous_members) =
+    on_new_ballot O r ballot members previous previous_members
+received {O = O} rules r from (Join ballot previous) = on_join O r from ballot previous
+received {O = O} rules r from (State ballot log) = on_state O r ballot log
+received {O = O} rules r from (Install ballot log) = on_install O r from ballot log
+received {O = O} rules r from (Installed ballot held) = on_installed O r from ballot
+received {O = O} rules r from (Activate ballot) = nothing_done O r
+received {O = O} rules r from (Activated ballot) = on_activated rules r ballot
+received {O = O} rules r from (Superseded ballot) = on_superseded O r ballot
+received {O = O} rules r from (Append ballot place command) =
+    on_append O r from ballot place command
+received {O = O} rules r from (Held ballot held) = on_held rules r from ballot held
+received rules r from (Commit ballot held) = on_commit rules r ballot held
+
+-- a tick, by the role
+abbrev pub ticked : {S C : Type 0} (O : Type 0) → ReplicaState S C → Role → Outcome S C O
+ticked O r Backup = nothing_done O r
+ticked O r Fetching = on_tick_fetching O r
+ticked O r Installing = on_tick_installing O r
+ticked O r Active = on_tick_active O r
+
+-- the step of a replica that has not stopped
+abbrev pub replica_step : {S C O : Type 0} →
+    Rules S C O → ReplicaState S C → Input C → Outcome S C O
+replica_step rules r (Receives message) = received rules r message.from message.body
+replica_step rules r (Proposes command) = proposed rules r command
+replica_step {O = O} rules r Ticks = ticked O r r.role

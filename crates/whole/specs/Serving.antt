@@ -1,0 +1,99 @@
+-- Serving.antt: the rows of the protocol inside a ballot: Append, Held, Commit, proposals, ticks.
+-- Receivers are taken in rising order. A message that no row's condition covers changes nothing.
+use Rattle.std.specs.Prelude.{ℕ, Bool, List, [], ◌∷◌, ◌++◌, length, max, slice_get, Option, Some, None, ◌==◌, ◌&&◌, nat_lt, nat_le, if◌then◌else◌}
+use Rattle.std.specs.List.{flat_map}
+use Rattle.machine.specs.Machine.{Rules}
+use Rattle.whole.specs.Messages.Body.{Append, Held, Commit}
+use Rattle.whole.specs.Messages.{Effect}
+use Rattle.ballot_base.specs.declared.status.Progress.{Progress}
+use Rattle.whole.specs.Applying.{outputs_to, applied_to}
+use Rattle.whole.specs.Sending.{Outcome, nothing_done, message_to, message_to_followed, sent_first}
+use Rattle.whole.specs.Replica.{ReplicaState, is_active, is_backup}
+pub use Rattle.ballot_base.specs.Serving.{least, raised_progress, raised, most_places}
+
+-- places below `held` that are not applied yet are applied, their outputs given, and the other
+-- members hear of it
+unfoldable pub commit_at : {S C O : Type 0} → Rules S C O → ReplicaState S C → ℕ → Outcome S C O
+commit_at {O = O} rules r held =
+    if nat_lt r.committed held
+    then record {
+      state = applied_to rules r held;
+      effects = outputs_to rules r held ++ message_to_followed O r.id (Commit r.joined held) r.progress;
+    }
+    else nothing_done O r
+
+-- what every member holds is committed
+unfoldable pub commit : {S C O : Type 0} → Rules S C O → ReplicaState S C → Outcome S C O
+commit rules r = commit_at rules r (least (length r.log) r.progress)
+
+-- a command is added behind the log and sent to the other members; what all hold is committed
+unfoldable pub added : {S C O : Type 0} → Rules S C O → ReplicaState S C → C → Outcome S C O
+added {O = O} rules r command =
+    sent_first
+    (message_to_followed O r.id (Append r.joined (length r.log) command) r.progress)
+    (commit rules (record r { log = r.log ++ command ∷ [] }))
+
+-- a proposal counts at an active primary whose log has room
+unfoldable pub proposed : {S C O : Type 0} → Rules S C O → ReplicaState S C → C → Outcome S C O
+proposed {O = O} rules r command =
+    if is_active r.role && nat_lt (length r.log) most_places
+    then added rules r command
+    else nothing_done O r
+
+-- whether a replica is a backup that holds the log of a ballot, or leads it as its active primary
+abbrev pub follows : {S C : Type 0} → ReplicaState S C → ℕ → Bool
+follows r ballot = (r.joined == ballot && r.held_in == ballot) && is_backup r.role
+
+abbrev pub leads : {S C : Type 0} → ReplicaState S C → ℕ → Bool
+leads r ballot = r.joined == ballot && is_active r.role
+
+-- a log that takes a command where its place is the next one
+abbrev pub extended : {C : Type 0} → ℕ → C → List C → List C
+extended place command log = if place == length log then log ++ command ∷ [] else log
+
+-- Append(ballot, place, command)
+unfoldable pub on_append : {S C : Type 0} (O : Type 0) →
+    ReplicaState S C → ℕ → ℕ → ℕ → C → Outcome S C O
+on_append O r from ballot place command =
+    let log = extended place command r.log in
+    if follows r ballot && nat_le place (length r.log)
+    then record {
+      state = record r { log = log };
+      effects = message_to O r.id (Held ballot (length log)) from ∷ [];
+    }
+    else nothing_done O r
+
+-- Held(ballot, held)
+unfoldable pub on_held : {S C O : Type 0} →
+    Rules S C O → ReplicaState S C → ℕ → ℕ → ℕ → Outcome S C O
+on_held {O = O} rules r from ballot held =
+    if leads r ballot
+    then commit rules (record r { progress = raised from held r.progress })
+    else nothing_done O r
+
+-- Commit(ballot, held): the outputs are the primary's to give, and a backup drops them
+unfoldable pub on_commit : {S C O : Type 0} → Rules S C O → ReplicaState S C → ℕ → ℕ → Outcome S C O
+on_commit {O = O} rules r ballot held =
+    if follows r ballot && nat_le held (length r.log)
+    then record { state = applied_to rules r (max r.committed held); effects = [] }
+    else nothing_done O r
+
+-- what a member may lack: the place at its progress, if the log has it
+abbrev pub append_at : {C : Type 0} (O : Type 0) → ℕ → ℕ → Progress → Option C → List (Effect C O)
+append_at O id ballot reached None = []
+append_at O id ballot reached (Some command) =
+    message_to O id (Append ballot reached.held command) reached.member ∷ []
+
+abbrev pub appends_behind : {C : Type 0} (O : Type 0) →
+    ℕ → ℕ → List C → List Progress → List (Effect C O)
+appends_behind O id ballot log progress =
+    flat_map (λ reached. append_at O id ballot reached (slice_get log reached.held)) progress
+
+-- an active primary says again what the other members lack, and what is committed
+unfoldable pub on_tick_active : {S C : Type 0} (O : Type 0) → ReplicaState S C → Outcome S C O
+on_tick_active O r =
+    record {
+      state = r;
+      effects = appends_behind O r.id r.joined r.log r.progress
+          ++ message_to_followed O r.id (Commit r.joined r.committed) r.progress;
+    }
