@@ -1,15 +1,17 @@
 -- Machine.antt: a machine by its rules alone, and what a list of commands does to it.
-use Rattle.std.specs.Prelude.{ℕ, List, [], ◌∷◌}
+use Rattle.std.specs.Prelude.{ℕ, List, [], ◌∷◌, Option}
 use Rattle.machine.specs.declared.error.ThawFault.{ThawFault}
 use Rattle.machine.specs.declared.error.ThawFault.TheVariants.{Shape, Memory}
 
 -- where the machine begins, which command begins a ballot, what a command makes of a state, and
--- what it gives there
+-- what it gives there; the bytes to which a state is frozen, and the state that bytes stand for
 pub record Rules (S C O : Type 0) : Type 0 where
   pub opening : S
   pub start_of : ℕ → C
   pub after : S → C → S
   pub gives : S → C → List O
+  pub frozen : S → List ℕ
+  pub thawed : List ℕ → Option S
 
 -- the state after commands that were done one after the other from the state s
 abbrev pub replay_from : {S C O : Type 0} → Rules S C O → S → List C → S

@@ -16,16 +16,6 @@ abbrev pub totals_given : ℕ → TallyCommand → List ℕ
 totals_given total (Add number) = total_after total (Add number) ∷ []
 totals_given total (Start ballot) = []
 
--- the rules of a tally: it begins at 0
-abbrev pub tally_rules : Rules Tally TallyCommand ℕ
-tally_rules =
-    record {
-      opening = record { total = 0 };
-      start_of = Start;
-      after = λ s c. record { total = total_after s.total c };
-      gives = λ s c. totals_given s.total c;
-    }
-
 -- the numbers of commands have 64 bits
 abbrev pub IsTallyCommand : TallyCommand → Type 0
 IsTallyCommand (Add number) = number < 2 ^ 64
@@ -39,3 +29,15 @@ bytes_of total = to_be_bytes w64 total
 abbrev pub tally_of : List ℕ → Option Tally
 tally_of bytes =
     if length bytes == 8 then Some (record { total = from_be_bytes w64 bytes }) else None
+
+-- the rules of a tally: it begins at 0
+abbrev pub tally_rules : Rules Tally TallyCommand ℕ
+tally_rules =
+    record {
+      opening = record { total = 0 };
+      start_of = Start;
+      after = λ s c. record { total = total_after s.total c };
+      gives = λ s c. totals_given s.total c;
+      frozen = λ s. bytes_of s.total;
+      thawed = tally_of;
+    }

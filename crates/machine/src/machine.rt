@@ -10,8 +10,8 @@ use std::alloc::Global;
 /// command alone, so that replicas that take the same commands in the same order stay equal.
 ///
 /// `rules` says where every machine begins, which command begins a ballot, what a command makes of
-/// a state, and what it gives. `IsState` and `IsCommand` hold of every value that a program
-/// has in hand: they say which numbers and sizes there are.
+/// a state, what it gives, and the bytes of a state. `IsState` and `IsCommand` hold of every value
+/// that a program has in hand: they say which numbers and sizes there are.
 pub trait Machine: Drop {
     /// What a log holds.
     type Command: Drop;
@@ -20,11 +20,6 @@ pub trait Machine: Drop {
 
     // The rules, as one record.
     ghost rules: { Rules Self Self.Command Self.Output };
-
-    // The bytes that a state is frozen to, and the state that bytes stand for, if any.
-    ghost frozen: { Self → List ℕ };
-
-    ghost thawed: { List ℕ → Option Self };
 
     ghost IsState: { Self → Type 0 };
 
@@ -54,15 +49,15 @@ pub trait Machine: Drop {
 
     /// Appends the bytes of this state to `bytes`, which stay as they were where memory is wanting.
     fn freeze(&self, bytes: &mut Vec<u8>) -> Result<(), Memory>
-        ensures ok { OnOk result (bytes.new.items ≡ bytes.old.items ++ frozen self.now) }
+        ensures ok { OnOk result (bytes.new.items ≡ bytes.old.items ++ rules.frozen self.now) }
         ensures err { OnErr result (bytes.new.items ≡ bytes.old.items) }
         ensures valid { IsState self.now };
 
     /// The machine that frozen bytes stand for. [`ThawFault::Shape`] comes only where they stand
     /// for none, [`ThawFault::Memory`] only where a growth was refused.
     fn thaw(alloc: Global, bytes: &[u8]) -> Result<Self, ThawFault>
-        ensures ok { IfOk result (λ machine. thawed bytes.now ≡ Some machine) }
-        ensures shape { result ≡ Err ThawFault.Shape → thawed bytes.now ≡ None };
+        ensures ok { IfOk result (λ machine. rules.thawed bytes.now ≡ Some machine) }
+        ensures shape { result ≡ Err ThawFault.Shape → rules.thawed bytes.now ≡ None };
 
     // The laws.
     ghost opens: { IsState rules.opening };
@@ -70,5 +65,5 @@ pub trait Machine: Drop {
     ghost keeps: { (s : Self) (c : Self.Command) →
         IsState s → IsCommand c → IsState (rules.after s c) };
 
-    ghost thaws: { (s : Self) → IsState s → thawed (frozen s) ≡ Some s };
+    ghost thaws: { (s : Self) → IsState s → rules.thawed (rules.frozen s) ≡ Some s };
 }

@@ -30,10 +30,6 @@ impl Machine for Tally {
 
     ghost rules = { tally_rules };
 
-    ghost frozen = { λ s. bytes_of s.total };
-
-    ghost thawed = { tally_of };
-
     ghost IsState = { λ s. s.total < 2 ^ 64 };
 
     ghost IsCommand = { IsTallyCommand };
