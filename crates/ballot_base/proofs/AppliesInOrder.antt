@@ -1,10 +1,11 @@
 -- AppliesInOrder.antt: places that are applied one after the other give the replay and its outputs.
-use Rattle.std.proofs.Common.{◌≡◌, ℕ, zero, suc, ◌+◌, ◌<◌, ◌≤◌, List, [], ◌∷◌, ◌++◌, length, get_or, map, take, drop, refl, ap, sym, ◌∙◌, append_assoc, arith}
+use Rattle.std.proofs.Common.{◌≡◌, ℕ, zero, suc, ◌+◌, ◌-◌, ◌<◌, ◌≤◌, List, [], ◌∷◌, ◌++◌, length, get_or, map, take, drop, refl, ap, sym, ◌∙◌, append_assoc, arith}
 use Rattle.std.proofs.lemmas.List.{take_more, take-take, take-append-drop, drop-append-le, length-take-le, length-drop, append-nil}
 use Rattle.machine.specs.Machine.{Rules, replay, replay_from}
 use Rattle.ballot_base.specs.declared.message.Effect.{Effect}
 use Rattle.ballot_base.specs.declared.message.Effect.TheVariants.{Out}
 use Rattle.ballot_base.specs.Applying.{outputs_from}
+use Rattle.ballot_base.specs.Logs.{Log, part, places}
 
 -- commands behind others are done in the state that those leave
 pub replay_from-append : {S C O : Type 0} (rules : Rules S C O) (s : S) (xs ys : List C) →
@@ -27,13 +28,21 @@ outputs_from-append rules s place (x ∷ xs) ys =
     ∙ ap (λ n. (map (Out place) (rules.gives s x) ++ outputs_from rules (rules.after s x) (place + 1) xs)
     ++ outputs_from rules (replay_from rules (rules.after s x) xs) n ys) e
 
--- the places from one length up to another, with one place more
-part_more : {C : Type 0} (log : List C) (from place : ℕ) (d : C) → from ≤ place → place < length log →
-    drop from (take (place + 1) log) ≡ drop from (take place log) ++ get_or log place d ∷ []
-part_more log from place d rising below =
-    let within : length (take place log) ≡ place = length-take-le place log (omega arith) in
-    ap (drop from) (take_more log place d below)
-    ∙ drop-append-le from (take place log) (get_or log place d ∷ []) (omega arith)
+-- the commands from one length up to another, with one more
+rest_more : {C : Type 0} (rest : List C) (from place : ℕ) (d : C) → from ≤ place → place < length rest →
+    drop from (take (place + 1) rest) ≡ drop from (take place rest) ++ get_or rest place d ∷ []
+rest_more rest from place d rising below =
+    let within : length (take place rest) ≡ place = length-take-le place rest (omega arith) in
+    ap (drop from) (take_more rest place d below)
+    ∙ drop-append-le from (take place rest) (get_or rest place d ∷ []) (omega arith)
+
+-- .. of a log that keeps them
+part_more : {C : Type 0} (log : Log C) (from place : ℕ) (d : C) → log.base ≤ from → from ≤ place → place < places log →
+    part log from (place + 1) ≡ part log from place ++ get_or log.rest (place - log.base) d ∷ []
+part_more log from place d kept rising below =
+    let e : (place + 1) - log.base ≡ (place - log.base) + 1 = omega (arith, kept, rising) in
+    ap (λ n. drop (from - log.base) (take n log.rest)) e
+    ∙ rest_more log.rest (from - log.base) (place - log.base) d (omega (arith, kept, rising)) (omega (arith, kept, rising, below))
 
 -- no place lies between a length and itself
 pub part_none : {C : Type 0} (log : List C) (from : ℕ) → drop from (take from log) ≡ []
@@ -42,28 +51,29 @@ part_none [] (suc n) = refl
 part_none (x ∷ log) (suc n) = part_none log n
 
 -- a machine that does one place more
-pub replay_part-more : {S C O : Type 0} (rules : Rules S C O) (s : S) (log : List C) (from place : ℕ) (d : C) →
-    from ≤ place → place < length log →
-    replay_from rules s (drop from (take (place + 1) log))
-    ≡ rules.after (replay_from rules s (drop from (take place log))) (get_or log place d)
-replay_part-more rules s log from place d rising below =
-    ap (replay_from rules s) (part_more log from place d rising below)
-    ∙ replay_from-append rules s (drop from (take place log)) (get_or log place d ∷ [])
+pub replay_part-more : {S C O : Type 0} (rules : Rules S C O) (s : S) (log : Log C) (from place : ℕ) (d : C) →
+    log.base ≤ from → from ≤ place → place < places log →
+    replay_from rules s (part log from (place + 1))
+    ≡ rules.after (replay_from rules s (part log from place)) (get_or log.rest (place - log.base) d)
+replay_part-more rules s log from place d kept rising below =
+    ap (replay_from rules s) (part_more log from place d kept rising below)
+    ∙ replay_from-append rules s (part log from place) (get_or log.rest (place - log.base) d ∷ [])
 
 -- and what it gives there
-pub outputs_part-more : {S C O : Type 0} (rules : Rules S C O) (s : S) (log : List C) (from place : ℕ) (d : C) →
-    from ≤ place → place < length log →
-    outputs_from rules s from (drop from (take (place + 1) log))
-    ≡ outputs_from rules s from (drop from (take place log))
-    ++ map (Out place) (rules.gives (replay_from rules s (drop from (take place log))) (get_or log place d))
-outputs_part-more {C = C} rules s log from place d rising below =
-    let within : length (take place log) ≡ place = length-take-le place log (omega arith) in
-    let at : from + length (drop from (take place log)) ≡ place =
-    omega (arith, length-drop from (take place log)) in
-    ap (outputs_from rules s from) (part_more log from place d rising below)
-    ∙ outputs_from-append rules s from (drop from (take place log)) _
-    ∙ ap (λ (zs : List (Effect C _)). outputs_from rules s from (drop from (take place log)) ++ zs)
-    (one_output rules _ _ (get_or log place d) ∙ rw at refl)
+pub outputs_part-more : {S C O : Type 0} (rules : Rules S C O) (s : S) (log : Log C) (from place : ℕ) (d : C) →
+    log.base ≤ from → from ≤ place → place < places log →
+    outputs_from rules s from (part log from (place + 1))
+    ≡ outputs_from rules s from (part log from place)
+    ++ map (Out place) (rules.gives (replay_from rules s (part log from place)) (get_or log.rest (place - log.base) d))
+outputs_part-more {C = C} rules s log from place d kept rising below =
+    let within : length (take (place - log.base) log.rest) ≡ place - log.base =
+    length-take-le (place - log.base) log.rest (omega (arith, kept, rising, below)) in
+    let at : from + length (part log from place) ≡ place =
+    omega (arith, kept, rising, within, length-drop (from - log.base) (take (place - log.base) log.rest)) in
+    ap (outputs_from rules s from) (part_more log from place d kept rising below)
+    ∙ outputs_from-append rules s from (part log from place) _
+    ∙ ap (λ (zs : List (Effect C _)). outputs_from rules s from (part log from place) ++ zs)
+    (one_output rules _ _ (get_or log.rest (place - log.base) d) ∙ rw at refl)
   where
     one_output : {S C O : Type 0} (rules : Rules S C O) (s : S) (place : ℕ) (c : C) →
         outputs_from rules s place (c ∷ []) ≡ map (Out place) (rules.gives s c)

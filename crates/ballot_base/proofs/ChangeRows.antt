@@ -1,10 +1,12 @@
 -- ChangeRows.antt: what each row between ballots gives, and each tick of a new primary.
-use Rattle.std.proofs.Common.{◌≡◌, ℕ, ◌<◌, ◌≤◌, true, false, cond, List, [], ◌∷◌, length, refl}
-use Rattle.std.specs.Prelude.{nat_lt, nat_le, ◌&&◌, ◌||◌, ◌==◌}
+use Rattle.std.proofs.Common.{◌≡◌, ℕ, ◌<◌, ◌≤◌, true, false, cond, List, [], ◌∷◌, length, Some, None, refl, ap}
+use Rattle.std.specs.Prelude.{nat_lt, nat_le, ◌&&◌, ◌==◌}
 use Rattle.std.specs.List.{list_any}
 use Rattle.std.proofs.lemmas.Bool.{lt-ltb, le-ltb}
 use Rattle.machine.specs.Machine.{Rules}
 use Rattle.ballot_base.specs.Applying.{applied_to}
+use Rattle.ballot_base.specs.Logs.{Log, places}
+use Rattle.ballot_base.specs.Taking.{taken}
 use Rattle.ballot_base.specs.declared.message.Body.TheVariants.{Join, State, Install, Installed}
 use Rattle.ballot_base.specs.declared.status.Role.TheVariants.{Backup, Fetching, Installing, Active}
 use Rattle.ballot_base.specs.declared.status.Role.{Role}
@@ -12,7 +14,7 @@ use Rattle.ballot_base.specs.Protocol.{ticked}
 use Rattle.ballot_base.specs.Replica.{ReplicaState, is_backup, is_fetching, is_installing, others, progress_at}
 use Rattle.ballot_base.specs.Sending.{nothing_done, message_to, message_to_each}
 use Rattle.ballot_base.specs.Serving.{most_places, added}
-use Rattle.ballot_base.specs.Changing.{on_new_ballot, on_join, on_install, on_superseded, installs, on_state, activates, on_installed, on_activated, on_tick_fetching, on_tick_installing}
+use Rattle.ballot_base.specs.Changing.{waits_for, lacks, hands_on, answers_installed, on_new_ballot, on_join, on_install, on_superseded, installs, on_state, activates, on_installed, on_activated, on_tick_fetching, on_tick_installing}
 
 -- NewBallot
 pub on_new_ballot-joins : {S C : Type 0} (O : Type 0) (r : ReplicaState S C) (b : ℕ) (members : List ℕ) (a : ℕ) (old : List ℕ) →
@@ -51,41 +53,50 @@ unfolding on_join
 on_join-answers O r from b a e = rw e refl
 
 -- State
-pub on_state-stays : {S C : Type 0} (O : Type 0) (r : ReplicaState S C) (b : ℕ) (log : List C) →
-    (r.joined == b && (is_fetching r.role && nat_le r.committed (length log))) ≡ false → on_state O r b log ≡ nothing_done O r
+pub on_state-stays : {S C O : Type 0} (rules : Rules S C O) (r : ReplicaState S C) (b : ℕ) (log : Log C) →
+    waits_for r b (places log) ≡ false → on_state rules r b log ≡ nothing_done O r
 unfolding on_state
-on_state-stays O r b log e = rw e refl
+on_state-stays rules r b log e = rw e refl
 
-pub on_state-takes : {S C : Type 0} (O : Type 0) (r : ReplicaState S C) (b : ℕ) (log : List C) →
-    (r.joined == b && (is_fetching r.role && nat_le r.committed (length log))) ≡ true → on_state O r b log ≡ record {
-      state = record r { held_in = b; log = log; role = Installing; lacking = others r.id r.members };
-      effects = installs O (record r { held_in = b; log = log; role = Installing; lacking = others r.id r.members }) (others r.id r.members);
+pub on_state-takes : {S C O : Type 0} (rules : Rules S C O) (r took : ReplicaState S C) (b : ℕ) (log : Log C) →
+    waits_for r b (places log) ≡ true → taken rules r log ≡ Some took → on_state rules r b log ≡ record {
+      state = record took { held_in = b; role = Installing; lacking = others r.id r.members };
+      effects = installs O (record took { held_in = b; role = Installing; lacking = others r.id r.members }) (others r.id r.members);
     }
 unfolding on_state
-on_state-takes O r b log e = rw e refl
+on_state-takes rules r took b log e f = rw e (ap (hands_on _ r b) f)
+
+-- .. whose snapshot stands for no machine
+pub on_state-unread : {S C O : Type 0} (rules : Rules S C O) (r : ReplicaState S C) (b : ℕ) (log : Log C) →
+    waits_for r b (places log) ≡ true → taken rules r log ≡ None → on_state rules r b log ≡ nothing_done O r
+unfolding on_state
+on_state-unread rules r b log e f = rw e (ap (hands_on _ r b) f)
 
 -- Install
-pub on_install-takes : {S C : Type 0} (O : Type 0) (r : ReplicaState S C) (from b : ℕ) (log : List C) →
-    ((nat_lt r.joined b || (r.joined == b && nat_lt r.held_in b)) && nat_le r.committed (length log)) ≡ true →
-    on_install O r from b log ≡ record {
-      state = record r { joined = b; held_in = b; log = log; role = Backup };
-      effects = message_to O r.id (Installed b (length log)) from ∷ [];
+pub on_install-takes : {S C O : Type 0} (rules : Rules S C O) (r took : ReplicaState S C) (from b : ℕ) (log : Log C) →
+    lacks r b (places log) ≡ true → taken rules r log ≡ Some took →
+    on_install rules r from b log ≡ record {
+      state = record took { joined = b; held_in = b; role = Backup };
+      effects = message_to O r.id (Installed b (places log)) from ∷ [];
     }
 unfolding on_install
-on_install-takes O r from b log e = rw e refl
+on_install-takes rules r took from b log e f = rw e (ap (answers_installed _ r from b (places log)) f)
 
-pub on_install-answers : {S C : Type 0} (O : Type 0) (r : ReplicaState S C) (from b : ℕ) (log : List C) →
-    ((nat_lt r.joined b || (r.joined == b && nat_lt r.held_in b)) && nat_le r.committed (length log)) ≡ false →
-    (r.joined == b && r.held_in == b) ≡ true →
-    on_install O r from b log ≡ record { state = r; effects = message_to O r.id (Installed b (length log)) from ∷ [] }
+pub on_install-unread : {S C O : Type 0} (rules : Rules S C O) (r : ReplicaState S C) (from b : ℕ) (log : Log C) →
+    lacks r b (places log) ≡ true → taken rules r log ≡ None → on_install rules r from b log ≡ nothing_done O r
 unfolding on_install
-on_install-answers O r from b log e f = rw (e, f) refl
+on_install-unread rules r from b log e f = rw e (ap (answers_installed _ r from b (places log)) f)
 
-pub on_install-stays : {S C : Type 0} (O : Type 0) (r : ReplicaState S C) (from b : ℕ) (log : List C) →
-    ((nat_lt r.joined b || (r.joined == b && nat_lt r.held_in b)) && nat_le r.committed (length log)) ≡ false →
-    (r.joined == b && r.held_in == b) ≡ false → on_install O r from b log ≡ nothing_done O r
+pub on_install-answers : {S C O : Type 0} (rules : Rules S C O) (r : ReplicaState S C) (from b : ℕ) (log : Log C) →
+    lacks r b (places log) ≡ false → (r.joined == b && r.held_in == b) ≡ true →
+    on_install rules r from b log ≡ record { state = r; effects = message_to O r.id (Installed b (places log)) from ∷ [] }
 unfolding on_install
-on_install-stays O r from b log e f = rw (e, f) refl
+on_install-answers rules r from b log e f = rw (e, f) refl
+
+pub on_install-stays : {S C O : Type 0} (rules : Rules S C O) (r : ReplicaState S C) (from b : ℕ) (log : Log C) →
+    lacks r b (places log) ≡ false → (r.joined == b && r.held_in == b) ≡ false → on_install rules r from b log ≡ nothing_done O r
+unfolding on_install
+on_install-stays rules r from b log e f = rw (e, f) refl
 
 -- Installed
 pub on_installed-stays : {S C : Type 0} (O : Type 0) (r : ReplicaState S C) (from b : ℕ) →
@@ -116,15 +127,15 @@ on_superseded-leaves O r b e = rw e refl
 
 -- Activated
 pub on_activated-stays : {S C O : Type 0} (rules : Rules S C O) (r : ReplicaState S C) (b : ℕ) →
-    ((r.joined == b && is_installing r.role) && (nat_le (length r.lacking) 0 && nat_lt (length r.log) most_places)) ≡ false →
+    ((r.joined == b && is_installing r.role) && (nat_le (length r.lacking) 0 && nat_lt (places r.log) most_places)) ≡ false →
     on_activated rules r b ≡ nothing_done O r
 unfolding on_activated
 on_activated-stays rules r b e = rw e refl
 
 pub on_activated-adds : {S C O : Type 0} (rules : Rules S C O) (r : ReplicaState S C) (b : ℕ) →
-    ((r.joined == b && is_installing r.role) && (nat_le (length r.lacking) 0 && nat_lt (length r.log) most_places)) ≡ true →
+    ((r.joined == b && is_installing r.role) && (nat_le (length r.lacking) 0 && nat_lt (places r.log) most_places)) ≡ true →
     on_activated rules r b ≡ added rules
-    (record (applied_to rules r (length r.log)) { role = Active; progress = progress_at (length r.log) (others r.id r.members) })
+    (record (applied_to rules r (places r.log)) { role = Active; progress = progress_at (places r.log) (others r.id r.members) })
     (rules.start_of b)
 unfolding on_activated
 on_activated-adds rules r b e = rw e refl

@@ -1,5 +1,8 @@
 pub mod AppliesInOrder
 pub mod ChangeRows
+pub mod KeptCommands
+pub mod LogsTaken
+pub mod LongerLogs
 pub mod MessageRows
 pub mod SendsJoin
 pub mod StepRows

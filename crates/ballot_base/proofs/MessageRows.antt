@@ -1,5 +1,5 @@
 -- MessageRows.antt: what the rows of messages and ticks give, where their conditions hold and where not.
-use Rattle.std.proofs.Common.{◌≡◌, ℕ, ◌<◌, ◌≤◌, true, false, List, [], ◌∷◌, ◌++◌, length, max, refl, ap, sym, ◌∙◌, ◌⊎◌, inl, inr}
+use Rattle.std.proofs.Common.{◌≡◌, ℕ, ◌<◌, ◌≤◌, true, false, List, [], ◌∷◌, ◌++◌, max, refl, ap, sym, ◌∙◌, ◌⊎◌, inl, inr}
 use Rattle.std.specs.Prelude.{◌==◌}
 use Rattle.std.proofs.lemmas.Bool.{lt-leb, le-leb, cases_lt, cond_both}
 use Rattle.machine.specs.Machine.{Rules}
@@ -12,6 +12,7 @@ use Rattle.ballot_base.specs.declared.status.Role.TheVariants.{Backup, Fetching,
 use Rattle.ballot_base.specs.Replica.{ReplicaState, is_active}
 use Rattle.ballot_base.specs.Sending.{Outcome, nothing_done, message_to, message_to_followed}
 use Rattle.ballot_base.specs.Applying.{outputs_to, applied_to}
+use Rattle.ballot_base.specs.Logs.{places}
 use Rattle.ballot_base.specs.Serving.{least, raised, raised_progress, follows, leads, extended, commit_at, commit, on_append, on_held, on_commit, appends_behind, on_tick_active}
 use Rattle.ballot_base.specs.Protocol.{ticked}
 use Rattle.ballot_base.proofs.StepRows.{commit_at-goes, commit_at-stays}
@@ -65,20 +66,20 @@ unfolding on_append
 on_append-elsewhere O r from ballot place command no_follower = rw no_follower refl
 
 pub on_append-gap : {S C : Type 0} (O : Type 0) (r : ReplicaState S C) (from ballot place : ℕ) (command : C) →
-    follows r ballot ≡ true → length r.log < place → on_append O r from ballot place command ≡ nothing_done O r
+    follows r ballot ≡ true → places r.log < place → on_append O r from ballot place command ≡ nothing_done O r
 unfolding on_append
-on_append-gap O r from ballot place command follower gap = rw (follower, lt-leb place (length r.log) gap) refl
+on_append-gap O r from ballot place command follower gap = rw (follower, lt-leb place (places r.log) gap) refl
 
 -- Append that is answered
 pub on_append-takes : {S C : Type 0} (O : Type 0) (r : ReplicaState S C) (from ballot place : ℕ) (command : C) →
-    follows r ballot ≡ true → place ≤ length r.log →
+    follows r ballot ≡ true → place ≤ places r.log →
     on_append O r from ballot place command ≡ record {
       state = record r { log = extended place command r.log };
-      effects = message_to O r.id (Held ballot (length (extended place command r.log))) from ∷ [];
+      effects = message_to O r.id (Held ballot (places (extended place command r.log))) from ∷ [];
     }
 unfolding on_append
 on_append-takes O r from ballot place command follower within =
-    rw (follower, le-leb place (length r.log) within) refl
+    rw (follower, le-leb place (places r.log) within) refl
 
 -- Held at a replica that does not lead the ballot, and at its primary
 pub on_held-elsewhere : {S C O : Type 0} (rules : Rules S C O) (r : ReplicaState S C) (from ballot held : ℕ) →
@@ -90,7 +91,7 @@ pub on_held-raises : {S C O : Type 0} (rules : Rules S C O) (r : ReplicaState S 
     leads r ballot ≡ true →
     on_held rules r from ballot held
     ≡ commit_at rules (record r { progress = raised from held r.progress })
-    (least (length r.log) (raised from held r.progress))
+    (least (places r.log) (raised from held r.progress))
 unfolding on_held commit
 on_held-raises rules r from ballot held leader = rw leader refl
 
@@ -101,15 +102,15 @@ unfolding on_commit
 on_commit-elsewhere rules r ballot held no_follower = rw no_follower refl
 
 pub on_commit-past : {S C O : Type 0} (rules : Rules S C O) (r : ReplicaState S C) (ballot held : ℕ) →
-    follows r ballot ≡ true → length r.log < held → on_commit rules r ballot held ≡ nothing_done O r
+    follows r ballot ≡ true → places r.log < held → on_commit rules r ballot held ≡ nothing_done O r
 unfolding on_commit
-on_commit-past rules r ballot held follower past = rw (follower, lt-leb held (length r.log) past) refl
+on_commit-past rules r ballot held follower past = rw (follower, lt-leb held (places r.log) past) refl
 
 pub on_commit-takes : {S C O : Type 0} (rules : Rules S C O) (r : ReplicaState S C) (ballot held : ℕ) →
-    follows r ballot ≡ true → held ≤ length r.log →
+    follows r ballot ≡ true → held ≤ places r.log →
     on_commit rules r ballot held ≡ record { state = applied_to rules r (max r.committed held); effects = [] }
 unfolding on_commit
-on_commit-takes rules r ballot held follower within = rw (follower, le-leb held (length r.log) within) refl
+on_commit-takes rules r ballot held follower within = rw (follower, le-leb held (places r.log) within) refl
 
 -- a tick of an active primary, by its role
 pub ticked-active : {S C : Type 0} (O : Type 0) (r : ReplicaState S C) (role : Role) →

@@ -1,5 +1,5 @@
 -- StepRows.antt: what each row of the protocol gives where its condition holds, and where it does not.
-use Rattle.std.proofs.Common.{◌≡◌, ℕ, ◌<◌, ◌≤◌, true, false, List, [], ◌∷◌, ◌++◌, length, min, refl, ap, ◌∙◌, ◌⊎◌, inl, inr, arith}
+use Rattle.std.proofs.Common.{◌≡◌, ℕ, ◌<◌, ◌≤◌, true, false, List, [], ◌∷◌, ◌++◌, min, refl, ap, ◌∙◌, ◌⊎◌, inl, inr, arith}
 use Rattle.std.proofs.lemmas.Bool.{lt-ltb, le-ltb, cases_lt}
 use Rattle.machine.specs.Machine.{Rules}
 use Rattle.ballot_base.specs.declared.message.Body.TheVariants.{Append, Commit}
@@ -7,6 +7,7 @@ use Rattle.ballot_base.specs.declared.status.Progress.{Progress}
 use Rattle.ballot_base.specs.Replica.{ReplicaState, is_active}
 use Rattle.ballot_base.specs.Sending.{Outcome, nothing_done, message_to_followed, sent_first}
 use Rattle.ballot_base.specs.Applying.{outputs_to, applied_to}
+use Rattle.ballot_base.specs.Logs.{places, pushed}
 use Rattle.ballot_base.specs.Serving.{least, commit_at, commit, most_places, added, proposed}
 
 -- nothing new is committed
@@ -33,17 +34,17 @@ least-le held (reached ∷ progress) = omega (arith, least-le (min held reached.
 -- a command that is added is committed by what the others hold
 pub added-is : {S C O : Type 0} (rules : Rules S C O) (r : ReplicaState S C) (command : C) →
     added rules r command ≡ sent_first
-    (message_to_followed O r.id (Append r.joined (length r.log) command) r.progress)
-    (commit_at rules (record r { log = r.log ++ command ∷ [] })
-    (least (length (r.log ++ command ∷ [])) r.progress))
+    (message_to_followed O r.id (Append r.joined (places r.log) command) r.progress)
+    (commit_at rules (record r { log = pushed r.log command })
+    (least (places (pushed r.log command)) r.progress))
 unfolding added commit
 added-is rules r command = refl
 
 -- a proposal is added
 pub proposed-adds : {S C O : Type 0} (rules : Rules S C O) (r : ReplicaState S C) (command : C) →
-    is_active r.role ≡ true → length r.log < most_places → proposed rules r command ≡ added rules r command
+    is_active r.role ≡ true → places r.log < most_places → proposed rules r command ≡ added rules r command
 unfolding proposed
-proposed-adds rules r command active room = rw (active, lt-ltb (length r.log) most_places room) refl
+proposed-adds rules r command active room = rw (active, lt-ltb (places r.log) most_places room) refl
 
 -- a proposal is not taken by a replica that is no active primary
 pub proposed-not_active : {S C O : Type 0} (rules : Rules S C O) (r : ReplicaState S C) (command : C) →
@@ -53,9 +54,9 @@ proposed-not_active rules r command inactive = rw inactive refl
 
 -- nor by one whose log is full
 pub proposed-full : {S C O : Type 0} (rules : Rules S C O) (r : ReplicaState S C) (command : C) →
-    is_active r.role ≡ true → most_places ≤ length r.log → proposed rules r command ≡ nothing_done O r
+    is_active r.role ≡ true → most_places ≤ places r.log → proposed rules r command ≡ nothing_done O r
 unfolding proposed
-proposed-full rules r command active full = rw (active, le-ltb (length r.log) most_places full) refl
+proposed-full rules r command active full = rw (active, le-ltb (places r.log) most_places full) refl
 
 -- committing stops no replica
 pub commit_at-stopped : {S C O : Type 0} (rules : Rules S C O) (r : ReplicaState S C) (held : ℕ) →
@@ -71,13 +72,13 @@ pub added-stopped : {S C O : Type 0} (rules : Rules S C O) (r : ReplicaState S C
     (added rules r command).state.stopped ≡ r.stopped
 added-stopped {S = S} {C = C} {O = O} rules r command =
     ap (λ (o : Outcome S C O). o.state.stopped) (added-is rules r command)
-    ∙ commit_at-stopped rules (record r { log = r.log ++ command ∷ [] }) _
+    ∙ commit_at-stopped rules (record r { log = pushed r.log command }) _
 
 -- a command that is added is sent, and then what all hold is committed
 pub added-commits : {S C O : Type 0} (rules : Rules S C O) (r : ReplicaState S C) (command : C) →
     added rules r command ≡ sent_first
-    (message_to_followed O r.id (Append r.joined (length r.log) command) r.progress)
-    (commit rules (record r { log = r.log ++ command ∷ [] }))
+    (message_to_followed O r.id (Append r.joined (places r.log) command) r.progress)
+    (commit rules (record r { log = pushed r.log command }))
 unfolding added
 added-commits rules r command = refl
 
@@ -92,10 +93,10 @@ commit_at-log {S = S} {C = C} {O = O} rules r held = by_order (cases_lt r.commit
 
 -- and adding makes it longer by the command
 pub added-log : {S C O : Type 0} (rules : Rules S C O) (r : ReplicaState S C) (command : C) →
-    (added rules r command).state.log ≡ r.log ++ command ∷ []
+    (added rules r command).state.log ≡ pushed r.log command
 added-log {S = S} {C = C} {O = O} rules r command =
     ap (λ (o : Outcome S C O). o.state.log) (added-is rules r command)
-    ∙ commit_at-log rules (record r { log = r.log ++ command ∷ [] }) _
+    ∙ commit_at-log rules (record r { log = pushed r.log command }) _
 
 -- committing what all hold stops no replica either
 pub commit-stopped : {S C O : Type 0} (rules : Rules S C O) (r : ReplicaState S C) → (commit rules r).state.stopped ≡ r.stopped

@@ -1,6 +1,7 @@
 -- Applying.antt: places of a log that are applied, and what they give.
-use Rattle.std.specs.Prelude.{ℕ, ◌+◌, List, [], ◌∷◌, ◌++◌, map, take, drop}
-use Rattle.machine.specs.Machine.{Rules, replay, replay_from}
+use Rattle.std.specs.Prelude.{ℕ, ◌+◌, List, [], ◌∷◌, ◌++◌, map}
+use Rattle.machine.specs.Machine.{Rules, replay_from}
+use Rattle.ballot_base.specs.Logs.{part}
 use Rattle.ballot_base.specs.declared.message.Effect.{Effect}
 use Rattle.ballot_base.specs.declared.message.Effect.TheVariants.{Out}
 use Rattle.ballot_base.specs.Replica.{ReplicaState}
@@ -12,19 +13,14 @@ outputs_from rules s place (command ∷ commands) =
     map (Out place) (rules.gives s command)
     ++ outputs_from rules (rules.after s command) (place + 1) commands
 
--- the outputs of the places from one length of the log up to another
-abbrev pub outputs_between : {S C O : Type 0} → Rules S C O → List C → ℕ → ℕ → List (Effect C O)
-outputs_between rules log from to =
-    outputs_from rules (replay rules (take from log)) from (drop from (take to log))
-
 -- what the places below `held` that are not applied yet give, and the replica once they are applied
 abbrev pub outputs_to : {S C O : Type 0} → Rules S C O → ReplicaState S C → ℕ → List (Effect C O)
 outputs_to rules r held =
-    outputs_from rules r.machine r.committed (drop r.committed (take held r.log))
+    outputs_from rules r.machine r.committed (part r.log r.committed held)
 
 abbrev pub applied_to : {S C O : Type 0} → Rules S C O → ReplicaState S C → ℕ → ReplicaState S C
 applied_to rules r held =
     record r {
       committed = held;
-      machine = replay_from rules r.machine (drop r.committed (take held r.log));
+      machine = replay_from rules r.machine (part r.log r.committed held);
     }

@@ -1,6 +1,6 @@
 -- Changing.antt: the rows of the protocol between ballots, from NewBallot to Activated, and the
 -- ticks of a new primary. A message that a row's condition does not cover changes nothing.
-use Rattle.std.specs.Prelude.{ℕ, List, [], ◌∷◌, length, ◌==◌, ◌&&◌, ◌||◌, nat_lt, nat_le, if◌then◌else◌}
+use Rattle.std.specs.Prelude.{ℕ, Bool, Option, Some, None, List, [], ◌∷◌, length, ◌==◌, ◌&&◌, ◌||◌, nat_lt, nat_le, if◌then◌else◌}
 use Rattle.std.specs.List.{list_any}
 use Rattle.machine.specs.Machine.{Rules}
 use Rattle.ballot_base.specs.declared.message.Body.TheVariants.{Join, State, Install, Installed, Activate}
@@ -8,6 +8,8 @@ use Rattle.ballot_base.specs.declared.message.Effect.{Effect}
 use Rattle.ballot_base.specs.declared.status.Role.TheVariants.{Backup, Fetching, Installing, Active}
 use Rattle.ballot_base.specs.Sending.{Outcome, nothing_done, message_to, message_to_each, master}
 use Rattle.ballot_base.specs.Applying.{applied_to}
+use Rattle.ballot_base.specs.Logs.{Log, places}
+use Rattle.ballot_base.specs.Taking.{taken}
 use Rattle.ballot_base.specs.Serving.{most_places, added}
 use Rattle.ballot_base.specs.Replica.{ReplicaState, is_fetching, is_installing, others, progress_at}
 
@@ -47,34 +49,54 @@ installs O r (member ∷ members) =
     message_to_each O r.id (Install r.joined r.log) (member ∷ members)
 
 -- State(ballot, log): the first log that comes is taken, unless it lacks an applied place; all
--- other members lack it then
-unfoldable pub on_state : {S C : Type 0} (O : Type 0) →
-    ReplicaState S C → ℕ → List C → Outcome S C O
-on_state O r ballot log =
-    let taken = record r {
+-- other members lack it then, and are sent the log as it was taken
+abbrev pub waits_for : {S C : Type 0} → ReplicaState S C → ℕ → ℕ → Bool
+waits_for r ballot held = r.joined == ballot && (is_fetching r.role && nat_le r.committed held)
+
+abbrev pub hands_on : {S C : Type 0} (O : Type 0) →
+    ReplicaState S C → ℕ → Option (ReplicaState S C) → Outcome S C O
+hands_on O r ballot None = nothing_done O r
+hands_on O r ballot (Some took) =
+    let new = record took {
       held_in = ballot;
-      log = log;
       role = Installing;
       lacking = others r.id r.members;
     } in
-    if r.joined == ballot && (is_fetching r.role && nat_le r.committed (length log))
-    then record { state = taken; effects = installs O taken taken.lacking }
+    record { state = new; effects = installs O new new.lacking }
+
+unfoldable pub on_state : {S C O : Type 0} →
+    Rules S C O → ReplicaState S C → ℕ → Log C → Outcome S C O
+on_state {O = O} rules r ballot log =
+    if waits_for r ballot (places log)
+    then hands_on O r ballot (taken rules r log)
     else nothing_done O r
 
 -- Install(ballot, log): a log is taken once, unless it lacks an applied place; later it is only
--- answered, since more may have been added behind it
-unfoldable pub on_install : {S C : Type 0} (O : Type 0) →
-    ReplicaState S C → ℕ → ℕ → List C → Outcome S C O
-on_install O r from ballot log =
-    let installed = message_to O r.id (Installed ballot (length log)) from ∷ [] in
-    if (nat_lt r.joined ballot || (r.joined == ballot && nat_lt r.held_in ballot))
-    && nat_le r.committed (length log)
-    then record {
-      state = record r { joined = ballot; held_in = ballot; log = log; role = Backup };
-      effects = installed;
+-- answered, since more may have been added after it
+abbrev pub lacks : {S C : Type 0} → ReplicaState S C → ℕ → ℕ → Bool
+lacks r ballot held =
+    (nat_lt r.joined ballot || (r.joined == ballot && nat_lt r.held_in ballot))
+    && nat_le r.committed held
+
+abbrev pub answers_installed : {S C : Type 0} (O : Type 0) →
+    ReplicaState S C → ℕ → ℕ → ℕ → Option (ReplicaState S C) → Outcome S C O
+answers_installed O r from ballot held None = nothing_done O r
+answers_installed O r from ballot held (Some took) =
+    record {
+      state = record took { joined = ballot; held_in = ballot; role = Backup };
+      effects = message_to O r.id (Installed ballot held) from ∷ [];
     }
+
+unfoldable pub on_install : {S C O : Type 0} →
+    Rules S C O → ReplicaState S C → ℕ → ℕ → Log C → Outcome S C O
+on_install {O = O} rules r from ballot log =
+    if lacks r ballot (places log)
+    then answers_installed O r from ballot (places log) (taken rules r log)
     else if r.joined == ballot && r.held_in == ballot
-    then record { state = r; effects = installed }
+    then record {
+      state = r;
+      effects = message_to O r.id (Installed ballot (places log)) from ∷ [];
+    }
     else nothing_done O r
 
 -- with the last that lacked the log the master may activate the ballot
@@ -95,12 +117,12 @@ on_installed O r from ballot =
 -- and the start of the ballot is added behind them
 unfoldable pub on_activated : {S C O : Type 0} → Rules S C O → ReplicaState S C → ℕ → Outcome S C O
 on_activated {O = O} rules r ballot =
-    let active = record (applied_to rules r (length r.log)) {
+    let active = record (applied_to rules r (places r.log)) {
       role = Active;
-      progress = progress_at (length r.log) (others r.id r.members);
+      progress = progress_at (places r.log) (others r.id r.members);
     } in
     if (r.joined == ballot && is_installing r.role)
-    && (nat_le (length r.lacking) 0 && nat_lt (length r.log) most_places)
+    && (nat_le (length r.lacking) 0 && nat_lt (places r.log) most_places)
     then added rules active (rules.start_of ballot)
     else nothing_done O r
 

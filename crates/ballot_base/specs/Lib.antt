@@ -1,9 +1,13 @@
 pub mod Applying
 pub mod Changing
+pub mod Cutting
 pub mod LawfulConfig
+pub mod Logs
 pub mod Losses
 pub mod Protocol
 pub mod Replica
 pub mod Sending
 pub mod Sends
 pub mod Serving
+pub mod Taking
+pub mod Unread

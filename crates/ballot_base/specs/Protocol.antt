@@ -22,8 +22,8 @@ abbrev pub received : {S C O : Type 0} → Rules S C O → ReplicaState S C → 
 received {O = O} rules r from (NewBallot ballot members previous previous_members) =
     on_new_ballot O r ballot members previous previous_members
 received {O = O} rules r from (Join ballot previous) = on_join O r from ballot previous
-received {O = O} rules r from (State ballot log) = on_state O r ballot log
-received {O = O} rules r from (Install ballot log) = on_install O r from ballot log
+received rules r from (State ballot log) = on_state rules r ballot log
+received rules r from (Install ballot log) = on_install rules r from ballot log
 received {O = O} rules r from (Installed ballot held) = on_installed O r from ballot
 received {O = O} rules r from (Activate ballot) = nothing_done O r
 received {O = O} rules r from (Activated ballot) = on_activated rules r ballot

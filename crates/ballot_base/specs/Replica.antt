@@ -1,6 +1,7 @@
 -- Replica.antt: what a replica keeps, and how it opens.
-use Rattle.std.specs.Prelude.{ℕ, Bool, true, false, List, [], length, filter, map, not, ◌==◌, if◌then◌else◌}
+use Rattle.std.specs.Prelude.{ℕ, Bool, true, false, List, [], filter, map, not, ◌==◌, if◌then◌else◌}
 use Rattle.machine.specs.Machine.{Rules}
+use Rattle.ballot_base.specs.Logs.{Log, empty_log, places}
 use Rattle.ballot_base.specs.declared.config.Config.{Config}
 use Rattle.ballot_base.specs.declared.status.Progress.{Progress}
 use Rattle.ballot_base.specs.declared.status.Role.{Role}
@@ -15,9 +16,7 @@ pub record ReplicaState (S C : Type 0) : Type 0 where
   -- the ballot that it joined, and the one in which its log was last installed; 0 before the first
   pub joined : ℕ
   pub held_in : ℕ
-  -- the commands from place 0 on; a snapshot stands for none of them yet
-  pub log : List C
-  pub base : ℕ
+  pub log : Log C
   -- how many places are applied, and the machine then; once stopped it is shown as it opens
   pub committed : ℕ
   pub machine : S
@@ -71,14 +70,13 @@ progress_at held members = map (λ member. record { member = member; held = held
 
 -- the members of ballot 1 have joined it with an empty log; other nodes are backups of no ballot
 abbrev pub opening_member : {S C O : Type 0} → Rules S C O → ℕ → Config → ReplicaState S C
-opening_member rules id config =
+opening_member {C = C} rules id config =
     let ballot : ℕ = if list_any (λ member. member == id) config.members then 1 else 0 in
     record {
       id = id;
       joined = ballot;
       held_in = ballot;
-      log = [];
-      base = 0;
+      log = empty_log C;
       committed = 0;
       machine = rules.opening;
       role = Backup;
@@ -107,7 +105,7 @@ status_of r =
     record {
       ballot = r.joined;
       role = r.role;
-      held = length r.log;
+      held = places r.log;
       committed = r.committed;
       stopped = r.stopped;
     }

@@ -1,12 +1,13 @@
 -- Serving.antt: the rows of the protocol inside a ballot: Append, Held, Commit, proposals, ticks.
 -- Receivers are taken in rising order. A message that no row's condition covers changes nothing.
-use Rattle.std.specs.Prelude.{ℕ, Bool, ◌^◌, List, [], ◌∷◌, ◌++◌, length, map, min, max, slice_get, Option, Some, None, ◌==◌, ◌&&◌, nat_lt, nat_le, if◌then◌else◌}
+use Rattle.std.specs.Prelude.{ℕ, Bool, ◌^◌, List, [], ◌∷◌, ◌++◌, map, min, max, Option, Some, None, ◌==◌, ◌&&◌, nat_lt, nat_le, if◌then◌else◌}
 use Rattle.std.specs.List.{flat_map}
 use Rattle.machine.specs.Machine.{Rules}
 use Rattle.ballot_base.specs.declared.message.Body.TheVariants.{Append, Held, Commit}
 use Rattle.ballot_base.specs.declared.message.Effect.{Effect}
 use Rattle.ballot_base.specs.declared.status.Progress.{Progress}
 use Rattle.ballot_base.specs.Applying.{outputs_to, applied_to}
+use Rattle.ballot_base.specs.Logs.{Log, command_at, places, pushed}
 use Rattle.ballot_base.specs.Sending.{Outcome, nothing_done, message_to, message_to_followed, sent_first}
 use Rattle.ballot_base.specs.Replica.{ReplicaState, is_active, is_backup}
 
@@ -36,7 +37,7 @@ commit_at {O = O} rules r held =
 
 -- what every member holds is committed
 unfoldable pub commit : {S C O : Type 0} → Rules S C O → ReplicaState S C → Outcome S C O
-commit rules r = commit_at rules r (least (length r.log) r.progress)
+commit rules r = commit_at rules r (least (places r.log) r.progress)
 
 -- how many places a log can have
 abbrev pub most_places : ℕ
@@ -46,13 +47,13 @@ most_places = 2 ^ 40
 unfoldable pub added : {S C O : Type 0} → Rules S C O → ReplicaState S C → C → Outcome S C O
 added {O = O} rules r command =
     sent_first
-    (message_to_followed O r.id (Append r.joined (length r.log) command) r.progress)
-    (commit rules (record r { log = r.log ++ command ∷ [] }))
+    (message_to_followed O r.id (Append r.joined (places r.log) command) r.progress)
+    (commit rules (record r { log = pushed r.log command }))
 
 -- a proposal counts at an active primary whose log has room
 unfoldable pub proposed : {S C O : Type 0} → Rules S C O → ReplicaState S C → C → Outcome S C O
 proposed {O = O} rules r command =
-    if is_active r.role && nat_lt (length r.log) most_places
+    if is_active r.role && nat_lt (places r.log) most_places
     then added rules r command
     else nothing_done O r
 
@@ -64,18 +65,18 @@ abbrev pub leads : {S C : Type 0} → ReplicaState S C → ℕ → Bool
 leads r ballot = r.joined == ballot && is_active r.role
 
 -- a log that takes a command where its place is the next one
-abbrev pub extended : {C : Type 0} → ℕ → C → List C → List C
-extended place command log = if place == length log then log ++ command ∷ [] else log
+abbrev pub extended : {C : Type 0} → ℕ → C → Log C → Log C
+extended place command log = if place == places log then pushed log command else log
 
 -- Append(ballot, place, command)
 unfoldable pub on_append : {S C : Type 0} (O : Type 0) →
     ReplicaState S C → ℕ → ℕ → ℕ → C → Outcome S C O
 on_append O r from ballot place command =
     let log = extended place command r.log in
-    if follows r ballot && nat_le place (length r.log)
+    if follows r ballot && nat_le place (places r.log)
     then record {
       state = record r { log = log };
-      effects = message_to O r.id (Held ballot (length log)) from ∷ [];
+      effects = message_to O r.id (Held ballot (places log)) from ∷ [];
     }
     else nothing_done O r
 
@@ -90,20 +91,20 @@ on_held {O = O} rules r from ballot held =
 -- Commit(ballot, held): the outputs are the primary's to give, and a backup drops them
 unfoldable pub on_commit : {S C O : Type 0} → Rules S C O → ReplicaState S C → ℕ → ℕ → Outcome S C O
 on_commit {O = O} rules r ballot held =
-    if follows r ballot && nat_le held (length r.log)
+    if follows r ballot && nat_le held (places r.log)
     then record { state = applied_to rules r (max r.committed held); effects = [] }
     else nothing_done O r
 
--- what a member may lack: the place at its progress, if the log has it
+-- what a member may lack: the command at its progress, if the log keeps it
 abbrev pub append_at : {C : Type 0} (O : Type 0) → ℕ → ℕ → Progress → Option C → List (Effect C O)
 append_at O id ballot reached None = []
 append_at O id ballot reached (Some command) =
     message_to O id (Append ballot reached.held command) reached.member ∷ []
 
 abbrev pub appends_behind : {C : Type 0} (O : Type 0) →
-    ℕ → ℕ → List C → List Progress → List (Effect C O)
+    ℕ → ℕ → Log C → List Progress → List (Effect C O)
 appends_behind O id ballot log progress =
-    flat_map (λ reached. append_at O id ballot reached (slice_get log reached.held)) progress
+    flat_map (λ reached. append_at O id ballot reached (command_at log reached.held)) progress
 
 -- an active primary says again what the other members lack, and what is committed
 unfoldable pub on_tick_active : {S C : Type 0} (O : Type 0) → ReplicaState S C → Outcome S C O

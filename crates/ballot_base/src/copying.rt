@@ -6,12 +6,24 @@ use crate::Log;
 use machine::{Machine, Memory};
 use std::alloc::Global;
 
-/// A copy of the commands of a log. The only error is want of memory.
-pub fn copy_log<M: Machine>(alloc: Global, log: &[M::Command]) -> Result<Log<M::Command>, Memory>
+/// A copy of a log. The only error is want of memory.
+pub fn copy_log<M: Machine>(alloc: Global, log: &Log<M::Command>) -> Result<Log<M::Command>, Memory>
     ensures { IfOk result (λ copied. copied ≡ log.now) }
 {
-    let mut copied = Log::new(alloc);
-    for command in log {
+    let snapshot = Vec::from_slice(alloc, log.snapshot())?;
+    let rest = copy_commands::<M>(alloc, log.rest())?;
+    Ok(Log::from_parts(log.base(), snapshot, rest))
+}
+
+/// A copy of some commands. The only error is want of memory.
+fn copy_commands<M: Machine>(
+    alloc: Global,
+    commands: &[M::Command],
+) -> Result<Vec<M::Command>, Memory>
+    ensures { IfOk result (λ copied. copied.items ≡ commands.now) }
+{
+    let mut copied = Vec::new(alloc);
+    for command in commands {
         copied.push(M::copy(alloc, command)?)?;
     }
     Ok(copied)

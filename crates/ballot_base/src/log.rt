@@ -1,55 +1,141 @@
-// A log as messages carry it.
+// A log as replicas keep it and as messages carry it.
 
-ghost use Rattle.std.specs.Prelude.{◌≡◌, [], ◌∷◌, ◌++◌, OnOk, OnErr};
+ghost use Rattle.std.specs.Prelude.{◌≡◌, ◌≤◌, ◌<◌, ◌+◌, ◌-◌, ◌^◌, length, drop, OnOk, OnErr};
+ghost use Rattle.ballot_base.specs.Logs.{empty_log, places, popped, pushed};
 
 use machine::Memory;
 use std::alloc::Global;
 use std::marker::Model;
 
-/// The commands of a log, from place 0 on.
+/// Commands from a place on, the base, and the frozen machine that stands for the places below it.
+/// Places count from 0. At base 0 there is no snapshot.
 #[derive(Drop)]
 pub struct Log<C> {
-    places: Vec<C>,
+    base: u64,
+    snapshot: Vec<u8>,
+    rest: Vec<C>,
 }
 
 impl<C> Model for Log<C> {
-    ghost use Rattle.std.specs.Prelude.{List};
+    ghost use Rattle.std.specs.Prelude.{◌+◌, ◌<◌, ◌^◌, length};
+    ghost use Rattle.ballot_base.specs.Logs.{Log};
 
-    ghost Value = { List C };
+    ghost Value = { Log C };
 
-    ghost view = { λ log. log.places.items };
+    ghost view = { λ log.
+        record { base = log.base; snapshot = log.snapshot.items; rest = log.rest.items } };
+
+    ghost invariant = { λ log. log.base + length log.rest.items < 2 ^ 64 };
 }
 
 impl<C: Drop> Log<C> {
     /// A log with no place.
     pub fn new(alloc: Global) -> Self
-        ensures { result ≡ [] }
+        ensures { result ≡ empty_log C }
     {
         Log {
-            places: Vec::new(alloc),
+            base: 0,
+            snapshot: Vec::new(alloc),
+            rest: Vec::new(alloc),
         }
     }
 
-    /// Gives its places out.
-    pub fn into_places(self) -> Vec<C>
-        ensures { result.items ≡ self }
+    /// The log of these parts. Its places are below 2^64.
+    pub fn from_parts(base: u64, snapshot: Vec<u8>, rest: Vec<C>) -> Self
+        requires { base + length rest.items < 2 ^ 64 }
+        ensures { result ≡ record { base = base; snapshot = snapshot.items; rest = rest.items } }
     {
-        self.places
+        Log {
+            base,
+            snapshot,
+            rest,
+        }
     }
 
-    /// Adds a place. Where memory is wanting the log stays as it was.
+    /// The place from which on the commands are kept. All places are below 2^64.
+    pub fn base(&self) -> u64
+        ensures base { result ≡ self.now.base }
+        ensures fits { places self.now < 2 ^ 64 }
+    {
+        self.base
+    }
+
+    /// The frozen machine as it is at the base.
+    pub fn snapshot(&self) -> &[u8]
+        ensures { result.now ≡ self.now.snapshot }
+    {
+        self.snapshot.as_slice()
+    }
+
+    /// The commands from the base on.
+    pub fn rest(&self) -> &[C]
+        ensures { result.now ≡ self.now.rest }
+    {
+        self.rest.as_slice()
+    }
+
+    /// How many places it has, counted from 0.
+    pub fn places(&self) -> u64
+        ensures { result ≡ places self.now }
+    {
+        self.base + self.rest.len() as u64
+    }
+
+    /// Adds a command. Where there is no memory, or no place is left below 2^64, the log stays as it
+    /// was.
     pub fn push(&mut self, command: C) -> Result<(), Memory>
-        ensures ok { OnOk result (self.new ≡ self.old ++ command ∷ []) }
+        ensures ok { OnOk result (self.new ≡ pushed self.old command) }
         ensures err { OnErr result (self.new ≡ self.old) }
     {
-        self.places.push(command)?;
+        if self.places() == u64::MAX {
+            return Err(Memory);
+        }
+        self.rest.push(command)?;
         Ok(())
     }
 
-    /// The commands in order.
-    pub fn as_slice(&self) -> &[C]
-        ensures { result.now ≡ self.now }
+    /// Drops the last command.
+    pub fn pop(&mut self)
+        ensures { self.new ≡ popped self.old }
     {
-        self.places.as_slice()
+        self.rest.pop();
     }
+
+    /// Drops the commands below a place, for which this snapshot stands from now on.
+    pub fn cut(&mut self, base: u64, snapshot: Vec<u8>)
+        requires above { self.old.base ≤ base }
+        requires within { base ≤ places self.old }
+        ensures { self.new ≡ record {
+          base = base;
+          snapshot = snapshot.items;
+          rest = drop (base - self.old.base) self.old.rest;
+        } }
+    {
+        drop_front(&mut self.rest, (base - self.base) as usize);
+        self.base = base;
+        self.snapshot = snapshot;
+    }
+
+    /// Takes the commands of another log in place of its own, from its own base on.
+    pub fn take_rest(&mut self, other: Log<C>)
+        requires above { other.base ≤ self.old.base }
+        requires within { self.old.base ≤ places other }
+        ensures { self.new ≡ record self.old { rest = drop (self.old.base - other.base) other.rest } }
+    {
+        let count = (self.base - other.base) as usize;
+        self.rest = other.rest;
+        drop_front(&mut self.rest, count);
+    }
+}
+
+/// Drops the first items. Nothing is moved where all are dropped, which is the usual case.
+fn drop_front<C: Drop>(items: &mut Vec<C>, count: usize)
+    requires { count ≤ length items.old.items }
+    ensures { items.new.items ≡ drop count items.old.items }
+{
+    if count == items.len() {
+        items.clear();
+        return;
+    }
+    items.drain(..count);
 }

@@ -1,12 +1,13 @@
 // Messages that a call hands out. One that finds no memory is lost.
 
-ghost use Rattle.std.specs.Prelude.{◌≡◌, [], ◌∷◌, slice_get, IfOk};
+ghost use Rattle.std.specs.Prelude.{◌≡◌, [], ◌∷◌, IfOk};
+ghost use Rattle.ballot_base.specs.Logs.{command_at};
 ghost use Rattle.ballot_base.specs.Sends.{Sends};
 ghost use Rattle.ballot_base.specs.Serving.{append_at, appends_behind};
 ghost use Rattle.ballot_base.specs.Sending.{message_to, message_to_each, message_to_followed};
 
 use crate::copying::copy_log;
-use crate::{Body, Effect, Message, Progress};
+use crate::{Body, Effect, Log, Message, Progress};
 use machine::{Machine, Memory};
 use std::alloc::Global;
 
@@ -96,7 +97,7 @@ pub fn send_behind<M: Machine>(
     alloc: Global,
     from: u8,
     ballot: u64,
-    log: &[M::Command],
+    log: &Log<M::Command>,
     progress: &[Progress],
     out: &mut Vec<Effect<M::Command, M::Output>>,
 ) -> bool
@@ -111,19 +112,22 @@ pub fn send_behind<M: Machine>(
     whole
 }
 
-/// Sends the place at a progress, if the log has it.
+/// Sends the place at a progress, if the log keeps it.
 fn send_at_reached<M: Machine>(
     alloc: Global,
     from: u8,
     ballot: u64,
-    log: &[M::Command],
+    log: &Log<M::Command>,
     reached: Progress,
     out: &mut Vec<Effect<M::Command, M::Output>>,
 ) -> bool
     ensures { Sends out.old.items out.new.items
-        (append_at M.Output from ballot reached (slice_get log.now reached.held)) result }
+        (append_at M.Output from ballot reached (command_at log.now reached.held)) result }
 {
-    match log.get(reached.held as usize) {
+    if reached.held < log.base() {
+        return true;
+    }
+    match log.rest().get((reached.held - log.base()) as usize) {
         Some(command) => {
             send_append::<M>(
                 alloc,
@@ -184,7 +188,7 @@ pub fn send_state<M: Machine>(
     alloc: Global,
     from: u8,
     ballot: u64,
-    log: &[M::Command],
+    log: &Log<M::Command>,
     receiver: u8,
     out: &mut Vec<Effect<M::Command, M::Output>>,
 ) -> bool
@@ -199,7 +203,7 @@ pub fn send_state<M: Machine>(
 fn state_of<M: Machine>(
     alloc: Global,
     ballot: u64,
-    log: &[M::Command],
+    log: &Log<M::Command>,
 ) -> Result<Body<M::Command>, Memory>
     ensures { IfOk result (λ body. body ≡ Body.State ballot log.now) }
 {
@@ -210,7 +214,7 @@ fn state_of<M: Machine>(
 fn install_of<M: Machine>(
     alloc: Global,
     ballot: u64,
-    log: &[M::Command],
+    log: &Log<M::Command>,
 ) -> Result<Body<M::Command>, Memory>
     ensures { IfOk result (λ body. body ≡ Body.Install ballot log.now) }
 {
@@ -222,7 +226,7 @@ pub fn send_installs<M: Machine>(
     alloc: Global,
     from: u8,
     ballot: u64,
-    log: &[M::Command],
+    log: &Log<M::Command>,
     receivers: &[u8],
     out: &mut Vec<Effect<M::Command, M::Output>>,
 ) -> bool

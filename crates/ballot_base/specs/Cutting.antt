@@ -1,0 +1,19 @@
+-- Cutting.antt: how a replica cuts its log.
+use Rattle.std.specs.Prelude.{◌-◌, Bool, not, drop, ◌&&◌, nat_lt}
+use Rattle.machine.specs.Machine.{Rules}
+use Rattle.ballot_base.specs.Replica.{ReplicaState}
+
+-- there is something to cut where the replica runs and what is applied is over its base
+abbrev pub can_cut : {S C : Type 0} → ReplicaState S C → Bool
+can_cut r = not r.stopped && nat_lt r.log.base r.committed
+
+-- the snapshot is the frozen machine, and the places below what is applied are dropped. Nothing is sent
+abbrev pub cut : {S C O : Type 0} → Rules S C O → ReplicaState S C → ReplicaState S C
+cut rules r =
+    record r {
+      log = record {
+        base = r.committed;
+        snapshot = rules.frozen r.machine;
+        rest = drop (r.committed - r.log.base) r.log.rest;
+      };
+    }

@@ -1,0 +1,31 @@
+-- Unread.antt: messages whose snapshot has to be read and stands for no machine. They count as lost.
+use Rattle.std.specs.Prelude.{Bool, true, false, Option, Some, None, ◌&&◌, nat_lt}
+use Rattle.machine.specs.Machine.{Rules}
+use Rattle.ballot_base.specs.declared.message.Body.{Body}
+use Rattle.ballot_base.specs.declared.message.Body.TheVariants.{NewBallot, Join, State, Install, Installed, Activate, Activated, Superseded, Append, Held, Commit}
+use Rattle.ballot_base.specs.Changing.{waits_for, lacks}
+use Rattle.ballot_base.specs.Logs.{Log, places}
+use Rattle.ballot_base.specs.Replica.{ReplicaState}
+
+-- the snapshot of a log that is to be taken has to be read, and stands for no machine
+abbrev pub stands_for_none : {S : Type 0} → Option S → Bool
+stands_for_none None = true
+stands_for_none (Some machine) = false
+
+abbrev pub reads_none : {S C O : Type 0} → Rules S C O → ReplicaState S C → Log C → Bool
+reads_none rules r log =
+    nat_lt r.log.base log.base && stands_for_none (rules.thawed log.snapshot)
+
+-- by the kind of the message
+abbrev pub is_unread : {S C O : Type 0} → Rules S C O → ReplicaState S C → Body C → Bool
+is_unread rules r (NewBallot ballot members previous previous_members) = false
+is_unread rules r (Join ballot previous) = false
+is_unread rules r (State ballot log) = waits_for r ballot (places log) && reads_none rules r log
+is_unread rules r (Install ballot log) = lacks r ballot (places log) && reads_none rules r log
+is_unread rules r (Installed ballot held) = false
+is_unread rules r (Activate ballot) = false
+is_unread rules r (Activated ballot) = false
+is_unread rules r (Superseded ballot) = false
+is_unread rules r (Append ballot place command) = false
+is_unread rules r (Held ballot held) = false
+is_unread rules r (Commit ballot held) = false
