@@ -1,9 +1,9 @@
 -- ActivationTaken.antt: what a replica does when its ballot is active is the row of the protocol.
-use Rattle.std.proofs.Common.{◌≡◌, ℕ, ◌-◌, ◌<◌, ◌≤◌, Bool, true, false, ◌&&◌, List, [], ◌∷◌, ◌++◌, length, get_or, take, drop, Result, Ok, Err, OnOk, OnErr, refl, ap, sym, ◌∙◌, subst, arith}
+use Rattle.std.proofs.Common.{◌≡◌, ℕ, ◌+◌, ◌-◌, ◌<◌, ◌≤◌, Bool, true, false, ◌&&◌, List, [], ◌∷◌, ◌++◌, length, get_or, Result, Ok, Err, OnOk, OnErr, refl, ap, sym, ◌∙◌, subst, arith}
 use Rattle.std.specs.Prelude.{nat_lt, nat_le, ◌==◌}
 use Rattle.std.specs.Result.{MatchResult}
 use Rattle.std.proofs.lemmas.Bool.{and_parts}
-use Rattle.std.proofs.lemmas.List.{length-append, take_at, take-append-le}
+use Rattle.std.proofs.lemmas.List.{length-append}
 use Rattle.machine.specs.Machine.{Rules, replay_from}
 use Rattle.ballot_base.specs.declared.message.Body.TheVariants.{Append}
 use Rattle.ballot_base.specs.declared.message.Effect.{Effect}
@@ -11,6 +11,8 @@ use Rattle.ballot_base.specs.declared.status.Progress.{Progress}
 use Rattle.ballot_base.specs.declared.status.Role.{Role}
 use Rattle.ballot_base.specs.declared.status.Role.TheVariants.{Backup, Fetching, Installing, Active}
 use Rattle.ballot_base.specs.Replica.{ReplicaState, CountedReplica, is_installing, others, progress_at}
+use Rattle.ballot_base.specs.Logs.{Log, places, popped, pushed}
+use Rattle.ballot_base.proofs.LongerLogs.{last_pushed, part_pushed, places_pushed, popped_pushed}
 use Rattle.ballot_base.specs.Losses.{IsQuiet, halted, one_more}
 use Rattle.ballot_base.specs.Sending.{Outcome, message_to_followed}
 use Rattle.ballot_base.specs.Applying.{applied_to}
@@ -25,21 +27,21 @@ use Rattle.ballot_base.proofs.SendsJoin.{Sends-then}
 
 -- a ballot may begin at a replica
 abbrev pub may_begin : {S C : Type 0} → ReplicaState S C → ℕ → Bool
-may_begin r b = (r.joined == b && is_installing r.role) && (nat_le (length r.lacking) 0 && nat_lt (length r.log) most_places)
+may_begin r b = (r.joined == b && is_installing r.role) && (nat_le (length r.lacking) 0 && nat_lt (places r.log) most_places)
 
 -- a replica that becomes active, before its start is added, and then
 abbrev pub active_of : {S C O : Type 0} → Rules S C O → ReplicaState S C → ReplicaState S C
-active_of rules r = record (applied_to rules r (length r.log)) { role = Active; progress = progress_at (length r.log) (others r.id r.members) }
+active_of rules r = record (applied_to rules r (places r.log)) { role = Active; progress = progress_at (places r.log) (others r.id r.members) }
 
 abbrev pub begun_of : {S C O : Type 0} → Rules S C O → CountedReplica S C → ℕ → CountedReplica S C
-begun_of rules old b = record old { state = record (active_of rules old.state) { log = old.state.log ++ rules.start_of b ∷ [] } }
+begun_of rules old b = record old { state = record (active_of rules old.state) { log = pushed old.state.log (rules.start_of b) } }
 
 -- the row is not quiet
 activated_loud : {S C O : Type 0} (rules : Rules S C O) (r : ReplicaState S C) (b : ℕ) → IsQuiet r (added rules (active_of rules r) (rules.start_of b)) → ⊥
 activated_loud rules r b quiet =
-    let e : r.log ++ rules.start_of b ∷ [] ≡ r.log = sym (added-log rules (active_of rules r) (rules.start_of b)) ∙ quiet.same_log in
-    let n : length (r.log ++ rules.start_of b ∷ []) ≡ length r.log = ap length e in
-    omega (arith, n, length-append r.log (rules.start_of b ∷ []))
+    let e : pushed r.log (rules.start_of b) ≡ r.log = sym (added-log rules (active_of rules r) (rules.start_of b)) ∙ quiet.same_log in
+    let n : places (pushed r.log (rules.start_of b)) ≡ places r.log = ap places e in
+    omega (arith, n, places_pushed r.log (rules.start_of b))
 
 -- the start found no memory
 pub activated_lost : {S C O : Type 0} (rules : Rules S C O) (old new : CountedReplica S C) (b : ℕ) (before : List (Effect C O)) →
@@ -49,24 +51,20 @@ activated_lost {S = S} {C = C} {O = O} rules old new b before may state losses =
     subst (λ (o : Outcome S C O). Went rules old o new before before) (sym (on_activated-adds rules old.state b may))
     (went_ignored old _ new before before state losses refl (activated_loud rules old.state b))
 
--- what stands before the last place
-pub front_is : {X : Type 0} (xs : List X) (x : X) → take (length (xs ++ x ∷ []) - 1) (xs ++ x ∷ []) ≡ xs
-front_is xs x = let n = length-append xs (x ∷ []) in take_at xs (x ∷ []) (length (xs ++ x ∷ []) - 1) (omega (arith, n))
-
 -- a place could not be applied
-pub activated_halted : {S C O : Type 0} (rules : Rules S C O) (old pushed stopped new : CountedReplica S C) (b : ℕ) (before : List (Effect C O)) →
+pub activated_halted : {S C O : Type 0} (rules : Rules S C O) (old grown stopped new : CountedReplica S C) (b : ℕ) (before : List (Effect C O)) →
     may_begin old.state b ≡ true →
-    pushed ≡ record old { state = record old.state { log = old.state.log ++ rules.start_of b ∷ [] } } →
-    stopped ≡ record pushed { state = halted rules pushed.state } →
-    new ≡ record { state = record stopped.state { log = take (length stopped.state.log - 1) stopped.state.log }; losses = one_more stopped.losses } →
+    grown ≡ record old { state = record old.state { log = pushed old.state.log (rules.start_of b) } } →
+    stopped ≡ record grown { state = halted rules grown.state } →
+    new ≡ record { state = record stopped.state { log = popped stopped.state.log }; losses = one_more stopped.losses } →
     Went rules old (on_activated rules old.state b) new before before
-activated_halted {S = S} {C = C} {O = O} rules old pushed stopped new b before may p h n =
-    let z : CountedReplica S C = record old { state = halted rules (record old.state { log = old.state.log ++ rules.start_of b ∷ [] }) } in
+activated_halted {S = S} {C = C} {O = O} rules old grown stopped new b before may p h n =
+    let z : CountedReplica S C = record old { state = halted rules (record old.state { log = pushed old.state.log (rules.start_of b) }) } in
     let same : stopped ≡ z = h ∙ ap (λ (y : CountedReplica S C). let x : CountedReplica S C = record y { state = halted rules y.state } in x) p in
     let is : new ≡ record { state = halted rules old.state; losses = one_more old.losses } =
-    n ∙ ap (λ (y : CountedReplica S C). let x : CountedReplica S C = record { state = record y.state { log = take (length y.state.log - 1) y.state.log }; losses = one_more y.losses } in x) same
+    n ∙ ap (λ (y : CountedReplica S C). let x : CountedReplica S C = record { state = record y.state { log = popped y.state.log }; losses = one_more y.losses } in x) same
     ∙ ap (λ us. let x : CountedReplica S C = record { state = halted rules (record old.state { log = us }); losses = one_more old.losses } in x)
-    (front_is old.state.log (rules.start_of b)) in
+    (popped_pushed old.state.log (rules.start_of b)) in
     subst (λ (o : Outcome S C O). Went rules old o new before before) (sym (on_activated-adds rules old.state b may))
     (went_halted old _ new before before (ap (λ (y : CountedReplica S C). y.state) is) (ap (λ (y : CountedReplica S C). y.losses) is) refl
     (activated_loud rules old.state b))
@@ -79,30 +77,30 @@ installing_is Installing e = refl
 installing_is Active e = cc
 
 -- a replica that has become active
-pub become_active_is : {S C O : Type 0} (rules : Rules S C O) (old pushed active : CountedReplica S C) (b : ℕ) (progress : List Progress) →
-    pushed ≡ record old { state = record old.state { log = old.state.log ++ rules.start_of b ∷ [] } } →
-    progress ≡ progress_at (length old.state.log) (others old.state.id old.state.members) →
-    active ≡ record pushed { state = record (applied_to rules pushed.state (length pushed.state.log - 1)) { role = Active; progress = progress } } →
+pub become_active_is : {S C O : Type 0} (rules : Rules S C O) (old grown active : CountedReplica S C) (b : ℕ) (progress : List Progress) →
+    grown ≡ record old { state = record old.state { log = pushed old.state.log (rules.start_of b) } } →
+    progress ≡ progress_at (places old.state.log) (others old.state.id old.state.members) →
+    active ≡ record grown { state = record (applied_to rules grown.state (places grown.state.log - 1)) { role = Active; progress = progress } } →
     active ≡ begun_of rules old b
-become_active_is {S = S} {C = C} {O = O} rules old pushed active b progress p m a =
+become_active_is {S = S} {C = C} {O = O} rules old grown active b progress p m a =
     let start = rules.start_of b in
-    let long : length (old.state.log ++ start ∷ []) - 1 ≡ length old.state.log = let n = length-append old.state.log (start ∷ []) in omega (arith, n) in
-    a ∙ ap (λ (y : CountedReplica S C). let x : CountedReplica S C = record y { state = record (applied_to rules y.state (length y.state.log - 1)) { role = Active; progress = progress } } in x) p
-    ∙ ap (λ k. let x : CountedReplica S C = record old { state = record (applied_to rules (record old.state { log = old.state.log ++ start ∷ [] }) k) { role = Active; progress = progress } } in x) long
-    ∙ ap (λ ps. let x : CountedReplica S C = record old { state = record (applied_to rules (record old.state { log = old.state.log ++ start ∷ [] }) (length old.state.log)) { role = Active; progress = ps } } in x) m
+    let long : places (pushed old.state.log start) - 1 ≡ places old.state.log = let n = places_pushed old.state.log start in omega (arith, n) in
+    a ∙ ap (λ (y : CountedReplica S C). let x : CountedReplica S C = record y { state = record (applied_to rules y.state (places y.state.log - 1)) { role = Active; progress = progress } } in x) p
+    ∙ ap (λ k. let x : CountedReplica S C = record old { state = record (applied_to rules (record old.state { log = pushed old.state.log start }) k) { role = Active; progress = progress } } in x) long
+    ∙ ap (λ ps. let x : CountedReplica S C = record old { state = record (applied_to rules (record old.state { log = pushed old.state.log start }) (places old.state.log)) { role = Active; progress = ps } } in x) m
     ∙ ap (λ us. let x : CountedReplica S C = record old {
       state = record (active_of rules old.state) {
-        log = old.state.log ++ start ∷ [];
-        machine = replay_from rules old.state.machine (drop old.state.committed us);
+        log = pushed old.state.log start;
+        machine = replay_from rules old.state.machine us;
       };
-    } in x) (take-append-le (length old.state.log) old.state.log (start ∷ []) (omega arith))
+    } in x) (part_pushed old.state.log start old.state.committed (places old.state.log) (omega arith))
 
 -- the ballot has begun, or a place could not be applied behind its start
 abbrev pub Begun : {S C O : Type 0} → Rules S C O → CountedReplica S C → CountedReplica S C → ℕ → List Progress → List (Effect C O) →
     List (Effect C O) → CountedReplica S C → Type 0
 Begun rules active new committed waiting before behind old = (behind ≡ before) × (new ≡ record {
   state = record active.state {
-    log = take (length active.state.log - 1) active.state.log;
+    log = popped active.state.log;
     committed = committed;
     role = Installing;
     progress = waiting;
@@ -125,11 +123,11 @@ activated_begun {S = S} {C = C} {O = O} rules (Ok x) old active new b committed 
 activated_begun {S = S} {C = C} {O = O} rules (Err x) old active new b committed waiting before behind may a m w (same, n) =
     let role : old.state.role ≡ Installing =
     installing_is old.state.role (and_parts (old.state.joined == b) (is_installing old.state.role)
-    (and_parts (old.state.joined == b && is_installing old.state.role) (nat_le (length old.state.lacking) 0 && nat_lt (length old.state.log) most_places) may).0).1 in
+    (and_parts (old.state.joined == b && is_installing old.state.role) (nat_le (length old.state.lacking) 0 && nat_lt (places old.state.log) most_places) may).0).1 in
     let is : new ≡ record { state = halted rules old.state; losses = one_more old.losses } =
     n ∙ ap (λ (y : CountedReplica S C). let x : CountedReplica S C = record {
       state = record y.state {
-        log = take (length y.state.log - 1) y.state.log;
+        log = popped y.state.log;
         committed = committed;
         role = Installing;
         progress = waiting;
@@ -141,7 +139,7 @@ activated_begun {S = S} {C = C} {O = O} rules (Err x) old active new b committed
     ∙ ap (λ us. let x : CountedReplica S C = record {
       state = record old.state { log = us; committed = committed; role = Installing; progress = waiting; stopped = true; machine = rules.opening };
       losses = one_more old.losses;
-    } in x) (front_is old.state.log (rules.start_of b))
+    } in x) (popped_pushed old.state.log (rules.start_of b))
     ∙ ap (λ k. let x : CountedReplica S C = record {
       state = record old.state { committed = k; role = Installing; progress = waiting; stopped = true; machine = rules.opening };
       losses = one_more old.losses;
@@ -170,50 +168,48 @@ begun_runs {S = S} {C = C} {O = O} rules (Err x) old active new b committed wait
     (tt, (ap (λ (z : CountedReplica S C). z.state.stopped) n, same))
 
 -- the places that are applied stay below the start
-pub start_behind : {S C : Type 0} (old pushed : CountedReplica S C) (start : C) →
-    pushed ≡ record old { state = record old.state { log = old.state.log ++ start ∷ [] } } → old.state.committed ≤ length old.state.log →
-    pushed.state.committed < length pushed.state.log
-start_behind {S = S} {C = C} old pushed start p within =
-    let k : pushed.state.committed ≡ old.state.committed = ap (λ (z : CountedReplica S C). z.state.committed) p in
-    let n : length pushed.state.log ≡ length (old.state.log ++ start ∷ []) = ap (λ (z : CountedReplica S C). length z.state.log) p in
-    omega (arith, within, k, n, length-append old.state.log (start ∷ []))
+pub start_behind : {S C : Type 0} (old grown : CountedReplica S C) (start : C) →
+    grown ≡ record old { state = record old.state { log = pushed old.state.log start } } → old.state.committed ≤ places old.state.log →
+    grown.state.committed < places grown.state.log
+start_behind {S = S} {C = C} old grown start p within =
+    let k : grown.state.committed ≡ old.state.committed = ap (λ (z : CountedReplica S C). z.state.committed) p in
+    let n : places grown.state.log ≡ places (pushed old.state.log start) = ap (λ (z : CountedReplica S C). places z.state.log) p in
+    omega (arith, within, k, n, places_pushed old.state.log start)
 
 pub start_behind_active : {S C O : Type 0} (rules : Rules S C O) (old active : CountedReplica S C) (b k : ℕ) → active ≡ begun_of rules old b →
-    k ≡ old.state.committed → old.state.committed ≤ length old.state.log → k < length active.state.log
+    k ≡ old.state.committed → old.state.committed ≤ places old.state.log → k < places active.state.log
 start_behind_active {S = S} {C = C} rules old active b k a e within =
-    let n : length active.state.log ≡ length (old.state.log ++ rules.start_of b ∷ []) = ap (λ (z : CountedReplica S C). length z.state.log) a in
-    omega (arith, within, e, n, length-append old.state.log (rules.start_of b ∷ []))
+    let n : places active.state.log ≡ places (pushed old.state.log (rules.start_of b)) = ap (λ (z : CountedReplica S C). places z.state.log) a in
+    omega (arith, within, e, n, places_pushed old.state.log (rules.start_of b))
 
-pub start_behind_stopped : {S C O : Type 0} (rules : Rules S C O) (pushed stopped : CountedReplica S C) →
-    stopped ≡ record pushed { state = halted rules pushed.state } → pushed.state.committed < length pushed.state.log →
-    stopped.state.committed < length stopped.state.log
-start_behind_stopped {S = S} {C = C} rules pushed stopped h low = subst (λ (z : CountedReplica S C). z.state.committed < length z.state.log) (sym h) low
+pub start_behind_stopped : {S C O : Type 0} (rules : Rules S C O) (grown stopped : CountedReplica S C) →
+    stopped ≡ record grown { state = halted rules grown.state } → grown.state.committed < places grown.state.log →
+    stopped.state.committed < places stopped.state.log
+start_behind_stopped {S = S} {C = C} rules grown stopped h low = subst (λ (z : CountedReplica S C). z.state.committed < places z.state.log) (sym h) low
 
 -- what the helpers commit is what all hold
 pub told_commit : {S C O : Type 0} (rules : Rules S C O) (r : ReplicaState S C) (held long : ℕ) (progress : List Progress) →
-    held ≡ least long progress → long ≡ length r.log → progress ≡ r.progress → commit_at rules r held ≡ commit rules r
+    held ≡ least long progress → long ≡ places r.log → progress ≡ r.progress → commit_at rules r held ≡ commit rules r
 unfolding commit
 told_commit rules r held long progress h l p =
-    ap (commit_at rules r) (h ∙ ap (λ k. least k progress) l ∙ ap (least (length r.log)) p)
-
--- the last place of a log
-last_is : {X : Type 0} (front : List X) (last d : X) → get_or (front ++ last ∷ []) (length front) d ≡ last
-last_is [] last d = refl
-last_is (x ∷ front) last d = last_is front last d
+    ap (commit_at rules r) (h ∙ ap (λ k. least k progress) l ∙ ap (least (places r.log)) p)
 
 -- the start was sent, and then what all hold was committed
-pub start_sent : {S C O : Type 0} (rules : Rules S C O) (r : ReplicaState S C) (front : List C) (last found : C) (long held long' : ℕ)
+pub start_sent : {S C O : Type 0} (rules : Rules S C O) (r : ReplicaState S C) (front : Log C) (last found : C) (rest : List C) (base long held long' : ℕ)
     (progress progress' : List Progress) (before mid behind : List (Effect C O)) (sent told : Bool) →
-    r.log ≡ front ++ last ∷ [] → long ≡ length r.log → found ≡ get_or r.log (long - 1) found → progress ≡ r.progress →
-    Sends before mid (message_to_followed O r.id (Append r.joined (long - 1) found) progress) sent →
-    held ≡ least long' progress' → long' ≡ length r.log → progress' ≡ r.progress →
+    r.log ≡ pushed front last → rest ≡ r.log.rest → base ≡ r.log.base → long ≡ length rest → found ≡ get_or rest (long - 1) found → progress ≡ r.progress →
+    Sends before mid (message_to_followed O r.id (Append r.joined (base + (long - 1)) found) progress) sent →
+    held ≡ least long' progress' → long' ≡ places r.log → progress' ≡ r.progress →
     Sends mid behind (commit_at rules r held).effects told →
-    Sends before behind (message_to_followed O r.id (Append r.joined (length front) last) r.progress ++ (commit rules r).effects) (sent && told)
-start_sent {S = S} {C = C} {O = O} rules r front last found long held long' progress progress' before mid behind sent told e l f p sends h l' p' commits =
-    let place : long - 1 ≡ length front = let n : length r.log ≡ length (front ++ last ∷ []) = ap length e in omega (arith, n, l, length-append front (last ∷ [])) in
-    let is : found ≡ last = f ∙ ap (λ us. get_or us (long - 1) found) e ∙ ap (λ k. get_or (front ++ last ∷ []) k found) place ∙ last_is front last found in
+    Sends before behind (message_to_followed O r.id (Append r.joined (places front) last) r.progress ++ (commit rules r).effects) (sent && told)
+start_sent {S = S} {C = C} {O = O} rules r front last found rest base long held long' progress progress' before mid behind sent told e us b l f p sends h l' p' commits =
+    let kept : rest ≡ front.rest ++ last ∷ [] = us ∙ ap (λ (x : Log C). x.rest) e in
+    let first : base ≡ front.base = b ∙ ap (λ (x : Log C). x.base) e in
+    let at : long - 1 ≡ length front.rest = let n : length rest ≡ length (front.rest ++ last ∷ []) = ap length kept in omega (arith, n, l, length-append front.rest (last ∷ [])) in
+    let place : base + (long - 1) ≡ places front = omega (arith, at, first) in
+    let is : found ≡ last = f ∙ ap (λ us. get_or us (long - 1) found) kept ∙ ap (λ k. get_or (front.rest ++ last ∷ []) k found) at ∙ last_pushed front.rest last found in
     Sends-then
-    (subst (λ ps. Sends before mid (message_to_followed O r.id (Append r.joined (length front) last) ps) sent) p
-    (subst (λ (x : C). Sends before mid (message_to_followed O r.id (Append r.joined (length front) x) progress) sent) is
+    (subst (λ ps. Sends before mid (message_to_followed O r.id (Append r.joined (places front) last) ps) sent) p
+    (subst (λ (x : C). Sends before mid (message_to_followed O r.id (Append r.joined (places front) x) progress) sent) is
     (subst (λ k. Sends before mid (message_to_followed O r.id (Append r.joined k found) progress) sent) place sends)))
     (subst (λ (o : Outcome S C O). Sends mid behind o.effects told) (told_commit rules r held long' progress' h l' p') commits)

@@ -1,27 +1,31 @@
 -- ChangesTaken.antt: what a replica does with the messages between ballots is the row of the protocol.
-use Rattle.std.proofs.Common.{◌≡◌, ℕ, ◌<◌, inl, Bool, true, false, cond, List, [], ◌∷◌, length, refl, ap, sym, ◌∙◌, subst, arith}
-use Rattle.std.specs.Prelude.{nat_lt, nat_le, ◌&&◌, ◌||◌, ◌==◌}
+use Rattle.std.proofs.Common.{◌≡◌, ℕ, ◌<◌, ◌⊎◌, inl, inr, Some, None, Bool, true, false, cond, List, [], ◌∷◌, length, refl, ap, sym, ◌∙◌, subst, arith}
+use Rattle.std.specs.Prelude.{nat_lt, nat_le, ◌&&◌, ◌==◌}
 use Rattle.std.specs.List.{list_any}
 use Rattle.std.proofs.lemmas.List.{append-nil}
-use Rattle.std.proofs.lemmas.Bool.{eq-eqb, eqb-true}
+use Rattle.std.proofs.lemmas.Bool.{and_from, eq-eqb, eqb-true}
 use Rattle.machine.specs.Machine.{Rules}
 use Rattle.ballot_base.specs.declared.message.Body.TheVariants.{Join, State, Installed, Activate}
 use Rattle.ballot_base.specs.declared.message.Effect.{Effect}
 use Rattle.ballot_base.specs.declared.status.Progress.{Progress}
 use Rattle.ballot_base.specs.declared.status.Role.TheVariants.{Backup, Fetching, Installing}
-use Rattle.ballot_base.specs.Replica.{ReplicaState, CountedReplica, is_fetching, is_installing, others}
-use Rattle.ballot_base.specs.Losses.{one_more}
+use Rattle.ballot_base.specs.Replica.{ReplicaState, CountedReplica, is_installing, others}
+use Rattle.ballot_base.specs.Logs.{Log, places}
+use Rattle.ballot_base.specs.Losses.{IsQuiet, one_more}
+use Rattle.ballot_base.specs.Taking.{taken}
+use Rattle.ballot_base.specs.Unread.{reads_none}
+use Rattle.ballot.proofs.Heeding.{read_or_none}
 use Rattle.ballot_base.specs.Sending.{Outcome, message_to, message_to_each, master}
-use Rattle.ballot_base.specs.Changing.{on_new_ballot, on_join, installs, on_state, on_install, activates, on_installed, on_superseded}
+use Rattle.ballot_base.specs.Changing.{waits_for, lacks, on_new_ballot, on_join, installs, on_state, on_install, activates, on_installed, on_superseded}
 use Rattle.ballot_base.proofs.ChangeRows.{on_new_ballot-joins, on_join-answers, on_state-takes, on_install-takes, on_install-answers, on_installed-counts, on_superseded-leaves}
 use Rattle.ballot_base.specs.Sends.{Sends}
-use Rattle.ballot.specs.Inside.{Says, Went}
-use Rattle.ballot.proofs.MessagesTaken.{went_sent, went_ignored}
+use Rattle.ballot.specs.Inside.{Heard, Says, Went}
+use Rattle.ballot.proofs.MessagesTaken.{went_sent, went_lost}
 
 -- a replica that took a row's state and then sent its messages did the row
-pub went_said : {S C O : Type 0} {rules : Rules S C O} (old mid : CountedReplica S C) (o : Outcome S C O) (new : CountedReplica S C)
+pub went_said : {S C O : Type 0} {rules : Rules S C O} {unread : Bool} (old mid : CountedReplica S C) (o : Outcome S C O) (new : CountedReplica S C)
     (before behind : List (Effect C O)) → mid ≡ record { state = o.state; losses = old.losses } → Says mid o.effects new before behind →
-    Went rules old o new before behind
+    Heard rules old o unread new before behind
 went_said {S = S} {C = C} old mid o new before behind e said =
     went_sent old o new before behind said.whole said.sends
     (ap (λ (z : CountedReplica S C). z.state) said.counted ∙ ap (λ (z : CountedReplica S C). z.state) e)
@@ -69,7 +73,7 @@ new_ballot_taken {S = S} {C = C} O {rules = rules} old new ballot members previo
     } in z) p) losses)
 
 -- Join that is answered
-pub join_answered : {S C : Type 0} (O : Type 0) {rules : Rules S C O} (old mid new : CountedReplica S C) (from ballot previous : ℕ) (log : List C)
+pub join_answered : {S C : Type 0} (O : Type 0) {rules : Rules S C O} (old mid new : CountedReplica S C) (from ballot previous : ℕ) (log : Log C)
     (before behind : List (Effect C O)) (sent : Bool) →
     (nat_le old.state.joined ballot && nat_le previous old.state.held_in) ≡ true → log ≡ old.state.log →
     Sends before behind (message_to O old.state.id (State ballot log) from ∷ []) sent →
@@ -83,88 +87,91 @@ join_answered {S = S} {C = C} O {rules = rules} old mid new from ballot previous
     (state ∙ ap (λ (z : CountedReplica S C). z.state) m)
     (losses ∙ ap (λ (z : CountedReplica S C). cond sent z.losses (one_more z.losses)) m))
 
--- what is tested of a log is tested of its length
-pub waits_at : {S C : Type 0} (r : ReplicaState S C) (ballot held : ℕ) {b : Bool} {n : ℕ} → held ≡ n →
-    (r.joined == ballot && (is_fetching r.role && nat_le r.committed held)) ≡ b →
-    (r.joined == ballot && (is_fetching r.role && nat_le r.committed n)) ≡ b
-waits_at r ballot held {b = b} e f = subst (λ k. (r.joined == ballot && (is_fetching r.role && nat_le r.committed k)) ≡ b) e f
-
-pub lacks_at : {S C : Type 0} (r : ReplicaState S C) (ballot held : ℕ) {b : Bool} {n : ℕ} → held ≡ n →
-    ((nat_lt r.joined ballot || (r.joined == ballot && nat_lt r.held_in ballot)) && nat_le r.committed held) ≡ b →
-    ((nat_lt r.joined ballot || (r.joined == ballot && nat_lt r.held_in ballot)) && nat_le r.committed n) ≡ b
-lacks_at r ballot held {b = b} e f =
-    subst (λ k. ((nat_lt r.joined ballot || (r.joined == ballot && nat_lt r.held_in ballot)) && nat_le r.committed k) ≡ b) e f
-
 -- messages to some members, or to the master, are some
 installs_some : {S C : Type 0} (O : Type 0) (r : ReplicaState S C) (members : List ℕ) → installs O r members ≡ [] → ⊥
 installs_some O r [] e = cc
 installs_some O r (member ∷ members) e = cc
 
 -- State that is taken
-pub state_taken : {S C : Type 0} (O : Type 0) {rules : Rules S C O} (old mid new : CountedReplica S C) (ballot : ℕ) (log places : List C)
+pub state_taken : {S C O : Type 0} {rules : Rules S C O} (old took mid new : CountedReplica S C) (ballot : ℕ) (log : Log C) (unread : Bool)
     (lacking : List ℕ) (before behind : List (Effect C O)) (sent : Bool) →
-    (old.state.joined == ballot && (is_fetching old.state.role && nat_le old.state.committed (length places))) ≡ true → places ≡ log →
+    waits_for old.state ballot (places log) ≡ true → taken rules old.state log ≡ Some took.state → took.losses ≡ old.losses →
     lacking ≡ others old.state.id old.state.members →
-    mid ≡ record old { state = record old.state { held_in = ballot; log = places; role = Installing; lacking = lacking } } →
+    mid ≡ record took { state = record took.state { held_in = ballot; role = Installing; lacking = lacking } } →
     Sends before behind (installs O mid.state mid.state.lacking) sent →
     new.state ≡ mid.state → new.losses ≡ cond sent mid.losses (one_more mid.losses) →
-    Went rules old (on_state O old.state ballot log) new before behind
-state_taken {S = S} {C = C} O {rules = rules} old mid new ballot log places lacking before behind sent waits p l m sends state losses =
-    let taken : CountedReplica S C = record old { state = record old.state { held_in = ballot; log = log; role = Installing; lacking = others old.state.id old.state.members } } in
-    let same : mid ≡ taken =
-    m ∙ ap (λ us. let z : CountedReplica S C = record old { state = record old.state { held_in = ballot; log = us; role = Installing; lacking = lacking } } in z) p
-    ∙ ap (λ ms. let z : CountedReplica S C = record old { state = record old.state { held_in = ballot; log = log; role = Installing; lacking = ms } } in z) l in
-    let may = subst (λ us. (old.state.joined == ballot && (is_fetching old.state.role && nat_le old.state.committed (length us))) ≡ true) p waits in
-    subst (λ (o : Outcome S C O). Went rules old o new before behind) (sym (on_state-takes O old.state ballot log may))
+    Heard rules old (on_state rules old.state ballot log) unread new before behind
+state_taken {S = S} {C = C} {O = O} {rules = rules} old took mid new ballot log unread lacking before behind sent waits is losses l m sends state count =
+    let all : CountedReplica S C = record took { state = record took.state { held_in = ballot; role = Installing; lacking = others old.state.id old.state.members } } in
+    let same : mid ≡ all =
+    m ∙ ap (λ ms. let z : CountedReplica S C = record took { state = record took.state { held_in = ballot; role = Installing; lacking = ms } } in z) l in
+    subst (λ (o : Outcome S C O). Heard rules old o unread new before behind) (sym (on_state-takes rules old.state took.state ballot log waits is))
     (went_sent old _ new before behind sent
     (subst (λ (z : CountedReplica S C). Sends before behind (installs O z.state z.state.lacking) sent) same sends)
     (state ∙ ap (λ (z : CountedReplica S C). z.state) same)
-    (losses ∙ ap (λ (z : CountedReplica S C). cond sent z.losses (one_more z.losses)) same))
+    (count ∙ ap (λ (z : CountedReplica S C). cond sent z.losses (one_more z.losses)) same ∙ ap (λ n. cond sent n (one_more n)) losses))
 
--- State for whose members there was no memory
-pub state_lost : {S C : Type 0} (O : Type 0) {rules : Rules S C O} (old new : CountedReplica S C) (ballot : ℕ) (log places : List C)
-    (before : List (Effect C O)) →
-    (old.state.joined == ballot && (is_fetching old.state.role && nat_le old.state.committed (length places))) ≡ true → places ≡ log →
-    new.state ≡ old.state → new.losses ≡ one_more old.losses →
-    Went rules old (on_state O old.state ballot log) new before before
-state_lost {S = S} {C = C} O {rules = rules} old new ballot log places before waits p state losses =
-    let taken : ReplicaState S C = record old.state { held_in = ballot; log = log; role = Installing; lacking = others old.state.id old.state.members } in
-    let may = subst (λ us. (old.state.joined == ballot && (is_fetching old.state.role && nat_le old.state.committed (length us))) ≡ true) p waits in
-    subst (λ (o : Outcome S C O). Went rules old o new before before) (sym (on_state-takes O old.state ballot log may))
-    (went_ignored old _ new before before state losses refl
-    (λ quiet. installs_some O taken (others old.state.id old.state.members) quiet.nothing_sent))
+-- State that counts as lost: there was no memory, or its snapshot stands for no machine
+pub state_lost : {S C O : Type 0} {rules : Rules S C O} (old new : CountedReplica S C) (ballot : ℕ) (log : Log C) (before : List (Effect C O)) →
+    waits_for old.state ballot (places log) ≡ true → new.state ≡ old.state → new.losses ≡ one_more old.losses →
+    Heard rules old (on_state rules old.state ballot log) (waits_for old.state ballot (places log) && reads_none rules old.state log) new before before
+state_lost {S = S} {C = C} {O = O} {rules = rules} old new ballot log before waits state losses =
+    went_lost old (on_state rules old.state ballot log) new before before state losses refl (λ quiet. by_log quiet (read_or_none rules old.state log))
+  where
+    by_log : IsQuiet old.state (on_state rules old.state ballot log) →
+        ((took : ReplicaState S C) × (taken rules old.state log ≡ Some took) × (reads_none rules old.state log ≡ false))
+        ⊎ ((taken rules old.state log ≡ None) × (reads_none rules old.state log ≡ true)) →
+        (waits_for old.state ballot (places log) && reads_none rules old.state log) ≡ true
+    by_log quiet (inr (none, is)) = and_from (waits_for old.state ballot (places log)) (reads_none rules old.state log) waits is
+    by_log quiet (inl (took, is, other)) =
+        let e = ap (λ (o : Outcome S C O). o.effects) (sym (on_state-takes rules old.state took ballot log waits is)) ∙ quiet.nothing_sent in
+        absurd (installs_some O (record took { held_in = ballot; role = Installing; lacking = others old.state.id old.state.members }) (others old.state.id old.state.members) e)
 
--- Install that is taken, and one that is only answered
-pub install_taken : {S C : Type 0} (O : Type 0) {rules : Rules S C O} (old mid new : CountedReplica S C) (from ballot held : ℕ) (log places : List C)
+-- Install that is taken, one that counts as lost, and one that is only answered
+pub install_taken : {S C O : Type 0} {rules : Rules S C O} (old took mid new : CountedReplica S C) (from ballot held : ℕ) (log : Log C) (unread : Bool)
     (before behind : List (Effect C O)) →
-    ((nat_lt old.state.joined ballot || (old.state.joined == ballot && nat_lt old.state.held_in ballot)) && nat_le old.state.committed held) ≡ true →
-    places ≡ log → held ≡ length places →
-    mid ≡ record old { state = record old.state { joined = ballot; held_in = ballot; log = places; role = Backup } } →
+    lacks old.state ballot held ≡ true → held ≡ places log → taken rules old.state log ≡ Some took.state → took.losses ≡ old.losses →
+    took.state.id ≡ old.state.id →
+    mid ≡ record took { state = record took.state { joined = ballot; held_in = ballot; role = Backup } } →
     Says mid (message_to O mid.state.id (Installed ballot held) from ∷ []) new before behind →
-    Went rules old (on_install O old.state from ballot log) new before behind
-install_taken {S = S} {C = C} O {rules = rules} old mid new from ballot held log places before behind may p h m said =
-    let long : held ≡ length log = h ∙ ap length p in
-    let lacks = subst (λ k. ((nat_lt old.state.joined ballot || (old.state.joined == ballot && nat_lt old.state.held_in ballot)) && nat_le old.state.committed k) ≡ true) long may in
-    let same : mid ≡ record old { state = record old.state { joined = ballot; held_in = ballot; log = log; role = Backup } } =
-    m ∙ ap (λ us. let z : CountedReplica S C = record old { state = record old.state { joined = ballot; held_in = ballot; log = us; role = Backup } } in z) p in
-    subst (λ (o : Outcome S C O). Went rules old o new before behind) (sym (on_install-takes O old.state from ballot log lacks))
+    Heard rules old (on_install rules old.state from ballot log) unread new before behind
+install_taken {S = S} {C = C} {O = O} {rules = rules} old took mid new from ballot held log unread before behind may h is losses id m said =
+    let may' = subst (λ k. lacks old.state ballot k ≡ true) h may in
+    let same : mid ≡ record { state = record took.state { joined = ballot; held_in = ballot; role = Backup }; losses = old.losses } =
+    m ∙ ap (λ n. let z : CountedReplica S C = record { state = record took.state { joined = ballot; held_in = ballot; role = Backup }; losses = n } in z) losses in
+    let named : mid.state.id ≡ old.state.id = ap (λ (z : CountedReplica S C). z.state.id) same ∙ id in
+    subst (λ (o : Outcome S C O). Heard rules old o unread new before behind) (sym (on_install-takes rules old.state took.state from ballot log may' is))
     (went_said old mid _ new before behind same
-    (subst (λ (z : CountedReplica S C). Says mid (message_to O z.state.id (Installed ballot (length log)) from ∷ []) new before behind) same
-    (subst (λ k. Says mid (message_to O mid.state.id (Installed ballot k) from ∷ []) new before behind) long said)))
+    (subst (λ k. Says mid (message_to O old.state.id (Installed ballot k) from ∷ []) new before behind) h
+    (subst (λ k. Says mid (message_to O k (Installed ballot held) from ∷ []) new before behind) named said)))
 
-pub install_answered : {S C : Type 0} (O : Type 0) {rules : Rules S C O} (old new : CountedReplica S C) (from ballot held : ℕ) (log places : List C)
+pub install_lost : {S C O : Type 0} {rules : Rules S C O} (old new : CountedReplica S C) (from ballot held : ℕ) (log : Log C) (before : List (Effect C O)) →
+    lacks old.state ballot held ≡ true → held ≡ places log → new.state ≡ old.state → new.losses ≡ one_more old.losses →
+    Heard rules old (on_install rules old.state from ballot log) (lacks old.state ballot (places log) && reads_none rules old.state log) new before before
+install_lost {S = S} {C = C} {O = O} {rules = rules} old new from ballot held log before may h state losses =
+    went_lost old (on_install rules old.state from ballot log) new before before state losses refl (λ quiet. by_log quiet (read_or_none rules old.state log))
+  where
+    may' : lacks old.state ballot (places log) ≡ true
+    may' = subst (λ k. lacks old.state ballot k ≡ true) h may
+
+    by_log : IsQuiet old.state (on_install rules old.state from ballot log) →
+        ((took : ReplicaState S C) × (taken rules old.state log ≡ Some took) × (reads_none rules old.state log ≡ false))
+        ⊎ ((taken rules old.state log ≡ None) × (reads_none rules old.state log ≡ true)) →
+        (lacks old.state ballot (places log) && reads_none rules old.state log) ≡ true
+    by_log quiet (inr (none, is)) = and_from (lacks old.state ballot (places log)) (reads_none rules old.state log) may' is
+    by_log quiet (inl (took, is, other)) =
+        let e = ap (λ (o : Outcome S C O). o.effects) (sym (on_install-takes rules old.state took from ballot log may' is)) ∙ quiet.nothing_sent in cc
+
+pub install_answered : {S C O : Type 0} {rules : Rules S C O} (old new : CountedReplica S C) (from ballot held : ℕ) (log : Log C) (unread : Bool)
     (before behind : List (Effect C O)) →
-    ((nat_lt old.state.joined ballot || (old.state.joined == ballot && nat_lt old.state.held_in ballot)) && nat_le old.state.committed held) ≡ false →
-    (old.state.joined == ballot && old.state.held_in == ballot) ≡ true →
-    places ≡ log → held ≡ length places →
+    lacks old.state ballot held ≡ false → (old.state.joined == ballot && old.state.held_in == ballot) ≡ true → held ≡ places log →
     Says old (message_to O old.state.id (Installed ballot held) from ∷ []) new before behind →
-    Went rules old (on_install O old.state from ballot log) new before behind
-install_answered {S = S} {C = C} O {rules = rules} old new from ballot held log places before behind other here p h said =
-    let long : held ≡ length log = h ∙ ap length p in
-    let lacks = subst (λ k. ((nat_lt old.state.joined ballot || (old.state.joined == ballot && nat_lt old.state.held_in ballot)) && nat_le old.state.committed k) ≡ false) long other in
-    subst (λ (o : Outcome S C O). Went rules old o new before behind) (sym (on_install-answers O old.state from ballot log lacks here))
+    Heard rules old (on_install rules old.state from ballot log) unread new before behind
+install_answered {S = S} {C = C} {O = O} {rules = rules} old new from ballot held log unread before behind other here h said =
+    let off = subst (λ k. lacks old.state ballot k ≡ false) h other in
+    subst (λ (o : Outcome S C O). Heard rules old o unread new before behind) (sym (on_install-answers rules old.state from ballot log off here))
     (went_said old old _ new before behind refl
-    (subst (λ k. Says old (message_to O old.state.id (Installed ballot k) from ∷ []) new before behind) long said))
+    (subst (λ k. Says old (message_to O old.state.id (Installed ballot k) from ∷ []) new before behind) h said))
 
 -- Installed of a member that lacked the log: others lack it, or it was the last
 pub installed_noted : {S C : Type 0} (O : Type 0) {rules : Rules S C O} (old new : CountedReplica S C) (from ballot : ℕ) (lacking : List ℕ)

@@ -1,11 +1,11 @@
 -- Committed.antt: the helpers of a replica do the rows of the protocol.
-use Rattle.std.proofs.Common.{◌≡◌, ℕ, ◌<◌, ◌≤◌, Bool, true, false, ◌&&◌, cond, ◌⊎◌, inl, inr, List, [], ◌∷◌, ◌++◌, length, take, drop, Result, Ok, Err, refl, ap, sym, ◌∙◌, subst}
-use Rattle.std.specs.Result.{is_ok, is_err}
+use Rattle.std.proofs.Common.{◌≡◌, ℕ, ◌<◌, ◌≤◌, Bool, true, false, ◌&&◌, cond, ◌⊎◌, inl, inr, List, ◌++◌, refl, ap, sym, ◌∙◌, subst}
 use Rattle.machine.specs.Machine.{Rules, replay_from}
 use Rattle.ballot_base.specs.declared.message.Body.TheVariants.{Append, Commit}
 use Rattle.ballot_base.specs.declared.message.Effect.{Effect}
 use Rattle.ballot_base.specs.declared.status.Progress.{Progress}
 use Rattle.ballot_base.specs.Replica.{ReplicaState, CountedReplica}
+use Rattle.ballot_base.specs.Logs.{Log, part, places, pushed}
 use Rattle.ballot_base.specs.Losses.{Done, one_more}
 use Rattle.ballot_base.specs.Sending.{Outcome, message_to_followed}
 use Rattle.ballot_base.specs.Applying.{outputs_from, outputs_to}
@@ -39,7 +39,7 @@ commit_gives_nothing {S = S} {C = C} {O = O} rules r held out below =
 pub commit_goes : {S C O : Type 0} (rules : Rules S C O) (old new : CountedReplica S C) (held : ℕ) (machine : S) →
     old.state.committed < held →
     new ≡ record old { state = record old.state { committed = held; machine = machine } } →
-    machine ≡ replay_from rules old.state.machine (drop old.state.committed (take held old.state.log)) →
+    machine ≡ replay_from rules old.state.machine (part old.state.log old.state.committed held) →
     new ≡ record { state = (commit_at rules old.state held).state; losses = old.losses }
 commit_goes {S = S} {C = C} {O = O} rules old new held machine above e done =
     e ∙ ap (λ t. let z : CountedReplica S C = record old { state = record old.state { committed = held; machine = t } } in z) done
@@ -48,59 +48,47 @@ commit_goes {S = S} {C = C} {O = O} rules old new held machine above e done =
 
 -- their outputs are handed out, and the other members hear of it
 pub commit_gives : {S C O : Type 0} (rules : Rules S C O) (r : ReplicaState S C) (held : ℕ) (machine : S)
-    (log : List C) (progress : List Progress) (start mid new : List (Effect C O)) (whole : Bool) →
+    (log : Log C) (progress : List Progress) (start mid new : List (Effect C O)) (whole : Bool) →
     r.committed < held → machine ≡ r.machine → log ≡ r.log → progress ≡ r.progress →
-    mid ≡ start ++ outputs_from rules machine r.committed (drop r.committed (take held log)) →
+    mid ≡ start ++ outputs_from rules machine r.committed (part log r.committed held) →
     Sends mid new (message_to_followed O r.id (Commit r.joined held) progress) whole →
     Sends start new (commit_at rules r held).effects whole
 commit_gives {S = S} {C = C} {O = O} rules r held machine log progress start mid new whole above s l m e sent =
     let given : mid ≡ start ++ outputs_to rules r held =
-    e ∙ ap (λ t. start ++ outputs_from rules t r.committed (drop r.committed (take held log))) s
-    ∙ ap (λ xs. start ++ outputs_from rules r.machine r.committed (drop r.committed (take held xs))) l in
+    e ∙ ap (λ t. start ++ outputs_from rules t r.committed (part log r.committed held)) s
+    ∙ ap (λ xs. start ++ outputs_from rules r.machine r.committed (part xs r.committed held)) l in
     let told : Sends mid new (message_to_followed O r.id (Commit r.joined held) r.progress) whole =
     subst (λ xs. Sends mid new (message_to_followed O r.id (Commit r.joined held) xs) whole) m sent in
     subst (λ (o : Outcome S C O). Sends start new o.effects whole)
     (sym (commit_at-goes rules r held above)) (Sends-then (Sends-whole start mid _ given) told)
 
--- a push that found memory
-pub pushed_whole : {T E X : Type 0} (r : Result T E) (a b c : X) → is_err r ≡ false →
-    c ≡ cond (is_ok r) a b → c ≡ a
-pushed_whole (Ok x) a b c fine e = e
-pushed_whole (Err x) a b c fine e = cc
-
--- a push that found none
-pub pushed_nothing : {T E X : Type 0} (r : Result T E) (a b c : X) → is_err r ≡ true →
-    c ≡ cond (is_ok r) a b → c ≡ b
-pushed_nothing (Ok x) a b c failed e = cc
-pushed_nothing (Err x) a b c failed e = e
-
--- a command that was sent, pushed and committed is added
-pub add_done : {S C O : Type 0} (rules : Rules S C O) (old pushed after new : CountedReplica S C) (command : C)
-    (log : List C) (progress progress' : List Progress) (long held : ℕ) (sent told whole : Bool)
+-- a command that was sent, put into the log and committed is added
+pub add_done : {S C O : Type 0} (rules : Rules S C O) (old grown after new : CountedReplica S C) (command : C)
+    (log : Log C) (progress progress' : List Progress) (long held : ℕ) (sent told whole : Bool)
     (start mid behind : List (Effect C O)) →
-    Sends start mid (message_to_followed O old.state.id (Append old.state.joined (length old.state.log) command) progress) sent →
+    Sends start mid (message_to_followed O old.state.id (Append old.state.joined (places old.state.log) command) progress) sent →
     progress ≡ old.state.progress →
-    log ≡ old.state.log ++ command ∷ [] →
-    pushed ≡ record { state = record old.state { log = log }; losses = old.losses } →
-    long ≡ length log → progress' ≡ old.state.progress → held ≡ least long progress' →
-    after ≡ record { state = (commit_at rules pushed.state held).state; losses = pushed.losses } →
-    Sends mid behind (commit_at rules pushed.state held).effects told →
+    log ≡ pushed old.state.log command →
+    grown ≡ record { state = record old.state { log = log }; losses = old.losses } →
+    long ≡ places log → progress' ≡ old.state.progress → held ≡ least long progress' →
+    after ≡ record { state = (commit_at rules grown.state held).state; losses = grown.losses } →
+    Sends mid behind (commit_at rules grown.state held).effects told →
     whole ≡ (sent && told) →
     new ≡ record { state = after.state; losses = cond whole after.losses (one_more after.losses) } →
     Done old (added rules old.state command) new start behind
-add_done {S = S} {C = C} {O = O} rules old pushed after new command log progress progress' long held sent told whole start mid behind
+add_done {S = S} {C = C} {O = O} rules old grown after new command log progress progress' long held sent told whole start mid behind
     appends m l p0 n0 m' h0 a commits w n =
-    let p : pushed ≡ record { state = record old.state { log = old.state.log ++ command ∷ [] }; losses = old.losses } =
+    let p : grown ≡ record { state = record old.state { log = pushed old.state.log command }; losses = old.losses } =
     p0 ∙ ap (λ xs. let z : CountedReplica S C = record { state = record old.state { log = xs }; losses = old.losses } in z) l in
-    let h : held ≡ least (length (old.state.log ++ command ∷ [])) old.state.progress =
-    h0 ∙ ap (λ k. least k progress') (n0 ∙ ap length l) ∙ ap (least (length (old.state.log ++ command ∷ []))) m' in
-    let r : ReplicaState S C = record old.state { log = old.state.log ++ command ∷ [] } in
-    let o : Outcome S C O = commit_at rules r (least (length (old.state.log ++ command ∷ [])) old.state.progress) in
-    let same : commit_at rules pushed.state held ≡ o =
+    let h : held ≡ least (places (pushed old.state.log command)) old.state.progress =
+    h0 ∙ ap (λ k. least k progress') (n0 ∙ ap places l) ∙ ap (least (places (pushed old.state.log command))) m' in
+    let r : ReplicaState S C = record old.state { log = pushed old.state.log command } in
+    let o : Outcome S C O = commit_at rules r (least (places (pushed old.state.log command)) old.state.progress) in
+    let same : commit_at rules grown.state held ≡ o =
     ap (λ (z : CountedReplica S C). commit_at rules z.state held) p ∙ ap (commit_at rules r) h in
-    let all : Sends start behind (message_to_followed O old.state.id (Append old.state.joined (length old.state.log) command) old.state.progress ++ o.effects) (sent && told) =
+    let all : Sends start behind (message_to_followed O old.state.id (Append old.state.joined (places old.state.log) command) old.state.progress ++ o.effects) (sent && told) =
     Sends-then
-    (subst (λ xs. Sends start mid (message_to_followed O old.state.id (Append old.state.joined (length old.state.log) command) xs) sent) m appends)
+    (subst (λ xs. Sends start mid (message_to_followed O old.state.id (Append old.state.joined (places old.state.log) command) xs) sent) m appends)
     (subst (λ (z : Outcome S C O). Sends mid behind z.effects told) same commits) in
     let state : new.state ≡ o.state =
     ap (λ (z : CountedReplica S C). z.state) n ∙ ap (λ (z : CountedReplica S C). z.state) a

@@ -1,5 +1,5 @@
 -- Heeding.antt: what a replica does not heed does nothing by the protocol, and only that.
-use Rattle.std.proofs.Common.{◌≡◌, ℕ, suc, ◌<◌, ◌≤◌, ◌⊎◌, inl, inr, Bool, true, false, cond, List, [], ◌∷◌, ◌++◌, length, max, refl, ap, sym, ◌∙◌, arith}
+use Rattle.std.proofs.Common.{◌≡◌, ℕ, suc, ◌<◌, ◌≤◌, ◌⊎◌, inl, inr, Bool, true, false, cond, List, [], ◌∷◌, ◌++◌, length, max, Some, None, Option, refl, ap, ap₂, sym, ◌∙◌, arith}
 use Rattle.std.specs.Prelude.{nat_lt, nat_le, ◌&&◌, ◌||◌, ◌==◌}
 use Rattle.std.specs.List.{list_any}
 use Rattle.std.proofs.lemmas.Bool.{cases_Bool, cases_lt, or_cases, or_parts, and_parts, ltb-true, ltb-false, leb-true, leb-false, lt-ltb, le-leb}
@@ -15,7 +15,12 @@ use Rattle.ballot_base.specs.Replica.{ReplicaState, is_fetching, is_installing, 
 use Rattle.ballot_base.specs.Applying.{applied_to}
 use Rattle.ballot_base.specs.Sending.{Outcome, nothing_done, message_to_each, message_to_followed}
 use Rattle.ballot_base.specs.Serving.{least, raised, raised_progress, follows, leads, commit_at, on_append, on_held, on_commit, appends_behind, on_tick_active}
-use Rattle.ballot_base.specs.Changing.{on_state, on_install, on_installed, on_activated, on_superseded, installs, on_tick_fetching}
+use Rattle.ballot_base.specs.Logs.{Log, places}
+use Rattle.ballot_base.specs.Taking.{taken, with_places, with_snapshot}
+use Rattle.ballot_base.specs.Unread.{is_unread, reads_none}
+use Rattle.ballot_base.proofs.LogsTaken.{reads_none-is, reads_none-low, reads_none-not, taken-none, taken-places, taken-reads}
+use Rattle.ballot_base.proofs.LongerLogs.{places_pushed}
+use Rattle.ballot_base.specs.Changing.{waits_for, lacks, on_state, on_install, on_installed, on_activated, on_superseded, installs, on_tick_fetching}
 use Rattle.ballot_base.specs.Protocol.{received, ticked}
 use Rattle.ballot_base.proofs.StepRows.{added-log, commit_at-goes, commit_at-stays}
 use Rattle.ballot_base.proofs.ChangeRows.{on_new_ballot-joins, on_new_ballot-stays, on_join-stays, on_join-answers, on_state-stays, on_state-takes, on_install-takes, on_install-answers, on_install-stays, on_installed-stays, on_installed-counts, on_superseded-stays, on_superseded-leaves, on_activated-stays, on_activated-adds}
@@ -104,9 +109,9 @@ counts_on {S = S} {C = C} O r from b e f =
 begins : {S C O P : Type 0} (rules : Rules S C O) (r : ReplicaState S C) (b : ℕ) → is_heeded {C = C} r 0 (Activated b) ≡ true →
     on_activated rules r b ≡ nothing_done O r → P
 begins {S = S} {C = C} {O = O} rules r b e f =
-    let g = ap (λ (z : Outcome S C O). length z.state.log) (sym (on_activated-adds rules r b e) ∙ f) in
-    let h = ap length (added-log rules (record (applied_to rules r (length r.log)) { role = Active; progress = progress_at (length r.log) (others r.id r.members) }) (rules.start_of b)) in
-    let long = length-append r.log (rules.start_of b ∷ []) in absurd (omega (arith, g, h, long))
+    let g = ap (λ (z : Outcome S C O). places z.state.log) (sym (on_activated-adds rules r b e) ∙ f) in
+    let h = ap places (added-log rules (record (applied_to rules r (places r.log)) { role = Active; progress = progress_at (places r.log) (others r.id r.members) }) (rules.start_of b)) in
+    let long = places_pushed r.log (rules.start_of b) in absurd (omega (arith, g, h, long))
 
 -- Held
 learned : {S C O P : Type 0} (rules : Rules S C O) (r : ReplicaState S C) (from b held : ℕ) → is_heeded {C = C} r from (Held b held) ≡ true →
@@ -115,12 +120,12 @@ learned {S = S} {C = C} {O = O} {P = P} rules r from b held e f =
     by_commit (cases_lt r.committed n) (or_cases (rises from held r.progress) (nat_lt r.committed n) p.1)
   where
     n : ℕ
-    n = least (length r.log) (raised from held r.progress)
+    n = least (places r.log) (raised from held r.progress)
 
-    p : (leads r b ≡ true) × ((rises from held r.progress || nat_lt r.committed (least (length r.log) (raised from held r.progress))) ≡ true)
+    p : (leads r b ≡ true) × ((rises from held r.progress || nat_lt r.committed (least (places r.log) (raised from held r.progress))) ≡ true)
     p = and_parts (leads r b) _ e
 
-    goes : commit_at rules (record r { progress = raised from held r.progress }) (least (length r.log) (raised from held r.progress)) ≡ nothing_done O r
+    goes : commit_at rules (record r { progress = raised from held r.progress }) (least (places r.log) (raised from held r.progress)) ≡ nothing_done O r
     goes = sym (on_held-raises rules r from b held p.0) ∙ f
 
     by_commit : (r.committed < n) ⊎ (n ≤ r.committed) → (rises from held r.progress ≡ true) ⊎ (nat_lt r.committed n ≡ true) → P
@@ -137,7 +142,7 @@ knew : {S C O : Type 0} (rules : Rules S C O) (r : ReplicaState S C) (from b hel
 knew {S = S} {C = C} {O = O} rules r from b held e = by_leader (cases_Bool (leads r b))
   where
     n : ℕ
-    n = least (length r.log) (raised from held r.progress)
+    n = least (places r.log) (raised from held r.progress)
 
     by_leader : (leads r b ≡ true) ⊎ (leads r b ≡ false) → on_held rules r from b held ≡ nothing_done O r
     by_leader (inr off) = on_held-elsewhere rules r from b held off
@@ -157,57 +162,84 @@ passed O r from b place command e = by_follower (cases_Bool (follows r b))
     by_follower (inr off) = on_append-elsewhere O r from b place command off
     by_follower (inl follower) =
         on_append-gap O r from b place command follower
-        (leb-false place (length r.log) (sym (ap (λ t. t && nat_le place (length r.log)) follower) ∙ e))
+        (leb-false place (places r.log) (sym (ap (λ t. t && nat_le place (places r.log)) follower) ∙ e))
 
-taken : {S C P : Type 0} (O : Type 0) (r : ReplicaState S C) (from b place : ℕ) (command : C) → is_heeded r from (Append b place command) ≡ true →
+taken_in : {S C P : Type 0} (O : Type 0) (r : ReplicaState S C) (from b place : ℕ) (command : C) → is_heeded r from (Append b place command) ≡ true →
     on_append O r from b place command ≡ nothing_done O r → P
-taken O r from b place command e f =
-    let p = and_parts (follows r b) (nat_le place (length r.log)) e in
-    sends_something _ r _ _ _ (on_append-takes O r from b place command p.0 (leb-true place (length r.log) p.1)) f
+taken_in O r from b place command e f =
+    let p = and_parts (follows r b) (nat_le place (places r.log)) e in
+    sends_something _ r _ _ _ (on_append-takes O r from b place command p.0 (leb-true place (places r.log) p.1)) f
 
 known : {S C O : Type 0} (rules : Rules S C O) (r : ReplicaState S C) (b held : ℕ) →
-    (follows r b && (nat_le held (length r.log) && nat_lt r.committed held)) ≡ false → on_commit rules r b held ≡ nothing_done O r
-known {O = O} rules r b held e = by_follower (cases_Bool (follows r b)) (cases_lt (length r.log) held)
+    (follows r b && (nat_le held (places r.log) && nat_lt r.committed held)) ≡ false → on_commit rules r b held ≡ nothing_done O r
+known {O = O} rules r b held e = by_follower (cases_Bool (follows r b)) (cases_lt (places r.log) held)
   where
-    by_follower : (follows r b ≡ true) ⊎ (follows r b ≡ false) → (length r.log < held) ⊎ (held ≤ length r.log) →
+    by_follower : (follows r b ≡ true) ⊎ (follows r b ≡ false) → (places r.log < held) ⊎ (held ≤ places r.log) →
         on_commit rules r b held ≡ nothing_done O r
     by_follower (inr off) _ = on_commit-elsewhere rules r b held off
     by_follower (inl follower) (inl past) = on_commit-past rules r b held follower past
     by_follower (inl follower) (inr within) =
         commit_known rules r b held follower within
         (ltb-false r.committed held
-        (sym (ap (λ t. t && nat_lt r.committed held) (le-leb held (length r.log) within))
-        ∙ sym (ap (λ t. t && (nat_le held (length r.log) && nat_lt r.committed held)) follower) ∙ e))
+        (sym (ap (λ t. t && nat_lt r.committed held) (le-leb held (places r.log) within))
+        ∙ sym (ap (λ t. t && (nat_le held (places r.log) && nat_lt r.committed held)) follower) ∙ e))
 
 applied : {S C O P : Type 0} (rules : Rules S C O) (r : ReplicaState S C) (b held : ℕ) →
-    (follows r b && (nat_le held (length r.log) && nat_lt r.committed held)) ≡ true → on_commit rules r b held ≡ nothing_done O r → P
+    (follows r b && (nat_le held (places r.log) && nat_lt r.committed held)) ≡ true → on_commit rules r b held ≡ nothing_done O r → P
 applied {S = S} {C = C} rules r b held e f =
-    let p = and_parts (follows r b) (nat_le held (length r.log) && nat_lt r.committed held) e in
-    let q = and_parts (nat_le held (length r.log)) (nat_lt r.committed held) p.1 in
-    let s = same_state (on_commit-takes rules r b held p.0 (leb-true held (length r.log) q.0)) f in
+    let p = and_parts (follows r b) (nat_le held (places r.log) && nat_lt r.committed held) e in
+    let q = and_parts (nat_le held (places r.log)) (nat_lt r.committed held) p.1 in
+    let s = same_state (on_commit-takes rules r b held p.0 (leb-true held (places r.log) q.0)) f in
     let c : max r.committed held ≡ r.committed = ap (λ (z : ReplicaState S C). z.committed) s in
     let low = ltb-true r.committed held q.1 in absurd (omega (arith, c, low))
 
--- State, Install and Superseded
-took_log : {S C P : Type 0} (O : Type 0) (r : ReplicaState S C) (b : ℕ) (log : List C) → is_heeded r 0 (State b log) ≡ true →
-    on_state O r b log ≡ nothing_done O r → P
-took_log {S = S} {C = C} O r b log e f =
-    let p = and_parts (r.joined == b) (is_fetching r.role && nat_le r.committed (length log)) e in
-    let q = (and_parts (is_fetching r.role) (nat_le r.committed (length log)) p.1).0 in
-    let s = same_state (on_state-takes O r b log e) f in
-    let t : Installing ≡ r.role = ap (λ (z : ReplicaState S C). z.role) s in
-    let u : is_fetching Installing ≡ true = ap is_fetching t ∙ q in cc
-
-installed : {S C P : Type 0} (O : Type 0) (r : ReplicaState S C) (from b : ℕ) (log : List C) → is_heeded r from (Install b log) ≡ true →
-    on_install O r from b log ≡ nothing_done O r → P
-installed {S = S} {C = C} {P = P} O r from b log e f =
-    by_case (cases_Bool ((nat_lt r.joined b || (r.joined == b && nat_lt r.held_in b)) && nat_le r.committed (length log)))
+-- a snapshot that has to be read either stands for a machine or is none that was read
+pub read_or_none : {S C O : Type 0} (rules : Rules S C O) (r : ReplicaState S C) (log : Log C) →
+    ((took : ReplicaState S C) × (taken rules r log ≡ Some took) × (reads_none rules r log ≡ false))
+    ⊎ ((taken rules r log ≡ None) × (reads_none rules r log ≡ true))
+read_or_none {S = S} {C = C} rules r log = by_base (cases_lt r.log.base log.base)
   where
-    by_case : (((nat_lt r.joined b || (r.joined == b && nat_lt r.held_in b)) && nat_le r.committed (length log)) ≡ true)
-        ⊎ (((nat_lt r.joined b || (r.joined == b && nat_lt r.held_in b)) && nat_le r.committed (length log)) ≡ false) → P
-    by_case (inl on) = sends_something _ r _ _ _ (on_install-takes O r from b log on) f
+    by_snapshot : r.log.base < log.base → (o : Option S) → rules.thawed log.snapshot ≡ o →
+        ((took : ReplicaState S C) × (taken rules r log ≡ Some took) × (reads_none rules r log ≡ false))
+        ⊎ ((taken rules r log ≡ None) × (reads_none rules r log ≡ true))
+    by_snapshot over None e = inr (taken-none rules r log over e, reads_none-is rules r log over e)
+    by_snapshot over (Some machine) e =
+        inl (with_snapshot r log machine, taken-reads rules r log machine over e, reads_none-not rules r log machine e)
+
+    by_base : (r.log.base < log.base) ⊎ (log.base ≤ r.log.base) →
+        ((took : ReplicaState S C) × (taken rules r log ≡ Some took) × (reads_none rules r log ≡ false))
+        ⊎ ((taken rules r log ≡ None) × (reads_none rules r log ≡ true))
+    by_base (inr low) = inl (with_places r log, taken-places rules r log low, reads_none-low rules r log low)
+    by_base (inl over) = by_snapshot over (rules.thawed log.snapshot) refl
+
+-- State, Install and Superseded
+took_log : {S C O P : Type 0} (rules : Rules S C O) (r : ReplicaState S C) (b : ℕ) (log : Log C) → waits_for r b (places log) ≡ true →
+    on_state rules r b log ≡ nothing_done O r → (waits_for r b (places log) && reads_none rules r log) ≡ false → P
+took_log {S = S} {C = C} {P = P} rules r b log e f unread = by_log (read_or_none rules r log)
+  where
+    by_log : ((took : ReplicaState S C) × (taken rules r log ≡ Some took) × (reads_none rules r log ≡ false))
+        ⊎ ((taken rules r log ≡ None) × (reads_none rules r log ≡ true)) → P
+    by_log (inr (none, is)) = let g = sym (ap₂ (λ x y. x && y) e is) ∙ unread in cc
+    by_log (inl (took, is, other)) =
+        let p = and_parts (r.joined == b) (is_fetching r.role && nat_le r.committed (places log)) e in
+        let q = (and_parts (is_fetching r.role) (nat_le r.committed (places log)) p.1).0 in
+        let s = same_state (on_state-takes rules r took b log e is) f in
+        let t : Installing ≡ r.role = ap (λ (z : ReplicaState S C). z.role) s in
+        let u : is_fetching Installing ≡ true = ap is_fetching t ∙ q in cc
+
+installed : {S C O P : Type 0} (rules : Rules S C O) (r : ReplicaState S C) (from b : ℕ) (log : Log C) → is_heeded r from (Install b log) ≡ true →
+    on_install rules r from b log ≡ nothing_done O r → (lacks r b (places log) && reads_none rules r log) ≡ false → P
+installed {S = S} {C = C} {P = P} rules r from b log e f unread = by_case (cases_Bool (lacks r b (places log)))
+  where
+    by_log : lacks r b (places log) ≡ true → ((took : ReplicaState S C) × (taken rules r log ≡ Some took) × (reads_none rules r log ≡ false))
+        ⊎ ((taken rules r log ≡ None) × (reads_none rules r log ≡ true)) → P
+    by_log on (inr (none, is)) = let g = sym (ap₂ (λ x y. x && y) on is) ∙ unread in cc
+    by_log on (inl (took, is, other)) = sends_something _ r _ _ _ (on_install-takes rules r took from b log on is) f
+
+    by_case : (lacks r b (places log) ≡ true) ⊎ (lacks r b (places log) ≡ false) → P
+    by_case (inl on) = by_log on (read_or_none rules r log)
     by_case (inr off) =
-        sends_something _ r _ _ _ (on_install-answers O r from b log off (sym (ap (λ t. t || (r.joined == b && r.held_in == b)) off) ∙ e)) f
+        sends_something _ r _ _ _ (on_install-answers rules r from b log off (sym (ap (λ t. t || (r.joined == b && r.held_in == b)) off) ∙ e)) f
 
 superseded : {S C P : Type 0} (O : Type 0) (r : ReplicaState S C) (b : ℕ) → (r.joined == b && is_installing r.role) ≡ true →
     on_superseded O r b ≡ nothing_done O r → P
@@ -222,10 +254,9 @@ pub unheeded : {S C O : Type 0} (rules : Rules S C O) (r : ReplicaState S C) (fr
     received rules r from body ≡ nothing_done O r
 unheeded {O = O} rules r from (NewBallot b members a old) e = on_new_ballot-stays O r b members a old (ltb-false r.joined b e)
 unheeded {O = O} rules r from (Join b a) e = on_join-stays O r from b a e
-unheeded {O = O} rules r from (State b log) e = on_state-stays O r b log e
-unheeded {O = O} rules r from (Install b log) e =
-    let p = or_parts ((nat_lt r.joined b || (r.joined == b && nat_lt r.held_in b)) && nat_le r.committed (length log)) (r.joined == b && r.held_in == b) e in
-    on_install-stays O r from b log p.0 p.1
+unheeded rules r from (State b log) e = on_state-stays rules r b log e
+unheeded rules r from (Install b log) e =
+    let p = or_parts (lacks r b (places log)) (r.joined == b && r.held_in == b) e in on_install-stays rules r from b log p.0 p.1
 unheeded {O = O} rules r from (Installed b held) e = on_installed-stays O r from b e
 unheeded {O = O} rules r from (Activate b) e = refl
 unheeded {O = O} rules r from (Activated b) e = on_activated-stays rules r b e
@@ -234,31 +265,52 @@ unheeded {O = O} rules r from (Append b place command) e = passed O r from b pla
 unheeded {O = O} rules r from (Held b held) e = knew rules r from b held e
 unheeded {O = O} rules r from (Commit b held) e = known rules r b held e
 
--- and one that is heeded does something
+-- and brings no snapshot that has to be read
+reads_nothing : {S C O : Type 0} (rules : Rules S C O) (r : ReplicaState S C) (from : ℕ) (body : Body C) → is_heeded r from body ≡ false →
+    is_unread rules r body ≡ false
+reads_nothing rules r from (NewBallot b members a old) e = refl
+reads_nothing rules r from (Join b a) e = refl
+reads_nothing rules r from (State b log) e = ap (λ t. t && reads_none rules r log) e
+reads_nothing rules r from (Install b log) e =
+    ap (λ t. t && reads_none rules r log) (or_parts (lacks r b (places log)) (r.joined == b && r.held_in == b) e).0
+reads_nothing rules r from (Installed b held) e = refl
+reads_nothing rules r from (Activate b) e = refl
+reads_nothing rules r from (Activated b) e = refl
+reads_nothing rules r from (Superseded b) e = refl
+reads_nothing rules r from (Append b place command) e = refl
+reads_nothing rules r from (Held b held) e = refl
+reads_nothing rules r from (Commit b held) e = refl
+
+-- and one that is heeded does something, unless its snapshot stands for no machine
 heeded : {S C O P : Type 0} (rules : Rules S C O) (r : ReplicaState S C) (from : ℕ) (body : Body C) → is_heeded r from body ≡ true →
-    received rules r from body ≡ nothing_done O r → P
-heeded {S = S} {C = C} {O = O} rules r from (NewBallot b members a old) e f =
+    received rules r from body ≡ nothing_done O r → is_unread rules r body ≡ false → P
+heeded {S = S} {C = C} {O = O} rules r from (NewBallot b members a old) e f read =
     let low = ltb-true r.joined b e in
     let s = same_state (on_new_ballot-joins O r b members a old low) f in
     let c : b ≡ r.joined = ap (λ (z : ReplicaState S C). z.joined) s in absurd (omega (arith, c, low))
-heeded {O = O} rules r from (Join b a) e f = sends_something _ r _ _ _ (on_join-answers O r from b a e) f
-heeded {O = O} rules r from (State b log) e f = took_log O r b log e f
-heeded {O = O} rules r from (Install b log) e f = installed O r from b log e f
-heeded {O = O} rules r from (Installed b held) e f = counts_on O r from b e f
-heeded rules r from (Activate b) e f = cc
-heeded rules r from (Activated b) e f = begins rules r b e f
-heeded {O = O} rules r from (Superseded b) e f = superseded O r b e f
-heeded {O = O} rules r from (Append b place command) e f = taken O r from b place command e f
-heeded rules r from (Held b held) e f = learned rules r from b held e f
-heeded rules r from (Commit b held) e f = applied rules r b held e f
+heeded {O = O} rules r from (Join b a) e f read = sends_something _ r _ _ _ (on_join-answers O r from b a e) f
+heeded rules r from (State b log) e f read = took_log rules r b log e f read
+heeded rules r from (Install b log) e f read = installed rules r from b log e f read
+heeded {O = O} rules r from (Installed b held) e f read = counts_on O r from b e f
+heeded rules r from (Activate b) e f read = cc
+heeded rules r from (Activated b) e f read = begins rules r b e f
+heeded {O = O} rules r from (Superseded b) e f read = superseded O r b e f
+heeded {O = O} rules r from (Append b place command) e f read = taken_in O r from b place command e f
+heeded rules r from (Held b held) e f read = learned rules r from b held e f
+heeded rules r from (Commit b held) e f read = applied rules r b held e f
 
 pub heeds_exactly : {S C O : Type 0} (rules : Rules S C O) (r : ReplicaState S C) (from : ℕ) (body : Body C) (heeds : Bool) → heeds ≡ is_heeded r from body →
-    (heeds ≡ false → received rules r from body ≡ nothing_done O r) × (received rules r from body ≡ nothing_done O r → heeds ≡ false)
-heeds_exactly {O = O} rules r from body heeds is = (λ e. unheeded rules r from body (sym is ∙ e), λ f. by_test f (cases_Bool (is_heeded r from body)))
+    (heeds ≡ false → (received rules r from body ≡ nothing_done O r) × (is_unread rules r body ≡ false))
+    × ((received rules r from body ≡ nothing_done O r) × (is_unread rules r body ≡ false) → heeds ≡ false)
+heeds_exactly {O = O} rules r from body heeds is = (
+  λ e. (unheeded rules r from body (sym is ∙ e), reads_nothing rules r from body (sym is ∙ e)),
+  λ f. by_test f.0 f.1 (cases_Bool (is_heeded r from body)),
+)
   where
-    by_test : received rules r from body ≡ nothing_done O r → (is_heeded r from body ≡ true) ⊎ (is_heeded r from body ≡ false) → heeds ≡ false
-    by_test f (inl e) = heeded rules r from body e f
-    by_test f (inr e) = is ∙ e
+    by_test : received rules r from body ≡ nothing_done O r → is_unread rules r body ≡ false →
+        (is_heeded r from body ≡ true) ⊎ (is_heeded r from body ≡ false) → heeds ≡ false
+    by_test f read (inl e) = heeded rules r from body e f read
+    by_test f read (inr e) = is ∙ e
 
 -- an active primary that follows a member tells it what is committed
 told_some : {S C : Type 0} {P : Type 0} (O : Type 0) (r : ReplicaState S C) (p : Progress) (progress : List Progress) → r.progress ≡ p ∷ progress →

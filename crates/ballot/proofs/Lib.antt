@@ -5,6 +5,7 @@ pub mod Heeding
 pub mod MessagesTaken
 pub mod PlacesApplied
 pub mod ProposalAnswered
+pub mod ReplicaOpens
 pub mod TicksTaken
 pub use Rattle.ballot_base.proofs.AppliesInOrder
 pub use Rattle.ballot_base.proofs.ChangeRows

@@ -1,12 +1,14 @@
 -- MessagesTaken.antt: what a replica does with a message or a tick is the row of the protocol.
-use Rattle.std.proofs.Common.{◌≡◌, ℕ, ◌<◌, ◌≤◌, Bool, true, false, cond, ◌⊎◌, inl, inr, List, [], ◌∷◌, ◌++◌, length, max, take, drop, refl, ap, sym, ◌∙◌, subst, arith}
-use Rattle.std.proofs.lemmas.List.{append-nil, length-append, take_at}
+use Rattle.std.proofs.Common.{◌≡◌, ℕ, ◌-◌, ◌<◌, ◌≤◌, Bool, true, false, cond, ◌⊎◌, inl, inr, List, [], ◌∷◌, ◌++◌, length, max, take, drop, refl, ap, sym, ◌∙◌, subst, arith}
+use Rattle.std.proofs.lemmas.List.{append-nil, take_at}
 use Rattle.std.proofs.lemmas.Bool.{eq-eqb}
 use Rattle.machine.specs.Machine.{Rules, replay_from}
 use Rattle.ballot_base.specs.declared.message.Body.TheVariants.{Held}
 use Rattle.ballot_base.specs.declared.message.Effect.{Effect}
 use Rattle.ballot_base.specs.declared.status.Progress.{Progress}
 use Rattle.ballot_base.specs.Replica.{ReplicaState, CountedReplica}
+use Rattle.ballot_base.specs.Logs.{Log, part, places, pushed}
+use Rattle.ballot_base.proofs.LongerLogs.{places_pushed}
 use Rattle.ballot_base.specs.Losses.{Stepped, Steps, Loses, IsQuiet, halted, one_more}
 use Rattle.ballot_base.specs.Sending.{Outcome, nothing_done, message_to}
 use Rattle.ballot_base.specs.Applying.{applied_to}
@@ -15,37 +17,37 @@ use Rattle.ballot_base.proofs.AppliesInOrder.{part_none}
 use Rattle.ballot_base.proofs.StepRows.{commit_at-goes}
 use Rattle.ballot_base.proofs.MessageRows.{commit_at-raised, progress_raised, on_append-takes, on_held-raises, on_commit-takes}
 use Rattle.ballot_base.specs.Sends.{Sends}
-use Rattle.ballot.specs.Inside.{Went}
+use Rattle.ballot.specs.Inside.{Heard, Went}
 use Rattle.lists.specs.Lists.{IsPrefixOf}
 
 -- such a step is one with losses that was counted
-pub went_stepped : {S C O : Type 0} {rules : Rules S C O} {old : CountedReplica S C} {o : Outcome S C O} {new : CountedReplica S C} {before behind : List (Effect C O)} →
-    Went rules old o new before behind → Stepped rules old o new before behind
-went_stepped {rules = rules} {old = old} {o = o} {new = new} w =
+pub went_stepped : {S C O : Type 0} {rules : Rules S C O} {old : CountedReplica S C} {o : Outcome S C O} {unread : Bool} {new : CountedReplica S C} {before behind : List (Effect C O)} →
+    Heard rules old o unread new before behind → Stepped rules old o new before behind
+went_stepped {rules = rules} {old = old} {o = o} {unread = unread} {new = new} w =
     record { given = w.given; appended = w.appended; steps = by_way w.way }
   where
     by_way : ((new.state ≡ o.state) × (w.given ≡ o.effects) × (new.losses ≡ old.losses))
-        ⊎ (Loses rules old.state o new.state w.given × (new.losses ≡ one_more old.losses) × (IsQuiet old.state o → ⊥)) →
+        ⊎ (Loses rules old.state o new.state w.given × (new.losses ≡ one_more old.losses) × (IsQuiet old.state o → unread ≡ true)) →
         Steps rules old o new w.given
     by_way (inl e) = inl e
     by_way (inr e) = inr (e.0, e.1)
 
--- a quiet step is done exactly
-pub went_quiet : {S C O : Type 0} {rules : Rules S C O} {old : CountedReplica S C} {o : Outcome S C O} {new : CountedReplica S C} {before behind : List (Effect C O)} →
-    Went rules old o new before behind → IsQuiet old.state o → new ≡ record { state = o.state; losses = old.losses }
-went_quiet {S = S} {C = C} {rules = rules} {old = old} {o = o} {new = new} w quiet = by_way w.way
+-- a quiet step is done exactly, where no snapshot has to be read
+pub went_quiet : {S C O : Type 0} {rules : Rules S C O} {old : CountedReplica S C} {o : Outcome S C O} {unread : Bool} {new : CountedReplica S C} {before behind : List (Effect C O)} →
+    Heard rules old o unread new before behind → IsQuiet old.state o → unread ≡ false → new ≡ record { state = o.state; losses = old.losses }
+went_quiet {S = S} {C = C} {rules = rules} {old = old} {o = o} {unread = unread} {new = new} w quiet read = by_way w.way
   where
     by_way : ((new.state ≡ o.state) × (w.given ≡ o.effects) × (new.losses ≡ old.losses))
-        ⊎ (Loses rules old.state o new.state w.given × (new.losses ≡ one_more old.losses) × (IsQuiet old.state o → ⊥)) →
+        ⊎ (Loses rules old.state o new.state w.given × (new.losses ≡ one_more old.losses) × (IsQuiet old.state o → unread ≡ true)) →
         new ≡ record { state = o.state; losses = old.losses }
     by_way (inl e) =
         ap (λ s. let z : CountedReplica S C = record { state = s; losses = new.losses } in z) e.0
         ∙ ap (λ n. let z : CountedReplica S C = record { state = o.state; losses = n } in z) e.2
-    by_way (inr e) = absurd (e.2 quiet)
+    by_way (inr e) = let f = e.2 quiet in cc
 
 -- the row changes nothing, and nothing was done
-pub went_same : {S C O : Type 0} {rules : Rules S C O} (old : CountedReplica S C) (o : Outcome S C O) (out : List (Effect C O)) →
-    o ≡ nothing_done O old.state → Went rules old o old out out
+pub went_same : {S C O : Type 0} {rules : Rules S C O} {unread : Bool} (old : CountedReplica S C) (o : Outcome S C O) (out : List (Effect C O)) →
+    o ≡ nothing_done O old.state → Heard rules old o unread old out out
 went_same {S = S} {C = C} {O = O} {rules = rules} old o out e =
     record {
       given = [];
@@ -54,10 +56,10 @@ went_same {S = S} {C = C} {O = O} {rules = rules} old o out e =
     }
 
 -- the row was done, but for messages that were lost
-pub went_sent : {S C O : Type 0} {rules : Rules S C O} (old : CountedReplica S C) (o : Outcome S C O) (new : CountedReplica S C) (before behind : List (Effect C O))
+pub went_sent : {S C O : Type 0} {rules : Rules S C O} {unread : Bool} (old : CountedReplica S C) (o : Outcome S C O) (new : CountedReplica S C) (before behind : List (Effect C O))
     (whole : Bool) → Sends before behind o.effects whole → new.state ≡ o.state →
-    new.losses ≡ cond whole old.losses (one_more old.losses) → Went rules old o new before behind
-went_sent {S = S} {C = C} {O = O} {rules = rules} old o new before behind whole sent state losses =
+    new.losses ≡ cond whole old.losses (one_more old.losses) → Heard rules old o unread new before behind
+went_sent {S = S} {C = C} {O = O} {rules = rules} {unread = unread} old o new before behind whole sent state losses =
     record {
       given = sent.given;
       appended = sent.appended;
@@ -67,30 +69,35 @@ went_sent {S = S} {C = C} {O = O} {rules = rules} old o new before behind whole 
     by_whole : (whole : Bool) → (whole ≡ true → sent.given ≡ o.effects) → (o.effects ≡ [] → whole ≡ true) →
         new.losses ≡ cond whole old.losses (one_more old.losses) →
         ((new.state ≡ o.state) × (sent.given ≡ o.effects) × (new.losses ≡ old.losses))
-        ⊎ (Loses rules old.state o new.state sent.given × (new.losses ≡ one_more old.losses) × (IsQuiet old.state o → ⊥))
+        ⊎ (Loses rules old.state o new.state sent.given × (new.losses ≡ one_more old.losses) × (IsQuiet old.state o → unread ≡ true))
     by_whole true exact idle e = inl (state, exact refl, e)
     by_whole false exact idle e = inr (inl (state, sent.thinned), e, λ quiet. let h = idle quiet.nothing_sent in cc)
 
--- nothing was done, for want of memory
-pub went_ignored : {S C O : Type 0} {rules : Rules S C O} (old : CountedReplica S C) (o : Outcome S C O) (new : CountedReplica S C) (before behind : List (Effect C O)) →
-    new.state ≡ old.state → new.losses ≡ one_more old.losses → behind ≡ before → (IsQuiet old.state o → ⊥) →
-    Went rules old o new before behind
-went_ignored old o new before behind state losses same busy =
+-- nothing was done: there was no memory, or a snapshot stands for no machine
+pub went_lost : {S C O : Type 0} {rules : Rules S C O} {unread : Bool} (old : CountedReplica S C) (o : Outcome S C O) (new : CountedReplica S C) (before behind : List (Effect C O)) →
+    new.state ≡ old.state → new.losses ≡ one_more old.losses → behind ≡ before → (IsQuiet old.state o → unread ≡ true) →
+    Heard rules old o unread new before behind
+went_lost old o new before behind state losses same busy =
     record {
       given = [];
       appended = same ∙ sym (append-nil before);
       way = inr (inr (inl (state, refl)), losses, busy);
     }
 
+pub went_ignored : {S C O : Type 0} {rules : Rules S C O} {unread : Bool} (old : CountedReplica S C) (o : Outcome S C O) (new : CountedReplica S C) (before behind : List (Effect C O)) →
+    new.state ≡ old.state → new.losses ≡ one_more old.losses → behind ≡ before → (IsQuiet old.state o → ⊥) →
+    Heard rules old o unread new before behind
+went_ignored old o new before behind state losses same busy = went_lost old o new before behind state losses same (λ quiet. absurd (busy quiet))
+
 -- the replica stopped, for want of memory
-pub went_halted : {S C O : Type 0} {rules : Rules S C O} (old : CountedReplica S C) (o : Outcome S C O) (new : CountedReplica S C) (before behind : List (Effect C O)) →
+pub went_halted : {S C O : Type 0} {rules : Rules S C O} {unread : Bool} (old : CountedReplica S C) (o : Outcome S C O) (new : CountedReplica S C) (before behind : List (Effect C O)) →
     new.state ≡ halted rules old.state → new.losses ≡ one_more old.losses → behind ≡ before → (IsQuiet old.state o → ⊥) →
-    Went rules old o new before behind
+    Heard rules old o unread new before behind
 went_halted old o new before behind state losses same busy =
     record {
       given = [];
       appended = same ∙ sym (append-nil before);
-      way = inr (inr (inr (state, refl)), losses, busy);
+      way = inr (inr (inr (state, refl)), losses, λ quiet. absurd (busy quiet));
     }
 
 -- where nothing was handed out, nothing was
@@ -100,48 +107,48 @@ went_silent out w =
     record { given = w.given; appended = sym (ap (λ xs. out ++ xs) (sym w.appended) ∙ append-nil out); way = w.way }
 
 -- a log that takes a command is another log
-longer : {X : Type 0} (xs ys : List X) (x : X) → ys ≡ xs ++ x ∷ [] → ys ≡ xs → ⊥
-longer xs ys x e f =
-    let n : length xs ≡ length (xs ++ x ∷ []) = ap length (sym f ∙ e) in omega (arith, n, length-append xs (x ∷ []))
+longer : {C : Type 0} (log other : Log C) (c : C) → other ≡ pushed log c → other ≡ log → ⊥
+longer log other c e f =
+    let n : places log ≡ places (pushed log c) = ap places (sym f ∙ e) in omega (arith, n, places_pushed log c)
 
 -- Append that is answered
-pub append_taken : {S C : Type 0} (O : Type 0) {rules : Rules S C O} (old new : CountedReplica S C) (from ballot place : ℕ) (command : C) (log : List C)
+pub append_taken : {S C : Type 0} (O : Type 0) {rules : Rules S C O} (old new : CountedReplica S C) (from ballot place : ℕ) (command : C) (log : Log C)
     (long : ℕ) (before behind : List (Effect C O)) (sent : Bool) →
-    follows old.state ballot ≡ true → place ≤ length old.state.log → log ≡ extended place command old.state.log →
-    long ≡ length log → Sends before behind (message_to O old.state.id (Held ballot long) from ∷ []) sent →
+    follows old.state ballot ≡ true → place ≤ places old.state.log → log ≡ extended place command old.state.log →
+    long ≡ places log → Sends before behind (message_to O old.state.id (Held ballot long) from ∷ []) sent →
     new.state ≡ record old.state { log = log } → new.losses ≡ cond sent old.losses (one_more old.losses) →
     Went rules old (on_append O old.state from ballot place command) new before behind
 append_taken {S = S} {C = C} O {rules = rules} old new from ballot place command log long before behind sent follower within e n sends state losses =
     let row = on_append-takes O old.state from ballot place command follower within in
     subst (λ (o : Outcome S C O). Went rules old o new before behind) (sym row)
     (went_sent old _ new before behind sent
-    (subst (λ k. Sends before behind (message_to O old.state.id (Held ballot k) from ∷ []) sent) (n ∙ ap length e) sends)
+    (subst (λ k. Sends before behind (message_to O old.state.id (Held ballot k) from ∷ []) sent) (n ∙ ap places e) sends)
     (state ∙ ap (λ xs. let r : ReplicaState S C = record old.state { log = xs } in r) e) losses)
 
 -- Append whose command found no memory
 pub append_lost : {S C : Type 0} (O : Type 0) {rules : Rules S C O} (old new : CountedReplica S C) (from ballot place : ℕ) (command : C)
     (before : List (Effect C O)) →
-    follows old.state ballot ≡ true → place ≡ length old.state.log →
+    follows old.state ballot ≡ true → place ≡ places old.state.log →
     new.state ≡ old.state → new.losses ≡ one_more old.losses →
     Went rules old (on_append O old.state from ballot place command) new before before
 append_lost {S = S} {C = C} O {rules = rules} old new from ballot place command before follower next state losses =
     let row = on_append-takes O old.state from ballot place command follower (omega (arith, next)) in
-    let added : extended place command old.state.log ≡ old.state.log ++ command ∷ [] = rw (eq-eqb place (length old.state.log) next) refl in
+    let added : extended place command old.state.log ≡ pushed old.state.log command = rw (eq-eqb place (places old.state.log) next) refl in
     subst (λ (o : Outcome S C O). Went rules old o new before before) (sym row)
     (went_ignored old _ new before before state losses refl (λ quiet. longer old.state.log _ command added quiet.same_log))
 
 -- Held that raises a progress, and commits what all hold then
 pub held_taken : {S C O : Type 0} (rules : Rules S C O) (old after new : CountedReplica S C) (from ballot held n : ℕ)
     (progress progress' : List Progress) (long : ℕ) (before behind : List (Effect C O)) (told : Bool) →
-    leads old.state ballot ≡ true → progress ≡ old.state.progress → long ≡ length old.state.log → n ≡ least long (raised from held progress) →
+    leads old.state ballot ≡ true → progress ≡ old.state.progress → long ≡ places old.state.log → n ≡ least long (raised from held progress) →
     after ≡ record { state = (commit_at rules old.state n).state; losses = old.losses } →
     Sends before behind (commit_at rules old.state n).effects told →
     progress' ≡ raised from held after.state.progress →
     new.state ≡ record after.state { progress = progress' } → new.losses ≡ cond told after.losses (one_more after.losses) →
     Went rules old (on_held rules old.state from ballot held) new before behind
 held_taken {S = S} {C = C} {O = O} rules old after new from ballot held n progress progress' long before behind told leader m l h a sends m' state losses =
-    let n' : n ≡ least (length old.state.log) (raised from held old.state.progress) =
-    h ∙ ap (λ k. least k (raised from held progress)) l ∙ ap (λ xs. least (length old.state.log) (raised from held xs)) m in
+    let n' : n ≡ least (places old.state.log) (raised from held old.state.progress) =
+    h ∙ ap (λ k. least k (raised from held progress)) l ∙ ap (λ xs. least (places old.state.log) (raised from held xs)) m in
     let row : on_held rules old.state from ballot held ≡ progress_raised from held (commit_at rules old.state n) =
     on_held-raises rules old.state from ballot held leader
     ∙ ap (commit_at rules (record old.state { progress = raised from held old.state.progress })) (sym n')
@@ -156,13 +163,13 @@ held_taken {S = S} {C = C} {O = O} rules old after new from ballot held n progre
 -- Held whose places found no memory when they were applied
 pub held_halted : {S C O : Type 0} (rules : Rules S C O) (old after new : CountedReplica S C) (from ballot held n : ℕ)
     (progress : List Progress) (long : ℕ) (before behind : List (Effect C O)) →
-    leads old.state ballot ≡ true → progress ≡ old.state.progress → long ≡ length old.state.log → n ≡ least long (raised from held progress) →
+    leads old.state ballot ≡ true → progress ≡ old.state.progress → long ≡ places old.state.log → n ≡ least long (raised from held progress) →
     old.state.committed < n → after ≡ record { state = halted rules old.state; losses = old.losses } →
     new.state ≡ after.state → new.losses ≡ one_more after.losses → behind ≡ before →
     Went rules old (on_held rules old.state from ballot held) new before behind
 held_halted {S = S} {C = C} {O = O} rules old after new from ballot held n progress long before behind leader m l h above a state losses same =
-    let n' : n ≡ least (length old.state.log) (raised from held old.state.progress) =
-    h ∙ ap (λ k. least k (raised from held progress)) l ∙ ap (λ xs. least (length old.state.log) (raised from held xs)) m in
+    let n' : n ≡ least (places old.state.log) (raised from held old.state.progress) =
+    h ∙ ap (λ k. least k (raised from held progress)) l ∙ ap (λ xs. least (places old.state.log) (raised from held xs)) m in
     let row : on_held rules old.state from ballot held ≡ progress_raised from held (commit_at rules old.state n) =
     on_held-raises rules old.state from ballot held leader
     ∙ ap (commit_at rules (record old.state { progress = raised from held old.state.progress })) (sym n')
@@ -177,7 +184,7 @@ held_halted {S = S} {C = C} {O = O} rules old after new from ballot held n progr
 
 -- Commit of what is applied already
 pub commit_known : {S C O : Type 0} (rules : Rules S C O) (r : ReplicaState S C) (ballot held : ℕ) →
-    follows r ballot ≡ true → held ≤ length r.log → held ≤ r.committed →
+    follows r ballot ≡ true → held ≤ places r.log → held ≤ r.committed →
     on_commit rules r ballot held ≡ nothing_done O r
 commit_known {S = S} {C = C} {O = O} rules r ballot held follower within known =
     let e : max r.committed held ≡ r.committed = omega arith in
@@ -186,13 +193,13 @@ commit_known {S = S} {C = C} {O = O} rules r ballot held follower within known =
     ∙ ap (λ xs. let o : Outcome S C O = record {
       state = record r { machine = replay_from rules r.machine xs };
       effects = [];
-    } in o) (part_none r.log r.committed)
+    } in o) (part_none r.log.rest (r.committed - r.log.base))
 
 -- Commit that is applied
 pub commit_taken : {S C O : Type 0} (rules : Rules S C O) (old new : CountedReplica S C) (ballot held : ℕ) (machine : S) →
-    follows old.state ballot ≡ true → held ≤ length old.state.log → old.state.committed < held →
+    follows old.state ballot ≡ true → held ≤ places old.state.log → old.state.committed < held →
     new.state ≡ record old.state { committed = held; machine = machine } →
-    machine ≡ replay_from rules old.state.machine (drop old.state.committed (take held old.state.log)) → new.losses ≡ old.losses →
+    machine ≡ replay_from rules old.state.machine (part old.state.log old.state.committed held) → new.losses ≡ old.losses →
     Went rules old (on_commit rules old.state ballot held) new [] []
 commit_taken {S = S} {C = C} {O = O} rules old new ballot held machine follower within above state done losses =
     let e : held ≡ max old.state.committed held = omega arith in
@@ -211,7 +218,7 @@ commit_taken {S = S} {C = C} {O = O} rules old new ballot held machine follower 
 
 -- Commit whose places found no memory when they were applied
 pub commit_halted : {S C O : Type 0} (rules : Rules S C O) (old new : CountedReplica S C) (ballot held : ℕ) →
-    follows old.state ballot ≡ true → held ≤ length old.state.log → old.state.committed < held →
+    follows old.state ballot ≡ true → held ≤ places old.state.log → old.state.committed < held →
     new.state ≡ halted rules old.state → new.losses ≡ one_more old.losses →
     Went rules old (on_commit rules old.state ballot held) new [] []
 commit_halted {S = S} {C = C} {O = O} rules old new ballot held follower within above state losses =

@@ -1,8 +1,9 @@
 -- PlacesApplied.antt: one place more is applied, and its outputs are given.
-use Rattle.std.proofs.Common.{◌≡◌, ℕ, ◌+◌, ◌<◌, ◌≤◌, Bool, true, false, cond, refl, List, [], ◌++◌, length, get_or, map, take, drop, Result, Ok, Err, OnErr, ap, sym, ◌∙◌, append_assoc}
+use Rattle.std.proofs.Common.{◌≡◌, ℕ, ◌+◌, ◌-◌, ◌<◌, ◌≤◌, Bool, true, false, cond, refl, List, [], ◌++◌, get_or, map, Result, Ok, Err, OnErr, ap, ap₂, sym, ◌∙◌, append_assoc}
 use Rattle.machine.specs.Machine.{Rules, replay_from}
 use Rattle.ballot_base.specs.declared.message.Effect.{Effect}
 use Rattle.ballot_base.specs.declared.message.Effect.TheVariants.{Out}
+use Rattle.ballot_base.specs.Logs.{Log, part, places}
 use Rattle.ballot_base.specs.Applying.{outputs_from}
 use Rattle.ballot_base.proofs.AppliesInOrder.{replay_part-more, outputs_part-more}
 
@@ -11,32 +12,39 @@ pub on_err_any : {T E : Type 0} {P : Type 0} (r : Result T E) → P → OnErr r 
 on_err_any (Ok x) p = tt
 on_err_any (Err e) p = p
 
+-- a command that was read at its place of the rest
+read_kept : {C : Type 0} (log : Log C) (place base : ℕ) (rest : List C) (x : C) → base ≡ log.base → rest ≡ log.rest →
+    x ≡ get_or rest (place - base) x → x ≡ get_or log.rest (place - log.base) x
+read_kept log place base rest x b r read = read ∙ ap₂ (λ us k. get_or us (place - k) x) r b
+
 -- the machine has done one place more
-pub place_applied : {S C O : Type 0} (rules : Rules S C O) (s0 : S) (log : List C) (from place : ℕ) (x : C) (s s' : S) →
-    from ≤ place → place < length log → x ≡ get_or log place x → s ≡ replay_from rules s0 (drop from (take place log)) →
-    s' ≡ rules.after s x → s' ≡ replay_from rules s0 (drop from (take (place + 1) log))
-place_applied rules s0 log from place x s s' rising below read before done =
+pub place_applied : {S C O : Type 0} (rules : Rules S C O) (s0 : S) (log : Log C) (from place base : ℕ) (rest : List C) (x : C) (s s' : S) →
+    log.base ≤ from → from ≤ place → place < places log → base ≡ log.base → rest ≡ log.rest → x ≡ get_or rest (place - base) x →
+    s ≡ replay_from rules s0 (part log from place) →
+    s' ≡ rules.after s x → s' ≡ replay_from rules s0 (part log from (place + 1))
+place_applied rules s0 log from place base rest x s s' kept rising below b r read before done =
     done ∙ ap (λ t. rules.after t x) before
-    ∙ ap (rules.after (replay_from rules s0 (drop from (take place log)))) read
-    ∙ sym (replay_part-more rules s0 log from place x rising below)
+    ∙ ap (rules.after (replay_from rules s0 (part log from place))) (read_kept log place base rest x b r read)
+    ∙ sym (replay_part-more rules s0 log from place x kept rising below)
 
 -- its outputs stand behind those of the places before
-pub place_given : {S C O : Type 0} (rules : Rules S C O) (s0 : S) (log : List C) (from place : ℕ) (x : C) (s : S)
+pub place_given : {S C O : Type 0} (rules : Rules S C O) (s0 : S) (log : Log C) (from place base : ℕ) (rest : List C) (x : C) (s : S)
     (given none : List O) (start mid new : List (Effect C O)) →
-    from ≤ place → place < length log → x ≡ get_or log place x → s ≡ replay_from rules s0 (drop from (take place log)) →
+    log.base ≤ from → from ≤ place → place < places log → base ≡ log.base → rest ≡ log.rest → x ≡ get_or rest (place - base) x →
+    s ≡ replay_from rules s0 (part log from place) →
     none ≡ [] → given ≡ none ++ rules.gives s x →
-    mid ≡ start ++ outputs_from rules s0 from (drop from (take place log)) → new ≡ mid ++ map (Out place) given →
-    new ≡ start ++ outputs_from rules s0 from (drop from (take (place + 1) log))
-place_given {C = C} rules s0 log from place x s given none start mid new rising below read before empty gave said put =
-    let part = drop from (take place log) in
-    let output : given ≡ rules.gives (replay_from rules s0 part) (get_or log place x) =
+    mid ≡ start ++ outputs_from rules s0 from (part log from place) → new ≡ mid ++ map (Out place) given →
+    new ≡ start ++ outputs_from rules s0 from (part log from (place + 1))
+place_given {C = C} rules s0 log from place base rest x s given none start mid new kept rising below b r read before empty gave said put =
+    let earlier = part log from place in
+    let output : given ≡ rules.gives (replay_from rules s0 earlier) (get_or log.rest (place - log.base) x) =
     gave ∙ ap (λ xs. xs ++ rules.gives s x) empty
     ∙ ap (λ t. rules.gives t x) before
-    ∙ ap (rules.gives (replay_from rules s0 part)) read in
+    ∙ ap (rules.gives (replay_from rules s0 earlier)) (read_kept log place base rest x b r read) in
     put ∙ ap (λ xs. xs ++ map (Out place) given) said
-    ∙ ap (λ ys. (start ++ outputs_from rules s0 from part) ++ map (Out place) ys) output
-    ∙ append_assoc start (outputs_from rules s0 from part) _
-    ∙ ap (λ (zs : List (Effect C _)). start ++ zs) (sym (outputs_part-more rules s0 log from place x rising below))
+    ∙ ap (λ ys. (start ++ outputs_from rules s0 from earlier) ++ map (Out place) ys) output
+    ∙ append_assoc start (outputs_from rules s0 from earlier) _
+    ∙ ap (λ (zs : List (Effect C _)). start ++ zs) (sym (outputs_part-more rules s0 log from place x kept rising below))
 
 -- what a replica that runs shows is its machine
 pub shown : {S : Type 0} (stopped : Bool) (opens machine : S) → stopped ≡ false → machine ≡ cond stopped opens machine

@@ -1,10 +1,11 @@
 -- ProposalAnswered.antt: what each answer of a proposal says of the step that was done.
-use Rattle.std.proofs.Common.{◌≡◌, true, false, ◌⊎◌, inl, inr, List, [], Result, Ok, Err, OnErr, length, ◌<◌, refl, ap, sym, subst, ◌∙◌}
+use Rattle.std.proofs.Common.{◌≡◌, true, false, ◌⊎◌, inl, inr, List, [], Result, Ok, Err, OnErr, ◌<◌, refl, ap, sym, subst, ◌∙◌}
 use Rattle.std.specs.Result.{MatchResult, IsErrOf}
 use Rattle.std.proofs.lemmas.List.{append-nil}
 use Rattle.ballot_base.specs.declared.message.Effect.{Effect}
 use Rattle.machine.specs.Machine.{Rules}
 use Rattle.ballot_base.specs.Replica.{ReplicaState, CountedReplica, is_active}
+use Rattle.ballot_base.specs.Logs.{places}
 use Rattle.ballot_base.specs.Losses.{Done, Stepped, Steps, one_more}
 use Rattle.ballot_base.specs.Sending.{Outcome, nothing_done}
 use Rattle.ballot_base.specs.Serving.{added, most_places, proposed}
@@ -62,7 +63,7 @@ answered_steps {S = S} {C = C} (Err Halted) {old = old} {new = new} {before = be
 -- an active primary with room adds what is proposed
 pub answered_proposed : {S C O T : Type 0} (rules : Rules S C O) (old : CountedReplica S C) (command : C)
     (result : Result T ProposeError) (new : CountedReplica S C) (before behind : List (Effect C O)) →
-    is_active old.state.role ≡ true → length old.state.log < most_places →
+    is_active old.state.role ≡ true → places old.state.log < most_places →
     MatchResult result (λ _. Done old (added rules old.state command) new before behind) (λ e. Lacks rules e old new) →
     OnErr result (behind ≡ before) → Stepped rules old (proposed rules old.state command) new before behind
 answered_proposed {S = S} {C = C} {O = O} rules old command result new before behind active room d same =

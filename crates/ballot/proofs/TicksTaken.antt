@@ -7,6 +7,7 @@ use Rattle.ballot_base.specs.declared.status.Progress.{Progress}
 use Rattle.ballot_base.specs.declared.status.Role.{Role}
 use Rattle.ballot_base.specs.declared.status.Role.TheVariants.{Backup, Fetching, Installing, Active}
 use Rattle.ballot_base.specs.Replica.{ReplicaState, CountedReplica}
+use Rattle.ballot_base.specs.Logs.{Log}
 use Rattle.ballot_base.specs.Losses.{IsQuiet, one_more}
 use Rattle.ballot_base.specs.Sending.{Outcome, message_to_followed}
 use Rattle.ballot_base.specs.Serving.{appends_behind}
@@ -38,11 +39,11 @@ pub tick_quiet : {S C O : Type 0} (rules : Rules S C O) (old new : CountedReplic
     Went rules old (replica_step rules old.state Ticks) new before behind →
     IsQuiet old.state (replica_step rules old.state Ticks) → new ≡ old
 tick_quiet {S = S} {C = C} {O = O} rules old new before behind went quiet =
-    went_quiet went quiet
+    went_quiet went quiet refl
     ∙ ap (λ s. let z : CountedReplica S C = record { state = s; losses = old.losses } in z) (ticked-state O old.state old.state.role)
 
 -- what an active primary says again is said in two sends
-pub told : {C : Type 0} (O : Type 0) (id joined committed : ℕ) (log log' : List C) (progress progress' shown : List Progress)
+pub told : {C : Type 0} (O : Type 0) (id joined committed : ℕ) (log log' : Log C) (progress progress' shown : List Progress)
     (before mid behind : List (Effect C O)) (first second : Bool) →
     log' ≡ log → progress ≡ shown → progress' ≡ shown →
     Sends before mid (appends_behind O id joined log' progress) first →

@@ -6,7 +6,9 @@ use Rattle.ballot_base.specs.declared.message.Body.TheVariants.{NewBallot, Join,
 use Rattle.ballot_base.specs.declared.status.Progress.{Progress}
 use Rattle.ballot_base.specs.declared.status.Role.{Role}
 use Rattle.ballot_base.specs.declared.status.Role.TheVariants.{Backup, Fetching, Installing, Active}
-use Rattle.ballot_base.specs.Replica.{ReplicaState, is_fetching, is_installing}
+use Rattle.ballot_base.specs.Changing.{waits_for, lacks}
+use Rattle.ballot_base.specs.Logs.{places}
+use Rattle.ballot_base.specs.Replica.{ReplicaState, is_installing}
 use Rattle.ballot_base.specs.Serving.{least, raised, most_places, follows, leads}
 
 -- whether a member is known to hold less than this
@@ -18,27 +20,24 @@ rises member held progress =
 abbrev pub is_heeded : {S C : Type 0} → ReplicaState S C → ℕ → Body C → Bool
 is_heeded r from (NewBallot ballot members previous previous_members) = nat_lt r.joined ballot
 is_heeded r from (Join ballot previous) = nat_le r.joined ballot && nat_le previous r.held_in
-is_heeded r from (State ballot log) =
-    r.joined == ballot && (is_fetching r.role && nat_le r.committed (length log))
+is_heeded r from (State ballot log) = waits_for r ballot (places log)
 is_heeded r from (Install ballot log) =
-    ((nat_lt r.joined ballot || (r.joined == ballot && nat_lt r.held_in ballot))
-    && nat_le r.committed (length log))
-    || (r.joined == ballot && r.held_in == ballot)
+    lacks r ballot (places log) || (r.joined == ballot && r.held_in == ballot)
 is_heeded r from (Installed ballot held) =
     (r.joined == ballot && is_installing r.role)
     && list_any (λ member. member == from) r.lacking
 is_heeded r from (Activate ballot) = false
 is_heeded r from (Activated ballot) =
     (r.joined == ballot && is_installing r.role)
-    && (nat_le (length r.lacking) 0 && nat_lt (length r.log) most_places)
+    && (nat_le (length r.lacking) 0 && nat_lt (places r.log) most_places)
 is_heeded r from (Superseded ballot) = r.joined == ballot && is_installing r.role
-is_heeded r from (Append ballot place command) = follows r ballot && nat_le place (length r.log)
+is_heeded r from (Append ballot place command) = follows r ballot && nat_le place (places r.log)
 is_heeded r from (Held ballot held) =
     leads r ballot
     && (rises from held r.progress
-    || nat_lt r.committed (least (length r.log) (raised from held r.progress)))
+    || nat_lt r.committed (least (places r.log) (raised from held r.progress)))
 is_heeded r from (Commit ballot held) =
-    follows r ballot && (nat_le held (length r.log) && nat_lt r.committed held)
+    follows r ballot && (nat_le held (places r.log) && nat_lt r.committed held)
 
 -- whether a tick says something, by the role
 abbrev pub says_again : {S C : Type 0} → ReplicaState S C → Role → Bool

@@ -1,7 +1,8 @@
 -- Inside.antt: what the helpers of a replica say of the list of effects.
-use Rattle.std.specs.Prelude.{◌≡◌, ◌⊎◌, Bool, List, [], ◌∷◌, ◌++◌, length, if◌then◌else◌}
+use Rattle.std.specs.Prelude.{◌≡◌, ◌⊎◌, Bool, true, false, List, ◌++◌, if◌then◌else◌}
 use Rattle.machine.specs.Machine.{Rules}
 use Rattle.ballot_base.specs.declared.message.Effect.{Effect}
+use Rattle.ballot_base.specs.Logs.{Log, places, pushed}
 use Rattle.ballot_base.specs.Losses.{Loses, IsQuiet, halted, one_more}
 use Rattle.ballot_base.specs.Replica.{CountedReplica}
 use Rattle.ballot_base.specs.Sending.{Outcome, message_to_followed}
@@ -20,15 +21,20 @@ pub record Says {S C O : Type 0} (old : CountedReplica S C) (wanted : List (Effe
       ≡ record old { losses = if whole then old.losses else one_more old.losses }
 
 -- the step was done, or one with losses that were counted, and only where there was something to
--- lose
-pub record Went {S C O : Type 0} (rules : Rules S C O) (old : CountedReplica S C) (outcome : Outcome S C O)
-    (new : CountedReplica S C) (before behind : List (Effect C O)) : Type 0 where
+-- lose: a message, a place, or a snapshot that has to be read and stands for no machine
+pub record Heard {S C O : Type 0} (rules : Rules S C O) (old : CountedReplica S C) (outcome : Outcome S C O)
+    (unread : Bool) (new : CountedReplica S C) (before behind : List (Effect C O)) : Type 0 where
   pub given : List (Effect C O)
   pub appended : behind ≡ before ++ given
   pub way : ((new.state ≡ outcome.state) × (given ≡ outcome.effects) × (new.losses ≡ old.losses))
       ⊎ (Loses rules old.state outcome new.state given
       × (new.losses ≡ one_more old.losses)
-      × (IsQuiet old.state outcome → ⊥))
+      × (IsQuiet old.state outcome → unread ≡ true))
+
+-- the same where no snapshot has to be read
+abbrev pub Went : {S C O : Type 0} → Rules S C O → CountedReplica S C → Outcome S C O →
+    CountedReplica S C → List (Effect C O) → List (Effect C O) → Type 0
+Went rules old outcome new before behind = Heard rules old outcome false new before behind
 
 -- what a proposal that found no memory leaves
 abbrev pub Lacks : {S C O : Type 0} →
@@ -45,8 +51,8 @@ pub record Begins {S C O : Type 0} (rules : Rules S C O) (old new : CountedRepli
     (before behind : List (Effect C O)) : Type 0 where
   pub whole : Bool
   pub state : new.state ≡ (commit rules old.state).state
-  pub sends : (front : List C) (last : C) → old.state.log ≡ front ++ last ∷ [] →
+  pub sends : (front : Log C) (last : C) → old.state.log ≡ pushed front last →
       Sends before behind
-      (message_to_followed O old.state.id (Append old.state.joined (length front) last) old.state.progress
+      (message_to_followed O old.state.id (Append old.state.joined (places front) last) old.state.progress
       ++ (commit rules old.state).effects) whole
   pub counted : new.losses ≡ (if whole then old.losses else one_more old.losses)

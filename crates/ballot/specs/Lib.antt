@@ -3,12 +3,16 @@ pub mod Inside
 pub mod Refusals
 pub use Rattle.ballot_base.specs.Applying
 pub use Rattle.ballot_base.specs.Changing
+pub use Rattle.ballot_base.specs.Cutting
 pub use Rattle.ballot_base.specs.LawfulConfig
+pub use Rattle.ballot_base.specs.Logs
 pub use Rattle.ballot_base.specs.Losses
 pub use Rattle.ballot_base.specs.Protocol
 pub use Rattle.ballot_base.specs.Replica
 pub use Rattle.ballot_base.specs.Sending
 pub use Rattle.ballot_base.specs.Serving
+pub use Rattle.ballot_base.specs.Taking
+pub use Rattle.ballot_base.specs.Unread
 pub use Rattle.ballot_base.specs.declared.config.Config
 pub use Rattle.ballot_base.specs.declared.config.Members
 pub use Rattle.ballot_base.specs.declared.log.Log

@@ -1,11 +1,12 @@
 // Commands that are done by the machine, place by place.
 
-ghost use Rattle.std.specs.Prelude.{◌≡◌, ◌≤◌, ◌++◌, length, map, take, drop, OnOk, OnErr};
+ghost use Rattle.std.specs.Prelude.{◌≡◌, ◌≤◌, ◌++◌, map, OnOk, OnErr};
 ghost use Rattle.machine.specs.Machine.{replay_from};
 ghost use Rattle.lists.specs.Lists.{IsPrefixOf};
 ghost use Rattle.ballot_base.specs.Applying.{outputs_from};
+ghost use Rattle.ballot_base.specs.Logs.{part, places};
 
-use ballot_base::Effect;
+use ballot_base::{Effect, Log};
 use machine::{Halted, Machine};
 use std::alloc::Global;
 
@@ -29,18 +30,21 @@ pub fn put_out<C: Drop, O: Drop>(
 pub fn apply_dropping<M: Machine>(
     alloc: Global,
     machine: &mut M,
-    log: &[M::Command],
+    log: &Log<M::Command>,
     from: u64,
     to: u64,
 ) -> Result<(), Halted>
+    requires kept { log.now.base ≤ from }
     requires rising { from ≤ to }
-    requires within { to ≤ length log.now }
+    requires within { to ≤ places log.now }
     ensures { OnOk result
-        (machine.new ≡ replay_from M.rules machine.old (drop from (take to log.now))) }
+        (machine.new ≡ replay_from M.rules machine.old (part log.now from to)) }
 {
+    let base = log.base();
+    let rest = log.rest();
     for place in from..to {
         let mut given = Vec::new(alloc);
-        machine.apply(&log[place as usize], &mut given)?;
+        machine.apply(&rest[(place - base) as usize], &mut given)?;
     }
     Ok(())
 }
@@ -50,23 +54,26 @@ pub fn apply_dropping<M: Machine>(
 pub fn apply_places<M: Machine>(
     alloc: Global,
     machine: &mut M,
-    log: &[M::Command],
+    log: &Log<M::Command>,
     from: u64,
     to: u64,
     out: &mut Vec<Effect<M::Command, M::Output>>,
 ) -> Result<(), Halted>
+    requires kept { log.now.base ≤ from }
     requires rising { from ≤ to }
-    requires within { to ≤ length log.now }
+    requires within { to ≤ places log.now }
     ensures state { OnOk result
-        (machine.new ≡ replay_from M.rules machine.old (drop from (take to log.now))) }
+        (machine.new ≡ replay_from M.rules machine.old (part log.now from to)) }
     ensures outputs { OnOk result
         (out.new.items ≡ out.old.items ++
-        outputs_from M.rules machine.old from (drop from (take to log.now))) }
+        outputs_from M.rules machine.old from (part log.now from to)) }
     ensures err { OnErr result (IsPrefixOf out.old.items out.new.items) }
 {
+    let base = log.base();
+    let rest = log.rest();
     for place in from..to {
         let mut given = Vec::new(alloc);
-        machine.apply(&log[place as usize], &mut given)?;
+        machine.apply(&rest[(place - base) as usize], &mut given)?;
         put_out(place, given, out)?;
     }
     Ok(())

@@ -1,10 +1,11 @@
 // One replica.
 
-ghost use Rattle.std.specs.Prelude.{◌≡◌, ◌≤◌, ◌<◌, ◌↔◌, ◌⊎◌, true, false, length, IfOk, OnOk, OnErr, IsErrOf, MatchResult, if◌then◌else◌};
+ghost use Rattle.std.specs.Prelude.{◌≡◌, ◌≤◌, ◌<◌, ◌↔◌, ◌⊎◌, true, false, IfOk, OnOk, OnErr, IsErrOf, MatchResult, if◌then◌else◌};
 ghost use Rattle.ballot_base.specs.Sends.{Sends};
 ghost use Rattle.ballot.specs.Inside.{Lacks};
 ghost use Rattle.lists.specs.Lists.{IsPrefixOf};
 ghost use Rattle.ballot_base.specs.LawfulConfig.{is_lawful};
+ghost use Rattle.ballot_base.specs.Logs.{places};
 ghost use Rattle.ballot_base.specs.Losses.{Stepped, Done, halted, one_more};
 ghost use Rattle.ballot_base.specs.Replica.{is_active, opening, status_of};
 ghost use Rattle.ballot_base.specs.Serving.{added, commit_at, most_places, proposed};
@@ -12,13 +13,16 @@ ghost use Rattle.ballot_base.specs.Serving.{added, commit_at, most_places, propo
 use crate::applying::apply_places;
 use crate::error::{OpeningError, ProposeError};
 use crate::progress::{least_held, progress_of_others};
-use ballot_base::{Config, Effect, Members, Progress, Role, Status, send_appends, send_commits};
+use ballot_base::{
+    Config, Effect, Log, Members, Progress, Role, Status, send_appends, send_commits,
+};
 use machine::{Halted, Machine};
 use std::alloc::Global;
 use std::marker::Model;
 
 mod activating;
 mod changing;
+mod cutting;
 mod heeding;
 mod installing;
 mod messages;
@@ -41,7 +45,7 @@ pub struct Replica<M: Machine> {
     previous_members: Members,
     lacking: Vec<u8>,
     progress: Vec<Progress>,
-    log: Vec<M::Command>,
+    log: Log<M::Command>,
     committed: u64,
     machine: M,
     stopped: bool,
@@ -49,7 +53,8 @@ pub struct Replica<M: Machine> {
 }
 
 impl<M: Machine> Model for Replica<M> {
-    ghost use Rattle.std.specs.Prelude.{◌≤◌, [], length, if◌then◌else◌};
+    ghost use Rattle.std.specs.Prelude.{◌≡◌, ◌≤◌, [], if◌then◌else◌};
+    ghost use Rattle.ballot_base.specs.Logs.{places};
     ghost use Rattle.ballot_base.specs.Replica.{ReplicaState, CountedReplica};
 
     ghost Value = { CountedReplica M M.Command };
@@ -60,8 +65,7 @@ impl<M: Machine> Model for Replica<M> {
             id = r.id;
             joined = r.joined;
             held_in = r.held_in;
-            log = r.log.items;
-            base = 0;
+            log = r.log;
             committed = r.committed;
             machine = if r.stopped then M.rules.opening else r.machine;
             role = r.role;
@@ -75,7 +79,10 @@ impl<M: Machine> Model for Replica<M> {
           losses = r.losses;
         } };
 
-    ghost invariant = { λ r. r.committed ≤ length r.log.items };
+    ghost invariant = { λ r.
+        (r.log.base ≤ r.committed)
+        × (r.committed ≤ places r.log)
+        × (r.log.base ≡ 0 → r.log.snapshot ≡ []) };
 }
 
 impl<M: Machine> Replica<M> {
@@ -108,7 +115,7 @@ impl<M: Machine> Replica<M> {
             previous_members: Members::new(alloc),
             lacking: Vec::new(alloc),
             progress: Vec::new(alloc),
-            log: Vec::new(alloc),
+            log: Log::new(alloc),
             committed: 0,
             machine,
             stopped: false,
@@ -129,17 +136,19 @@ impl<M: Machine> Replica<M> {
         Status {
             ballot: self.joined,
             role: self.role,
-            held: self.log.len() as u64,
+            held: self.log.places(),
             committed: self.committed,
             stopped: self.stopped,
         }
     }
 
-    /// The commands of the log, from place 0 on.
-    pub fn log(&self) -> &[M::Command]
-        ensures { result.now ≡ self.now.state.log }
+    /// The commands of the log from its base on. The base is what [`Replica::snapshot`] tells. What is
+    /// applied lies within the log.
+    pub fn rest(&self) -> &[M::Command]
+        ensures rest { result.now ≡ self.now.state.log.rest }
+        ensures within { self.now.state.committed ≤ places self.now.state.log }
     {
-        self.log.as_slice()
+        self.log.rest()
     }
 
     /// In how many calls memory was wanting. The count stays at 2^64 - 1.
@@ -182,7 +191,7 @@ impl<M: Machine> Replica<M> {
         ensures full { IsErrOf result ProposeError.LogFull
             ↔ ((self.old.state.stopped ≡ false) ×
             (is_active self.old.state.role ≡ true) ×
-            (most_places ≤ length self.old.state.log)) }
+            (most_places ≤ places self.old.state.log)) }
 
         // What stays.
         ensures memory { IsErrOf result ProposeError.Memory →
@@ -198,7 +207,7 @@ impl<M: Machine> Replica<M> {
         if !self.role.is_active() {
             return Err(ProposeError::NotActive);
         }
-        if self.log.len() as u64 >= MOST_PLACES {
+        if self.log.places() >= MOST_PLACES {
             return Err(ProposeError::LogFull);
         }
         self.add(command, out)
@@ -219,7 +228,7 @@ impl<M: Machine> Replica<M> {
         ensures err { OnErr result (out.new.items ≡ out.old.items) }
     {
         let before = out.len();
-        let place = self.log.len() as u64;
+        let place = self.log.places();
         let sent = send_appends::<M>(
             self.alloc,
             self.id,
@@ -229,12 +238,12 @@ impl<M: Machine> Replica<M> {
             &self.progress,
             out,
         );
-        if self.log.push(command).is_err() {
+        let Ok(()) = self.log.push(command) else {
             out.truncate(before);
             self.losses = self.losses.saturating_add(1);
             return Err(ProposeError::Memory);
-        }
-        let held = least_held(self.log.len() as u64, &self.progress);
+        };
+        let held = least_held(self.log.places(), &self.progress);
         match self.commit_at(held, out) {
             Ok(told) => {
                 self.count(sent && told);
@@ -258,7 +267,7 @@ impl<M: Machine> Replica<M> {
         out: &mut Vec<Effect<M::Command, M::Output>>,
     ) -> Result<bool, Halted>
         requires running { self.old.state.stopped ≡ false }
-        requires within { held ≤ length self.old.state.log }
+        requires within { held ≤ places self.old.state.log }
         ensures state { OnOk result
             (self.new ≡ record self.old {
               state = (commit_at M.rules self.old.state held).state;

@@ -1,18 +1,20 @@
 // Commands that come from elsewhere into a log, and the count of what was lost.
 
-ghost use Rattle.std.specs.Prelude.{◌≡◌, length, if◌then◌else◌};
+ghost use Rattle.std.specs.Prelude.{◌≡◌, if◌then◌else◌};
 ghost use Rattle.std.specs.Bool.{OnTrue, OnFalse};
 ghost use Rattle.ballot_base.specs.Losses.{one_more};
+ghost use Rattle.ballot_base.specs.Logs.{places};
 ghost use Rattle.ballot_base.specs.Serving.{extended};
+
+use ballot_base::Log;
 
 /// Takes a command where its place is the next one of the log. Whether memory was found, where it
 /// was needed, is the result; where not, the log stays.
-pub fn take_in<C: Drop>(log: &mut Vec<C>, place: u64, command: C) -> bool
-    ensures taken { OnTrue result (log.new.items ≡ extended place command log.old.items) }
-    ensures lost { OnFalse result ((log.new.items ≡ log.old.items) ×
-        (place ≡ length log.old.items)) }
+pub fn take_in<C: Drop>(log: &mut Log<C>, place: u64, command: C) -> bool
+    ensures taken { OnTrue result (log.new ≡ extended place command log.old) }
+    ensures lost { OnFalse result ((log.new ≡ log.old) × (place ≡ places log.old)) }
 {
-    if place != log.len() as u64 {
+    if place != log.places() {
         return true;
     }
     match log.push(command) {

@@ -1,6 +1,7 @@
 mod changes;
 mod commands;
 mod counting;
+mod cutting;
 mod opening;
 mod pairs;
 mod replicas;

@@ -1,9 +1,10 @@
 // What a replica does when its ballot becomes active.
 
-ghost use Rattle.std.specs.Prelude.{◌≡◌, ◌++◌, ◌&&◌, ◌==◌, nat_lt, nat_le, true, false, [], ◌∷◌, ◌-◌, ◌<◌, List, length, take, IfOk, OnOk, OnErr, MatchResult};
+ghost use Rattle.std.specs.Prelude.{◌≡◌, ◌++◌, ◌&&◌, ◌==◌, nat_lt, nat_le, true, false, ◌-◌, ◌<◌, ◌≤◌, length, IfOk, OnOk, OnErr, MatchResult};
 ghost use Rattle.ballot_base.specs.Sends.{Sends};
 ghost use Rattle.ballot.specs.Inside.{Begins, Went};
 ghost use Rattle.ballot_base.specs.Changing.{on_activated};
+ghost use Rattle.ballot_base.specs.Logs.{Log, places, popped, pushed};
 ghost use Rattle.ballot_base.specs.Replica.{is_installing, others, progress_at};
 ghost use Rattle.ballot_base.specs.Serving.{commit, most_places};
 ghost use Rattle.ballot_base.specs.Sending.{message_to_followed};
@@ -54,11 +55,9 @@ impl<M: Machine> Replica<M> {
 
     // Takes the last place back, for want of memory.
     fn take_back_start(&mut self)
-        requires behind { self.old.state.committed < length self.old.state.log }
+        requires behind { self.old.state.committed < places self.old.state.log }
         ensures { self.new ≡ record {
-          state = record self.old.state {
-            log = take (length self.old.state.log - 1) self.old.state.log;
-          };
+          state = record self.old.state { log = popped self.old.state.log };
           losses = one_more self.old.losses;
         } }
     {
@@ -70,14 +69,14 @@ impl<M: Machine> Replica<M> {
     // hold what was there before. On an error nothing has changed.
     fn add_start(&mut self, ballot: u64) -> Result<Vec<Progress>, Memory>
         ensures progress { IfOk result (λ progress. progress.items ≡
-            progress_at (length self.old.state.log)
+            progress_at (places self.old.state.log)
             (others self.old.state.id self.old.state.members)) }
         ensures state { OnOk result (self.new ≡ record self.old {
-          state = record self.old.state { log = self.old.state.log ++ M.rules.start_of ballot ∷ [] };
+          state = record self.old.state { log = pushed self.old.state.log (M.rules.start_of ballot) };
         }) }
         ensures err { OnErr result (self.new ≡ self.old) }
     {
-        let held = self.log.len() as u64;
+        let held = self.log.places();
         let members = self.members.as_slice();
         let progress = progress_of_others(self.alloc, held, self.id, members)?;
         self.log.push(M::start(ballot))?;
@@ -88,10 +87,10 @@ impl<M: Machine> Replica<M> {
     // The earlier progress is the result. On an error the replica has stopped.
     fn become_active(&mut self, progress: Vec<Progress>) -> Result<Vec<Progress>, Halted>
         requires running { self.old.state.stopped ≡ false }
-        requires behind { self.old.state.committed < length self.old.state.log }
+        requires behind { self.old.state.committed < places self.old.state.log }
         ensures earlier { IfOk result (λ waiting. waiting.items ≡ self.old.state.progress) }
         ensures state { OnOk result (self.new ≡ record self.old {
-          state = record (applied_to M.rules self.old.state (length self.old.state.log - 1)) {
+          state = record (applied_to M.rules self.old.state (places self.old.state.log - 1)) {
             role = Role.Active;
             progress = progress.items;
           };
@@ -100,7 +99,7 @@ impl<M: Machine> Replica<M> {
           state = halted M.rules self.old.state;
         }) }
     {
-        let held = self.log.len() as u64 - 1;
+        let held = self.log.places() - 1;
         let from = self.committed;
         match apply_dropping(self.alloc, &mut self.machine, &self.log, from, held) {
             Ok(()) => {
@@ -125,13 +124,14 @@ impl<M: Machine> Replica<M> {
         out: &mut Vec<Effect<M::Command, M::Output>>,
     ) -> Result<(), Halted>
         requires running { self.old.state.stopped ≡ false }
-        requires some { 0 < length self.old.state.log }
-        requires behind { committed < length self.old.state.log }
+        requires some { 0 < length self.old.state.log.rest }
+        requires applied { self.old.state.log.base ≤ committed }
+        requires behind { committed < places self.old.state.log }
         ensures outcome { MatchResult result
             (λ _. Begins M.rules self.old self.new out.old.items out.new.items)
             (λ _. (out.new.items ≡ out.old.items) × (self.new ≡ record {
               state = record self.old.state {
-                log = take (length self.old.state.log - 1) self.old.state.log;
+                log = popped self.old.state.log;
                 committed = committed;
                 role = Role.Installing;
                 progress = waiting.items;
@@ -164,16 +164,16 @@ impl<M: Machine> Replica<M> {
     // behind `out`.
     fn tell_start(&mut self, out: &mut Vec<Effect<M::Command, M::Output>>) -> Result<bool, Halted>
         requires running { self.old.state.stopped ≡ false }
-        requires some { 0 < length self.old.state.log }
+        requires some { 0 < length self.old.state.log.rest }
         ensures state { OnOk result
             (self.new ≡ record self.old {
               state = (commit M.rules self.old.state).state;
             }) }
-        ensures effects { IfOk result (λ whole. (front : List M.Command) (last : M.Command) →
-            self.old.state.log ≡ front ++ last ∷ [] →
+        ensures effects { IfOk result (λ whole. (front : Log M.Command) (last : M.Command) →
+            self.old.state.log ≡ pushed front last →
             Sends out.old.items out.new.items
             (message_to_followed M.Output self.old.state.id
-            (Body.Append self.old.state.joined (length front) last) self.old.state.progress
+            (Body.Append self.old.state.joined (places front) last) self.old.state.progress
             ++ (commit M.rules self.old.state).effects) whole) }
         ensures stops { OnErr result
             (self.new ≡ record self.old {
@@ -181,17 +181,18 @@ impl<M: Machine> Replica<M> {
             }) }
         ensures err { OnErr result (IsPrefixOf out.old.items out.new.items) }
     {
-        let last = self.log.len() - 1;
+        let rest = self.log.rest();
+        let last = rest.len() - 1;
         let sent = send_appends::<M>(
             self.alloc,
             self.id,
             self.joined,
-            last as u64,
-            &self.log[last],
+            self.log.base() + last as u64,
+            &rest[last],
             &self.progress,
             out,
         );
-        let held = least_held(self.log.len() as u64, &self.progress);
+        let held = least_held(self.log.places(), &self.progress);
         let told = self.commit_at(held, out)?;
         Ok(sent & told)
     }
@@ -201,8 +202,8 @@ impl<M: Machine> Replica<M> {
         ensures { result ≡ ((self.now.state.joined == ballot
             && is_installing self.now.state.role)
             && (nat_le (length self.now.state.lacking) 0
-            && nat_lt (length self.now.state.log) most_places)) }
+            && nat_lt (places self.now.state.log) most_places)) }
     {
-        self.installs(ballot) && (self.lacking.is_empty() && (self.log.len() as u64) < MOST_PLACES)
+        self.installs(ballot) && (self.lacking.is_empty() && self.log.places() < MOST_PLACES)
     }
 }

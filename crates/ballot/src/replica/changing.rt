@@ -1,9 +1,12 @@
 // What a replica does with the messages by which a log goes over to a new ballot.
 
-ghost use Rattle.std.specs.Prelude.{◌≡◌, ◌&&◌, ◌||◌, ◌==◌, nat_lt, nat_le, if◌then◌else◌};
-ghost use Rattle.ballot.specs.Inside.{Went};
-ghost use Rattle.ballot_base.specs.Changing.{on_new_ballot, on_join, on_state, on_install};
-ghost use Rattle.ballot_base.specs.Replica.{is_fetching};
+ghost use Rattle.std.specs.Prelude.{◌≡◌, ◌≤◌, ◌<◌, ◌&&◌, ◌==◌, Some, true, false, nat_lt, nat_le, if◌then◌else◌};
+ghost use Rattle.std.specs.Bool.{OnTrue, OnFalse};
+ghost use Rattle.ballot.specs.Inside.{Heard, Went};
+ghost use Rattle.ballot_base.specs.Changing.{on_new_ballot, on_join, on_state, on_install, waits_for, lacks};
+ghost use Rattle.ballot_base.specs.Logs.{places};
+ghost use Rattle.ballot_base.specs.Taking.{taken, with_snapshot};
+ghost use Rattle.ballot_base.specs.Unread.{is_unread};
 
 use super::Replica;
 use crate::progress::others_of;
@@ -82,25 +85,28 @@ impl<M: Machine> Replica<M> {
         log: Log<M::Command>,
         out: &mut Vec<Effect<M::Command, M::Output>>,
     )
-        ensures went { Went M.rules self.old
-            (on_state M.Output self.old.state ballot log) self.new out.old.items out.new.items }
+        requires { self.old.state.stopped ≡ false }
+        ensures went { Heard M.rules self.old (on_state M.rules self.old.state ballot log)
+            (is_unread M.rules self.old.state (Body.State ballot log))
+            self.new out.old.items out.new.items }
         ensures runs { self.new.state.stopped ≡ self.old.state.stopped }
     {
-        let places = log.into_places();
-        if !self.waits_for(ballot, places.len() as u64) {
+        if !self.waits_for(ballot, log.places()) {
             return;
         }
-        match others_of(self.alloc, self.id, self.members.as_slice()) {
-            Ok(lacking) => {
-                self.held_in = ballot;
-                self.log = places;
-                self.role = Role::Installing;
-                self.lacking = lacking;
-                let sent = self.hand_over(out);
-                self.losses = counted(self.losses, sent);
-            }
-            Err(_) => self.losses = counted(self.losses, false),
+        let Ok(lacking) = others_of(self.alloc, self.id, self.members.as_slice()) else {
+            self.losses = counted(self.losses, false);
+            return;
+        };
+        if !self.take(log) {
+            self.losses = counted(self.losses, false);
+            return;
         }
+        self.held_in = ballot;
+        self.role = Role::Installing;
+        self.lacking = lacking;
+        let sent = self.hand_over(out);
+        self.losses = counted(self.losses, sent);
     }
 
     // A member takes the log of a new ballot once. Later it only answers, since more may have been
@@ -112,20 +118,67 @@ impl<M: Machine> Replica<M> {
         log: Log<M::Command>,
         out: &mut Vec<Effect<M::Command, M::Output>>,
     )
-        ensures went { Went M.rules self.old (on_install M.Output self.old.state from ballot log)
+        requires { self.old.state.stopped ≡ false }
+        ensures went { Heard M.rules self.old (on_install M.rules self.old.state from ballot log)
+            (is_unread M.rules self.old.state (Body.Install ballot log))
             self.new out.old.items out.new.items }
         ensures runs { self.new.state.stopped ≡ self.old.state.stopped }
     {
-        let places = log.into_places();
-        let held = places.len() as u64;
+        let held = log.places();
         if self.lacks(ballot, held) {
+            if !self.take(log) {
+                self.losses = counted(self.losses, false);
+                return;
+            }
             self.joined = ballot;
             self.held_in = ballot;
-            self.log = places;
             self.role = Role::Backup;
             self.say(from, Body::Installed(ballot, held), out);
         } else if self.holds(ballot) {
             self.say(from, Body::Installed(ballot, held), out);
+        }
+    }
+
+    // Takes a log that lacks no applied place. One whose base is over the replica's own replaces the
+    // log once its snapshot is read, before anything is changed; of another the places are taken from
+    // the replica's base on. False where the snapshot stands for no machine, or there was no memory.
+    fn take(&mut self, log: Log<M::Command>) -> bool
+        requires running { self.old.state.stopped ≡ false }
+        requires within { self.old.state.committed ≤ places log }
+        ensures took { OnTrue result
+            ((taken M.rules self.old.state log ≡ Some self.new.state)
+            × (self.new.losses ≡ self.old.losses)) }
+        ensures unread { OnFalse result
+            ((self.new ≡ self.old) × (self.old.state.log.base < log.base)) }
+    {
+        if log.base() <= self.log.base() {
+            self.log.take_rest(log);
+            return true;
+        }
+        match M::thaw(self.alloc, log.snapshot()) {
+            Ok(machine) => {
+                self.replace_log(log, machine);
+                true
+            }
+            Err(_) => false,
+        }
+    }
+
+    // Takes a log with the machine for which its snapshot stands. Where its base is over what is
+    // applied, the replica goes on from that machine.
+    fn replace_log(&mut self, log: Log<M::Command>, machine: M)
+        requires running { self.old.state.stopped ≡ false }
+        requires over { self.old.state.log.base < log.base }
+        requires within { self.old.state.committed ≤ places log }
+        ensures { self.new ≡ record self.old {
+          state = with_snapshot self.old.state log machine;
+        } }
+    {
+        let base = log.base();
+        self.log = log;
+        if self.committed < base {
+            self.committed = base;
+            self.machine = machine;
         }
     }
 
@@ -139,8 +192,7 @@ impl<M: Machine> Replica<M> {
 
     // Whether a new primary takes a log of this length, which lacks no applied place.
     pub(super) fn waits_for(&self, ballot: u64, held: u64) -> bool
-        ensures { result ≡ (self.now.state.joined == ballot
-            && (is_fetching self.now.state.role && nat_le self.now.state.committed held)) }
+        ensures { result ≡ waits_for self.now.state ballot held }
     {
         self.joined == ballot && (self.role.is_fetching() && self.committed <= held)
     }
@@ -154,9 +206,7 @@ impl<M: Machine> Replica<M> {
 
     // Whether a member takes a log of this length, which lacks no applied place.
     pub(super) fn lacks(&self, ballot: u64, held: u64) -> bool
-        ensures { result ≡ ((nat_lt self.now.state.joined ballot
-            || (self.now.state.joined == ballot && nat_lt self.now.state.held_in ballot))
-            && nat_le self.now.state.committed held) }
+        ensures { result ≡ lacks self.now.state ballot held }
     {
         (self.joined < ballot || (self.joined == ballot && self.held_in < ballot))
             && self.committed <= held

@@ -1,6 +1,8 @@
 // Which messages and ticks do something.
 
-ghost use Rattle.std.specs.Prelude.{◌≡◌, ◌↔◌, ◌||◌, ◌&&◌, false, length, nat_le, nat_lt};
+ghost use Rattle.std.specs.Prelude.{◌≡◌, ◌↔◌, ◌||◌, ◌&&◌, false, nat_le, nat_lt};
+ghost use Rattle.ballot_base.specs.Logs.{places};
+ghost use Rattle.ballot_base.specs.Unread.{is_unread};
 ghost use Rattle.ballot.specs.Heeding.{is_heeded, rises, says_again};
 ghost use Rattle.ballot_base.specs.Protocol.{replica_step};
 ghost use Rattle.ballot_base.specs.Protocol.Input.{Receives, Ticks};
@@ -13,11 +15,13 @@ use ballot_base::{Body, Message, Progress, Role};
 use machine::Machine;
 
 impl<M: Machine> Replica<M> {
-    /// Whether a message would do anything: change the replica, or send.
+    /// Whether a message would do anything: change the replica, send, or bring a snapshot that has
+    /// to be read.
     pub fn heeds(&self, message: &Message<M::Command>) -> bool
         ensures { (result ≡ false) ↔
-            (replica_step M.rules self.now.state (Receives message.now)
-            ≡ nothing_done M.Output self.now.state) }
+            ((replica_step M.rules self.now.state (Receives message.now)
+            ≡ nothing_done M.Output self.now.state)
+            × (is_unread M.rules self.now.state message.now.body ≡ false)) }
     {
         self.is_moved_by(message.from, &message.body)
     }
@@ -29,16 +33,16 @@ impl<M: Machine> Replica<M> {
         match body {
             Body::NewBallot(ballot, _, _, _) => self.joined < *ballot,
             Body::Join(ballot, previous) => self.may_join(*ballot, *previous),
-            Body::State(ballot, log) => self.waits_for(*ballot, log.as_slice().len() as u64),
+            Body::State(ballot, log) => self.waits_for(*ballot, log.places()),
             Body::Install(ballot, log) => {
-                self.lacks(*ballot, log.as_slice().len() as u64) || self.holds(*ballot)
+                self.lacks(*ballot, log.places()) || self.holds(*ballot)
             }
             Body::Installed(ballot, _) => self.waits_for_answer(from, *ballot),
             Body::Activate(_) => false,
             Body::Activated(ballot) => self.may_begin(*ballot),
             Body::Superseded(ballot) => self.installs(*ballot),
             Body::Append(ballot, place, _) => {
-                self.follows(*ballot) && *place <= self.log.len() as u64
+                self.follows(*ballot) && *place <= self.log.places()
             }
             Body::Held(ballot, held) => self.leads(*ballot) && self.learns(from, *held),
             Body::Commit(ballot, held) => self.follows(*ballot) && self.may_apply(*held),
@@ -49,18 +53,18 @@ impl<M: Machine> Replica<M> {
     fn learns(&self, from: u8, held: u64) -> bool
         ensures { result ≡ (rises from held self.now.state.progress
             || nat_lt self.now.state.committed
-            (least (length self.now.state.log) (raised from held self.now.state.progress))) }
+            (least (places self.now.state.log) (raised from held self.now.state.progress))) }
     {
         would_rise(from, held, &self.progress)
-            || self.committed < least_raised(self.log.len() as u64, from, held, &self.progress)
+            || self.committed < least_raised(self.log.places(), from, held, &self.progress)
     }
 
     // Whether the log has so many places, of which some are not applied.
     fn may_apply(&self, held: u64) -> bool
-        ensures { result ≡ (nat_le held (length self.now.state.log)
+        ensures { result ≡ (nat_le held (places self.now.state.log)
             && nat_lt self.now.state.committed held) }
     {
-        held <= self.log.len() as u64 && self.committed < held
+        held <= self.log.places() && self.committed < held
     }
 
     /// Whether a tick would say anything.

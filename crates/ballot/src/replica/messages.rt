@@ -1,9 +1,10 @@
 // What a replica does with each message of another node.
 
 ghost use Rattle.std.specs.Prelude.{◌≡◌, ◌<◌, ◌↔◌, true, false, [], ◌∷◌, OnOk, OnErr, IsErr};
-ghost use Rattle.ballot.specs.Inside.{Says, Went};
+ghost use Rattle.ballot.specs.Inside.{Heard, Says, Went};
 ghost use Rattle.ballot_base.specs.Losses.{Stepped, IsQuiet};
 ghost use Rattle.ballot_base.specs.Sending.{message_to};
+ghost use Rattle.ballot_base.specs.Unread.{is_unread};
 ghost use Rattle.ballot_base.specs.Protocol.{received, replica_step};
 ghost use Rattle.ballot_base.specs.Protocol.Input.{Receives};
 ghost use Rattle.ballot_base.specs.Serving.{follows, leads, on_append, on_commit, on_held};
@@ -26,10 +27,11 @@ impl<M: Machine> Replica<M> {
         ensures step { self.old.state.stopped ≡ false →
             Stepped M.rules self.old (replica_step M.rules self.old.state (Receives message))
             self.new out.old.items out.new.items }
-        // What sends, adds and applies nothing never wants memory.
+        // What sends, adds and applies nothing never wants memory, unless a snapshot has to be read.
         ensures quiet { self.old.state.stopped ≡ false →
             IsQuiet self.old.state
             (replica_step M.rules self.old.state (Receives message)) →
+            is_unread M.rules self.old.state message.body ≡ false →
             self.new ≡ record self.old {
               state = (replica_step M.rules self.old.state (Receives message)).state;
             } }
@@ -52,8 +54,8 @@ impl<M: Machine> Replica<M> {
         out: &mut Vec<Effect<M::Command, M::Output>>,
     ) -> Result<(), Halted>
         requires { self.old.state.stopped ≡ false }
-        ensures went { Went M.rules self.old (received M.rules self.old.state from body)
-            self.new out.old.items out.new.items }
+        ensures went { Heard M.rules self.old (received M.rules self.old.state from body)
+            (is_unread M.rules self.old.state body) self.new out.old.items out.new.items }
         ensures ok { OnOk result (self.new.state.stopped ≡ false) }
         ensures err { OnErr result ((self.new.state.stopped ≡ true) ×
             (out.new.items ≡ out.old.items)) }
@@ -95,14 +97,14 @@ impl<M: Machine> Replica<M> {
         if !self.follows(ballot) {
             return;
         }
-        if place > self.log.len() as u64 {
+        if place > self.log.places() {
             return;
         }
         if !take_in(&mut self.log, place, command) {
             self.losses = counted(self.losses, false);
             return;
         }
-        let body = Body::Held(ballot, self.log.len() as u64);
+        let body = Body::Held(ballot, self.log.places());
         let sent = send(
             out,
             from,
@@ -148,7 +150,7 @@ impl<M: Machine> Replica<M> {
             return Ok(());
         }
         let before = out.len();
-        let least = least_raised(self.log.len() as u64, from, held, &self.progress);
+        let least = least_raised(self.log.places(), from, held, &self.progress);
         match self.commit_at(least, out) {
             Ok(told) => {
                 raise(from, held, &mut self.progress);
@@ -174,7 +176,7 @@ impl<M: Machine> Replica<M> {
         if !self.follows(ballot) {
             return Ok(());
         }
-        if held > self.log.len() as u64 {
+        if held > self.log.places() {
             return Ok(());
         }
         if held <= self.committed {

@@ -62,8 +62,14 @@ impl<M: Machine> Replica<M> {
             (Body.Commit self.now.state.joined self.now.state.committed) self.now.state.progress)
             result }
     {
-        let log = self.log.as_slice();
-        let behind = send_behind::<M>(self.alloc, self.id, self.joined, log, &self.progress, out);
+        let behind = send_behind::<M>(
+            self.alloc,
+            self.id,
+            self.joined,
+            &self.log,
+            &self.progress,
+            out,
+        );
         let told = send_commits(self.id, self.joined, self.committed, &self.progress, out);
         behind & told
     }
@@ -78,7 +84,13 @@ impl<M: Machine> Replica<M> {
             let from = self.id;
             return send(out, MASTER, Message { from, body });
         }
-        let log = self.log.as_slice();
-        send_installs::<M>(self.alloc, self.id, self.joined, log, &self.lacking, out)
+        send_installs::<M>(
+            self.alloc,
+            self.id,
+            self.joined,
+            &self.log,
+            &self.lacking,
+            out,
+        )
     }
 }

@@ -52,9 +52,9 @@ pub fn shows(replica: &Replica<Tally>, ballot: u64, role: Role, held: u64, commi
     status.ballot == ballot && status.role == role && place && !status.stopped
 }
 
-/// Whether these commands are the log.
+/// Whether these commands are what the log keeps.
 pub fn logs(replica: &Replica<Tally>, commands: &[TallyCommand]) -> bool {
-    replica.log() == commands
+    replica.rest() == commands
 }
 
 /// Whether the effect at a place is this output.

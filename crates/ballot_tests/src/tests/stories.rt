@@ -2,7 +2,7 @@
 
 use super::pairs::{Pair, open};
 use super::replicas::made;
-use super::{changes, commands, opening};
+use super::{changes, commands, cutting, opening};
 use ballot::{Effect, Replica};
 use machine::{Tally, TallyCommand};
 use std::alloc::Global;
@@ -17,12 +17,15 @@ pub enum Story {
     IsSilent,
     SaysWhatIsLacking,
     IsNoMember,
+    IsCut,
+    ReadsSnapshots,
 }
 
 // Whether a replica goes through a story as it is told.
 fn is_told(
     replica: &mut Replica<Tally>,
     out: &mut Vec<Effect<TallyCommand, u64>>,
+    alloc: Global,
     story: Story,
 ) -> bool {
     match story {
@@ -33,6 +36,8 @@ fn is_told(
         Story::IsSilent => commands::is_silent(replica, out),
         Story::SaysWhatIsLacking => commands::says_what_is_lacking(replica, out),
         Story::IsNoMember => opening::is_no_member(replica),
+        Story::IsCut => cutting::is_cut_once(replica, out),
+        Story::ReadsSnapshots => cutting::reads_snapshots(replica, out, alloc),
     }
 }
 
@@ -40,7 +45,7 @@ fn is_told(
 pub fn goes(alloc: Global, node: u8, members: &[u8], primary: u8, story: Story) -> bool {
     let mut out = Vec::new(alloc);
     match made(alloc, node, members, primary) {
-        Ok(mut replica) => is_told(&mut replica, &mut out, story),
+        Ok(mut replica) => is_told(&mut replica, &mut out, alloc, story),
         Err(_) => false,
     }
 }
@@ -53,6 +58,7 @@ pub enum Change {
     IsPutOut,
     IsReplaced,
     AsksAgain,
+    SnapshotGoesOver,
 }
 
 // Whether two nodes go through a change as it is told.
@@ -63,6 +69,7 @@ fn is_changed(alloc: Global, pair: &mut Pair, change: Change) -> bool {
         Change::IsPutOut => changes::is_put_out(pair, alloc),
         Change::IsReplaced => changes::is_replaced(pair, alloc),
         Change::AsksAgain => changes::asks_twice(pair, alloc),
+        Change::SnapshotGoesOver => cutting::snapshot_goes_over(pair, alloc),
     }
 }
 

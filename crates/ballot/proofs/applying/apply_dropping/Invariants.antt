@@ -1,8 +1,9 @@
-use Rattle.std.proofs.Common.{◌≡◌, take, drop}
+use Rattle.std.proofs.Common.{◌≡◌}
 use Rattle.machine.specs.Machine.{replay_from}
+use Rattle.ballot_base.specs.Logs.{part}
 use Rattle.ballot.proofs.applying.apply_dropping.Given as goal
 
 abbrev pub invariant-loop-place : goal.invariant-loop-place
 invariant-loop-place g l =
     let rules = g.M.Machine.rules in
-    l.machine ≡ replay_from rules l.initial.machine (drop l.from (take l.place l.log))
+    l.machine ≡ replay_from rules l.initial.machine (part l.log l.from l.place)

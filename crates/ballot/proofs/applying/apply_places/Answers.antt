@@ -12,10 +12,11 @@ loop-place-preserved g c =
     let rules = g.M.Machine.rules in
     let place = c.loop-place.place in
     record {
-      state = place_applied rules c.args.machine.now c.args.log.now c.args.from place c.index-log-place.result
-          c.loop-place.machine c.apply.new.self (omega arith) (omega arith) c.index-log-place.is c.loop-place.invariant.state c.in_ok-apply.ensures.state;
-      outputs = place_given rules c.args.machine.now c.args.log.now c.args.from place c.index-log-place.result c.loop-place.machine
-          _ _ _ _ _ (omega arith) (omega arith) c.index-log-place.is
+      state = place_applied rules c.args.machine.now c.args.log.now c.args.from place c.base-base.result c.rest-rest.result.now c.index-rest-place.result
+          c.loop-place.machine c.apply.new.self c.requires.kept (omega arith) (omega (arith, c.requires.within)) c.base-base.ensures.base c.rest-rest.ensures
+          c.index-rest-place.is c.loop-place.invariant.state c.in_ok-apply.ensures.state;
+      outputs = place_given rules c.args.machine.now c.args.log.now c.args.from place c.base-base.result c.rest-rest.result.now c.index-rest-place.result c.loop-place.machine
+          _ _ _ _ _ c.requires.kept (omega arith) (omega (arith, c.requires.within)) c.base-base.ensures.base c.rest-rest.ensures c.index-rest-place.is
           c.loop-place.invariant.state c.new-given.ensures.items c.in_ok-apply.ensures.outputs
           c.loop-place.invariant.outputs c.in_ok-put_out.ensures.ok;
     }

@@ -1,5 +1,6 @@
-use Rattle.std.proofs.Common.{◌≡◌, ◌++◌, take, drop}
+use Rattle.std.proofs.Common.{◌≡◌, ◌++◌}
 use Rattle.machine.specs.Machine.{replay_from}
+use Rattle.ballot_base.specs.Logs.{part}
 use Rattle.ballot_base.specs.Applying.{outputs_from}
 use Rattle.ballot.proofs.applying.apply_places.Given as goal
 
@@ -7,7 +8,7 @@ abbrev pub invariant-loop-place : goal.invariant-loop-place
 invariant-loop-place g l =
     let rules = g.M.Machine.rules in
     record {
-      state : l.machine ≡ replay_from rules l.initial.machine (drop l.from (take l.place l.log));
+      state : l.machine ≡ replay_from rules l.initial.machine (part l.log l.from l.place);
       outputs : l.out.items ≡ l.initial.out.items
-          ++ outputs_from rules l.initial.machine l.from (drop l.from (take l.place l.log));
+          ++ outputs_from rules l.initial.machine l.from (part l.log l.from l.place);
     }

@@ -1,4 +1,5 @@
-use Rattle.std.proofs.Common.{◌≡◌, false, take, drop, refl, ap, ◌∙◌}
+use Rattle.std.proofs.Common.{◌≡◌, false, refl, ap, ◌∙◌}
+use Rattle.ballot_base.specs.Logs.{part}
 use Rattle.ballot_base.specs.Replica.{CountedReplica}
 use Rattle.ballot.proofs.PlacesApplied.{shown, shown_applied}
 use Rattle.ballot.proofs.Committed.{commit_stays, commit_gives_nothing, commit_goes, commit_gives}
@@ -20,8 +21,8 @@ returns-in-Ok-clause-state g c =
     let running : c.self.inside.stopped ≡ false = ap (λ (z : CountedReplica _ _). z.state.stopped) c.self.view_is ∙ c.requires.running in
     rw (← c.self.view_is) (commit_goes rules _ _ c.args.held _ c.if-held-self.false refl
     (shown_applied rules c.self.inside.stopped g.M.Machine.rules.opening c.self.inside.machine c.apply_places.new.machine
-    (drop c.self.inside.committed (take c.args.held c.self.inside.log.items)) running
-    (rw c.deref.ensures.value at c.in-Ok.ensures.state)))
+    (part c.self.inside.log c.self.inside.committed c.args.held) running
+    c.in-Ok.ensures.state))
 
 pub returns-in-Ok-clause-effects : goal.returns-in-Ok-clause-effects
 returns-in-Ok-clause-effects g c =
@@ -29,4 +30,4 @@ returns-in-Ok-clause-effects g c =
     let running : c.self.inside.stopped ≡ false = ap (λ (z : CountedReplica _ _). z.state.stopped) c.self.view_is ∙ c.requires.running in
     rw (← c.self.view_is) (commit_gives rules _ c.args.held c.self.inside.machine _ _ _ _ _ _ c.if-held-self.false
     (shown c.self.inside.stopped g.M.Machine.rules.opening c.self.inside.machine running)
-    c.deref.ensures.value c.deref-in-Ok.ensures.value c.in-Ok.ensures.outputs c.send_commits.ensures)
+    refl c.deref.ensures.value c.in-Ok.ensures.outputs c.send_commits.ensures)

@@ -1,5 +1,6 @@
-use Rattle.std.proofs.Common.{◌≤◌, length, ap, sym, ◌∙◌}
+use Rattle.std.proofs.Common.{◌≤◌, ap, sym, ◌∙◌}
 use Rattle.ballot_base.specs.Losses.{one_more}
+use Rattle.ballot_base.specs.Logs.{places}
 use Rattle.ballot_base.specs.Replica.{CountedReplica}
 use Rattle.ballot_base.proofs.ChangeRows.{on_activated-stays}
 use Rattle.ballot.proofs.MessagesTaken.{went_same}
@@ -20,13 +21,13 @@ returns-in_default-clause-went g c =
 
 pub become_active-requires-clause-behind : goal.become_active-requires-clause-behind
 become_active-requires-clause-behind g c =
-    let within : c.args.self.now.state.committed ≤ length c.args.self.now.state.log = rw (← c.self.view_is) c.self.invariant in
+    let within : c.args.self.now.state.committed ≤ places c.args.self.now.state.log = rw (← c.self.view_is) c.self.invariant.1 in
     start_behind c.args.self.now c.add_start.new.self _ c.in-Ok.ensures.state within
 
 pub begin-requires-clause-behind : goal.begin-requires-clause-behind
 begin-requires-clause-behind g c =
     let steps = g.M.Machine.rules in
-    let within : c.args.self.now.state.committed ≤ length c.args.self.now.state.log = rw (← c.self.view_is) c.self.invariant in
+    let within : c.args.self.now.state.committed ≤ places c.args.self.now.state.log = rw (← c.self.view_is) c.self.invariant.1 in
     start_behind_active steps c.args.self.now c.become_active.new.self c.args.ballot c.self.inside.committed
     (become_active_is steps c.args.self.now c.add_start.new.self c.become_active.new.self c.args.ballot c.in-Ok.progress.items
     c.in-Ok.ensures.state c.in-Ok.ensures.progress c.in-Ok-become_active.ensures.state)
@@ -35,7 +36,7 @@ begin-requires-clause-behind g c =
 pub take_back_start-requires : goal.take_back_start-requires
 take_back_start-requires g c =
     let steps = g.M.Machine.rules in
-    let within : c.args.self.now.state.committed ≤ length c.args.self.now.state.log = rw (← c.self.view_is) c.self.invariant in
+    let within : c.args.self.now.state.committed ≤ places c.args.self.now.state.log = rw (← c.self.view_is) c.self.invariant.1 in
     record {
       behind = start_behind_stopped steps c.add_start.new.self c.become_active.new.self c.in-Err.ensures.stops
           (start_behind c.args.self.now c.add_start.new.self _ c.in-Ok.ensures.state within);

@@ -1,4 +1,5 @@
-use Rattle.std.proofs.Common.{◌≡◌, ◌≤◌, ◌<◌, length, refl, sym, ◌∙◌, arith}
+use Rattle.std.proofs.Common.{◌≤◌, ◌<◌, refl, sym, ◌∙◌, arith}
+use Rattle.ballot_base.specs.Logs.{places}
 use Rattle.ballot_base.proofs.MessageRows.{on_append-elsewhere, on_append-gap}
 use Rattle.ballot.proofs.MessagesTaken.{went_same, append_taken, append_lost}
 use Rattle.ballot.proofs.replica.Replica.on_append.Goals as goal
@@ -8,10 +9,10 @@ returns-then-not-follows-clause-went g c =
     went_same _ _ _ (on_append-elsewhere _ _ c.args.from c.args.ballot c.args.place c.args.command
     (sym c.follows.ensures ∙ c.if-not-follows.true))
 
-pub returns-then-place-len-clause-went : goal.returns-then-place-len-clause-went
-returns-then-place-len-clause-went g c =
-    let gap : length c.args.self.now.state.log < c.args.place =
-    rw (← c.self.view_is) (omega (arith, c.self.inside.log.ok.0)) in
+pub returns-then-place-places-clause-went : goal.returns-then-place-places-clause-went
+returns-then-place-places-clause-went g c =
+    let gap : places c.args.self.now.state.log < c.args.place =
+    rw (← c.self.view_is) (omega (arith, c.places.ensures, c.if-place-places.true)) in
     went_same _ _ _ (on_append-gap _ _ c.args.from c.args.ballot c.args.place c.args.command
     (sym c.follows.ensures ∙ c.if-not-follows.false) gap)
 
@@ -25,16 +26,14 @@ returns-then-not-take_in-clause-went g c =
 
 pub returns-clause-went : goal.returns-clause-went
 returns-clause-went g c =
-    let within : c.args.place ≤ length c.args.self.now.state.log =
-    rw (← c.self.view_is) (omega (arith, c.self.inside.log.ok.0)) in
-    let long : c.len-2.result ≡ length c.take_in.new.log.items =
-    omega (arith, c.take_in.new.log.ok.0, c.len-2.ensures) in
-    append_taken _ c.args.self.now _ c.args.from c.args.ballot c.args.place c.args.command c.take_in.new.log.items
-    c.len-2.result _ _ c.send-sent.result
+    let within : c.args.place ≤ places c.args.self.now.state.log =
+    rw (← c.self.view_is) (omega (arith, c.places.ensures, c.if-place-places.false)) in
+    append_taken _ c.args.self.now _ c.args.from c.args.ballot c.args.place c.args.command c.take_in.new.log
+    c.places-2.result _ _ c.send-sent.result
     (sym c.follows.ensures ∙ c.if-not-follows.false)
     within
     (rw (← c.self.view_is) c.if-not-take_in.ensures.taken)
-    long
+    c.places-2.ensures
     (rw (← c.self.view_is) c.send-sent.ensures)
     (rw (← c.self.view_is) refl)
     (rw (← c.self.view_is) c.counted-self-inside-2.ensures)

@@ -1,4 +1,5 @@
-use Rattle.std.proofs.Common.{◌≡◌, false, cond, take, drop, ap, ◌≤◌, ◌<◌, length, refl, sym, ◌∙◌, arith}
+use Rattle.std.proofs.Common.{◌≡◌, false, cond, ap, ◌≤◌, ◌<◌, refl, sym, ◌∙◌, arith}
+use Rattle.ballot_base.specs.Logs.{part, places}
 use Rattle.ballot_base.specs.Replica.{CountedReplica}
 use Rattle.ballot_base.proofs.MessageRows.{on_commit-elsewhere, on_commit-past}
 use Rattle.ballot.proofs.PlacesApplied.{shown_applied}
@@ -10,26 +11,26 @@ returns-then-not-follows-clause-went g c =
     let steps = g.M.Machine.rules in
     went_same _ _ _ (on_commit-elsewhere steps _ c.args.ballot c.args.held (sym c.follows.ensures ∙ c.if-not-follows.true))
 
-pub returns-then-held-len-clause-went : goal.returns-then-held-len-clause-went
-returns-then-held-len-clause-went g c =
+pub returns-then-held-places-clause-went : goal.returns-then-held-places-clause-went
+returns-then-held-places-clause-went g c =
     let steps = g.M.Machine.rules in
-    let past : length c.args.self.now.state.log < c.args.held =
-    rw (← c.self.view_is) (omega (arith, c.self.inside.log.ok.0)) in
+    let past : places c.args.self.now.state.log < c.args.held =
+    rw (← c.self.view_is) (omega (arith, c.places.ensures, c.if-held-places.true)) in
     went_same _ _ _ (on_commit-past steps _ c.args.ballot c.args.held (sym c.follows.ensures ∙ c.if-not-follows.false) past)
 
 pub returns-then-held-self-clause-went : goal.returns-then-held-self-clause-went
 returns-then-held-self-clause-went g c =
     let steps = g.M.Machine.rules in
-    let within : c.args.held ≤ length c.args.self.now.state.log =
-    rw (← c.self.view_is) (omega (arith, c.self.inside.log.ok.0)) in
+    let within : c.args.held ≤ places c.args.self.now.state.log =
+    rw (← c.self.view_is) (omega (arith, c.places.ensures, c.if-held-places.false)) in
     let known : c.args.held ≤ c.args.self.now.state.committed = rw (← c.self.view_is) c.if-held-self.true in
     went_same _ _ _ (commit_known steps _ c.args.ballot c.args.held (sym c.follows.ensures ∙ c.if-not-follows.false) within known)
 
 pub returns-in-Ok-clause-went : goal.returns-in-Ok-clause-went
 returns-in-Ok-clause-went g c =
     let steps = g.M.Machine.rules in
-    let within : c.args.held ≤ length c.args.self.now.state.log =
-    rw (← c.self.view_is) (omega (arith, c.self.inside.log.ok.0)) in
+    let within : c.args.held ≤ places c.args.self.now.state.log =
+    rw (← c.self.view_is) (omega (arith, c.places.ensures, c.if-held-places.false)) in
     let above : c.args.self.now.state.committed < c.args.held = rw (← c.self.view_is) c.if-held-self.false in
     let running : c.self.inside.stopped ≡ false = ap (λ (z : CountedReplica _ _). z.state.stopped) c.self.view_is ∙ c.requires in
     commit_taken steps c.args.self.now _ c.args.ballot c.args.held
@@ -38,15 +39,15 @@ returns-in-Ok-clause-went g c =
     (rw (← c.self.view_is) refl)
     (rw (← c.self.view_is) (shown_applied steps c.self.inside.stopped g.M.Machine.rules.opening c.self.inside.machine
     c.apply_dropping.new.machine
-    (drop c.self.inside.committed (take c.args.held c.self.inside.log.items)) running
-    (rw c.deref.ensures.value at c.in-Ok.ensures)))
+    (part c.self.inside.log c.self.inside.committed c.args.held) running
+    c.in-Ok.ensures))
     (rw (← c.self.view_is) refl)
 
 pub returns-in-Err-clause-went : goal.returns-in-Err-clause-went
 returns-in-Err-clause-went g c =
     let steps = g.M.Machine.rules in
-    let within : c.args.held ≤ length c.args.self.now.state.log =
-    rw (← c.self.view_is) (omega (arith, c.self.inside.log.ok.0)) in
+    let within : c.args.held ≤ places c.args.self.now.state.log =
+    rw (← c.self.view_is) (omega (arith, c.places.ensures, c.if-held-places.false)) in
     let above : c.args.self.now.state.committed < c.args.held = rw (← c.self.view_is) c.if-held-self.false in
     commit_halted steps c.args.self.now _ c.args.ballot c.args.held (sym c.follows.ensures ∙ c.if-not-follows.false) within above
     (rw (← c.self.view_is) refl) (rw (← c.self.view_is) c.counted-self-inside.ensures)

@@ -1,4 +1,5 @@
 use Rattle.std.proofs.Common.{◌≡◌, ◌≤◌, length, refl, ap, sym, ◌∙◌, arith}
+use Rattle.ballot_base.specs.Logs.{places}
 use Rattle.ballot_base.specs.Replica.{CountedReplica}
 use Rattle.ballot_base.specs.Serving.{least, raised}
 use Rattle.ballot_base.proofs.StepRows.{least-le, commit_at-stopped}
@@ -14,19 +15,19 @@ returns-then-not-leads-clause-went g c =
 
 pub commit_at-requires-clause-within : goal.commit_at-requires-clause-within
 commit_at-requires-clause-within g c =
-    let below : least c.len.result (raised c.args.from c.args.held c.deref.result.now) ≤ c.len.result =
+    let below : least c.places.result (raised c.args.from c.args.held c.deref.result.now) ≤ c.places.result =
     least-le _ (raised c.args.from c.args.held c.deref.result.now) in
-    rw (← c.self.view_is, c.least_raised-least.ensures) (omega (arith, c.self.inside.log.ok.0, c.len.ensures))
+    rw (← c.self.view_is, c.least_raised-least.ensures) (omega (arith, below, c.places.ensures))
 
 pub returns-in-Ok-clause-went : goal.returns-in-Ok-clause-went
 returns-in-Ok-clause-went g c =
     let steps = g.M.Machine.rules in
-    let long : c.len.result ≡ length c.args.self.now.state.log =
-    rw (← c.self.view_is) (omega (arith, c.self.inside.log.ok.0, c.len.ensures)) in
+    let long : c.places.result ≡ places c.args.self.now.state.log =
+    rw (← c.self.view_is) c.places.ensures in
     let written : length c.raise.new.progress ≡ c.self-2.inside.progress.len =
     omega (arith, c.raise.auto.progress, ap length c.deref_mut.ensures.value, c.self-2.inside.progress.ok.0) in
     held_taken steps c.args.self.now c.commit_at.new.self _ c.args.from c.args.ballot c.args.held c.least_raised-least.result
-    c.deref.result.now _ c.len.result _ _ c.in-Ok.told
+    c.deref.result.now _ c.places.result _ _ c.in-Ok.told
     (sym c.leads.ensures ∙ c.if-not-leads.false)
     (rw (← c.self.view_is) c.deref.ensures.value)
     long
@@ -48,10 +49,10 @@ returns-in-Ok-clause-ok g c =
 pub returns-in-Err-clause-went : goal.returns-in-Err-clause-went
 returns-in-Err-clause-went g c =
     let steps = g.M.Machine.rules in
-    let long : c.len.result ≡ length c.args.self.now.state.log =
-    rw (← c.self.view_is) (omega (arith, c.self.inside.log.ok.0, c.len.ensures)) in
+    let long : c.places.result ≡ places c.args.self.now.state.log =
+    rw (← c.self.view_is) c.places.ensures in
     held_halted steps c.args.self.now c.commit_at.new.self _ c.args.from c.args.ballot c.args.held c.least_raised-least.result
-    c.deref.result.now c.len.result _ _
+    c.deref.result.now c.places.result _ _
     (sym c.leads.ensures ∙ c.if-not-leads.false)
     (rw (← c.self.view_is) c.deref.ensures.value)
     long

@@ -1,27 +1,43 @@
-use Rattle.std.proofs.Common.{◌≡◌, length, ap, refl, sym, ◌∙◌, arith}
+use Rattle.std.proofs.Common.{ap, sym, ◌∙◌}
+use Rattle.ballot_base.specs.declared.status.Role.TheVariants.{Backup}
+use Rattle.ballot_base.specs.Changing.{lacks}
+use Rattle.ballot_base.specs.Losses.{one_more}
+use Rattle.ballot_base.specs.Replica.{CountedReplica}
 use Rattle.ballot_base.proofs.ChangeRows.{on_install-stays}
+use Rattle.ballot_base.proofs.LogsTaken.{taken-id}
 use Rattle.ballot.proofs.MessagesTaken.{went_same}
-use Rattle.ballot.proofs.ChangesTaken.{install_taken, install_answered, lacks_at}
+use Rattle.ballot.proofs.ChangesTaken.{install_taken, install_lost, install_answered}
 use Rattle.ballot.proofs.replica.Replica.on_install.Goals as goal
 
 pub returns-then-lacks-clause-went : goal.returns-then-lacks-clause-went
 returns-then-lacks-clause-went g c =
-    let long : c.len-held.result ≡ length c.into_places-places.result.items = omega (arith, c.len-held.ensures, c.into_places-places.result.ok.0) in
-    rw (← c.self.view_is)
-    (install_taken _ _ _ _ c.args.from c.args.ballot c.len-held.result c.args.log c.into_places-places.result.items _ _
-    (rw (← c.self.view_is) at (sym c.lacks.ensures ∙ c.if-lacks.true))
-    c.into_places-places.ensures long refl c.say.ensures)
+    let steps = g.M.Machine.rules in
+    install_taken {rules = steps} c.args.self.now c.take.new.self _ c.say.new.self c.args.from c.args.ballot c.places-held.result c.args.log _ _ _
+    (sym c.lacks.ensures ∙ c.if-lacks.true) c.places-held.ensures c.if-not-take.ensures.took.0 c.if-not-take.ensures.took.1
+    (taken-id steps c.args.self.now.state c.take.new.self.state c.args.log c.if-not-take.ensures.took.0)
+    (ap (λ (z : CountedReplica _ _). let y : CountedReplica _ _ = record z {
+      state = record z.state { joined = c.args.ballot; held_in = c.args.ballot; role = Backup };
+    } in y) c.self.view_is)
+    c.say.ensures
+
+pub returns-then-not-take-clause-went : goal.returns-then-not-take-clause-went
+returns-then-not-take-clause-went g c =
+    let steps = g.M.Machine.rules in
+    let same = c.self.view_is ∙ c.if-not-take.ensures.unread.0 in
+    install_lost {rules = steps} c.args.self.now _ c.args.from c.args.ballot c.places-held.result c.args.log _
+    (sym c.lacks.ensures ∙ c.if-lacks.true) c.places-held.ensures
+    (ap (λ (z : CountedReplica _ _). z.state) same)
+    (c.counted-self-inside.ensures ∙ ap (λ (z : CountedReplica _ _). one_more z.losses) same)
 
 pub returns-then-holds-clause-went : goal.returns-then-holds-clause-went
 returns-then-holds-clause-went g c =
-    let long : c.len-held.result ≡ length c.into_places-places.result.items = omega (arith, c.len-held.ensures, c.into_places-places.result.ok.0) in
-    install_answered _ c.args.self.now _ c.args.from c.args.ballot c.len-held.result c.args.log c.into_places-places.result.items _ _
-    (sym c.lacks.ensures ∙ c.if-lacks.false) (sym c.holds.ensures ∙ c.if-holds.true)
-    c.into_places-places.ensures long c.say-then-holds.ensures
+    let steps = g.M.Machine.rules in
+    install_answered {rules = steps} c.args.self.now _ c.args.from c.args.ballot c.places-held.result c.args.log _ _ _
+    (sym c.lacks.ensures ∙ c.if-lacks.false) (sym c.holds.ensures ∙ c.if-holds.true) c.places-held.ensures c.say-then-holds.ensures
 
 pub returns-clause-went : goal.returns-clause-went
 returns-clause-went g c =
-    let long : c.len-held.result ≡ length c.into_places-places.result.items = omega (arith, c.len-held.ensures, c.into_places-places.result.ok.0) in
-    went_same _ _ _ (on_install-stays _ _ c.args.from c.args.ballot c.args.log
-    (lacks_at c.args.self.now.state c.args.ballot c.len-held.result (long ∙ ap length c.into_places-places.ensures) (sym c.lacks.ensures ∙ c.if-lacks.false))
+    let steps = g.M.Machine.rules in
+    went_same _ _ _ (on_install-stays steps _ c.args.from c.args.ballot c.args.log
+    (ap (lacks c.args.self.now.state c.args.ballot) (sym c.places-held.ensures) ∙ sym c.lacks.ensures ∙ c.if-lacks.false)
     (sym c.holds.ensures ∙ c.if-holds.false))

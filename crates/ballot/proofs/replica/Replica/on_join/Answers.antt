@@ -10,9 +10,9 @@ returns-then-not-may_join-clause-went g c =
 
 pub returns-clause-went : goal.returns-clause-went
 returns-clause-went g c =
-    join_answered _ c.args.self.now c.leave_for.new.self _ c.args.from c.args.ballot c.args.previous c.deref.result.now _ _ c.send_state-sent.result
+    join_answered _ c.args.self.now c.leave_for.new.self _ c.args.from c.args.ballot c.args.previous c.self.inside.log _ _ c.send_state-sent.result
     (sym c.may_join.ensures ∙ c.if-not-may_join.false)
-    (rw (← c.self.view_is) c.deref.ensures.value)
+    (rw (← c.self.view_is) refl)
     (rw (← c.self.view_is) c.send_state-sent.ensures)
     c.leave_for.ensures
     (rw (← c.self-2.view_is) refl)

@@ -1,33 +1,50 @@
-use Rattle.std.proofs.Common.{◌≡◌, length, ap, refl, sym, ◌∙◌, arith}
+use Rattle.std.proofs.Common.{◌≡◌, true, ap, refl, sym, ◌∙◌}
+use Rattle.ballot_base.specs.declared.status.Role.TheVariants.{Installing}
+use Rattle.ballot_base.specs.Changing.{waits_for}
+use Rattle.ballot_base.specs.Logs.{places}
+use Rattle.ballot_base.specs.Losses.{one_more}
+use Rattle.ballot_base.specs.Replica.{CountedReplica}
 use Rattle.ballot_base.proofs.ChangeRows.{on_state-stays}
 use Rattle.ballot.proofs.MessagesTaken.{went_same}
-use Rattle.ballot.proofs.ChangesTaken.{state_taken, state_lost, waits_at}
+use Rattle.ballot.proofs.ChangesTaken.{state_taken, state_lost}
 use Rattle.ballot.proofs.replica.Replica.on_state.Goals as goal
 
 pub returns-then-not-waits_for-clause-went : goal.returns-then-not-waits_for-clause-went
 returns-then-not-waits_for-clause-went g c =
-    let long : c.len.result ≡ length c.into_places-places.result.items = omega (arith, c.len.ensures, c.into_places-places.result.ok.0) in
-    went_same _ _ _ (on_state-stays _ _ c.args.ballot c.args.log
-    (waits_at c.args.self.now.state c.args.ballot c.len.result (long ∙ ap length c.into_places-places.ensures) (sym c.waits_for.ensures ∙ c.if-not-waits_for.true)))
+    let steps = g.M.Machine.rules in
+    went_same _ _ _ (on_state-stays steps _ c.args.ballot c.args.log
+    (ap (waits_for c.args.self.now.state c.args.ballot) (sym c.places.ensures) ∙ sym c.waits_for.ensures ∙ c.if-not-waits_for.true))
 
-pub returns-in-Ok-clause-went : goal.returns-in-Ok-clause-went
-returns-in-Ok-clause-went g c =
-    let long : c.len.result ≡ length c.into_places-places.result.items = omega (arith, c.len.ensures, c.into_places-places.result.ok.0) in
-    rw (← c.self.view_is)
-    (state_taken _ _ _ _ c.args.ballot c.args.log c.into_places-places.result.items c.in-Ok.lacking.items _ _ c.hand_over-sent.result
-    (rw (← c.self.view_is) at (waits_at c.args.self.now.state c.args.ballot c.len.result long (sym c.waits_for.ensures ∙ c.if-not-waits_for.false)))
-    c.into_places-places.ensures
-    (rw c.as_slice.ensures at c.in-Ok.ensures)
-    refl
+pub returns-in_default-clause-went : goal.returns-in_default-clause-went
+returns-in_default-clause-went g c =
+    let steps = g.M.Machine.rules in
+    let waits : waits_for c.args.self.now.state c.args.ballot (places c.args.log) ≡ true =
+    ap (waits_for c.args.self.now.state c.args.ballot) (sym c.places.ensures) ∙ sym c.waits_for.ensures ∙ c.if-not-waits_for.false in
+    state_lost {rules = steps} c.args.self.now _ c.args.ballot c.args.log _ waits
+    (ap (λ (z : CountedReplica _ _). z.state) c.self.view_is)
+    (c.counted-self-inside.ensures ∙ ap (λ (z : CountedReplica _ _). one_more z.losses) c.self.view_is)
+
+pub returns-then-not-take-clause-went : goal.returns-then-not-take-clause-went
+returns-then-not-take-clause-went g c =
+    let steps = g.M.Machine.rules in
+    let waits : waits_for c.args.self.now.state c.args.ballot (places c.args.log) ≡ true =
+    ap (waits_for c.args.self.now.state c.args.ballot) (sym c.places.ensures) ∙ sym c.waits_for.ensures ∙ c.if-not-waits_for.false in
+    let same = c.self-2.view_is ∙ c.if-not-take.ensures.unread.0 in
+    state_lost {rules = steps} c.args.self.now _ c.args.ballot c.args.log _ waits
+    (ap (λ (z : CountedReplica _ _). z.state) same)
+    (c.counted-self-inside-then-not-take.ensures ∙ ap (λ (z : CountedReplica _ _). one_more z.losses) same)
+
+pub returns-clause-went : goal.returns-clause-went
+returns-clause-went g c =
+    let steps = g.M.Machine.rules in
+    let waits : waits_for c.args.self.now.state c.args.ballot (places c.args.log) ≡ true =
+    ap (waits_for c.args.self.now.state c.args.ballot) (sym c.places.ensures) ∙ sym c.waits_for.ensures ∙ c.if-not-waits_for.false in
+    state_taken {rules = steps} c.args.self.now c.take.new.self _ _ c.args.ballot c.args.log _ c.in-Ok.lacking.items _ _ c.hand_over-sent.result
+    waits c.if-not-take.ensures.took.0 c.if-not-take.ensures.took.1
+    (rw (← c.self.view_is) (rw c.as_slice.ensures at c.in-Ok.ensures))
+    (ap (λ (z : CountedReplica _ _). let y : CountedReplica _ _ = record z {
+      state = record z.state { held_in = c.args.ballot; role = Installing; lacking = c.in-Ok.lacking.items };
+    } in y) c.self-2.view_is)
     c.hand_over-sent.ensures
     refl
-    c.counted-self-inside.ensures)
-
-pub returns-in-Err-clause-went : goal.returns-in-Err-clause-went
-returns-in-Err-clause-went g c =
-    let long : c.len.result ≡ length c.into_places-places.result.items = omega (arith, c.len.ensures, c.into_places-places.result.ok.0) in
-    state_lost _ c.args.self.now _ c.args.ballot c.args.log c.into_places-places.result.items _
-    (waits_at c.args.self.now.state c.args.ballot c.len.result long (sym c.waits_for.ensures ∙ c.if-not-waits_for.false))
-    c.into_places-places.ensures
-    (rw (← c.self.view_is) refl)
-    (rw (← c.self.view_is) c.counted-self-inside-in-Err.ensures)
+    c.counted-self-inside-2.ensures

@@ -1,4 +1,5 @@
-use Rattle.std.proofs.Common.{◌≡◌, ◌≤◌, ◌<◌, true, false, length, sym, ◌∙◌, arith}
+use Rattle.std.proofs.Common.{◌≡◌, ◌≤◌, ◌<◌, true, false, sym, ◌∙◌, arith}
+use Rattle.ballot_base.specs.Logs.{places}
 use Rattle.ballot_base.specs.Replica.{is_active}
 use Rattle.ballot_base.specs.Serving.{most_places}
 use Rattle.ballot_base.proofs.StepRows.{proposed-not_active, proposed-full, added-stopped}
@@ -11,10 +12,10 @@ returns-then-not-is_active-clause-step g c =
     rw (← c.self.view_is) (λ running. stays_step steps _ _ _
     (proposed-not_active steps _ c.args.command (sym c.is_active.ensures ∙ c.if-not-is_active.true)))
 
-pub returns-then-len-ge-MOST_PLACES-clause-step : goal.returns-then-len-ge-MOST_PLACES-clause-step
-returns-then-len-ge-MOST_PLACES-clause-step g c =
+pub returns-then-places-ge-MOST_PLACES-clause-step : goal.returns-then-places-ge-MOST_PLACES-clause-step
+returns-then-places-ge-MOST_PLACES-clause-step g c =
     let steps = g.M.Machine.rules in
-    let full : most_places ≤ length c.self.inside.log.items = omega (arith, c.self.inside.log.ok.0) in
+    let full : most_places ≤ places c.self.inside.log = omega (arith, c.places.ensures) in
     rw (← c.self.view_is) (λ running. stays_step steps _ _ _
     (proposed-full steps _ c.args.command (sym c.is_active.ensures ∙ c.if-not-is_active.false) full))
 
@@ -23,8 +24,8 @@ returns-clause-step g c =
     let steps = g.M.Machine.rules in
     let active : is_active c.args.self.now.state.role ≡ true =
     rw (← c.self.view_is) (sym c.is_active.ensures ∙ c.if-not-is_active.false) in
-    let room : length c.args.self.now.state.log < most_places =
-    rw (← c.self.view_is) (omega (arith, c.self.inside.log.ok.0)) in
+    let room : places c.args.self.now.state.log < most_places =
+    rw (← c.self.view_is) (omega (arith, c.places.ensures)) in
     λ running. answered_proposed steps c.args.self.now c.args.command c.add.result c.add.new.self _ _
     active room c.add.ensures.outcome c.add.ensures.err
 

@@ -1,0 +1,107 @@
+// Logs that are cut, and snapshots that go over to another node.
+
+use super::pairs::*;
+use super::replicas::*;
+use super::stories::{Change, Story, go, goes};
+use ballot::{Body, Effect, Log, Replica, Role};
+use machine::{Tally, TallyCommand};
+use std::alloc::Global;
+
+// The total 5, frozen.
+const FIVE: &[u8] = &[0, 0, 0, 0, 0, 0, 0, 5];
+
+/// Whether this is the base of the log, and these are the bytes there.
+fn is_cut_at(replica: &Replica<Tally>, base: u64, bytes: &[u8]) -> bool {
+    let (at, snapshot) = replica.snapshot();
+    at == base && snapshot == bytes
+}
+
+/// Whether a sole member that has added 2 and 3 cuts its log once, and then goes on.
+pub fn is_cut_once(replica: &mut Replica<Tally>, out: &mut Vec<Effect<TallyCommand, u64>>) -> bool {
+    !replica.cut()
+        && is_cut_at(replica, 0, &[])
+        && takes(replica, TallyCommand::Add(2), out)
+        && takes(replica, TallyCommand::Add(3), out)
+        && replica.cut()
+        && !replica.cut()
+        && is_cut_at(replica, 2, FIVE)
+        && logs(replica, &[])
+        && goes_on(replica, out)
+}
+
+// Whether a member that was cut at place 2 counts its places from 0 as before.
+fn goes_on(replica: &mut Replica<Tally>, out: &mut Vec<Effect<TallyCommand, u64>>) -> bool {
+    out.clear();
+    takes(replica, TallyCommand::Add(4), out)
+        && gives(out, 0, 2, 9)
+        && shows(replica, 1, Role::Active, 3, 3)
+        && logs(replica, &[TallyCommand::Add(4)])
+        && replica.losses() == 0
+}
+
+#[test]
+fn a_log_is_cut(rt: HostRuntime) {
+    assert!(rt; goes(rt.alloc(), 1, &[1], 1, Story::IsCut));
+}
+
+/// Whether a node that is no member counts a log as lost whose snapshot is no total, and changes
+/// nothing, but takes the log that it can read.
+pub fn reads_snapshots(
+    replica: &mut Replica<Tally>,
+    out: &mut Vec<Effect<TallyCommand, u64>>,
+    alloc: Global,
+) -> bool {
+    installs(replica, out, alloc, &FIVE[..3])
+        && shows(replica, 0, Role::Backup, 0, 0)
+        && replica.losses() == 1
+        && out.is_empty()
+        && installs(replica, out, alloc, FIVE)
+        && shows(replica, 2, Role::Backup, 3, 2)
+        && is_cut_at(replica, 2, FIVE)
+        && out.len() == 1
+}
+
+// Whether a replica hears that ballot 2 installs the log with these bytes at place 2 and one command.
+fn installs(
+    replica: &mut Replica<Tally>,
+    out: &mut Vec<Effect<TallyCommand, u64>>,
+    alloc: Global,
+    bytes: &[u8],
+) -> bool {
+    let mut rest = Vec::new(alloc);
+    let Ok(snapshot) = Vec::from_slice(alloc, bytes) else {
+        return false;
+    };
+    if rest.push(TallyCommand::Add(1)).is_err() || rest.len() > 1 {
+        return false;
+    }
+    let log = Log::from_parts(2, snapshot, rest);
+    hears(replica, 1, Body::Install(2, log), out)
+}
+
+#[test]
+fn a_snapshot_is_read_or_lost(rt: HostRuntime) {
+    assert!(rt; goes(rt.alloc(), 2, &[1], 1, Story::ReadsSnapshots));
+}
+
+/// Whether the snapshot of node 1, which has added 2 and 3 and cut its log, goes over to node 2, which
+/// adds 4.
+pub fn snapshot_goes_over(pair: &mut Pair, alloc: Global) -> bool {
+    takes(&mut pair.one, TallyCommand::Add(2), &mut pair.out)
+        && takes(&mut pair.one, TallyCommand::Add(3), &mut pair.out)
+        && pair.one.cut()
+        && is_assigned(pair, alloc, &[1])
+        && hands_on(pair, &["Join", "State"])
+        && shows(&pair.two, 2, Role::Installing, 2, 2)
+        && is_cut_at(&pair.two, 2, FIVE)
+        && hands_on(pair, &["Install", "Installed", "Activate"])
+        && master_says(pair, Body::Activated(2))
+        && hands_on(pair, &["Append", "Held", "Commit"])
+        && shows(&pair.one, 2, Role::Backup, 3, 3)
+        && shows(&pair.two, 2, Role::Active, 3, 3)
+}
+
+#[test]
+fn a_snapshot_goes_over(rt: HostRuntime) {
+    assert!(rt; go(rt.alloc(), &[1], Change::SnapshotGoesOver));
+}
