@@ -1,0 +1,28 @@
+-- MoreMoments.antt: with more moments what was told, chosen and active stays so, and the agreed list only grows.
+use Rattle.std.proofs.Common.{◌≡◌, ℕ, ◌⊎◌, inl, inr, List, [], refl, sym, subst}
+use Rattle.lists.specs.Lists.{In, IsPrefixOf}
+use Rattle.ballot_base.specs.declared.config.Config.{Config}
+use Rattle.agreement.specs.Past.{Moment, HasConfig, WasActive, HasTold, IsChosen, IsAgreed}
+use Rattle.agreement.specs.Past.HasConfig.{opened_with, was_assigned}
+use Rattle.agreement.specs.Past.HasTold.{told_as_log, told_by_message}
+
+pub config_in : {S C O : Type 0} (config : Config) (past more : List (Moment S C O)) → ((c : Moment S C O) → In c past → In c more) → (b : ℕ) (c : Config) →
+    HasConfig config past b c → HasConfig config more b c
+config_in config past more inc b c (opened_with one same) = opened_with one same
+config_in config past more inc b c (was_assigned a i waits) = was_assigned a (inc a i) waits
+
+pub told_in : {S C O : Type 0} (config : Config) (past more : List (Moment S C O)) → ((c : Moment S C O) → In c past → In c more) → (b n : ℕ) (xs : List C) →
+    HasTold config past b n xs → HasTold config more b n xs
+told_in config past more inc b n xs (told_as_log a r c i stands held has primary is) =
+    told_as_log a r c (inc a i) stands held (config_in config past more inc b c has) primary is
+told_in config past more inc b n xs (told_by_message a r i stands held sent front) = told_by_message a r (inc a i) stands held sent front
+
+pub grows_in : {S C O : Type 0} (config : Config) (past more : List (Moment S C O)) (xs ys : List C) → ((c : Moment S C O) → In c past → In c more) →
+    IsAgreed config past xs → IsAgreed config more ys → IsPrefixOf xs ys
+grows_in {S = S} {C = C} {O = O} config past more xs ys inc before behind = by_chosen before.chosen
+  where
+    by_chosen : (xs ≡ []) ⊎ ((b : ℕ) × WasActive past b × IsChosen config past b xs) → IsPrefixOf xs ys
+    by_chosen (inl nothing) = subst (λ (us : List C). IsPrefixOf us ys) (sym nothing) (record { rest = ys; is = refl })
+    by_chosen (inr (b, (a, i, e), (c, has, all))) =
+        behind.longest b xs (a, inc a i, e)
+        (c, config_in config past more inc b c has, λ n j. let z = all n j in (z.0, told_in config past more inc b n z.0 z.1, z.2))

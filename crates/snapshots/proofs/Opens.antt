@@ -1,0 +1,140 @@
+-- Opens.antt: a world whose logs are cut opens so, and the master's moves keep what holds.
+use Rattle.std.proofs.Common.{cond, Bool, ◌≡◌, ℕ, zero, suc, ◌+◌, ◌≤◌, ◌⊎◌, inl, inr, true, false, List, [], ◌∷◌, ◌++◌, map, refl, ap, ap₂, sym, ◌∙◌, subst, arith}
+use Rattle.std.specs.Prelude.{◌==◌}
+use Rattle.std.proofs.lemmas.List.{map-append}
+use Rattle.machine.specs.Machine.{Rules}
+use Rattle.lists.specs.Lists.{In}
+use Rattle.lists.specs.Lists.In.{here, there}
+use Rattle.lists.proofs.Beginnings.{prefix_then}
+use Rattle.lists.proofs.Members.{in_append, in_at}
+use Rattle.ballot_base.specs.declared.config.Config.{Config}
+use Rattle.agreement.specs.whole.Replica.{ReplicaState as WholeState, opening as whole_opening, opening_member as whole_member}
+use Rattle.ballot_base.specs.Replica.{others, progress_at, ReplicaState, opening, opening_member}
+use Rattle.ballot_base.specs.declared.status.Role.TheVariants.{Active}
+use Rattle.agreement.specs.MasterState.{MasterState, opening_master}
+use Rattle.agreement.specs.Past.{Moment, Past}
+use Rattle.agreement.specs.Past.Past.{began, went_on}
+use Rattle.agreement.specs.Steps.{MayHappen}
+use Rattle.agreement.specs.World.{can_open, opening_nodes as whole_opening_nodes}
+use Rattle.snapshots.specs.Past.{opening_nodes, opening_world}
+use Rattle.agreement.proofs.Agreed.PastAgrees.{has_agreed}
+use Rattle.ballot_base.specs.Logs.{Log, empty_log}
+use Rattle.ballot_base.specs.declared.message.Body.{Body}
+use Rattle.ballot_base.specs.declared.message.Message.{Message}
+use Rattle.ballot_base.specs.declared.message.Body.TheVariants.{NewBallot, Join, State, Install, Installed, Activate, Activated, Superseded, Append, Held, Commit}
+use Rattle.snapshots.specs.Whole.{whole, whole_body}
+use Rattle.snapshots.specs.World.{World, whole_letter, whole_world}
+use Rattle.snapshots.proofs.Kept.{Carries, IsSnapshot, Kept, carries_in}
+use Rattle.snapshots.proofs.MoreMoments.{grows_in}
+use Rattle.snapshots.proofs.LogsGoOn.{moment}
+use Rattle.snapshots.proofs.Plain.{IsPlainBody}
+
+opens_whole : {S C O : Type 0} (rules : Rules S C O) (id : ℕ) (config : Config) → whole [] (opening rules id config) ≡ whole_opening rules id config
+opens_whole {S = S} {C = C} rules id config = by (id == config.primary)
+  where
+    by : (b : Bool) →
+        whole [] (cond b (record (opening_member rules id config) { role = Active; members = config.members; progress = progress_at 0 (others id config.members) }) (opening_member rules id config))
+        ≡ cond b (record (whole_member rules id config) { role = Active; members = config.members; progress = progress_at 0 (others id config.members) }) (whole_member rules id config)
+    by true = refl
+    by false = refl
+
+nodes_whole : {S C O : Type 0} (rules : Rules S C O) (nodes : ℕ) (config : Config) → map (whole []) (opening_nodes rules nodes config) ≡ whole_opening_nodes rules nodes config
+nodes_whole rules zero config = refl
+nodes_whole {S = S} {C = C} rules (suc n) config =
+    map-append (whole []) (opening_nodes rules n config) (opening rules (n + 1) config ∷ [])
+    ∙ ap₂ (λ (us : List (WholeState S C)) (x : WholeState S C). us ++ x ∷ []) (nodes_whole rules n config) (opens_whole rules (n + 1) config)
+
+only_one : {X : Type 0} (x y : X) → In x (y ∷ []) → x ≡ y
+only_one x y here = refl
+only_one x y (there j) = elim j [ ]
+
+opens_empty : {S C O : Type 0} (rules : Rules S C O) (nodes : ℕ) (config : Config) (x : ReplicaState S C) → In x (opening_nodes rules nodes config) → x.log ≡ empty_log C
+opens_empty rules zero config x i = elim i [ ]
+opens_empty {S = S} {C = C} rules (suc n) config x i = by_place (λ j. opens_empty rules n config x j) (in_append (opening_nodes rules n config) (opening rules (n + 1) config ∷ []) i)
+  where
+    one : (b : Bool) → (cond b (record (opening_member rules (n + 1) config) { role = Active; members = config.members; progress = progress_at 0 (others (n + 1) config.members) }) (opening_member rules (n + 1) config)).log ≡ empty_log C
+    one true = refl
+    one false = refl
+
+    last : In x (opening rules (n + 1) config ∷ []) → x.log ≡ empty_log C
+    last j = ap (λ (y : ReplicaState S C). y.log) (only_one x (opening rules (n + 1) config) j) ∙ one (n + 1 == config.primary)
+
+    by_place : (In x (opening_nodes rules n config) → x.log ≡ empty_log C) → In x (opening_nodes rules n config) ⊎ In x (opening rules (n + 1) config ∷ []) → x.log ≡ empty_log C
+    by_place before (inl j) = before j
+    by_place before (inr j) = last j
+
+-- it opens so
+pub opens_kept : {S C O : Type 0} (rules : Rules S C O) (nodes : ℕ) (config : Config) → can_open nodes config ≡ true →
+    Kept rules config (opening_master config) (opening_world rules nodes config) []
+opens_kept {S = S} {C = C} {O = O} rules nodes config can =
+    record {
+      came = began nodes can (ap (λ ns. let x : Moment S C O = record { master = opening_master config; world = record { nodes = ns; sent = []; left = [] } } in x) (nodes_whole rules nodes config));
+      nodes = λ n r e. at r (opens_empty rules nodes config r (in_at (opening_nodes rules nodes config) n r e));
+      letters = λ to x i. elim i [ ];
+      begins = λ xs agreed. record { rest = xs; is = refl };
+    }
+  where
+    at : (r : ReplicaState S C) → r.log ≡ empty_log C → IsSnapshot rules [] r.log × (r.log.base ≤ r.committed)
+    at r e = (
+      record {
+        within = (let a = ap (λ (l : Log C). l.base) e in omega (arith, a));
+        read = λ up. let a = ap (λ (l : Log C). l.base) e in absurd (omega (arith, a, up));
+        bytes = λ up. let a = ap (λ (l : Log C). l.base) e in absurd (omega (arith, a, up));
+      },
+      (let a = ap (λ (l : Log C). l.base) e in omega (arith, a)),
+    )
+
+-- ---- the master
+
+plain_carries : {S C O : Type 0} (rules : Rules S C O) (past : List (Moment S C O)) (archive : List C) (body : Body C) → IsPlainBody body →
+    Carries rules past archive body
+plain_carries rules past archive (State b log) p = absurd p
+plain_carries rules past archive (Install b log) p = absurd p
+plain_carries rules past archive (NewBallot b members a old) p = tt
+plain_carries rules past archive (Join b a) p = tt
+plain_carries rules past archive (Installed b held) p = tt
+plain_carries rules past archive (Activate b) p = tt
+plain_carries rules past archive (Activated b) p = tt
+plain_carries rules past archive (Superseded b) p = tt
+plain_carries rules past archive (Append b place c) p = tt
+plain_carries rules past archive (Held b held) p = tt
+plain_carries rules past archive (Commit b held) p = tt
+
+-- a message of the master carries no log
+pub master_kept : {S C O : Type 0} (rules : Rules S C O) (config : Config) (m k : MasterState) (w : World S C O) (earlier : List (Moment S C O))
+    (receiver : ℕ) (body : Body C) → Kept rules config m w earlier → IsPlainBody body →
+    MayHappen rules m (whole_world w) k (record (whole_world w) { sent = (whole_world w).sent ++ (receiver, record { from = 0; body = whole_body w.archive body }) ∷ [] }) →
+    Kept rules config k (record w { sent = w.sent ++ (receiver, record { from = 0; body = body }) ∷ [] }) (moment m w ∷ earlier)
+master_kept {S = S} {C = C} {O = O} rules config m k w earlier receiver body q plain step =
+    record {
+      came = subst (λ us. let x : Moment S C O = record { master = k; world = record (whole_world w) { sent = us } } in Past rules config (x ∷ moment m w ∷ earlier))
+          (sym (map-append (whole_letter w.archive) w.sent ((receiver, record { from = 0; body = body }) ∷ []))) (went_on q.came step);
+      nodes = q.nodes;
+      letters = λ to x i. by_age to x (in_append w.sent ((receiver, record { from = 0; body = body }) ∷ []) i);
+      begins = λ ys agreed. let xs = has_agreed rules config (moment m w) earlier q.came in
+          prefix_then (q.begins xs.0 xs.1) (grows_in config (moment m w ∷ earlier) (moment k v ∷ moment m w ∷ earlier) xs.0 ys (λ c i. there i) xs.1 agreed);
+    }
+  where
+    v : World S C O
+    v = record w { sent = w.sent ++ (receiver, record { from = 0; body = body }) ∷ [] }
+
+    new : (to : ℕ) (x : Message C) → In {X = ℕ × Message C} (to, x) ((receiver, record { from = 0; body = body }) ∷ []) → Carries rules (moment k v ∷ moment m w ∷ earlier) w.archive x.body
+    new to x here = plain_carries rules (moment k v ∷ moment m w ∷ earlier) w.archive body plain
+    new to x (there i) = elim i [ ]
+
+    by_age : (to : ℕ) (x : Message C) → In (to, x) w.sent ⊎ In {X = ℕ × Message C} (to, x) ((receiver, record { from = 0; body = body }) ∷ []) →
+        Carries rules (moment k v ∷ moment m w ∷ earlier) w.archive x.body
+    by_age to x (inl i) = carries_in rules (moment m w ∷ earlier) (moment k v ∷ moment m w ∷ earlier) w.archive x.body (λ c j. there j) (q.letters to x i)
+    by_age to x (inr i) = new to x i
+
+-- .. or it was lost
+pub master_unheard : {S C O : Type 0} (rules : Rules S C O) (config : Config) (m k : MasterState) (w : World S C O) (earlier : List (Moment S C O)) →
+    Kept rules config m w earlier → MayHappen rules m (whole_world w) k (whole_world w) → Kept rules config k w (moment m w ∷ earlier)
+master_unheard {S = S} {C = C} {O = O} rules config m k w earlier q step =
+    record {
+      came = went_on q.came step;
+      nodes = q.nodes;
+      letters = λ to x i. carries_in rules (moment m w ∷ earlier) (moment k w ∷ moment m w ∷ earlier) w.archive x.body (λ c j. there j) (q.letters to x i);
+      begins = λ ys agreed. let xs = has_agreed rules config (moment m w) earlier q.came in
+          prefix_then (q.begins xs.0 xs.1) (grows_in config (moment m w ∷ earlier) (moment k w ∷ moment m w ∷ earlier) xs.0 ys (λ c i. there i) xs.1 agreed);
+    }

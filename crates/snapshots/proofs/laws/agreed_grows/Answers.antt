@@ -1,0 +1,6 @@
+use Rattle.snapshots.proofs.PastsAgree.{agreed_grows}
+use Rattle.snapshots.proofs.laws.agreed_grows.Goals as goal
+
+pub returns : goal.returns
+returns g c =
+    agreed_grows g.M.Machine.rules

@@ -1,0 +1,6 @@
+use Rattle.snapshots.proofs.PastsAgree.{machines_replay}
+use Rattle.snapshots.proofs.laws.machines_replay.Goals as goal
+
+pub returns : goal.returns
+returns g c =
+    machines_replay g.M.Machine.rules

@@ -1,0 +1,6 @@
+use Rattle.snapshots.proofs.PastsAgree.{nodes_agree}
+use Rattle.snapshots.proofs.laws.nodes_agree.Goals as goal
+
+pub returns : goal.returns
+returns g c =
+    nodes_agree g.M.Machine.rules

@@ -1,0 +1,78 @@
+-- Laws.antt: what holds of every past of a group whose nodes cut their logs. What is said of logs is said of whole ones.
+use Rattle.std.specs.Prelude.{ℕ, ◌<◌, ◌≤◌, ◌≡◌, false, List, ◌∷◌, length, map, take, slice_get, Some}
+use Rattle.machine.specs.Machine.{Rules, replay}
+use Rattle.lists.specs.Lists.{In, IsPrefixOf}
+use Rattle.agreement.specs.Agreement.{Agrees, Holds}
+use Rattle.agreement.specs.Leaving.{LeftInOrder}
+use Rattle.agreement.specs.Past.{IsAgreed}
+use Rattle.agreement.specs.Primaries.{IsPrimary}
+use Rattle.agreement.specs.Replays.{AreReplays}
+use Rattle.ballot_base.specs.declared.config.Config.{Config}
+use Rattle.ballot_base.specs.declared.message.Message.{Message}
+use Rattle.ballot_base.specs.Replica.{ReplicaState}
+use Rattle.ballot_base.specs.Unread.{is_unread}
+use Rattle.snapshots.specs.Past.{Moment, Past, whole_moment}
+use Rattle.snapshots.specs.World.{whole_world}
+
+-- there is an agreed list at each moment
+abbrev pub HasAgreed : {S C O : Type 0} → Rules S C O → Type 0
+HasAgreed {S} {C} {O} rules =
+    (config : Config) (a : Moment S C O) (past : List (Moment S C O)) →
+    Past rules config (a ∷ past) → (xs : List C) × IsAgreed config (map whole_moment (a ∷ past)) xs
+
+-- the nodes agree on it, one of them, a member of the active ballot, holds it, what left is its
+-- answers in order, and the record of places begins it
+abbrev pub NodesAgree : {S C O : Type 0} → Rules S C O → Type 0
+NodesAgree {S} {C} {O} rules =
+    (config : Config) (a : Moment S C O) (past : List (Moment S C O)) (xs : List C) →
+    Past rules config (a ∷ past) → IsAgreed config (map whole_moment (a ∷ past)) xs →
+    Agrees rules a.master (whole_world a.world) xs × Holds a.master (whole_world a.world) xs
+    × LeftInOrder rules (map whole_moment (a ∷ past)) (whole_world a.world) xs
+    × IsPrefixOf a.world.archive xs
+
+-- what is agreed begins what is agreed at the next moment
+abbrev pub AgreedGrows : {S C O : Type 0} → Rules S C O → Type 0
+AgreedGrows {S} {C} {O} rules =
+    (config : Config) (a : Moment S C O) (past : List (Moment S C O)) (xs ys : List C) →
+    IsAgreed config (map whole_moment past) xs →
+    IsAgreed config (map whole_moment (a ∷ past)) ys → IsPrefixOf xs ys
+
+-- the machine of each node that runs is the replay of the places that it applied
+abbrev pub MachinesReplay : {S C O : Type 0} → Rules S C O → Type 0
+MachinesReplay {S} {C} {O} rules =
+    (config : Config) (a : Moment S C O) (past : List (Moment S C O)) →
+    Past rules config (a ∷ past) → AreReplays rules (whole_world a.world)
+
+-- the base of each log lies within the record and within what is applied, and a snapshot is the
+-- frozen replay of the places below it, and stands for that
+pub record IsCutRight {S C O : Type 0} (rules : Rules S C O) (archive : List C)
+    (r : ReplicaState S C) : Type 0 where
+  pub recorded : r.log.base ≤ length archive
+  pub applied : r.log.base ≤ r.committed
+  pub bytes : 0 < r.log.base →
+      r.log.snapshot ≡ rules.frozen (replay rules (take r.log.base archive))
+  pub snapshot : 0 < r.log.base →
+      rules.thawed r.log.snapshot ≡ Some (replay rules (take r.log.base archive))
+
+abbrev pub LogsAreCutRight : {S C O : Type 0} → Rules S C O → Type 0
+LogsAreCutRight {S} {C} {O} rules =
+    (config : Config) (a : Moment S C O) (past : List (Moment S C O)) →
+    Past rules config (a ∷ past) →
+    (n : ℕ) (r : ReplicaState S C) → slice_get a.world.nodes n ≡ Some r →
+    IsCutRight rules a.world.archive r
+
+-- so no node finds a message whose snapshot it has to read and that stands for no machine
+abbrev pub SnapshotsAreRead : {S C O : Type 0} → Rules S C O → Type 0
+SnapshotsAreRead {S} {C} {O} rules =
+    (config : Config) (a : Moment S C O) (past : List (Moment S C O)) →
+    Past rules config (a ∷ past) →
+    (to : ℕ) (message : Message C) → In (to, message) a.world.sent →
+    (r : ReplicaState S C) → is_unread rules r message.body ≡ false
+
+-- a ballot has one active primary at most, over all moments of a past
+abbrev pub OnePrimaryABallot : {S C O : Type 0} → Rules S C O → Type 0
+OnePrimaryABallot {S} {C} {O} rules =
+    (config : Config) (a : Moment S C O) (past : List (Moment S C O)) →
+    Past rules config (a ∷ past) →
+    (c d : Moment S C O) (m n ballot : ℕ) → In c (a ∷ past) → In d (a ∷ past) →
+    IsPrimary (whole_world c.world) m ballot → IsPrimary (whole_world d.world) n ballot → m ≡ n

@@ -1,0 +1,32 @@
+-- Masters.antt: what the master says in a group whose nodes cut their logs. What it keeps is as on whole logs, and no
+-- message of it carries a log.
+use Rattle.std.specs.Prelude.{ℕ, ◌+◌, Option, if◌then◌else◌}
+use Rattle.agreement.specs.MasterState.{MasterState, activating, assigning, is_granted}
+use Rattle.ballot_base.specs.declared.config.Config.{Config}
+use Rattle.ballot_base.specs.declared.message.Body.{Body}
+use Rattle.ballot_base.specs.declared.message.Body.TheVariants.{NewBallot, Activated, Superseded}
+
+-- what the master is after a step, and the message that it sends with its receiver
+pub record MasterOutcome (C : Type 0) : Type 0 where
+  pub state : MasterState
+  pub receiver : ℕ
+  pub body : Body C
+
+-- Assign: the primary is told of the ballot
+abbrev pub assigned : (C : Type 0) → MasterState → Config → MasterOutcome C
+assigned C m config =
+    record {
+      state = assigning m config;
+      receiver = config.primary;
+      body = NewBallot (m.given + 1) config.members m.active m.members;
+    }
+
+-- Activate(ballot) from a node, which is answered
+abbrev pub activated : (C : Type 0) →
+    MasterState → ℕ → ℕ → Option (ℕ × Config) → MasterOutcome C
+activated C m ballot from waiting =
+    record {
+      state = activating m ballot waiting;
+      receiver = from;
+      body = if is_granted m ballot waiting then Activated ballot else Superseded ballot;
+    }

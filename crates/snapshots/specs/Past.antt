@@ -1,0 +1,45 @@
+-- Past.antt: the moments of a group whose nodes cut their logs, from its opening on.
+use Rattle.std.specs.Prelude.{ℕ, zero, suc, ◌+◌, ◌≡◌, true, List, [], ◌∷◌, ◌++◌, map}
+use Rattle.machine.specs.Machine.{Rules}
+use Rattle.agreement.specs.MasterState.{MasterState, opening_master}
+use Rattle.agreement.specs.Past.{IsAgreed as IsAgreedWhole, Moment as WholeMoment}
+use Rattle.agreement.specs.World.{can_open}
+use Rattle.ballot_base.specs.declared.config.Config.{Config}
+use Rattle.ballot_base.specs.Replica.{ReplicaState, opening}
+use Rattle.snapshots.specs.Steps.{MayHappen}
+use Rattle.snapshots.specs.World.{World, whole_world}
+
+-- the master and the world
+pub record Moment (S C O : Type 0) : Type 0 where
+  pub master : MasterState
+  pub world : World S C O
+
+-- on whole logs
+abbrev pub whole_moment : {S C O : Type 0} → Moment S C O → WholeMoment S C O
+whole_moment a = record { master = a.master; world = whole_world a.world }
+
+-- as it opens: no log has a place, and nothing is recorded
+abbrev pub opening_nodes : {S C O : Type 0} → Rules S C O → ℕ → Config → List (ReplicaState S C)
+opening_nodes rules zero config = []
+opening_nodes rules (suc n) config =
+    opening_nodes rules n config ++ opening rules (n + 1) config ∷ []
+
+abbrev pub opening_world : {S C O : Type 0} → Rules S C O → ℕ → Config → World S C O
+opening_world rules nodes config =
+    record { nodes = opening_nodes rules nodes config; sent = []; left = []; archive = [] }
+
+abbrev pub opening_moment : {S C O : Type 0} → Rules S C O → ℕ → Config → Moment S C O
+opening_moment rules nodes config =
+    record { master = opening_master config; world = opening_world rules nodes config }
+
+-- the moments that were, the present one first -- history: no field keeps it
+pub data Past {S C O : Type 0} (rules : Rules S C O) (config : Config) :
+    List (Moment S C O) → Type 0 where
+  began : {a : Moment S C O} (nodes : ℕ) → can_open nodes config ≡ true →
+      a ≡ opening_moment rules nodes config → Past rules config (a ∷ [])
+  went_on : {a b : Moment S C O} {past : List (Moment S C O)} → Past rules config (a ∷ past) →
+      MayHappen rules a.master a.world b.master b.world → Past rules config (b ∷ a ∷ past)
+
+-- the agreed list: the longest that is chosen in a ballot that was active, of the whole logs
+abbrev pub IsAgreed : {S C O : Type 0} → Config → List (Moment S C O) → List C → Type 0
+IsAgreed config past xs = IsAgreedWhole config (map whole_moment past) xs

@@ -1,0 +1,40 @@
+-- Steps.antt: what may happen in a group whose nodes cut their logs: a node takes its step, stops or cuts its log; its
+-- master answers an Assign, or hears an Activate. Messages of the master may be lost, too.
+use Rattle.std.specs.Prelude.{ℕ, [], ◌∷◌, ◌++◌, Option, Some, None}
+use Rattle.machine.specs.Machine.{Rules}
+use Rattle.lists.specs.Lists.{In}
+use Rattle.agreement.specs.MasterState.{MasterState, AssignRefusal, master_behind, refusal}
+use Rattle.ballot_base.specs.declared.config.Config.{Config}
+use Rattle.ballot_base.specs.declared.message.Body.TheVariants.{Activate}
+use Rattle.ballot_base.specs.Sending.{master}
+use Rattle.snapshots.specs.Masters.{MasterOutcome, activated, assigned}
+use Rattle.snapshots.specs.World.{NodeGoes, World}
+
+-- the world after a message of the master
+abbrev pub tells_from_master : {S C O : Type 0} → World S C O → MasterOutcome C → World S C O
+tells_from_master w o =
+    record w { sent = w.sent ++ (o.receiver, record { from = master; body = o.body }) ∷ [] }
+
+-- and after an Assign: its primary is told of the ballot
+abbrev pub world_behind : {S C O : Type 0} →
+    MasterState → World S C O → Config → Option AssignRefusal → World S C O
+world_behind m w config (Some why) = w
+world_behind {C = C} m w config None = tells_from_master w (assigned C m config)
+
+-- what may happen
+pub data MayHappen {S C O : Type 0} (rules : Rules S C O) :
+    MasterState → World S C O → MasterState → World S C O → Type 0 where
+  node_goes : {m : MasterState} {w v : World S C O} → NodeGoes rules w v → MayHappen rules m w m v
+  master_assigns : {m : MasterState} {w : World S C O} (config : Config) →
+      MayHappen rules m w (master_behind m config (refusal m config))
+      (world_behind m w config (refusal m config))
+  master_hears : {m : MasterState} {w : World S C O} (from b : ℕ) →
+      In (0, record { from = from; body = Activate b }) w.sent →
+      MayHappen rules m w (activated C m b from m.waiting).state
+      (tells_from_master w (activated C m b from m.waiting))
+  -- the same where the master's message is lost
+  assignment_lost : {m : MasterState} {w : World S C O} (config : Config) →
+      MayHappen rules m w (master_behind m config (refusal m config)) w
+  answer_lost : {m : MasterState} {w : World S C O} (from b : ℕ) →
+      In (0, record { from = from; body = Activate b }) w.sent →
+      MayHappen rules m w (activated C m b from m.waiting).state w

@@ -1,0 +1,69 @@
+-- World.antt: nodes that cut their logs, all messages, the outputs that left, and the record of places; what may
+-- happen to a node there.
+use Rattle.std.specs.Prelude.{ℕ, ◌+◌, ◌<◌, ◌≡◌, false, List, [], ◌∷◌, ◌++◌, length, map, take, drop, slice_get, slice_set, Some}
+use Rattle.machine.specs.Machine.{Rules}
+use Rattle.agreement.specs.World.{World as WholeWorld}
+use Rattle.agreement.specs.whole.Messages.{Message as WholeMessage}
+use Rattle.lists.specs.Lists.{In}
+use Rattle.snapshots.specs.Whole.{whole_log, whole, whole_message}
+use Rattle.ballot_base.specs.declared.message.Effect.{Effect}
+use Rattle.ballot_base.specs.declared.message.Effect.TheVariants.{To, Out}
+use Rattle.ballot_base.specs.declared.message.Message.{Message}
+use Rattle.ballot_base.specs.Losses.{Loses, halted}
+use Rattle.ballot_base.specs.Replica.{ReplicaState}
+use Rattle.ballot_base.specs.Protocol.{Input, replica_step}
+use Rattle.ballot_base.specs.Cutting.{cut}
+use Rattle.ballot_base.specs.Protocol.Input.{Receives, Proposes, Ticks}
+
+-- the nodes, number n + 1 at place n
+pub record World (S C O : Type 0) : Type 0 where
+  pub nodes : List (ReplicaState S C)
+  pub sent : List (ℕ × Message C)
+  pub left : List (ℕ × O)
+  -- the places below all bases
+  pub archive : List C
+
+-- the world on whole logs for which it stands
+abbrev pub whole_letter : {C : Type 0} → List C → ℕ × Message C → ℕ × WholeMessage C
+whole_letter archive letter = (letter.0, whole_message archive letter.1)
+
+abbrev pub whole_world : {S C O : Type 0} → World S C O → WholeWorld S C O
+whole_world w =
+    record { nodes = map (whole w.archive) w.nodes; sent = map (whole_letter w.archive) w.sent; left = w.left }
+
+-- the messages among effects, and the outputs
+abbrev pub messages : {C O : Type 0} → List (Effect C O) → List (ℕ × Message C)
+messages [] = []
+messages (To receiver message ∷ effects) = (receiver, message) ∷ messages effects
+messages (Out place output ∷ effects) = messages effects
+
+abbrev pub outputs : {C O : Type 0} → List (Effect C O) → List (ℕ × O)
+outputs [] = []
+outputs (To receiver message ∷ effects) = outputs effects
+outputs (Out place output ∷ effects) = (place, output) ∷ outputs effects
+
+-- the node at a place became another and handed out effects
+abbrev pub moved : {S C O : Type 0} → World S C O → ℕ → ReplicaState S C → List (Effect C O) → World S C O
+moved w n new given =
+    record w { nodes = slice_set w.nodes n new; sent = w.sent ++ messages given; left = w.left ++ outputs given }
+
+-- the record after a cut: it has the places below what the node committed, or has more already
+abbrev pub recorded : {S C : Type 0} → List C → ReplicaState S C → List C
+recorded archive r = archive ++ drop (length archive) (take r.committed (whole_log archive r.log))
+
+-- a node takes a message that was sent to it
+abbrev pub MayTake : {S C O : Type 0} → World S C O → ℕ → Input C → Type 0
+MayTake w n (Receives message) = In (n + 1, message) w.sent
+MayTake w n (Proposes command) = Unit {0}
+MayTake w n Ticks = Unit {0}
+
+-- what may happen to a node; a machine that is cut comes back from its bytes
+pub data NodeGoes {S C O : Type 0} (rules : Rules S C O) (w : World S C O) : World S C O → Type 0 where
+  takes : (n : ℕ) (r : ReplicaState S C) (input : Input C) {new : ReplicaState S C} {given : List (Effect C O)} →
+      slice_get w.nodes n ≡ Some r → r.stopped ≡ false → MayTake w n input →
+      Loses rules r (replica_step rules r input) new given → NodeGoes rules w (moved w n new given)
+  stops : (n : ℕ) (r : ReplicaState S C) → slice_get w.nodes n ≡ Some r →
+      NodeGoes rules w (moved w n (halted rules r) [])
+  cuts : (n : ℕ) (r : ReplicaState S C) → slice_get w.nodes n ≡ Some r → r.stopped ≡ false → r.log.base < r.committed →
+      rules.thawed (rules.frozen r.machine) ≡ Some r.machine →
+      NodeGoes rules w (record (moved w n (cut rules r) []) { archive = recorded w.archive r })

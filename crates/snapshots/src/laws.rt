@@ -1,0 +1,55 @@
+// Laws of groups whose nodes cut their logs. The calls do nothing; their contracts are the laws.
+
+ghost use Rattle.snapshots.specs.Laws.{
+  AgreedGrows,
+  HasAgreed,
+  LogsAreCutRight,
+  MachinesReplay,
+  NodesAgree,
+  OnePrimaryABallot,
+  SnapshotsAreRead,
+};
+
+use machine::Machine;
+
+/// At each moment of a group there is an agreed list: the longest that is chosen in a ballot that
+/// was active. Logs are taken as whole ones: what a node has cut stands in the record of places.
+pub fn has_agreed<M: Machine>()
+    ensures { HasAgreed M.rules }
+{}
+
+/// The nodes agree on it: what is applied anywhere begins it, each member of the active
+/// configuration holds it, of two logs installed in one ballot one begins the other, and some node
+/// holds it. What left is the machine's outputs at places of it, each place at most once. The record
+/// of places begins it.
+pub fn nodes_agree<M: Machine>()
+    ensures { NodesAgree M.rules }
+{}
+
+/// What is agreed begins what is agreed at the next moment, whatever happens in between, cuts among
+/// it.
+pub fn agreed_grows<M: Machine>()
+    ensures { AgreedGrows M.rules }
+{}
+
+/// The machine of each node that runs is the replay of the places that it applied, also where it
+/// came out of a snapshot.
+pub fn machines_replay<M: Machine>()
+    ensures { MachinesReplay M.rules }
+{}
+
+/// What a node has cut is in the record and was applied by it, and its snapshot is the frozen replay
+/// of these places, and stands for it.
+pub fn logs_are_cut_right<M: Machine>()
+    ensures { LogsAreCutRight M.rules }
+{}
+
+/// So a message that has to be read is read: no node counts one as lost for its snapshot.
+pub fn snapshots_are_read<M: Machine>()
+    ensures { SnapshotsAreRead M.rules }
+{}
+
+/// A ballot has one active primary: two nodes that were active in it, at whatever moments, are one.
+pub fn one_primary_a_ballot<M: Machine>()
+    ensures { OnePrimaryABallot M.rules }
+{}
