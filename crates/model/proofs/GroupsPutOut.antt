@@ -1,6 +1,6 @@
 -- What a node of a group gives while it leads a ballot may be put out on its open ends.
 use Rattle.std.proofs.Common.{◌≡◌, ℕ, List, [], ◌∷◌, ◌++◌, set, ap, sym, ◌∙◌, subst, arith}
-use Rattle.ballot.specs.Applying.{outputs_between}
+use Rattle.agreement.specs.whole.Applying.{outputs_between}
 use Rattle.agreement.specs.Giving.{given_of}
 use Rattle.agreement.specs.World.{outputs}
 use Rattle.agreement.proofs.Given.WhileItLeads.{answers_while_it_leads}

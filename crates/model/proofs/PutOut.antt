@@ -3,9 +3,9 @@ use Rattle.std.proofs.Common.{◌≡◌, ◌≤◌, ◌+◌, ℕ, zero, suc, Lis
 use Rattle.std.specs.Prelude.{slice_get}
 use Rattle.std.proofs.lemmas.List.{append-nil, map-append}
 use Rattle.machine.specs.Machine.{replay}
-use Rattle.ballot.specs.Applying.{outputs_from, outputs_between}
-use Rattle.ballot.specs.Effect.{Effect}
-use Rattle.ballot.specs.Effect.TheVariants.{Out}
+use Rattle.agreement.specs.whole.Applying.{outputs_from, outputs_between}
+use Rattle.agreement.specs.whole.Messages.{Effect}
+use Rattle.agreement.specs.whole.Messages.Effect.{Out}
 use Rattle.agreement.specs.World.{outputs}
 use Rattle.agreement.proofs.Given.Places.{between_joins, none_between}
 use Rattle.broker_base.specs.Connection.{ConnectionName}

@@ -2,7 +2,7 @@
 use Rattle.std.specs.Prelude.{ℕ, Bool, List, ◌∷◌, filter}
 use Rattle.machine.specs.Machine.{Rules}
 use Rattle.lists.specs.Lists.{IsPrefixOf}
-use Rattle.ballot.specs.Config.{Config}
+use Rattle.agreement.specs.whole.Config.{Config}
 use Rattle.agreement.specs.Past.{Moment, Past, IsAgreed}
 use Rattle.agreement.specs.Proposals.{IsOfBallot, IsPartOf, commands_of, proposals_of, taken_of}
 

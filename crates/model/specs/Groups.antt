@@ -1,7 +1,7 @@
 -- How a group of nodes serves a world: what its nodes take is what the ends of the world's connections read.
 use Rattle.std.specs.Prelude.{◌≡◌, ℕ, true, false, List, ◌∷◌, filter, take}
 use Rattle.machine.specs.Machine.{Rules}
-use Rattle.ballot.specs.Config.{Config}
+use Rattle.agreement.specs.whole.Config.{Config}
 use Rattle.broker_base.specs.Connection.{ConnectionName}
 use Rattle.broker_base.specs.Command.{Command}
 use Rattle.broker_base.specs.Output.{Output}

@@ -1,9 +1,9 @@
 -- What a node gives is put out on the ends of its connections.
 use Rattle.std.specs.Prelude.{◌≡◌, ◌≤◌, ℕ, true, List, ◌∷◌, ◌++◌, length, map, set, slice_get, Some}
 use Rattle.machine.specs.Machine.{Rules}
-use Rattle.ballot.specs.Applying.{outputs_between}
-use Rattle.ballot.specs.Config.{Config}
-use Rattle.ballot.specs.Replica.{ReplicaState}
+use Rattle.agreement.specs.whole.Applying.{outputs_between}
+use Rattle.agreement.specs.whole.Config.{Config}
+use Rattle.agreement.specs.whole.Replica.{ReplicaState}
 use Rattle.agreement.specs.Giving.{LeadsOn, given_of}
 use Rattle.agreement.specs.Past.{Moment, Past, IsAgreed}
 use Rattle.agreement.specs.World.{outputs}
@@ -15,12 +15,13 @@ use Rattle.broker_base.specs.Command.TheVariants as commands
 use Rattle.broker_base.specs.Output.{Output}
 use Rattle.broker_base.specs.State.{State, empty_state}
 use Rattle.broker_base.specs.Step.{step}
+use Rattle.broker_form.specs.Form.{frozen, thawed}
 use Rattle.story.specs.Sends.{sends_to}
 use Rattle.story.specs.Sides.{Connection}
 use Rattle.model.specs.World.{End, ClientEnds, World, with_client}
 use Rattle.model.specs.Goes.{HasPipe, Reached}
 
--- the broker's machine, with a window of 64
+-- the broker's machine, with a window of 64, frozen to form 2
 abbrev pub broker_rules : Rules State Command Output
 broker_rules =
     record {
@@ -28,6 +29,8 @@ broker_rules =
       start_of = commands.Start;
       after = λ state command. (step usual_limits 64 state command).0;
       gives = λ state command. (step usual_limits 64 state command).1;
+      frozen = frozen;
+      thawed = thawed;
     }
 
 -- the outputs that a node gave, without their places
