@@ -8,7 +8,7 @@ use Rattle.broker_model.specs.declared.command.Command.TheVariants.{Start}
 use Rattle.broker_model.specs.declared.command.Output.{Output}
 use Rattle.broker_base.specs.State.{State, state_of, empty_state}
 use Rattle.broker_base.specs.Step.{step}
-use Rattle.broker_form.specs.Form.{frozen_before, thawed}
+use Rattle.broker_form.specs.Form.{frozen, frozen_before, thawed}
 use Rattle.broker_form.specs.FormLaws.{IsUsualState}
 
 -- the state after a command, with the limits of this broker
@@ -19,9 +19,18 @@ after state command = (step usual_limits 64 state command).0
 abbrev pub answers : State → Command → List Output
 answers state command = (step usual_limits 64 state command).1
 
--- the rules of the broker's machine: it begins with the window of 64, then goes step by step
+-- the rules of the broker's machine: it begins with the window of 64, then goes step by step, and is
+-- frozen to form 2
 abbrev pub broker_rules : Rules State Command Output
-broker_rules = record { opening = empty_state 64; start_of = Start; after = after; gives = answers }
+broker_rules =
+    record {
+      opening = empty_state 64;
+      start_of = Start;
+      after = after;
+      gives = answers;
+      frozen = frozen;
+      thawed = thawed;
+    }
 
 -- the state is the one that this list of commands means, where the window was this one at first
 abbrev pub StandsFor : ℕ → State → List Command → Type 0

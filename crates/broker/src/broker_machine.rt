@@ -34,7 +34,6 @@ impl Model for BrokerMachine {
 // is frozen to form 2, and thawed from form 1 too.
 impl Machine for BrokerMachine {
     ghost use Rattle.broker_model.specs.Logged.{IsBrokerCommand};
-    ghost use Rattle.broker_form.specs.Form.{frozen, thawed};
     ghost use Rattle.broker_form.specs.FormLaws.{IsUsualState};
     ghost use Rattle.broker_form.proofs.Thawing.{frozen_is_thawed};
     ghost use Rattle.broker.specs.Standing.{broker_rules};
@@ -45,10 +44,6 @@ impl Machine for BrokerMachine {
     type Output = Output;
 
     ghost rules = { broker_rules };
-
-    ghost frozen = { frozen };
-
-    ghost thawed = { thawed };
 
     ghost IsState = { IsUsualState };
 
