@@ -9,10 +9,10 @@ use Rattle.lists.specs.Lists.In.{here, there}
 use Rattle.lists.proofs.Beginnings.{prefix_length, prefix_then, take_prefix}
 use Rattle.ballot.specs.Config.{Config}
 use Rattle.ballot.specs.LawfulConfig.{are_rising}
-use Rattle.ballot.specs.Message.{Message}
-use Rattle.ballot.specs.Body.{Body}
-use Rattle.ballot.specs.Body.TheVariants.{NewBallot, Join, State, Install, Installed, Activate, Activated, Superseded, Append, Held, Commit}
-use Rattle.ballot.specs.Replica.{ReplicaState}
+use Rattle.agreement.specs.whole.Messages.{Message}
+use Rattle.agreement.specs.whole.Messages.{Body}
+use Rattle.agreement.specs.whole.Messages.Body.{NewBallot, Join, State, Install, Installed, Activate, Activated, Superseded, Append, Held, Commit}
+use Rattle.agreement.specs.whole.Replica.{ReplicaState}
 use Rattle.agreement.specs.World.{World, log_of}
 use Rattle.agreement.specs.Past.{Moment, Past, IsAgreed}
 use Rattle.agreement.specs.Agreement.{Holds}
@@ -30,8 +30,8 @@ use Rattle.agreement.proofs.Frame.Bases.{chosen_told, one_line}
 use Rattle.agreement.proofs.Frame.Framing.{within_of}
 use Rattle.agreement.proofs.Frame.SaysLater.{told_less}
 use Rattle.agreement.proofs.Masters.Assigned.{at_most_newest}
-use Rattle.master.specs.Inside.{HasCounted, ToldIn, least_but_one, next_least}
-use Rattle.master.proofs.Groups.{most_told_none}
+use Rattle.master.specs.Inside.{ToldIn, least_but_one, next_least}
+use Rattle.master.proofs.Untold.{told_none}
 use Rattle.master.proofs.Lawful.{AreLawful, past_lawful, rising_above}
 
 -- the least with a lower bound
@@ -178,7 +178,7 @@ primary_silent w h b g to from (Commit x held) says given is = refl
 
 primary_told : {S C O : Type 0} (rules : Rules S C O) (w : World S C O) (h : History C) (b : ℕ) (g : Given) → IsSound rules w h → h.given b ≡ Some g →
     most_told g.primary b w.sent ≡ 0
-primary_told {S = S} {C = C} rules w h b g s given = most_told_none g.primary b w.sent (λ x i. by_sender x i (cases_eq x.1.from g.primary))
+primary_told {S = S} {C = C} rules w h b g s given = told_none g.primary b w.sent (λ x i. by_sender x i (cases_eq x.1.from g.primary))
   where
     by_sender : (x : ℕ × Message C) → In x w.sent → (x.1.from ≡ g.primary) ⊎ (x.1.from ≡ g.primary → ⊥) → told_in g.primary b x.1 ≡ 0
     by_sender x i (inl e) =
@@ -268,7 +268,7 @@ told_within rules a xs f m i =
 
 -- with two members and more, the agreed list is as long as what all but the primary told
 pub counted_length : {S C O : Type 0} (rules : Rules S C O) (config : Config) (a : Moment S C O) (past : List (Moment S C O)) (xs : List C) (told : ToldIn) (top : ℕ) →
-    Past rules config (a ∷ past) → IsAgreed config (a ∷ past) xs → told.ballot ≡ a.master.active → HasCounted a.world.sent told →
+    Past rules config (a ∷ past) → IsAgreed config (a ∷ past) xs → told.ballot ≡ a.master.active → ((m : ℕ) → m < 16 → get_or told.held m 0 ≡ most_told m told.ballot a.world.sent) →
     ((m : ℕ) → get_or told.held m 0 ≤ top) → (length a.master.members ≡ 1 → ⊥) →
     least_but_one told.held top top a.master.members ≡ length xs
 counted_length {S = S} {C = C} {O = O} rules config a past xs told top came agreed active counted bound several =
@@ -485,13 +485,12 @@ member_front {S = S} {C = C} {O = O} rules config a past k m came is i within = 
 -- some member's log is long enough
 pub some_long : {S C O : Type 0} (rules : Rules S C O) (config : Config) (a : Moment S C O) (past : List (Moment S C O)) (k : ℕ) →
     Past rules config (a ∷ past) → ((xs : List C) → IsAgreed config (a ∷ past) xs → k ≡ length xs) →
-    ((m : ℕ) → In m a.master.members → length (log_of (slice_get a.world.nodes (m - 1))) < k) → ⊥
+    ((m : ℕ) → In m a.master.members → (r : ReplicaState S C) → slice_get a.world.nodes (m - 1) ≡ Some r → length r.log < k) → ⊥
 some_long rules config a past k came is short =
     let xs = has_agreed rules config a past came in
     let z = (nodes_agree rules config a past xs.0 came xs.1).1 in
-    let low = short (z.node + 1) z.member in
     let at : z.node + 1 - 1 ≡ z.node = omega arith in
-    let long = ap (λ j. length (log_of (slice_get a.world.nodes j))) at ∙ ap (λ o. length (log_of o)) z.stands in
+    let low = short (z.node + 1) z.member z.replica (ap (slice_get a.world.nodes) at ∙ z.stands) in
     let up = prefix_length z.held in
     let y = is xs.0 xs.1 in
-    omega (arith, low, long, up, y)
+    omega (arith, low, up, y)

@@ -11,23 +11,26 @@ use Rattle.ballot.specs.Protocol.{Input, replica_step}
 use Rattle.ballot.specs.Protocol.Input.{Receives, Proposes}
 use Rattle.ballot.specs.Replica.{ReplicaState, is_active, status_of}
 use Rattle.ballot.specs.Serving.{most_places}
+use Rattle.ballot.specs.Cutting.{can_cut}
+use Rattle.ballot.specs.Logs.{places}
 use Rattle.master.specs.declared.event.Event.{Event}
 use Rattle.master.specs.declared.event.Event.TheVariants.{Assign, Deliver}
-use Rattle.agreement.specs.World.{World, moved}
-use Rattle.agreement.specs.Past.{Moment}
+use Rattle.snapshots.specs.World.{World, moved}
+use Rattle.snapshots.specs.Past.{Moment}
 use Rattle.ballot.specs.Config.{Config}
 use Rattle.lists.specs.Lists.{In}
 use Rattle.lists.proofs.Members.{in_at}
-use Rattle.agreement.specs.Steps.{tells_from_master}
-use Rattle.agreement.specs.MasterState.{MasterOutcome, MasterState, activated, assigned, refusal}
+use Rattle.snapshots.specs.Steps.{tells_from_master}
+use Rattle.snapshots.specs.Masters.{MasterOutcome, activated, assigned}
+use Rattle.agreement.specs.MasterState.{MasterState, refusal}
 use Rattle.ballot.specs.Body.{Body}
 use Rattle.ballot.specs.Body.TheVariants.{NewBallot, Join, State, Install, Installed, Activate, Activated, Superseded, Append, Held, Commit}
-use Rattle.master.specs.Exact.Turn.{by_node, by_master, unheeded}
+use Rattle.master.specs.Exact.Turn.{by_node, by_cut, by_master, unheeded}
 use Rattle.master.specs.Group.{GroupState}
-use Rattle.master.specs.Exact.{NodeTurn, Turn, running, can_take, taking, stopping, takes, hears, comes, gives, turn, behind, group_step}
-use Rattle.master.specs.Steps.{Happens, StepsBy, LosesNothing}
+use Rattle.master.specs.Exact.{NodeTurn, Turn, running, can_take, taking, stopping, cut_turn, cutting, takes, hears, comes, gives, turn, behind, group_step}
+use Rattle.master.specs.Steps.{Freezes, Happens, StepsBy, LosesNothing}
 use Rattle.master.specs.Steps.Happens.{nothing_happens, node_goes, master_goes}
-use Rattle.master.specs.Inside.{MasterTook, RunsAt, TookTurn, asks_for}
+use Rattle.master.specs.Inside.{MasterTook, RunsAt, TookCut, TookTurn, asks_for}
 
 -- the turn of a node that runs
 pub takes_turn : {S C O : Type 0} (rules : Rules S C O) (w : World S C O) (node at : ℕ) (input : Input C) (x : RunsAt w.nodes node at) →
@@ -54,6 +57,24 @@ stops_turn {S = S} {C = C} {O = O} rules nodes node at x =
     ap (stopping rules (node - 1)) x.runs
     ∙ ap (λ n. let t : NodeTurn S C O = record { place = n; before = x.replica; outcome = record { state = halted rules x.replica; effects = [] } } in Some (by_node t)) (sym x.place)
 
+-- the turn of a cut
+pub cuts_turn : {S C O : Type 0} (rules : Rules S C O) (nodes : List (ReplicaState S C)) (node at : ℕ) (x : RunsAt nodes node at) → can_cut x.replica ≡ true →
+    cutting rules (node - 1) (running nodes node) ≡ Some (by_cut (cut_turn rules at x.replica))
+cuts_turn {S = S} {C = C} {O = O} rules nodes node at x can =
+    ap (cutting rules (node - 1)) x.runs
+    ∙ ap (λ b. let t : Option (Turn S C O) = cond b (Some (by_cut (cut_turn rules (node - 1) x.replica))) None in t) can
+    ∙ ap (λ n. let t : Option (Turn S C O) = Some (by_cut (cut_turn rules n x.replica)) in t) (sym x.place)
+
+pub cuts_nothing : {S C O : Type 0} (rules : Rules S C O) (nodes : List (ReplicaState S C)) (node at : ℕ) (x : RunsAt nodes node at) → can_cut x.replica ≡ false →
+    cutting rules (node - 1) (running nodes node) ≡ None
+cuts_nothing {S = S} {C = C} {O = O} rules nodes node at x cannot =
+    ap (cutting rules (node - 1)) x.runs
+    ∙ ap (λ b. let t : Option (Turn S C O) = cond b (Some (by_cut (cut_turn rules (node - 1) x.replica))) None in t) cannot
+
+-- what a cut froze, by the turn
+pub freezes_as : {S C O : Type 0} (rules : Rules S C O) {t u : Option (Turn S C O)} → t ≡ u → Freezes rules t → Freezes rules u
+freezes_as {S = S} {C = C} {O = O} rules e f = subst (λ (x : Option (Turn S C O)). Freezes rules x) e f
+
 -- an event with a turn is not idle
 pub some_idle : {X : Type 0} {P : Type 0} {o : Option X} {x : X} → o ≡ Some x → o ≡ None → P
 some_idle a b = let e = sym a ∙ b in cc
@@ -62,7 +83,7 @@ some_idle a b = let e = sym a ∙ b in cc
 pub steps_turn : {S C O : Type 0} (rules : Rules S C O) (old new : GroupState S C O) (event : Event C) (t : NodeTurn S C O) →
     turn rules old.moment event ≡ Some (by_node t) → TookTurn rules old t new → StepsBy rules old event new
 steps_turn {S = S} {C = C} {O = O} rules old new event t e took =
-    record { way = by_way took.way }
+    record { way = by_way took.way; freezes = inl (freezes_as rules (sym e) tt) }
   where
     by_way : ((took.state ≡ t.outcome.state) × (took.given ≡ t.outcome.effects) × (new.losses ≡ old.losses))
         ⊎ (Loses rules t.before t.outcome took.state took.given × (new.losses ≡ one_more old.losses)) →
@@ -81,7 +102,7 @@ steps_turn {S = S} {C = C} {O = O} rules old new event t e took =
 pub steps_master : {S C O : Type 0} (rules : Rules S C O) (old new : GroupState S C O) (event : Event C) (o : MasterOutcome C) →
     turn rules old.moment event ≡ Some (by_master o) → MasterTook old o new → StepsBy rules old event new
 steps_master {S = S} {C = C} {O = O} rules old new event o e took =
-    record { way = by_way took.way }
+    record { way = by_way took.way; freezes = inl (freezes_as rules (sym e) tt) }
   where
     by_way : ((new.moment ≡ record { master = o.state; world = tells_from_master old.moment.world o }) × (new.losses ≡ old.losses))
         ⊎ ((new.moment ≡ record old.moment { master = o.state }) × (new.losses ≡ one_more old.losses)) →
@@ -95,16 +116,27 @@ pub steps_lost : {S C O : Type 0} (rules : Rules S C O) (old new : GroupState S 
     new ≡ record old { losses = one_more old.losses } → StepsBy rules old event new
 steps_lost {S = S} {C = C} {O = O} rules old new event e =
     subst (λ (v : GroupState S C O). StepsBy rules old event v) (sym e)
-    (record { way = inr (nothing_happens, refl) })
+    (record { way = inr (nothing_happens, refl); freezes = inr refl })
+
+-- and so is a cut
+pub steps_cut : {S C O : Type 0} (rules : Rules S C O) (old new : GroupState S C O) (event : Event C) (t : NodeTurn S C O) →
+    turn rules old.moment event ≡ Some (by_cut t) → TookCut rules old t new → StepsBy rules old event new
+steps_cut {S = S} {C = C} {O = O} rules old new event t e took = by_way took.way
+  where
+    by_way : ((new.moment ≡ behind old.moment (Some (by_cut t))) × (new.losses ≡ old.losses) × Freezes rules (Some (by_cut t)))
+        ⊎ (new ≡ record old { losses = one_more old.losses }) → StepsBy rules old event new
+    by_way (inl (a, b, c)) =
+        record { way = inl (a ∙ ap (behind old.moment) (sym e), b); freezes = inl (freezes_as rules (sym e) c) }
+    by_way (inr lost) = steps_lost rules old new event lost
 
 -- an event that does nothing
 pub steps_idle : {S C O : Type 0} (rules : Rules S C O) (old : GroupState S C O) (event : Event C) →
     turn rules old.moment event ≡ None → StepsBy rules old event old
-steps_idle rules old event e = record { way = inl (sym (ap (behind old.moment) e), refl) }
+steps_idle rules old event e = record { way = inl (sym (ap (behind old.moment) e), refl); freezes = inr refl }
 
 pub steps_unheeded : {S C O : Type 0} (rules : Rules S C O) (old : GroupState S C O) (event : Event C) →
     turn rules old.moment event ≡ Some unheeded → StepsBy rules old event old
-steps_unheeded rules old event e = record { way = inl (sym (ap (behind old.moment) e), refl) }
+steps_unheeded rules old event e = record { way = inl (sym (ap (behind old.moment) e), refl); freezes = inr refl }
 
 -- a count that did not rise lost nothing
 pub steps_exactly : {S C O : Type 0} (rules : Rules S C O) (old new : GroupState S C O) (event : Event C) →
@@ -185,18 +217,18 @@ get_past (y ∷ xs) (suc k) past = get_past xs k (omega arith)
 pub proposal_refused : {S C : Type 0} (r : ReplicaState S C) (status : Status) (active : Bool) (command : C) → status ≡ status_of r → active ≡ is_active status.role →
     (active ≡ false) ⊎ ((active ≡ true) × (most_places ≤ status.held)) → can_take r (Proposes command) ≡ false
 proposal_refused r status active command e a (inl off) =
-    ap (λ b. b && nat_lt (length r.log) most_places) (ap (λ (s : Status). is_active s.role) (sym e) ∙ sym a ∙ off)
+    ap (λ b. b && nat_lt (places r.log) most_places) (ap (λ (s : Status). is_active s.role) (sym e) ∙ sym a ∙ off)
 proposal_refused r status active command e a (inr (on, full)) =
-    let long : status.held ≡ length r.log = ap (λ (s : Status). s.held) e in
-    ap (λ b. b && nat_lt (length r.log) most_places) (ap (λ (s : Status). is_active s.role) (sym e) ∙ sym a ∙ on)
-    ∙ le-ltb (length r.log) most_places (omega (arith, long, full))
+    let long : status.held ≡ places r.log = ap (λ (s : Status). s.held) e in
+    ap (λ b. b && nat_lt (places r.log) most_places) (ap (λ (s : Status). is_active s.role) (sym e) ∙ sym a ∙ on)
+    ∙ le-ltb (places r.log) most_places (omega (arith, long, full))
 
 pub proposal_taken : {S C : Type 0} (r : ReplicaState S C) (status : Status) (active : Bool) (command : C) → status ≡ status_of r → active ≡ is_active status.role →
     active ≡ true → status.held < most_places → can_take r (Proposes command) ≡ true
 proposal_taken r status active command e a on room =
-    let long : status.held ≡ length r.log = ap (λ (s : Status). s.held) e in
-    ap (λ b. b && nat_lt (length r.log) most_places) (ap (λ (s : Status). is_active s.role) (sym e) ∙ sym a ∙ on)
-    ∙ lt-ltb (length r.log) most_places (omega (arith, long, room))
+    let long : status.held ≡ places r.log = ap (λ (s : Status). s.held) e in
+    ap (λ b. b && nat_lt (places r.log) most_places) (ap (λ (s : Status). is_active s.role) (sym e) ∙ sym a ∙ on)
+    ∙ lt-ltb (places r.log) most_places (omega (arith, long, room))
 
 -- a ballot that is given
 pub gives_turn : {S C O : Type 0} (rules : Rules S C O) (a : Moment S C O) (config : Config) → refusal a.master config ≡ None →

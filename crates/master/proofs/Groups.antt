@@ -14,27 +14,34 @@ use Rattle.ballot.specs.Body.{Body}
 use Rattle.ballot.specs.Body.TheVariants.{NewBallot, Join, State, Install, Installed, Activate, Activated, Superseded, Append, Held, Commit}
 use Rattle.ballot.specs.Effect.{Effect}
 use Rattle.ballot.specs.Replica.{ReplicaState, CountedReplica}
-use Rattle.agreement.specs.World.{World, can_open, messages, moved}
-use Rattle.agreement.specs.MasterState.{MasterState, assigned, assigning, activated, activating, refusal}
-use Rattle.agreement.specs.Past.{Moment, Past, opening_moment}
-use Rattle.agreement.specs.Past.Past.{began, went_on}
-use Rattle.agreement.specs.Steps.{tells_from_master}
-use Rattle.agreement.specs.Inside.Ballots.{Given, History}
-use Rattle.agreement.specs.Inside.Sound.{Says}
-use Rattle.agreement.specs.Inside.ToldLengths.{most_told, told_by, told_in}
-use Rattle.agreement.proofs.Agreed.PastKnown.{past_known}
+use Rattle.snapshots.specs.World.{World, messages, moved}
+use Rattle.agreement.specs.World.{can_open}
+use Rattle.agreement.specs.MasterState.{MasterState, assigning, activating, refusal}
+use Rattle.snapshots.specs.Masters.{assigned, activated}
+use Rattle.snapshots.specs.Past.{Moment, Past, opening_moment}
+use Rattle.snapshots.specs.Past.Past.{began, went_on}
+use Rattle.snapshots.specs.Steps.{tells_from_master}
+use Rattle.master.specs.ToldLengths.{most_told, told_by, told_in}
+use Rattle.master.proofs.Untold.{whole_untold}
+use Rattle.master.proofs.WholeTold.{most_told_whole}
+use Rattle.snapshots.specs.Past.{whole_moment}
+use Rattle.snapshots.proofs.PastsKept.{past_stands}
 use Rattle.std.specs.Bool.{OnTrue, OnFalse}
 use Rattle.ballot.specs.Losses.{Loses, Thinned, halted, one_more}
 use Rattle.ballot.specs.Sending.{Outcome}
 use Rattle.ballot.specs.Protocol.{Input, replica_step}
 use Rattle.ballot.proofs.ThinnedEffects.{Thinned-same}
-use Rattle.agreement.specs.Steps.{MayTake}
+use Rattle.snapshots.specs.World.{MayTake}
 use Rattle.master.specs.Group.{GroupState}
-use Rattle.agreement.specs.MasterState.{MasterOutcome}
+use Rattle.snapshots.specs.Masters.{MasterOutcome}
 use Rattle.master.specs.declared.activation.Activation.{Activation}
 use Rattle.master.specs.declared.activation.Activation.TheVariants.{Activated as Granted, Superseded as Refused}
-use Rattle.master.specs.Inside.{HasCounted, IsGroup, MasterTook, ToldIn, TookTurn, least_but_one, next_least, moment_of, world_of}
-use Rattle.master.proofs.Happening.{MayGo, IsDeed, master_may, deed_lost, node_may}
+use Rattle.master.specs.Inside.{HasCounted, IsGroup, MasterTook, ToldIn, TookCut, TookTurn, least_but_one, next_least, moment_of, world_of}
+use Rattle.master.specs.Exact.{behind, cut_turn}
+use Rattle.master.specs.Exact.Turn.{by_cut}
+use Rattle.master.specs.Steps.{Freezes}
+use Rattle.ballot.specs.Cutting.{can_cut}
+use Rattle.master.proofs.Happening.{MayGo, IsDeed, cut_may, master_may, deed_lost, node_may}
 use Rattle.master.proofs.Happening.IsTurn.{it_takes, it_stops}
 use Rattle.master.proofs.Happening.IsDeed.{it_gives, it_answers}
 
@@ -81,31 +88,11 @@ answer_silent C from ballot true m b = silent {C = C} m b from (Activated ballot
 answer_silent C from ballot false m b = silent {C = C} m b from (Superseded ballot) refl
 
 -- nothing was told in the ballot that comes next
-untold_body : {S C O : Type 0} (w : World S C O) (h : History C) (given to from : ℕ) (body : Body C) → Says w h to from body →
-    ((b : ℕ) (g : Given) → h.given b ≡ Some g → (0 < b) × (b ≤ given)) → told_by (given + 1) body ≡ 0
-untold_body w h given to from (NewBallot b members a old) says low = refl
-untold_body w h given to from (Join b a) says low = refl
-untold_body w h given to from (State b log) says low = refl
-untold_body w h given to from (Install b log) says low = refl
-untold_body w h given to from (Installed b held) says low =
-    let z = (low b says.0 says.1.given).1 in
-    ap (λ k. cond k held 0) (ne_eqb b (given + 1) (λ e. omega (arith, e, z)))
-untold_body w h given to from (Activate b) says low = refl
-untold_body w h given to from (Activated b) says low = refl
-untold_body w h given to from (Superseded b) says low = refl
-untold_body w h given to from (Append b place command) says low = refl
-untold_body w h given to from (Held b held) says low =
-    let z = (low b says.0 says.1).1 in
-    ap (λ k. cond k held 0) (ne_eqb b (given + 1) (λ e. omega (arith, e, z)))
-untold_body w h given to from (Commit b held) says low = refl
-
 pub untold_next : {S C O : Type 0} (rules : Rules S C O) (config : Config) (a : Moment S C O) (past : List (Moment S C O)) → Past rules config (a ∷ past) →
     (m : ℕ) → most_told m (a.master.given + 1) a.world.sent ≡ 0
 untold_next {S = S} {C = C} {O = O} rules config a past came m =
-    let q = past_known rules config a past came in
-    most_told_none m (a.master.given + 1) a.world.sent
-    (λ x i. silent m (a.master.given + 1) x.1.from x.1.body
-    (untold_body a.world q.history a.master.given x.0 x.1.from x.1.body (q.serves.sound.said x.0 x.1 i) q.serves.master.numbered))
+    let q = past_stands rules config a past came in
+    most_told_whole m (a.master.given + 1) a.world.archive a.world.sent ∙ whole_untold rules config (whole_moment a) q.earlier q.kept.came m
 
 -- a group opens
 pub group_opens : {S C O : Type 0} (rules : Rules S C O) (nodes : ℕ) (config : Config) (a : Moment S C O) (told next : ToldIn) → can_open nodes config ≡ true →
@@ -300,33 +287,33 @@ in_item (x ∷ xs) zero d below = here
 in_item (x ∷ xs) (suc i) d below = there (in_item xs i d (omega (arith, below)))
 
 -- the master says something, or its message is lost
-pub master_tells : {S C O : Type 0} (nodes : List (CountedReplica S C)) (sent more : List (ℕ × Message C)) (left : List (Effect C O)) (losses counted : ℕ) (o : MasterOutcome C)
+pub master_tells : {S C O : Type 0} (archive : List C) (nodes : List (CountedReplica S C)) (sent more : List (ℕ × Message C)) (left : List (Effect C O)) (losses counted : ℕ) (o : MasterOutcome C)
     (body : Body C) (whole : Bool) → body ≡ o.body → OnTrue whole (more ≡ sent ++ (o.receiver, record { from = 0; body = body }) ∷ []) → OnFalse whole (more ≡ sent) →
     counted ≡ cond (whole && true) losses (one_more losses) →
-    ((world_of nodes more left ≡ tells_from_master (world_of nodes sent left) o) × (counted ≡ losses))
-    ⊎ ((world_of nodes more left ≡ world_of nodes sent left) × (counted ≡ one_more losses))
-master_tells {S = S} {C = C} {O = O} nodes sent more left losses counted o body true same told lost count =
-    inl (ap (λ us. world_of nodes us left) (told ∙ ap (λ x. sent ++ (o.receiver, let z : Message C = record { from = 0; body = x } in z) ∷ []) same), count)
-master_tells {S = S} {C = C} {O = O} nodes sent more left losses counted o body false same told lost count = inr (ap (λ us. world_of nodes us left) lost, count)
+    ((world_of archive nodes more left ≡ tells_from_master (world_of archive nodes sent left) o) × (counted ≡ losses))
+    ⊎ ((world_of archive nodes more left ≡ world_of archive nodes sent left) × (counted ≡ one_more losses))
+master_tells {S = S} {C = C} {O = O} archive nodes sent more left losses counted o body true same told lost count =
+    inl (ap (λ us. world_of archive nodes us left) (told ∙ ap (λ x. sent ++ (o.receiver, let z : Message C = record { from = 0; body = x } in z) ∷ []) same), count)
+master_tells {S = S} {C = C} {O = O} archive nodes sent more left losses counted o body false same told lost count = inr (ap (λ us. world_of archive nodes us left) lost, count)
 
 -- so it took its turn
-pub master_took : {S C O : Type 0} (m k : MasterState) (nodes : List (CountedReplica S C)) (sent more : List (ℕ × Message C)) (left : List (Effect C O)) (losses counted : ℕ)
+pub master_took : {S C O : Type 0} (archive : List C) (m k : MasterState) (nodes : List (CountedReplica S C)) (sent more : List (ℕ × Message C)) (left : List (Effect C O)) (losses counted : ℕ)
     (o : MasterOutcome C) → k ≡ o.state →
-    ((world_of nodes more left ≡ tells_from_master (world_of nodes sent left) o) × (counted ≡ losses))
-    ⊎ ((world_of nodes more left ≡ world_of nodes sent left) × (counted ≡ one_more losses)) →
-    MasterTook (record { moment = moment_of m nodes sent left; losses = losses }) o (record { moment = moment_of k nodes more left; losses = counted })
-master_took {S = S} {C = C} {O = O} m k nodes sent more left losses counted o is (inl (e, f)) =
+    ((world_of archive nodes more left ≡ tells_from_master (world_of archive nodes sent left) o) × (counted ≡ losses))
+    ⊎ ((world_of archive nodes more left ≡ world_of archive nodes sent left) × (counted ≡ one_more losses)) →
+    MasterTook (record { moment = moment_of archive m nodes sent left; losses = losses }) o (record { moment = moment_of archive k nodes more left; losses = counted })
+master_took {S = S} {C = C} {O = O} archive m k nodes sent more left losses counted o is (inl (e, f)) =
     record {
       way = inl (
-        ap (λ x. let z : Moment S C O = record { master = x; world = world_of nodes more left } in z) is
+        ap (λ x. let z : Moment S C O = record { master = x; world = world_of archive nodes more left } in z) is
             ∙ ap (λ w. let z : Moment S C O = record { master = o.state; world = w } in z) e,
         f,
       );
     }
-master_took {S = S} {C = C} {O = O} m k nodes sent more left losses counted o is (inr (e, f)) =
+master_took {S = S} {C = C} {O = O} archive m k nodes sent more left losses counted o is (inr (e, f)) =
     record {
       way = inr (
-        ap (λ x. let z : Moment S C O = record { master = x; world = world_of nodes more left } in z) is
+        ap (λ x. let z : Moment S C O = record { master = x; world = world_of archive nodes more left } in z) is
             ∙ ap (λ w. let z : Moment S C O = record { master = o.state; world = w } in z) e,
         f,
       );
@@ -423,25 +410,25 @@ group_stops {S = S} {C = C} {O = O} rules a v told next old new n r g is_old is_
         by_way (inr (l, c)) = l
 
 -- the same of the group as it is seen
-pub took_as_seen : {S C O : Type 0} (m k : MasterState) (nodes : List (CountedReplica S C)) (sent more : List (ℕ × Message C)) (left : List (Effect C O)) (losses counted : ℕ)
-    (o : MasterState → MasterOutcome C) (seen : GroupState S C O) → (let z : GroupState S C O = record { moment = moment_of m nodes sent left; losses = losses } in z) ≡ seen →
+pub took_as_seen : {S C O : Type 0} (archive : List C) (m k : MasterState) (nodes : List (CountedReplica S C)) (sent more : List (ℕ × Message C)) (left : List (Effect C O)) (losses counted : ℕ)
+    (o : MasterState → MasterOutcome C) (seen : GroupState S C O) → (let z : GroupState S C O = record { moment = moment_of archive m nodes sent left; losses = losses } in z) ≡ seen →
     k ≡ (o m).state →
-    ((world_of nodes more left ≡ tells_from_master (world_of nodes sent left) (o m)) × (counted ≡ losses))
-    ⊎ ((world_of nodes more left ≡ world_of nodes sent left) × (counted ≡ one_more losses)) →
-    MasterTook seen (o seen.moment.master) (record { moment = moment_of k nodes more left; losses = counted })
-took_as_seen {S = S} {C = C} {O = O} m k nodes sent more left losses counted o seen is state way =
-    subst (λ (z : GroupState S C O). MasterTook z (o z.moment.master) (record { moment = moment_of k nodes more left; losses = counted })) is
-    (master_took m k nodes sent more left losses counted (o m) state way)
+    ((world_of archive nodes more left ≡ tells_from_master (world_of archive nodes sent left) (o m)) × (counted ≡ losses))
+    ⊎ ((world_of archive nodes more left ≡ world_of archive nodes sent left) × (counted ≡ one_more losses)) →
+    MasterTook seen (o seen.moment.master) (record { moment = moment_of archive k nodes more left; losses = counted })
+took_as_seen {S = S} {C = C} {O = O} archive m k nodes sent more left losses counted o seen is state way =
+    subst (λ (z : GroupState S C O). MasterTook z (o z.moment.master) (record { moment = moment_of archive k nodes more left; losses = counted })) is
+    (master_took archive m k nodes sent more left losses counted (o m) state way)
 
 -- the same where a ballot was given
-pub took_given : {S C O : Type 0} (m k : MasterState) (nodes : List (CountedReplica S C)) (sent more : List (ℕ × Message C)) (left : List (Effect C O)) (losses counted : ℕ)
-    (config : Config) (seen : GroupState S C O) → (let z : GroupState S C O = record { moment = moment_of m nodes sent left; losses = losses } in z) ≡ seen →
+pub took_given : {S C O : Type 0} (archive : List C) (m k : MasterState) (nodes : List (CountedReplica S C)) (sent more : List (ℕ × Message C)) (left : List (Effect C O)) (losses counted : ℕ)
+    (config : Config) (seen : GroupState S C O) → (let z : GroupState S C O = record { moment = moment_of archive m nodes sent left; losses = losses } in z) ≡ seen →
     k ≡ assigning m config →
-    ((world_of nodes more left ≡ tells_from_master (world_of nodes sent left) (assigned C m config)) × (counted ≡ losses))
-    ⊎ ((world_of nodes more left ≡ world_of nodes sent left) × (counted ≡ one_more losses)) →
-    MasterTook seen (assigned C seen.moment.master config) (record { moment = moment_of k nodes more left; losses = counted })
-took_given {S = S} {C = C} {O = O} m k nodes sent more left losses counted config seen is state way =
-    took_as_seen m k nodes sent more left losses counted (λ x. assigned C x config) seen is state way
+    ((world_of archive nodes more left ≡ tells_from_master (world_of archive nodes sent left) (assigned C m config)) × (counted ≡ losses))
+    ⊎ ((world_of archive nodes more left ≡ world_of archive nodes sent left) × (counted ≡ one_more losses)) →
+    MasterTook seen (assigned C seen.moment.master config) (record { moment = moment_of archive k nodes more left; losses = counted })
+took_given {S = S} {C = C} {O = O} archive m k nodes sent more left losses counted config seen is state way =
+    took_as_seen archive m k nodes sent more left losses counted (λ x. assigned C x config) seen is state way
 
 -- the message of a new ballot
 pub new_ballot_is : {C : Type 0} (b : ℕ) (m : MasterState) (config given : Config) (members old : List ℕ) (previous : ℕ) → given ≡ config → members ≡ config.members →
@@ -480,3 +467,24 @@ in_taken xs i P below before now m j = by_place (in_append (take i xs) (get_or x
 
 pub in_whole : (xs : List ℕ) (i m : ℕ) → length xs ≤ i → In m xs → In m (take i xs)
 in_whole xs i m past j = subst (λ us. In m us) (sym (take_all i xs past)) j
+
+-- a node cut its log, or memory ran out for that
+pub group_cuts : {S C O : Type 0} (rules : Rules S C O) (a v : Moment S C O) (told next : ToldIn) (old new : GroupState S C O)
+    (n : ℕ) (r : ReplicaState S C) → IsGroup rules a told next → old.moment ≡ a → new.moment ≡ v →
+    slice_get a.world.nodes n ≡ Some r → can_cut r ≡ true → TookCut rules old (cut_turn rules n r) new → v.world.sent ≡ a.world.sent →
+    IsGroup rules v told next
+group_cuts {S = S} {C = C} {O = O} rules a v told next old new n r g is_old is_new stands can took sent_is = by_way took.way
+  where
+    by_way : ((new.moment ≡ behind old.moment (Some (by_cut (cut_turn rules n r)))) × (new.losses ≡ old.losses) × Freezes rules (Some (by_cut (cut_turn rules n r))))
+        ⊎ (new ≡ record old { losses = one_more old.losses }) → IsGroup rules v told next
+    by_way (inl (is, same, freezes)) =
+        let so : v ≡ behind a (Some (by_cut (cut_turn rules n r))) =
+        sym is_new ∙ is ∙ ap (λ (u : Moment S C O). behind u (Some (by_cut (cut_turn rules n r)))) is_old in
+        group_goes rules a v told next told next g
+        (subst (λ (u : Moment S C O). MayGo rules a u) (sym so)
+        (cut_may rules a.master a.world (cut_turn rules n r) (record { stands = stands; can = can; is = refl }) freezes))
+        (ap (λ (u : Moment S C O). u.master) so) refl
+        (subst (λ us. HasCounted us told) (sym sent_is) g.counted) refl
+        (subst (λ us. HasCounted us next) (sym sent_is) g.counted_next)
+    by_way (inr lost) =
+        subst (λ (u : Moment S C O). IsGroup rules u told next) (sym (sym is_new ∙ ap (λ (z : GroupState S C O). z.moment) lost ∙ is_old)) g

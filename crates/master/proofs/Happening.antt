@@ -1,6 +1,6 @@
 -- Happening.antt: each step of a group is one that may happen to a master and nodes.
 use Rattle.std.proofs.Common.{◌≡◌, ℕ, zero, suc, ◌+◌, ◌-◌, ◌⊎◌, inl, inr, Bool, true, false, cond, List, [], Some, None, Option, refl, ap, sym, ◌∙◌, subst, arith}
-use Rattle.std.specs.Prelude.{slice_get}
+use Rattle.std.specs.Prelude.{slice_get, nat_lt, not, ◌<◌}
 use Rattle.machine.specs.Machine.{Rules}
 use Rattle.lists.specs.Lists.{In}
 use Rattle.lists.proofs.Members.{in_at}
@@ -15,17 +15,22 @@ use Rattle.ballot.specs.Protocol.Input.{Receives, Proposes, Ticks}
 use Rattle.ballot.specs.Replica.{ReplicaState}
 use Rattle.ballot.specs.Sending.{Outcome}
 use Rattle.ballot.proofs.ThinnedEffects.{Thinned-same}
-use Rattle.agreement.specs.MasterState.{AssignRefusal, MasterOutcome, MasterState, activated, assigned, refusal, master_behind}
-use Rattle.agreement.specs.Past.{Moment}
-use Rattle.agreement.specs.Steps.{MayHappen, MayTake, tells_from_master, world_behind}
-use Rattle.agreement.specs.Steps.MayHappen.{node_takes, node_stops, master_assigns, master_hears, assignment_lost, answer_lost}
-use Rattle.agreement.specs.World.{World, moved}
+use Rattle.agreement.specs.MasterState.{AssignRefusal, MasterState, refusal, master_behind}
+use Rattle.snapshots.specs.Masters.{MasterOutcome, activated, assigned}
+use Rattle.snapshots.specs.Past.{Moment}
+use Rattle.snapshots.specs.Steps.{MayHappen, tells_from_master, world_behind}
+use Rattle.snapshots.specs.World.{MayTake}
+use Rattle.snapshots.specs.Steps.MayHappen.{node_goes as node_moves, master_assigns, master_hears, assignment_lost, answer_lost}
+use Rattle.snapshots.specs.World.{World, moved, recorded}
+use Rattle.snapshots.specs.World.{NodeGoes as goes}
+use Rattle.ballot.specs.Cutting.{can_cut, cut}
+use Rattle.std.proofs.lemmas.Bool.{and_parts, ltb-true}
 use Rattle.master.specs.declared.event.Event.{Event}
-use Rattle.master.specs.declared.event.Event.TheVariants.{Propose, Assign, Deliver, Tick, Crash}
+use Rattle.master.specs.declared.event.Event.TheVariants.{Propose, Assign, Deliver, Tick, Cut, Crash}
 use Rattle.master.specs.Group.{GroupState}
-use Rattle.master.specs.Exact.{NodeTurn, Turn, running, unless_stopped, can_take, taking, stopping, takes, hears, comes, comes_to, gives, turn, behind, group_step}
-use Rattle.master.specs.Exact.Turn.{by_node, by_master, unheeded}
-use Rattle.master.specs.Steps.{Happens, StepsBy}
+use Rattle.master.specs.Exact.{NodeTurn, Turn, running, unless_stopped, can_take, taking, stopping, cut_turn, cutting, takes, hears, comes, comes_to, gives, turn, behind, group_step}
+use Rattle.master.specs.Exact.Turn.{by_node, by_cut, by_master, unheeded}
+use Rattle.master.specs.Steps.{Freezes, Happens, StepsBy}
 use Rattle.master.specs.Steps.Happens.{nothing_happens, node_goes, master_goes}
 use Rattle.ballot.specs.Losses.{one_more}
 
@@ -128,7 +133,112 @@ turn_is {S = S} {C = C} {O = O} rules a (Deliver k) t is = by_message (slice_get
     by_message None e f = cc
     by_message (Some (receiver, m)) e f = by_receiver receiver m e f
 turn_is rules a (Tick node) t is = takes_is rules a.world node Ticks t (λ n f. tt) is
+turn_is {S = S} {C = C} {O = O} rules a (Cut node) t is = absurd (no_turn (running a.world.nodes node) is)
+  where
+    by_need : (r : ReplicaState S C) (b : Bool) → cond b (Some (by_cut (cut_turn rules (node - 1) r))) None ≡ Some (by_node t) → ⊥
+    by_need r true f = cc
+    by_need r false f = cc
+
+    no_turn : (o : Option (ReplicaState S C)) → cutting rules (node - 1) o ≡ Some (by_node t) → ⊥
+    no_turn None f = cc
+    no_turn (Some r) f = by_need r (can_cut r) f
 turn_is rules a (Crash node) t is = stopping_is rules a.world node t is
+
+-- what a cut is
+pub record IsCut {S C O : Type 0} (rules : Rules S C O) (w : World S C O) (t : NodeTurn S C O) : Type 0 where
+  pub stands : slice_get w.nodes t.place ≡ Some t.before
+  pub can : can_cut t.before ≡ true
+  pub is : t.outcome ≡ record { state = cut rules t.before; effects = [] }
+
+cutting_is : {S C O : Type 0} (rules : Rules S C O) (w : World S C O) (node : ℕ) (t : NodeTurn S C O) →
+    cutting rules (node - 1) (running w.nodes node) ≡ Some (by_cut t) → IsCut rules w t
+cutting_is rules w zero t e = cc
+cutting_is {S = S} {C = C} {O = O} rules w (suc n) t e =
+    let same : suc n - 1 ≡ n = omega arith in
+    by_node_there (unless_stopped (slice_get w.nodes n)) refl
+    (subst (λ k. cutting rules k (running w.nodes (suc n)) ≡ Some (by_cut t)) same e)
+  where
+    by_need : (r : ReplicaState S C) (b : Bool) → can_cut r ≡ b → slice_get w.nodes n ≡ Some r →
+        cond b (Some (by_cut (cut_turn rules n r))) None ≡ Some (by_cut t) → IsCut rules w t
+    by_need r true can stands f =
+        let is : cut_turn rules n r ≡ t = cc in
+        subst (λ (x : NodeTurn S C O). IsCut rules w x) is (record { stands = stands; can = can; is = refl })
+    by_need r false can stands f = cc
+
+    by_node_there : (o : Option (ReplicaState S C)) → unless_stopped (slice_get w.nodes n) ≡ o → cutting rules n o ≡ Some (by_cut t) → IsCut rules w t
+    by_node_there None f g = cc
+    by_node_there (Some r) f g = by_need r (can_cut r) refl (running_is (slice_get w.nodes n) r f).0 g
+
+-- no other event cuts a log
+no_cut_taking : {S C O : Type 0} (rules : Rules S C O) (n : ℕ) (o : Option (ReplicaState S C)) (input : Input C) (t : NodeTurn S C O) →
+    taking rules n o input ≡ Some (by_cut t) → ⊥
+no_cut_taking rules n None input t e = cc
+no_cut_taking {S = S} {C = C} {O = O} rules n (Some r) input t e = by_room (can_take r input) e
+  where
+    by_room : (b : Bool) → cond b (Some (by_node (record { place = n; before = r; outcome = replica_step rules r input }))) None ≡ Some (by_cut t) → ⊥
+    by_room true f = cc
+    by_room false f = cc
+
+no_cut_stopping : {S C O : Type 0} (rules : Rules S C O) (n : ℕ) (o : Option (ReplicaState S C)) (t : NodeTurn S C O) →
+    stopping rules n o ≡ Some (by_cut t) → ⊥
+no_cut_stopping rules n None t e = cc
+no_cut_stopping rules n (Some r) t e = cc
+
+hears_no_cut : {S C O : Type 0} (rules : Rules S C O) (m : MasterState) (from : ℕ) (body : Body C) (t : NodeTurn S C O) →
+    hears rules m from body ≡ by_cut t → ⊥
+hears_no_cut rules m from (NewBallot b members a old) t e = cc
+hears_no_cut rules m from (Join b a) t e = cc
+hears_no_cut rules m from (State b log) t e = cc
+hears_no_cut rules m from (Install b log) t e = cc
+hears_no_cut rules m from (Installed b held) t e = cc
+hears_no_cut rules m from (Activate b) t e = cc
+hears_no_cut rules m from (Activated b) t e = cc
+hears_no_cut rules m from (Superseded b) t e = cc
+hears_no_cut rules m from (Append b place command) t e = cc
+hears_no_cut rules m from (Held b held) t e = cc
+hears_no_cut rules m from (Commit b held) t e = cc
+
+pub cut_is : {S C O : Type 0} (rules : Rules S C O) (a : Moment S C O) (e : Event C) (t : NodeTurn S C O) →
+    turn rules a e ≡ Some (by_cut t) → IsCut rules a.world t
+cut_is rules a (Propose node command) t is = absurd (no_cut_taking rules (node - 1) (running a.world.nodes node) (Proposes command) t is)
+cut_is {S = S} {C = C} {O = O} rules a (Assign config) t is = by_refusal (refusal a.master config) is
+  where
+    by_refusal : (o : Option AssignRefusal) → gives rules a.master config o ≡ Some (by_cut t) → IsCut rules a.world t
+    by_refusal (Some why) f = cc
+    by_refusal None f = cc
+cut_is {S = S} {C = C} {O = O} rules a (Deliver k) t is = by_message (slice_get a.world.sent k) is
+  where
+    by_receiver : (receiver : ℕ) (m : Message C) → comes_to rules a receiver m ≡ Some (by_cut t) → IsCut rules a.world t
+    by_receiver zero m f = let g : hears rules a.master m.from m.body ≡ by_cut t = cc in absurd (hears_no_cut rules a.master m.from m.body t g)
+    by_receiver (suc n) m f = absurd (no_cut_taking rules (suc n - 1) (running a.world.nodes (suc n)) (Receives m) t f)
+
+    by_message : (o : Option (ℕ × Message C)) → comes rules a o ≡ Some (by_cut t) → IsCut rules a.world t
+    by_message None f = cc
+    by_message (Some (receiver, m)) f = by_receiver receiver m f
+cut_is rules a (Tick node) t is = absurd (no_cut_taking rules (node - 1) (running a.world.nodes node) Ticks t is)
+cut_is rules a (Cut node) t is = cutting_is rules a.world node t is
+cut_is rules a (Crash node) t is = absurd (no_cut_stopping rules (node - 1) (running a.world.nodes node) t is)
+
+-- such a cut may happen where its snapshot can be read
+pub cut_may : {S C O : Type 0} (rules : Rules S C O) (m : MasterState) (w : World S C O) (t : NodeTurn S C O) → IsCut rules w t →
+    Freezes rules (Some (by_cut t)) →
+    MayHappen rules m w m (record (moved w t.place t.outcome.state t.outcome.effects) { archive = recorded w.archive t.before })
+cut_may {S = S} {C = C} {O = O} rules m w t c freezes =
+    subst (λ (o : Outcome S C O). MayHappen rules m w m (record (moved w t.place o.state o.effects) { archive = recorded w.archive t.before })) (sym c.is)
+    (node_moves (goes.cuts t.place t.before c.stands runs below (subst (λ (o : Outcome S C O). rules.thawed o.state.log.snapshot ≡ Some t.before.machine) c.is freezes)))
+  where
+    parts : ((not t.before.stopped) ≡ true) × (nat_lt t.before.log.base t.before.committed ≡ true)
+    parts = and_parts (not t.before.stopped) (nat_lt t.before.log.base t.before.committed) c.can
+
+    going : (b : Bool) → not b ≡ true → b ≡ false
+    going true e = cc
+    going false e = refl
+
+    runs : t.before.stopped ≡ false
+    runs = going t.before.stopped parts.0
+
+    below : t.before.log.base < t.before.committed
+    below = ltb-true t.before.log.base t.before.committed parts.1
 
 -- whatever a turn of a node loses, it may happen
 thinned_none : {C O : Type 0} {xs ys : List (Effect C O)} → ys ≡ [] → Thinned xs ys → xs ≡ []
@@ -139,18 +249,18 @@ thinned_none e (Thinned.loses t) = cc
 pub node_may : {S C O : Type 0} (rules : Rules S C O) (m : MasterState) (w : World S C O) (t : NodeTurn S C O) (new : ReplicaState S C) (given : List (Effect C O)) →
     IsTurn rules w t → Loses rules t.before t.outcome new given → MayHappen rules m w m (moved w t.place new given)
 node_may {S = S} {C = C} {O = O} rules m w t new given (it_takes input stands runs may is) loses =
-    node_takes t.place t.before input stands runs may (subst (λ (o : Outcome S C O). Loses rules t.before o new given) is loses)
+    node_moves (goes.takes t.place t.before input stands runs may (subst (λ (o : Outcome S C O). Loses rules t.before o new given) is loses))
 node_may {S = S} {C = C} {O = O} rules m w t new given (it_stops stands runs is) loses = by_loss loses
   where
     stops : new ≡ halted rules t.before → given ≡ [] → MayHappen rules m w m (moved w t.place new given)
     stops e f =
         subst (λ (s : ReplicaState S C). MayHappen rules m w m (moved w t.place s given)) (sym e)
-        (subst (λ (us : List (Effect C O)). MayHappen rules m w m (moved w t.place (halted rules t.before) us)) (sym f) (node_stops t.place t.before stands))
+        (subst (λ (us : List (Effect C O)). MayHappen rules m w m (moved w t.place (halted rules t.before) us)) (sym f) (node_moves (goes.stops t.place t.before stands)))
 
     by_loss : Loses rules t.before t.outcome new given → MayHappen rules m w m (moved w t.place new given)
     by_loss (inl (e, thin)) =
         stops (e ∙ ap (λ (o : Outcome S C O). o.state) is) (thinned_none (ap (λ (o : Outcome S C O). o.effects) is) thin)
-    by_loss (inr (inl (e, f))) = node_takes t.place t.before Ticks stands runs tt (inr (inl (e, f)))
+    by_loss (inr (inl (e, f))) = node_moves (goes.takes t.place t.before Ticks stands runs tt (inr (inl (e, f))))
     by_loss (inr (inr (e, f))) = stops e f
 
 -- what the turn of the master is: a ballot that is given, or an answer
@@ -207,6 +317,15 @@ deed_is {S = S} {C = C} {O = O} rules a (Deliver k) o is = by_message (slice_get
     by_message None e f = cc
     by_message (Some (receiver, m)) e f = by_receiver receiver m e f
 deed_is rules a (Tick node) o is = absurd (no_deed rules (node - 1) (running a.world.nodes node) Ticks o is)
+deed_is {S = S} {C = C} {O = O} rules a (Cut node) o is = absurd (no_deed_there (running a.world.nodes node) is)
+  where
+    by_need : (r : ReplicaState S C) (b : Bool) → cond b (Some (by_cut (cut_turn rules (node - 1) r))) None ≡ Some (by_master o) → ⊥
+    by_need r true f = cc
+    by_need r false f = cc
+
+    no_deed_there : (x : Option (ReplicaState S C)) → cutting rules (node - 1) x ≡ Some (by_master o) → ⊥
+    no_deed_there None f = cc
+    no_deed_there (Some r) f = by_need r (can_cut r) f
 deed_is rules a (Crash node) o is = absurd (no_stop rules (node - 1) (running a.world.nodes node) o is)
 
 -- such a turn may happen
@@ -237,19 +356,24 @@ happens_may rules {a = a} {e = e} (master_goes o is) = deed_lost rules a o (deed
 
 -- and what it comes to
 exactly_may : {S C O : Type 0} (rules : Rules S C O) (a : Moment S C O) (e : Event C) (t : Option (Turn S C O)) → turn rules a e ≡ t →
-    MayGo rules a (behind a t)
-exactly_may rules a e None is = nothing_may rules a
-exactly_may rules a e (Some (by_node t)) is =
+    Freezes rules t → MayGo rules a (behind a t)
+exactly_may rules a e None is f = nothing_may rules a
+exactly_may rules a e (Some (by_node t)) is f =
     node_may rules a.master a.world t t.outcome.state t.outcome.effects (turn_is rules a e t is) (inl (refl, Thinned-same t.outcome.effects))
-exactly_may rules a e (Some (by_master o)) is = master_may rules a o (deed_is rules a e o is)
-exactly_may rules a e (Some unheeded) is = nothing_may rules a
+exactly_may rules a e (Some (by_cut t)) is f = cut_may rules a.master a.world t (cut_is rules a e t is) f
+exactly_may rules a e (Some (by_master o)) is f = master_may rules a o (deed_is rules a e o is)
+exactly_may rules a e (Some unheeded) is f = nothing_may rules a
 
 -- so each step of a group may happen
 pub step_may : {S C O : Type 0} (rules : Rules S C O) (old new : GroupState S C O) (e : Event C) → StepsBy rules old e new →
     MayGo rules old.moment new.moment
-step_may {S = S} {C = C} {O = O} rules old new e s = by_way s.way
+step_may {S = S} {C = C} {O = O} rules old new e s = by_frozen s.freezes
   where
-    by_way : ((new.moment ≡ group_step rules e old.moment) × (new.losses ≡ old.losses))
+    by_way : Freezes rules (turn rules old.moment e) → ((new.moment ≡ group_step rules e old.moment) × (new.losses ≡ old.losses))
         ⊎ (Happens rules old.moment e new.moment × (new.losses ≡ one_more old.losses)) → MayGo rules old.moment new.moment
-    by_way (inl (a, b)) = subst (λ (v : Moment S C O). MayGo rules old.moment v) (sym a) (exactly_may rules old.moment e (turn rules old.moment e) refl)
-    by_way (inr (a, b)) = happens_may rules a
+    by_way f (inl (a, b)) = subst (λ (v : Moment S C O). MayGo rules old.moment v) (sym a) (exactly_may rules old.moment e (turn rules old.moment e) refl f)
+    by_way f (inr (a, b)) = happens_may rules a
+
+    by_frozen : Freezes rules (turn rules old.moment e) ⊎ (new.moment ≡ old.moment) → MayGo rules old.moment new.moment
+    by_frozen (inl f) = by_way f s.way
+    by_frozen (inr same) = subst (λ (v : Moment S C O). MayGo rules old.moment v) (sym same) (nothing_may rules old.moment)

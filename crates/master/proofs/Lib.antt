@@ -1,9 +1,15 @@
 pub mod Counted
 pub mod Counting
+pub mod Effects
 pub mod Groups
 pub mod Happening
 pub mod Lawful
 pub mod Parting
 pub mod Quiet
+pub mod Recording
 pub mod Runs
 pub mod Turns
+pub mod Untold
+pub mod Viewed
+pub mod WholeTold
+pub use Rattle.snapshots.proofs as of_snapshots

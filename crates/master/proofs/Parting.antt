@@ -8,9 +8,9 @@ use Rattle.ballot.specs.Effect.{Effect}
 use Rattle.ballot.specs.Effect.TheVariants.{To, Out}
 use Rattle.ballot.specs.Losses.{Thinned}
 use Rattle.ballot.specs.Losses.Thinned.{none, keeps, loses}
-use Rattle.agreement.specs.World.{messages, outputs}
+use Rattle.snapshots.specs.World.{messages, outputs}
 use Rattle.master.specs.Inside.{Parted, is_message}
-use Rattle.agreement.proofs.Effects.{messages-append, outputs-append}
+use Rattle.master.proofs.Effects.{messages-append, outputs-append}
 
 -- effects that are parted up to a place
 pub record Parting {C O : Type 0} (old : List (Effect C O)) (from place : ℕ) (now : List (Effect C O)) (at : ℕ)

@@ -5,6 +5,7 @@ use Rattle.std.proofs.lemmas.Bool.{and_parts, both_ways, ltb-true}
 use Rattle.std.proofs.lemmas.List.{append-nil, length-append}
 use Rattle.machine.specs.Machine.{Rules}
 use Rattle.ballot.specs.Config.{Config}
+use Rattle.ballot.specs.Logs.{places}
 use Rattle.ballot.specs.Effect.{Effect}
 use Rattle.ballot.specs.Message.{Message}
 use Rattle.ballot.specs.Losses.{halted}
@@ -14,14 +15,15 @@ use Rattle.ballot.specs.Replica.{ReplicaState, is_active}
 use Rattle.ballot.specs.Sending.{Outcome, nothing_done}
 use Rattle.ballot.specs.Serving.{added, most_places}
 use Rattle.ballot.proofs.StepRows.{added-log, proposed-adds}
-use Rattle.agreement.specs.MasterState.{AssignRefusal, MasterOutcome, refusal}
-use Rattle.agreement.specs.Past.{Moment}
-use Rattle.agreement.specs.World.{World, moved}
+use Rattle.agreement.specs.MasterState.{AssignRefusal, refusal}
+use Rattle.snapshots.specs.Masters.{MasterOutcome}
+use Rattle.snapshots.specs.Past.{Moment}
+use Rattle.snapshots.specs.World.{World, moved}
 use Rattle.master.specs.declared.event.Event.{Event}
-use Rattle.master.specs.declared.event.Event.TheVariants.{Assign, Deliver, Tick, Crash}
+use Rattle.master.specs.declared.event.Event.TheVariants.{Assign, Cut, Deliver, Tick, Crash}
 use Rattle.master.specs.Group.{GroupState}
 use Rattle.master.specs.Exact.{NodeTurn, Turn, behind, can_take, gives, turn}
-use Rattle.master.specs.Exact.Turn.{by_node, by_master, unheeded}
+use Rattle.master.specs.Exact.Turn.{by_node, by_cut, by_master, unheeded}
 use Rattle.master.specs.Inside.{RunsAt}
 use Rattle.master.specs.Steps.{StepsBy, TakesNoMemory, done_exactly}
 use Rattle.master.specs.Steps.TakesNoMemory.{comes_to_nobody, goes_unheeded, does_nothing, stops_a_node}
@@ -49,9 +51,9 @@ set_same (y ∷ xs) (suc n) x e = ap (λ zs. y ∷ zs) (set_same xs n x e)
 
 moved_same : {S C O : Type 0} (w : World S C O) (n : ℕ) (r : ReplicaState S C) → slice_get w.nodes n ≡ Some r → moved w n r [] ≡ w
 moved_same {S = S} {C = C} {O = O} w n r stands =
-    ap (λ xs. let z : World S C O = record { nodes = xs; sent = w.sent ++ []; left = w.left ++ [] } in z) (set_same w.nodes n r stands)
-    ∙ ap (λ xs. let z : World S C O = record { nodes = w.nodes; sent = xs; left = w.left ++ [] } in z) (append-nil w.sent)
-    ∙ ap (λ xs. let z : World S C O = record { nodes = w.nodes; sent = w.sent; left = xs } in z) (append-nil w.left)
+    ap (λ xs. let z : World S C O = record { nodes = xs; sent = w.sent ++ []; left = w.left ++ []; archive = w.archive } in z) (set_same w.nodes n r stands)
+    ∙ ap (λ xs. let z : World S C O = record { nodes = w.nodes; sent = xs; left = w.left ++ []; archive = w.archive } in z) (append-nil w.sent)
+    ∙ ap (λ xs. let z : World S C O = record { nodes = w.nodes; sent = w.sent; left = xs; archive = w.archive } in z) (append-nil w.left)
 
 -- a node that does nothing by the protocol
 pub exactly_nothing : {S C O : Type 0} (rules : Rules S C O) (old : GroupState S C O) (event : Event C) (n : ℕ) (r : ReplicaState S C) (o : Outcome S C O) →
@@ -62,11 +64,11 @@ exactly_nothing {S = S} {C = C} {O = O} rules old event n r o e stands nothing =
     (ap (λ (p : Outcome S C O). let z : Moment S C O = record old.moment { world = moved old.moment.world n p.state p.effects } in z) nothing
     ∙ ap (λ (w : World S C O). let z : Moment S C O = record old.moment { world = w } in z) (moved_same old.moment.world n r stands))
 
--- what is done exactly is a step
-pub steps_exactly_done : {S C O : Type 0} (rules : Rules S C O) (old new : GroupState S C O) (event : Event C) →
-    new ≡ done_exactly rules old event → StepsBy rules old event new
-steps_exactly_done {S = S} {C = C} {O = O} rules old new event e =
-    record { way = inl (ap (λ (z : GroupState S C O). z.moment) e, ap (λ (z : GroupState S C O). z.losses) e) }
+-- what is done exactly by doing nothing is a step
+pub steps_exactly_done : {S C O : Type 0} (rules : Rules S C O) (old : GroupState S C O) (event : Event C) →
+    old ≡ done_exactly rules old event → StepsBy rules old event old
+steps_exactly_done {S = S} {C = C} {O = O} rules old event e =
+    record { way = inl (ap (λ (z : GroupState S C O). z.moment) e, ap (λ (z : GroupState S C O). z.losses) e); freezes = inr refl }
 
 -- a node's turn needs no memory where it does nothing, or where the node stops
 pub node_needs : {S C O : Type 0} {P : Type 0} (rules : Rules S C O) (a : Moment S C O) (event : Event C) (t : NodeTurn S C O) →
@@ -78,6 +80,14 @@ node_needs rules a event t e stops nothing (stops_a_node node f) = stops node f
 node_needs {S = S} {C = C} {O = O} rules a event t e stops nothing (does_nothing s f still) =
     let g = sym e ∙ f in let same : t ≡ s = cc in
     nothing (subst (λ (z : NodeTurn S C O). z.outcome ≡ nothing_done O z.before) (sym same) still)
+
+-- a cut needs some
+pub cut_needs : {S C O : Type 0} {P : Type 0} (rules : Rules S C O) (a : Moment S C O) (node : ℕ) (t : NodeTurn S C O) →
+    turn rules a (Cut node) ≡ Some (by_cut t) → TakesNoMemory rules a (Cut node) → P
+cut_needs rules a node t e (comes_to_nobody f) = some_idle e f
+cut_needs rules a node t e (goes_unheeded f) = let g = sym e ∙ f in cc
+cut_needs rules a node t e (stops_a_node other f) = cc
+cut_needs rules a node t e (does_nothing s f still) = let g = sym e ∙ f in cc
 
 -- and one of the master needs some
 pub master_needs : {S C O : Type 0} {P : Type 0} (rules : Rules S C O) (a : Moment S C O) (event : Event C) (o : MasterOutcome C) →
@@ -91,9 +101,9 @@ master_needs rules a event o e stops (does_nothing s f still) = let g = sym e �
 pub proposal_does : {S C O : Type 0} {P : Type 0} (rules : Rules S C O) (r : ReplicaState S C) (command : C) → can_take r (Proposes command) ≡ true →
     replica_step rules r (Proposes command) ≡ nothing_done O r → P
 proposal_does {S = S} {C = C} {O = O} rules r command can nothing =
-    let p = and_parts (is_active r.role) (nat_lt (length r.log) most_places) can in
-    let e = ap (λ (o : Outcome S C O). length o.state.log) (sym (proposed-adds rules r command p.0 (ltb-true (length r.log) most_places p.1)) ∙ nothing) in
-    let f = ap length (added-log rules r command) in let long = length-append r.log (command ∷ []) in
+    let p = and_parts (is_active r.role) (nat_lt (places r.log) most_places) can in
+    let e = ap (λ (o : Outcome S C O). places o.state.log) (sym (proposed-adds rules r command p.0 (ltb-true (places r.log) most_places p.1)) ∙ nothing) in
+    let f = ap places (added-log rules r command) in let long = length-append r.log.rest (command ∷ []) in
     absurd (omega (arith, e, f, long))
 
 -- a tick, where the node would say something and where not

@@ -1,15 +1,16 @@
 -- Runs.antt: events one after the other, and what agreement comes of them.
-use Rattle.std.proofs.Common.{◌≡◌, ℕ, ◌+◌, ◌-◌, ◌^◌, ◌<◌, ◌≤◌, ◌⊎◌, inl, inr, min, List, [], ◌∷◌, ◌++◌, length, take, get_or, refl, ap, sym, ◌∙◌, subst, append_assoc, arith}
+use Rattle.std.proofs.Common.{◌≡◌, ℕ, ◌+◌, ◌-◌, ◌^◌, ◌<◌, ◌≤◌, ◌⊎◌, inl, inr, min, List, [], ◌∷◌, ◌++◌, length, map, take, get_or, refl, ap, sym, ◌∙◌, subst, append_assoc, arith}
 use Rattle.std.proofs.lemmas.List.{take_more}
 use Rattle.machine.specs.Machine.{Rules}
 use Rattle.ballot.specs.Config.{Config}
 use Rattle.ballot.specs.Losses.{one_more}
 use Rattle.lists.specs.Lists.{IsPrefixOf}
 use Rattle.lists.proofs.Beginnings.{prefix_then}
-use Rattle.agreement.specs.Past.{Moment, Past, IsAgreed, IsChosen, WasActive}
-use Rattle.agreement.specs.Past.Past.{went_on}
-use Rattle.agreement.proofs.Agreed.PastAgrees.{has_agreed, nodes_agree}
-use Rattle.agreement.proofs.Agreed.PastGrows.{agreed_grows}
+use Rattle.snapshots.specs.Past.{Moment, Past, whole_moment}
+use Rattle.agreement.specs.Past.{IsAgreed, IsChosen, WasActive}
+use Rattle.agreement.specs.Past.{Moment as WholeMoment}
+use Rattle.snapshots.specs.Past.Past.{went_on}
+use Rattle.snapshots.proofs.PastsAgree.{agreed_grows, has_agreed, nodes_agree}
 use Rattle.master.specs.declared.event.Event.{Event}
 use Rattle.master.specs.Group.{GroupState}
 use Rattle.master.specs.Exact.{group_step, group_run}
@@ -81,10 +82,10 @@ pub record Went {S C O : Type 0} (rules : Rules S C O) (config : Config) (past :
   pub between : List (Moment S C O)
   pub goes_on : a ∷ earlier ≡ between ++ past
   pub came : Past rules config (a ∷ earlier)
-  pub grown : (xs ys : List C) → IsAgreed config past xs → IsAgreed config (a ∷ earlier) ys → IsPrefixOf xs ys
+  pub grown : (xs ys : List C) → IsAgreed config (map whole_moment past) xs → IsAgreed config (map whole_moment (a ∷ earlier)) ys → IsPrefixOf xs ys
 
 -- the agreed list is the longest, so there is one
-one_agreed : {S C O : Type 0} (config : Config) (past : List (Moment S C O)) (xs ys : List C) → IsAgreed config past xs → IsAgreed config past ys → IsPrefixOf xs ys
+one_agreed : {S C O : Type 0} (config : Config) (past : List (WholeMoment S C O)) (xs ys : List C) → IsAgreed config past xs → IsAgreed config past ys → IsPrefixOf xs ys
 one_agreed {S = S} {C = C} {O = O} config past xs ys x y = by_chosen x.chosen
   where
     by_chosen : (xs ≡ []) ⊎ ((b : ℕ) × WasActive past b × IsChosen config past b xs) → IsPrefixOf xs ys
@@ -94,7 +95,7 @@ one_agreed {S = S} {C = C} {O = O} config past xs ys x y = by_chosen x.chosen
 went : {S C O : Type 0} (rules : Rules S C O) (config : Config) (w v : GroupState S C O) (past : List (Moment S C O)) (events : List (Event C)) →
     Past rules config (w.moment ∷ past) → Run rules w events v → Went rules config (w.moment ∷ past) v.moment
 went rules config w v past events came ends =
-    record { earlier = past; between = []; goes_on = refl; came = came; grown = λ xs ys before behind. one_agreed config (w.moment ∷ past) xs ys before behind }
+    record { earlier = past; between = []; goes_on = refl; came = came; grown = λ xs ys before behind. one_agreed config (map whole_moment (w.moment ∷ past)) xs ys before behind }
 went {S = S} {C = C} {O = O} rules config w v past events came (goes_on {next = u} {e = e} {events = rest} s r) =
     let now : Past rules config (u.moment ∷ (w.moment ∷ past)) = went_on came (step_may rules w u e s) in
     let q = went rules config u v (w.moment ∷ past) rest now r in
@@ -124,6 +125,7 @@ agrees_after {S = S} {C = C} rules config first last past events came r =
       agrees = z.0;
       holds = z.1;
       leaves = z.2;
+      recorded = z.3;
       only_grown = λ ys before. q.grown ys xs.0 before xs.1;
     }
 

@@ -14,12 +14,14 @@ use Rattle.ballot.specs.Protocol.{Input, replica_step}
 use Rattle.ballot.proofs.ThinnedEffects.{Thinned-same}
 use Rattle.ballot.specs.Config.{Config}
 use Rattle.agreement.specs.MasterState.{MasterState, opening_master}
-use Rattle.agreement.specs.Past.{Moment, opening_moment}
+use Rattle.snapshots.specs.Past.{Moment, opening_moment}
 use Rattle.ballot.specs.Status.{Status}
-use Rattle.agreement.specs.World.{World, messages, outputs, moved, opening_nodes, opening_world}
-use Rattle.master.specs.Exact.{running, unless_stopped}
+use Rattle.snapshots.specs.World.{World, messages, outputs, moved, recorded}
+use Rattle.ballot.specs.Cutting.{cut}
+use Rattle.snapshots.specs.Past.{opening_nodes, opening_world}
+use Rattle.master.specs.Exact.{NodeTurn, cut_turn, running, unless_stopped}
 use Rattle.master.specs.Group.{GroupState}
-use Rattle.master.specs.Inside.{RunsAt, TookIn, Parted, TookTurn, moment_of, world_of}
+use Rattle.master.specs.Inside.{RunsAt, TookCut, TookIn, Parted, TookTurn, moment_of, world_of}
 
 -- an exact step is one in which nothing was lost
 loses_of : {S C O : Type 0} (rules : Rules S C O) {old : CountedReplica S C} {o : Outcome S C O} {new : CountedReplica S C} {given : List (Effect C O)} →
@@ -82,29 +84,29 @@ stands_at : {S C : Type 0} (nodes : List (CountedReplica S C)) (n : ℕ) (old : 
     slice_get (map (λ (r : CountedReplica S C). r.state) nodes) n ≡ Some old.state
 stands_at {S = S} {C = C} nodes n old below read = state_at nodes n old below ∙ ap (λ (r : CountedReplica S C). Some r.state) (sym read)
 
-moved_is : {S C O : Type 0} (nodes : List (CountedReplica S C)) (sent more : List (ℕ × Message C)) (left parted kept : List (Effect C O)) (n : ℕ) (new : CountedReplica S C) →
+moved_is : {S C O : Type 0} (archive : List C) (nodes : List (CountedReplica S C)) (sent more : List (ℕ × Message C)) (left parted kept : List (Effect C O)) (n : ℕ) (new : CountedReplica S C) →
     more ≡ sent ++ messages kept → outputs parted ≡ outputs left ++ outputs kept →
-    world_of (set nodes n new) more parted ≡ moved (world_of nodes sent left) n new.state kept
-moved_is {S = S} {C = C} {O = O} nodes sent more left parted kept n new e f =
-    ap (λ xs. let z : World S C O = record { nodes = xs; sent = more; left = outputs parted } in z) (map-set (λ (r : CountedReplica S C). r.state) nodes n new)
-    ∙ ap (λ xs. let z : World S C O = record { nodes = set (map (λ (r : CountedReplica S C). r.state) nodes) n new.state; sent = xs; left = outputs parted } in z) e
-    ∙ ap (λ xs. let z : World S C O = record { nodes = set (map (λ (r : CountedReplica S C). r.state) nodes) n new.state; sent = sent ++ messages kept; left = xs } in z) f
+    world_of archive (set nodes n new) more parted ≡ moved (world_of archive nodes sent left) n new.state kept
+moved_is {S = S} {C = C} {O = O} archive nodes sent more left parted kept n new e f =
+    ap (λ xs. let z : World S C O = record { nodes = xs; sent = more; left = outputs parted; archive = archive } in z) (map-set (λ (r : CountedReplica S C). r.state) nodes n new)
+    ∙ ap (λ xs. let z : World S C O = record { nodes = set (map (λ (r : CountedReplica S C). r.state) nodes) n new.state; sent = xs; left = outputs parted; archive = archive } in z) e
+    ∙ ap (λ xs. let z : World S C O = record { nodes = set (map (λ (r : CountedReplica S C). r.state) nodes) n new.state; sent = sent ++ messages kept; left = xs; archive = archive } in z) f
 
 -- a turn of a group
-pub took_turn : {S C O : Type 0} {rules : Rules S C O} (m : MasterState) (nodes : List (CountedReplica S C)) (sent more : List (ℕ × Message C)) (left behind parted : List (Effect C O))
+pub took_turn : {S C O : Type 0} {rules : Rules S C O} (archive : List C) (m : MasterState) (nodes : List (CountedReplica S C)) (sent more : List (ℕ × Message C)) (left behind parted : List (Effect C O))
     (losses counted n from : ℕ) (old new : CountedReplica S C) (o : ReplicaState S C → Outcome S C O) (r : ReplicaState S C) (whole kept : Bool) →
     n < length nodes → old ≡ get_or nodes n old → slice_get (map (λ (z : CountedReplica S C). z.state) nodes) n ≡ Some r → from ≡ length left →
     TookIn rules old.state (o old.state) new.state left behind whole → Parted (drop from behind) (take from behind) parted sent more kept →
     ((whole ≡ true) × (kept ≡ true) × (counted ≡ losses)) ⊎ (counted ≡ one_more losses) →
-    TookTurn rules (record { moment = moment_of m nodes sent left; losses = losses })
+    TookTurn rules (record { moment = moment_of archive m nodes sent left; losses = losses })
     (record { place = n; before = r; outcome = o r })
-    (record { moment = moment_of m (set nodes n new) more parted; losses = counted })
-took_turn {S = S} {C = C} {O = O} {rules = rules} m nodes sent more left behind parted losses counted n from old new o r whole kept below read stands at t p way =
+    (record { moment = moment_of archive m (set nodes n new) more parted; losses = counted })
+took_turn {S = S} {C = C} {O = O} {rules = rules} archive m nodes sent more left behind parted losses counted n from old new o r whole kept below read stands at t p way =
     record {
       state = new.state;
       given = p.kept;
       moment = ap (λ (w : World S C O). let z : Moment S C O = record { master = m; world = w } in z)
-          (moved_is nodes sent more left parted p.kept n new p.sent_is (p.outputs_are ∙ ap (λ us. outputs us ++ outputs p.kept) front));
+          (moved_is archive nodes sent more left parted p.kept n new p.sent_is (p.outputs_are ∙ ap (λ us. outputs us ++ outputs p.kept) front));
       way = by_way way;
     }
   where
@@ -169,19 +171,19 @@ going_of {S = S} {C = C} nodes n old r read stands going =
     ap (λ (s : ReplicaState S C). s.stopped) same ∙ going
 
 -- a node that stops
-pub crash_turn : {S C O : Type 0} (rules : Rules S C O) (m : MasterState) (nodes : List (CountedReplica S C)) (sent : List (ℕ × Message C)) (left : List (Effect C O))
+pub crash_turn : {S C O : Type 0} (rules : Rules S C O) (archive : List C) (m : MasterState) (nodes : List (CountedReplica S C)) (sent : List (ℕ × Message C)) (left : List (Effect C O))
     (losses n : ℕ) (old new : CountedReplica S C) (r : ReplicaState S C) →
     old ≡ get_or nodes n old → slice_get (map (λ (z : CountedReplica S C). z.state) nodes) n ≡ Some r → new.state ≡ halted rules old.state →
-    TookTurn rules (record { moment = moment_of m nodes sent left; losses = losses })
+    TookTurn rules (record { moment = moment_of archive m nodes sent left; losses = losses })
     (record { place = n; before = r; outcome = record { state = halted rules r; effects = [] } })
-    (record { moment = moment_of m (set nodes n new) sent left; losses = losses })
-crash_turn {S = S} {C = C} {O = O} rules m nodes sent left losses n old new r read stands stopped =
+    (record { moment = moment_of archive m (set nodes n new) sent left; losses = losses })
+crash_turn {S = S} {C = C} {O = O} rules archive m nodes sent left losses n old new r read stands stopped =
     record {
       state = halted rules r;
       given = [];
       moment = ap (λ (w : World S C O). let z : Moment S C O = record { master = m; world = w } in z)
-          (moved_is nodes sent sent left left [] n new (sym (append-nil sent)) (sym (append-nil (outputs left)))
-          ∙ ap (λ (s : ReplicaState S C). moved (world_of nodes sent left) n s []) (stopped ∙ ap (halted rules) same));
+          (moved_is archive nodes sent sent left left [] n new (sym (append-nil sent)) (sym (append-nil (outputs left)))
+          ∙ ap (λ (s : ReplicaState S C). moved (world_of archive nodes sent left) n s []) (stopped ∙ ap (halted rules) same));
       way = inl (refl, refl, refl);
     }
   where
@@ -189,17 +191,17 @@ crash_turn {S = S} {C = C} {O = O} rules m nodes sent left losses n old new r re
     same = let e = sym (stands_at nodes n old (below_of nodes n r stands) read) ∙ stands in cc
 
 -- and the group then
-pub crash_group : {S C O : Type 0} (rules : Rules S C O) (m : MasterState) (nodes : List (CountedReplica S C)) (sent : List (ℕ × Message C)) (left : List (Effect C O))
+pub crash_group : {S C O : Type 0} (rules : Rules S C O) (archive : List C) (m : MasterState) (nodes : List (CountedReplica S C)) (sent : List (ℕ × Message C)) (left : List (Effect C O))
     (losses n : ℕ) (old new : CountedReplica S C) (r : ReplicaState S C) →
     old ≡ get_or nodes n old → slice_get (map (λ (z : CountedReplica S C). z.state) nodes) n ≡ Some r → new.state ≡ halted rules old.state →
-    (let z : GroupState S C O = record { moment = moment_of m (set nodes n new) sent left; losses = losses } in z)
-    ≡ record { moment = record (moment_of m nodes sent left) { world = moved (world_of nodes sent left) n (halted rules r) [] }; losses = losses }
-crash_group {S = S} {C = C} {O = O} rules m nodes sent left losses n old new r read stands stopped =
+    (let z : GroupState S C O = record { moment = moment_of archive m (set nodes n new) sent left; losses = losses } in z)
+    ≡ record { moment = record (moment_of archive m nodes sent left) { world = moved (world_of archive nodes sent left) n (halted rules r) [] }; losses = losses }
+crash_group {S = S} {C = C} {O = O} rules archive m nodes sent left losses n old new r read stands stopped =
     let e : Some old.state ≡ Some r = sym (stands_at nodes n old (below_of nodes n r stands) read) ∙ stands in
     let same : old.state ≡ r = cc in
     ap (λ (w : World S C O). let z : GroupState S C O = record { moment = record { master = m; world = w }; losses = losses } in z)
-    (moved_is nodes sent sent left left [] n new (sym (append-nil sent)) (sym (append-nil (outputs left)))
-    ∙ ap (λ (s : ReplicaState S C). moved (world_of nodes sent left) n s []) (stopped ∙ ap (halted rules) same))
+    (moved_is archive nodes sent sent left left [] n new (sym (append-nil sent)) (sym (append-nil (outputs left)))
+    ∙ ap (λ (s : ReplicaState S C). moved (world_of archive nodes sent left) n s []) (stopped ∙ ap (halted rules) same))
 
 -- a replica that is read where a node stands
 pub same_replica : {S C : Type 0} (nodes : List (CountedReplica S C)) (n : ℕ) (old : CountedReplica S C) (r : ReplicaState S C) →
@@ -207,13 +209,14 @@ pub same_replica : {S C : Type 0} (nodes : List (CountedReplica S C)) (n : ℕ) 
 same_replica nodes n old r read stands = let e = sym (stands_at nodes n old (below_of nodes n r stands) read) ∙ stands in cc
 
 -- a group that opened
-pub opened_group : {S C O : Type 0} (rules : Rules S C O) (config : Config) (nodes at : ℕ) (items : List (CountedReplica S C)) (sent : List (ℕ × Message C)) (left : List (Effect C O)) →
-    map (λ (z : CountedReplica S C). z.state) items ≡ opening_nodes rules at config → at ≡ nodes → sent ≡ [] → left ≡ [] →
-    world_of items sent left ≡ opening_world rules nodes config
-opened_group {S = S} {C = C} {O = O} rules config nodes at items sent left before same a b =
-    ap (λ xs. let z : World S C O = record { nodes = xs; sent = sent; left = outputs left } in z) (before ∙ ap (λ k. opening_nodes rules k config) same)
-    ∙ ap (λ xs. let z : World S C O = record { nodes = opening_nodes rules nodes config; sent = xs; left = outputs left } in z) a
-    ∙ ap (λ (xs : List (Effect C O)). let z : World S C O = record { nodes = opening_nodes rules nodes config; sent = []; left = outputs xs } in z) b
+opened_group : {S C O : Type 0} (rules : Rules S C O) (archive : List C) (config : Config) (nodes at : ℕ) (items : List (CountedReplica S C)) (sent : List (ℕ × Message C)) (left : List (Effect C O)) →
+    map (λ (z : CountedReplica S C). z.state) items ≡ opening_nodes rules at config → at ≡ nodes → sent ≡ [] → left ≡ [] → archive ≡ [] →
+    world_of archive items sent left ≡ opening_world rules nodes config
+opened_group {S = S} {C = C} {O = O} rules archive config nodes at items sent left before same a b d =
+    ap (λ xs. let z : World S C O = record { nodes = xs; sent = sent; left = outputs left; archive = archive } in z) (before ∙ ap (λ k. opening_nodes rules k config) same)
+    ∙ ap (λ xs. let z : World S C O = record { nodes = opening_nodes rules nodes config; sent = xs; left = outputs left; archive = archive } in z) a
+    ∙ ap (λ (xs : List (Effect C O)). let z : World S C O = record { nodes = opening_nodes rules nodes config; sent = []; left = outputs xs; archive = archive } in z) b
+    ∙ ap (λ xs. let z : World S C O = record { nodes = opening_nodes rules nodes config; sent = []; left = []; archive = xs } in z) d
 
 -- one node more is opened
 pub opened_more : {S C O : Type 0} (rules : Rules S C O) (config : Config) (items more : List (CountedReplica S C)) (new : CountedReplica S C) (at : ℕ) →
@@ -232,9 +235,60 @@ count_is true true losses counted e = inl (refl, refl, e)
 count_is true false losses counted e = inr e
 count_is false second losses counted e = inr e
 
-pub opened_moment : {S C O : Type 0} (rules : Rules S C O) (config : Config) (nodes at : ℕ) (m : MasterState) (items : List (CountedReplica S C)) (sent : List (ℕ × Message C)) (left : List (Effect C O)) →
-    m ≡ opening_master config → map (λ (z : CountedReplica S C). z.state) items ≡ opening_nodes rules at config → at ≡ nodes → sent ≡ [] → left ≡ [] →
-    moment_of m items sent left ≡ opening_moment rules nodes config
-opened_moment {S = S} {C = C} {O = O} rules config nodes at m items sent left opens before same a b =
-    ap (λ x. let z : Moment S C O = record { master = x; world = world_of items sent left } in z) opens
-    ∙ ap (λ w. let z : Moment S C O = record { master = opening_master config; world = w } in z) (opened_group rules config nodes at items sent left before same a b)
+pub opened_moment : {S C O : Type 0} (rules : Rules S C O) (archive : List C) (config : Config) (nodes at : ℕ) (m : MasterState) (items : List (CountedReplica S C)) (sent : List (ℕ × Message C)) (left : List (Effect C O)) →
+    m ≡ opening_master config → map (λ (z : CountedReplica S C). z.state) items ≡ opening_nodes rules at config → at ≡ nodes → sent ≡ [] → left ≡ [] → archive ≡ [] →
+    moment_of archive m items sent left ≡ opening_moment rules nodes config
+opened_moment {S = S} {C = C} {O = O} rules archive config nodes at m items sent left opens before same a b d =
+    ap (λ x. let z : Moment S C O = record { master = x; world = world_of archive items sent left } in z) opens
+    ∙ ap (λ w. let z : Moment S C O = record { master = opening_master config; world = w } in z) (opened_group rules archive config nodes at items sent left before same a b d)
+
+-- the node at a place, once more
+set_there : {S C : Type 0} (nodes : List (CountedReplica S C)) (n : ℕ) (old new : CountedReplica S C) → n < length nodes → old ≡ get_or nodes n old →
+    new.state ≡ old.state → map (λ (z : CountedReplica S C). z.state) (set nodes n new) ≡ map (λ (z : CountedReplica S C). z.state) nodes
+set_there [] n old new below read same = refl
+set_there {S = S} {C = C} (r ∷ nodes) zero old new below read same =
+    ap (λ s. s ∷ map (λ (z : CountedReplica S C). z.state) nodes) (same ∙ ap (λ (z : CountedReplica S C). z.state) read)
+set_there (r ∷ nodes) (suc n) old new below read same = ap (λ ss. r.state ∷ ss) (set_there nodes n old new (omega arith) read same)
+
+-- a node whose log was cut, and one for whose cut memory ran out
+pub cut_done : {S C O : Type 0} (rules : Rules S C O) (archive more : List C) (m : MasterState) (nodes : List (CountedReplica S C)) (sent : List (ℕ × Message C))
+    (left : List (Effect C O)) (losses n : ℕ) (old new : CountedReplica S C) (r : ReplicaState S C) →
+    old ≡ get_or nodes n old → slice_get (map (λ (z : CountedReplica S C). z.state) nodes) n ≡ Some r → new.state ≡ cut rules old.state →
+    more ≡ recorded archive old.state → rules.thawed (rules.frozen old.state.machine) ≡ Some old.state.machine →
+    TookCut rules (record { moment = moment_of archive m nodes sent left; losses = losses }) (cut_turn rules n r)
+    (record { moment = moment_of more m (set nodes n new) sent left; losses = losses })
+cut_done {S = S} {C = C} {O = O} rules archive more m nodes sent left losses n old new r read stands is grown thaws =
+    record {
+      way = inl (
+        ap (λ (w : World S C O). let z : Moment S C O = record { master = m; world = w } in z)
+            (moved_is more nodes sent sent left left [] n new (sym (append-nil sent)) (sym (append-nil (outputs left)))
+            ∙ ap (λ (s : ReplicaState S C). moved (world_of more nodes sent left) n s []) (is ∙ ap (cut rules) same)
+            ∙ ap (λ us. let z : World S C O = record (moved (world_of archive nodes sent left) n (cut rules r) []) { archive = us } in z)
+            (grown ∙ ap (recorded archive) same)),
+        refl,
+        subst (λ (s : ReplicaState S C). rules.thawed (rules.frozen s.machine) ≡ Some s.machine) same thaws,
+      );
+    }
+  where
+    same : old.state ≡ r
+    same = same_replica nodes n old r read stands
+
+pub cut_lost : {S C O : Type 0} (rules : Rules S C O) (archive more : List C) (m : MasterState) (nodes later : List (CountedReplica S C)) (sent : List (ℕ × Message C))
+    (left : List (Effect C O)) (losses counted : ℕ) (t : NodeTurn S C O) → more ≡ archive →
+    map (λ (z : CountedReplica S C). z.state) later ≡ map (λ (z : CountedReplica S C). z.state) nodes → counted ≡ one_more losses →
+    TookCut rules (record { moment = moment_of archive m nodes sent left; losses = losses }) t
+    (record { moment = moment_of more m later sent left; losses = counted })
+cut_lost {S = S} {C = C} {O = O} rules archive more m nodes later sent left losses counted t kept same count =
+    record {
+      way = inr (
+          ap (λ us. let z : GroupState S C O = record { moment = moment_of us m later sent left; losses = counted } in z) kept
+          ∙ ap (λ ss. let z : GroupState S C O = record { moment = record { master = m; world = record { nodes = ss; sent = sent; left = outputs left; archive = archive } }; losses = counted } in z) same
+          ∙ ap (λ k. let z : GroupState S C O = record { moment = moment_of archive m nodes sent left; losses = k } in z) count
+          );
+    }
+
+-- a node that did not change
+pub cut_not : {S C : Type 0} (nodes : List (CountedReplica S C)) (n : ℕ) (old new : CountedReplica S C) (r : ReplicaState S C) →
+    old ≡ get_or nodes n old → slice_get (map (λ (z : CountedReplica S C). z.state) nodes) n ≡ Some r → new.state ≡ old.state →
+    map (λ (z : CountedReplica S C). z.state) (set nodes n new) ≡ map (λ (z : CountedReplica S C). z.state) nodes
+cut_not nodes n old new r read stands same = set_there nodes n old new (below_of nodes n r stands) read same

@@ -3,12 +3,12 @@ use Rattle.std.specs.Prelude.{◌≡◌, List, ◌∷◌, ◌++◌}
 use Rattle.machine.specs.Machine.{Rules}
 use Rattle.lists.specs.Lists.{IsPrefixOf}
 use Rattle.ballot.specs.Config.{Config}
-use Rattle.agreement.specs.Agreement.{Agrees, Holds}
-use Rattle.agreement.specs.Leaving.{LeftInOrder}
-use Rattle.agreement.specs.Past.{Moment, Past, IsAgreed}
+use Rattle.snapshots.specs.Agreeing.{Agrees, Holds, LeftInOrder}
+use Rattle.snapshots.specs.Past.{IsAgreed, Moment, Past}
 
 -- the past has gone on up to a moment in which the nodes agree on the list that is agreed there, what
--- left is its answers in order, and what was agreed before is a beginning of it
+-- left is its answers in order, and what was agreed before is a beginning of it. A log is said whole,
+-- by the record of places, which is a beginning of the agreed list, too
 pub record AgreesAfter {S C O : Type 0} (rules : Rules S C O) (config : Config)
     (past : List (Moment S C O)) (a : Moment S C O) : Type 0 where
   pub earlier : List (Moment S C O)
@@ -20,4 +20,5 @@ pub record AgreesAfter {S C O : Type 0} (rules : Rules S C O) (config : Config)
   pub agrees : Agrees rules a.master a.world list
   pub holds : Holds a.master a.world list
   pub leaves : LeftInOrder rules (a ∷ earlier) a.world list
+  pub recorded : IsPrefixOf a.world.archive list
   pub only_grown : (before : List C) → IsAgreed config past before → IsPrefixOf before list

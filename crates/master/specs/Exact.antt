@@ -1,9 +1,11 @@
 -- Exact.antt: what an event comes to, and what it does to a group where memory suffices.
-use Rattle.std.specs.Prelude.{ℕ, zero, suc, Bool, true, ◌-◌, List, [], ◌∷◌, length, slice_get, Option, Some, None, ◌&&◌, nat_lt, if◌then◌else◌}
+use Rattle.std.specs.Prelude.{ℕ, zero, suc, Bool, true, ◌-◌, List, [], ◌∷◌, slice_get, Option, Some, None, ◌&&◌, nat_lt, if◌then◌else◌}
 use Rattle.machine.specs.Machine.{Rules}
 use Rattle.ballot.specs.Body.{Body}
 use Rattle.ballot.specs.Body.TheVariants.{Activate}
 use Rattle.ballot.specs.Config.{Config}
+use Rattle.ballot.specs.Cutting.{can_cut, cut}
+use Rattle.ballot.specs.Logs.{places}
 use Rattle.ballot.specs.Message.{Message}
 use Rattle.ballot.specs.Losses.{halted}
 use Rattle.ballot.specs.Protocol.{Input, replica_step}
@@ -11,12 +13,13 @@ use Rattle.ballot.specs.Protocol.Input.{Receives, Proposes, Ticks}
 use Rattle.ballot.specs.Replica.{ReplicaState, is_active}
 use Rattle.ballot.specs.Sending.{Outcome}
 use Rattle.ballot.specs.Serving.{most_places}
-use Rattle.agreement.specs.MasterState.{AssignRefusal, MasterOutcome, MasterState, activated, assigned, refusal}
-use Rattle.agreement.specs.Past.{Moment}
-use Rattle.agreement.specs.Steps.{tells_from_master}
-use Rattle.agreement.specs.World.{World, moved}
+use Rattle.agreement.specs.MasterState.{AssignRefusal, MasterState, refusal}
+use Rattle.snapshots.specs.Masters.{MasterOutcome, activated, assigned}
+use Rattle.snapshots.specs.Past.{Moment}
+use Rattle.snapshots.specs.Steps.{tells_from_master}
+use Rattle.snapshots.specs.World.{World, moved, recorded}
 use Rattle.master.specs.declared.event.Event.{Event}
-use Rattle.master.specs.declared.event.Event.TheVariants.{Propose, Assign, Deliver, Tick, Crash}
+use Rattle.master.specs.declared.event.Event.TheVariants.{Propose, Assign, Deliver, Tick, Cut, Crash}
 
 -- the node of a number, if it is there and has not stopped
 abbrev pub unless_stopped : {S C : Type 0} → Option (ReplicaState S C) → Option (ReplicaState S C)
@@ -33,16 +36,17 @@ pub record NodeTurn (S C O : Type 0) : Type 0 where
   pub before : ReplicaState S C
   pub outcome : Outcome S C O
 
--- what an event comes to: the turn of a node or of the master, or a message that the master does
--- not heed
+-- what an event comes to: the turn of a node, a cut of its log, the turn of the master, or a message
+-- that the master does not heed
 pub data Turn (S C O : Type 0) : Type 0 where
   by_node : NodeTurn S C O → Turn S C O
+  by_cut : NodeTurn S C O → Turn S C O
   by_master : MasterOutcome C → Turn S C O
   unheeded : Turn S C O
 
 -- a proposal needs an active primary whose log has room
 abbrev pub can_take : {S C : Type 0} → ReplicaState S C → Input C → Bool
-can_take r (Proposes command) = is_active r.role && nat_lt (length r.log) most_places
+can_take r (Proposes command) = is_active r.role && nat_lt (places r.log) most_places
 can_take r (Receives message) = true
 can_take r Ticks = true
 
@@ -63,6 +67,16 @@ stopping rules n (Some r) =
       before = r;
       outcome = record { state = halted rules r; effects = [] };
     }))
+
+-- a log is cut where there is something to cut; nothing is sent
+abbrev pub cut_turn : {S C O : Type 0} → Rules S C O → ℕ → ReplicaState S C → NodeTurn S C O
+cut_turn rules n r =
+    record { place = n; before = r; outcome = record { state = cut rules r; effects = [] } }
+
+abbrev pub cutting : {S C O : Type 0} →
+    Rules S C O → ℕ → Option (ReplicaState S C) → Option (Turn S C O)
+cutting rules n None = None
+cutting rules n (Some r) = if can_cut r then Some (by_cut (cut_turn rules n r)) else None
 
 -- a node takes something in
 abbrev pub takes : {S C O : Type 0} →
@@ -98,6 +112,7 @@ turn rules a (Propose node command) = takes rules a.world node (Proposes command
 turn rules a (Assign config) = gives rules a.master config (refusal a.master config)
 turn rules a (Deliver number) = comes rules a (slice_get a.world.sent number)
 turn rules a (Tick node) = takes rules a.world node Ticks
+turn rules a (Cut node) = cutting rules (node - 1) (running a.world.nodes node)
 turn rules a (Crash node) = stopping rules (node - 1) (running a.world.nodes node)
 
 -- the step of a group where memory suffices, and its steps one after the other
@@ -105,6 +120,12 @@ abbrev pub behind : {S C O : Type 0} → Moment S C O → Option (Turn S C O) �
 behind a None = a
 behind a (Some (by_node t)) =
     record a { world = moved a.world t.place t.outcome.state t.outcome.effects }
+behind a (Some (by_cut t)) =
+    record a {
+      world = record (moved a.world t.place t.outcome.state t.outcome.effects) {
+        archive = recorded a.world.archive t.before;
+      };
+    }
 behind a (Some (by_master o)) = record { master = o.state; world = tells_from_master a.world o }
 behind a (Some unheeded) = a
 

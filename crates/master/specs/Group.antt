@@ -1,6 +1,6 @@
 -- Group.antt: a group as it is seen.
 use Rattle.std.specs.Prelude.{ℕ}
-use Rattle.agreement.specs.Past.{Moment}
+use Rattle.snapshots.specs.Past.{Moment}
 
 -- a group: its moment, which is its master with the nodes, the messages and the outputs that left,
 -- and the number of its steps in which memory was wanting

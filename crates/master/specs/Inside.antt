@@ -1,5 +1,5 @@
 -- Inside.antt: what the helpers of a group say of nodes, effects, turns and counters.
-use Rattle.std.specs.Prelude.{ℕ, Bool, true, false, ◌-◌, ◌<◌, ◌≡◌, ◌⊎◌, List, [], ◌∷◌, ◌++◌, length, map, min, get_or, slice_get, Option, Some, None, nat_lt, if◌then◌else◌}
+use Rattle.std.specs.Prelude.{ℕ, Bool, true, false, ◌-◌, ◌<◌, ◌≤◌, ◌≡◌, ◌⊎◌, List, [], ◌∷◌, ◌++◌, length, map, min, get_or, slice_get, Option, Some, None, nat_lt, if◌then◌else◌}
 use Rattle.machine.specs.Machine.{Rules}
 use Rattle.ballot.specs.Body.{Body}
 use Rattle.ballot.specs.Body.TheVariants.{Activate}
@@ -7,20 +7,25 @@ use Rattle.ballot.specs.Config.{Config}
 use Rattle.ballot.specs.Message.{Message}
 use Rattle.ballot.specs.Effect.{Effect}
 use Rattle.ballot.specs.Effect.TheVariants.{To, Out}
+use Rattle.ballot.specs.Logs.{places}
 use Rattle.ballot.specs.Losses.{Thinned, Loses, one_more}
+use Rattle.lists.specs.Lists.{In}
 use Rattle.ballot.specs.Protocol.{Input}
 use Rattle.ballot.specs.Protocol.Input.{Receives, Proposes, Ticks}
 use Rattle.ballot.specs.Replica.{ReplicaState, CountedReplica}
 use Rattle.ballot.specs.Sending.{Outcome}
-use Rattle.agreement.specs.Inside.ToldLengths.{most_told}
-use Rattle.agreement.specs.MasterState.{MasterState, MasterOutcome}
-use Rattle.agreement.specs.Past.{Moment, Past}
-use Rattle.agreement.specs.Steps.{tells_from_master}
-use Rattle.agreement.specs.World.{World, messages, outputs, moved}
+use Rattle.master.specs.ToldLengths.{most_told}
+use Rattle.agreement.specs.MasterState.{MasterState}
+use Rattle.snapshots.specs.Masters.{MasterOutcome}
+use Rattle.snapshots.specs.Past.{Moment, Past}
+use Rattle.snapshots.specs.Steps.{tells_from_master}
+use Rattle.snapshots.specs.World.{World, messages, outputs, moved}
 use Rattle.master.specs.declared.turning.Taken.{Taken}
 use Rattle.master.specs.declared.turning.Taken.TheVariants.{Received, Proposed, Ticked}
 use Rattle.master.specs.Group.{GroupState}
-use Rattle.master.specs.Exact.{NodeTurn, running}
+use Rattle.master.specs.Exact.{NodeTurn, behind, running}
+use Rattle.master.specs.Exact.Turn.{by_cut}
+use Rattle.master.specs.Steps.{Freezes}
 
 -- the node of a number runs, at a place
 pub record RunsAt {S C : Type 0} (nodes : List (ReplicaState S C)) (node at : ℕ) : Type 0 where
@@ -31,6 +36,26 @@ pub record RunsAt {S C : Type 0} (nodes : List (ReplicaState S C)) (node at : �
   pub stands : slice_get nodes at ≡ Some replica
   pub runs : running nodes node ≡ Some replica
   pub going : replica.stopped ≡ false
+
+-- how long the log of a node is, if it is there
+abbrev pub held_by : {S C : Type 0} → Option (ReplicaState S C) → ℕ
+held_by None = 0
+held_by (Some r) = places r.log
+
+-- the log of a member's node has so many places
+pub record HoldsAt {S C : Type 0} (nodes : List (ReplicaState S C)) (members : List ℕ)
+    (held at : ℕ) : Type 0 where
+  pub member : ℕ
+  pub is_member : In member members
+  pub place : at ≡ member - 1
+  pub replica : ReplicaState S C
+  pub stands : slice_get nodes at ≡ Some replica
+  pub long : held ≤ places replica.log
+
+-- the log of a node, if it is there, has fewer places
+abbrev pub IsShort : {S C : Type 0} → Option (ReplicaState S C) → ℕ → Type 0
+IsShort None held = Unit {0}
+IsShort (Some r) held = places r.log < held
 
 -- what a node takes in
 abbrev pub input_of : {C : Type 0} → Taken C → Input C
@@ -71,6 +96,14 @@ pub record TookTurn {S C O : Type 0} (rules : Rules S C O) (old : GroupState S C
   pub way : ((state ≡ t.outcome.state) × (given ≡ t.outcome.effects) × (new.losses ≡ old.losses))
       ⊎ (Loses rules t.before t.outcome state given × (new.losses ≡ one_more old.losses))
 
+-- a group after a cut of one node's log, or one for which memory ran out, which was counted
+pub record TookCut {S C O : Type 0} (rules : Rules S C O) (old : GroupState S C O)
+    (t : NodeTurn S C O) (new : GroupState S C O) : Type 0 where
+  pub way : ((new.moment ≡ behind old.moment (Some (by_cut t)))
+      × (new.losses ≡ old.losses)
+      × Freezes rules (Some (by_cut t)))
+      ⊎ (new ≡ record old { losses = one_more old.losses })
+
 -- a group after a turn of the master, or one whose message was lost, which was counted
 pub record MasterTook {S C O : Type 0} (old : GroupState S C O) (o : MasterOutcome C)
     (new : GroupState S C O) : Type 0 where
@@ -79,19 +112,22 @@ pub record MasterTook {S C O : Type 0} (old : GroupState S C O) (o : MasterOutco
       ⊎ ((new.moment ≡ record old.moment { master = o.state })
       × (new.losses ≡ one_more old.losses))
 
--- what a group with this master, these replicas, messages and effects that left is seen as
-abbrev pub world_of : {S C O : Type 0} → List (CountedReplica S C) → List (ℕ × Message C) →
+-- what a group with this record of places, this master, these replicas, messages and effects that left
+-- is seen as
+abbrev pub world_of : {S C O : Type 0} → List C → List (CountedReplica S C) → List (ℕ × Message C) →
     List (Effect C O) → World S C O
-world_of {S = S} {C = C} nodes sent left =
+world_of {S = S} {C = C} archive nodes sent left =
     record {
       nodes = map (λ (r : CountedReplica S C). r.state) nodes;
       sent = sent;
       left = outputs left;
+      archive = archive;
     }
 
-abbrev pub moment_of : {S C O : Type 0} → MasterState → List (CountedReplica S C) →
+abbrev pub moment_of : {S C O : Type 0} → List C → MasterState → List (CountedReplica S C) →
     List (ℕ × Message C) → List (Effect C O) → Moment S C O
-moment_of m nodes sent left = record { master = m; world = world_of nodes sent left }
+moment_of archive m nodes sent left =
+    record { master = m; world = world_of archive nodes sent left }
 
 -- how many places the node of each number told in a ballot
 pub record ToldIn : Type 0 where

@@ -4,3 +4,5 @@ pub mod Group
 pub mod Inside
 pub mod Refusals
 pub mod Steps
+pub mod ToldLengths
+pub use Rattle.snapshots.specs as snapshots

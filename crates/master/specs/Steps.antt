@@ -1,21 +1,21 @@
 -- Steps.antt: steps of a group in which memory may have been wanting, and how these are counted.
-use Rattle.std.specs.Prelude.{◌^◌, ◌-◌, ◌<◌, ◌≡◌, ◌⊎◌, ℕ, List, [], ◌∷◌, Some, None}
+use Rattle.std.specs.Prelude.{◌^◌, ◌-◌, ◌<◌, ◌≡◌, ◌⊎◌, ℕ, List, [], ◌∷◌, Option, Some, None}
 use Rattle.machine.specs.Machine.{Rules}
 use Rattle.ballot.specs.Effect.{Effect}
 use Rattle.ballot.specs.Losses.{Loses, one_more}
 use Rattle.ballot.specs.Replica.{ReplicaState}
 use Rattle.ballot.specs.Sending.{nothing_done}
-use Rattle.agreement.specs.MasterState.{MasterOutcome}
-use Rattle.agreement.specs.Past.{Moment}
-use Rattle.agreement.specs.World.{moved}
+use Rattle.snapshots.specs.Masters.{MasterOutcome}
+use Rattle.snapshots.specs.Past.{Moment}
+use Rattle.snapshots.specs.World.{moved}
 use Rattle.master.specs.declared.event.Event.{Event}
 use Rattle.master.specs.declared.event.Event.TheVariants.{Crash}
 use Rattle.master.specs.Group.{GroupState}
-use Rattle.master.specs.Exact.{NodeTurn, turn, group_step}
-use Rattle.master.specs.Exact.Turn.{by_node, by_master, unheeded}
+use Rattle.master.specs.Exact.{NodeTurn, Turn, turn, group_step}
+use Rattle.master.specs.Exact.Turn.{by_node, by_cut, by_master, unheeded}
 
--- what an event may do where memory is wanting: nothing, the step of a node that it comes to with
--- losses, or that of the master, whose message is lost
+-- what an event may do where memory is wanting: nothing (no log is cut then), the step of a node that it
+-- comes to with losses, or that of the master, whose message is lost
 pub data Happens {S C O : Type 0} (rules : Rules S C O) :
     Moment S C O → Event C → Moment S C O → Type 0 where
   nothing_happens : {a : Moment S C O} {e : Event C} → Happens rules a e a
@@ -42,11 +42,22 @@ abbrev pub done_exactly : {S C O : Type 0} →
 done_exactly rules old event =
     record { moment = group_step rules event old.moment; losses = old.losses }
 
--- the step of an event, or one with losses that was counted
+-- the snapshot that a cut leaves stands for the machine that is there
+abbrev pub Freezes : {S C O : Type 0} → Rules S C O → Option (Turn S C O) → Type 0
+Freezes rules None = Unit {0}
+Freezes rules (Some (by_node t)) = Unit {0}
+Freezes rules (Some (by_cut t)) =
+    rules.thawed t.outcome.state.log.snapshot ≡ Some t.before.machine
+Freezes rules (Some (by_master o)) = Unit {0}
+Freezes rules (Some unheeded) = Unit {0}
+
+-- the step of an event, or one with losses that was counted; where a log was cut, its snapshot can be
+-- read
 pub record StepsBy {S C O : Type 0} (rules : Rules S C O) (old : GroupState S C O)
     (event : Event C) (new : GroupState S C O) : Type 0 where
   pub way : ((new.moment ≡ group_step rules event old.moment) × (new.losses ≡ old.losses))
       ⊎ (Happens rules old.moment event new.moment × (new.losses ≡ one_more old.losses))
+  pub freezes : Freezes rules (turn rules old.moment event) ⊎ (new.moment ≡ old.moment)
 
 -- events one after the other, each done exactly or with losses that were counted: no loss excuses
 -- an event beside it

@@ -19,8 +19,8 @@ pub fn copy_of<M: Machine>(
             new_ballot_of(alloc, *ballot, members, *previous, previous_members)?
         }
         Body::Join(ballot, previous) => Body::Join(*ballot, *previous),
-        Body::State(ballot, log) => Body::State(*ballot, copy_log::<M>(alloc, log.as_slice())?),
-        Body::Install(ballot, log) => Body::Install(*ballot, copy_log::<M>(alloc, log.as_slice())?),
+        Body::State(ballot, log) => Body::State(*ballot, copy_log::<M>(alloc, log)?),
+        Body::Install(ballot, log) => Body::Install(*ballot, copy_log::<M>(alloc, log)?),
         Body::Installed(ballot, held) => Body::Installed(*ballot, *held),
         Body::Activate(ballot) => Body::Activate(*ballot),
         Body::Activated(ballot) => Body::Activated(*ballot),

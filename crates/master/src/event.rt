@@ -20,6 +20,9 @@ pub enum Event<C> {
     Deliver(u64),
     /// Time passes at a node. Idle where it is unknown or has stopped.
     Tick(u8),
+    /// A node cuts its log: a snapshot of its machine takes the place of the commands that it has
+    /// applied. Idle where the node is unknown or has stopped, or has applied none since its last cut.
+    Cut(u8),
     /// A node stops for good. Idle where it is unknown or has stopped.
     Crash(u8),
 }

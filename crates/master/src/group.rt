@@ -1,26 +1,29 @@
 // A group of replicas and their master.
 
-ghost use Rattle.std.specs.Prelude.{ℕ, ◌-◌, ◌≡◌, ◌<◌, ◌≤◌, ◌↔◌, true, false, None, Some, [], length, slice_get, map, List, ◌∷◌, IfOk, IfSome, OnOk, OnErr, IsErr, IsErrOf};
+ghost use Rattle.std.specs.Prelude.{ℕ, ◌-◌, ◌≡◌, ◌<◌, ◌≤◌, ◌↔◌, true, false, None, Some, [], length, slice_get, map, List, ◌∷◌, ◌++◌, IfOk, IfSome, OnOk, OnErr, IsErr, IsErrOf};
 ghost use Rattle.ballot.specs.Body.TheVariants.{Activate};
+ghost use Rattle.ballot.specs.Cutting.{can_cut};
 ghost use Rattle.ballot.specs.Protocol.{replica_step};
 ghost use Rattle.ballot.specs.Protocol.Input.{Receives};
 ghost use Rattle.ballot.specs.Sending.{nothing_done};
 ghost use Rattle.ballot.specs.Losses.{one_more};
-ghost use Rattle.ballot.specs.Replica.{CountedReplica, ReplicaState};
+ghost use Rattle.ballot.specs.Replica.{ReplicaState};
 ghost use Rattle.lists.specs.Lists.{In};
-ghost use Rattle.agreement.specs.MasterState.{activated, assigned, refusal};
-ghost use Rattle.agreement.specs.Past.{IsAgreed, Moment, Past, opening_moment};
-ghost use Rattle.agreement.specs.Steps.{MayTake};
-ghost use Rattle.agreement.specs.World.{can_open, log_of};
+ghost use Rattle.snapshots.specs.Masters.{activated, assigned};
+ghost use Rattle.agreement.specs.MasterState.{refusal};
+ghost use Rattle.snapshots.specs.Past.{IsAgreed, Moment, Past, opening_moment};
+ghost use Rattle.snapshots.specs.World.{MayTake};
+ghost use Rattle.agreement.specs.World.{can_open};
 ghost use Rattle.master.specs.Agreement.{AgreesAfter};
-ghost use Rattle.master.specs.Exact.{turn, group_step, group_run, running};
-ghost use Rattle.master.specs.Inside.{MasterTook, RunsAt, TookTurn, input_of};
+ghost use Rattle.master.specs.Exact.{cut_turn, turn, group_step, group_run, running};
+ghost use Rattle.master.specs.Inside.{HoldsAt, IsShort, MasterTook, RunsAt, TookCut, TookTurn, held_by, input_of};
 ghost use Rattle.master.specs.Steps.{Run, StepsBy, TakesNoMemory, LosesNothing, done_exactly};
 
 use crate::copying::{config_of, copy_of};
 use crate::event::{Event, Idle};
 use crate::master::Master;
 use crate::opening::can_open;
+use crate::recording::record;
 use crate::telling::{answer_of, asks_for, tell};
 use crate::told::{Told, turn_over};
 use crate::turning::{Taken, counted, part, take_in};
@@ -38,6 +41,8 @@ pub struct Group<M: Machine> {
     nodes: Vec<Replica<M>>,
     sent: Vec<(u8, Message<M::Command>)>,
     left: Vec<Effect<M::Command, M::Output>>,
+    // The places below the bases of all logs.
+    archive: Vec<M::Command>,
     // What was told in the active ballot, and in the one that waits.
     told: Told,
     next: Told,
@@ -48,20 +53,20 @@ impl<M: Machine> Model for Group<M> {
     ghost use Rattle.std.specs.Prelude.{◌≡◌, []};
     ghost use Rattle.master.specs.Group.{GroupState};
     ghost use Rattle.master.specs.Inside.{IsGroup, moment_of};
-    ghost use Rattle.agreement.specs.World.{messages};
+    ghost use Rattle.snapshots.specs.World.{messages};
 
     ghost Value = { GroupState M M.Command M.Output };
 
     ghost view = { λ g.
         record {
-          moment = moment_of g.master g.nodes.items g.sent.items g.left.items;
+          moment = moment_of g.archive.items g.master g.nodes.items g.sent.items g.left.items;
           losses = g.losses;
         } };
 
     // Some past led up to here.
     ghost invariant = { λ g.
         (messages g.left.items ≡ []) ×
-        IsGroup M.rules (moment_of g.master g.nodes.items g.sent.items g.left.items)
+        IsGroup M.rules (moment_of g.archive.items g.master g.nodes.items g.sent.items g.left.items)
         g.told g.next };
 }
 
@@ -95,6 +100,7 @@ impl<M: Machine> Group<M> {
             nodes: opened,
             sent: Vec::new(alloc),
             left: Vec::new(alloc),
+            archive: Vec::new(alloc),
             told,
             next,
             losses: 0,
@@ -123,6 +129,7 @@ impl<M: Machine> Group<M> {
             Event::Assign(config) => self.assign(config),
             Event::Deliver(number) => self.deliver(*number),
             Event::Tick(node) => self.tick(*node),
+            Event::Cut(node) => self.cut(*node),
             Event::Crash(node) => self.crash(*node),
         }
     }
@@ -144,17 +151,27 @@ impl<M: Machine> Group<M> {
         }
     }
 
-    /// The agreed list: the longest that is chosen in a ballot that was active.
-    pub fn agreed(&self) -> &[M::Command]
+    /// Returns the agreed list, the longest that is chosen in a ballot that was active, in two parts:
+    /// the second goes on where the first ends.
+    pub fn agreed(&self) -> (&[M::Command], &[M::Command])
         ensures { (config : Config) (past : List (Moment M M.Command M.Output)) →
             Past M.rules config (self.now.moment ∷ past) →
-            IsAgreed config (self.now.moment ∷ past) result.now }
+            IsAgreed config (self.now.moment ∷ past)
+            (result.0.now ++ result.1.now) }
     {
-        let length = self.agreed_len() as usize;
-        match self.holder(length) {
-            Some(log) => &log[..length],
-            None => &[],
+        let held = self.agreed_len();
+        let Some(at) = self.holder(held) else {
+            return (&[], &[]);
+        };
+        let replica = &self.nodes[at];
+        let (base, _) = replica.snapshot();
+        if held <= base {
+            return (&self.archive[..held as usize], &[]);
         }
+        (
+            &self.archive[..base as usize],
+            &replica.rest()[..(held - base) as usize],
+        )
     }
 
     /// The length of the agreed list. It takes no longer, however much was sent.
@@ -166,7 +183,7 @@ impl<M: Machine> Group<M> {
     {
         let (_, members) = self.master.active();
         if members.len() == 1 {
-            return self.log_of(members[0]).len() as u64;
+            return self.held(members[0]);
         }
         self.told.least_but_one(members)
     }
@@ -323,6 +340,55 @@ impl<M: Machine> Group<M> {
         Ok(())
     }
 
+    fn cut(&mut self, node: u8) -> Result<(), Idle>
+        ensures step { StepsBy M.rules self.old (Event.Cut node) self.new }
+        ensures idle { IsErr result ↔ (turn M.rules self.old.moment (Event.Cut node) ≡ None) }
+        ensures same { OnErr result (self.new ≡ self.old) }
+        ensures quiet { TakesNoMemory M.rules self.old.moment (Event.Cut node) →
+            self.new ≡ done_exactly M.rules self.old (Event.Cut node) }
+    {
+        let Some(at) = self.running(node) else {
+            return Err(Idle);
+        };
+        if !self.nodes[at].can_cut() {
+            return Err(Idle);
+        }
+        self.cut_at(at);
+        Ok(())
+    }
+
+    // A node that has something to cut does so. The places that it drops are recorded first.
+    fn cut_at(&mut self, at: usize)
+        requires { (replica : ReplicaState M M.Command) ×
+            (slice_get self.old.moment.world.nodes at ≡ Some replica) ×
+            (can_cut replica ≡ true) }
+        ensures { (replica : ReplicaState M M.Command) →
+            slice_get self.old.moment.world.nodes at ≡ Some replica →
+            TookCut M.rules self.old (cut_turn M.rules at replica) self.new }
+    {
+        let before = self.archive.len();
+        let replica = &self.nodes[at];
+        let (base, _) = replica.snapshot();
+        let committed = replica.status().committed;
+        let Ok(()) = record::<M>(
+            self.alloc,
+            &mut self.archive,
+            base,
+            committed,
+            replica.rest(),
+        ) else {
+            self.archive.truncate(before);
+            self.losses = counted(self.losses, false, true);
+            return;
+        };
+        let replica = &mut self.nodes[at];
+        if replica.cut() {
+            return;
+        }
+        self.archive.truncate(before);
+        self.losses = counted(self.losses, false, true);
+    }
+
     fn crash(&mut self, node: u8) -> Result<(), Idle>
         ensures step { StepsBy M.rules self.old (Event.Crash node) self.new }
         ensures idle { IsErr result ↔ (turn M.rules self.old.moment (Event.Crash node) ≡ None) }
@@ -353,9 +419,10 @@ impl<M: Machine> Group<M> {
         Some(at)
     }
 
-    // Whether a message would do anything at a node.
+    // Whether a message that was sent would do anything at a node.
     fn heeds(&self, at: usize, message: &Message<M::Command>) -> bool
-        requires { at < length self.now.moment.world.nodes }
+        requires at { at < length self.now.moment.world.nodes }
+        requires sent { (to : ℕ) × In (to, message.now) self.now.moment.world.sent }
         ensures { (r : ReplicaState M M.Command) →
             slice_get self.now.moment.world.nodes at ≡ Some r →
             ((result ≡ false) ↔
@@ -388,27 +455,29 @@ impl<M: Machine> Group<M> {
         self.losses = counted(self.losses, taken, kept);
     }
 
-    // The log of a node; empty where it is unknown.
-    fn log_of(&self, node: u8) -> &[M::Command]
-        ensures { result.now ≡ log_of (slice_get self.now.moment.world.nodes (node - 1)) }
+    // How long the log of a node is; 0 where it is unknown.
+    fn held(&self, node: u8) -> u64
+        ensures { result ≡ held_by (slice_get self.now.moment.world.nodes (node - 1)) }
     {
-        log_among(&self.nodes, node)
+        match self.nodes.get(node.saturating_sub(1) as usize) {
+            Some(replica) => replica.status().held,
+            None => 0,
+        }
     }
 
-    // The log of a member of the active ballot that has so many places.
-    fn holder(&self, held: usize) -> Option<&[M::Command]>
-        ensures some { IfSome result (λ log.
-            (m : ℕ) × In m self.now.moment.master.members ×
-            (log.now ≡ log_of (slice_get self.now.moment.world.nodes (m - 1))) ×
-            (held ≤ length log.now)) }
-        ensures none { result ≡ None → (m : ℕ) → In m self.now.moment.master.members →
-            length (log_of (slice_get self.now.moment.world.nodes (m - 1))) < held }
+    // The place of a member of the active ballot whose log has so many places.
+    fn holder(&self, held: u64) -> Option<usize>
+        ensures some { IfSome result (λ at.
+            HoldsAt self.now.moment.world.nodes self.now.moment.master.members held at) }
+        ensures none { result ≡ None →
+            (m : ℕ) → In m self.now.moment.master.members →
+            IsShort (slice_get self.now.moment.world.nodes (m - 1)) held }
     {
         let (_, members) = self.master.active();
         for member in members {
-            let log = self.log_of(*member);
-            if held <= log.len() {
-                return Some(log);
+            let at = member.saturating_sub(1) as usize;
+            if at < self.nodes.len() && held <= self.nodes[at].status().held {
+                return Some(at);
             }
         }
         None
@@ -419,16 +488,5 @@ impl<M: Machine> Group<M> {
         ensures { self.new ≡ record self.old { losses = one_more self.old.losses } }
     {
         self.losses = counted(self.losses, false, true);
-    }
-}
-
-// The log of a node among these; empty where it is not there.
-fn log_among<M: Machine>(nodes: &[Replica<M>], node: u8) -> &[M::Command]
-    ensures { result.now ≡ log_of (slice_get
-        (map (λ (replica : CountedReplica M M.Command). replica.state) nodes.now) (node - 1)) }
-{
-    match nodes.get(node.saturating_sub(1) as usize) {
-        Some(replica) => replica.log(),
-        None => &[],
     }
 }

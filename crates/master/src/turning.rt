@@ -4,7 +4,7 @@ ghost use Rattle.std.specs.Prelude.{◌≡◌, ◌≤◌, false, [], ◌∷◌, 
 ghost use Rattle.ballot.specs.Losses.{one_more};
 ghost use Rattle.std.specs.Bool.{OnTrue, OnFalse};
 ghost use Rattle.ballot.specs.Protocol.{replica_step};
-ghost use Rattle.agreement.specs.World.{messages};
+ghost use Rattle.snapshots.specs.World.{messages};
 ghost use Rattle.master.specs.Inside.{Parted, TookIn, input_of, is_message};
 
 use ballot::{Effect, Message, Replica};

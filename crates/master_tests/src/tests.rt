@@ -1,6 +1,7 @@
 mod answers;
 mod ballots;
 mod changes;
+mod cutting;
 mod groups;
 mod idle;
 mod memory;

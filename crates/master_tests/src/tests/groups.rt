@@ -81,7 +81,11 @@ pub fn go_on(group: &mut Group<Tally>, first: usize) {
 
 /// Whether these commands are the agreed list.
 pub fn agrees(group: &Group<Tally>, commands: &[TallyCommand]) -> bool {
-    group.agreed() == commands
+    let (recorded, kept) = group.agreed();
+    match commands.get(..recorded.len()) {
+        Some(front) => front == recorded && commands[recorded.len()..] == *kept,
+        None => false,
+    }
 }
 
 /// Whether the output at a place among those that left is this one.

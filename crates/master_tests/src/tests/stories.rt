@@ -1,7 +1,7 @@
 // Which groups go through what. Each group is made in one place and lent from there.
 
 use super::groups::group;
-use super::{answers, changes, idle, memory, takeovers};
+use super::{answers, changes, cutting, idle, memory, takeovers};
 use machine::Tally;
 use master::Group;
 use std::alloc::Global;
@@ -15,6 +15,8 @@ pub enum Story {
     IsPutOut,
     TakesOver,
     IsReplaced,
+    Cuts,
+    TakesASnapshot,
     IsIdle,
     ServesOn,
     ServesInTurn,
@@ -30,6 +32,8 @@ fn is_told(alloc: Global, group: &mut Group<Tally>, story: Story) -> bool {
         Story::IsPutOut => changes::is_put_out(group, alloc),
         Story::TakesOver => changes::takes_over(group, alloc),
         Story::IsReplaced => changes::is_replaced(group, alloc),
+        Story::Cuts => cutting::cuts_what_is_applied(group),
+        Story::TakesASnapshot => cutting::takes_over_from_a_snapshot(group, alloc),
         Story::IsIdle => idle::is_idle_where_nothing_can_happen(group),
         Story::ServesOn => memory::serves_on(group, alloc),
         Story::ServesInTurn => takeovers::serves_in_turn(group, alloc),

@@ -12,7 +12,7 @@ pub invariant_of-self : goal.invariant_of-self
 invariant_of-self g c =
     let rules = g.M.Machine.rules in
     let x = rw (← c.self.view_is) at c.in-Some.ensures.some in
-    let took = crash_turn rules c.self.inside.master c.self.inside.nodes.items c.self.inside.sent.items c.self.inside.left.items c.self.inside.losses c.in-Some.at
+    let took = crash_turn rules c.self.inside.archive.items c.self.inside.master c.self.inside.nodes.items c.self.inside.sent.items c.self.inside.left.items c.self.inside.losses c.in-Some.at
     c.index_mut-replica.result.now c.stop.new.self x.replica c.index_mut-replica.ensures.value x.stands
     (ap (λ (z : CountedReplica g.row.M.Denot g.row.M-Command.Denot). z.state) c.stop.ensures) in
     (c.self.invariant.0, group_stops rules _ _ c.self.inside.told c.self.inside.next _ _ c.in-Some.at x.replica c.self.invariant.1 refl refl x.stands x.going took refl)
@@ -22,7 +22,7 @@ returns-clause-step g c =
     let rules = g.M.Machine.rules in
     let x = rw (← c.self.view_is) at c.in-Some.ensures.some in
     rw (← c.self.view_is) (steps_turn rules _ _ (Crash c.args.node) _ (stops_turn rules _ c.args.node c.in-Some.at x)
-    (crash_turn rules c.self.inside.master c.self.inside.nodes.items c.self.inside.sent.items c.self.inside.left.items c.self.inside.losses c.in-Some.at
+    (crash_turn rules c.self.inside.archive.items c.self.inside.master c.self.inside.nodes.items c.self.inside.sent.items c.self.inside.left.items c.self.inside.losses c.in-Some.at
     c.index_mut-replica.result.now c.stop.new.self x.replica c.index_mut-replica.ensures.value x.stands
     (ap (λ (z : CountedReplica g.row.M.Denot g.row.M-Command.Denot). z.state) c.stop.ensures)))
 
@@ -36,7 +36,7 @@ returns-clause-quiet g c =
     let rules = g.M.Machine.rules in
     let x = rw (← c.self.view_is) at c.in-Some.ensures.some in
     rw (← c.self.view_is) (λ q. exactly_stopped rules _ _ c.args.node c.in-Some.at x
-    (crash_group rules c.self.inside.master c.self.inside.nodes.items c.self.inside.sent.items c.self.inside.left.items c.self.inside.losses c.in-Some.at
+    (crash_group rules c.self.inside.archive.items c.self.inside.master c.self.inside.nodes.items c.self.inside.sent.items c.self.inside.left.items c.self.inside.losses c.in-Some.at
     c.index_mut-replica.result.now c.stop.new.self x.replica c.index_mut-replica.ensures.value x.stands
     (ap (λ (z : CountedReplica g.row.M.Denot g.row.M-Command.Denot). z.state) c.stop.ensures)))
 

@@ -1,6 +1,7 @@
 use Rattle.std.proofs.Common.{arith, ◌≡◌, length, Some, None, refl, ap, sym, ◌∙◌}
 use Rattle.std.specs.Prelude.{slice_get}
 use Rattle.std.proofs.lemmas.Bool.{ltb-true, ltb-false}
+use Rattle.lists.proofs.Members.{in_at}
 use Rattle.master.specs.declared.event.Event.TheVariants.{Deliver}
 use Rattle.master.specs.Group.{GroupState}
 use Rattle.master.proofs.Counting.{asked_in, came_in, delivers_to_master, delivers_turn, delivers_nothing, hears_ballot, hears_nothing, not_sent, steps_master, steps_unheeded, get_there, get_past, some_idle, steps_turn, steps_lost, steps_idle}
@@ -155,7 +156,7 @@ returns-then-not-heeds-clause-step g c =
     let found = ap (λ us. slice_get us c.args.number) (sym sent) ∙ get_there c.deref.result.now c.args.number c.in-Some.field-0.now
     (ltb-true c.args.number (length c.deref.result.now) (sym c.in-Some.ensures.lookup.0)) c.in-Some.ensures.lookup.1 in
     let x = c.in-Some-running.ensures.some in
-    steps_exactly_done rules c.args.self.now c.args.self.now (Deliver c.args.number) (message_passed rules c.args.self.now c.args.number c.in-Some-running.at c.in-Some.field-0.now found x x.replica c.heeds.result refl (c.heeds.ensures x.replica x.stands) c.if-not-heeds.true)
+    steps_exactly_done rules c.args.self.now (Deliver c.args.number) (message_passed rules c.args.self.now c.args.number c.in-Some-running.at c.in-Some.field-0.now found x x.replica c.heeds.result refl (c.heeds.ensures x.replica x.stands) c.if-not-heeds.true)
 
 pub returns-then-not-heeds-clause-idle : goal.returns-then-not-heeds-clause-idle
 returns-then-not-heeds-clause-idle g c =
@@ -214,5 +215,12 @@ returns-in-None-clause-quiet g c =
     λ q. exactly_unheeded rules c.args.self.now (Deliver c.args.number)
     (delivers_to_master rules c.args.self.now.moment c.args.number c.in-Some.field-0.now c.if-receiver-eq0.true found ∙ ap Some hears)
 
-pub heeds-requires : goal.heeds-requires
-heeds-requires g c = c.in-Some-running.ensures.some.below
+pub heeds-requires-clause-at : goal.heeds-requires-clause-at
+heeds-requires-clause-at g c = c.in-Some-running.ensures.some.below
+
+pub heeds-requires-clause-sent : goal.heeds-requires-clause-sent
+heeds-requires-clause-sent g c =
+    let sent : c.deref.result.now ≡ c.args.self.now.moment.world.sent = c.deref.ensures.value ∙ ap (λ (z : GroupState _ _ _). z.moment.world.sent) c.self.view_is in
+    let found = ap (λ us. slice_get us c.args.number) (sym sent) ∙ get_there c.deref.result.now c.args.number c.in-Some.field-0.now
+    (ltb-true c.args.number (length c.deref.result.now) (sym c.in-Some.ensures.lookup.0)) c.in-Some.ensures.lookup.1 in
+    (c.in-Some.field-0.now.0, in_at c.args.self.now.moment.world.sent c.args.number c.in-Some.field-0.now found)

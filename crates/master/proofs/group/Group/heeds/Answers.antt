@@ -4,19 +4,22 @@ use Rattle.ballot.specs.Protocol.{replica_step}
 use Rattle.ballot.specs.Protocol.Input.{Receives}
 use Rattle.ballot.specs.Replica.{ReplicaState, CountedReplica}
 use Rattle.ballot.specs.Sending.{nothing_done}
+use Rattle.snapshots.proofs.PastsAgree.{snapshots_are_read}
 use Rattle.master.proofs.Turns.{same_replica}
+use Rattle.master.proofs.Viewed.{heeded}
 use Rattle.master.proofs.group.Group.heeds.Goals as goal
 
 pub index-requires : goal.index-requires
 index-requires g c =
-    let low = rw (← c.self.view_is) at c.requires in
+    let low = rw (← c.self.view_is) at c.requires.at in
     let long = length-map c.self.inside.nodes.items (λ (z : CountedReplica g.row.M.Denot g.row.M-Command.Denot). z.state) in
     let all = c.self.inside.nodes.ok.0 in omega (arith, low, long, all)
 
 pub returns : goal.returns
 returns g c =
     let rules = g.M.Machine.rules in
-    rw (← c.self.view_is) (λ r stands. subst (λ (s : ReplicaState g.row.M.Denot g.row.M-Command.Denot).
-    (c.heeds.result ≡ false → replica_step rules s (Receives c.args.message.now) ≡ nothing_done g.row.M-Output.Denot s)
-    × (replica_step rules s (Receives c.args.message.now) ≡ nothing_done g.row.M-Output.Denot s → c.heeds.result ≡ false))
-    (same_replica c.self.inside.nodes.items c.args.at c.index.result.now r c.index.ensures stands) c.heeds.ensures)
+    let there = c.self.invariant.1 in
+    let sent = rw (← c.self.view_is) at c.requires.sent in
+    rw (← c.self.view_is) (λ r stands. heeded rules r c.index.result.now.state c.args.message.now c.heeds.result
+    (same_replica c.self.inside.nodes.items c.args.at c.index.result.now r c.index.ensures stands)
+    (snapshots_are_read rules there.config _ there.past there.came sent.0 c.args.message.now sent.1 r) c.heeds.ensures)

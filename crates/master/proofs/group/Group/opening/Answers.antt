@@ -1,8 +1,8 @@
 use Rattle.std.proofs.Common.{◌≡◌, [], ◌∷◌, ap, sym, ◌∙◌, subst, refl, arith}
 use Rattle.ballot.specs.Replica.{CountedReplica}
-use Rattle.agreement.specs.World.{messages}
-use Rattle.agreement.specs.Past.{Moment, Past}
-use Rattle.agreement.specs.Past.Past.{began}
+use Rattle.snapshots.specs.World.{messages}
+use Rattle.snapshots.specs.Past.{Moment, Past}
+use Rattle.snapshots.specs.Past.Past.{began}
 use Rattle.master.specs.Group.{GroupState}
 use Rattle.master.proofs.Groups.{group_opens}
 use Rattle.master.proofs.Turns.{opened_moment, opened_more}
@@ -18,8 +18,8 @@ pub invariant_of-result : goal.invariant_of-result
 invariant_of-result g c =
     let rules = g.M.Machine.rules in
     let count : c.loop-at.at ≡ c.args.nodes = (let a = c.loop-at.auto.at-end in omega (arith, a, c.loop-at-test.false)) in
-    let opened = opened_moment rules c.args.config c.args.nodes c.loop-at.at c.in-Ok.master c.loop-at.opened.items c.new-5.result.items c.new-6.result.items
-    c.in-Ok.ensures.ok c.loop-at.invariant count c.new-5.ensures.items c.new-6.ensures.items in (
+    let opened = opened_moment rules c.new-7.result.items c.args.config c.args.nodes c.loop-at.at c.in-Ok.master c.loop-at.opened.items c.new-5.result.items c.new-6.result.items
+    c.in-Ok.ensures.ok c.loop-at.invariant count c.new-5.ensures.items c.new-6.ensures.items c.new-7.ensures.items in (
       ap messages c.new-6.ensures.items,
       group_opens rules c.args.nodes c.args.config _ c.in_ok-told.told c.in_ok-next.next (sym c.can_open.ensures ∙ c.if-not-can_open.false) opened
           c.in_ok-told.ensures.ballot c.in_ok-told.ensures.counted c.in_ok-next.ensures.counted,
@@ -29,8 +29,8 @@ pub returns-clause-ok : goal.returns-clause-ok
 returns-clause-ok g c =
     let rules = g.M.Machine.rules in
     let count : c.loop-at.at ≡ c.args.nodes = (let a = c.loop-at.auto.at-end in omega (arith, a, c.loop-at-test.false)) in
-    let opened = opened_moment rules c.args.config c.args.nodes c.loop-at.at c.in-Ok.master c.loop-at.opened.items c.new-5.result.items c.new-6.result.items
-    c.in-Ok.ensures.ok c.loop-at.invariant count c.new-5.ensures.items c.new-6.ensures.items in
+    let opened = opened_moment rules c.new-7.result.items c.args.config c.args.nodes c.loop-at.at c.in-Ok.master c.loop-at.opened.items c.new-5.result.items c.new-6.result.items
+    c.in-Ok.ensures.ok c.loop-at.invariant count c.new-5.ensures.items c.new-6.ensures.items c.new-7.ensures.items in
     ap (λ (a : Moment g.row.M.Denot g.row.M-Command.Denot g.row.M-Output.Denot).
     let z : GroupState g.row.M.Denot g.row.M-Command.Denot g.row.M-Output.Denot = record { moment = a; losses = 0 } in z) opened
 
@@ -38,7 +38,7 @@ pub returns-clause-opens : goal.returns-clause-opens
 returns-clause-opens g c =
     let rules = g.M.Machine.rules in
     let count : c.loop-at.at ≡ c.args.nodes = (let a = c.loop-at.auto.at-end in omega (arith, a, c.loop-at-test.false)) in
-    let opened = opened_moment rules c.args.config c.args.nodes c.loop-at.at c.in-Ok.master c.loop-at.opened.items c.new-5.result.items c.new-6.result.items
-    c.in-Ok.ensures.ok c.loop-at.invariant count c.new-5.ensures.items c.new-6.ensures.items in
+    let opened = opened_moment rules c.new-7.result.items c.args.config c.args.nodes c.loop-at.at c.in-Ok.master c.loop-at.opened.items c.new-5.result.items c.new-6.result.items
+    c.in-Ok.ensures.ok c.loop-at.invariant count c.new-5.ensures.items c.new-6.ensures.items c.new-7.ensures.items in
     subst (λ (a : Moment g.row.M.Denot g.row.M-Command.Denot g.row.M-Output.Denot). Past rules c.args.config (a ∷ [])) (sym opened)
     (began c.args.nodes (sym c.can_open.ensures ∙ c.if-not-can_open.false) refl)

@@ -1,6 +1,6 @@
 use Rattle.std.proofs.Common.{◌≡◌, map}
 use Rattle.ballot.specs.Replica.{CountedReplica}
-use Rattle.agreement.specs.World.{opening_nodes}
+use Rattle.snapshots.specs.Past.{opening_nodes}
 use Rattle.master.proofs.group.Group.opening.Given as goal
 
 abbrev pub invariant-loop-at : goal.invariant-loop-at

@@ -22,6 +22,11 @@ returns-in-Tick-clause-agreement g c =
     let rules = g.M.Machine.rules in
     λ config past came. agrees_next rules config c.args.self.now c.tick.new.self past _ came c.tick.ensures.step
 
+pub returns-in-Cut-clause-agreement : goal.returns-in-Cut-clause-agreement
+returns-in-Cut-clause-agreement g c =
+    let rules = g.M.Machine.rules in
+    λ config past came. agrees_next rules config c.args.self.now c.cut.new.self past _ came c.cut.ensures.step
+
 pub returns-in-Crash-clause-agreement : goal.returns-in-Crash-clause-agreement
 returns-in-Crash-clause-agreement g c =
     let rules = g.M.Machine.rules in
@@ -41,6 +46,11 @@ pub returns-in-Tick-clause-quiet : goal.returns-in-Tick-clause-quiet
 returns-in-Tick-clause-quiet g c =
     let rules = g.M.Machine.rules in
     quiet_as rules c.args.self.now c.tick.new.self _ c.args.event.now c.in-Tick.is c.tick.ensures.quiet
+
+pub returns-in-Cut-clause-quiet : goal.returns-in-Cut-clause-quiet
+returns-in-Cut-clause-quiet g c =
+    let rules = g.M.Machine.rules in
+    quiet_as rules c.args.self.now c.cut.new.self _ c.args.event.now c.in-Cut.is c.cut.ensures.quiet
 
 pub returns-in-Crash-clause-quiet : goal.returns-in-Crash-clause-quiet
 returns-in-Crash-clause-quiet g c =

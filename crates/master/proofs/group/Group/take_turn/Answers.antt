@@ -1,7 +1,7 @@
 use Rattle.std.proofs.Common.{◌≡◌, length, ap, ◌∙◌, refl}
 use Rattle.ballot.specs.Protocol.{replica_step}
 use Rattle.master.specs.Inside.{input_of}
-use Rattle.agreement.specs.World.{messages}
+use Rattle.snapshots.specs.World.{messages}
 use Rattle.master.proofs.Groups.{front_of, group_turns, more_than}
 use Rattle.master.proofs.Turns.{took_turn, below_of, count_is, going_of}
 use Rattle.master.proofs.group.Group.take_turn.Goals as goal
@@ -28,7 +28,7 @@ invariant_of-self g c =
     let may = rw (← c.self.view_is) at c.requires.may in
     let below = below_of c.self.inside.nodes.items c.args.at there.0 there.1 in
     let from : c.len-from.result ≡ length c.self.inside.left.items = c.len-from.ensures ∙ c.self.inside.left.ok.0 in
-    let took = took_turn c.self.inside.master c.self.inside.nodes.items c.self.inside.sent.items c.part-kept.new.sent.items
+    let took = took_turn c.self.inside.archive.items c.self.inside.master c.self.inside.nodes.items c.self.inside.sent.items c.part-kept.new.sent.items
     c.self.inside.left.items c.take_in-taken.new.out.items c.part-kept.new.effects.items c.self.inside.losses c.counted-self-inside.result c.args.at c.len-from.result
     c.index_mut-replica.result.now c.take_in-taken.new.replica (λ s. replica_step rules s (input_of c.args.taken)) there.0 c.take_in-taken.result c.part-kept.result
     below c.index_mut-replica.ensures.value there.1 from c.take_in-taken.ensures c.part-kept.ensures
@@ -48,7 +48,7 @@ returns g c =
     let there = rw (← c.self.view_is) at c.requires.runs in
     let below = below_of c.self.inside.nodes.items c.args.at there.0 there.1 in
     let from : c.len-from.result ≡ length c.self.inside.left.items = c.len-from.ensures ∙ c.self.inside.left.ok.0 in
-    rw (← c.self.view_is) (λ r stands. took_turn c.self.inside.master c.self.inside.nodes.items c.self.inside.sent.items c.part-kept.new.sent.items
+    rw (← c.self.view_is) (λ r stands. took_turn c.self.inside.archive.items c.self.inside.master c.self.inside.nodes.items c.self.inside.sent.items c.part-kept.new.sent.items
     c.self.inside.left.items c.take_in-taken.new.out.items c.part-kept.new.effects.items c.self.inside.losses c.counted-self-inside.result c.args.at c.len-from.result
     c.index_mut-replica.result.now c.take_in-taken.new.replica (λ s. replica_step rules s (input_of c.args.taken)) r c.take_in-taken.result c.part-kept.result
     below c.index_mut-replica.ensures.value stands from c.take_in-taken.ensures c.part-kept.ensures

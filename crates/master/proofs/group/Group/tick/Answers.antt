@@ -24,7 +24,7 @@ returns-then-not-speaks-clause-step g c =
     let x = c.in-Some.ensures.some in
     let inside = rw (← c.self.view_is) at x.stands in
     let same = same_replica c.self.inside.nodes.items c.in-Some.at c.index.result.now x.replica c.index.ensures inside in
-    steps_exactly_done rules c.args.self.now c.args.self.now (Tick c.args.node) (tick_silent rules c.args.self.now c.args.node c.in-Some.at x c.index.result.now.state c.speaks.result same c.speaks.ensures c.if-not-speaks.true)
+    steps_exactly_done rules c.args.self.now (Tick c.args.node) (tick_silent rules c.args.self.now c.args.node c.in-Some.at x c.index.result.now.state c.speaks.result same c.speaks.ensures c.if-not-speaks.true)
 
 pub returns-then-not-speaks-clause-idle : goal.returns-then-not-speaks-clause-idle
 returns-then-not-speaks-clause-idle g c =

@@ -1,0 +1,169 @@
+-- Viewed.antt: how long the agreed list of a group is and where its places stand, by the record and the logs that are kept.
+use Rattle.std.proofs.Common.{◌≡◌, ℕ, zero, suc, Bool, false, ◌-◌, ◌<◌, ◌≤◌, List, [], ◌∷◌, ◌++◌, length, map, take, get_or, Some, None, Option, refl, ap, sym, ◌∙◌, subst, arith}
+use Rattle.std.specs.Prelude.{slice_get}
+use Rattle.std.proofs.lemmas.List.{append-nil, length-take-le, take-append-le, take-take}
+use Rattle.machine.specs.Machine.{Rules}
+use Rattle.lists.specs.Lists.{In}
+use Rattle.ballot.specs.Config.{Config}
+use Rattle.ballot.specs.Logs.{Log, places}
+use Rattle.ballot.specs.Message.{Message}
+use Rattle.ballot.specs.Protocol.{replica_step}
+use Rattle.ballot.specs.Protocol.Input.{Receives}
+use Rattle.ballot.specs.Sending.{nothing_done}
+use Rattle.ballot.specs.Unread.{is_unread}
+use Rattle.ballot.specs.Replica.{ReplicaState}
+use Rattle.agreement.specs.whole.Replica.{ReplicaState as WholeState}
+use Rattle.agreement.specs.Past.{IsAgreed}
+use Rattle.agreement.specs.World.{log_of}
+use Rattle.snapshots.specs.Past.{Moment, Past, whole_moment}
+use Rattle.snapshots.specs.Whole.{whole, whole_log}
+use Rattle.snapshots.proofs.Continues.{agreed_back, agreed_in}
+use Rattle.snapshots.proofs.Fronts.{whole_long}
+use Rattle.snapshots.proofs.PastsKept.{StandsFor, past_stands}
+use Rattle.snapshots.proofs.Views.{get_whole}
+use Rattle.master.specs.Inside.{HasCounted, HoldsAt, IsShort, ToldIn, held_by, least_but_one}
+use Rattle.master.proofs.Counted.{counted_length, member_front, sole_length, some_long}
+use Rattle.master.proofs.Lawful.{AreLawful, past_lawful}
+use Rattle.master.proofs.WholeTold.{counted_whole}
+
+-- with two members and more
+pub counted_as_seen : {S C O : Type 0} (rules : Rules S C O) (config : Config) (a : Moment S C O) (past : List (Moment S C O)) (xs : List C) (told : ToldIn) (top : ℕ) →
+    Past rules config (a ∷ past) → IsAgreed config (map whole_moment (a ∷ past)) xs → told.ballot ≡ a.master.active → HasCounted a.world.sent told →
+    ((m : ℕ) → get_or told.held m 0 ≤ top) → (length a.master.members ≡ 1 → ⊥) →
+    least_but_one told.held top top a.master.members ≡ length xs
+counted_as_seen rules config a past xs told top came agreed active counted bound several =
+    let q = past_stands rules config a past came in
+    counted_length rules config (whole_moment a) q.earlier xs told top q.kept.came
+    (agreed_in config (map whole_moment (a ∷ past)) (whole_moment a ∷ q.earlier) xs q.covers agreed) active
+    (counted_whole a.world.archive a.world.sent told counted) bound several
+
+-- a log is as long as it is whole
+held_whole : {S C : Type 0} (archive : List C) (nodes : List (ReplicaState S C)) (n : ℕ) →
+    ((r : ReplicaState S C) → slice_get nodes n ≡ Some r → r.log.base ≤ length archive) →
+    held_by (slice_get nodes n) ≡ length (log_of (slice_get (map (whole archive) nodes) n))
+held_whole archive [] n within = refl
+held_whole archive (r ∷ nodes) zero within = sym (whole_long archive r.log (within r refl))
+held_whole archive (r ∷ nodes) (suc n) within = held_whole archive nodes n within
+
+pub within_of : {S C O : Type 0} (rules : Rules S C O) (config : Config) (a : Moment S C O) (past : List (Moment S C O)) → Past rules config (a ∷ past) →
+    (n : ℕ) (r : ReplicaState S C) → slice_get a.world.nodes n ≡ Some r → r.log.base ≤ length a.world.archive
+within_of rules config a past came n r stands = ((past_stands rules config a past came).kept.nodes n r stands).0.within
+
+-- with a sole member
+pub sole_as_seen : {S C O : Type 0} (rules : Rules S C O) (config : Config) (a : Moment S C O) (past : List (Moment S C O)) (xs : List C) →
+    Past rules config (a ∷ past) → IsAgreed config (map whole_moment (a ∷ past)) xs → (m : ℕ) → a.master.members ≡ m ∷ [] →
+    held_by (slice_get a.world.nodes (m - 1)) ≡ length xs
+sole_as_seen rules config a past xs came agreed m sole =
+    let q = past_stands rules config a past came in
+    held_whole a.world.archive a.world.nodes (m - 1) (λ r e. within_of rules config a past came (m - 1) r e)
+    ∙ sole_length rules config (whole_moment a) q.earlier xs q.kept.came
+    (agreed_in config (map whole_moment (a ∷ past)) (whole_moment a ∷ q.earlier) xs q.covers agreed) m sole
+
+-- some member's log is long enough
+get_back : {X Y : Type 0} (f : X → Y) (xs : List X) (n : ℕ) (y : Y) → slice_get (map f xs) n ≡ Some y → (x : X) × (slice_get xs n ≡ Some x) × (f x ≡ y)
+get_back f [] n y e = cc
+get_back f (x ∷ xs) zero y e = let g : f x ≡ y = cc in (x, refl, g)
+get_back f (x ∷ xs) (suc n) y e = get_back f xs n y e
+
+pub some_as_seen : {S C O : Type 0} (rules : Rules S C O) (config : Config) (a : Moment S C O) (past : List (Moment S C O)) (k : ℕ) →
+    Past rules config (a ∷ past) → ((xs : List C) → IsAgreed config (map whole_moment (a ∷ past)) xs → k ≡ length xs) →
+    ((m : ℕ) → In m a.master.members → IsShort (slice_get a.world.nodes (m - 1)) k) → ⊥
+some_as_seen {S = S} {C = C} {O = O} rules config a past k came is short =
+    some_long rules config (whole_moment a) q.earlier k q.kept.came
+    (λ xs agreed. is xs (agreed_back config (map whole_moment (a ∷ past)) (whole_moment a ∷ q.earlier) xs q.covers agreed))
+    (λ m i w e. shorter m i w (get_back (whole a.world.archive) a.world.nodes (m - 1) w e))
+  where
+    q : StandsFor rules config a past
+    q = past_stands rules config a past came
+
+    shorter : (m : ℕ) → In m a.master.members → (w : WholeState S C) →
+        (r : ReplicaState S C) × (slice_get a.world.nodes (m - 1) ≡ Some r) × (whole a.world.archive r ≡ w) → length w.log < k
+    shorter m i w (r, e, same) =
+        let low : places r.log < k = subst (λ (o : Option (ReplicaState S C)). IsShort o k) e (short m i) in
+        let long = whole_long a.world.archive r.log (within_of rules config a past came (m - 1) r e) in
+        let z = ap (λ (x : WholeState S C). length x.log) same in omega (arith, low, long, z)
+
+-- the front of a log is that of the record, or the record up to its base and a front of what is kept
+pub front_recorded : {C : Type 0} (archive : List C) (log : Log C) (k : ℕ) → log.base ≤ length archive → k ≤ log.base →
+    take k (whole_log archive log) ≡ take k archive
+front_recorded archive log k within low =
+    let long = length-take-le log.base archive within in
+    take-append-le k (take log.base archive) log.rest (omega (arith, long, low)) ∙ take-take k log.base archive low
+
+front_behind : {X : Type 0} (xs ys : List X) (k : ℕ) → length xs ≤ k → take k (xs ++ ys) ≡ xs ++ take (k - length xs) ys
+front_behind [] ys k low = let e : k ≡ k - 0 = omega arith in ap (λ n. take n ys) e
+front_behind (x ∷ xs) ys zero low = absurd (omega (arith, low))
+front_behind (x ∷ xs) ys (suc k) low =
+    let e : k - length xs ≡ suc k - length (x ∷ xs) = omega arith in
+    ap (λ us. x ∷ us) (front_behind xs ys k (omega (arith, low)) ∙ ap (λ n. xs ++ take n ys) e)
+
+pub front_kept : {C : Type 0} (archive : List C) (log : Log C) (k : ℕ) → log.base ≤ length archive → log.base ≤ k →
+    take k (whole_log archive log) ≡ take log.base archive ++ take (k - log.base) log.rest
+front_kept archive log k within high =
+    let long = length-take-le log.base archive within in
+    front_behind (take log.base archive) log.rest k (omega (arith, long, high))
+    ∙ ap (λ n. take log.base archive ++ take (k - n) log.rest) long
+
+-- so it is the agreed list, where the log is a member's and as long as that
+pub front_agreed : {S C O : Type 0} (rules : Rules S C O) (config : Config) (a : Moment S C O) (past : List (Moment S C O)) (k at : ℕ) →
+    Past rules config (a ∷ past) → ((xs : List C) → IsAgreed config (map whole_moment (a ∷ past)) xs → k ≡ length xs) →
+    (h : HoldsAt a.world.nodes a.master.members k at) →
+    IsAgreed config (map whole_moment (a ∷ past)) (take k (whole_log a.world.archive h.replica.log))
+front_agreed {S = S} {C = C} {O = O} rules config a past k at came is h =
+    agreed_back config (map whole_moment (a ∷ past)) (whole_moment a ∷ q.earlier) (take k (whole_log a.world.archive h.replica.log)) q.covers
+    (subst (λ (o : Option (WholeState S C)). IsAgreed config (whole_moment a ∷ q.earlier) (take k (log_of o))) there
+    (member_front rules config (whole_moment a) q.earlier k h.member q.kept.came
+    (λ xs agreed. is xs (agreed_back config (map whole_moment (a ∷ past)) (whole_moment a ∷ q.earlier) xs q.covers agreed)) h.is_member
+    (subst (λ (o : Option (WholeState S C)). k ≤ length (log_of o)) (sym there) long)))
+  where
+    q : StandsFor rules config a past
+    q = past_stands rules config a past came
+
+    there : slice_get (map (whole a.world.archive) a.world.nodes) (h.member - 1) ≡ Some (whole a.world.archive h.replica)
+    there = ap (slice_get (map (whole a.world.archive) a.world.nodes)) (sym h.place) ∙ get_whole (whole a.world.archive) a.world.nodes at h.replica h.stands
+
+    long : k ≤ length (whole_log a.world.archive h.replica.log)
+    long = let e = whole_long a.world.archive h.replica.log (within_of rules config a past came at h.replica h.stands) in let l = h.long in omega (arith, e, l)
+
+-- a node heeds no message exactly where it does nothing, since each snapshot that was sent can be read
+pub heeded : {S C O : Type 0} (rules : Rules S C O) (r seen : ReplicaState S C) (message : Message C) (heeds : Bool) → seen ≡ r →
+    is_unread rules r message.body ≡ false →
+    (heeds ≡ false → (replica_step rules seen (Receives message) ≡ nothing_done O seen) × (is_unread rules seen message.body ≡ false))
+    × ((replica_step rules seen (Receives message) ≡ nothing_done O seen) × (is_unread rules seen message.body ≡ false) → heeds ≡ false) →
+    (heeds ≡ false → replica_step rules r (Receives message) ≡ nothing_done O r) × (replica_step rules r (Receives message) ≡ nothing_done O r → heeds ≡ false)
+heeded {S = S} {C = C} {O = O} rules r seen message heeds same read exactly = by_state (subst (λ (s : ReplicaState S C). Exactly s) same exactly)
+  where
+    Exactly : ReplicaState S C → Type 0
+    Exactly s =
+        (heeds ≡ false → (replica_step rules s (Receives message) ≡ nothing_done O s) × (is_unread rules s message.body ≡ false))
+        × ((replica_step rules s (Receives message) ≡ nothing_done O s) × (is_unread rules s message.body ≡ false) → heeds ≡ false)
+
+    by_state : Exactly r → (heeds ≡ false → replica_step rules r (Receives message) ≡ nothing_done O r) × (replica_step rules r (Receives message) ≡ nothing_done O r → heeds ≡ false)
+    by_state (off, on) = (λ e. (off e).0, λ e. on (e, read))
+
+-- the members that the master has are lawful
+pub group_lawful : {S C O : Type 0} (rules : Rules S C O) (config : Config) (a : Moment S C O) (past : List (Moment S C O)) → Past rules config (a ∷ past) →
+    AreLawful a.master
+group_lawful rules config a past came =
+    let q = past_stands rules config a past came in past_lawful rules config (whole_moment a) q.earlier q.kept.came
+
+-- so it is in two parts, as it is read
+pub agreed_recorded : {S C O : Type 0} (rules : Rules S C O) (config : Config) (a : Moment S C O) (past : List (Moment S C O)) (k at : ℕ) →
+    Past rules config (a ∷ past) → ((xs : List C) → IsAgreed config (map whole_moment (a ∷ past)) xs → k ≡ length xs) →
+    (h : HoldsAt a.world.nodes a.master.members k at) → k ≤ h.replica.log.base →
+    IsAgreed config (map whole_moment (a ∷ past)) (take k a.world.archive ++ [])
+agreed_recorded {S = S} {C = C} {O = O} rules config a past k at came is h low =
+    subst (λ (us : List C). IsAgreed config (map whole_moment (a ∷ past)) us)
+    (front_recorded a.world.archive h.replica.log k (within_of rules config a past came at h.replica h.stands) low
+    ∙ sym (append-nil (take k a.world.archive)))
+    (front_agreed rules config a past k at came is h)
+
+pub agreed_kept : {S C O : Type 0} (rules : Rules S C O) (config : Config) (a : Moment S C O) (past : List (Moment S C O)) (k at : ℕ) →
+    Past rules config (a ∷ past) → ((xs : List C) → IsAgreed config (map whole_moment (a ∷ past)) xs → k ≡ length xs) →
+    (h : HoldsAt a.world.nodes a.master.members k at) → h.replica.log.base ≤ k →
+    IsAgreed config (map whole_moment (a ∷ past))
+    (take h.replica.log.base a.world.archive ++ take (k - h.replica.log.base) h.replica.log.rest)
+agreed_kept {S = S} {C = C} {O = O} rules config a past k at came is h high =
+    subst (λ (us : List C). IsAgreed config (map whole_moment (a ∷ past)) us)
+    (front_kept a.world.archive h.replica.log k (within_of rules config a past came at h.replica h.stands) high)
+    (front_agreed rules config a past k at came is h)

@@ -1,0 +1,73 @@
+// Logs that are cut.
+
+use super::groups::*;
+use super::stories::{Story, goes};
+use machine::{Tally, TallyCommand};
+use master::{Event, Group};
+use std::alloc::Global;
+
+// Whether a node cuts its log, and has nothing more to cut then.
+fn cuts(group: &mut Group<Tally>, node: u8) -> bool {
+    let before = counts(group);
+    happens(group, &Event::Cut(node))
+        && !happens(group, &Event::Cut(node))
+        && counts(group) == before
+}
+
+/// Whether two members cut what they applied, and no more: node 2 applies it only with the Commit.
+pub fn cuts_what_is_applied(group: &mut Group<Tally>) -> bool {
+    adds(group, 1, 2)
+        && !happens(group, &Event::Cut(1))
+        && come(group, &[(0, 2, 0, 1), (1, 3, 1, 1)])
+        && cuts(group, 1)
+        && !happens(group, &Event::Cut(2))
+        && come(group, &[(2, 3, 1, 1)])
+        && cuts(group, 2)
+        && agrees(group, &[TallyCommand::Add(2)])
+}
+
+// Cutting changes nothing that is seen of a group.
+#[test]
+fn a_cut_changes_nothing_that_is_seen(rt: HostRuntime) {
+    let told = goes(rt.alloc(), 2, &[1, 2], Story::Cuts);
+    assert!(rt; told == Some(true));
+}
+
+// The messages 0 to 9 of the change: NewBallot, Join, State, Install, Installed, Activate, Activated, Append,
+// Held, Commit.
+const CHANGE: &[Row] = &[
+    (0, 2, 1, 1),
+    (1, 3, 1, 1),
+    (2, 4, 1, 1),
+    (3, 5, 1, 1),
+    (4, 6, 1, 1),
+    (5, 7, 1, 1),
+    (6, 8, 1, 1),
+    (7, 9, 1, 2),
+    (8, 10, 1, 2),
+];
+
+/// Whether node 1 cuts its log and node 2 takes over from its snapshot: it counts on from 2.
+pub fn takes_over_from_a_snapshot(group: &mut Group<Tally>, alloc: Global) -> bool {
+    let list = [
+        TallyCommand::Add(2),
+        TallyCommand::Start(2),
+        TallyCommand::Add(3),
+    ];
+    adds(group, 1, 2)
+        && cuts(group, 1)
+        && gives_to(group, alloc, &[1, 2], 2)
+        && come(group, CHANGE)
+        && adds(group, 2, 3)
+        && come(group, &[(10, 12, 1, 3), (11, 13, 2, 3)])
+        && gave(group, 1, 2, 5)
+        && agrees(group, &list)
+        && is_active(group, 2)
+}
+
+// A sole member cuts its log, and node 2 becomes the primary of both.
+#[test]
+fn a_snapshot_goes_over_to_a_new_primary(rt: HostRuntime) {
+    let told = goes(rt.alloc(), 2, &[1], Story::TakesASnapshot);
+    assert!(rt; told == Some(true));
+}
