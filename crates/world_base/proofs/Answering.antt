@@ -6,6 +6,7 @@ use Rattle.std.proofs.lemmas.Bool.{lt-ltb, le-ltb, cases_lt}
 use Rattle.broker_base.specs.State.{State}
 use Rattle.broker_model.specs.declared.command.Command.{Command}
 use Rattle.broker_model.specs.declared.command.Output.{Output}
+use Rattle.ballot.specs.Logs.{places}
 use Rattle.ballot.specs.declared.error.ProposeError.{ProposeError}
 use Rattle.ballot.specs.declared.error.ProposeError.TheVariants.{NotActive, LogFull, Memory, Halted}
 use Rattle.ballot.specs.Effect.{Effect}
@@ -96,15 +97,15 @@ running_in : (old : CoreState) → serves old ≡ true → old.replica.state.sto
 running_in old serving = right_false (is_active old.replica.state.role) old.replica.state.stopped serving
 
 -- the log has room, or is full
-room_in : (old : CoreState) → serves old ≡ true → (most_places ≤ length old.replica.state.log → ⊥) → has_room old ≡ true
-room_in old serving not_full = by (cases_lt (length old.replica.state.log) most_places)
+room_in : (old : CoreState) → serves old ≡ true → (most_places ≤ places old.replica.state.log → ⊥) → has_room old ≡ true
+room_in old serving not_full = by (cases_lt (places old.replica.state.log) most_places)
   where
-    by : (length old.replica.state.log < most_places) ⊎ (most_places ≤ length old.replica.state.log) → has_room old ≡ true
-    by (inl room) = sym (has_room_by old true serving (sym (lt-ltb (length old.replica.state.log) most_places room)))
+    by : (places old.replica.state.log < most_places) ⊎ (most_places ≤ places old.replica.state.log) → has_room old ≡ true
+    by (inl room) = sym (has_room_by old true serving (sym (lt-ltb (places old.replica.state.log) most_places room)))
     by (inr over) = absurd (not_full over)
 
-full_in : (old : CoreState) → serves old ≡ true → most_places ≤ length old.replica.state.log → has_room old ≡ false
-full_in old serving over = sym (has_room_by old false serving (sym (le-ltb (length old.replica.state.log) most_places over)))
+full_in : (old : CoreState) → serves old ≡ true → most_places ≤ places old.replica.state.log → has_room old ≡ false
+full_in old serving over = sym (has_room_by old false serving (sym (le-ltb (places old.replica.state.log) most_places over)))
 
 -- a replica that is stopped behind a proposal found no memory
 stopped_by : (old : CountedReplica State Command) (command : Command) (new : CountedReplica State Command) (given : List (Effect Command Output)) →
@@ -130,8 +131,8 @@ pub answered : (result : Result (Unit {0}) ProposeError) (old : CoreState) (new 
     OnOk result (Done old.replica (added rules old.replica.state command) new before behind) →
     (IsErrOf result Halted → new.state.stopped ≡ true) →
     (IsErrOf result NotActive → (old.replica.state.stopped ≡ false) × (is_active old.replica.state.role ≡ false)) →
-    (IsErrOf result LogFull → most_places ≤ length old.replica.state.log) →
-    (most_places ≤ length old.replica.state.log → IsErrOf result LogFull) →
+    (IsErrOf result LogFull → most_places ≤ places old.replica.state.log) →
+    (most_places ≤ places old.replica.state.log → IsErrOf result LogFull) →
     (IsErrOf result Memory → new ≡ record old.replica { losses = one_more old.replica.losses }) →
     (IsErrOf result LogFull → new ≡ old.replica) →
     OnErr result (behind ≡ before) →
@@ -170,8 +171,8 @@ pub answered_kept : (result : Result (Unit {0}) ProposeError) (old : CoreState) 
     OnOk result (Done old.replica (added rules old.replica.state command) new before behind) →
     (IsErrOf result Halted → new.state.stopped ≡ true) →
     (IsErrOf result NotActive → (old.replica.state.stopped ≡ false) × (is_active old.replica.state.role ≡ false)) →
-    (IsErrOf result LogFull → most_places ≤ length old.replica.state.log) →
-    (most_places ≤ length old.replica.state.log → IsErrOf result LogFull) →
+    (IsErrOf result LogFull → most_places ≤ places old.replica.state.log) →
+    (most_places ≤ places old.replica.state.log → IsErrOf result LogFull) →
     (IsErrOf result Memory → new ≡ record old.replica { losses = one_more old.replica.losses }) →
     (IsErrOf result LogFull → new ≡ old.replica) →
     OnErr result (behind ≡ before) → after ≡ record old { replica = new } →

@@ -5,6 +5,7 @@ use Rattle.std.proofs.lemmas.Bool.{lt-ltb, le-ltb, cases_lt}
 use Rattle.broker_base.specs.State.{State}
 use Rattle.broker_model.specs.declared.command.Command.{Command}
 use Rattle.broker_model.specs.declared.command.Output.{Output}
+use Rattle.ballot.specs.Logs.{places}
 use Rattle.ballot.specs.declared.error.ProposeError.{ProposeError}
 use Rattle.ballot.specs.declared.error.ProposeError.TheVariants.{NotActive, LogFull, Memory, Halted}
 use Rattle.ballot.specs.Effect.{Effect}
@@ -29,9 +30,9 @@ right_false false b t = absurd cc
 -- a proposal stops no replica
 pub proposed-stopped : (r : ReplicaState State Command) (command : Command) → is_active r.role ≡ true →
     (proposed rules r command).state.stopped ≡ r.stopped
-proposed-stopped r command active = by_order (cases_lt (length r.log) most_places)
+proposed-stopped r command active = by_order (cases_lt (places r.log) most_places)
   where
-    by_order : (length r.log < most_places) ⊎ (most_places ≤ length r.log) →
+    by_order : (places r.log < most_places) ⊎ (most_places ≤ places r.log) →
         (proposed rules r command).state.stopped ≡ r.stopped
     by_order (inl room) =
         ap (λ (o : Outcome State Command Output). o.state.stopped) (proposed-adds rules r command active room)
@@ -49,22 +50,22 @@ pub room_answered : (result : Result (Unit {0}) ProposeError) (old new : Counted
     Stepped rules old (proposed rules old.state command) new before behind →
     (IsErrOf result Halted → new.state.stopped ≡ true) →
     (IsErrOf result NotActive → (old.state.stopped ≡ false) × (is_active old.state.role ≡ false)) →
-    (IsErrOf result LogFull → most_places ≤ length old.state.log) →
-    (most_places ≤ length old.state.log → IsErrOf result LogFull) →
+    (IsErrOf result LogFull → most_places ≤ places old.state.log) →
+    (most_places ≤ places old.state.log → IsErrOf result LogFull) →
     (IsErrOf result Memory → new ≡ record old { losses = one_more old.losses }) →
     new.losses ≡ old.losses → old.losses < 2 ^ 64 - 1 →
-    is_ok result ≡ nat_lt (length old.state.log) most_places
+    is_ok result ≡ nat_lt (places old.state.log) most_places
 room_answered (Ok x) old new command before behind active running stepped halted inactive full is_full memory same below =
-    by_order (cases_lt (length old.state.log) most_places)
+    by_order (cases_lt (places old.state.log) most_places)
   where
-    by_order : (length old.state.log < most_places) ⊎ (most_places ≤ length old.state.log) →
-        true ≡ nat_lt (length old.state.log) most_places
-    by_order (inl room) = sym (lt-ltb (length old.state.log) most_places room)
+    by_order : (places old.state.log < most_places) ⊎ (most_places ≤ places old.state.log) →
+        true ≡ nat_lt (places old.state.log) most_places
+    by_order (inl room) = sym (lt-ltb (places old.state.log) most_places room)
     by_order (inr over) = let e = is_full over in absurd cc
 room_answered (Err NotActive) old new command before behind active running stepped halted inactive full is_full memory same below =
     let e = (inactive refl).1 in absurd cc
 room_answered (Err LogFull) old new command before behind active running stepped halted inactive full is_full memory same below =
-    sym (le-ltb (length old.state.log) most_places (full refl))
+    sym (le-ltb (places old.state.log) most_places (full refl))
 room_answered (Err Memory) old new command before behind active running stepped halted inactive full is_full memory same below =
     absurd (no_loss old.losses new.losses (ap (λ (z : CountedReplica State Command). z.losses) (memory refl)) same below)
 room_answered (Err Halted) old new command before behind active running stepped halted inactive full is_full memory same below =
@@ -80,5 +81,5 @@ room_answered (Err Halted) old new command before behind active running stepped 
 
 -- what room means for a node that serves clients
 pub has_room_by : (core : CoreState) (b : Bool) → serves core ≡ true →
-    b ≡ nat_lt (length core.replica.state.log) most_places → b ≡ has_room core
+    b ≡ nat_lt (places core.replica.state.log) most_places → b ≡ has_room core
 has_room_by core b serving e = rw serving e

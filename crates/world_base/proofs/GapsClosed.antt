@@ -14,7 +14,7 @@ use Rattle.ballot.specs.Protocol.Input.{Receives, Ticks}
 use Rattle.ballot.specs.Sending.{Outcome}
 use Rattle.node_connections.specs.declared.port.Port.{Port}
 use Rattle.world_base.specs.declared.item.Item.{Item}
-use Rattle.world_base.specs.declared.item.Item.TheVariants.{Peer, Tick, Opened, Bytes, Ended, Crash}
+use Rattle.world_base.specs.declared.item.Item.TheVariants.{Peer, Tick, Opened, Bytes, Ended, Cut, Crash}
 use Rattle.node_connections.specs.declared.connection.Connection.{Connection}
 use Rattle.node_connections.specs.Connections.{asked, closed, failing, fresh, has_failed, holding, is_at, is_open_at, is_over, left_with}
 use Rattle.world_base.specs.Core.{CoreState, serves}
@@ -22,7 +22,8 @@ use Rattle.world_base.specs.Failing.{closes_failed}
 use Rattle.world_base.specs.Going.{AGapIsClosed, AreNamedApart, EachGoesOn, GoOn, GoesOn, IsNew}
 use Rattle.world_base.specs.Lossy.{Account, Declines, Drives, Moves, Proposes, Repeated, Takes, Then, quietly}
 use Rattle.world_base.specs.Lossy.Declines.{no_room, forgets, stops}
-use Rattle.world_base.specs.LossyStep.{ActsOn, Asks, Begins, Closes, Ends, EndsSilent, Holds, LosesFailed, Opens, ReadsNext, Shuts, TakesIn}
+use Rattle.world_base.specs.LossyStep.{ActsOn, Asks, Begins, Closes, Cuts, Ends, EndsSilent, Holds, LosesFailed, Opens, ReadsNext, Shuts, TakesIn}
+use Rattle.world_base.specs.LossyStep.Cuts.{nothing_to_cut, cuts_log, forgets_cut}
 use Rattle.world_base.specs.LossyStep.Ends.{none_open, untold, told}
 use Rattle.world_base.specs.LossyStep.EndsSilent.{none_silent, ends_one}
 use Rattle.world_base.specs.LossyStep.LosesFailed.{none_failed, tells_one}
@@ -177,6 +178,11 @@ all_read_on now port core did runs = repeated_on (unread_of (open_at port core))
 drives_on : (input : Input Command) (core : CoreState) (did : Account) → Drives input core did → Goes core did
 drives_on input core did runs = moves_on _ core did runs
 
+cut_on : (core : CoreState) (did : Account) → Cuts core did → Goes core did
+cut_on core did (nothing_to_cut none is) = quietly_on core _ did is (each_itself core.connections)
+cut_on core did (cuts_log can reads is) = quietly_on core _ did is (each_itself core.connections)
+cut_on core did (forgets_cut can is) = quietly_on core _ did is (each_itself core.connections)
+
 -- where no connection is opened
 with_none_new : (item : Item) (core : CoreState) (did : Account) → IsNew item core [] → Goes core did → GoOn item core did
 with_none_new item core did is on =
@@ -255,5 +261,6 @@ a_gap_is_closed (Bytes port piece now) core did acts =
     (all_read_on now port) k d
     (record { one = t.one; two = t.two; first = t.first; next = t.next; is = t.is })) acts
 a_gap_is_closed (Ended port) core did acts = acts_by (Ended port) core did refl (ends_on port) acts
+a_gap_is_closed Cut core did acts = acts_by Cut core did refl (λ k d c. cut_on k d c) acts
 a_gap_is_closed Crash core did acts =
     acts_by Crash core did refl (λ k d is. quietly_on k _ d is (each_itself k.connections)) acts

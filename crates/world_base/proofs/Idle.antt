@@ -10,7 +10,7 @@ use Rattle.ballot.specs.Protocol.Input.{Receives, Ticks}
 use Rattle.ballot.specs.Sending.{Outcome}
 use Rattle.node_connections.specs.declared.port.Port.{Port}
 use Rattle.world_base.specs.declared.item.Item.{Item}
-use Rattle.world_base.specs.declared.item.Item.TheVariants.{Peer, Tick, Opened, Bytes, Ended, Crash}
+use Rattle.world_base.specs.declared.item.Item.TheVariants.{Peer, Tick, Opened, Bytes, Ended, Cut, Crash}
 use Rattle.node_connections.specs.declared.connection.Connection.{Connection}
 use Rattle.node_connections.specs.Connections.{changed, has_failed, holding, is_open_at}
 use Rattle.world_base.specs.Core.{CoreState, Turn}
@@ -21,10 +21,12 @@ use Rattle.world_base.specs.Losses.{DoesNothing, IsIgnored}
 use Rattle.world_base.specs.Lossy.{Account, Drives, Repeated, Then, quietly}
 use Rattle.world_base.specs.Lossy.Delivers.{nothing}
 use Rattle.world_base.specs.LossyStep.{ActsOn, EndsAllSilent, EndsSilent, Holds, LosesAllFailed, ReadsAll, ReadsNext, TakesIn}
+use Rattle.ballot.specs.Cutting.{can_cut}
+use Rattle.world_base.specs.LossyStep.Cuts.{nothing_to_cut}
 use Rattle.world_base.specs.LossyStep.Ends.{none_open}
 use Rattle.world_base.specs.LossyStep.EndsSilent.{none_silent}
 use Rattle.world_base.specs.Reading.{changes, ends, open_at, reads_all, reads_next, unread_of}
-use Rattle.world_base.specs.Step.{accepts, acts_on, opens, takes_in}
+use Rattle.world_base.specs.Step.{accepts, acts_on, cuts, opens, takes_in}
 use Rattle.world_base.specs.Turns.{drives, moved, quiet, repeated, then_also}
 use Rattle.world_base.proofs.Accounts.{ran_quietly, ran_then}
 use Rattle.world_base.proofs.Places.{none_found, none_placed}
@@ -96,10 +98,14 @@ opens_nothing : (port : Port) (core : CoreState) → accepts port core ≡ false
 unfolding opens
 opens_nothing port core none = rw none refl
 
+cuts_nothing : (core : CoreState) → can_cut core.replica.state ≡ false → cuts core ≡ core
+unfolding cuts
+cuts_nothing core none = rw none refl
+
 -- ---- an item
 
 takes_nothing : (item : Item) (core : CoreState) → DoesNothing item core → takes_in item core ≡ quiet core
-takes_nothing (Peer message) core ignored = drives_nothing (Receives message) core ignored
+takes_nothing (Peer message) core ignored = drives_nothing (Receives message) core ignored.0
 takes_nothing (Tick now) core ignored =
     ap (λ (t : Turn). then_also t (ends_all_silent now)) (drives_nothing Ticks core ignored.0)
     ∙ quiet_repeated (ends_silent now) _ core (silent_none now core ignored.1)
@@ -108,10 +114,11 @@ takes_nothing (Bytes port piece now) core none =
     ap (λ (k : CoreState). then_also (quiet k) (reads_all now port)) (nothing_changes port (holding piece) core none)
     ∙ nothing_is_read now port core none
 takes_nothing (Ended port) core none = ends_nothing port core none
+takes_nothing Cut core none = ap quiet (cuts_nothing core none)
 takes_nothing Crash core none = elim none [ ]
 
 takes_idle : (item : Item) (core : CoreState) → DoesNothing item core → TakesIn item core (quietly core)
-takes_idle (Peer message) core ignored = drives_idle (Receives message) core ignored
+takes_idle (Peer message) core ignored = drives_idle (Receives message) core ignored.0
 takes_idle (Tick now) core ignored =
     record {
       one = quietly core;
@@ -130,6 +137,7 @@ takes_idle (Bytes port piece now) core none =
       is = refl;
     }
 takes_idle (Ended port) core none = none_open none refl
+takes_idle Cut core none = nothing_to_cut none refl
 takes_idle Crash core none = elim none [ ]
 
 -- no connection of a port is open where none is found

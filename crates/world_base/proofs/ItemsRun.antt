@@ -10,13 +10,13 @@ use Rattle.ballot.specs.Losses.{halted, one_more}
 use Rattle.ballot.specs.Replica.{CountedReplica}
 use Rattle.node_connections.specs.declared.port.Port.{Port}
 use Rattle.world_base.specs.declared.item.Item.{Item}
-use Rattle.world_base.specs.declared.item.Item.TheVariants.{Opened, Crash}
+use Rattle.world_base.specs.declared.item.Item.TheVariants.{Opened, Cut, Crash}
 use Rattle.node_connections.specs.Connections.{has_failed}
 use Rattle.world_base.specs.Core.{CoreState, CountedCore, Turn, rules}
 use Rattle.world_base.specs.Inside.{Ran, Running, Turns}
 use Rattle.world_base.specs.Losses.{DoesNothing, IsExactly, Stepped, Steps}
 use Rattle.world_base.specs.Lossy.{quietly}
-use Rattle.world_base.specs.LossyStep.{ActsOn, Opens, RunsOn, TakesIn}
+use Rattle.world_base.specs.LossyStep.{ActsOn, Cuts, Opens, RunsOn, TakesIn}
 use Rattle.world_base.specs.Step.{acts_on, node_step, opens, settled}
 use Rattle.world_base.proofs.Accounts.{ran_quietly}
 
@@ -31,6 +31,9 @@ opens_by port a b (inr e) = inr (ap quietly e)
 pub ran_opened : (port : Port) (now : ℕ) (a b : CoreState) (x : List (Effect Command Output)) → (b ≡ opens port a) ⊎ (b ≡ a) →
     Ran (TakesIn (Opened port now)) a b x x
 ran_opened port now a b x did = ran_quietly (TakesIn (Opened port now)) a b x (opens_by port a b did)
+
+pub ran_cut : (a b : CoreState) (x : List (Effect Command Output)) → Cuts a (quietly b) → Ran (TakesIn Cut) a b x x
+ran_cut a b x did = ran_quietly (TakesIn Cut) a b x did
 
 pub ran_crashed : (a : CoreState) (replica : CountedReplica State Command) (x : List (Effect Command Output)) →
     replica ≡ record a.replica { state = halted rules a.replica.state } → Ran (TakesIn Crash) a (record a { replica = replica }) x x

@@ -4,6 +4,7 @@ mod Answering
 mod Asked
 mod Changes
 mod Closes
+mod CutsRun
 mod ConnectionsGoOn
 mod Delivering
 mod EndsRun

@@ -4,14 +4,17 @@ use Rattle.std.specs.List.{find}
 use Rattle.broker_model.specs.declared.command.Command.{Command}
 use Rattle.broker_model.specs.declared.command.Output.{Output}
 use Rattle.ballot.specs.Effect.{Effect}
+use Rattle.ballot.specs.Cutting.{can_cut}
 use Rattle.ballot.specs.Losses.{one_more}
 use Rattle.ballot.specs.Protocol.{Input}
 use Rattle.ballot.specs.Protocol.Input.{Receives, Ticks}
 use Rattle.ballot.specs.Sending.{nothing_done}
 use Rattle.world_base.specs.declared.item.Item.{Item}
-use Rattle.world_base.specs.declared.item.Item.TheVariants.{Peer, Tick, Opened, Bytes, Ended, Crash}
+use Rattle.world_base.specs.declared.item.Item.TheVariants.{Peer, Tick, Opened, Bytes, Ended, Cut, Crash}
 use Rattle.node_connections.specs.Connections.{has_failed}
-use Rattle.world_base.specs.Core.{CoreState, CountedCore, Turn}
+use Rattle.ballot.specs.Message.{Message}
+use Rattle.ballot.specs.Unread.{is_unread}
+use Rattle.world_base.specs.Core.{CoreState, CountedCore, Turn, rules}
 use Rattle.world_base.specs.KeepAlive.{lowest_silent}
 use Rattle.world_base.specs.LossyStep.{RunsOn}
 use Rattle.world_base.specs.Reading.{open_at}
@@ -24,14 +27,20 @@ use Rattle.world_base.specs.Turns.{heard}
 abbrev pub IsIgnored : Input Command → CoreState → Type 0
 IsIgnored input core = heard input core.replica.state ≡ nothing_done Output core.replica.state
 
--- by the definitions an item does nothing: the replica ignores it, no connection is silent, none is accepted, or none is
--- open by that port
+-- nor does it have to read a snapshot that stands for no machine
+abbrev pub ReadsNone : Message Command → CoreState → Type 0
+ReadsNone message core =
+    core.replica.state.stopped ≡ false → is_unread rules core.replica.state message.body ≡ false
+
+-- by the definitions an item does nothing: the replica ignores it, no connection is silent, none is accepted, none is
+-- open by that port, or there is nothing to cut
 abbrev pub DoesNothing : Item → CoreState → Type 0
-DoesNothing (Peer message) core = IsIgnored (Receives message) core
+DoesNothing (Peer message) core = IsIgnored (Receives message) core × ReadsNone message core
 DoesNothing (Tick now) core = IsIgnored Ticks core × (lowest_silent now core.connections ≡ None)
 DoesNothing (Opened port now) core = accepts port core ≡ false
 DoesNothing (Bytes port piece now) core = open_at port core ≡ None
 DoesNothing (Ended port) core = open_at port core ≡ None
+DoesNothing Cut core = can_cut core.replica.state ≡ false
 DoesNothing Crash core = ⊥
 
 -- ---- what is counted

@@ -15,15 +15,17 @@ use Rattle.ballot.specs.Effect.{Effect}
 use Rattle.ballot.specs.Protocol.Input.{Receives, Ticks}
 use Rattle.node_connections.specs.declared.port.Port.{Port}
 use Rattle.world_base.specs.declared.item.Item.{Item}
-use Rattle.world_base.specs.declared.item.Item.TheVariants.{Peer, Tick, Opened, Bytes, Ended, Crash}
+use Rattle.world_base.specs.declared.item.Item.TheVariants.{Peer, Tick, Opened, Bytes, Ended, Cut, Crash}
 use Rattle.node_connections.specs.declared.connection.Connection.{Connection}
 use Rattle.node_connections.specs.Connections.{asked, closed, failing, has_failed, holding, is_first, is_proposed, left_with}
-use Rattle.world_base.specs.Core.{CoreState}
+use Rattle.ballot.specs.Cutting.{can_cut}
+use Rattle.ballot.specs.Losses.{one_more}
+use Rattle.world_base.specs.Core.{CoreState, rules}
 use Rattle.world_base.specs.Failing.{closes_failed}
 use Rattle.world_base.specs.KeepAlive.{lowest_silent}
 use Rattle.world_base.specs.Lossy.{Account, Declines, Drives, Proposes, Repeated, Takes, Then, quietly}
 use Rattle.world_base.specs.Reading.{changes, open_at, refused, unread_of}
-use Rattle.world_base.specs.Step.{crashed, opens, settled}
+use Rattle.world_base.specs.Step.{crashed, opens, settled, with_cut}
 
 -- ---- how a connection ends
 
@@ -99,6 +101,16 @@ Holds port piece core did = (did ≡ quietly (changes port (holding piece) core)
 abbrev pub Opens : Port → CoreState → Account → Type 0
 Opens port core did = (did ≡ quietly (opens port core)) ⊎ (did ≡ quietly core)
 
+-- the replica cuts its log, and what it froze stands for its machine; or, where there is no memory for that, it counts a loss
+pub data Cuts (core : CoreState) (did : Account) : Type 0 where
+  nothing_to_cut : can_cut core.replica.state ≡ false → did ≡ quietly core → Cuts core did
+  cuts_log : can_cut core.replica.state ≡ true →
+      rules.thawed (rules.frozen core.replica.state.machine) ≡ Some core.replica.state.machine →
+      did ≡ quietly (with_cut core) → Cuts core did
+  forgets_cut : can_cut core.replica.state ≡ true →
+      did ≡ quietly (record core { replica = record core.replica { losses = one_more core.replica.losses } }) →
+      Cuts core did
+
 -- all of them in turn
 abbrev pub EndsAllSilent : ℕ → CoreState → Account → Type 0
 EndsAllSilent now core did = Repeated (length core.connections) (EndsSilent now) core did
@@ -116,6 +128,7 @@ TakesIn (Tick now) core did = Then (Drives Ticks) (EndsAllSilent now) core did
 TakesIn (Opened port now) core did = Opens port core did
 TakesIn (Bytes port piece now) core did = Then (Holds port piece) (ReadsAll now port) core did
 TakesIn (Ended port) core did = Ends port core did
+TakesIn Cut core did = Cuts core did
 TakesIn Crash core did = did ≡ quietly (crashed core)
 
 -- an item, and the losses that follow from it

@@ -2,11 +2,12 @@
 use Rattle.std.specs.Prelude.{ℕ, ◌+◌, Bool, not, ◌&&◌, ◌==◌, if◌then◌else◌, [], ◌∷◌, ◌++◌, map, filter}
 use Rattle.std.specs.List.{list_any}
 use Rattle.broker_model.specs.Connection.{ConnectionName, is_connection_name}
+use Rattle.ballot.specs.Cutting.{can_cut, cut}
 use Rattle.ballot.specs.Losses.{halted}
 use Rattle.ballot.specs.Protocol.Input.{Receives, Ticks}
 use Rattle.node_connections.specs.declared.port.Port.{Port}
 use Rattle.world_base.specs.declared.item.Item.{Item}
-use Rattle.world_base.specs.declared.item.Item.TheVariants.{Peer, Tick, Opened, Bytes, Ended, Crash}
+use Rattle.world_base.specs.declared.item.Item.TheVariants.{Peer, Tick, Opened, Bytes, Ended, Cut, Crash}
 use Rattle.node_connections.specs.Connections.{is_at, is_listed, fresh, holding, closed}
 use Rattle.world_base.specs.Core.{CoreState, Turn, rules, serves}
 use Rattle.world_base.specs.Failing.{loses_all_failed}
@@ -48,6 +49,14 @@ settled core =
           (if serves core then core.connections else map closed core.connections);
     }
 
+-- the replica cuts its log where there is something to cut
+abbrev pub with_cut : CoreState → CoreState
+with_cut core =
+    record core { replica = record core.replica { state = cut rules core.replica.state } }
+
+unfoldable pub cuts : CoreState → CoreState
+cuts core = if can_cut core.replica.state then with_cut core else core
+
 -- the node crashes: its replica stops for good
 abbrev pub crashed : CoreState → CoreState
 crashed core =
@@ -61,6 +70,7 @@ takes_in (Opened port now) core = quiet (opens port core)
 takes_in (Bytes port piece now) core =
     then_also (quiet (changes port (holding piece) core)) (reads_all now port)
 takes_in (Ended port) core = ends port core
+takes_in Cut core = quiet (cuts core)
 takes_in Crash core = quiet (crashed core)
 
 -- an item, and the losses that follow from it

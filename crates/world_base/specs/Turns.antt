@@ -6,6 +6,7 @@ use Rattle.broker_model.specs.Connection.{ConnectionName}
 use Rattle.broker_model.specs.declared.command.Command.{Command}
 use Rattle.broker_model.specs.declared.command.Output.{Output}
 use Rattle.broker_model.specs.declared.command.Output.TheVariants as outputs
+use Rattle.ballot.specs.Logs.{places}
 use Rattle.ballot.specs.Effect.{Effect}
 use Rattle.ballot.specs.Effect.TheVariants.{To, Out}
 use Rattle.ballot.specs.Protocol.{Input, replica_step}
@@ -81,4 +82,4 @@ drives input core = moved (heard input core.replica.state) core
 
 -- whether a proposal is taken: by an active primary whose log has room
 abbrev pub has_room : CoreState → Bool
-has_room core = serves core && nat_lt (length core.replica.state.log) most_places
+has_room core = serves core && nat_lt (places core.replica.state.log) most_places

@@ -5,7 +5,9 @@ ghost use Rattle.ballot.specs.Protocol.Input.{Receives, Ticks};
 ghost use Rattle.ballot.specs.Serving.{proposed};
 ghost use Rattle.world_base.specs.Core.{rules, serves};
 ghost use Rattle.world_base.specs.Inside.{Acts, Answered, Delivered, Does, Hears, ProposedBy, Ran, Turns};
-ghost use Rattle.world_base.specs.Lossy.{Drives, Serves};
+ghost use Rattle.world_base.specs.Lossy.{Drives, Serves, quietly};
+ghost use Rattle.world_base.specs.LossyStep.{Cuts};
+ghost use Rattle.world_base.specs.Step.{cuts};
 ghost use Rattle.world_base.specs.Turns.{delivered, drives, has_room, heard, proposes, served_by};
 
 use crate::serving::Serving;
@@ -92,6 +94,16 @@ impl Serving {
     {
         let before = self.replica.losses();
         self.replica.tick(given);
+        self.note_losses(before);
+    }
+
+    /// Cuts the replica's log where there is something to cut.
+    pub fn cut_log(&mut self)
+        ensures does { Does self.old self.new (cuts self.old.core) }
+        ensures run { Cuts self.old.core (quietly self.new.core) }
+    {
+        let before = self.replica.losses();
+        self.replica.cut();
         self.note_losses(before);
     }
 

@@ -2,7 +2,7 @@
 
 ghost use Rattle.std.specs.Prelude.{◌≡◌, ◌↔◌, false, true};
 ghost use Rattle.ballot.specs.Protocol.Input.{Receives, Ticks};
-ghost use Rattle.world_base.specs.Losses.{DoesNothing, IsIgnored};
+ghost use Rattle.world_base.specs.Losses.{DoesNothing, IsIgnored, ReadsNone};
 
 use crate::item::Item;
 use crate::serving::Serving;
@@ -20,13 +20,15 @@ impl Serving {
             Item::Opened(port, _) => self.name_for(*port).is_none(),
             Item::Bytes(port, _, _) => self.place_at(*port).is_none(),
             Item::Ended(port) => self.place_at(*port).is_none(),
+            Item::Cut => !self.replica.can_cut(),
             Item::Crash => false,
         }
     }
 
-    // Whether the replica does anything with a message of another node.
+    // Whether the replica does anything with a message of another node, or has to read a snapshot for it.
     fn heeds(&self, message: &Message<Command>) -> bool
-        ensures { (result ≡ false) ↔ IsIgnored (Receives message.now) self.now.core }
+        ensures { (result ≡ false) ↔ (IsIgnored (Receives message.now) self.now.core
+            × ReadsNone message.now self.now.core) }
     {
         !self.replica.status().stopped && self.replica.heeds(message)
     }

@@ -19,6 +19,9 @@ pub enum Item {
     Bytes(Port, Piece, u64),
     /// The stream ended, or failed.
     Ended(Port),
+    /// The replica cuts its log: a snapshot of its machine takes the place of the commands that it has
+    /// applied.
+    Cut,
     /// The node crashes: it does nothing any more.
     Crash,
 }

@@ -3,6 +3,8 @@
 ghost use Rattle.std.specs.Prelude.{◌≡◌, ◌≤◌, ◌↔◌, ◌++◌, false, if◌then◌else◌, IfOk, IsErrOf, OnErr, OnOk};
 ghost use Rattle.std.specs.Option.{is_some};
 ghost use Rattle.ballot.specs.LawfulConfig.{is_lawful};
+ghost use Rattle.ballot.specs.Cutting.{can_cut};
+ghost use Rattle.ballot.specs.Logs.{places};
 ghost use Rattle.ballot.specs.Losses.{one_more};
 ghost use Rattle.ballot.specs.Replica.{status_of};
 ghost use Rattle.world_base.specs.Core.{opening_core};
@@ -58,11 +60,30 @@ impl NodeCore {
         self.serving.status()
     }
 
-    /// The commands of the replica's log, from place 0 on: those that are agreed, and behind them what may become so.
-    pub fn log(&self) -> &[Command]
-        ensures { result.now ≡ self.now.core.replica.state.log }
+    /// Returns the commands of the replica's log from its base on: those that are agreed, and after them what may
+    /// become so. The base is what [`NodeCore::snapshot`] tells; what is applied lies within the log.
+    pub fn rest(&self) -> &[Command]
+        ensures rest { result.now ≡ self.now.core.replica.state.log.rest }
+        ensures within { self.now.core.replica.state.committed ≤ places self.now.core.replica.state.log }
     {
-        self.serving.log()
+        self.serving.rest()
+    }
+
+    /// Returns the base of the replica's log, and the frozen machine as it is there: no bytes where the base is 0.
+    pub fn snapshot(&self) -> (u64, &[u8])
+        ensures base { result.0 ≡ self.now.core.replica.state.log.base }
+        ensures bytes { result.1.now ≡ self.now.core.replica.state.log.snapshot }
+        ensures applied { result.0 ≤ self.now.core.replica.state.committed }
+    {
+        self.serving.snapshot()
+    }
+
+    /// Returns whether an [`Item::Cut`] has something to cut: the replica runs, and has applied commands since it last
+    /// cut its log.
+    pub fn can_cut(&self) -> bool
+        ensures { result ≡ can_cut self.now.core.replica.state }
+    {
+        self.serving.can_cut()
     }
 
     /// In how many steps memory was wanting. The count stays at 2^64 - 1.

@@ -4,6 +4,8 @@ ghost use Rattle.std.specs.Prelude.{◌≡◌, ◌⊎◌, ◌≤◌, ◌^◌, �
 ghost use Rattle.std.specs.List.{list_any, position};
 ghost use Rattle.broker_model.specs.Connection.{is_connection_name};
 ghost use Rattle.ballot.specs.LawfulConfig.{is_lawful};
+ghost use Rattle.ballot.specs.Cutting.{can_cut};
+ghost use Rattle.ballot.specs.Logs.{places};
 ghost use Rattle.ballot.specs.Replica.{status_of};
 ghost use Rattle.node_connections.specs.Connections.{asked, closed, failing, has_failed, holding, is_at, is_open_at, is_open_named, put_out};
 ghost use Rattle.world_base.specs.Core.{opening_core, serves};
@@ -98,11 +100,28 @@ impl Serving {
         self.replica.status()
     }
 
-    /// The commands of the replica's log, from place 0 on.
-    pub fn log(&self) -> &[Command]
-        ensures { result.now ≡ self.now.core.replica.state.log }
+    /// The commands of the replica's log from its base on.
+    pub fn rest(&self) -> &[Command]
+        ensures rest { result.now ≡ self.now.core.replica.state.log.rest }
+        ensures within { self.now.core.replica.state.committed ≤ places self.now.core.replica.state.log }
     {
-        self.replica.log()
+        self.replica.rest()
+    }
+
+    /// The base of the replica's log, and the frozen machine as it is there.
+    pub fn snapshot(&self) -> (u64, &[u8])
+        ensures base { result.0 ≡ self.now.core.replica.state.log.base }
+        ensures bytes { result.1.now ≡ self.now.core.replica.state.log.snapshot }
+        ensures applied { result.0 ≤ self.now.core.replica.state.committed }
+    {
+        self.replica.snapshot()
+    }
+
+    /// Whether the replica has something to cut.
+    pub fn can_cut(&self) -> bool
+        ensures { result ≡ can_cut self.now.core.replica.state }
+    {
+        self.replica.can_cut()
     }
 
     /// Whether a connection of this port is listed.

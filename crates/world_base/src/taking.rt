@@ -60,6 +60,7 @@ impl Serving {
                 self.read(port, now, effects);
             }
             Item::Ended(port) => self.end(port, effects),
+            Item::Cut => self.cut_log(),
             Item::Crash => self.replica.stop(),
         }
     }

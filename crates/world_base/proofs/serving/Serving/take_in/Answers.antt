@@ -1,9 +1,9 @@
 use Rattle.ballot.specs.Protocol.Input.{Ticks}
-use Rattle.world_base.specs.declared.item.Item.TheVariants.{Peer, Tick, Opened, Bytes, Ended}
+use Rattle.world_base.specs.declared.item.Item.TheVariants.{Peer, Tick, Opened, Bytes, Ended, Cut}
 use Rattle.world_base.specs.Lossy.{Drives}
 use Rattle.world_base.specs.LossyStep.{EndsAllSilent, Holds, ReadsAll}
 use Rattle.world_base.proofs.Accounts.{ran_then}
-use Rattle.world_base.proofs.ItemsRun.{ran_crashed, ran_item, ran_opened}
+use Rattle.world_base.proofs.ItemsRun.{ran_crashed, ran_cut, ran_item, ran_opened}
 use Rattle.world_base.proofs.serving.Serving.take_in.Goals as goal
 
 pub returns-in-Peer-clause-run : goal.returns-in-Peer-clause-run
@@ -25,6 +25,9 @@ returns-in-Bytes-clause-run c =
 
 pub returns-in-Ended-clause-run : goal.returns-in-Ended-clause-run
 returns-in-Ended-clause-run c = ran_item c.args.item (Ended c.in-Ended.port) _ _ _ _ c.in-Ended.is c.end.ensures.run
+
+pub returns-in-Cut-clause-run : goal.returns-in-Cut-clause-run
+returns-in-Cut-clause-run c = ran_item c.args.item Cut _ _ _ _ c.in-Cut.is (ran_cut _ _ _ c.cut_log.ensures.run)
 
 pub returns-in-Crash-clause-run : goal.returns-in-Crash-clause-run
 returns-in-Crash-clause-run c = rw (c.in-Crash.is, ← c.self.view_is) (ran_crashed _ c.stop.new.self _ c.stop.ensures)
