@@ -15,10 +15,10 @@ use Rattle.lists.proofs.Beginnings.{prefix_then}
 use Rattle.lists.proofs.OfEach.{each_append}
 use Rattle.pipes.specs.Pipe.{Joins}
 use Rattle.agreement.specs.MasterState.{AssignRefusal, master_behind, refusal}
-use Rattle.agreement.specs.Past.{IsAgreed, Moment, Past}
+use Rattle.group_model.specs.snapshots.Past.{IsAgreed, Moment, Past}
 use Rattle.agreement.specs.Proposals.{commands_of as commands_in}
 use Rattle.agreement.specs.World.{can_open}
-use Rattle.agreement.proofs.Agreed.PastAgrees.{has_agreed}
+use Rattle.group_model.proofs.of_snapshots.PastsAgree.{has_agreed}
 use Rattle.group_model.specs.world_base.Core.{CoreState, opening_core, rules}
 use Rattle.group_model.specs.node_model.Ends.{bytes_on, commands_of}
 use Rattle.group_model.specs.node_model.LossyMoves.{came_with}

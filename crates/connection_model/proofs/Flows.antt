@@ -17,7 +17,7 @@ use Rattle.group_model.specs.node_model.Ends.{IsOrderly}
 use Rattle.group_model.specs.node_model.LossyMoves.{LossyMoves}
 use Rattle.group_model.specs.node_model.LossyMoves.LossyMoves.{exactly, hears_losing, first_losing, later_losing, tells_losing, forgets, halts, fails, unheard, drops}
 use Rattle.group_model.specs.node_model.Moves.{Moves}
-use Rattle.group_model.specs.node_model.Moves.Moves.{hears, opens_one, holds, reads_first, reads_later, closes, refuses, loses_one, loses_next, crashes, settles, hands}
+use Rattle.group_model.specs.node_model.Moves.Moves.{hears, opens_one, holds, reads_first, reads_later, closes, refuses, loses_one, loses_next, cuts_log, crashes, settles, hands}
 use Rattle.group_model.proofs.of_node_model.Kept.{live, named, named_kept}
 use Rattle.group_model.proofs.of_node_model.LossyShuts.{lossy_shuts, sent_in}
 use Rattle.group_model.proofs.of_node_model.NothingOnClosed.{found_pushed, move_shuts}
@@ -170,6 +170,7 @@ exactly_flows x core turn (closes port) o = from_shuts (move_shuts core turn (cl
 exactly_flows x core turn (refuses port c code at first is) o = from_shuts (move_shuts core turn (refuses port c code at first is) o x tt)
 exactly_flows x core turn (loses_one port c at asked) o = from_shuts (move_shuts core turn (loses_one port c at asked) o x tt)
 exactly_flows x core turn (loses_next c at) o = from_shuts (move_shuts core turn (loses_next c at) o x tt)
+exactly_flows x core turn (cuts_log can) o = from_shuts (move_shuts core turn (cuts_log can) o x tt)
 exactly_flows x core turn crashes o = from_shuts (move_shuts core turn crashes o x tt)
 
 pub move_flows : (x : ConnectionName) (core : CoreState) (turn : Turn) (m : LossyMoves core turn) → IsOrderly core

@@ -17,7 +17,7 @@ use Rattle.group_model.specs.node_model.Ends.{IsGiven, IsOrderly}
 use Rattle.group_model.specs.node_model.LossyMoves.{LossyMoves}
 use Rattle.group_model.specs.node_model.LossyMoves.LossyMoves.{exactly, hears_losing, first_losing, later_losing, tells_losing, forgets, halts, fails, unheard, drops}
 use Rattle.group_model.specs.node_model.Moves.{Moves}
-use Rattle.group_model.specs.node_model.Moves.Moves.{hears, opens_one, holds, reads_first, reads_later, closes, refuses, loses_one, loses_next, crashes, settles, hands}
+use Rattle.group_model.specs.node_model.Moves.Moves.{hears, opens_one, holds, reads_first, reads_later, closes, refuses, loses_one, loses_next, cuts_log, crashes, settles, hands}
 use Rattle.group_model.proofs.of_node_model.Kept.{stays_crashed, stays_driven, stays_failed, stays_handed, stays_proposed, stays_settled}
 use Rattle.group_model.proofs.of_node_model.LossyReads.{stays_drives, stays_takes}
 use Rattle.group_model.proofs.of_node_model.NamesInOrder.{given_later, next_precedes}
@@ -61,6 +61,7 @@ exactly_given x core turn (loses_one port c at asked_before) o given =
     by_same x core turn.core (behind (commands.Lost c.name) core (changes port closed core) (at_orderly port closed core o (λ d. refl)) (same_last port closed core)) given
 exactly_given x core turn (loses_next c at) o given =
     by_same x core turn.core (behind (commands.Lost c.name) core (closes_failed core) (stays_failed core o).orderly refl) given
+exactly_given x core turn (cuts_log can) o given = by_same x core turn.core (stays_cut core o).last given
 exactly_given x core turn crashes o given = by_same x core turn.core (stays_crashed core o).last given
 exactly_given x core turn settles o given = by_same x core turn.core (stays_settled core o).last given
 exactly_given x core turn (hands port) o given = by_same x core turn.core (stays_handed port core o).last given

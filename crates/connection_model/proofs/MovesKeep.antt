@@ -12,11 +12,11 @@ use Rattle.broker_base.specs.Output.{Output}
 use Rattle.broker_base.specs.State.{State}
 use Rattle.lists.specs.Lists.{IsPrefixOf}
 use Rattle.lists.proofs.Beginnings.{prefix_take}
-use Rattle.agreement.specs.Past.{Moment, Past, IsAgreed}
+use Rattle.group_model.specs.snapshots.Past.{Moment, Past, IsAgreed}
 use Rattle.agreement.specs.Proposals.{commands_of as commands_in}
-use Rattle.agreement.specs.World.{outputs}
-use Rattle.agreement.proofs.Agreed.OnePrimary.{one_primary_a_ballot}
-use Rattle.agreement.specs.Primaries.{IsPrimary}
+use Rattle.group_model.specs.snapshots.World.{outputs}
+use Rattle.group_model.proofs.of_snapshots.PastsAgree.{one_primary_a_ballot}
+use Rattle.group_model.specs.snapshots.Agreeing.{IsPrimary}
 use Rattle.pipes.specs.Pipe.{IsPiped}
 use Rattle.story.specs.Sends.{sends_to}
 use Rattle.model.proofs.Answers.{counted_in, nothing_put}

@@ -11,9 +11,10 @@ use Rattle.broker_base.specs.Output.{Output}
 use Rattle.broker_base.specs.State.{State}
 use Rattle.lists.specs.Lists.{Each, IsPrefixOf}
 use Rattle.lists.proofs.OfEach.{each_left}
-use Rattle.agreement.specs.Past.{Moment, Past, IsAgreed}
-use Rattle.agreement.specs.Proposals.{commands_of as commands_in, proposals_of, taken_of}
-use Rattle.agreement.proofs.Agreed.PastAgrees.{has_agreed}
+use Rattle.group_model.specs.snapshots.Past.{Moment, Past, IsAgreed}
+use Rattle.agreement.specs.Proposals.{commands_of as commands_in}
+use Rattle.group_model.specs.snapshots.Proposals.{proposals_of, taken_of}
+use Rattle.group_model.proofs.of_snapshots.PastsAgree.{has_agreed}
 use Rattle.group_model.specs.world_base.Connections.{is_over}
 use Rattle.group_model.specs.world_base.Core.{CoreState, Turn, rules}
 use Rattle.group_model.specs.world_base.Turns.{quiet}

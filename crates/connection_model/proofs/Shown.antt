@@ -16,7 +16,7 @@ use Rattle.lists.specs.Lists.{IsPrefixOf}
 use Rattle.story.specs.Sends.{put_to, sends_to}
 use Rattle.story.proofs.Deliveries.{sends_append}
 use Rattle.agreement.specs.Giving.{GivesNext, gives_from}
-use Rattle.agreement.specs.World.{outputs}
+use Rattle.group_model.specs.snapshots.World.{outputs}
 use Rattle.agreement.proofs.Given.Places.{none_between}
 use Rattle.model.specs.PutOut.{answered, broker_rules}
 use Rattle.model.proofs.Answers.{put_front, put_push}

@@ -13,8 +13,8 @@ use Rattle.lists.specs.Lists.{In}
 use Rattle.lists.specs.Lists.In.{here}
 use Rattle.pipes.specs.Pipe.{IsPiped}
 use Rattle.story.specs.Story.{is_packet_of}
-use Rattle.agreement.specs.Past.{Moment}
-use Rattle.agreement.specs.Primaries.{IsPrimary}
+use Rattle.group_model.specs.snapshots.Past.{Moment}
+use Rattle.group_model.specs.snapshots.Agreeing.{IsPrimary}
 use Rattle.agreement.specs.Proposals.{commands_of as commands_in}
 use Rattle.group_model.specs.world_base.declared.Connection.{Connection}
 use Rattle.group_model.specs.world_base.Core.{CoreState, Turn}

@@ -8,7 +8,7 @@ use Rattle.broker_base.specs.Connection.{ConnectionName}
 use Rattle.lists.specs.Lists.{IsPrefixOf}
 use Rattle.pipes.specs.Pipe.{Joins}
 use Rattle.story.specs.Sends.{put_to}
-use Rattle.agreement.specs.Past.{IsAgreed}
+use Rattle.group_model.specs.snapshots.Past.{IsAgreed}
 use Rattle.group_model.specs.node_model.Ends.{commands_of}
 use Rattle.group_model.specs.node_model.Puts.{spelled}
 use Rattle.group_model.specs.Group.{Group, moment_of}

@@ -6,7 +6,7 @@ use Rattle.ballot.specs.Config.{Config}
 use Rattle.broker_base.specs.Command.{Command}
 use Rattle.broker_base.specs.Place.{Client}
 use Rattle.lists.specs.Lists.{Each}
-use Rattle.agreement.proofs.Agreed.PastAgrees.{has_agreed}
+use Rattle.world_model.proofs.of_group_model.of_snapshots.PastsAgree.{has_agreed}
 use Rattle.model.specs.World.{AreApart}
 use Rattle.model.proofs.Lists.{each_get, each_set}
 use Rattle.model.proofs.TakenOn.{map_set}

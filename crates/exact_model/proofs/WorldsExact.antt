@@ -12,7 +12,7 @@ use Rattle.client_base.specs.Keeper.{Keeper}
 use Rattle.client_base.specs.State.{ClientState}
 use Rattle.story.specs.Carried.{publications_of}
 use Rattle.story.specs.Headline.{ExactlyOnce}
-use Rattle.agreement.proofs.Agreed.PastAgrees.{has_agreed}
+use Rattle.world_model.proofs.of_group_model.of_snapshots.PastsAgree.{has_agreed}
 use Rattle.model.specs.World.{AreApart, ClientEnds, story_of as story_beside}
 use Rattle.model.proofs.Lists.{each_by, each_get}
 use Rattle.model.proofs.WorldsExact.{worlds_are_exact as worlds_beside_are_exact}

@@ -12,7 +12,7 @@ use Rattle.client_base.specs.State.{ClientState}
 use Rattle.story.specs.Headline.{ExactlyOnce, accepted_on}
 use Rattle.story.specs.Sides.{Connection}
 use Rattle.story.specs.Story.{Story}
-use Rattle.agreement.specs.Past.{IsAgreed}
+use Rattle.world_model.specs.group_model.snapshots.Past.{IsAgreed}
 use Rattle.model.specs.World.{AreApart}
 use Rattle.world_model.specs.group_model.Group.{moment_of}
 use Rattle.world_model.specs.group_model.Goes.{all_put, groups_of}

@@ -7,11 +7,11 @@ use Rattle.broker_base.specs.State.{State}
 use Rattle.broker_base.specs.Command.{Command}
 use Rattle.broker_base.specs.Output.{Output}
 use Rattle.agreement.specs.MasterState.{AssignRefusal, MasterState, master_behind, opening_master, refusal}
-use Rattle.agreement.specs.Past.{Moment, Past, opening_moment}
-use Rattle.agreement.specs.Past.Past.{began}
-use Rattle.agreement.specs.Steps.{world_behind}
-use Rattle.agreement.specs.Steps.MayHappen.{master_assigns, master_hears, assignment_lost, answer_lost}
-use Rattle.agreement.specs.World.{World}
+use Rattle.snapshots.specs.Past.{Moment, Past, opening_moment}
+use Rattle.snapshots.specs.Past.Past.{began}
+use Rattle.snapshots.specs.Steps.{world_behind}
+use Rattle.snapshots.specs.Steps.MayHappen.{master_assigns, master_hears, assignment_lost, answer_lost}
+use Rattle.snapshots.specs.World.{World}
 use Rattle.node_model.specs.world_base.Core.{rules}
 use Rattle.group_model.specs.Group.{Group, behind_turn, moment_of, opening_group, with_master}
 use Rattle.group_model.specs.Goes.{MayGo, all_given, all_put, behind_assign, groups_of, put_in_step}

@@ -11,3 +11,4 @@ pub mod PutsInBallot
 pub mod NamesInGroups
 pub mod Ordered
 pub use Rattle.node_model.proofs as of_node_model
+pub use Rattle.snapshots.proofs as of_snapshots

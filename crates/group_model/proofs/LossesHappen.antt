@@ -13,8 +13,8 @@ use Rattle.broker_base.specs.State.{State}
 use Rattle.broker_base.specs.Command.{Command}
 use Rattle.broker_base.specs.Command.TheVariants as commands
 use Rattle.broker_base.specs.Output.{Output}
-use Rattle.agreement.specs.Past.{Moment, Past}
-use Rattle.agreement.specs.World.{messages, outputs}
+use Rattle.snapshots.specs.Past.{Moment, Past}
+use Rattle.snapshots.specs.World.{messages, outputs}
 use Rattle.node_model.specs.world_base.Connections.{asked, closed, failing, left_with}
 use Rattle.node_model.specs.world_base.Core.{CoreState, Turn, rules, serves}
 use Rattle.node_model.specs.world_base.Lossy.{Account, Drives, Takes}

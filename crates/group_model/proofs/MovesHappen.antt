@@ -21,18 +21,22 @@ use Rattle.broker_base.specs.Output.{Output}
 use Rattle.broker_base.specs.Connection.{ConnectionName}
 use Rattle.story.specs.Story.{is_packet_of}
 use Rattle.agreement.specs.MasterState.{MasterState}
-use Rattle.agreement.specs.Giving.{GivesNext, given_in as gives_in}
-use Rattle.agreement.specs.Past.{Moment, Past, IsAgreed, IsChosen, WasActive}
-use Rattle.agreement.specs.Past.Past.{went_on}
-use Rattle.agreement.specs.Proposals.{proposal_by, proposal_of, proposals_of, taken_in, taken_of}
-use Rattle.agreement.specs.Steps.{MayHappen, MayTake}
-use Rattle.agreement.specs.Steps.MayHappen.{node_takes, node_stops}
-use Rattle.agreement.specs.World.{World, messages, outputs}
-use Rattle.agreement.specs.World.{moved as moved_world}
-use Rattle.agreement.proofs.Agreed.PastAgrees.{nodes_agree}
-use Rattle.agreement.proofs.Agreed.PastGrows.{agreed_grows}
+use Rattle.agreement.specs.Giving.{GivesNext}
+use Rattle.snapshots.specs.Giving.{given_in as gives_in}
+use Rattle.snapshots.specs.Past.{Moment, Past, IsAgreed}
+use Rattle.agreement.specs.Past.{IsChosen, WasActive}
+use Rattle.snapshots.specs.Past.Past.{went_on}
+use Rattle.snapshots.specs.Proposals.{proposal_by, proposal_of, proposals_of, taken_in, taken_of}
+use Rattle.snapshots.specs.Steps.{MayHappen}
+use Rattle.snapshots.specs.World.{MayTake}
+use Rattle.snapshots.specs.Steps.MayHappen.{node_goes}
+use Rattle.snapshots.specs.World.{NodeGoes as goes}
+use Rattle.snapshots.specs.World.{World, messages, outputs}
+use Rattle.snapshots.specs.World.{moved as moved_world}
+use Rattle.snapshots.proofs.PastsAgree.{nodes_agree}
+use Rattle.snapshots.proofs.PastsAgree.{agreed_grows}
 use Rattle.agreement.proofs.Agreed.PastKnown.{past_known}
-use Rattle.agreement.proofs.Given.NextPlaces.{answers_at_the_next_places}
+use Rattle.snapshots.proofs.Orders.{answers_at_the_next_places}
 use Rattle.agreement.proofs.Given.Places.{none_between}
 use Rattle.agreement.proofs.Given.StepGives.{from_active}
 use Rattle.node_model.specs.world_base.declared.Connection.{Connection}
@@ -44,11 +48,15 @@ use Rattle.node_model.specs.world_base.Turns.{drives, has_room, heard, moved, pr
 use Rattle.node_model.specs.world_base.Connections.{asked, closed, holding, left_with}
 use Rattle.node_model.specs.world_base.Handing.{hands_over}
 use Rattle.node_model.specs.world_base.Reading.{refused}
-use Rattle.node_model.specs.world_base.Step.{opens, settled}
+use Rattle.node_model.specs.world_base.Step.{opens, settled, with_cut}
 use Rattle.node_model.specs.Moves.{Moves, is_proposal}
-use Rattle.node_model.specs.Moves.Moves.{hears, opens_one, holds, reads_first, reads_later, closes, refuses, loses_one, loses_next, crashes, settles, hands}
+use Rattle.node_model.specs.Moves.Moves.{hears, opens_one, holds, reads_first, reads_later, closes, refuses, loses_one, loses_next, cuts_log, crashes, settles, hands}
 use Rattle.node_model.specs.Puts.{given_in}
-use Rattle.group_model.specs.Group.{Group, behind_turn, moment_of, replica_of}
+use Rattle.ballot.specs.Cutting.{can_cut, cut}
+use Rattle.snapshots.specs.World.{recorded}
+use Rattle.std.specs.Prelude.{not}
+use Rattle.std.proofs.lemmas.Bool.{and_parts, ltb-true}
+use Rattle.group_model.specs.Group.{Group, behind_turn, moment_of, replica_of, with_record}
 use Rattle.group_model.specs.Goes.{InputWasSent, WasSent, keeping, put_in_move}
 use Rattle.group_model.specs.Pasts.{packets_in}
 use Rattle.group_model.proofs.Packets.{AreTaken, HasRoomFor, none_taken, packets_join, proposal_taken}
@@ -93,11 +101,11 @@ by_event {config = config} {a = a} {earlier = earlier} came b step put n given p
 
 -- ---- moments of groups
 
-same_world : {nodes later_nodes : List (ReplicaState State Command)} {sent later_sent : List (ℕ × Message Command)} {left later_left : List (ℕ × Output)}
+same_world : (archive : List Command) {nodes later_nodes : List (ReplicaState State Command)} {sent later_sent : List (ℕ × Message Command)} {left later_left : List (ℕ × Output)}
     → nodes ≡ later_nodes → sent ≡ later_sent → left ≡ later_left
-    → (let w : World State Command Output = record { nodes = nodes; sent = sent; left = left } in w)
-    ≡ (let v : World State Command Output = record { nodes = later_nodes; sent = later_sent; left = later_left } in v)
-same_world a b c = rw (a, b, c) refl
+    → (let w : World State Command Output = record { nodes = nodes; sent = sent; left = left; archive = archive } in w)
+    ≡ (let v : World State Command Output = record { nodes = later_nodes; sent = later_sent; left = later_left; archive = archive } in v)
+same_world archive a b c = rw (a, b, c) refl
 
 abbrev with_world : MasterState → World State Command Output → Moment State Command Output
 with_world m w = record { master = m; world = w }
@@ -105,11 +113,11 @@ with_world m w = record { master = m; world = w }
 -- behind a turn the replica at the place is this one
 behind_is : (g : Group) (n : ℕ) (turn : Turn) (given effects : Given) (new : ReplicaState State Command) → replica_of turn.core ≡ new
     → messages turn.messages ≡ messages effects → outputs given ≡ outputs effects
-    → with_world g.master (let w : World State Command Output = record { nodes = slice_set (map replica_of g.nodes) n new; sent = g.sent ++ messages effects; left = g.left ++ outputs effects } in w)
+    → with_world g.master (let w : World State Command Output = record { nodes = slice_set (map replica_of g.nodes) n new; sent = g.sent ++ messages effects; left = g.left ++ outputs effects; archive = g.archive } in w)
     ≡ moment_of (behind_turn g n turn given)
 behind_is g n turn given effects new replica sent left =
     ap (with_world g.master)
-    (sym (same_world (set_mapped replica_of g.nodes n turn.core ∙ ap (λ r. slice_set (map replica_of g.nodes) n r) replica)
+    (sym (same_world g.archive (set_mapped replica_of g.nodes n turn.core ∙ ap (λ r. slice_set (map replica_of g.nodes) n r) replica)
     (ap (λ l. g.sent ++ l) sent) (ap (λ l. g.left ++ l) left)))
 
 -- ---- no event
@@ -119,7 +127,7 @@ stays_as_it_is : (g : Group) (n : ℕ) (core : CoreState) (turn : Turn) (given :
     → messages turn.messages ≡ [] → outputs given ≡ [] → moment_of g ≡ moment_of (behind_turn g n turn given)
 stays_as_it_is g n core turn given at same none_sent none_left =
     ap (with_world g.master)
-    (same_world
+    (same_world g.archive
     (sym (set_mapped replica_of g.nodes n turn.core ∙ ap (λ r. slice_set (map replica_of g.nodes) n r) same
     ∙ set_same (map replica_of g.nodes) n (replica_of core) (get_mapped replica_of g.nodes n core at)))
     (sym (ap (λ l. g.sent ++ l) none_sent ∙ append-nil g.sent)) (sym (ap (λ l. g.left ++ l) none_left ∙ append-nil g.left)))
@@ -184,7 +192,7 @@ one_step g n core turn input new given thin config earlier came at runs may repl
     (ap (λ b. if b then outputs thin else []) (eq_same n) ∙ sym left))
   where
     step : MayHappen rules g.master (moment_of g).world g.master (moved_world (moment_of g).world n new thin)
-    step = node_takes n (replica_of core) input (get_mapped replica_of g.nodes n core at) runs may lost
+    step = node_goes (goes.takes n (replica_of core) input (get_mapped replica_of g.nodes n core at) runs may lost)
 
 -- a crash
 pub one_stop : (g : Group) (n : ℕ) (core : CoreState) (turn : Turn) (given : Given) (config : Config) (earlier : List (Moment State Command Output))
@@ -195,7 +203,29 @@ one_stop g n core turn given config earlier came at replica none_sent none_left 
     (by_event came _ step [] n (outputs given) refl (λ x. refl) (sym none_left))
   where
     step : MayHappen rules g.master (moment_of g).world g.master (moved_world (moment_of g).world n (halted rules (replica_of core)) [])
-    step = node_stops n (replica_of core) (get_mapped replica_of g.nodes n core at)
+    step = node_goes (goes.stops n (replica_of core) (get_mapped replica_of g.nodes n core at))
+
+-- a cut, behind which the record has the places that the replica applied
+pub one_cut : (g : Group) (n : ℕ) (core : CoreState) (config : Config) (earlier : List (Moment State Command Output))
+    (came : Past rules config (moment_of g ∷ earlier)) → slice_get g.nodes n ≡ Some core → can_cut (replica_of core) ≡ true
+    → rules.thawed (rules.frozen (replica_of core).machine) ≡ Some (replica_of core).machine
+    → Once came (moment_of (behind_turn (with_record g (recorded g.archive (replica_of core))) n (quiet (with_cut core)) [])) [] n []
+one_cut g n core config earlier came at can reads =
+    subst (λ z. Once came z [] n []) (behind_is (with_record g (recorded g.archive (replica_of core))) n (quiet (with_cut core)) [] [] (cut rules (replica_of core)) refl refl refl)
+    (by_event came _ step [] n [] refl (λ x. refl) refl)
+  where
+    going : (b : Bool) → not b ≡ true → b ≡ false
+    going true e = cc
+    going false e = refl
+
+    parts : ((not (replica_of core).stopped) ≡ true) × (nat_lt (replica_of core).log.base (replica_of core).committed ≡ true)
+    parts = and_parts (not (replica_of core).stopped) (nat_lt (replica_of core).log.base (replica_of core).committed) can
+
+    step : MayHappen rules g.master (moment_of g).world g.master
+        (record (moved_world (moment_of g).world n (cut rules (replica_of core)) []) { archive = recorded g.archive (replica_of core) })
+    step =
+        node_goes (goes.cuts n (replica_of core) (get_mapped replica_of g.nodes n core at) (going (replica_of core).stopped parts.0)
+        (ltb-true (replica_of core).log.base (replica_of core).committed parts.1) reads)
 
 -- nothing happens to the replica
 pub no_step : (g : Group) (n : ℕ) (core : CoreState) (turn : Turn) (given : Given) (config : Config) (earlier : List (Moment State Command Output))

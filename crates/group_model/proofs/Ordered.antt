@@ -9,11 +9,12 @@ use Rattle.broker_base.specs.State.{State}
 use Rattle.broker_base.specs.Command.{Command}
 use Rattle.broker_base.specs.Connection.{ConnectionName}
 use Rattle.story.specs.Story.{is_packet_of}
-use Rattle.agreement.specs.Past.{IsAgreed}
-use Rattle.agreement.specs.Proposals.{IsOfBallot, IsPartOf, commands_of, proposals_of, taken_of}
+use Rattle.snapshots.specs.Past.{IsAgreed}
+use Rattle.agreement.specs.Proposals.{IsOfBallot, IsPartOf, commands_of}
+use Rattle.snapshots.specs.Proposals.{proposals_of, taken_of}
 use Rattle.agreement.specs.Proposals.IsPartOf.{nothing_left, with_one, without_one}
-use Rattle.agreement.proofs.Agreed.PastAgrees.{nodes_agree}
-use Rattle.agreement.proofs.Agreed.PastOrder.{keeps_the_order}
+use Rattle.snapshots.proofs.PastsAgree.{nodes_agree}
+use Rattle.snapshots.proofs.Orders.{keeps_the_order}
 use Rattle.agreement.proofs.Orders.NamesInLists.{filter_prefix}
 use Rattle.node_model.specs.world_base.Core.{rules}
 use Rattle.group_model.specs.Ballots.{IsInItsBallot}

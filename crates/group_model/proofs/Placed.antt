@@ -7,7 +7,8 @@ use Rattle.ballot.specs.Effect.TheVariants.{To, Out}
 use Rattle.ballot.specs.Replica.{opening}
 use Rattle.broker_base.specs.Command.{Command}
 use Rattle.broker_base.specs.Output.{Output}
-use Rattle.agreement.specs.World.{messages, opening_nodes}
+use Rattle.snapshots.specs.World.{messages}
+use Rattle.snapshots.specs.Past.{opening_nodes}
 use Rattle.node_model.specs.world_base.Core.{opening_core, rules}
 use Rattle.node_model.specs.world_base.Turns.{is_message}
 use Rattle.std.specs.List.{filter}

@@ -9,9 +9,9 @@ use Rattle.ballot.specs.Protocol.Input.{Receives, Proposes, Ticks}
 use Rattle.broker_base.specs.State.{State}
 use Rattle.broker_base.specs.Command.{Command}
 use Rattle.broker_base.specs.Output.{Output}
-use Rattle.agreement.specs.Past.{Moment, Past}
-use Rattle.agreement.specs.Proposals.{proposals_of, taken_of}
-use Rattle.agreement.specs.World.{messages, outputs}
+use Rattle.snapshots.specs.Past.{Moment, Past}
+use Rattle.snapshots.specs.Proposals.{proposals_of, taken_of}
+use Rattle.snapshots.specs.World.{messages, outputs}
 use Rattle.node_model.specs.world_base.Core.{CoreState, Turn, rules}
 use Rattle.node_model.specs.LossyMoves.{LossyRuns, all_inputs, given_in, inputs_in}
 use Rattle.node_model.specs.LossyMoves.LossyRuns.{rests, goes_on}
@@ -27,7 +27,7 @@ use Rattle.group_model.proofs.Packets.{packets_join}
 use Rattle.group_model.proofs.Placed.{get_of_set, set_twice}
 use Rattle.lists.proofs.Beginnings.{prefix_then}
 use Rattle.lists.proofs.Members.{in_left}
-use Rattle.agreement.proofs.Agreed.PastAgrees.{has_agreed}
+use Rattle.snapshots.proofs.PastsAgree.{has_agreed}
 use Rattle.agreement.proofs.Effects.{messages-append, outputs-append}
 
 -- ---- what was sent stays sent

@@ -10,7 +10,7 @@ use Rattle.ballot.specs.Sending.{Outcome}
 use Rattle.broker_base.specs.State.{State}
 use Rattle.broker_base.specs.Command.{Command}
 use Rattle.broker_base.specs.Output.{Output}
-use Rattle.agreement.specs.World.{messages, outputs}
+use Rattle.snapshots.specs.World.{messages, outputs}
 use Rattle.node_model.specs.world_base.Core.{CoreState, rules}
 use Rattle.node_model.specs.world_base.Lossy.{Delivers}
 use Rattle.node_model.specs.world_base.Lossy.Delivers.{nothing, does, tells, loses as loses_one}

@@ -7,7 +7,8 @@ use Rattle.ballot.specs.Effect.{Effect}
 use Rattle.ballot.specs.Losses.{Thinned}
 use Rattle.broker_base.specs.Command.{Command}
 use Rattle.broker_base.specs.Output.{Output}
-use Rattle.agreement.specs.MasterState.{AssignRefusal, activated, assigned, master_behind, refusal}
+use Rattle.agreement.specs.MasterState.{AssignRefusal, master_behind, refusal}
+use Rattle.snapshots.specs.Masters.{activated, assigned}
 use Rattle.agreement.specs.World.{can_open}
 use Rattle.node_model.specs.world_base.Core.{CoreState, Turn}
 use Rattle.node_model.specs.world_base.declared.item.Item.{Item}
@@ -15,9 +16,10 @@ use Rattle.node_model.specs.world_base.LossyStep.{RunsOn}
 use Rattle.node_model.specs.Hearing.{HearsAtFirst}
 use Rattle.node_model.specs.LossyMoves.{IsRunOn, heard_with}
 use Rattle.node_model.specs.Moves.{Deed, Runs, done}
-use Rattle.group_model.specs.Group.{Group, behind_turn, opening_group, told_by_master, with_master}
+use Rattle.group_model.specs.Group.{Group, behind_turn, opening_group, told_by_master, with_master, with_record}
 use Rattle.group_model.specs.Losing.{WereSent}
-use Rattle.group_model.specs.Losing.{all_given as given_losing, put_in_run as put_losing}
+use Rattle.group_model.specs.Losing.{all_given as given_losing, put_in_run as put_losing, recorded_in as recorded_losing}
+use Rattle.group_model.specs.Putting.{recorded_in}
 pub use Rattle.group_model.specs.Putting.{AllWasSent, InputWasSent, WasSent, all_given, commands_put, put_in_move, put_in_run}
 
 -- the master behind an Assign; a refused one changes nothing
@@ -30,13 +32,13 @@ abbrev pub keeping : List (Effect Command Output) → Turn → Turn
 keeping kept turn = record turn { messages = kept }
 
 pub data MayGo (g : Group) : Group → Type 0 where
-  -- a node takes an item, or hands over bytes, by these moves; what its replica hears comes first
+  -- a node takes an item, or hands over bytes, by these moves; what its replica hears, or a cut, comes first
   node_acts : (n : ℕ) (core : CoreState) (deed : Deed) (turn : Turn) (run : Runs core turn) → slice_get g.nodes n ≡ Some core →
-      turn ≡ done deed core → HearsAtFirst run → AllWasSent g n run → MayGo g (behind_turn g n turn (all_given run))
+      turn ≡ done deed core → HearsAtFirst run → AllWasSent g n run → MayGo g (behind_turn (with_record g (recorded_in g.archive run)) n turn (all_given run))
   -- a node takes an item with losses, by these moves; what comes with it was sent, and some of its messages may be missing
   node_loses : (n : ℕ) (core : CoreState) (item : Item) (turn : Turn) (kept : List (Effect Command Output)) (by : IsRunOn item core turn) →
       slice_get g.nodes n ≡ Some core → RunsOn item core turn.core turn.messages → WereSent g n (heard_with item) → Thinned kept turn.messages →
-      MayGo g (behind_turn g n (keeping kept turn) (given_losing by.run))
+      MayGo g (behind_turn (with_record g (recorded_losing g.archive by.run)) n (keeping kept turn) (given_losing by.run))
   -- an administrator asks for another configuration
   master_assigns : (config : Config) →
       MayGo g (with_master (behind_assign g config (refusal g.master config)) (master_behind g.master config (refusal g.master config)))

@@ -8,18 +8,20 @@ use Rattle.ballot.specs.Sending.{master}
 use Rattle.broker_base.specs.State.{State}
 use Rattle.broker_base.specs.Command.{Command}
 use Rattle.broker_base.specs.Output.{Output}
-use Rattle.agreement.specs.MasterState.{MasterState, MasterOutcome, opening_master}
-use Rattle.agreement.specs.Past.{Moment}
-use Rattle.agreement.specs.World.{messages, outputs}
+use Rattle.agreement.specs.MasterState.{MasterState, opening_master}
+use Rattle.snapshots.specs.Masters.{MasterOutcome}
+use Rattle.snapshots.specs.Past.{Moment}
+use Rattle.snapshots.specs.World.{messages, outputs}
 use Rattle.node_model.specs.world_base.Core.{CoreState, Turn, opening_core}
 
--- Node n + 1 stands at place n. All messages that were ever sent stay, each with its receiver: any may come late, again
+-- Node n + 1 stands at place n. The record has the places below the bases of all logs. All messages that were ever sent stay, each with its receiver: any may come late, again
 -- or never. So do the outputs that replicas gave, with their places in the log.
 pub record Group : Type 0 where
   pub master : MasterState
   pub nodes : List CoreState
   pub sent : List (ℕ × Message Command)
   pub left : List (ℕ × Output)
+  pub archive : List Command
 
 -- ---- as it opens
 
@@ -29,7 +31,7 @@ opening_cores (suc n) config = opening_cores n config ++ opening_core (n + 1) co
 
 abbrev pub opening_group : ℕ → Config → Group
 opening_group nodes config =
-    record { master = opening_master config; nodes = opening_cores nodes config; sent = []; left = [] }
+    record { master = opening_master config; nodes = opening_cores nodes config; sent = []; left = []; archive = [] }
 
 -- ---- behind what happens
 
@@ -50,6 +52,10 @@ told_by_master g o = record g { sent = g.sent ++ (o.receiver, record { from = ma
 abbrev pub with_master : Group → MasterState → Group
 with_master g m = record g { master = m }
 
+-- with another record of places
+abbrev pub with_record : Group → List Command → Group
+with_record g archive = record g { archive = archive }
+
 -- ---- its replicas, as they are seen where nodes agree
 
 abbrev pub replica_of : CoreState → ReplicaState State Command
@@ -57,4 +63,7 @@ replica_of core = core.replica.state
 
 abbrev pub moment_of : Group → Moment State Command Output
 moment_of g =
-    record { master = g.master; world = record { nodes = map replica_of g.nodes; sent = g.sent; left = g.left } }
+    record {
+      master = g.master;
+      world = record { nodes = map replica_of g.nodes; sent = g.sent; left = g.left; archive = g.archive };
+    }

@@ -6,4 +6,5 @@ pub mod Pasts
 pub mod Ballots
 pub mod Order
 pub use Rattle.node_model.specs as node_model
+pub use Rattle.snapshots.specs as snapshots
 pub use Rattle.node_model.specs.world_base as world_base

@@ -7,6 +7,8 @@ use Rattle.broker_base.specs.Output.{Output}
 use Rattle.node_model.specs.world_base.Core.{CoreState, Turn}
 use Rattle.node_model.specs.LossyMoves.{LossyMoves, LossyRuns, given_in, proposal_of}
 use Rattle.node_model.specs.LossyMoves.LossyMoves.{exactly}
+use Rattle.node_model.specs.Moves.Moves.{cuts_log}
+use Rattle.snapshots.specs.World.{recorded}
 use Rattle.node_model.specs.LossyMoves.LossyRuns.{rests, goes_on}
 use Rattle.group_model.specs.Group.{Group, replica_of}
 use Rattle.group_model.specs.Putting.{InputWasSent}
@@ -16,6 +18,12 @@ use Rattle.group_model.specs.Putting.{commands_put as exactly_put}
 abbrev pub WereSent : Group → ℕ → List (Input Command) → Type 0
 WereSent g n [] = Unit {0}
 WereSent g n (input ∷ inputs) = InputWasSent g n input × WereSent g n inputs
+
+-- the record of places after a run
+abbrev pub recorded_in : List Command → {core : CoreState} {turn : Turn} → LossyRuns core turn → List Command
+recorded_in archive rests = archive
+recorded_in archive {core = core} (goes_on (exactly (cuts_log can)) run) = recorded_in (recorded archive (replica_of core)) run
+recorded_in archive (goes_on m run) = recorded_in archive run
 
 -- what its replica gives
 abbrev pub all_given : {core : CoreState} {turn : Turn} → LossyRuns core turn → List (Effect Command Output)

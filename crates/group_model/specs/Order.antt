@@ -5,7 +5,8 @@ use Rattle.ballot.specs.Config.{Config}
 use Rattle.broker_base.specs.Command.{Command}
 use Rattle.broker_base.specs.Connection.{ConnectionName}
 use Rattle.story.specs.Story.{is_packet_of}
-use Rattle.agreement.specs.Past.{IsAgreed}
+use Rattle.snapshots.specs.Past.{IsAgreed}
+use Rattle.snapshots.specs.Whole.{whole_log}
 use Rattle.agreement.specs.Proposals.{commands_of}
 use Rattle.node_model.specs.world_base.Core.{CoreState}
 use Rattle.group_model.specs.Group.{Group, moment_of, replica_of}
@@ -16,11 +17,11 @@ use Rattle.group_model.specs.Pasts.{HasPast}
 abbrev pub packets_of : ConnectionName → List Command → List Command
 packets_of x commands = filter (λ (command : Command). is_packet_of command x) commands
 
--- of each connection the log of each node, and the agreed list, has a beginning of the packets that were put for it, in order
+-- of each connection the whole log of each node, and the agreed list, has a beginning of the packets that were put for it, in order
 pub record KeepsOrder (config : Config) (g : Group) (groups : List Group) (put : List (ℕ × Command)) : Type 0 where
   pub of : HasPast config g groups put
   pub logs : (x : ConnectionName) (n : ℕ) (core : CoreState) → slice_get g.nodes n ≡ Some core →
-      IsPrefixOf (packets_of x (replica_of core).log) (packets_of x (commands_of put))
+      IsPrefixOf (packets_of x (whole_log g.archive (replica_of core).log)) (packets_of x (commands_of put))
   pub agreed : (x : ConnectionName) (xs : List Command) → IsAgreed config (moment_of g ∷ of.earlier) xs →
       IsPrefixOf (packets_of x xs) (packets_of x (commands_of put))
 

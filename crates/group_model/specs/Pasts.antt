@@ -7,8 +7,8 @@ use Rattle.broker_base.specs.Command.{Command}
 use Rattle.broker_base.specs.Output.{Output}
 use Rattle.broker_base.specs.Connection.{ConnectionName}
 use Rattle.story.specs.Story.{is_packet_of}
-use Rattle.agreement.specs.Past.{Moment, Past}
-use Rattle.agreement.specs.Proposals.{proposals_of, taken_of}
+use Rattle.snapshots.specs.Past.{Moment, Past}
+use Rattle.snapshots.specs.Proposals.{proposals_of, taken_of}
 use Rattle.node_model.specs.world_base.Core.{rules}
 use Rattle.group_model.specs.Group.{Group, moment_of}
 use Rattle.group_model.specs.Goes.{Went, all_put, groups_of}

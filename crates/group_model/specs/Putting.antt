@@ -1,5 +1,5 @@
 -- What a node puts to its replica in a run of moves, what the replica gives, and that what it hears was sent.
-use Rattle.std.specs.Prelude.{ℕ, ◌+◌, if◌then◌else◌, List, [], ◌∷◌, ◌++◌, map}
+use Rattle.std.specs.Prelude.{◌≡◌, Some, ℕ, ◌+◌, if◌then◌else◌, List, [], ◌∷◌, ◌++◌, map}
 use Rattle.lists.specs.Lists.{In}
 use Rattle.ballot.specs.Effect.{Effect}
 use Rattle.ballot.specs.Protocol.{Input}
@@ -7,10 +7,11 @@ use Rattle.ballot.specs.Protocol.Input.{Receives, Proposes, Ticks}
 use Rattle.broker_base.specs.Command.{Command}
 use Rattle.broker_base.specs.Command.TheVariants as commands
 use Rattle.broker_base.specs.Output.{Output}
-use Rattle.node_model.specs.world_base.Core.{CoreState, Turn, serves}
+use Rattle.node_model.specs.world_base.Core.{CoreState, Turn, rules, serves}
+use Rattle.snapshots.specs.World.{recorded}
 use Rattle.node_model.specs.Moves.{Moves, Runs}
 use Rattle.node_model.specs.Moves.Runs.{rests, goes_on}
-use Rattle.node_model.specs.Moves.Moves.{hears, reads_first, reads_later, loses_one, loses_next}
+use Rattle.node_model.specs.Moves.Moves.{hears, cuts_log, reads_first, reads_later, loses_one, loses_next}
 use Rattle.node_model.specs.Puts.{given_in}
 use Rattle.group_model.specs.Group.{Group, replica_of}
 
@@ -20,13 +21,22 @@ InputWasSent g n (Receives message) = In (n + 1, message) g.sent
 InputWasSent g n (Proposes command) = Unit {0}
 InputWasSent g n Ticks = Unit {0}
 
+-- and the bytes to which it cuts its log stand for its machine
 abbrev pub WasSent : Group → ℕ → {core : CoreState} {turn : Turn} → Moves core turn → Type 0
 WasSent g n (hears input is) = InputWasSent g n input
+WasSent g n {core = core} (cuts_log can) =
+    rules.thawed (rules.frozen (replica_of core).machine) ≡ Some (replica_of core).machine
 WasSent g n _ = Unit {0}
 
 abbrev pub AllWasSent : Group → ℕ → {core : CoreState} {turn : Turn} → Runs core turn → Type 0
 AllWasSent g n rests = Unit {0}
 AllWasSent g n (goes_on m run) = WasSent g n m × AllWasSent g n run
+
+-- the record of places after a run: a cut adds what the log that is cut has applied
+abbrev pub recorded_in : List Command → {core : CoreState} {turn : Turn} → Runs core turn → List Command
+recorded_in archive rests = archive
+recorded_in archive {core = core} (goes_on (cuts_log can) run) = recorded_in (recorded archive (replica_of core)) run
+recorded_in archive (goes_on m run) = recorded_in archive run
 
 -- what its replica gives
 abbrev pub all_given : {core : CoreState} {turn : Turn} → Runs core turn → List (Effect Command Output)

@@ -22,7 +22,7 @@ use Rattle.world_base.specs.Core.{CoreState, Turn, rules, serves}
 use Rattle.world_base.specs.Failing.{closes_failed}
 use Rattle.world_base.specs.Handing.{hands_over, left_by, listed_at}
 use Rattle.world_base.specs.Reading.{changes}
-use Rattle.world_base.specs.Step.{settled, crashed}
+use Rattle.world_base.specs.Step.{settled, crashed, with_cut}
 use Rattle.world_base.specs.Turns.{quiet, moved, served, proposes, drives, heard, changes_named}
 use Rattle.node_model.specs.Ends.{AtMostOne, IsGiven, IsOrderly, open_named}
 use Rattle.node_model.proofs.JoinedGrows.{Up, up_if, up_nothing, up_proposed, joined_grows}
@@ -200,6 +200,9 @@ stays_proposed command core o = by (serves core)
     by : (b : Bool) → Stays core (let t : Turn = if b then moved (proposed rules core.replica.state command) core else quiet core in t).core
     by true = stays_moved (proposed rules core.replica.state command) core (up_proposed rules core.replica.state command) o
     by false = stays_same core o
+
+pub stays_cut : (core : CoreState) → IsOrderly core → Stays core (with_cut core)
+stays_cut core o = record { kept = λ x. kept_same (open_named x core); last = refl; orderly = record { names = o.names; given = o.given; within = o.within } }
 
 pub stays_crashed : (core : CoreState) → IsOrderly core → Stays core (crashed core)
 stays_crashed core o = record { kept = λ x. kept_same (open_named x core); last = refl; orderly = record { names = o.names; given = o.given; within = o.within } }

@@ -7,19 +7,20 @@ use Rattle.broker_base.specs.Command.{Command}
 use Rattle.broker_base.specs.Connection.{ConnectionName}
 use Rattle.world_base.specs.declared.Port.{Port}
 use Rattle.world_base.specs.declared.item.Item.{Item}
-use Rattle.world_base.specs.declared.item.Item.TheVariants.{Peer, Tick, Opened, Bytes, Ended, Crash}
+use Rattle.world_base.specs.declared.item.Item.TheVariants.{Peer, Tick, Opened, Bytes, Ended, Cut, Crash}
 use Rattle.world_base.specs.Connections.{closed, holding}
 use Rattle.world_base.specs.Core.{CoreState, Turn}
 use Rattle.world_base.specs.Lossy.{Account, joined, quietly}
-use Rattle.world_base.specs.LossyStep.{EndsSilent, Holds, LosesAllFailed, Opens, ReadsNext, TakesIn}
+use Rattle.world_base.specs.LossyStep.{Cuts, EndsSilent, Holds, LosesAllFailed, Opens, ReadsNext, TakesIn}
+use Rattle.world_base.specs.LossyStep.Cuts.{nothing_to_cut, cuts_log as cuts_log_at, forgets_cut}
 use Rattle.world_base.specs.LossyStep.Ends.{none_open, untold, told}
 use Rattle.world_base.specs.Reading.{changes, open_at, unread_of}
-use Rattle.world_base.specs.Step.{crashed, opens, settled}
+use Rattle.world_base.specs.Step.{crashed, opens, settled, with_cut}
 use Rattle.node_model.specs.Ends.{piece_on}
-use Rattle.node_model.specs.LossyMoves.{IsRunOn, LossesAreMoves, came_with, heard_with, turn_of}
-use Rattle.node_model.specs.LossyMoves.LossyMoves.{exactly, hears_losing, drops}
+use Rattle.node_model.specs.LossyMoves.{IsRunOn, LossesAreMoves, came_with, forgetful, heard_with, turn_of}
+use Rattle.node_model.specs.LossyMoves.LossyMoves.{exactly, hears_losing, forgets, drops}
 use Rattle.node_model.specs.Moves.{and_then}
-use Rattle.node_model.specs.Moves.Moves.{holds, opens_one, crashes, settles}
+use Rattle.node_model.specs.Moves.Moves.{holds, opens_one, cuts_log, crashes, settles}
 use Rattle.node_model.proofs.LossyRuns.{Calm, First, Given, Still, all_failed, calm_join, calm_move, first_calm, first_move, still_ends, still_lost, still_reads, still_repeated, still_silent}
 
 -- what was done is such a run, whatever calm one comes behind it
@@ -60,6 +61,14 @@ opened port now core did (inl is) =
     (before_calm core (quietly (opens port core)) (λ x. []) (λ x. refl) (calm_move (exactly (opens_one port)) (refl, refl, refl, λ x. refl)))
 opened port now core did (inr is) = before_is core (quietly core) did [] _ is (λ next tail. first_calm (λ x. []) (λ x. refl) tail)
 
+cut : (core : CoreState) (did : Account) → Cuts core did → Before core did [] (λ x. came_with x Cut core)
+cut core did (nothing_to_cut none is) = before_is core (quietly core) did [] _ is (λ next tail. first_calm (λ x. []) (λ x. refl) tail)
+cut core did (cuts_log_at can reads is) =
+    before_is core (quietly (with_cut core)) did [] _ is (λ next tail. first_move (exactly (cuts_log can)) (λ x. []) refl (λ x. refl) tail)
+cut core did (forgets_cut can is) =
+    before_is core (quietly (forgetful core)) did [] _ is
+    (before_calm core (quietly (forgetful core)) (λ x. []) (λ x. refl) (calm_move forgets (refl, refl, refl, λ x. refl)))
+
 taken_in : (item : Item) (core : CoreState) (did : Account) → TakesIn item core did → Before core did (heard_with item) (λ x. came_with x item core)
 taken_in (Peer message) core did drives = λ next tail. first_move (hears_losing (Receives message) did refl drives) (λ x. []) refl (λ x. refl) tail
 taken_in (Tick now) core did t =
@@ -72,6 +81,7 @@ taken_in (Bytes port piece now) core did t =
     (before_then core t.one t.two [] _ (held port piece now core t.one t.first)
     (still_repeated (unread_of (open_at port t.one.core)) (ReadsNext now port) (still_reads now port) t.one.core t.two t.next))
 taken_in (Ended port) core did runs = before_calm core did (λ x. []) (λ x. refl) (still_ends port core did runs)
+taken_in Cut core did c = cut core did c
 taken_in Crash core did is =
     before_is core (quietly (crashed core)) did [] _ is (λ next tail. first_move (exactly crashes) (λ x. []) refl (λ x. refl) tail)
 

@@ -27,7 +27,7 @@ use Rattle.node_model.specs.LossyLaws.{AreWhereItServes, LossyNamesKeepTheirBall
 use Rattle.node_model.specs.LossyMoves.{LossyMoves, halting, hears_in, proposal_of}
 use Rattle.node_model.specs.LossyMoves.LossyMoves.{exactly, hears_losing, first_losing, later_losing, tells_losing, forgets, halts, fails, unheard, drops}
 use Rattle.node_model.specs.Moves.{Moves, is_proposal}
-use Rattle.node_model.specs.Moves.Moves.{hears, opens_one, holds, reads_first, reads_later, closes, refuses, loses_one, loses_next, crashes, settles, hands}
+use Rattle.node_model.specs.Moves.Moves.{hears, opens_one, holds, reads_first, reads_later, closes, refuses, loses_one, loses_next, cuts_log, crashes, settles, hands}
 use Rattle.node_model.proofs.Kept.{left_true}
 use Rattle.node_model.proofs.LossyOutputs.{delivers_replica}
 use Rattle.node_model.proofs.LossyShuts.{Loses, driven, lossy_shuts, sent_in}
@@ -148,6 +148,7 @@ where_it_serves core of serving = of
 
 exact_keeps : (core : CoreState) (turn : Turn) (m : Moves core turn) → IsOrderly core → AreOfTheBallot core → AreWhereItServes turn.core
 exact_keeps core turn (hears input other) o of = exact_heard core input o of
+exact_keeps core turn (cuts_log can) o of = λ serving. of
 exact_keeps core turn crashes o of = λ serving. absurd (both_ways (serves (crashed core)) (and_false (is_active core.replica.state.role)) serving)
 exact_keeps core turn (opens_one port) o of = exact_calm core turn (opens_one port) o refl (where_it_serves core of)
 exact_keeps core turn (holds port piece) o of = exact_calm core turn (holds port piece) o refl (where_it_serves core of)

@@ -23,7 +23,7 @@ use Rattle.world_base.specs.Step.{next_name, opens, settled}
 use Rattle.world_base.specs.Turns.{changes_named, moved, proposes, quiet, served}
 use Rattle.node_model.specs.Keeping.{moves_replica}
 use Rattle.node_model.specs.Moves.{Moves}
-use Rattle.node_model.specs.Moves.Moves.{hears, opens_one, holds, reads_first, reads_later, closes, refuses, loses_one, loses_next, crashes, settles, hands}
+use Rattle.node_model.specs.Moves.Moves.{hears, opens_one, holds, reads_first, reads_later, closes, refuses, loses_one, loses_next, cuts_log, crashes, settles, hands}
 use Rattle.node_model.proofs.ReplicaStays.{Same, proposed_same}
 use Rattle.node_model.proofs.ShutByChanges.{at_replica}
 
@@ -91,6 +91,7 @@ hands_replica port core = by (find (is_at port) core.connections)
 
 pub move_same : (core : CoreState) (turn : Turn) (m : Moves core turn) → moves_replica m ≡ false → Same core.replica.state turn.core.replica.state
 move_same core turn (hears input other) calm = absurd cc
+move_same core turn (cuts_log can) calm = absurd cc
 move_same core turn crashes calm = absurd cc
 move_same core turn (opens_one port) calm = same_replica core (opens port core) (opens_replica port core)
 move_same core turn (holds port piece) calm = same_replica core turn.core (at_replica port _ core)

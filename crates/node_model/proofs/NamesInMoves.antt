@@ -11,7 +11,7 @@ use Rattle.node_model.specs.Closed.{listed_named}
 use Rattle.node_model.specs.Ends.{IsOrderly}
 use Rattle.node_model.specs.Keeping.{AreOfTheBallot, moves_replica}
 use Rattle.node_model.specs.Moves.{Moves}
-use Rattle.node_model.specs.Moves.Moves.{hears, opens_one, holds, reads_first, reads_later, closes, refuses, loses_one, loses_next, crashes, settles, hands}
+use Rattle.node_model.specs.Moves.Moves.{hears, opens_one, holds, reads_first, reads_later, closes, refuses, loses_one, loses_next, cuts_log, crashes, settles, hands}
 use Rattle.node_model.proofs.Kept.{named}
 use Rattle.node_model.proofs.MovesOfReplica.{serves_same}
 use Rattle.node_model.proofs.OpenBehind.{found_front, handed_open, settled_open, shuts_open}
@@ -62,6 +62,7 @@ opened_of x port core d of same e lives (Some c) there' =
 pub move_of : (core : CoreState) (turn : Turn) (m : Moves core turn) → IsOrderly core → AreOfTheBallot core → Same core.replica.state turn.core.replica.state → moves_replica m ≡ false
     → (x : ConnectionName) (d : Connection) → listed_named x turn.core ≡ Some d → is_over d.stage ≡ false → (serves turn.core ≡ true) × (x.ballot ≡ turn.core.replica.state.joined)
 move_of core turn (hears input other) o of same calm x d e lives = absurd cc
+move_of core turn (cuts_log can) o of same calm x d e lives = absurd cc
 move_of core turn crashes o of same calm x d e lives = absurd cc
 move_of core turn (opens_one port) o of same calm x d e lives = opened_of x port core d of same e lives (listed_named x core) refl
 move_of core turn settles o of same calm x d e lives = let z = settled_open x core d o e lives in still_of x core (settled core) d of same z.1 lives

@@ -23,7 +23,7 @@ use Rattle.node_model.specs.Closed.{listed_named}
 use Rattle.node_model.specs.Ends.{IsOrderly, proposal_of}
 use Rattle.node_model.specs.Keeping.{AreOfTheBallot, NamesKeepTheirBallot}
 use Rattle.node_model.specs.Moves.{Moves}
-use Rattle.node_model.specs.Moves.Moves.{hears, opens_one, holds, reads_first, reads_later, closes, refuses, loses_one, loses_next, crashes, settles, hands}
+use Rattle.node_model.specs.Moves.Moves.{hears, opens_one, holds, reads_first, reads_later, closes, refuses, loses_one, loses_next, cuts_log, crashes, settles, hands}
 use Rattle.node_model.proofs.Views.{found_passes, view_of_changed}
 use Rattle.node_model.proofs.Kept.{left_true, live, named, stays_driven}
 use Rattle.node_model.proofs.MovesOfReplica.{move_same, moved_replica, settled_replica}
@@ -113,6 +113,7 @@ proposes_of core turn (opens_one port) o of x command i named' = elim i [ ]
 proposes_of core turn (holds port piece) o of x command i named' = elim i [ ]
 proposes_of core turn (closes port) o of x command i named' = elim i [ ]
 proposes_of core turn (refuses port c code at first is) o of x command i named' = elim i [ ]
+proposes_of core turn (cuts_log can) o of x command i named' = elim i [ ]
 proposes_of core turn crashes o of x command i named' = elim i [ ]
 proposes_of core turn settles o of x command i named' = elim i [ ]
 proposes_of core turn (hands port) o of x command i named' = elim i [ ]

@@ -16,19 +16,20 @@ use Rattle.broker_base.specs.Command.TheVariants as commands
 use Rattle.broker_base.specs.Output.{Output}
 use Rattle.world_base.specs.declared.Port.{Port}
 use Rattle.world_base.specs.declared.item.Item.{Item}
-use Rattle.world_base.specs.declared.item.Item.TheVariants.{Peer, Tick, Opened, Bytes, Ended, Crash}
+use Rattle.world_base.specs.declared.item.Item.TheVariants.{Peer, Tick, Opened, Bytes, Ended, Cut, Crash}
 use Rattle.world_base.specs.declared.Connection.{Connection}
 use Rattle.world_base.specs.Connections.{is_over, is_first, is_proposed, has_failed, is_at, is_open_at, asked, holding, left_with, closed, changed}
 use Rattle.world_base.specs.Core.{CoreState, Turn}
 use Rattle.world_base.specs.Reading.{changes, open_at, loses, loses_open, ends, asks, says, begins, reads, reads_of, reads_next, refused, unread_of}
-use Rattle.world_base.specs.Step.{node_step, acts_on, settled, takes_in}
+use Rattle.ballot.specs.Cutting.{can_cut}
+use Rattle.world_base.specs.Step.{node_step, acts_on, cuts, settled, takes_in, with_cut}
 use Rattle.world_base.specs.Failing.{loses_failed, loses_if}
 use Rattle.world_base.specs.KeepAlive.{ends_if, ends_silent, lowest_silent}
 use Rattle.world_base.specs.Turns.{quiet, proposes, drives, has_room, repeated}
 use Rattle.node_model.specs.Hearing.{DeedsHearAtFirst}
 use Rattle.node_model.specs.Moves.{Moves, Runs, Deed, and_then, done, DeedsAreMoves}
 use Rattle.node_model.specs.Moves.Deed.{takes, gives}
-use Rattle.node_model.specs.Moves.Moves.{hears, opens_one, holds, reads_first, reads_later, closes, refuses, loses_one, loses_next, crashes, settles, hands}
+use Rattle.node_model.specs.Moves.Moves.{hears, opens_one, holds, reads_first, reads_later, closes, refuses, loses_one, loses_next, cuts_log, crashes, settles, hands}
 use Rattle.node_model.specs.Moves.Runs.{rests, goes_on}
 use Rattle.node_model.proofs.PartsOfMoves.{BeginsWith, IsBare, IsBareMove, Part, begins_hearing, part_in, part_of}
 
@@ -226,6 +227,16 @@ failed_run : (core : CoreState) → Calm core (loses_failed core)
 unfolding loses_failed
 failed_run core = failed_runs core (find has_failed core.connections) refl
 
+-- ---- a cut
+
+cut_run : (core : CoreState) → First (part_of (takes Cut)) core (quiet (cuts core))
+unfolding cuts
+cut_run core = by (can_cut core.replica.state) refl
+  where
+    by : (b : Bool) → can_cut core.replica.state ≡ b → First (part_of (takes Cut)) core (quiet (if b then with_cut core else core))
+    by true can = first_move (cuts_log can)
+    by false cannot = calm_first rests tt
+
 -- ---- a step
 
 taken_in : (item : Item) (core : CoreState) → First (part_of (takes item)) core (takes_in item core)
@@ -239,6 +250,7 @@ taken_in (Bytes port piece now) core =
     (repeated_runs (reads_next now port) (next_runs now port) (unread_of (open_at port (changes port (holding piece) core)))
     (changes port (holding piece) core))
 taken_in (Ended port) core = let r = ends_run port core in calm_first r.0 r.1
+taken_in Cut core = cut_run core
 taken_in Crash core = first_move crashes
 
 acted_on : (item : Item) (core : CoreState) → First (part_of (takes item)) core (acts_on item core)

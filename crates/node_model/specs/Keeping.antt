@@ -9,30 +9,32 @@ use Rattle.story.specs.Story.{is_packet_of}
 use Rattle.world_base.specs.declared.Connection.{Connection}
 use Rattle.world_base.specs.Connections.{is_over}
 use Rattle.world_base.specs.Core.{CoreState, Turn, opening_core, serves}
-use Rattle.world_base.specs.Step.{crashed, settled}
+use Rattle.world_base.specs.Step.{crashed, settled, with_cut}
 use Rattle.world_base.specs.Turns.{drives}
 use Rattle.node_model.specs.Closed.{listed_named}
 use Rattle.node_model.specs.Ends.{IsOrderly, proposal_of}
 use Rattle.node_model.specs.Moves.{Moves}
-use Rattle.node_model.specs.Moves.Moves.{hears, crashes}
+use Rattle.node_model.specs.Moves.Moves.{hears, cuts_log, crashes}
 
 -- each open connection has a name of the ballot that the node leads as its active primary
 pub record AreOfTheBallot (core : CoreState) : Type 0 where
   pub each : (x : ConnectionName) (c : Connection) → listed_named x core ≡ Some c → is_over c.stage ≡ false →
       (serves core ≡ true) × (x.ballot ≡ core.replica.state.joined)
 
--- a move in which the replica hears something, or stops
+-- a move in which the replica hears something, cuts its log, or stops
 abbrev pub moves_replica : {core : CoreState} {turn : Turn} → Moves core turn → Bool
 moves_replica (hears input other) = true
+moves_replica (cuts_log can) = true
 moves_replica crashes = true
 moves_replica _ = false
 
--- So it is from the opening on. Each move keeps it, but that in which the replica hears something, or stops, keeps it with
+-- So it is from the opening on. Each move keeps it, but that in which the replica hears something, cuts its log, or stops, keeps it with
 -- the settling behind it, as each step of a node ends. And then a node proposes under a name in the ballot of that name alone.
 pub record NamesKeepTheirBallot : Type 0 where
   pub opens : (id : ℕ) (config : Config) → AreOfTheBallot (opening_core id config)
   pub moves : (core : CoreState) (turn : Turn) (m : Moves core turn) → IsOrderly core → moves_replica m ≡ false → AreOfTheBallot core → AreOfTheBallot turn.core
   pub hears : (core : CoreState) (input : Input Command) → IsOrderly core → AreOfTheBallot core → AreOfTheBallot (settled (drives input core).core)
+  pub cuts : (core : CoreState) → IsOrderly core → AreOfTheBallot core → AreOfTheBallot (settled (with_cut core))
   pub stops : (core : CoreState) → IsOrderly core → AreOfTheBallot (settled (crashed core))
   pub proposes : (core : CoreState) (turn : Turn) (m : Moves core turn) → IsOrderly core → AreOfTheBallot core → (x : ConnectionName) (command : Command) →
       In command (proposal_of m) → is_packet_of command x ≡ true → x.ballot ≡ core.replica.state.joined

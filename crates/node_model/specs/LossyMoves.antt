@@ -28,7 +28,7 @@ use Rattle.node_model.specs.Ends.{came_on as exact_came, is_read as exact_read, 
 use Rattle.node_model.specs.Keeping.{moves_replica}
 use Rattle.node_model.specs.Moves.{Moves, and_then, is_proposal}
 use Rattle.node_model.specs.Moves.Deed.{takes, gives}
-use Rattle.node_model.specs.Moves.Moves.{hears}
+use Rattle.node_model.specs.Moves.Moves.{hears, cuts_log}
 use Rattle.node_model.specs.Puts.{given_in as exact_given, is_handing as exact_handing}
 
 -- ---- one move
@@ -171,6 +171,16 @@ abbrev pub HandsNothing : {core : CoreState} {turn : Turn} → LossyRuns core tu
 HandsNothing rests = Unit {0}
 HandsNothing (goes_on m run) = (is_handing m ≡ false) × HandsNothing run
 
+-- the bytes to which a log is cut stand for its machine
+abbrev pub Freezes : {core : CoreState} {turn : Turn} → LossyMoves core turn → Type 0
+Freezes {core = core} (exactly (cuts_log can)) =
+    rules.thawed (rules.frozen core.replica.state.machine) ≡ Some core.replica.state.machine
+Freezes _ = Unit {0}
+
+abbrev pub AllFreeze : {core : CoreState} {turn : Turn} → LossyRuns core turn → Type 0
+AllFreeze rests = Unit {0}
+AllFreeze (goes_on m run) = Freezes m × AllFreeze run
+
 -- ---- what a node does at the wish of others
 
 -- what the replica hears with an item, and the bytes that come with it on the connection of a name
@@ -184,13 +194,14 @@ came_with x (Bytes port piece now) core = piece_on x piece (open_at port core)
 came_with x _ core = []
 
 -- Each step that takes an item with losses is a run of such moves: the replica hears what comes with the item, in the first of them,
--- on each connection the bytes of the item come, and nothing is handed over.
+-- on each connection the bytes of the item come, nothing is handed over, and what is frozen can be read.
 pub record IsRunOn (item : Item) (core : CoreState) (turn : Turn) : Type 0 where
   pub run : LossyRuns core turn
   pub first : HearsAtFirst run
   pub hears : all_inputs run ≡ heard_with item
   pub bytes : (x : ConnectionName) → bytes_on x run ≡ came_with x item core
   pub hands : HandsNothing run
+  pub freezes : AllFreeze run
 
 abbrev pub LossesAreMoves : Type 0
 LossesAreMoves = (item : Item) (core later : CoreState) (messages : List (Effect Command Output)) → RunsOn item core later messages →

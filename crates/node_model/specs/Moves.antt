@@ -7,6 +7,7 @@ use Rattle.packet.specs.declared.packet.Packet.{Packet}
 use Rattle.packet.specs.declared.packet.Packet.TheVariants as packets
 use Rattle.packet.specs.declared.connect.Connect.{Connect}
 use Rattle.packet.specs.Verdict.{verdict}
+use Rattle.ballot.specs.Cutting.{can_cut}
 use Rattle.ballot.specs.Protocol.{Input}
 use Rattle.ballot.specs.Protocol.Input.{Receives, Proposes, Ticks}
 use Rattle.broker_base.specs.Command.{Command}
@@ -19,7 +20,7 @@ use Rattle.world_base.specs.Core.{CoreState, Turn}
 use Rattle.world_base.specs.Failing.{closes_failed}
 use Rattle.world_base.specs.Handing.{hands_over}
 use Rattle.world_base.specs.Reading.{changes, open_at, refused}
-use Rattle.world_base.specs.Step.{node_step, opens, settled, crashed}
+use Rattle.world_base.specs.Step.{node_step, opens, settled, crashed, with_cut}
 use Rattle.world_base.specs.Turns.{quiet, proposes, drives, has_room}
 
 -- what a client's packets do not do to a replica
@@ -54,6 +55,8 @@ pub data Moves (core : CoreState) : Turn → Type 0 where
   -- so it is to hear of one that was closed since there was no room for what was put out on it
   loses_next : (c : Connection) → find has_failed core.connections ≡ Some c →
       Moves core (proposes (commands.Lost c.name) (closes_failed core))
+  -- the replica cuts its log
+  cuts_log : can_cut core.replica.state ≡ true → Moves core (quiet (with_cut core))
   -- the node crashes
   crashes : Moves core (quiet (crashed core))
   -- where it serves clients no more all connections are closed; closed ones with nothing to hand over are gone

@@ -11,7 +11,7 @@ use Rattle.connection_model.specs.world_base.Reading.{open_at}
 use Rattle.connection_model.specs.node_model.Ends.{bytes_on, came_on, piece_on}
 use Rattle.connection_model.specs.node_model.Moves.{Deed, Moves, Runs, done}
 use Rattle.connection_model.specs.node_model.Moves.Deed.{takes, gives}
-use Rattle.connection_model.specs.node_model.Moves.Moves.{hears, opens_one, holds, reads_first, reads_later, closes, refuses, loses_one, loses_next, crashes, settles, hands}
+use Rattle.connection_model.specs.node_model.Moves.Moves.{hears, opens_one, holds, reads_first, reads_later, closes, refuses, loses_one, loses_next, cuts_log, crashes, settles, hands}
 use Rattle.connection_model.specs.node_model.Moves.Runs.{rests, goes_on}
 use Rattle.connection_model.proofs.of_node_model.PartsOfMoves.{BeginsWith, IsBare, Part, begins_hearing, part_in, part_of}
 use Rattle.connection_model.proofs.of_node_model.PartsOfMoves.Part.{heard, bytes_in, bytes_out}
@@ -69,6 +69,7 @@ move_parts x (closes port) = (refl, refl)
 move_parts x (refuses port c code at first is) = (refl, refl)
 move_parts x (loses_one port c at proposed) = (refl, refl)
 move_parts x (loses_next c at) = (refl, refl)
+move_parts x (cuts_log can) = (refl, refl)
 move_parts x crashes = (refl, refl)
 move_parts x settles = (refl, refl)
 move_parts x (hands port) = (refl, refl)

@@ -10,8 +10,8 @@ use Rattle.broker_base.specs.Command.{Command}
 use Rattle.broker_base.specs.Output.{Output}
 use Rattle.broker_base.specs.Connection.{ConnectionName}
 use Rattle.agreement.specs.MasterState.{refusal}
-use Rattle.agreement.specs.Past.{Moment, Past}
-use Rattle.agreement.proofs.Agreed.OnePrimary.{one_primary_a_ballot}
+use Rattle.connection_model.specs.group_model.snapshots.Past.{Moment, Past}
+use Rattle.connection_model.proofs.of_group_model.of_snapshots.PastsAgree.{one_primary_a_ballot}
 use Rattle.connection_model.specs.world_base.declared.Connection.{Connection}
 use Rattle.connection_model.specs.world_base.Core.{CoreState, Turn, rules}
 use Rattle.connection_model.specs.world_base.Turns.{quiet}

@@ -17,7 +17,7 @@ use Rattle.story.specs.Story.{Story, Happens}
 use Rattle.model.specs.Goes.{is_call}
 use Rattle.connection_model.specs.world_base.declared.Connection.{Connection as NodesEnd}
 use Rattle.connection_model.specs.world_base.declared.Port.{Port}
-use Rattle.connection_model.specs.world_base.declared.item.Item.TheVariants.{Peer, Tick, Opened, Bytes, Ended, Crash}
+use Rattle.connection_model.specs.world_base.declared.item.Item.TheVariants.{Peer, Tick, Opened, Bytes, Ended, Cut, Crash}
 use Rattle.connection_model.specs.world_base.Core.{CoreState, Turn}
 use Rattle.connection_model.specs.world_base.Handing.{listed_at}
 use Rattle.connection_model.specs.world_base.Reading.{open_at}
@@ -71,6 +71,7 @@ is_apart None = true
 is_apart (Some (n, takes (Peer message))) = true
 is_apart (Some (n, takes (Tick now))) = true
 is_apart (Some (n, takes (Ended port))) = true
+is_apart (Some (n, takes Cut)) = true
 is_apart (Some (n, takes Crash)) = true
 is_apart (Some (n, takes (Opened port now))) = false
 is_apart (Some (n, takes (Bytes port piece now))) = false

@@ -7,7 +7,7 @@ use Rattle.broker_base.specs.Command.{Command}
 use Rattle.broker_base.specs.Place.{Client}
 use Rattle.lists.specs.Lists.{Each, IsPrefixOf}
 use Rattle.story.specs.Sides.{Connection}
-use Rattle.agreement.specs.Past.{IsAgreed}
+use Rattle.connection_model.specs.group_model.snapshots.Past.{IsAgreed}
 use Rattle.connection_model.specs.node_model.Ends.{commands_of}
 use Rattle.connection_model.specs.node_model.Puts.{spelled}
 use Rattle.connection_model.specs.group_model.Group.{moment_of}
