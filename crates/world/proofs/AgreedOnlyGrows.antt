@@ -4,8 +4,8 @@ use Rattle.lists.specs.Lists.{IsPrefixOf}
 use Rattle.lists.specs.Lists.In.{here}
 use Rattle.lists.proofs.Beginnings.{prefix_same, prefix_then}
 use Rattle.ballot.specs.Config.{Config}
-use Rattle.agreement.specs.Past.{IsAgreed, Moment}
-use Rattle.agreement.proofs.Agreed.PastAgrees.{has_agreed, nodes_agree}
+use Rattle.exact_model.specs.group_model.snapshots.Past.{IsAgreed, Moment}
+use Rattle.exact_model.proofs.of_group_model.of_snapshots.PastsAgree.{has_agreed, nodes_agree}
 use Rattle.broker_base.specs.Command.{Command}
 use Rattle.broker_base.specs.Output.{Output}
 use Rattle.broker_base.specs.State.{State}

@@ -1,7 +1,7 @@
 -- Steps of nodes, one behind the other.
 use Rattle.std.proofs.Common.{◌≡◌, ◌<◌, ◌≤◌, ◌^◌, ◌-◌, ℕ, sym, subst, arith}
 use Rattle.ballot.specs.Config.{Config}
-use Rattle.agreement.proofs.Agreed.PastAgrees.{has_agreed, nodes_agree}
+use Rattle.exact_model.proofs.of_group_model.of_snapshots.PastsAgree.{has_agreed, nodes_agree}
 use Rattle.world_base.specs.Core.{rules}
 use Rattle.exact_model.specs.group_model.Group.{Group, moment_of}
 use Rattle.exact_model.specs.group_model.Goes.{Went}

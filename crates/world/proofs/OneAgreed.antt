@@ -4,7 +4,8 @@ use Rattle.std.proofs.lemmas.List.{append-nil, length-append}
 use Rattle.lists.specs.Lists.{IsPrefixOf}
 use Rattle.lists.proofs.Beginnings.{prefix_length}
 use Rattle.ballot.specs.Config.{Config}
-use Rattle.agreement.specs.Past.{IsAgreed, IsChosen, Moment, WasActive}
+use Rattle.exact_model.specs.group_model.snapshots.Past.{IsAgreed, Moment}
+use Rattle.agreement.specs.Past.{IsChosen, WasActive}
 use Rattle.broker_base.specs.Command.{Command}
 use Rattle.broker_base.specs.Output.{Output}
 use Rattle.broker_base.specs.Place.{Client}

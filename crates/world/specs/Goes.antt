@@ -3,9 +3,8 @@ use Rattle.std.specs.Prelude.{◌≡◌, ◌⊎◌, ◌<◌, ◌≤◌, ◌^◌,
 use Rattle.lists.specs.Lists.{IsPrefixOf}
 use Rattle.ballot.specs.Losses.{one_more}
 use Rattle.ballot.specs.Config.{Config}
-use Rattle.agreement.specs.Agreement.{Agrees, Holds}
-use Rattle.agreement.specs.Leaving.{LeftInOrder}
-use Rattle.agreement.specs.Past.{IsAgreed}
+use Rattle.exact_model.specs.group_model.snapshots.Agreeing.{Agrees, Holds, LeftInOrder}
+use Rattle.exact_model.specs.group_model.snapshots.Past.{IsAgreed}
 use Rattle.broker_base.specs.Command.{Command}
 use Rattle.world_base.specs.Core.{rules}
 use Rattle.exact_model.specs.group_model.Group.{Group, moment_of}

@@ -16,9 +16,9 @@ use Rattle.master.specs.declared.event.Idle.{Idle}
 use Rattle.world_base.specs.Core.{CountedCore, serves}
 use Rattle.world_base.specs.declared.item.Item.TheVariants as items
 use Rattle.world_base.specs.declared.Port.{Port}
-use Rattle.world_nodes.specs.Goes.{Comes, ComesToNobody, behind_giving, node_of, running}
+use Rattle.world_nodes.specs.Goes.{Comes, ComesToNobody, CutsExactly, behind_giving, cutting, node_of, running}
 use Rattle.world_nodes.specs.Nodes.{NodesState, StandsFor}
-use Rattle.world_nodes.specs.Steps.{ComesIn, GivesIn, TakesIn}
+use Rattle.world_nodes.specs.Steps.{ComesIn, CutsIn, GivesIn, TakesIn}
 use Rattle.world_pipes.specs.declared.sending.Sending.{Sending}
 use Rattle.world_pipes.specs.declared.sending.Sending.TheVariants as sendings
 use Rattle.world_pipes.specs.declared.way.Way.{Way}
@@ -82,6 +82,7 @@ abbrev pub CannotHappen : Event → WorldState → Type 0
 CannotHappen (events.Assign config) w = refusal w.nodes.master config ≡ None → ⊥
 CannotHappen (events.Deliver number) w = ComesToNobody (slice_get w.nodes.sent number) w.nodes
 CannotHappen (events.Tick node) w = running w.nodes.nodes node ≡ None
+CannotHappen (events.Cut node) w = cutting w.nodes.nodes node ≡ None
 CannotHappen (events.Crash node) w = running w.nodes.nodes node ≡ None
 CannotHappen (events.Open name node) w = IsTaken (core_named name w.clients) ⊎ (is_serving (node_of w.nodes.nodes node) ≡ false)
 CannotHappen (events.CarryUp number count) w =
@@ -105,6 +106,11 @@ Assigns false config old new = GivesIn config old new
 abbrev pub Delivers : Bool → Option (ℕ × Message Command) → NodesState → NodesState → Type 0
 Delivers true message old new = Comes message old new
 Delivers false message old new = ComesIn message old new
+
+-- a log is cut
+abbrev pub CutsLog : Bool → ℕ → NodesState → NodesState → Type 0
+CutsLog true node old new = CutsExactly node old new
+CutsLog false node old new = CutsIn node old new
 
 -- 0 is the master
 abbrev pub receiver_of : Option (ℕ × Message Command) → ℕ
@@ -178,6 +184,8 @@ Does whole (events.Deliver number) old new =
     (between : NodesState) × Delivers whole (slice_get old.nodes.sent number) old.nodes between
     × Gathers whole (receiver_of (slice_get old.nodes.sent number)) (record old { nodes = between }) new
 Does whole (events.Tick node) old new = TakesItem whole node (items.Tick 0) old new
+Does whole (events.Cut node) old new =
+    (between : NodesState) × CutsLog whole node old.nodes between × Gathers whole node (record old { nodes = between }) new
 Does whole (events.Crash node) old new = TakesItem whole node items.Crash old new
 Does whole (events.Open name node) old new = OpensWhere whole name node old new
 Does whole (events.CarryUp number count) old new =

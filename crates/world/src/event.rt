@@ -17,6 +17,9 @@ pub enum Event {
     Deliver(u64),
     /// Time passes at a node. Idle where it is unknown or has stopped.
     Tick(u8),
+    /// A node cuts its log: a snapshot takes the place of the commands that it has applied. Idle where the node is
+    /// unknown or has stopped, or has applied none since its last cut.
+    Cut(u8),
     /// A node stops for good, and closes its connections. Idle where it is unknown or has stopped.
     Crash(u8),
     /// A client opens a connection to a node. Idle where there is no such client, where it has a

@@ -42,6 +42,16 @@ impl World {
         Ok(())
     }
 
+    pub(crate) fn cut(&mut self, node: u8) -> Result<(), Idle>
+        ensures goes { GoesOn self.old self.new }
+        ensures meets { Meets (Event.Cut node) self.old result self.new }
+        ensures still { self.new.losses ≡ self.old.losses }
+    {
+        self.nodes.cut(node)?;
+        self.gather(node);
+        Ok(())
+    }
+
     pub(crate) fn crash(&mut self, node: u8) -> Result<(), Idle>
         ensures goes { GoesOn self.old self.new }
         ensures meets { Meets (Event.Crash node) self.old result self.new }

@@ -1,6 +1,6 @@
 // What is read of the agreed list, and of a world's clients and connections.
 
-ghost use Rattle.std.specs.Prelude.{ℕ, List, ◌≡◌, ◌<◌, ◌-◌, length, [], None, Some, IfSome, slice_get};
+ghost use Rattle.std.specs.Prelude.{ℕ, List, ◌≡◌, ◌<◌, ◌-◌, ◌++◌, length, [], None, Some, IfSome, slice_get};
 ghost use Rattle.std.specs.List.{position};
 ghost use Rattle.ballot.specs.Config.{Config};
 ghost use Rattle.broker_base.specs.Place.{Client};
@@ -27,17 +27,18 @@ impl WorldClient {
 }
 
 impl World {
-    /// The list on which the nodes agree: the longest that is chosen in a ballot that was active. It takes no longer,
-    /// however much was sent.
-    pub fn agreed(&self) -> &[Command]
-        ensures agreed { AgreeOn self.now.nodes result.now }
+    /// Returns the list on which the nodes agree, the longest that is chosen in a ballot that was active, in two parts:
+    /// the second goes on where the first ends. It takes no longer, however much was sent.
+    pub fn agreed(&self) -> (&[Command], &[Command])
+        ensures agreed { AgreeOn self.now.nodes (result.0.now ++ result.1.now) }
 
         // The nodes that are reached agree on it, and by it each client of a world that is reached is exact.
         ensures reached { (nodes : ℕ) (config : Config)
-            (reached : AreReached nodes config self.now.nodes) → result.now ≡ reached.list }
+            (reached : AreReached nodes config self.now.nodes) →
+            result.0.now ++ result.1.now ≡ reached.list }
         ensures exact { (nodes : ℕ) (config : Config) (clients : List Client)
             (reached : IsReached nodes config clients self.now) →
-            result.now ≡ reached.exact.agreed }
+            result.0.now ++ result.1.now ≡ reached.exact.agreed }
     {
         self.nodes.agreed()
     }

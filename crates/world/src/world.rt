@@ -204,6 +204,7 @@ impl World {
             Event::Assign(config) => self.assign(config),
             Event::Deliver(number) => self.deliver(*number),
             Event::Tick(node) => self.tick(*node),
+            Event::Cut(node) => self.cut(*node),
             Event::Crash(node) => self.crash(*node),
             Event::Open(client, node) => self.open(client, *node),
             Event::CarryUp(connection, count) => self.carry_up(*connection, *count),

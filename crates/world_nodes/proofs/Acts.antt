@@ -7,11 +7,11 @@ use Rattle.ballot.specs.Effect.{Effect}
 use Rattle.ballot.specs.Losses.{one_more}
 use Rattle.ballot.specs.Message.{Message}
 use Rattle.lists.specs.Lists.{In}
-use Rattle.agreement.specs.World.{messages}
+use Rattle.master.specs.snapshots.World.{messages}
 use Rattle.broker_base.specs.Command.{Command}
 use Rattle.broker_base.specs.Output.{Output}
 use Rattle.world_base.specs.declared.item.Item.{Item}
-use Rattle.world_base.specs.declared.item.Item.TheVariants.{Peer, Tick, Opened, Bytes, Ended, Crash}
+use Rattle.world_base.specs.declared.item.Item.TheVariants.{Peer, Tick, Opened, Bytes, Ended, Cut, Crash}
 use Rattle.world_base.specs.Core.{CoreState, CountedCore}
 use Rattle.world_base.specs.Step.{node_step}
 use Rattle.world_model.specs.node_model.Moves.{Deed, done}
@@ -78,6 +78,7 @@ deed_sent old (suc n) at (Tick now) place positive sent g s = tt
 deed_sent old (suc n) at (Opened port now) place positive sent g s = tt
 deed_sent old (suc n) at (Bytes port piece now) place positive sent g s = tt
 deed_sent old (suc n) at (Ended port) place positive sent g s = tt
+deed_sent old (suc n) at Cut place positive sent g s = tt
 deed_sent old (suc n) at Crash place positive sent g s = tt
 
 -- the nodes behind the turn of one

@@ -2,10 +2,10 @@
 use Rattle.std.proofs.Common.{◌≡◌, ◌-◌, ℕ, Bool, List, ◌++◌, Some, refl, sym, ap, ◌∙◌, subst}
 use Rattle.std.specs.Prelude.{slice_get, slice_set}
 use Rattle.ballot.specs.Message.{Message}
-use Rattle.agreement.specs.World.{messages}
+use Rattle.master.specs.snapshots.World.{messages}
 use Rattle.broker_base.specs.Command.{Command}
 use Rattle.world_base.specs.declared.item.Item.{Item}
-use Rattle.world_base.specs.declared.item.Item.TheVariants.{Peer, Tick, Opened, Bytes, Ended, Crash}
+use Rattle.world_base.specs.declared.item.Item.TheVariants.{Peer, Tick, Opened, Bytes, Ended, Cut, Crash}
 use Rattle.world_base.specs.Core.{CoreState, CountedCore, Turn}
 use Rattle.world_model.specs.node_model.LossyMoves.{IsRunOn, heard_with}
 use Rattle.world_model.specs.node_model.Moves.Deed.{takes}
@@ -27,6 +27,7 @@ were_sent g at (Tick now) sent = (tt, tt)
 were_sent g at (Opened port now) sent = tt
 were_sent g at (Bytes port piece now) sent = tt
 were_sent g at (Ended port) sent = tt
+were_sent g at Cut sent = tt
 were_sent g at Crash sent = tt
 
 -- a node that took an item in, whether memory sufficed or not

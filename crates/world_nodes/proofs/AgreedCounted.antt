@@ -6,7 +6,7 @@ use Rattle.lists.specs.Lists.{In}
 use Rattle.ballot.specs.Config.{Config}
 use Rattle.ballot.specs.Message.{Message}
 use Rattle.agreement.specs.MasterState.{MasterState}
-use Rattle.agreement.specs.Past.{IsAgreed, Moment, Past}
+use Rattle.master.specs.snapshots.Past.{IsAgreed, Moment, Past}
 use Rattle.agreement.specs.World.{log_of}
 use Rattle.broker_base.specs.Command.{Command}
 use Rattle.broker_base.specs.Output.{Output}

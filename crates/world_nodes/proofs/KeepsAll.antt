@@ -7,7 +7,7 @@ use Rattle.ballot.specs.Effect.TheVariants.{To}
 use Rattle.ballot.specs.Losses.{Thinned}
 use Rattle.ballot.specs.Losses.Thinned.{none, keeps, loses}
 use Rattle.ballot.specs.Message.{Message}
-use Rattle.agreement.specs.World.{messages}
+use Rattle.master.specs.snapshots.World.{messages}
 use Rattle.agreement.proofs.Effects.{messages-append}
 use Rattle.broker_base.specs.Command.{Command}
 use Rattle.broker_base.specs.Output.{Output}

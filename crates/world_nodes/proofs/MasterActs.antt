@@ -9,7 +9,8 @@ use Rattle.ballot.specs.Body.TheVariants.{NewBallot, Join, State, Install, Insta
 use Rattle.ballot.specs.Config.{Config}
 use Rattle.ballot.specs.Losses.{one_more}
 use Rattle.ballot.specs.Message.{Message}
-use Rattle.agreement.specs.MasterState.{AssignRefusal, MasterState, activated, activating, assigned, assigning, is_granted, master_behind, refusal}
+use Rattle.agreement.specs.MasterState.{AssignRefusal, MasterState, activating, assigning, is_granted, master_behind, refusal}
+use Rattle.master.specs.snapshots.Masters.{activated, assigned}
 use Rattle.broker_base.specs.Command.{Command}
 use Rattle.world_base.specs.declared.item.Item.TheVariants.{Peer}
 use Rattle.world_model.specs.node_model.Moves.Deed.{takes}

@@ -1,7 +1,7 @@
 -- The list on which nodes agree.
 use Rattle.std.specs.Prelude.{◌≡◌, ℕ, List, ◌∷◌, length}
 use Rattle.ballot.specs.Config.{Config}
-use Rattle.agreement.specs.Past.{IsAgreed, Moment, Past}
+use Rattle.master.specs.snapshots.Past.{IsAgreed, Moment, Past}
 use Rattle.broker_base.specs.Command.{Command}
 use Rattle.broker_base.specs.Output.{Output}
 use Rattle.broker_base.specs.State.{State}

@@ -5,13 +5,14 @@ use Rattle.ballot.specs.Body.TheVariants.{Activate}
 use Rattle.ballot.specs.Config.{Config}
 use Rattle.ballot.specs.Message.{Message}
 use Rattle.ballot.specs.Sending.{master}
-use Rattle.agreement.specs.MasterState.{MasterOutcome, activated, assigned}
-use Rattle.agreement.specs.World.{messages}
+use Rattle.ballot.specs.Cutting.{can_cut}
+use Rattle.master.specs.snapshots.Masters.{MasterOutcome, activated, assigned}
+use Rattle.master.specs.snapshots.World.{messages, recorded}
 use Rattle.broker_base.specs.Command.{Command}
 use Rattle.world_base.specs.Core.{CountedCore}
 use Rattle.world_base.specs.declared.Handed.{Handed}
 use Rattle.world_base.specs.declared.item.Item.{Item}
-use Rattle.world_base.specs.declared.item.Item.TheVariants.{Peer}
+use Rattle.world_base.specs.declared.item.Item.TheVariants.{Cut, Peer}
 use Rattle.world_base.specs.declared.Port.{Port}
 use Rattle.world_base.specs.Handing.{answer_of, bytes_of, listed_at}
 use Rattle.world_model.specs.node_model.Moves.{Deed, done}
@@ -36,6 +37,14 @@ abbrev pub node_of : List CountedCore → ℕ → Option CountedCore
 node_of nodes zero = None
 node_of nodes (suc at) = slice_get nodes at
 
+-- .. and if it runs and has something to cut
+abbrev pub unless_whole : Option CountedCore → Option CountedCore
+unless_whole None = None
+unless_whole (Some c) = if can_cut c.core.replica.state then Some c else None
+
+abbrev pub cutting : List CountedCore → ℕ → Option CountedCore
+cutting nodes node = unless_whole (running nodes node)
+
 -- ---- a deed of a node
 
 -- the nodes behind a deed of the one at this place
@@ -52,6 +61,14 @@ pub record TakesExactly (node : ℕ) (item : Item) (old new : NodesState) : Type
   pub core : CountedCore
   pub runs : running old.nodes node ≡ Some core
   pub is : new ≡ behind_deed (node - 1) core (takes item) old
+
+-- The node of this number had something to cut, and took just that item; what it had applied is in the record.
+pub record CutsExactly (node : ℕ) (old new : NodesState) : Type 0 where
+  pub core : CountedCore
+  pub cuts : cutting old.nodes node ≡ Some core
+  pub is : new ≡ record (behind_deed (node - 1) core (takes Cut) old) {
+    archive = recorded old.archive core.core.replica.state;
+  }
 
 -- the node of this number is there, running or not, and handed over what it put out for a port
 pub record GivesExactly (node : ℕ) (port : Port) (old new : NodesState) : Type 0 where

@@ -1,7 +1,9 @@
 -- What the helpers of nodes say.
 use Rattle.std.specs.Prelude.{◌≡◌, ◌<◌, ℕ, Bool, true, ◌-◌, ◌++◌, List, Some, length, map, slice_get}
 use Rattle.lists.specs.Lists.{In}
-use Rattle.agreement.specs.World.{log_of, messages}
+use Rattle.ballot.specs.Replica.{ReplicaState}
+use Rattle.broker_base.specs.State.{State}
+use Rattle.master.specs.snapshots.World.{messages}
 use Rattle.ballot.specs.Effect.{Effect}
 use Rattle.ballot.specs.Losses.{Thinned}
 use Rattle.ballot.specs.Message.{Message}
@@ -12,7 +14,7 @@ use Rattle.world_base.specs.declared.item.Item.TheVariants.{Peer}
 use Rattle.world_base.specs.Core.{CountedCore, rules}
 use Rattle.world_base.specs.LossyStep.{RunsOn}
 use Rattle.world_base.specs.Step.{node_step}
-use Rattle.master.specs.Inside.{IsGroup, ToldIn}
+use Rattle.master.specs.Inside.{HoldsAt, IsGroup, ToldIn, held_by}
 use Rattle.world_model.specs.group_model.Group.{Group, moment_of, replica_of}
 use Rattle.world_nodes.specs.Goes.{running}
 use Rattle.world_nodes.specs.Nodes.{NodesState, StandsFor, cores_of}
@@ -54,6 +56,10 @@ pub record HaveCounted (n : NodesState) (told next : ToldIn) : Type 0 where
   pub stands : StandsFor group n
   pub counts : IsGroup rules (moment_of group) told next
 
--- the log of the node of a number; empty where it is not there
-abbrev pub log_at : List CountedCore → ℕ → List Command
-log_at nodes node = log_of (slice_get (map replica_of (cores_of nodes)) (node - 1))
+-- the replicas of nodes
+abbrev pub replicas_of : List CountedCore → List (ReplicaState State Command)
+replicas_of nodes = map replica_of (cores_of nodes)
+
+-- how long the log of the node of a number is; 0 where it is not there
+abbrev pub held_at : List CountedCore → ℕ → ℕ
+held_at nodes node = held_by (slice_get (replicas_of nodes) (node - 1))

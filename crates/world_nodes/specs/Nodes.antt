@@ -6,20 +6,22 @@ use Rattle.broker_base.specs.Command.{Command}
 use Rattle.world_base.specs.Core.{CoreState, CountedCore}
 use Rattle.world_model.specs.group_model.Group.{Group}
 
--- Node n + 1 stands at place n; all messages that were ever sent stay, each with its receiver. Losses count the steps in
--- which memory was wanting, up to 2^64 - 1.
+-- Node n + 1 stands at place n; all messages that were ever sent stay, each with its receiver. The record has the places
+-- below the bases of all logs. Losses count the steps in which memory was wanting, up to 2^64 - 1.
 pub record NodesState : Type 0 where
   pub master : MasterState
   pub nodes : List CountedCore
   pub sent : List (ℕ × Message Command)
+  pub archive : List Command
   pub losses : ℕ
 
 abbrev pub cores_of : List CountedCore → List CoreState
 cores_of nodes = map (λ (c : CountedCore). c.core) nodes
 
--- A group stands for nodes: it has their master, what each of them keeps, and their messages. Which outputs its replicas
+-- A group stands for nodes: it has their master, what each of them keeps, their messages and their record. Which outputs its replicas
 -- gave before is history: no field keeps it.
 pub record StandsFor (g : Group) (n : NodesState) : Type 0 where
   pub master : g.master ≡ n.master
   pub nodes : g.nodes ≡ cores_of n.nodes
   pub sent : g.sent ≡ n.sent
+  pub archive : g.archive ≡ n.archive

@@ -1,6 +1,6 @@
 -- Steps of nodes in which memory may have been wanting, and how these are counted.
-use Rattle.std.specs.Prelude.{◌≡◌, ◌⊎◌, ◌<◌, ◌^◌, ◌-◌, ◌++◌, ℕ, zero, suc, List, Option, Some, None, slice_set}
-use Rattle.agreement.specs.World.{messages}
+use Rattle.std.specs.Prelude.{◌≡◌, ◌⊎◌, ◌<◌, ◌^◌, ◌-◌, ◌++◌, ℕ, zero, suc, nat_lt, if◌then◌else◌, List, Option, Some, None, slice_set}
+use Rattle.master.specs.snapshots.World.{messages, recorded}
 use Rattle.ballot.specs.Effect.{Effect}
 use Rattle.ballot.specs.Body.{Body}
 use Rattle.ballot.specs.Body.TheVariants.{Activate}
@@ -12,14 +12,14 @@ use Rattle.broker_base.specs.Output.{Output}
 use Rattle.world_base.specs.declared.Handed.{Handed}
 use Rattle.world_base.specs.declared.Handed.TheVariants as answers
 use Rattle.world_base.specs.declared.item.Item.{Item}
-use Rattle.world_base.specs.declared.item.Item.TheVariants.{Peer}
+use Rattle.world_base.specs.declared.item.Item.TheVariants.{Cut, Peer}
 use Rattle.world_base.specs.declared.Port.{Port}
 use Rattle.world_base.specs.Core.{CountedCore}
 use Rattle.world_base.specs.LossyStep.{RunsOn}
 use Rattle.world_model.specs.node_model.Moves.{Deed}
 use Rattle.world_model.specs.node_model.Moves.Deed.{takes}
 use Rattle.world_model.specs.group_model.Group.{Group}
-use Rattle.world_nodes.specs.Goes.{Acts, AnswersFor, GivesExactly, GoesBy, HandsOver, behind_answer, behind_deed, behind_giving, running}
+use Rattle.world_nodes.specs.Goes.{Acts, AnswersFor, GivesExactly, GoesBy, HandsOver, behind_answer, behind_deed, behind_giving, cutting, running}
 use Rattle.world_nodes.specs.Nodes.{NodesState, StandsFor}
 
 -- the count is exact as long as it stands below its greatest number
@@ -44,11 +44,43 @@ pub record ActsWithLosses (at : ℕ) (item : Item) (core : CountedCore) (old new
     losses = one_more old.losses;
   }
 
+-- the record after a step in which a log may have been cut: one that was not cut leaves it as it was
+abbrev pub recorded_if_cut : List Command → CountedCore → CountedCore → List Command
+recorded_if_cut archive old new =
+    if nat_lt old.core.replica.state.log.base new.core.replica.state.log.base
+    then recorded archive old.core.replica.state
+    else archive
+
+-- The same of a node that takes a cut: where its log was cut, what it had applied is in the record.
+pub record CutsWithLosses (at : ℕ) (core : CountedCore) (old new : NodesState) : Type 0 where
+  pub node : CountedCore
+  pub wanted : List (Effect Command Output)
+  pub kept : List (Effect Command Output)
+  pub runs : RunsOn Cut core.core node.core wanted
+  pub thinned : Thinned kept wanted
+  pub is : new ≡ record old {
+    nodes = slice_set old.nodes at node;
+    sent = old.sent ++ messages kept;
+    archive = recorded_if_cut old.archive core node;
+    losses = one_more old.losses;
+  }
+
 -- the node of this number, which runs, takes the item in: exactly, or with losses that are counted
 pub record TakesIn (node : ℕ) (item : Item) (old new : NodesState) : Type 0 where
   pub core : CountedCore
   pub runs : running old.nodes node ≡ Some core
   pub way : (new ≡ behind_deed (node - 1) core (takes item) old) ⊎ ActsWithLosses (node - 1) item core old new
+
+-- The node of this number, which had something to cut, took that item: exactly, or with losses that are counted. Or there was
+-- no memory for the record, and that is counted.
+pub record CutsIn (node : ℕ) (old new : NodesState) : Type 0 where
+  pub core : CountedCore
+  pub cuts : cutting old.nodes node ≡ Some core
+  pub way : (new ≡ record (behind_deed (node - 1) core (takes Cut) old) {
+    archive = recorded old.archive core.core.replica.state;
+  })
+      ⊎ CutsWithLosses (node - 1) core old new
+      ⊎ (new ≡ forgetful old)
 
 -- what the master told is lost, and that is counted
 abbrev pub unheard : NodesState → NodesState → NodesState

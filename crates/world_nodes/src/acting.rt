@@ -2,18 +2,21 @@
 
 ghost use Rattle.std.specs.Prelude.{◌≡◌, ◌-◌, ◌↔◌, ◌≤◌, true, false, None, Some, length, slice_get, IfSome, OnOk, OnErr, IsErr};
 ghost use Rattle.ballot.specs.Body.TheVariants.{Activate};
+ghost use Rattle.ballot.specs.Cutting.{can_cut};
 ghost use Rattle.ballot.specs.Losses.{one_more};
 ghost use Rattle.lists.specs.Lists.{In};
 ghost use Rattle.agreement.specs.MasterState.{refusal};
 ghost use Rattle.world_model.specs.node_model.Moves.Deed.{takes};
-ghost use Rattle.world_nodes.specs.Goes.{Acts, TakesExactly, running};
-ghost use Rattle.world_nodes.specs.Steps.{GivesIn, HearsIn, LosesNothing, MasterGoes, TakesIn, forgetful};
+ghost use Rattle.world_nodes.specs.Goes.{Acts, CutsExactly, TakesExactly, running};
+ghost use Rattle.world_nodes.specs.Steps.{ActsOrRests, CutsIn, GivesIn, HearsIn, LosesNothing, MasterGoes, TakesIn, forgetful};
+ghost use Rattle.world_base.specs.Core.{CountedCore};
 ghost use Rattle.world_nodes.specs.Inside.{RunsAt, WasSent};
 
 use crate::keeping::counted;
 use crate::nodes::Nodes;
 use crate::turning::take_in;
-use master::{Idle, answer_of, config_of, tell};
+use broker::BrokerMachine;
+use master::{Idle, answer_of, config_of, record, tell};
 use world_base::{Body, Command, Config, Item, Members, Memory, Message};
 
 impl Nodes {
@@ -37,6 +40,41 @@ impl Nodes {
         self.counters.hear_from(&self.sent, from);
         self.losses = counted(self.losses, whole, true);
         Ok(())
+    }
+
+    // A node that has something to cut takes that item, once the record has what it applied. The record is cut back
+    // where the log was not cut.
+    pub(crate) fn cut_at(&mut self, at: usize)
+        requires { (core : CountedCore) × (slice_get self.old.nodes at ≡ Some core)
+            × (can_cut core.core.replica.state ≡ true) }
+        ensures step { CutsIn (at + 1) self.old self.new }
+        ensures exact { LosesNothing self.old self.new → CutsExactly (at + 1) self.old self.new }
+        ensures acts { ActsOrRests at (takes Item.Cut) self.old self.new }
+        ensures rises { self.old.losses ≤ self.new.losses }
+    {
+        let before = self.archive.len();
+        let core = &self.nodes[at];
+        let (base, _) = core.snapshot();
+        let committed = core.status().committed;
+        let Ok(()) = record::<BrokerMachine>(
+            self.alloc,
+            &mut self.archive,
+            base,
+            committed,
+            core.rest(),
+        ) else {
+            self.archive.truncate(before);
+            self.losses = counted(self.losses, false, true);
+            return;
+        };
+        let core = &mut self.nodes[at];
+        let from = self.sent.len();
+        let whole = take_in(self.alloc, core, Item::Cut, &mut self.sent);
+        if core.snapshot().0 <= base {
+            self.archive.truncate(before);
+        }
+        self.counters.hear_from(&self.sent, from);
+        self.losses = counted(self.losses, whole, true);
     }
 
     // The message of a number, with its receiver.

@@ -1,24 +1,33 @@
 // The list on which nodes agree.
 
-ghost use Rattle.std.specs.Prelude.{ℕ, ◌≡◌, ◌<◌, ◌≤◌, None, length, IfSome};
+ghost use Rattle.std.specs.Prelude.{ℕ, ◌≡◌, ◌-◌, ◌++◌, None, slice_get, IfSome};
 ghost use Rattle.lists.specs.Lists.{In};
+ghost use Rattle.master.specs.Inside.{HoldsAt, IsShort};
 ghost use Rattle.world_nodes.specs.Agreed.{AgreeOn, AgreeOnSoMany};
-ghost use Rattle.world_nodes.specs.Inside.{log_at};
+ghost use Rattle.world_nodes.specs.Inside.{held_at, replicas_of};
 
 use crate::nodes::Nodes;
-use world_base::{Command, NodeCore};
+use world_base::Command;
 
 impl Nodes {
-    /// The agreed list: the longest that is chosen in a ballot that was active. It takes no longer, however much was
-    /// sent.
-    pub fn agreed(&self) -> &[Command]
-        ensures { AgreeOn self.now result.now }
+    /// Returns the agreed list, the longest that is chosen in a ballot that was active, in two parts: the second goes on
+    /// where the first ends. It takes no longer, however much was sent.
+    pub fn agreed(&self) -> (&[Command], &[Command])
+        ensures { AgreeOn self.now (result.0.now ++ result.1.now) }
     {
-        let length = self.agreed_len() as usize;
-        match self.holder(length) {
-            Some(log) => &log[..length],
-            None => &[],
+        let held = self.agreed_len();
+        let Some(at) = self.holder(held) else {
+            return (&[], &[]);
+        };
+        let core = &self.nodes[at];
+        let (base, _) = core.snapshot();
+        if held <= base {
+            return (&self.archive[..held as usize], &[]);
         }
+        (
+            &self.archive[..base as usize],
+            &core.rest()[..(held - base) as usize],
+        )
     }
 
     /// The length of the agreed list. It takes no longer, however much was sent.
@@ -27,43 +36,35 @@ impl Nodes {
     {
         let (_, members) = self.master.active();
         if members.len() == 1 {
-            return self.log_of(members[0]).len() as u64;
+            return self.held(members[0]);
         }
         self.counters.agreed_by(members)
     }
 
-    // The log of a member of the active ballot that has so many places.
-    fn holder(&self, held: usize) -> Option<&[Command]>
-        ensures some { IfSome result (λ log.
-            (m : ℕ) × In m self.now.master.members ×
-            (log.now ≡ log_at self.now.nodes m) × (held ≤ length log.now)) }
+    // The place of a member of the active ballot whose log has so many places.
+    fn holder(&self, held: u64) -> Option<usize>
+        ensures some { IfSome result (λ at.
+            HoldsAt (replicas_of self.now.nodes) self.now.master.members held at) }
         ensures none { result ≡ None → (m : ℕ) → In m self.now.master.members →
-            length (log_at self.now.nodes m) < held }
+            IsShort (slice_get (replicas_of self.now.nodes) (m - 1)) held }
     {
         let (_, members) = self.master.active();
         for member in members {
-            let log = self.log_of(*member);
-            if held <= log.len() {
-                return Some(log);
+            let at = member.saturating_sub(1) as usize;
+            if at < self.nodes.len() && held <= self.nodes[at].status().held {
+                return Some(at);
             }
         }
         None
     }
 
-    // The log of a node; empty where it is not there.
-    fn log_of(&self, node: u8) -> &[Command]
-        ensures { result.now ≡ log_at self.now.nodes node }
+    // How long the log of a node is; 0 where it is not there.
+    fn held(&self, node: u8) -> u64
+        ensures { result ≡ held_at self.now.nodes node }
     {
-        log_among(&self.nodes, node)
-    }
-}
-
-// The log of a node among these; empty where it is not there.
-fn log_among(nodes: &[NodeCore], node: u8) -> &[Command]
-    ensures { result.now ≡ log_at nodes.now node }
-{
-    match nodes.get(node.saturating_sub(1) as usize) {
-        Some(core) => core.log(),
-        None => &[],
+        match self.nodes.get(node.saturating_sub(1) as usize) {
+            Some(core) => core.status().held,
+            None => 0,
+        }
     }
 }

@@ -2,7 +2,7 @@
 
 ghost use Rattle.std.specs.Prelude.{◌≡◌, ◌++◌, ◌∷◌, [], ◌&&◌, if◌then◌else◌};
 ghost use Rattle.std.specs.Bool.{OnTrue, OnFalse};
-ghost use Rattle.agreement.specs.World.{messages};
+ghost use Rattle.master.specs.snapshots.World.{messages};
 ghost use Rattle.ballot.specs.Losses.{Thinned, one_more};
 ghost use Rattle.world_nodes.specs.Inside.{Keeps};
 

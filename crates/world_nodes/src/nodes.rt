@@ -7,8 +7,8 @@ ghost use Rattle.agreement.specs.World.{can_open};
 ghost use Rattle.world_model.specs.group_model.Group.{Group, opening_group};
 ghost use Rattle.world_model.specs.node_model.Moves.Deed.{takes};
 ghost use Rattle.world_nodes.specs.Nodes.{NodesState, StandsFor};
-ghost use Rattle.world_nodes.specs.Goes.{Acts, AnswersFor, Comes, ComesToNobody, GivesExactly, HandsOver, TakesExactly, behind_giving, node_of, running};
-ghost use Rattle.world_nodes.specs.Steps.{ComesIn, ComesOrRests, GivesIn, HandsIn, LosesNothing, MasterGoesOrRests, TakesIn};
+ghost use Rattle.world_nodes.specs.Goes.{Acts, AnswersFor, Comes, ComesToNobody, CutsExactly, GivesExactly, HandsOver, TakesExactly, behind_giving, cutting, node_of, running};
+ghost use Rattle.world_nodes.specs.Steps.{ActsOrRests, ComesIn, ComesOrRests, CutsIn, GivesIn, HandsIn, LosesNothing, MasterGoesOrRests, TakesIn};
 
 use crate::counters::Counters;
 use crate::opening::can_open;
@@ -27,6 +27,7 @@ pub struct Nodes {
     pub(crate) master: Master,
     pub(crate) nodes: Vec<NodeCore>,
     pub(crate) sent: Vec<(u8, Message<Command>)>,
+    pub(crate) archive: Vec<Command>,
     pub(crate) counters: Counters,
     pub(crate) losses: u64,
 }
@@ -42,6 +43,7 @@ impl Model for Nodes {
           master = n.master;
           nodes = n.nodes.items;
           sent = n.sent.items;
+          archive = n.archive.items;
           losses = n.losses;
         } };
 
@@ -51,6 +53,7 @@ impl Model for Nodes {
           master = n.master;
           nodes = n.nodes.items;
           sent = n.sent.items;
+          archive = n.archive.items;
           losses = n.losses;
         }) n.counters.told n.counters.next };
 }
@@ -80,6 +83,7 @@ impl Nodes {
             master,
             nodes: opened,
             sent: Vec::new(alloc),
+            archive: Vec::new(alloc),
             counters,
             losses: 0,
         })
@@ -152,6 +156,27 @@ impl Nodes {
         ensures same { OnErr result (self.new ≡ self.old) }
     {
         self.act(node, Item::Tick(0))
+    }
+
+    /// A node cuts its log, and the places that it drops are recorded first. Idle where the node is unknown or has
+    /// stopped, or has applied nothing since it last cut its log.
+    pub fn cut(&mut self, node: u8) -> Result<(), Idle>
+        ensures step { OnOk result (CutsIn node self.old self.new) }
+        ensures goes { LosesNothing self.old self.new →
+            OnOk result (CutsExactly node self.old self.new) }
+        ensures acts { OnOk result (ActsOrRests (node - 1) (takes Item.Cut) self.old self.new) }
+        ensures rises { self.old.losses ≤ self.new.losses }
+        ensures idle { IsErr result ↔ (cutting self.old.nodes node ≡ None) }
+        ensures same { OnErr result (self.new ≡ self.old) }
+    {
+        let Some(at) = self.running(node) else {
+            return Err(Idle);
+        };
+        if !self.nodes[at].can_cut() {
+            return Err(Idle);
+        }
+        self.cut_at(at);
+        Ok(())
     }
 
     /// A node stops for good. Idle where it is unknown or has stopped.

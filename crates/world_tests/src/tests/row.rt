@@ -137,13 +137,21 @@ fn is_right(alloc: Global, world: &mut World, row: &Row) -> bool {
 
 // Whether these commands are agreed, in this order.
 fn agrees_on(world: &World, list: &[Said]) -> bool {
-    let agreed = world.agreed();
-    for (command, said) in agreed.iter().zip(list.iter()) {
+    let (recorded, kept) = world.agreed();
+    match list.get(..recorded.len()) {
+        Some(front) => are_said(recorded, front) && are_said(kept, &list[recorded.len()..]),
+        None => false,
+    }
+}
+
+// Whether these are the commands, in this order.
+fn are_said(commands: &[Command], list: &[Said]) -> bool {
+    for (command, said) in commands.iter().zip(list.iter()) {
         if !is_said(command, said) {
             return false;
         }
     }
-    agreed.len() == list.len()
+    commands.len() == list.len()
 }
 
 // Whether a command is this one.
