@@ -1,3 +1,4 @@
+pub mod Adds
 pub mod Agreed
 pub mod Bases
 pub mod Changing

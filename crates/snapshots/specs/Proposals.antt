@@ -1,0 +1,88 @@
+-- Proposals.antt: what was proposed to the nodes of a group that cuts its logs, in order, and what of it they took.
+use Rattle.std.specs.Prelude.{ℕ, ◌==◌, List, [], ◌∷◌, ◌++◌, nat_lt, if◌then◌else◌}
+use Rattle.machine.specs.Machine.{Rules}
+use Rattle.agreement.specs.MasterState.{MasterState}
+use Rattle.ballot_base.specs.declared.config.Config.{Config}
+use Rattle.ballot_base.specs.Logs.{places}
+use Rattle.ballot_base.specs.Protocol.{Input}
+use Rattle.ballot_base.specs.Protocol.Input.{Receives, Proposes, Ticks}
+use Rattle.ballot_base.specs.Replica.{ReplicaState}
+use Rattle.snapshots.specs.Past.{Moment, Past}
+use Rattle.snapshots.specs.Past.Past.{began, went_on}
+use Rattle.snapshots.specs.Steps.{MayHappen}
+use Rattle.snapshots.specs.Steps.MayHappen.{node_goes, master_assigns, master_hears, assignment_lost, answer_lost}
+use Rattle.snapshots.specs.World.{NodeGoes, World}
+use Rattle.snapshots.specs.World.NodeGoes.{takes, stops, cuts}
+
+-- the proposal that a node takes in, with the ballot that it has joined
+abbrev pub proposal_by : {S C : Type 0} → ReplicaState S C → Input C → List (ℕ × C)
+proposal_by r (Receives message) = []
+proposal_by r (Proposes command) = (r.joined, command) ∷ []
+proposal_by r Ticks = []
+
+-- of it what the node takes: its log has more places after the step
+abbrev pub taken_by : {S C : Type 0} → ReplicaState S C → ReplicaState S C → Input C → List (ℕ × C)
+taken_by old new input =
+    if nat_lt (places old.log) (places new.log) then proposal_by old input else []
+
+-- in what a node does; a cut takes nothing in
+abbrev pub proposed_to : {S C O : Type 0} {rules : Rules S C O} {w v : World S C O} →
+    NodeGoes rules w v → List (ℕ × C)
+proposed_to (takes n r input stands runs may loses) = proposal_by r input
+proposed_to (stops n r stands) = []
+proposed_to (cuts n r stands runs below reads) = []
+
+abbrev pub taken_as : {S C O : Type 0} {rules : Rules S C O} {w v : World S C O} →
+    NodeGoes rules w v → List (ℕ × C)
+taken_as (takes n r input {new = new} {given = given} stands runs may loses) = taken_by r new input
+taken_as (stops n r stands) = []
+taken_as (cuts n r stands runs below reads) = []
+
+-- .. by the node at place n
+abbrev pub taken_by_node : {S C O : Type 0} {rules : Rules S C O} {w v : World S C O} →
+    ℕ → NodeGoes rules w v → List (ℕ × C)
+taken_by_node n (takes i r input {new = new} {given = given} stands runs may loses) =
+    if i == n then taken_by r new input else []
+taken_by_node n (stops i r stands) = []
+taken_by_node n (cuts i r stands runs below reads) = []
+
+-- in a step of the group
+abbrev pub proposal_of : {S C O : Type 0} {rules : Rules S C O} {m : MasterState}
+    {w : World S C O} {k : MasterState} {v : World S C O} → MayHappen rules m w k v → List (ℕ × C)
+proposal_of (node_goes goes) = proposed_to goes
+proposal_of (master_assigns config) = []
+proposal_of (master_hears from b sent) = []
+proposal_of (assignment_lost config) = []
+proposal_of (answer_lost from b sent) = []
+
+abbrev pub taken_in : {S C O : Type 0} {rules : Rules S C O} {m : MasterState} {w : World S C O}
+    {k : MasterState} {v : World S C O} → MayHappen rules m w k v → List (ℕ × C)
+taken_in (node_goes goes) = taken_as goes
+taken_in (master_assigns config) = []
+taken_in (master_hears from b sent) = []
+taken_in (assignment_lost config) = []
+taken_in (answer_lost from b sent) = []
+
+abbrev pub takes_at : {S C O : Type 0} {rules : Rules S C O} {m : MasterState} {w : World S C O}
+    {k : MasterState} {v : World S C O} → ℕ → MayHappen rules m w k v → List (ℕ × C)
+takes_at n (node_goes goes) = taken_by_node n goes
+takes_at n (master_assigns config) = []
+takes_at n (master_hears from b sent) = []
+takes_at n (assignment_lost config) = []
+takes_at n (answer_lost from b sent) = []
+
+-- all of a past, in order
+abbrev pub proposals_of : {S C O : Type 0} {rules : Rules S C O} {config : Config}
+    {past : List (Moment S C O)} → Past rules config past → List (ℕ × C)
+proposals_of (began nodes lawful is) = []
+proposals_of (went_on came step) = proposals_of came ++ proposal_of step
+
+abbrev pub taken_of : {S C O : Type 0} {rules : Rules S C O} {config : Config}
+    {past : List (Moment S C O)} → Past rules config past → List (ℕ × C)
+taken_of (began nodes lawful is) = []
+taken_of (went_on came step) = taken_of came ++ taken_in step
+
+abbrev pub taken_at : {S C O : Type 0} {rules : Rules S C O} {config : Config}
+    {past : List (Moment S C O)} → ℕ → Past rules config past → List (ℕ × C)
+taken_at n (began nodes lawful is) = []
+taken_at n (went_on came step) = taken_at n came ++ takes_at n step
