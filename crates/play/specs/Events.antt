@@ -34,6 +34,7 @@ abbrev pub event_of : ℕ → Order → Option Event
 event_of waiting (orders.Assign members primary) = assign_of members primary
 event_of waiting (orders.Deliver message) = Some (events.Deliver message)
 event_of waiting (orders.Tick node) = option_map events.Tick (node_of node)
+event_of waiting (orders.Cut node) = option_map events.Cut (node_of node)
 event_of waiting (orders.Crash node) = option_map events.Crash (node_of node)
 event_of waiting (orders.Open client node) = option_map (events.Open client) (node_of node)
 event_of waiting (orders.CarryUp connection amount) = Some (events.CarryUp connection (count_of waiting amount))

@@ -29,6 +29,7 @@ pub(crate) fn event_of(
         Order::Assign(members, primary) => assign(alloc, members, *primary),
         Order::Deliver(message) => Ok(Some(Event::Deliver(*message))),
         Order::Tick(node) => Ok(tick(*node)),
+        Order::Cut(node) => Ok(cut(*node)),
         Order::Crash(node) => Ok(crash(*node)),
         Order::Open(client, node) => open(client, *node),
         Order::CarryUp(connection, amount) => {
@@ -101,6 +102,12 @@ fn tick(node: u64) -> Option<Event>
     ensures { result ≡ option_map events.Tick (node_of node) }
 {
     Some(Event::Tick(node_of(node)?))
+}
+
+fn cut(node: u64) -> Option<Event>
+    ensures { result ≡ option_map events.Cut (node_of node) }
+{
+    Some(Event::Cut(node_of(node)?))
 }
 
 fn crash(node: u64) -> Option<Event>

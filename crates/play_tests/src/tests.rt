@@ -2,6 +2,7 @@
 // line, from its text to the text of the transcript.
 
 mod crashes;
+mod cuts;
 mod hand;
 mod memory;
 mod orders;

@@ -32,6 +32,10 @@ pub by_tick : (fields : List Text) → order_by (codes "tick") fields ≡ one or
 unfolding order_by
 by_tick fields = refl
 
+pub by_cut : (fields : List Text) → order_by (codes "cut") fields ≡ one orders.Cut number_of fields
+unfolding order_by
+by_cut fields = refl
+
 pub by_crash : (fields : List Text) → order_by (codes "crash") fields ≡ one orders.Crash number_of fields
 unfolding order_by
 by_crash fields = refl
@@ -84,6 +88,7 @@ pub by_none : (word : Text) (fields : List Text)
     → (word ≡ codes "assign" → ⊥)
     → (word ≡ codes "deliver" → ⊥)
     → (word ≡ codes "tick" → ⊥)
+    → (word ≡ codes "cut" → ⊥)
     → (word ≡ codes "crash" → ⊥)
     → (word ≡ codes "open" → ⊥)
     → (word ≡ codes "up" → ⊥)
@@ -96,5 +101,5 @@ pub by_none : (word : Text) (fields : List Text)
     → (word ≡ codes "unsubscribe" → ⊥)
     → order_by word fields ≡ None
 unfolding order_by
-by_none word fields n0 n1 n2 n3 n4 n5 n6 n7 n8 n9 n10 n11 n12 =
-    rw (other word (codes "assign") n0, other word (codes "deliver") n1, other word (codes "tick") n2, other word (codes "crash") n3, other word (codes "open") n4, other word (codes "up") n5, other word (codes "down") n6, other word (codes "abandon") n7, other word (codes "disconnect") n8, other word (codes "notice") n9, other word (codes "publish") n10, other word (codes "subscribe") n11, other word (codes "unsubscribe") n12) refl
+by_none word fields n0 n1 n2 n3 n4 n5 n6 n7 n8 n9 n10 n11 n12 n13 =
+    rw (other word (codes "assign") n0, other word (codes "deliver") n1, other word (codes "tick") n2, other word (codes "cut") n3, other word (codes "crash") n4, other word (codes "open") n5, other word (codes "up") n6, other word (codes "down") n7, other word (codes "abandon") n8, other word (codes "disconnect") n9, other word (codes "notice") n10, other word (codes "publish") n11, other word (codes "subscribe") n12, other word (codes "unsubscribe") n13) refl

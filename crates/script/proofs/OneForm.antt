@@ -9,7 +9,7 @@ use Rattle.script.specs.Fields.{Text, amount_of, client_of, filter_of, number_of
 use Rattle.script.specs.Orders as lines
 use Rattle.script.specs.Orders.{IsOrder}
 use Rattle.script.specs.Inside.Ordering.{publication_order, one, order_by, order_of, publication, publication_of, publish_of, subscribe_of, subscription_order, two, with}
-use Rattle.script.proofs.ByWord.{by_assign, by_deliver, by_tick, by_crash, by_open, by_up, by_down, by_abandon, by_disconnect, by_notice, by_publish, by_subscribe, by_unsubscribe, by_none}
+use Rattle.script.proofs.ByWord.{by_assign, by_deliver, by_tick, by_cut, by_crash, by_open, by_up, by_down, by_abandon, by_disconnect, by_notice, by_publish, by_subscribe, by_unsubscribe, by_none}
 
 -- the parts of what was made
 pub record Made {X Y : Type 0} (make : Option (X → Y)) (value : Option X) (y : Y) : Type 0 where
@@ -81,6 +81,9 @@ deliver_line fields o h = let p = has_one orders.Deliver number_of fields o h in
 
 tick_line : (fields : List Text) (o : Order) → one orders.Tick number_of fields ≡ Some o → IsOrder (codes "tick" ∷ fields) o
 tick_line fields o h = let p = has_one orders.Tick number_of fields o h in moved _ _ _ _ _ p.are p.is (lines.tick p.a_is)
+
+cut_line : (fields : List Text) (o : Order) → one orders.Cut number_of fields ≡ Some o → IsOrder (codes "cut" ∷ fields) o
+cut_line fields o h = let p = has_one orders.Cut number_of fields o h in moved _ _ _ _ _ p.are p.is (lines.cut p.a_is)
 
 crash_line : (fields : List Text) (o : Order) → one orders.Crash number_of fields ≡ Some o → IsOrder (codes "crash" ∷ fields) o
 crash_line fields o h = let p = has_one orders.Crash number_of fields o h in moved _ _ _ _ _ p.are p.is (lines.crash p.a_is)
@@ -165,17 +168,18 @@ has_line word fields o h =
     decide word (codes "assign") (λ e. known word _ fields o _ e (by_assign fields) (assign_line fields o) h) (λ n0.
     decide word (codes "deliver") (λ e. known word _ fields o _ e (by_deliver fields) (deliver_line fields o) h) (λ n1.
     decide word (codes "tick") (λ e. known word _ fields o _ e (by_tick fields) (tick_line fields o) h) (λ n2.
-    decide word (codes "crash") (λ e. known word _ fields o _ e (by_crash fields) (crash_line fields o) h) (λ n3.
-    decide word (codes "open") (λ e. known word _ fields o _ e (by_open fields) (open_line fields o) h) (λ n4.
-    decide word (codes "up") (λ e. known word _ fields o _ e (by_up fields) (up_line fields o) h) (λ n5.
-    decide word (codes "down") (λ e. known word _ fields o _ e (by_down fields) (down_line fields o) h) (λ n6.
-    decide word (codes "abandon") (λ e. known word _ fields o _ e (by_abandon fields) (abandon_line fields o) h) (λ n7.
-    decide word (codes "disconnect") (λ e. known word _ fields o _ e (by_disconnect fields) (disconnect_line fields o) h) (λ n8.
-    decide word (codes "notice") (λ e. known word _ fields o _ e (by_notice fields) (notice_line fields o) h) (λ n9.
-    decide word (codes "publish") (λ e. known word _ fields o _ e (by_publish fields) (publish_line fields o) h) (λ n10.
-    decide word (codes "subscribe") (λ e. known word _ fields o _ e (by_subscribe fields) (subscribe_line fields o) h) (λ n11.
-    decide word (codes "unsubscribe") (λ e. known word _ fields o _ e (by_unsubscribe fields) (unsubscribe_line fields o) h) (λ n12.
-    absurd (none_is_no_order word fields o (by_none word fields n0 n1 n2 n3 n4 n5 n6 n7 n8 n9 n10 n11 n12) h))))))))))))))
+    decide word (codes "cut") (λ e. known word _ fields o _ e (by_cut fields) (cut_line fields o) h) (λ n3.
+    decide word (codes "crash") (λ e. known word _ fields o _ e (by_crash fields) (crash_line fields o) h) (λ n4.
+    decide word (codes "open") (λ e. known word _ fields o _ e (by_open fields) (open_line fields o) h) (λ n5.
+    decide word (codes "up") (λ e. known word _ fields o _ e (by_up fields) (up_line fields o) h) (λ n6.
+    decide word (codes "down") (λ e. known word _ fields o _ e (by_down fields) (down_line fields o) h) (λ n7.
+    decide word (codes "abandon") (λ e. known word _ fields o _ e (by_abandon fields) (abandon_line fields o) h) (λ n8.
+    decide word (codes "disconnect") (λ e. known word _ fields o _ e (by_disconnect fields) (disconnect_line fields o) h) (λ n9.
+    decide word (codes "notice") (λ e. known word _ fields o _ e (by_notice fields) (notice_line fields o) h) (λ n10.
+    decide word (codes "publish") (λ e. known word _ fields o _ e (by_publish fields) (publish_line fields o) h) (λ n11.
+    decide word (codes "subscribe") (λ e. known word _ fields o _ e (by_subscribe fields) (subscribe_line fields o) h) (λ n12.
+    decide word (codes "unsubscribe") (λ e. known word _ fields o _ e (by_unsubscribe fields) (unsubscribe_line fields o) h) (λ n13.
+    absurd (none_is_no_order word fields o (by_none word fields n0 n1 n2 n3 n4 n5 n6 n7 n8 n9 n10 n11 n12 n13) h)))))))))))))))
 
 -- what the fields order is said by them
 pub says : (fields : List Text) (o : Order) → order_of fields ≡ Some o → IsOrder fields o
@@ -195,6 +199,7 @@ unfolding publication_of
 is_read fields o (lines.assign a b) = by_assign _ ∙ with_two _ _ _ _ _ a b
 is_read fields o (lines.deliver a) = by_deliver _ ∙ with_one _ _ _ a
 is_read fields o (lines.tick a) = by_tick _ ∙ with_one _ _ _ a
+is_read fields o (lines.cut a) = by_cut _ ∙ with_one _ _ _ a
 is_read fields o (lines.crash a) = by_crash _ ∙ with_one _ _ _ a
 is_read fields o (lines.opens a b) = by_open _ ∙ with_two _ _ _ _ _ a b
 is_read fields o (lines.up a b) = by_up _ ∙ with_two _ _ _ _ _ a b

@@ -18,6 +18,9 @@ pub data IsOrder : List Text → Order → Type 0 where
   -- `tick 1`
   tick : {n : Text} {node : ℕ} → number_of n ≡ Some node
       → IsOrder (codes "tick" ∷ n ∷ []) (orders.Tick node)
+  -- `cut 1`
+  cut : {n : Text} {node : ℕ} → number_of n ≡ Some node
+      → IsOrder (codes "cut" ∷ n ∷ []) (orders.Cut node)
   -- `crash 1`
   crash : {n : Text} {node : ℕ} → number_of n ≡ Some node
       → IsOrder (codes "crash" ∷ n ∷ []) (orders.Crash node)

@@ -50,6 +50,14 @@ pub(crate) fn tick(fields: &[&str]) -> Result<Order, LineFault>
     Ok(Order::Tick(one_number(fields)?))
 }
 
+/// `cut 1`
+pub(crate) fn cut(fields: &[&str]) -> Result<Order, LineFault>
+    ensures value { IfOk result (λ order. one orders.Cut number_of (texts fields.now) ≡ Some order) }
+    ensures form { IsErrOf result LineFault.Form → one orders.Cut number_of (texts fields.now) ≡ None }
+{
+    Ok(Order::Cut(one_number(fields)?))
+}
+
 /// `crash 1`
 pub(crate) fn crash(fields: &[&str]) -> Result<Order, LineFault>
     ensures value { IfOk result (λ order. one orders.Crash number_of (texts fields.now) ≡ Some order) }

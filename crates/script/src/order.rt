@@ -24,6 +24,8 @@ pub enum Order {
     Deliver(u64),
     /// Time passes at this node.
     Tick(u64),
+    /// This node cuts its log.
+    Cut(u64),
     /// This node stops for good.
     Crash(u64),
     /// This client opens a connection to this node.

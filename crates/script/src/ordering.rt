@@ -29,6 +29,7 @@ fn order_by(alloc: Global, word: &str, fields: &[&str]) -> Result<Order, LineFau
         "assign" => forms::assign(alloc, fields),
         "deliver" => forms::deliver(fields),
         "tick" => forms::tick(fields),
+        "cut" => forms::cut(fields),
         "crash" => forms::crash(fields),
         "open" => forms::open_connection(alloc, fields),
         "up" => forms::carry_up(fields),

@@ -47,8 +47,8 @@ fn tells_no_more(told: &str, own: &str) -> bool {
     true
 }
 
-// A script with a line put in at this byte.
-fn with_line(alloc: Global, script: &[u8], at: usize, line: &[u8]) -> Option<Vec<u8>> {
+/// A script with a line put in at this byte.
+pub fn with_line(alloc: Global, script: &[u8], at: usize, line: &[u8]) -> Option<Vec<u8>> {
     let (front, rest) = script.split_at_checked(at)?;
     let mut edited = Vec::new(alloc);
     edited.extend_from_slice(front).ok()?;

@@ -16,6 +16,7 @@ const LINES: &[(&str, &str)] = &[
         "deliver 18446744073709551615",
     ),
     ("tick 1", "tick 1"),
+    ("cut 1", "cut 1"),
     ("crash 99", "crash 99"),
     ("open a 1", "open a 1"),
     ("open z 1", "open z 1"),

@@ -84,6 +84,7 @@ fn told(alloc: Global, order: &Order) -> Result<String, AllocError> {
         Order::Assign(members, primary) => assignment(alloc, members, *primary),
         Order::Deliver(message) => format!(in alloc; "deliver {message}"),
         Order::Tick(node) => format!(in alloc; "tick {node}"),
+        Order::Cut(node) => format!(in alloc; "cut {node}"),
         Order::Crash(node) => format!(in alloc; "crash {node}"),
         Order::Open(client, node) => format!(in alloc; "open {client} {node}"),
         Order::CarryUp(connection, amount) => carrying(alloc, "up", *connection, *amount),

@@ -233,6 +233,54 @@ pub const BALLOT_IS_PUT_OUT: [&str; 2] = [
     end agreed=2 active=3\n",
 ];
 
+/// A sole member cuts its log, and its snapshot goes over to a new primary.
+pub const SNAPSHOT_TRAVELS: [&str; 2] = [
+    "world 2 1 1 a\n\
+    open a 1\n\
+    up 1 all\n\
+    down 1 all\n\
+    cut 1\n\
+    cut 1\n\
+    assign 1,2 2\n\
+    deliver 0\n\
+    deliver 1\n\
+    deliver 2\n\
+    deliver 3\n\
+    deliver 4\n\
+    deliver 5\n\
+    deliver 6\n\
+    deliver 7\n\
+    deliver 8\n\
+    abandon a\n\
+    open a 2\n\
+    up 2 all\n\
+    deliver 10\n\
+    deliver 11\n\
+    down 2 all\n",
+    "0 ok msgs=0 agreed=0\n\
+    1 ok msgs=0 agreed=1\n\
+    2 ok msgs=0 agreed=1\n\
+    3 ok msgs=0 agreed=1\n\
+    4 idle\n\
+    5 ok msgs=1 agreed=1\n\
+    6 ok msgs=2 agreed=1\n\
+    7 ok msgs=3 agreed=1\n\
+    8 ok msgs=4 agreed=1\n\
+    9 ok msgs=5 agreed=1\n\
+    10 ok msgs=6 agreed=1\n\
+    11 ok msgs=7 agreed=1\n\
+    12 ok msgs=8 agreed=1\n\
+    13 ok msgs=9 agreed=2\n\
+    14 ok msgs=10 agreed=2\n\
+    15 ok msgs=10 agreed=2\n\
+    16 ok msgs=10 agreed=2\n\
+    17 ok msgs=11 agreed=2\n\
+    18 ok msgs=12 agreed=3\n\
+    19 ok msgs=13 agreed=3\n\
+    20 ok msgs=13 agreed=3\n\
+    end agreed=3 active=2\n",
+];
+
 /// All of them. They have two nodes, but for the last, which has three.
 pub const SCRIPTS: [&[&str; 2]; 5] = [
     &ANSWER_WAITS_FOR_THE_BACKUP,
@@ -247,4 +295,10 @@ fn scripts_give_their_transcripts(rt: HostRuntime) {
     for row in &SCRIPTS {
         assert!(rt; gives(rt.alloc(), row[0], row[1]), "{}", row[0]);
     }
+}
+
+// It is no script of `SCRIPTS`: a crash before its cuts makes them idle.
+#[test]
+fn snapshot_travels(rt: HostRuntime) {
+    assert!(rt; gives(rt.alloc(), SNAPSHOT_TRAVELS[0], SNAPSHOT_TRAVELS[1]));
 }

@@ -71,6 +71,7 @@ order_by word fields =
     if bytes_eq word (codes "assign") then two orders.Assign numbers_of number_of fields else
     if bytes_eq word (codes "deliver") then one orders.Deliver number_of fields else
     if bytes_eq word (codes "tick") then one orders.Tick number_of fields else
+    if bytes_eq word (codes "cut") then one orders.Cut number_of fields else
     if bytes_eq word (codes "crash") then one orders.Crash number_of fields else
     if bytes_eq word (codes "open") then two orders.Open client_of number_of fields else
     if bytes_eq word (codes "up") then two orders.CarryUp number_of amount_of fields else

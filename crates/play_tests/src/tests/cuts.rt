@@ -1,0 +1,77 @@
+// A node cuts its log behind an event of a script, each node behind each event, and the script goes on as ever.
+
+use crate::tests::crashes::with_line;
+use crate::tests::scripts::{PRIMARY_CRASHES, STALE_PRIMARY};
+use play::play;
+use std::alloc::Global;
+use std::str;
+
+// A cut of each node.
+const CUTS: [&[u8]; 2] = [b"cut 1\n", b"cut 2\n"];
+
+// A line of a transcript without the number of its event.
+fn told_in(line: &str) -> &str {
+    match line.split_once(" ") {
+        Some((_, told)) => told,
+        None => line,
+    }
+}
+
+// Whether a transcript is another one with one line more after so many events, which tells no message and no more agreed.
+fn is_own_with(told: &str, own: &str, events: usize) -> bool {
+    let mut rest = own.lines();
+    let mut seen = 0;
+    for line in told.lines() {
+        if line.starts_with("accepted") || line.starts_with("end") || seen != events {
+            if rest.next().map(told_in) != Some(told_in(line)) {
+                return false;
+            }
+        }
+        if !line.starts_with("accepted") {
+            seen += 1;
+        }
+    }
+    rest.next().is_none()
+}
+
+// Whether a script with a cut put in at this byte, after so many events, goes on as its own.
+fn goes_as_ever(alloc: Global, row: &[&str; 2], at: usize, events: usize, line: &[u8]) -> bool {
+    let Some(edited) = with_line(alloc, row[0].as_bytes(), at, line) else {
+        return false;
+    };
+    let mut transcript = Vec::new(alloc);
+    if play(alloc, edited.as_slice(), &mut transcript).is_err() {
+        return false;
+    }
+    match str::from_utf8(transcript.as_slice()) {
+        Ok(told) => is_own_with(told, row[1], events),
+        Err(_) => false,
+    }
+}
+
+// Whether it does so with a cut of each node.
+fn goes_with_each(alloc: Global, row: &[&str; 2], at: usize, events: usize) -> bool {
+    CUTS.iter()
+        .all(|line| goes_as_ever(alloc, row, at, events, line))
+}
+
+// Whether it does so behind each of its lines. The first line is no event.
+fn goes_behind_each(alloc: Global, row: &[&str; 2]) -> bool {
+    let mut events = 0;
+    for (at, byte) in row[0].as_bytes().iter().enumerate() {
+        if *byte == b'\n' {
+            if !goes_with_each(alloc, row, at.saturating_add(1), events) {
+                return false;
+            }
+            events += 1;
+        }
+    }
+    true
+}
+
+// A cut of node 1 or 2 behind each event changes no message, no agreed length and no publication that is taken in.
+#[test]
+fn cuts_change_nothing_that_is_told(rt: HostRuntime) {
+    let crashes = goes_behind_each(rt.alloc(), &PRIMARY_CRASHES);
+    assert!(rt; crashes && goes_behind_each(rt.alloc(), &STALE_PRIMARY));
+}
