@@ -31,7 +31,7 @@ pub record Added (C O : Type 0) : Type 0 where
   pub taken_at : ℕ → List (ℕ × C)
   pub given : ℕ → List (ℕ × O)
 
-pub nothing_added : (C O : Type 0) → Added C O
+abbrev pub nothing_added : (C O : Type 0) → Added C O
 nothing_added C O = record { proposed = []; taken = []; taken_at = λ n. []; given = λ n. [] }
 
 -- by a step on whole logs
