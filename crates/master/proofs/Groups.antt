@@ -1,5 +1,5 @@
 -- Groups.antt: what a group counts and how it came to be, behind each thing that it does.
-use Rattle.std.proofs.Common.{◌≡◌, ℕ, zero, suc, ◌+◌, ◌<◌, ◌≤◌, ◌⊎◌, inl, inr, Bool, true, false, cond, max, List, [], ◌∷◌, ◌++◌, length, drop, take, take_all, get_or, Some, None, Option, refl, ap, sym, ◌∙◌, subst, arith}
+use Rattle.std.proofs.Common.{◌≡◌, ℕ, zero, suc, ◌+◌, ◌<◌, ◌≤◌, ◌⊎◌, inl, inr, Bool, true, false, cond, max, List, [], ◌∷◌, ◌++◌, length, map, drop, take, take_all, get_or, Some, None, Option, refl, ap, sym, ◌∙◌, subst, arith}
 use Rattle.std.specs.Prelude.{slice_get, ◌==◌, ◌&&◌}
 use Rattle.std.proofs.lemmas.Bool.{cases_eq, ne_eqb, cases_Bool, eqb-true}
 use Rattle.std.proofs.lemmas.List.{drop_more, length-append, take-append-le, take_more}
@@ -14,7 +14,7 @@ use Rattle.ballot.specs.Body.{Body}
 use Rattle.ballot.specs.Body.TheVariants.{NewBallot, Join, State, Install, Installed, Activate, Activated, Superseded, Append, Held, Commit}
 use Rattle.ballot.specs.Effect.{Effect}
 use Rattle.ballot.specs.Replica.{ReplicaState, CountedReplica}
-use Rattle.snapshots.specs.World.{World, messages, moved}
+use Rattle.snapshots.specs.World.{World, messages, moved, outputs}
 use Rattle.agreement.specs.World.{can_open}
 use Rattle.agreement.specs.MasterState.{MasterState, assigning, activating, refusal}
 use Rattle.snapshots.specs.Masters.{assigned, activated}
@@ -488,3 +488,13 @@ group_cuts {S = S} {C = C} {O = O} rules a v told next old new n r g is_old is_n
         (subst (λ us. HasCounted us next) (sym sent_is) g.counted_next)
     by_way (inr lost) =
         subst (λ (u : Moment S C O). IsGroup rules u told next) (sym (sym is_new ∙ ap (λ (z : GroupState S C O). z.moment) lost ∙ is_old)) g
+
+-- a group of which the record and the nodes are as they were
+pub group_kept : {S C O : Type 0} (rules : Rules S C O) (archive more : List C) (m : MasterState) (nodes later : List (CountedReplica S C)) (sent : List (ℕ × Message C))
+    (left : List (Effect C O)) (told next : ToldIn) → more ≡ archive →
+    map (λ (z : CountedReplica S C). z.state) later ≡ map (λ (z : CountedReplica S C). z.state) nodes →
+    IsGroup rules (moment_of archive m nodes sent left) told next → IsGroup rules (moment_of more m later sent left) told next
+group_kept {S = S} {C = C} {O = O} rules archive more m nodes later sent left told next kept same g =
+    subst (λ (a : Moment S C O). IsGroup rules a told next)
+    (sym (ap (λ us. moment_of us m later sent left) kept
+    ∙ ap (λ ss. let z : Moment S C O = record { master = m; world = record { nodes = ss; sent = sent; left = outputs left; archive = archive } } in z) same)) g

@@ -1,12 +1,13 @@
+pub mod Archived
 pub mod Counted
 pub mod Counting
 pub mod Effects
 pub mod Groups
 pub mod Happening
+pub mod Holders
 pub mod Lawful
 pub mod Parting
 pub mod Quiet
-pub mod Recording
 pub mod Runs
 pub mod Turns
 pub mod Untold

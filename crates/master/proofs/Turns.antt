@@ -21,6 +21,7 @@ use Rattle.ballot.specs.Cutting.{cut}
 use Rattle.snapshots.specs.Past.{opening_nodes, opening_world}
 use Rattle.master.specs.Exact.{NodeTurn, cut_turn, running, unless_stopped}
 use Rattle.master.specs.Group.{GroupState}
+use Rattle.master.proofs.Archived.{recorded_by}
 use Rattle.master.specs.Inside.{RunsAt, TookCut, TookIn, Parted, TookTurn, moment_of, world_of}
 
 -- an exact step is one in which nothing was lost
@@ -80,7 +81,7 @@ state_at [] n d below = absurd (omega arith)
 state_at (r ∷ nodes) zero d below = refl
 state_at (r ∷ nodes) (suc n) d below = state_at nodes n d (omega arith)
 
-stands_at : {S C : Type 0} (nodes : List (CountedReplica S C)) (n : ℕ) (old : CountedReplica S C) → n < length nodes → old ≡ get_or nodes n old →
+pub stands_at : {S C : Type 0} (nodes : List (CountedReplica S C)) (n : ℕ) (old : CountedReplica S C) → n < length nodes → old ≡ get_or nodes n old →
     slice_get (map (λ (r : CountedReplica S C). r.state) nodes) n ≡ Some old.state
 stands_at {S = S} {C = C} nodes n old below read = state_at nodes n old below ∙ ap (λ (r : CountedReplica S C). Some r.state) (sym read)
 
@@ -292,3 +293,22 @@ pub cut_not : {S C : Type 0} (nodes : List (CountedReplica S C)) (n : ℕ) (old 
     old ≡ get_or nodes n old → slice_get (map (λ (z : CountedReplica S C). z.state) nodes) n ≡ Some r → new.state ≡ old.state →
     map (λ (z : CountedReplica S C). z.state) (set nodes n new) ≡ map (λ (z : CountedReplica S C). z.state) nodes
 cut_not nodes n old new r read stands same = set_there nodes n old new (below_of nodes n r stands) read same
+
+-- the same cut, by what was read of the replica before
+pub cut_read : {S C O : Type 0} (rules : Rules S C O) (archive more rest : List C) (m : MasterState) (nodes : List (CountedReplica S C)) (sent : List (ℕ × Message C))
+    (left : List (Effect C O)) (losses n base : ℕ) (read old new : CountedReplica S C) (status : Status) (r : ReplicaState S C) → r.log.base ≤ length archive →
+    read ≡ get_or nodes n read → old ≡ get_or nodes n old → slice_get (map (λ (z : CountedReplica S C). z.state) nodes) n ≡ Some r →
+    base ≡ read.state.log.base → status ≡ status_of read.state → rest ≡ read.state.log.rest →
+    more ≡ archive ++ drop (length archive - base) (take (status.committed - base) rest) →
+    new ≡ record old { state = cut rules old.state } → rules.thawed (rules.frozen old.state.machine) ≡ Some old.state.machine →
+    TookCut rules (record { moment = moment_of archive m nodes sent left; losses = losses }) (cut_turn rules n r)
+    (record { moment = moment_of more m (set nodes n new) sent left; losses = losses })
+cut_read {S = S} {C = C} {O = O} rules archive more rest m nodes sent left losses n base read old new status r within seen there stands based told kept added done thaws =
+    cut_done rules archive more m nodes sent left losses n old new r there stands (ap (λ (z : CountedReplica S C). z.state) done)
+    (recorded_by archive more rest base status.committed r within (based ∙ ap (λ (s : ReplicaState S C). s.log.base) same)
+    (ap (λ (s : Status). s.committed) told ∙ ap (λ (s : ReplicaState S C). s.committed) same) (kept ∙ ap (λ (s : ReplicaState S C). s.log.rest) same) added
+    ∙ ap (recorded archive) (sym (same_replica nodes n old r there stands)))
+    thaws
+  where
+    same : read.state ≡ r
+    same = same_replica nodes n read r seen stands

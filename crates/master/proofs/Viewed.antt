@@ -167,3 +167,21 @@ agreed_kept {S = S} {C = C} {O = O} rules config a past k at came is h high =
     subst (λ (us : List C). IsAgreed config (map whole_moment (a ∷ past)) us)
     (front_kept a.world.archive h.replica.log k (within_of rules config a past came at h.replica h.stands) high)
     (front_agreed rules config a past k at came is h)
+
+pub agreed_read : {S C O : Type 0} (rules : Rules S C O) (config : Config) (a : Moment S C O) (past : List (Moment S C O)) (k at base : ℕ) (read : List C) →
+    Past rules config (a ∷ past) → ((xs : List C) → IsAgreed config (map whole_moment (a ∷ past)) xs → k ≡ length xs) →
+    (h : HoldsAt a.world.nodes a.master.members k at) → base ≡ h.replica.log.base → k ≤ base → read ≡ a.world.archive →
+    IsAgreed config (map whole_moment (a ∷ past)) (take k read ++ [])
+agreed_read {S = S} {C = C} {O = O} rules config a past k at base read came is h same low seen =
+    subst (λ (us : List C). IsAgreed config (map whole_moment (a ∷ past)) (take k us ++ [])) (sym seen)
+    (agreed_recorded rules config a past k at came is h (omega (arith, same, low)))
+
+pub agreed_read_on : {S C O : Type 0} (rules : Rules S C O) (config : Config) (a : Moment S C O) (past : List (Moment S C O)) (k at base : ℕ) (read rest : List C) →
+    Past rules config (a ∷ past) → ((xs : List C) → IsAgreed config (map whole_moment (a ∷ past)) xs → k ≡ length xs) →
+    (h : HoldsAt a.world.nodes a.master.members k at) → base ≡ h.replica.log.base → base < k → read ≡ a.world.archive → rest ≡ h.replica.log.rest →
+    IsAgreed config (map whole_moment (a ∷ past)) (take base read ++ take (k - base) rest)
+agreed_read_on {S = S} {C = C} {O = O} rules config a past k at base read rest came is h same high seen kept =
+    subst (λ (us : List C). IsAgreed config (map whole_moment (a ∷ past)) us)
+    (sym (ap (λ n. take n read ++ take (k - n) rest) same ∙ ap (λ us. take h.replica.log.base us ++ take (k - h.replica.log.base) rest) seen
+    ∙ ap (λ us. take h.replica.log.base a.world.archive ++ take (k - h.replica.log.base) us) kept))
+    (agreed_kept rules config a past k at came is h (omega (arith, same, high)))

@@ -1,6 +1,6 @@
--- Recording.antt: the record of places after those that a replica applied were added to it.
-use Rattle.std.proofs.Common.{◌≡◌, ℕ, zero, suc, ◌+◌, ◌-◌, ◌<◌, ◌≤◌, Bool, true, false, List, [], ◌∷◌, ◌++◌, length, take, drop, refl, ap, ap₂, sym, ◌∙◌, arith}
-use Rattle.std.proofs.lemmas.List.{append-nil}
+-- Archived.antt: the record of places after those that a replica applied were added to it.
+use Rattle.std.proofs.Common.{◌≡◌, ℕ, zero, suc, ◌+◌, ◌-◌, ◌<◌, ◌≤◌, Bool, true, false, List, [], ◌∷◌, ◌++◌, length, take, drop, Result, OnOk, refl, ap, ap₂, sym, ◌∙◌, subst, arith}
+use Rattle.std.proofs.lemmas.List.{append-nil, drop-take}
 use Rattle.lists.specs.Lists.{IsPrefixOf}
 use Rattle.lists.proofs.Beginnings.{take_prefix}
 use Rattle.ballot.specs.Logs.{Log, part, places}
@@ -29,6 +29,16 @@ pub added_none : {X : Type 0} (archive rest : List X) (base committed from to : 
 added_none archive rest base committed from to at up low =
     sym (ap (λ us. archive ++ us) (nothing_left (length archive - base) (committed - base) rest (omega (arith, at, up, low))) ∙ append-nil archive)
 
+-- .. and otherwise those that are read of the rest
+pub added_some : {T E X : Type 0} (r : Result T E) (archive more rest : List X) (base committed held to : ℕ) → held ≡ length archive → to ≡ committed - base →
+    held - base ≤ to → OnOk r (more ≡ archive ++ take (to - (held - base)) (drop (held - base) rest)) →
+    OnOk r (more ≡ archive ++ drop (length archive - base) (take (committed - base) rest))
+added_some {X = X} r archive more rest base committed held to at up low added =
+    let a : held - base ≡ length archive - base = ap (λ n. n - base) at in
+    let b : held - base + (to - (held - base)) ≡ committed - base = omega (arith, up, low) in
+    subst (λ (us : List X). OnOk r (more ≡ archive ++ us))
+    (sym (drop-take (held - base) (to - (held - base)) rest) ∙ ap₂ (λ i j. drop i (take j rest)) a b) added
+
 -- so the record is the one after a cut
 pub recorded_by : {S C : Type 0} (archive more rest : List C) (base committed : ℕ) (r : ReplicaState S C) → r.log.base ≤ length archive →
     base ≡ r.log.base → committed ≡ r.committed → rest ≡ r.log.rest →
@@ -48,3 +58,6 @@ taken_back {X = X} archive more before p at =
 
 pub recorded_begins : {S C : Type 0} (archive more : List C) (r : ReplicaState S C) → more ≡ recorded archive r → IsPrefixOf archive more
 recorded_begins archive more r is = record { rest = drop (length archive) (take r.committed (whole_log archive r.log)); is = is }
+
+pub begins_by : {X : Type 0} (archive more added : List X) → more ≡ archive ++ added → IsPrefixOf archive more
+begins_by archive more added is = record { rest = added; is = is }
