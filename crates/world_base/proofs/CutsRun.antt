@@ -1,5 +1,5 @@
 -- CutsRun.antt: a cut of the replica's log is that of its node, or a loss that is counted.
-use Rattle.std.proofs.Common.{◌≡◌, ◌⊎◌, inl, inr, ◌+◌, ◌-◌, ◌^◌, ◌<◌, Bool, true, false, min, Some, refl, sym, ap, ◌∙◌, arith}
+use Rattle.std.proofs.Common.{◌≡◌, ℕ, ◌⊎◌, inl, inr, ◌+◌, ◌-◌, ◌^◌, ◌<◌, Bool, true, false, min, Some, refl, sym, ap, ap₂, ◌∙◌, arith}
 use Rattle.std.proofs.lemmas.Bool.{cases_Bool}
 use Rattle.broker_base.specs.State.{State}
 use Rattle.broker_model.specs.declared.command.Command.{Command}
@@ -7,6 +7,7 @@ use Rattle.ballot.specs.Cutting.{can_cut, cut}
 use Rattle.ballot.specs.Losses.{one_more}
 use Rattle.ballot.specs.Replica.{CountedReplica, ReplicaState}
 use Rattle.world_base.specs.Core.{CoreState, rules}
+use Rattle.world_base.specs.Inside.{Does, Running}
 use Rattle.world_base.specs.Lossy.{quietly}
 use Rattle.world_base.specs.LossyStep.{Cuts}
 use Rattle.world_base.specs.LossyStep.Cuts.{nothing_to_cut, cuts_log, forgets_cut}
@@ -45,3 +46,13 @@ cut_exactly core new false r same below = by_need (cases_Bool (can_cut core.repl
     by_need : (can_cut core.replica.state ≡ true) ⊎ (can_cut core.replica.state ≡ false) → record core { replica = new } ≡ cuts core
     by_need (inl can) = let e : new.losses ≡ min (core.replica.losses + 1) (2 ^ 64 - 1) = r.tells refl can in absurd (omega (arith, e, same, below))
     by_need (inr cannot) = rw cannot (ap (λ (x : CountedReplica State Command). let z : CoreState = record core { replica = x } in z) (r.idle cannot).1)
+
+-- so it is what was done, unless memory was wanting
+pub cut_does : (old new : Running) (replica : CountedReplica State Command) (result : Bool) (before : ℕ) → ReplicaCut old.core replica result →
+    before ≡ old.core.replica.losses → new.core ≡ record old.core { replica = replica } →
+    (new.wanting ≡ false → (old.wanting ≡ false) × ((replica.losses ≡ before) × (before < 2 ^ 64 - 1))) → Does old new (cuts old.core)
+cut_does old new replica result before r losses kept none quiet =
+    let z = none quiet in
+    let below : old.core.replica.losses < 2 ^ 64 - 1 = (let b = z.1.1 in omega (arith, losses, b)) in
+    ap₂ (λ (k : CoreState) (w : Bool). let x : Running = record { core = k; wanting = w } in x)
+    (kept ∙ cut_exactly old.core replica result r (z.1.0 ∙ losses) below) (quiet ∙ sym z.0)
