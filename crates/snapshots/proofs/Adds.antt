@@ -126,3 +126,20 @@ adds_as before after d e p t u g q =
       takes_at = λ n. q.takes_at n ∙ ap (λ us. whole_taken_at n before ++ us) (u n);
       gives = λ n. q.gives n ∙ ap (λ us. whole_given_of n before ++ us) (g n);
     }
+
+-- nothing was proposed, taken or given in a past
+pub record SaysNothing {S C O : Type 0} {rules : Rules S C O} {config : Config} {xs : List (WholeMoment S C O)} (came : WholePast rules config xs) : Type 0 where
+  pub proposes : whole_proposals_of came ≡ []
+  pub takes : whole_taken_of came ≡ []
+  pub takes_at : (n : ℕ) → whole_taken_at n came ≡ []
+  pub gives : (n : ℕ) → whole_given_of n came ≡ []
+
+-- what a node's step adds, in the words of a group that cuts its logs
+abbrev pub added_by_node : {S C O : Type 0} → ℕ → ReplicaState S C → Input C → ReplicaState S C → List (Effect C O) → Added C O
+added_by_node n r input new given =
+    record {
+      proposed = proposal_by r input;
+      taken = taken_by r new input;
+      taken_at = λ i. cond (n == i) (taken_by r new input) [];
+      given = λ i. cond (n == i) (outputs given) [];
+    }

@@ -15,13 +15,14 @@ use Rattle.agreement.specs.whole.Losses.{Thinned as WholeThinned}
 use Rattle.agreement.specs.whole.Protocol.{Input as WholeInput, replica_step as whole_step}
 use Rattle.agreement.specs.whole.Replica.{ReplicaState as WholeState}
 use Rattle.ballot_base.specs.Replica.{is_active}
-use Rattle.agreement.specs.Past.{Moment, Past, IsAgreed}
+use Rattle.agreement.specs.Past.{IsAgreed, Learns, Moment, Past}
 use Rattle.agreement.specs.Past.Past.{went_on, learned}
 use Rattle.agreement.specs.Steps.{MayHappen, MayTake as WholeMayTake}
 use Rattle.agreement.specs.Steps.MayHappen.{node_takes}
 use Rattle.agreement.specs.World.{World as WholeWorld, moved as whole_moved, messages as whole_messages, outputs as whole_outputs}
 use Rattle.agreement.proofs.Agreed.PastAgrees.{has_agreed, nodes_agree}
 use Rattle.agreement.proofs.Agreed.PastGrows.{agreed_grows}
+use Rattle.snapshots.proofs.Adds.{Adds, added_at}
 use Rattle.snapshots.proofs.Serving.{thinned_same}
 
 -- what a node applied it has in its log after a step that applies no more, whichever log it took
@@ -82,16 +83,22 @@ pub record WasApplied {S C O : Type 0} (past : List (Moment S C O)) (ballot k : 
 
 -- a step after which the node learns
 pub learns_behind : {S C O : Type 0} (rules : Rules S C O) (config : Config) (a : Moment S C O) (earlier : List (Moment S C O)) (n : ℕ) (r new : WholeState S C)
-    (input : WholeInput C) (given : List (WholeEffect C O)) (k : ℕ) → Past rules config (a ∷ earlier) → slice_get a.world.nodes n ≡ Some r → r.stopped ≡ false →
+    (input : WholeInput C) (given : List (WholeEffect C O)) (k : ℕ) → (came : Past rules config (a ∷ earlier)) → slice_get a.world.nodes n ≡ Some r → r.stopped ≡ false →
     WholeMayTake a.world n input → WholeThinned given (whole_step rules r input).effects → (whole_step rules r input).state.stopped ≡ false →
     is_active (whole_step rules r input).state.role ≡ false → (whole_step rules r input).state.committed ≤ k →
     k ≤ length (whole_step rules r input).state.log →
     WasApplied (a ∷ earlier) (whole_step rules r input).state.joined k (take k (whole_step rules r input).state.log) →
     new ≡ whole_applied_to rules (whole_step rules r input).state k →
-    Past rules config (record a { world = whole_moved a.world n new given } ∷ record a { world = whole_moved a.world n (whole_step rules r input).state given } ∷ a ∷ earlier)
+    (past : Past rules config (record a { world = whole_moved a.world n new given } ∷ record a { world = whole_moved a.world n (whole_step rules r input).state given } ∷ a ∷ earlier))
+    × Adds came past (added_at n r input (whole_step rules r input).state given)
 learns_behind {S = S} {C = C} {O = O} rules config a earlier n r new input given k came stands runs may thin going passive low high was is =
-    learned (went_on came (node_takes n r input stands runs may (inl (refl, thin))))
-    (record {
+    (learned (went_on came (node_takes n r input stands runs may (inl (refl, thin)))) learns, record { proposes = refl; takes = refl; takes_at = λ i. refl; gives = λ i. refl })
+  where
+    middle : Moment S C O
+    middle = record a { world = whole_moved a.world n (whole_step rules r input).state given }
+
+    learns : Learns rules (middle ∷ a ∷ earlier) middle (record a { world = whole_moved a.world n new given })
+    learns = record {
       node = n;
       replica = (whole_step rules r input).state;
       stands = get_set a.world.nodes n r (whole_step rules r input).state stands;
@@ -111,4 +118,4 @@ learns_behind {S = S} {C = C} {O = O} rules config a earlier n r new input given
       becomes = ap (λ (w : WholeWorld S C O). let v : Moment S C O = record a { world = w } in v)
           (ap (λ (x : WholeState S C). whole_moved a.world n x given) is
           ∙ sym (moved_twice a.world n (whole_step rules r input).state (whole_applied_to rules (whole_step rules r input).state k) given));
-    })
+    }

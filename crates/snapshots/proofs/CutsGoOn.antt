@@ -1,6 +1,6 @@
 -- CutsGoOn.antt: a cut changes nothing on whole logs, and keeps what holds; and so whatever happens to a node.
-use Rattle.std.proofs.Common.{◌≡◌, ℕ, zero, suc, ◌≤◌, ◌⊎◌, inl, inr, false, List, [], ◌∷◌, ◌++◌, length, map, take, set, Some, refl, ap, ap₂, sym, ◌∙◌, subst, arith}
-use Rattle.std.specs.Prelude.{slice_get}
+use Rattle.std.proofs.Common.{◌≡◌, ℕ, zero, suc, ◌≤◌, ◌⊎◌, inl, inr, false, cond, List, [], ◌∷◌, ◌++◌, length, map, take, set, Some, refl, ap, ap₂, sym, ◌∙◌, subst, arith}
+use Rattle.std.specs.Prelude.{slice_get, ◌==◌}
 use Rattle.std.proofs.lemmas.Bool.{cases_eq}
 use Rattle.std.proofs.lemmas.List.{append-nil}
 use Rattle.machine.specs.Machine.{Rules, replay}
@@ -14,7 +14,6 @@ use Rattle.agreement.specs.Agreement.{Agrees, Holds}
 use Rattle.agreement.specs.Leaving.{LeftInOrder}
 use Rattle.agreement.specs.MasterState.{MasterState}
 use Rattle.agreement.specs.Past.{Moment, Past, IsAgreed}
-use Rattle.agreement.specs.Steps.{MayHappen}
 use Rattle.agreement.specs.Steps.MayHappen.{node_stops}
 use Rattle.agreement.specs.World.{World as WholeWorld}
 use Rattle.agreement.proofs.Agreed.PastAgrees.{has_agreed, machines_replay, nodes_agree}
@@ -27,15 +26,18 @@ use Rattle.ballot_base.specs.Cutting.{cut}
 use Rattle.ballot_base.specs.Losses.{halted}
 use Rattle.snapshots.specs.World.{World, NodeGoes, moved, recorded, whole_letter, whole_world}
 use Rattle.snapshots.specs.World.NodeGoes.{takes, stops, cuts}
+use Rattle.snapshots.specs.Giving.{given_by_node}
+use Rattle.snapshots.specs.Proposals.{proposed_to, taken_as, taken_by_node}
 use Rattle.snapshots.proofs.Agreed.{WasApplied}
 use Rattle.snapshots.proofs.Cuts.{IsWithin, Recorded, body_stays, is_recorded, map_alike, map_alike_at, recorded_longer}
 use Rattle.snapshots.proofs.Fronts.{whole_long}
-use Rattle.snapshots.proofs.GoesOn.{GoesOn, held_within, lost, takes_on}
+use Rattle.snapshots.proofs.GoesOn.{held_within, lost, takes_on}
 use Rattle.snapshots.proofs.Continues.{none_more}
-use Rattle.snapshots.proofs.Kept.{Carries, IsSnapshot, Kept}
+use Rattle.snapshots.proofs.Adds.{Added, Adds, StepAdds, added_by_node, added_whole, adds_as, adds_nothing, nothing_added, proposed_whole, taken_whole}
+use Rattle.snapshots.proofs.Kept.{Carries, GoesOn, IsSnapshot, Kept, KeptWith}
 use Rattle.snapshots.proofs.LogsGoOn.{moment}
 use Rattle.snapshots.proofs.Taking.{cut_stays, longer_record}
-use Rattle.snapshots.proofs.Views.{get_whole, map_set, moved_whole}
+use Rattle.snapshots.proofs.Views.{get_whole, map_set, moved_whole, outputs_whole}
 
 set_there : {X : Type 0} (xs : List X) (n : ℕ) (x : X) → slice_get xs n ≡ Some x → set xs n x ≡ xs
 set_there [] n x e = refl
@@ -84,10 +86,22 @@ carries_within rules past archive (Commit b held) x = tt
 
 -- a cut
 pub cuts_on : {S C O : Type 0} (rules : Rules S C O) (config : Config) (m : MasterState) (w : World S C O) (earlier : List (Moment S C O)) (n : ℕ)
-    (r : ReplicaState S C) → Kept rules config m w earlier → slice_get w.nodes n ≡ Some r → r.stopped ≡ false → rules.thawed (rules.frozen r.machine) ≡ Some r.machine →
+    (r : ReplicaState S C) → (k : Kept rules config m w earlier) → slice_get w.nodes n ≡ Some r → r.stopped ≡ false → rules.thawed (rules.frozen r.machine) ≡ Some r.machine →
     (moment m (record (moved w n (cut rules r) []) { archive = recorded w.archive r }) ≡ moment m w)
-    × Kept rules config m (record (moved w n (cut rules r) []) { archive = recorded w.archive r }) earlier
-cuts_on {S = S} {C = C} {O = O} rules config m w earlier n r k stands runs faithful = (same, kept)
+    × KeptWith rules config m (record (moved w n (cut rules r) []) { archive = recorded w.archive r }) earlier k.came (nothing_added C O)
+cuts_on {S = S} {C = C} {O = O} rules config m w earlier n r k stands runs faithful = (
+  same,
+  record {
+    kept = record {
+      came = past.0;
+      nodes = λ i x e. by_place i x e (cases_eq i n);
+      letters = λ to x i. subst (λ (u : Moment S C O). Carries rules (u ∷ earlier) rec x.body) (sym same)
+          (carries_longer rules (moment m w ∷ earlier) w.archive rec x.body longer (k.letters to x (subst (λ us. In (to, x) us) (append-nil w.sent) i)));
+      begins = λ us agreed. (recorded_by us (subst (λ (u : Moment S C O). IsAgreed config (u ∷ earlier) us) same agreed)).begins;
+    };
+    adds = past.1;
+  },
+)
   where
     rec : List C
     rec = recorded w.archive r
@@ -166,27 +180,38 @@ cuts_on {S = S} {C = C} {O = O} rules config m w earlier n r k stands runs faith
     by_place i x e (inr other) =
         let a = k.nodes i x (sym (get_set_other w.nodes n i (cut rules r) other) ∙ e) in (snapshot_longer rules w.archive rec x.log longer a.0, a.1)
 
-    kept : Kept rules config m v earlier
-    kept = record {
-      came = subst (λ (u : Moment S C O). Past rules config (u ∷ earlier)) (sym same) k.came;
-      nodes = λ i x e. by_place i x e (cases_eq i n);
-      letters = λ to x i. subst (λ (u : Moment S C O). Carries rules (u ∷ earlier) rec x.body) (sym same)
-          (carries_longer rules (moment m w ∷ earlier) w.archive rec x.body longer (k.letters to x (subst (λ us. In (to, x) us) (append-nil w.sent) i)));
-      begins = λ us agreed. (recorded_by us (subst (λ (u : Moment S C O). IsAgreed config (u ∷ earlier) us) same agreed)).begins;
-    }
+    past : (came : Past rules config (moment m v ∷ earlier)) × Adds k.came came (nothing_added C O)
+    past = subst (λ (u : Moment S C O). (came : Past rules config (u ∷ earlier)) × Adds k.came came (nothing_added C O)) (sym same) (k.came, adds_nothing k.came)
+
+-- what it adds
+abbrev pub added_of_node : {S C O : Type 0} {rules : Rules S C O} {w v : World S C O} → NodeGoes rules w v → Added C O
+added_of_node goes =
+    record { proposed = proposed_to goes; taken = taken_as goes; taken_at = λ n. taken_by_node n goes; given = λ n. given_by_node n goes }
 
 -- whatever happens to a node
 pub node_goes_on : {S C O : Type 0} (rules : Rules S C O) (config : Config) (m : MasterState) (w v : World S C O) (earlier : List (Moment S C O)) →
-    Kept rules config m w earlier → NodeGoes rules w v → GoesOn rules config m v (moment m w ∷ earlier)
+    (k : Kept rules config m w earlier) → (goes : NodeGoes rules w v) → GoesOn rules config m v k.came (added_of_node goes)
 node_goes_on rules config m w v earlier k (takes n r input {new = new} {given = given} stands runs may loses) =
-    takes_on rules config m w earlier n r input new given k stands runs may loses
+    let q = takes_on rules config m w earlier n r input new given k stands runs may loses in
+    let taken = taken_whole w.archive r new input (k.nodes n r stands).0.within (q.kept.nodes n new (get_set w.nodes n r new stands)).0.within in
+    record {
+      more = q.more;
+      kept = q.kept;
+      continues = q.continues;
+      adds = adds_as k.came q.kept.came (added_whole w.archive n r input new given) (added_by_node n r input new given)
+          (proposed_whole w.archive r input) taken (λ i. ap (λ us. cond (n == i) us []) taken)
+          (λ i. ap (λ us. cond (n == i) us []) (sym (outputs_whole w.archive given))) q.adds;
+    }
 node_goes_on {S = S} {C = C} {O = O} rules config m w v earlier k (stops n r stands) =
-    lost rules config m w earlier n r (halted rules r) [] k stands
-    (subst (λ (u : WholeWorld S C O). MayHappen rules m (whole_world w) m u) (sym (moved_whole w n (halted rules r) []))
-    (node_stops n (whole w.archive r) (get_whole (whole w.archive) w.nodes n r stands)))
+    lost rules config m w earlier n r (halted rules r) [] (nothing_added C O) k stands
+    (subst (λ (u : WholeWorld S C O). StepAdds rules m (whole_world w) m u (nothing_added C O)) (sym (moved_whole w n (halted rules r) [])) (
+      node_stops n (whole w.archive r) (get_whole (whole w.archive) w.nodes n r stands),
+      record { proposes = refl; takes = refl; takes_at = λ i. refl; gives = λ i. refl },
+    ))
     refl refl refl
 node_goes_on rules config m w v earlier k (cuts n r stands runs over faithful) =
-    let z = cuts_on rules config m w earlier n r k stands runs faithful in (earlier, z.1, none_more (moment m w) (moment m v) earlier z.0)
+    let z = cuts_on rules config m w earlier n r k stands runs faithful in
+    record { more = earlier; kept = z.1.kept; continues = none_more (moment m w) (moment m v) earlier z.0; adds = z.1.adds }
 
 -- so at each moment there is an agreed list, the nodes agree on it, and what left is its answers in order
 pub cut_worlds_agree : {S C O : Type 0} (rules : Rules S C O) (config : Config) (m : MasterState) (w : World S C O) (earlier : List (Moment S C O)) →

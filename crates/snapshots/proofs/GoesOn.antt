@@ -9,11 +9,8 @@ use Rattle.ballot_base.specs.Replica.{is_fetching, ReplicaState}
 use Rattle.ballot_base.specs.declared.status.Role.{Role}
 use Rattle.ballot_base.specs.declared.status.Role.TheVariants.{Backup, Fetching, Installing, Active}
 use Rattle.agreement.specs.MasterState.{MasterState}
-use Rattle.agreement.specs.Past.{Moment}
+use Rattle.agreement.specs.Past.{Moment, Past}
 use Rattle.agreement.specs.Past.Past.{went_on}
-use Rattle.agreement.specs.Steps.{MayHappen}
-use Rattle.agreement.specs.Steps.MayHappen.{node_takes}
-use Rattle.agreement.specs.World.{World as WholeWorld}
 use Rattle.agreement.proofs.Agreed.PastKnown.{past_known}
 use Rattle.ballot_base.specs.Logs.{Log, places}
 use Rattle.snapshots.specs.Whole.{whole, whole_effects, whole_input}
@@ -28,13 +25,14 @@ use Rattle.ballot_base.specs.Protocol.{Input, received, replica_step, ticked}
 use Rattle.ballot_base.specs.Protocol.Input.{Receives, Proposes, Ticks}
 use Rattle.snapshots.proofs.Bases.{KeepsBase, SaysOwn, keeps_nothing, activated_keeps, append_keeps, commits_keep, held_keeps, install_own, installed_keeps, join_keeps, new_ballot_keeps, proposed_keeps, state_own, superseded_keeps, tick_keeps, each_keeps, handed_keeps, one_keeps}
 use Rattle.snapshots.proofs.Fronts.{whole_long}
-use Rattle.snapshots.proofs.Continues.{Continues, one_more}
-use Rattle.snapshots.proofs.Kept.{Carries, IsSnapshot, Kept, kept_moved, kept_plainly, kept_taking}
+use Rattle.snapshots.proofs.Continues.{one_more}
+use Rattle.snapshots.proofs.Adds.{Added, StepAdds, added_whole, adds_one}
+use Rattle.snapshots.proofs.Kept.{Carries, GoesOn, IsSnapshot, Kept, KeptWith, kept_moved, kept_plainly, kept_taking}
 use Rattle.snapshots.proofs.LogsCome.{install_answers, install_nothing, install_stays, install_takes, state_nothing, state_stays, state_takes}
 use Rattle.snapshots.proofs.LogsGoOn.{moment}
 use Rattle.snapshots.proofs.LogsLearned.{install_took, state_took}
 use Rattle.snapshots.proofs.Plain.{IsPlain, IsPlainBody, plain_matches}
-use Rattle.snapshots.proofs.Views.{get_whole, may_take_whole, moved_whole}
+use Rattle.snapshots.proofs.Views.{get_whole, step_whole}
 
 -- ---- the rows that take no log
 
@@ -65,8 +63,10 @@ plain_keeps {S = S} {C = C} {O = O} rules r (Receives m) within plain = by_body 
 
 -- ---- a step
 
-abbrev pub GoesOn : {S C O : Type 0} → Rules S C O → Config → MasterState → World S C O → List (Moment S C O) → Type 0
-GoesOn {S} {C} {O} rules config m v before = (more : List (Moment S C O)) × Kept rules config m v more × Continues before (moment m v) more
+-- one moment more
+pub on_by_one : {S C O : Type 0} (rules : Rules S C O) (config : Config) (m : MasterState) (v : World S C O) (before : List (Moment S C O))
+    (came : Past rules config before) (d : Added C O) → KeptWith rules config m v before came d → GoesOn rules config m v came d
+on_by_one rules config m v before came d q = record { more = before; kept = q.kept; continues = one_more before (moment m v); adds = q.adds }
 
 -- what a node holds at least
 pub held_within : {S C O : Type 0} (rules : Rules S C O) (config : Config) (m : MasterState) (w : World S C O) (earlier : List (Moment S C O)) (n : ℕ)
@@ -76,9 +76,9 @@ held_within rules config m w earlier n r k stands =
     let b = whole_long w.archive r.log (k.nodes n r stands).0.within in omega (arith, a, b)
 
 done : {S C O : Type 0} (rules : Rules S C O) (config : Config) (m : MasterState) (w : World S C O) (earlier : List (Moment S C O)) (n : ℕ)
-    (r : ReplicaState S C) (input : Input C) (new : ReplicaState S C) (given : List (Effect C O)) → Kept rules config m w earlier → slice_get w.nodes n ≡ Some r →
+    (r : ReplicaState S C) (input : Input C) (new : ReplicaState S C) (given : List (Effect C O)) → (k : Kept rules config m w earlier) → slice_get w.nodes n ≡ Some r →
     r.stopped ≡ false → MayTake w n input → new ≡ (replica_step rules r input).state → Thinned given (replica_step rules r input).effects →
-    GoesOn rules config m (moved w n new given) (moment m w ∷ earlier)
+    GoesOn rules config m (moved w n new given) k.came (added_whole w.archive n r input new given)
 done {S = S} {C = C} {O = O} rules config m w earlier n r input new given k stands runs may is thin = by_input input may is thin
   where
     old : IsSnapshot rules w.archive r.log × (r.log.base ≤ r.committed)
@@ -90,17 +90,19 @@ done {S = S} {C = C} {O = O} rules config m w earlier n r input new given k stan
     held : r.committed ≤ places r.log
     held = held_within rules config m w earlier n r k stands
 
+    by_one : (input : Input C) → KeptWith rules config m (moved w n new given) (moment m w ∷ earlier) k.came (added_whole w.archive n r input new given) →
+        GoesOn rules config m (moved w n new given) k.came (added_whole w.archive n r input new given)
+    by_one input q = on_by_one rules config m (moved w n new given) (moment m w ∷ earlier) k.came (added_whole w.archive n r input new given) q
+
     plainly : (input : Input C) → IsPlain input → MayTake w n input → new ≡ (replica_step rules r input).state →
-        Thinned given (replica_step rules r input).effects → GoesOn rules config m (moved w n new given) (moment m w ∷ earlier)
-    plainly input plain may is thin = (
-      moment m w ∷ earlier,
-      kept_plainly rules config m w earlier n r input new given k stands runs may
-          (plain_keeps rules r input held plain) (plain_matches rules w.archive r input based plain) is thin,
-      one_more (moment m w ∷ earlier) (moment m (moved w n new given)),
-    )
+        Thinned given (replica_step rules r input).effects → GoesOn rules config m (moved w n new given) k.came (added_whole w.archive n r input new given)
+    plainly input plain may is thin =
+        by_one input (kept_plainly rules config m w earlier n r input new given k stands runs may
+        (plain_keeps rules r input held plain) (plain_matches rules w.archive r input based plain) is thin)
 
     by_body : (from : ℕ) (body : Body C) → In (n + 1, record { from = from; body = body }) w.sent →
-        new ≡ (received rules r from body).state → Thinned given (received rules r from body).effects → GoesOn rules config m (moved w n new given) (moment m w ∷ earlier)
+        new ≡ (received rules r from body).state → Thinned given (received rules r from body).effects →
+        GoesOn rules config m (moved w n new given) k.came (added_whole w.archive n r (Receives (record { from = from; body = body })) new given)
     by_body from (NewBallot b members a x) may is thin = plainly (Receives (record { from = from; body = NewBallot b members a x })) tt may is thin
     by_body from (Join b a) may is thin = plainly (Receives (record { from = from; body = Join b a })) tt may is thin
     by_body from (Installed b held) may is thin = plainly (Receives (record { from = from; body = Installed b held })) tt may is thin
@@ -116,19 +118,18 @@ done {S = S} {C = C} {O = O} rules config m w earlier n r input new given k stan
         said = k.letters (n + 1) (record { from = from; body = State b log }) may
 
         by_row : ((r.joined == b && (is_fetching r.role && nat_le r.committed (places log))) ≡ true)
-            ⊎ ((r.joined == b && (is_fetching r.role && nat_le r.committed (places log))) ≡ false) → GoesOn rules config m (moved w n new given) (moment m w ∷ earlier)
+            ⊎ ((r.joined == b && (is_fetching r.role && nat_le r.committed (places log))) ≡ false) →
+            GoesOn rules config m (moved w n new given) k.came (added_whole w.archive n r (Receives (record { from = from; body = State b log })) new given)
         by_row (inl e) =
             kept_taking rules config m w earlier n r (Receives (record { from = from; body = State b log })) b log new given k stands runs may said
             (state_takes rules w.archive r from b log said.0.within e)
             (λ took t. subst (λ (o : Outcome S C O). (o.state.log ≡ took.log) × (o.state.committed ≡ took.committed) × SaysOwn {O = O} o.state o.effects)
             (sym (state_took rules r took b log e t)) (refl, refl, state_own O r took b)) is thin
-        by_row (inr e) = (
-          moment m w ∷ earlier,
-          kept_plainly rules config m w earlier n r (Receives (record { from = from; body = State b log })) new given k stands runs may
-              (subst (λ (o : Outcome S C O). KeepsBase r o) (sym (state_nothing rules r b log e)) (keeps_nothing O r))
-              (state_stays rules w.archive r b log said.0.within e) is thin,
-          one_more (moment m w ∷ earlier) (moment m (moved w n new given)),
-        )
+        by_row (inr e) =
+            by_one (Receives (record { from = from; body = State b log }))
+            (kept_plainly rules config m w earlier n r (Receives (record { from = from; body = State b log })) new given k stands runs may
+            (subst (λ (o : Outcome S C O). KeepsBase r o) (sym (state_nothing rules r b log e)) (keeps_nothing O r))
+            (state_stays rules w.archive r b log said.0.within e) is thin)
     by_body from (Install b log) may is thin =
         by_row (cases_Bool ((nat_lt r.joined b || (r.joined == b && nat_lt r.held_in b)) && nat_le r.committed (places log))) (cases_Bool (r.joined == b && r.held_in == b))
       where
@@ -137,62 +138,55 @@ done {S = S} {C = C} {O = O} rules config m w earlier n r input new given k stan
 
         by_row : (((nat_lt r.joined b || (r.joined == b && nat_lt r.held_in b)) && nat_le r.committed (places log)) ≡ true)
             ⊎ (((nat_lt r.joined b || (r.joined == b && nat_lt r.held_in b)) && nat_le r.committed (places log)) ≡ false) →
-            ((r.joined == b && r.held_in == b) ≡ true) ⊎ ((r.joined == b && r.held_in == b) ≡ false) → GoesOn rules config m (moved w n new given) (moment m w ∷ earlier)
+            ((r.joined == b && r.held_in == b) ≡ true) ⊎ ((r.joined == b && r.held_in == b) ≡ false) →
+            GoesOn rules config m (moved w n new given) k.came (added_whole w.archive n r (Receives (record { from = from; body = Install b log })) new given)
         by_row (inl e) other =
             kept_taking rules config m w earlier n r (Receives (record { from = from; body = Install b log })) b log new given k stands runs may said
             (install_takes rules w.archive r from b log said.0.within e)
             (λ took t. subst (λ (o : Outcome S C O). (o.state.log ≡ took.log) × (o.state.committed ≡ took.committed) × SaysOwn {O = O} o.state o.effects)
             (sym (install_took rules r took from b log e t)) (refl, refl, install_own O r took from b log)) is thin
-        by_row (inr e) (inl g) = (
-          moment m w ∷ earlier,
-          kept_plainly rules config m w earlier n r (Receives (record { from = from; body = Install b log })) new given k stands runs may
-              (subst (λ (o : Outcome S C O). KeepsBase r o) (sym (install_answers rules r from b log e g)) (one_keeps O r from (Installed b (places log)) tt))
-              (install_stays rules w.archive r from b log said.0.within e) is thin,
-          one_more (moment m w ∷ earlier) (moment m (moved w n new given)),
-        )
-        by_row (inr e) (inr g) = (
-          moment m w ∷ earlier,
-          kept_plainly rules config m w earlier n r (Receives (record { from = from; body = Install b log })) new given k stands runs may
-              (subst (λ (o : Outcome S C O). KeepsBase r o) (sym (install_nothing rules r from b log e g)) (keeps_nothing O r))
-              (install_stays rules w.archive r from b log said.0.within e) is thin,
-          one_more (moment m w ∷ earlier) (moment m (moved w n new given)),
-        )
+        by_row (inr e) (inl g) =
+            by_one (Receives (record { from = from; body = Install b log }))
+            (kept_plainly rules config m w earlier n r (Receives (record { from = from; body = Install b log })) new given k stands runs may
+            (subst (λ (o : Outcome S C O). KeepsBase r o) (sym (install_answers rules r from b log e g)) (one_keeps O r from (Installed b (places log)) tt))
+            (install_stays rules w.archive r from b log said.0.within e) is thin)
+        by_row (inr e) (inr g) =
+            by_one (Receives (record { from = from; body = Install b log }))
+            (kept_plainly rules config m w earlier n r (Receives (record { from = from; body = Install b log })) new given k stands runs may
+            (subst (λ (o : Outcome S C O). KeepsBase r o) (sym (install_nothing rules r from b log e g)) (keeps_nothing O r))
+            (install_stays rules w.archive r from b log said.0.within e) is thin)
 
     by_input : (input : Input C) → MayTake w n input → new ≡ (replica_step rules r input).state →
-        Thinned given (replica_step rules r input).effects → GoesOn rules config m (moved w n new given) (moment m w ∷ earlier)
+        Thinned given (replica_step rules r input).effects → GoesOn rules config m (moved w n new given) k.came (added_whole w.archive n r input new given)
     by_input (Receives x) may is thin = by_body x.from x.body may is thin
     by_input (Proposes c) may is thin = plainly (Proposes c) tt may is thin
     by_input Ticks may is thin = plainly Ticks tt may is thin
 
 -- after a step that was lost, or in which the node stopped, its log is as it was, and nothing is sent
 pub lost : {S C O : Type 0} (rules : Rules S C O) (config : Config) (m : MasterState) (w : World S C O) (earlier : List (Moment S C O)) (n : ℕ)
-    (r new : ReplicaState S C) (given : List (Effect C O)) → Kept rules config m w earlier → slice_get w.nodes n ≡ Some r →
-    MayHappen rules m (whole_world w) m (whole_world (moved w n new given)) → new.log ≡ r.log → new.committed ≡ r.committed → given ≡ [] →
-    GoesOn rules config m (moved w n new given) (moment m w ∷ earlier)
-lost {S = S} {C = C} {O = O} rules config m w earlier n r new given k stands step same applied none_given =
-    let old = k.nodes n r stands in (
-      moment m w ∷ earlier,
-      kept_moved rules config m w earlier (moment m w ∷ earlier) n r new given k stands (went_on k.came step) (λ c i. i)
-          (subst (λ (l : Log C). IsSnapshot rules w.archive l) (sym same) old.0)
-          (let a = old.1 in let b = ap (λ (l : Log C). l.base) same in omega (arith, a, b, applied))
-          (λ to x i. elim (subst (λ (us : List (Effect C O)). In (to, x) (messages us)) none_given i) [ ]),
-      one_more (moment m w ∷ earlier) (moment m (moved w n new given)),
-    )
+    (r new : ReplicaState S C) (given : List (Effect C O)) (d : Added C O) → (k : Kept rules config m w earlier) → slice_get w.nodes n ≡ Some r →
+    StepAdds rules m (whole_world w) m (whole_world (moved w n new given)) d → new.log ≡ r.log → new.committed ≡ r.committed → given ≡ [] →
+    GoesOn rules config m (moved w n new given) k.came d
+lost {S = S} {C = C} {O = O} rules config m w earlier n r new given d k stands step same applied none_given =
+    let old = k.nodes n r stands in
+    on_by_one rules config m (moved w n new given) (moment m w ∷ earlier) k.came d
+    (kept_moved rules config m w earlier (moment m w ∷ earlier) n r new given d k stands (went_on k.came step.0) (λ c i. i)
+    (subst (λ (l : Log C). IsSnapshot rules w.archive l) (sym same) old.0)
+    (let a = old.1 in let b = ap (λ (l : Log C). l.base) same in omega (arith, a, b, applied))
+    (λ to x i. elim (subst (λ (us : List (Effect C O)). In (to, x) (messages us)) none_given i) [ ])
+    (adds_one k.came d step))
 
 -- whatever a node takes in
 pub takes_on : {S C O : Type 0} (rules : Rules S C O) (config : Config) (m : MasterState) (w : World S C O) (earlier : List (Moment S C O)) (n : ℕ)
-    (r : ReplicaState S C) (input : Input C) (new : ReplicaState S C) (given : List (Effect C O)) → Kept rules config m w earlier → slice_get w.nodes n ≡ Some r →
-    r.stopped ≡ false → MayTake w n input → Loses rules r (replica_step rules r input) new given → GoesOn rules config m (moved w n new given) (moment m w ∷ earlier)
+    (r : ReplicaState S C) (input : Input C) (new : ReplicaState S C) (given : List (Effect C O)) → (k : Kept rules config m w earlier) → slice_get w.nodes n ≡ Some r →
+    r.stopped ≡ false → MayTake w n input → Loses rules r (replica_step rules r input) new given →
+    GoesOn rules config m (moved w n new given) k.came (added_whole w.archive n r input new given)
 takes_on rules config m w earlier n r input new given k stands runs may (inl (is, thin)) = done rules config m w earlier n r input new given k stands runs may is thin
 takes_on {S = S} {C = C} {O = O} rules config m w earlier n r input new given k stands runs may (inr (inl (e, g))) =
-    lost rules config m w earlier n r new given k stands
-    (subst (λ (v : WholeWorld S C O). MayHappen rules m (whole_world w) m v) (sym (moved_whole w n new given))
-    (node_takes n (whole w.archive r) (whole_input w.archive input) (get_whole (whole w.archive) w.nodes n r stands) runs (may_take_whole w n input may)
-    (inr (inl (ap (whole w.archive) e, ap (whole_effects w.archive) g)))))
+    lost rules config m w earlier n r new given (added_whole w.archive n r input new given) k stands
+    (step_whole rules m w n r input new given stands runs may (inr (inl (ap (whole w.archive) e, ap (whole_effects w.archive) g))))
     (ap (λ (s : ReplicaState S C). s.log) e) (ap (λ (s : ReplicaState S C). s.committed) e) g
 takes_on {S = S} {C = C} {O = O} rules config m w earlier n r input new given k stands runs may (inr (inr (e, g))) =
-    lost rules config m w earlier n r new given k stands
-    (subst (λ (v : WholeWorld S C O). MayHappen rules m (whole_world w) m v) (sym (moved_whole w n new given))
-    (node_takes n (whole w.archive r) (whole_input w.archive input) (get_whole (whole w.archive) w.nodes n r stands) runs (may_take_whole w n input may)
-    (inr (inr (ap (whole w.archive) e, ap (whole_effects w.archive) g)))))
+    lost rules config m w earlier n r new given (added_whole w.archive n r input new given) k stands
+    (step_whole rules m w n r input new given stands runs may (inr (inr (ap (whole w.archive) e, ap (whole_effects w.archive) g))))
     (ap (λ (s : ReplicaState S C). s.log) e) (ap (λ (s : ReplicaState S C). s.committed) e) g

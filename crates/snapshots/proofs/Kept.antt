@@ -23,7 +23,7 @@ use Rattle.ballot_base.specs.declared.message.Body.{Body}
 use Rattle.ballot_base.specs.declared.message.Effect.{Effect}
 use Rattle.ballot_base.specs.declared.message.Message.{Message}
 use Rattle.ballot_base.specs.Losses.{Thinned}
-use Rattle.snapshots.specs.World.{messages, World, MayTake, moved}
+use Rattle.snapshots.specs.World.{messages, World, MayTake, moved, whole_world}
 use Rattle.ballot_base.specs.declared.message.Body.TheVariants.{NewBallot, Join, State, Install, Installed, Activate, Activated, Superseded, Append, Held, Commit}
 use Rattle.ballot_base.specs.declared.message.Effect.TheVariants.{To, Out}
 use Rattle.ballot_base.specs.Losses.Thinned.{none, keeps, loses}
@@ -34,8 +34,9 @@ use Rattle.snapshots.proofs.Bases.{IsOwn, KeepsBase, SaysOwn}
 use Rattle.snapshots.proofs.Fronts.{whole_front, whole_long}
 use Rattle.snapshots.proofs.Continues.{Continues}
 use Rattle.snapshots.proofs.MoreMoments.{grows_in}
-use Rattle.snapshots.proofs.LogsGoOn.{TakesLog, log_goes_on, moment}
-use Rattle.snapshots.proofs.Views.{get_whole, happens_whole}
+use Rattle.snapshots.proofs.Adds.{Added, Adds, StepAdds, added_whole, adds_one}
+use Rattle.snapshots.proofs.LogsGoOn.{LogWent, TakesLog, log_goes_on, moment}
+use Rattle.snapshots.proofs.Views.{get_whole, step_whole, whole_loses}
 
 -- a snapshot is the frozen replay of the places of the record below its base
 pub record IsSnapshot {S C O : Type 0} (rules : Rules S C O) (archive : List C) (log : Log C) : Type 0 where
@@ -55,6 +56,20 @@ pub record Kept {S C O : Type 0} (rules : Rules S C O) (config : Config) (m : Ma
   pub nodes : (n : ℕ) (r : ReplicaState S C) → slice_get w.nodes n ≡ Some r → IsSnapshot rules w.archive r.log × (r.log.base ≤ r.committed)
   pub letters : (to : ℕ) (x : Message C) → In (to, x) w.sent → Carries rules (moment m w ∷ earlier) w.archive x.body
   pub begins : (xs : List C) → IsAgreed config (moment m w ∷ earlier) xs → IsPrefixOf w.archive xs
+
+-- .. and of the past on whole logs, over an earlier one, what it has more
+pub record KeptWith {S C O : Type 0} (rules : Rules S C O) (config : Config) (m : MasterState) (w : World S C O) (earlier : List (Moment S C O))
+    {before : List (Moment S C O)} (came : Past rules config before) (d : Added C O) : Type 0 where
+  pub kept : Kept rules config m w earlier
+  pub adds : Adds came kept.came d
+
+-- the past on whole logs has gone on
+pub record GoesOn {S C O : Type 0} (rules : Rules S C O) (config : Config) (m : MasterState) (w : World S C O) {before : List (Moment S C O)}
+    (came : Past rules config before) (d : Added C O) : Type 0 where
+  pub more : List (Moment S C O)
+  pub kept : Kept rules config m w more
+  pub continues : Continues before (moment m w) more
+  pub adds : Adds came kept.came d
 
 applied_in : {S C O : Type 0} (past more : List (Moment S C O)) (b k : ℕ) (front : List C) → ((c : Moment S C O) → In c past → In c more) →
     WasApplied past b k front → WasApplied more b k front
@@ -97,16 +112,20 @@ own_carries rules past archive s (Commit b held) snap was own = tt
 -- ---- after a move of a node
 
 pub kept_moved : {S C O : Type 0} (rules : Rules S C O) (config : Config) (m : MasterState) (w : World S C O) (earlier more : List (Moment S C O))
-    (n : ℕ) (r new : ReplicaState S C) (given : List (Effect C O)) → Kept rules config m w earlier → slice_get w.nodes n ≡ Some r →
-    Past rules config (moment m (moved w n new given) ∷ more) → ((c : Moment S C O) → In c (moment m w ∷ earlier) → In c more) →
-    IsSnapshot rules w.archive new.log → new.log.base ≤ new.committed → SaysOwn new given → Kept rules config m (moved w n new given) more
-kept_moved {S = S} {C = C} {O = O} rules config m w earlier more n r new given k stands came inc snap low own =
+    (n : ℕ) (r new : ReplicaState S C) (given : List (Effect C O)) (d : Added C O) → (k : Kept rules config m w earlier) → slice_get w.nodes n ≡ Some r →
+    (came : Past rules config (moment m (moved w n new given) ∷ more)) → ((c : Moment S C O) → In c (moment m w ∷ earlier) → In c more) →
+    IsSnapshot rules w.archive new.log → new.log.base ≤ new.committed → SaysOwn new given → Adds k.came came d →
+    KeptWith rules config m (moved w n new given) more k.came d
+kept_moved {S = S} {C = C} {O = O} rules config m w earlier more n r new given d k stands came inc snap low own adds =
     record {
-      came = came;
-      nodes = λ i x e. by_place i x e (cases_eq i n);
-      letters = λ to x i. by_age to x (in_append w.sent (messages given) i);
-      begins = λ ys agreed. let xs = has_agreed rules config (moment m w) earlier k.came in
-          prefix_then (k.begins xs.0 xs.1) (grows_in config (moment m w ∷ earlier) (moment m (moved w n new given) ∷ more) xs.0 ys (λ c i. there (inc c i)) xs.1 agreed);
+      kept = record {
+        came = came;
+        nodes = λ i x e. by_place i x e (cases_eq i n);
+        letters = λ to x i. by_age to x (in_append w.sent (messages given) i);
+        begins = λ ys agreed. let xs = has_agreed rules config (moment m w) earlier k.came in
+            prefix_then (k.begins xs.0 xs.1) (grows_in config (moment m w ∷ earlier) (moment m (moved w n new given) ∷ more) xs.0 ys (λ c i. there (inc c i)) xs.1 agreed);
+      };
+      adds = adds;
     }
   where
     by_place : (i : ℕ) (x : ReplicaState S C) → slice_get (set w.nodes n new) i ≡ Some x → (i ≡ n) ⊎ (i ≡ n → ⊥) → IsSnapshot rules w.archive x.log × (x.log.base ≤ x.committed)
@@ -143,16 +162,21 @@ own_thinned s (loses t) own to m i = own_thinned s t (λ a b j. own a b (there j
 
 -- a step that takes in no log, or takes none
 pub kept_plainly : {S C O : Type 0} (rules : Rules S C O) (config : Config) (m : MasterState) (w : World S C O) (earlier : List (Moment S C O))
-    (n : ℕ) (r : ReplicaState S C) (input : Input C) (new : ReplicaState S C) (given : List (Effect C O)) → Kept rules config m w earlier →
+    (n : ℕ) (r : ReplicaState S C) (input : Input C) (new : ReplicaState S C) (given : List (Effect C O)) → (k : Kept rules config m w earlier) →
     slice_get w.nodes n ≡ Some r → r.stopped ≡ false → MayTake w n input → KeepsBase {O = O} r (replica_step rules r input) →
     Matches w.archive (replica_step rules r input) (whole_step rules (whole w.archive r) (whole_input w.archive input)) →
     new ≡ (replica_step rules r input).state → Thinned given (replica_step rules r input).effects →
-    Kept rules config m (moved w n new given) (moment m w ∷ earlier)
+    KeptWith rules config m (moved w n new given) (moment m w ∷ earlier) k.came (added_whole w.archive n r input new given)
 kept_plainly {S = S} {C = C} {O = O} rules config m w earlier n r input new given k stands runs may base matches is thin =
-    kept_moved rules config m w earlier (moment m w ∷ earlier) n r new given k stands
-    (went_on k.came (happens_whole rules m w n r input new given stands runs may (inl (is, thin)) matches)) (λ c i. i) snap low
+    kept_moved rules config m w earlier (moment m w ∷ earlier) n r new given (added_whole w.archive n r input new given) k stands
+    (went_on k.came step.0) (λ c i. i) snap low
     (subst (λ (s : ReplicaState S C). SaysOwn s given) (sym is) (own_thinned (replica_step rules r input).state thin base.own))
+    (adds_one k.came (added_whole w.archive n r input new given) step)
   where
+    step : StepAdds rules m (whole_world w) m (whole_world (moved w n new given)) (added_whole w.archive n r input new given)
+    step = step_whole rules m w n r input new given stands runs may
+        (whole_loses rules w.archive r (replica_step rules r input) (whole_step rules (whole w.archive r) (whole_input w.archive input)) new given matches (inl (is, thin)))
+
     old : IsSnapshot rules w.archive r.log × (r.log.base ≤ r.committed)
     old = k.nodes n r stands
 
@@ -173,17 +197,16 @@ kept_plainly {S = S} {C = C} {O = O} rules config m w earlier n r input new give
 
 -- a step that takes a log
 pub kept_taking : {S C O : Type 0} (rules : Rules S C O) (config : Config) (m : MasterState) (w : World S C O) (earlier : List (Moment S C O))
-    (n : ℕ) (r : ReplicaState S C) (input : Input C) (ballot : ℕ) (log : Log C) (new : ReplicaState S C) (given : List (Effect C O)) → Kept rules config m w earlier →
+    (n : ℕ) (r : ReplicaState S C) (input : Input C) (ballot : ℕ) (log : Log C) (new : ReplicaState S C) (given : List (Effect C O)) → (k : Kept rules config m w earlier) →
     slice_get w.nodes n ≡ Some r → r.stopped ≡ false → MayTake w n input →
     IsSnapshot rules w.archive log × (0 < log.base → WasApplied (moment m w ∷ earlier) ballot log.base (take log.base w.archive)) →
     TakesLog {O = O} rules w.archive r input ballot log →
     ((took : ReplicaState S C) → taken rules r log ≡ Some took → ((replica_step rules r input).state.log ≡ took.log)
     × ((replica_step rules r input).state.committed ≡ took.committed) × SaysOwn {O = O} (replica_step rules r input).state (replica_step rules r input).effects) →
     new ≡ (replica_step rules r input).state → Thinned given (replica_step rules r input).effects →
-    (more : List (Moment S C O)) × Kept rules config m (moved w n new given) more
-    × Continues (moment m w ∷ earlier) (moment m (moved w n new given)) more
+    GoesOn rules config m (moved w n new given) k.came (added_whole w.archive n r input new given)
 kept_taking {S = S} {C = C} {O = O} rules config m w earlier n r input ballot log new given k stands runs may (snap, was) t behind is thin =
-    (z.0, by_base (cases_lt r.log.base log.base), z.3)
+    record { more = z.more; kept = all.kept; continues = z.continues; adds = all.adds }
   where
     old : IsSnapshot rules w.archive r.log × (r.log.base ≤ r.committed)
     old = k.nodes n r stands
@@ -193,25 +216,28 @@ kept_taking {S = S} {C = C} {O = O} rules config m w earlier n r input ballot lo
         let a = ((past_known rules config (moment m w) earlier k.came).serves.sound.nodes n (whole w.archive r) (get_whole (whole w.archive) w.nodes n r stands)).within in
         let b = whole_long w.archive r.log old.0.within in omega (arith, a, b)
 
-    z : (more : List (Moment S C O)) × Past rules config (moment m (moved w n new given) ∷ more) × ((c : Moment S C O) → In c (moment m w ∷ earlier) → In c more)
-        × Continues (moment m w ∷ earlier) (moment m (moved w n new given)) more
+    z : LogWent rules config m w earlier n r input new given k.came
     z = log_goes_on rules config m w earlier n r input ballot log (replay rules (take log.base w.archive)) new given k.came stands runs may
         (record { within = old.0.within; low = old.1 }) held snap.within t
         (λ over. let up : 0 < log.base = omega (arith, over) in (snap.read up, refl, was up)) is thin
 
     by_took : (took : ReplicaState S C) → taken rules r log ≡ Some took → IsSnapshot rules w.archive took.log → took.log.base ≤ took.committed →
-        Kept rules config m (moved w n new given) z.0
+        KeptWith rules config m (moved w n new given) z.more k.came (added_whole w.archive n r input new given)
     by_took took e snaps low =
         let b = behind took e in
         let x : new.log ≡ took.log = ap (λ (s : ReplicaState S C). s.log) is ∙ b.0 in
-        kept_moved rules config m w earlier z.0 n r new given k stands z.1 z.2
+        kept_moved rules config m w earlier z.more n r new given (added_whole w.archive n r input new given) k stands z.past z.all
         (subst (λ (l : Log C). IsSnapshot rules w.archive l) (sym x) snaps)
         (let y = ap (λ (l : Log C). l.base) x in let c = ap (λ (s : ReplicaState S C). s.committed) is in let d = b.1 in omega (arith, low, y, c, d))
-        (subst (λ (s : ReplicaState S C). SaysOwn s given) (sym is) (own_thinned (replica_step rules r input).state thin b.2))
+        (subst (λ (s : ReplicaState S C). SaysOwn s given) (sym is) (own_thinned (replica_step rules r input).state thin b.2)) z.adds
 
-    by_base : (r.log.base < log.base) ⊎ (log.base ≤ r.log.base) → Kept rules config m (moved w n new given) z.0
+    by_base : (r.log.base < log.base) ⊎ (log.base ≤ r.log.base) →
+        KeptWith rules config m (moved w n new given) z.more k.came (added_whole w.archive n r input new given)
     by_base (inr low) =
         by_took (with_places r log) (rw (le-ltb r.log.base log.base low) refl) (record { within = old.0.within; read = old.0.read; bytes = old.0.bytes }) old.1
     by_base (inl over) =
         by_took (with_snapshot r log (replay rules (take log.base w.archive)))
         (rw (lt-ltb r.log.base log.base over) (ap (read_into r log) (snap.read (omega (arith, over))))) snap (omega arith)
+
+    all : KeptWith rules config m (moved w n new given) z.more k.came (added_whole w.archive n r input new given)
+    all = by_base (cases_lt r.log.base log.base)

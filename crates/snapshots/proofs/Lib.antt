@@ -13,11 +13,14 @@ pub mod LogsGoOn
 pub mod LogsLearned
 pub mod LogsTaken
 pub mod MoreMoments
+pub mod NextPlaces
 pub mod Opens
+pub mod Orders
 pub mod PastsAgree
 pub mod PastsKept
 pub mod Plain
 pub mod Serving
 pub mod SnapshotsRead
+pub mod TakenStands
 pub mod Taking
 pub mod Views

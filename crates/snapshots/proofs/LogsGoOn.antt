@@ -1,6 +1,6 @@
 -- LogsGoOn.antt: a node that takes a log, by any of the three ways, goes on as on whole logs.
-use Rattle.std.proofs.Common.{◌≡◌, ℕ, ◌<◌, ◌≤◌, ◌⊎◌, inl, inr, false, List, ◌∷◌, length, set, take, Some, refl, ap, sym, ◌∙◌, subst, arith}
-use Rattle.std.specs.Prelude.{slice_get}
+use Rattle.std.proofs.Common.{cond, [], ◌≡◌, ℕ, ◌<◌, ◌≤◌, ◌⊎◌, inl, inr, false, List, ◌∷◌, length, set, take, Some, refl, ap, sym, ◌∙◌, subst, arith}
+use Rattle.std.specs.Prelude.{◌==◌, slice_get}
 use Rattle.std.proofs.lemmas.Bool.{cases_eq, cases_lt, lt-ltb, le-ltb}
 use Rattle.std.proofs.lemmas.List.{take-take}
 use Rattle.machine.specs.Machine.{Rules, replay}
@@ -31,7 +31,9 @@ use Rattle.snapshots.proofs.Agreed.{WasApplied, fronts_stay, learns_behind}
 use Rattle.snapshots.proofs.Fronts.{whole_front, whole_long}
 use Rattle.snapshots.proofs.LogsTaken.{LearnsTo}
 use Rattle.snapshots.proofs.Taking.{places_taken, snapshot_learned, snapshot_taken}
-use Rattle.snapshots.proofs.Views.{get_whole, happens_whole, may_take_whole, moved_whole, thinned_then, whole_thinned}
+use Rattle.snapshots.proofs.Adds.{Adds, added_at, added_whole, adds_as, adds_one}
+use Rattle.agreement.specs.Proposals.{taken_by as whole_taken_by}
+use Rattle.snapshots.proofs.Views.{get_whole, may_take_whole, moved_whole, step_whole, thinned_then, whole_loses, whole_thinned}
 
 -- a world with a master, on whole logs
 abbrev pub moment : {S C O : Type 0} → MasterState → World S C O → Moment S C O
@@ -88,16 +90,24 @@ tells_before {S = S} {C = C} {O = O} rules m w n s new given r k stands is = rec
       refl,
     )
 
+-- the past on whole logs after a node took in a log, and what was added to it
+pub record LogWent {S C O : Type 0} (rules : Rules S C O) (config : Config) (m : MasterState) (w : World S C O) (earlier : List (Moment S C O)) (n : ℕ)
+    (r : ReplicaState S C) (input : Input C) (new : ReplicaState S C) (given : List (Effect C O)) (came : Past rules config (moment m w ∷ earlier)) : Type 0 where
+  pub more : List (Moment S C O)
+  pub past : Past rules config (moment m (moved w n new given) ∷ more)
+  pub all : (c : Moment S C O) → In c (moment m w ∷ earlier) → In c more
+  pub continues : Continues (moment m w ∷ earlier) (moment m (moved w n new given)) more
+  pub adds : Adds came past (added_whole w.archive n r input new given)
+
 -- so the whole logs have gone on, by one step or by one and learning
 pub log_goes_on : {S C O : Type 0} (rules : Rules S C O) (config : Config) (m : MasterState) (w : World S C O) (earlier : List (Moment S C O)) (n : ℕ)
     (r : ReplicaState S C) (input : Input C) (ballot : ℕ) (log : Log C) (machine : S) (new : ReplicaState S C) (given : List (Effect C O)) →
-    Past rules config (moment m w ∷ earlier) → slice_get w.nodes n ≡ Some r → r.stopped ≡ false → MayTake w n input → IsBased w.archive r →
+    (came : Past rules config (moment m w ∷ earlier)) → slice_get w.nodes n ≡ Some r → r.stopped ≡ false → MayTake w n input → IsBased w.archive r →
     r.committed ≤ places r.log → log.base ≤ length w.archive → TakesLog {O = O} rules w.archive r input ballot log →
     (r.log.base < log.base → (rules.thawed log.snapshot ≡ Some machine) × (machine ≡ replay rules (take log.base w.archive))
     × WasApplied (moment m w ∷ earlier) ballot log.base (take log.base w.archive)) →
     new ≡ (replica_step rules r input).state → Thinned given (replica_step rules r input).effects →
-    (more : List (Moment S C O)) × Past rules config (moment m (moved w n new given) ∷ more) × ((c : Moment S C O) → In c (moment m w ∷ earlier) → In c more)
-    × Continues (moment m w ∷ earlier) (moment m (moved w n new given)) more
+    LogWent rules config m w earlier n r input new given came
 log_goes_on {S = S} {C = C} {O = O} rules config m w earlier n r input ballot log machine new given came stands runs may based held within t reads is thin =
     by_base (cases_lt r.log.base log.base)
   where
@@ -106,6 +116,9 @@ log_goes_on {S = S} {C = C} {O = O} rules config m w earlier n r input ballot lo
 
     p : WholeOutcome S C O
     p = whole_step rules W (whole_input w.archive input)
+
+    middle : Moment S C O
+    middle = record { master = m; world = whole_moved (whole_world w) n p.state (whole_effects w.archive given) }
 
     there_now : slice_get (whole_world w).nodes n ≡ Some W
     there_now = get_whole (whole w.archive) w.nodes n r stands
@@ -124,18 +137,20 @@ log_goes_on {S = S} {C = C} {O = O} rules config m w earlier n r input ballot lo
         (subst (λ (us : List C). r.committed ≤ length us) (sym t.log_is) long)
 
     by_match : Matches w.archive (replica_step rules r input) p →
-        (more : List (Moment S C O)) × Past rules config (moment m (moved w n new given) ∷ more) × ((c : Moment S C O) → In c (moment m w ∷ earlier) → In c more)
-        × Continues (moment m w ∷ earlier) (moment m (moved w n new given)) more
-    by_match matches = (
-      moment m w ∷ earlier,
-      went_on came (happens_whole rules m w n r input new given stands runs may (inl (is, thin)) matches),
-      λ c i. i,
-      one_more (moment m w ∷ earlier) (moment m (moved w n new given)),
-    )
+        LogWent rules config m w earlier n r input new given came
+    by_match matches =
+        let s = step_whole rules m w n r input new given stands runs may
+        (whole_loses rules w.archive r (replica_step rules r input) p new given matches (inl (is, thin))) in
+        record {
+          more = moment m w ∷ earlier;
+          past = went_on came s.0;
+          all = λ c i. i;
+          continues = one_more (moment m w ∷ earlier) (moment m (moved w n new given));
+          adds = adds_one came (added_whole w.archive n r input new given) s;
+        }
 
     by_base : (r.log.base < log.base) ⊎ (log.base ≤ r.log.base) →
-        (more : List (Moment S C O)) × Past rules config (moment m (moved w n new given) ∷ more) × ((c : Moment S C O) → In c (moment m w ∷ earlier) → In c more)
-        × Continues (moment m w ∷ earlier) (moment m (moved w n new given)) more
+        LogWent rules config m w earlier n r input new given came
     by_base (inr low) =
         by_match (t.row (with_places r log) (rw (le-ltb r.log.base log.base low) refl) refl refl
         (places_taken w.archive r log based low t.long
@@ -147,16 +162,14 @@ log_goes_on {S = S} {C = C} {O = O} rules config m w earlier n r input ballot lo
       where
         by_applied : (rules.thawed log.snapshot ≡ Some machine) × (machine ≡ replay rules (take log.base w.archive))
             × WasApplied (moment m w ∷ earlier) ballot log.base (take log.base w.archive) → (r.committed < log.base) ⊎ (log.base ≤ r.committed) →
-            (more : List (Moment S C O)) × Past rules config (moment m (moved w n new given) ∷ more) × ((c : Moment S C O) → In c (moment m w ∷ earlier) → In c more)
-            × Continues (moment m w ∷ earlier) (moment m (moved w n new given)) more
+            LogWent rules config m w earlier n r input new given came
         by_applied (read, replays, was) way = by_way way
           where
             took : taken rules r log ≡ Some (with_snapshot r log machine)
             took = rw (lt-ltb r.log.base log.base over) (ap (read_into r log) read)
 
             by_way : (r.committed < log.base) ⊎ (log.base ≤ r.committed) →
-                (more : List (Moment S C O)) × Past rules config (moment m (moved w n new given) ∷ more) × ((c : Moment S C O) → In c (moment m w ∷ earlier) → In c more)
-                × Continues (moment m w ∷ earlier) (moment m (moved w n new given)) more
+                LogWent rules config m w earlier n r input new given came
             by_way (inr low) = by_match (t.row (with_snapshot r log machine) took refl refl (snapshot_taken w.archive r log machine low))
             by_way (inl past) =
                 let l = t.learns (with_snapshot r log machine) took
@@ -171,13 +184,17 @@ log_goes_on {S = S} {C = C} {O = O} rules config m w earlier n r input ballot lo
                 let low : p.state.committed ≤ log.base = let a = t.committed in omega (arith, a, past) in
                 let z = learns_behind rules config (moment m w) earlier n W (whole w.archive new) (whole_input w.archive input) (whole_effects w.archive given)
                 log.base came there_now runs (may_take_whole w n input may) (thinned_then (whole_thinned w.archive thin) l.effects)
-                (t.stopped ∙ runs) t.passive low base_long known (ap (whole w.archive) is ∙ l.state) in (
-                  record { master = m; world = whole_moved (whole_world w) n p.state (whole_effects w.archive given) } ∷ moment m w ∷ earlier,
-                  subst (λ (v : WholeWorld S C O). Past rules config (record { master = m; world = v }
-                      ∷ record { master = m; world = whole_moved (whole_world w) n p.state (whole_effects w.archive given) } ∷ moment m w ∷ earlier))
-                      (sym (moved_whole w n new given)) z,
-                  λ c i. there i,
-                  two_more (moment m w ∷ earlier) (moment m (moved w n new given))
-                      (record { master = m; world = whole_moved (whole_world w) n p.state (whole_effects w.archive given) })
-                      (tells_before rules m w n p.state new given r log.base stands (ap (whole w.archive) is ∙ l.state)),
-                )
+                (t.stopped ∙ runs) t.passive low base_long known (ap (whole w.archive) is ∙ l.state) in
+                let e = subst (λ (v : WholeWorld S C O). (q : Past rules config (record { master = m; world = v } ∷ middle ∷ moment m w ∷ earlier))
+                × Adds came q (added_at n W (whole_input w.archive input) p.state (whole_effects w.archive given)))
+                (sym (moved_whole w n new given)) z in
+                let same = ap (λ (x : WholeState S C). whole_taken_by W x (whole_input w.archive input)) (sym (ap (whole w.archive) is ∙ l.state)) in
+                record {
+                  more = middle ∷ moment m w ∷ earlier;
+                  past = e.0;
+                  all = λ c i. there i;
+                  continues = two_more (moment m w ∷ earlier) (moment m (moved w n new given)) middle
+                      (tells_before rules m w n p.state new given r log.base stands (ap (whole w.archive) is ∙ l.state));
+                  adds = adds_as came e.0 (added_at n W (whole_input w.archive input) p.state (whole_effects w.archive given))
+                      (added_whole w.archive n r input new given) refl same (λ i. ap (λ us. cond (n == i) us []) same) (λ i. refl) e.1;
+                }

@@ -14,7 +14,6 @@ use Rattle.ballot_base.specs.declared.status.Role.TheVariants.{Active}
 use Rattle.agreement.specs.MasterState.{MasterState, opening_master}
 use Rattle.agreement.specs.Past.{Moment, Past}
 use Rattle.agreement.specs.Past.Past.{began, went_on}
-use Rattle.agreement.specs.Steps.{MayHappen}
 use Rattle.agreement.specs.World.{can_open, opening_nodes as whole_opening_nodes}
 use Rattle.snapshots.specs.Past.{opening_nodes, opening_world}
 use Rattle.agreement.proofs.Agreed.PastAgrees.{has_agreed}
@@ -24,7 +23,8 @@ use Rattle.ballot_base.specs.declared.message.Message.{Message}
 use Rattle.ballot_base.specs.declared.message.Body.TheVariants.{NewBallot, Join, State, Install, Installed, Activate, Activated, Superseded, Append, Held, Commit}
 use Rattle.snapshots.specs.Whole.{whole, whole_body}
 use Rattle.snapshots.specs.World.{World, whole_letter, whole_world}
-use Rattle.snapshots.proofs.Kept.{Carries, IsSnapshot, Kept, carries_in}
+use Rattle.snapshots.proofs.Adds.{Adds, SaysNothing, StepAdds, adds_one, nothing_added}
+use Rattle.snapshots.proofs.Kept.{Carries, IsSnapshot, Kept, KeptWith, carries_in}
 use Rattle.snapshots.proofs.MoreMoments.{grows_in}
 use Rattle.snapshots.proofs.LogsGoOn.{moment}
 use Rattle.snapshots.proofs.Plain.{IsPlainBody}
@@ -84,6 +84,12 @@ opens_kept {S = S} {C = C} {O = O} rules nodes config can =
       (let a = ap (λ (l : Log C). l.base) e in omega (arith, a)),
     )
 
+-- .. and nothing was proposed, taken or given
+pub opens_silent : {S C O : Type 0} (rules : Rules S C O) (nodes : ℕ) (config : Config) (can : can_open nodes config ≡ true) →
+    SaysNothing (opens_kept {O = O} rules nodes config can).came
+unfolding opens_kept
+opens_silent rules nodes config can = record { proposes = refl; takes = refl; takes_at = λ n. refl; gives = λ n. refl }
+
 -- ---- the master
 
 plain_carries : {S C O : Type 0} (rules : Rules S C O) (past : List (Moment S C O)) (archive : List C) (body : Body C) → IsPlainBody body →
@@ -102,19 +108,29 @@ plain_carries rules past archive (Commit b held) p = tt
 
 -- a message of the master carries no log
 pub master_kept : {S C O : Type 0} (rules : Rules S C O) (config : Config) (m k : MasterState) (w : World S C O) (earlier : List (Moment S C O))
-    (receiver : ℕ) (body : Body C) → Kept rules config m w earlier → IsPlainBody body →
-    MayHappen rules m (whole_world w) k (record (whole_world w) { sent = (whole_world w).sent ++ (receiver, record { from = 0; body = whole_body w.archive body }) ∷ [] }) →
-    Kept rules config k (record w { sent = w.sent ++ (receiver, record { from = 0; body = body }) ∷ [] }) (moment m w ∷ earlier)
+    (receiver : ℕ) (body : Body C) → (q : Kept rules config m w earlier) → IsPlainBody body →
+    StepAdds rules m (whole_world w) k (record (whole_world w) { sent = (whole_world w).sent ++ (receiver, record { from = 0; body = whole_body w.archive body }) ∷ [] })
+    (nothing_added C O) →
+    KeptWith rules config k (record w { sent = w.sent ++ (receiver, record { from = 0; body = body }) ∷ [] }) (moment m w ∷ earlier) q.came (nothing_added C O)
 master_kept {S = S} {C = C} {O = O} rules config m k w earlier receiver body q plain step =
     record {
-      came = subst (λ us. let x : Moment S C O = record { master = k; world = record (whole_world w) { sent = us } } in Past rules config (x ∷ moment m w ∷ earlier))
-          (sym (map-append (whole_letter w.archive) w.sent ((receiver, record { from = 0; body = body }) ∷ []))) (went_on q.came step);
-      nodes = q.nodes;
-      letters = λ to x i. by_age to x (in_append w.sent ((receiver, record { from = 0; body = body }) ∷ []) i);
-      begins = λ ys agreed. let xs = has_agreed rules config (moment m w) earlier q.came in
-          prefix_then (q.begins xs.0 xs.1) (grows_in config (moment m w ∷ earlier) (moment k v ∷ moment m w ∷ earlier) xs.0 ys (λ c i. there i) xs.1 agreed);
+      kept = record {
+        came = past.0;
+        nodes = q.nodes;
+        letters = λ to x i. by_age to x (in_append w.sent ((receiver, record { from = 0; body = body }) ∷ []) i);
+        begins = λ ys agreed. let xs = has_agreed rules config (moment m w) earlier q.came in
+            prefix_then (q.begins xs.0 xs.1) (grows_in config (moment m w ∷ earlier) (moment k v ∷ moment m w ∷ earlier) xs.0 ys (λ c i. there i) xs.1 agreed);
+      };
+      adds = past.1;
     }
   where
+    past : (came : Past rules config (moment k (record w { sent = w.sent ++ (receiver, record { from = 0; body = body }) ∷ [] }) ∷ moment m w ∷ earlier))
+        × Adds q.came came (nothing_added C O)
+    past = subst (λ us. let x : Moment S C O = record { master = k; world = record (whole_world w) { sent = us } } in
+        (came : Past rules config (x ∷ moment m w ∷ earlier)) × Adds q.came came (nothing_added C O))
+        (sym (map-append (whole_letter w.archive) w.sent ((receiver, record { from = 0; body = body }) ∷ [])))
+        (went_on q.came step.0, adds_one q.came (nothing_added C O) step)
+
     v : World S C O
     v = record w { sent = w.sent ++ (receiver, record { from = 0; body = body }) ∷ [] }
 
@@ -129,12 +145,16 @@ master_kept {S = S} {C = C} {O = O} rules config m k w earlier receiver body q p
 
 -- .. or it was lost
 pub master_unheard : {S C O : Type 0} (rules : Rules S C O) (config : Config) (m k : MasterState) (w : World S C O) (earlier : List (Moment S C O)) →
-    Kept rules config m w earlier → MayHappen rules m (whole_world w) k (whole_world w) → Kept rules config k w (moment m w ∷ earlier)
+    (q : Kept rules config m w earlier) → StepAdds rules m (whole_world w) k (whole_world w) (nothing_added C O) →
+    KeptWith rules config k w (moment m w ∷ earlier) q.came (nothing_added C O)
 master_unheard {S = S} {C = C} {O = O} rules config m k w earlier q step =
     record {
-      came = went_on q.came step;
-      nodes = q.nodes;
-      letters = λ to x i. carries_in rules (moment m w ∷ earlier) (moment k w ∷ moment m w ∷ earlier) w.archive x.body (λ c j. there j) (q.letters to x i);
-      begins = λ ys agreed. let xs = has_agreed rules config (moment m w) earlier q.came in
-          prefix_then (q.begins xs.0 xs.1) (grows_in config (moment m w ∷ earlier) (moment k w ∷ moment m w ∷ earlier) xs.0 ys (λ c i. there i) xs.1 agreed);
+      kept = record {
+        came = went_on q.came step.0;
+        nodes = q.nodes;
+        letters = λ to x i. carries_in rules (moment m w ∷ earlier) (moment k w ∷ moment m w ∷ earlier) w.archive x.body (λ c j. there j) (q.letters to x i);
+        begins = λ ys agreed. let xs = has_agreed rules config (moment m w) earlier q.came in
+            prefix_then (q.begins xs.0 xs.1) (grows_in config (moment m w ∷ earlier) (moment k w ∷ moment m w ∷ earlier) xs.0 ys (λ c i. there i) xs.1 agreed);
+      };
+      adds = adds_one q.came (nothing_added C O) step;
     }

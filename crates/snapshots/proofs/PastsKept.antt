@@ -1,46 +1,52 @@
 -- PastsKept.antt: what is kept holds after each step of a group that cuts its logs, and so at each moment of its pasts.
-use Rattle.std.proofs.Common.{cond, Bool, ◌≡◌, ℕ, true, false, List, [], ◌∷◌, ◌++◌, map, None, Some, Option, refl, sym, subst}
+use Rattle.std.proofs.Common.{cond, Bool, ◌≡◌, ℕ, true, false, List, [], ◌∷◌, ◌++◌, map, None, Some, Option, refl, ap, sym, ◌∙◌, subst}
 use Rattle.machine.specs.Machine.{Rules}
 use Rattle.agreement.specs.whole.Messages.Body.{Activated as whole_activated, Superseded as whole_superseded}
 use Rattle.agreement.specs.whole.Messages.{Body as WholeBody}
 use Rattle.agreement.specs.MasterState.{MasterState, AssignRefusal, activating, is_granted, master_behind, opening_master, refusal}
-use Rattle.agreement.specs.Past.{Moment as WholeMoment}
-use Rattle.agreement.specs.Steps.{MayHappen as WholeMayHappen, world_behind as whole_behind}
+use Rattle.agreement.specs.Giving.{given_of as whole_given_of}
+use Rattle.agreement.specs.Past.{Moment as WholeMoment, Past as WholePast}
+use Rattle.agreement.specs.Proposals.{proposals_of as whole_proposals_of, taken_at as whole_taken_at, taken_of as whole_taken_of}
+use Rattle.agreement.specs.Steps.{world_behind as whole_behind}
 use Rattle.agreement.specs.Steps.{MayHappen as happens}
 use Rattle.ballot_base.specs.declared.config.Config.{Config}
 use Rattle.ballot_base.specs.declared.message.Body.TheVariants.{Activated, Superseded}
 use Rattle.snapshots.specs.Past.{Moment, Past, opening_world, whole_moment}
 use Rattle.snapshots.specs.Past.Past.{began, went_on}
+use Rattle.snapshots.specs.Giving.{given_in, given_of}
 use Rattle.snapshots.specs.Masters.{activated, assigned}
+use Rattle.snapshots.specs.Proposals.{proposal_of, proposals_of, taken_at, taken_in, taken_of, takes_at}
 use Rattle.snapshots.specs.Steps.{MayHappen, tells_from_master, world_behind}
 use Rattle.snapshots.specs.Steps.MayHappen.{node_goes, master_assigns, master_hears, assignment_lost, answer_lost}
 use Rattle.snapshots.specs.Whole.{whole_body}
 use Rattle.snapshots.specs.World.{World, whole_letter, whole_world}
-use Rattle.snapshots.proofs.Continues.{Covers, covers_first, covers_more, one_more}
+use Rattle.snapshots.proofs.Continues.{Covers, covers_first, covers_more}
+use Rattle.snapshots.proofs.Adds.{Added, AddsBy, SaysNothing, StepAdds, nothing_added}
 use Rattle.snapshots.proofs.CutsGoOn.{node_goes_on}
-use Rattle.snapshots.proofs.GoesOn.{GoesOn}
-use Rattle.snapshots.proofs.Kept.{Kept}
+use Rattle.snapshots.proofs.GoesOn.{on_by_one}
+use Rattle.snapshots.proofs.Kept.{GoesOn, Kept}
 use Rattle.snapshots.proofs.LogsGoOn.{moment}
-use Rattle.snapshots.proofs.Opens.{master_kept, master_unheard, opens_kept}
+use Rattle.snapshots.proofs.Opens.{master_kept, master_unheard, opens_kept, opens_silent}
 use Rattle.snapshots.proofs.Plain.{IsPlainBody}
 use Rattle.snapshots.proofs.Views.{in_whole}
 
 -- an Assign, by what the master answers
 assigns_on : {S C O : Type 0} (rules : Rules S C O) (config : Config) (m : MasterState) (w : World S C O) (earlier : List (WholeMoment S C O)) (c : Config)
-    (o : Option AssignRefusal) → refusal m c ≡ o → Kept rules config m w earlier →
-    GoesOn rules config (master_behind m c o) (world_behind m w c o) (moment m w ∷ earlier)
-assigns_on {S = S} {C = C} {O = O} rules config m w earlier c (Some why) e k = (
-  moment m w ∷ earlier,
-  master_unheard rules config m m w earlier k
-      (subst (λ (o : Option AssignRefusal). WholeMayHappen rules m (whole_world w) (master_behind m c o) (whole_behind m (whole_world w) c o)) e (happens.master_assigns c)),
-  one_more (moment m w ∷ earlier) (moment m w),
-)
-assigns_on {S = S} {C = C} {O = O} rules config m w earlier c None e k = (
-  moment m w ∷ earlier,
-  master_kept rules config m (master_behind m c None) w earlier c.primary (assigned C m c).body k tt
-      (subst (λ (o : Option AssignRefusal). WholeMayHappen rules m (whole_world w) (master_behind m c o) (whole_behind m (whole_world w) c o)) e (happens.master_assigns c)),
-  one_more (moment m w ∷ earlier) (moment (master_behind m c None) (world_behind m w c None)),
-)
+    (o : Option AssignRefusal) → refusal m c ≡ o → (k : Kept rules config m w earlier) →
+    GoesOn rules config (master_behind m c o) (world_behind m w c o) k.came (nothing_added C O)
+assigns_on {S = S} {C = C} {O = O} rules config m w earlier c o e k = by_answer o step
+  where
+    step : StepAdds rules m (whole_world w) (master_behind m c o) (whole_behind m (whole_world w) c o) (nothing_added C O)
+    step = subst (λ (o : Option AssignRefusal). StepAdds rules m (whole_world w) (master_behind m c o) (whole_behind m (whole_world w) c o) (nothing_added C O)) e
+        (happens.master_assigns c, record { proposes = refl; takes = refl; takes_at = λ n. refl; gives = λ n. refl })
+
+    by_answer : (o : Option AssignRefusal) → StepAdds rules m (whole_world w) (master_behind m c o) (whole_behind m (whole_world w) c o) (nothing_added C O) →
+        GoesOn rules config (master_behind m c o) (world_behind m w c o) k.came (nothing_added C O)
+    by_answer (Some why) step =
+        on_by_one rules config m w (moment m w ∷ earlier) k.came (nothing_added C O) (master_unheard rules config m m w earlier k step)
+    by_answer None step =
+        on_by_one rules config (master_behind m c None) (world_behind m w c None) (moment m w ∷ earlier) k.came (nothing_added C O)
+        (master_kept rules config m (master_behind m c None) w earlier c.primary (assigned C m c).body k tt step)
 
 -- what it answers to an Activate, on whole logs
 answer_whole : {C : Type 0} (archive : List C) (ballot : ℕ) (granted : Bool) →
@@ -52,30 +58,30 @@ answer_plain : (C : Type 0) (ballot : ℕ) (granted : Bool) → IsPlainBody {C =
 answer_plain C ballot true = tt
 answer_plain C ballot false = tt
 
--- whatever happens
+-- what happens, and what it adds
+abbrev pub added_of : {S C O : Type 0} {rules : Rules S C O} {m : MasterState} {w : World S C O} {k : MasterState} {v : World S C O} →
+    MayHappen rules m w k v → Added C O
+added_of step = record { proposed = proposal_of step; taken = taken_in step; taken_at = λ n. takes_at n step; given = λ n. given_in n step }
+
 pub step_goes_on : {S C O : Type 0} (rules : Rules S C O) (config : Config) (m k : MasterState) (w v : World S C O) (earlier : List (WholeMoment S C O)) →
-    Kept rules config m w earlier → MayHappen rules m w k v → GoesOn rules config k v (moment m w ∷ earlier)
+    (q : Kept rules config m w earlier) → (step : MayHappen rules m w k v) → GoesOn rules config k v q.came (added_of step)
 step_goes_on rules config m k w v earlier q (node_goes goes) = node_goes_on rules config m w v earlier q goes
 step_goes_on rules config m k w v earlier q (master_assigns c) = assigns_on rules config m w earlier c (refusal m c) refl q
-step_goes_on {S = S} {C = C} {O = O} rules config m k w v earlier q (master_hears from b sent) = (
-  moment m w ∷ earlier,
-  master_kept rules config m (activating m b m.waiting) w earlier from (activated C m b from m.waiting).body q (answer_plain C b (is_granted m b m.waiting))
-      (subst (λ (body : WholeBody C). WholeMayHappen rules m (whole_world w) (activating m b m.waiting)
-      (record (whole_world w) { sent = (whole_world w).sent ++ (from, record { from = 0; body = body }) ∷ [] }))
-      (sym (answer_whole w.archive b (is_granted m b m.waiting)))
-      (happens.master_hears from b (in_whole (whole_letter w.archive) sent))),
-  one_more (moment m w ∷ earlier) (moment (activating m b m.waiting) (tells_from_master w (activated C m b from m.waiting))),
-)
-step_goes_on rules config m k w v earlier q (assignment_lost c) = (
-  moment m w ∷ earlier,
-  master_unheard rules config m (master_behind m c (refusal m c)) w earlier q (happens.assignment_lost c),
-  one_more (moment m w ∷ earlier) (moment (master_behind m c (refusal m c)) w),
-)
-step_goes_on rules config m k w v earlier q (answer_lost from b sent) = (
-  moment m w ∷ earlier,
-  master_unheard rules config m (activating m b m.waiting) w earlier q (happens.answer_lost from b (in_whole (whole_letter w.archive) sent)),
-  one_more (moment m w ∷ earlier) (moment (activating m b m.waiting) w),
-)
+step_goes_on {S = S} {C = C} {O = O} rules config m k w v earlier q (master_hears from b sent) =
+    on_by_one rules config (activating m b m.waiting) (tells_from_master w (activated C m b from m.waiting)) (moment m w ∷ earlier) q.came (nothing_added C O)
+    (master_kept rules config m (activating m b m.waiting) w earlier from (activated C m b from m.waiting).body q (answer_plain C b (is_granted m b m.waiting))
+    (subst (λ (body : WholeBody C). StepAdds rules m (whole_world w) (activating m b m.waiting)
+    (record (whole_world w) { sent = (whole_world w).sent ++ (from, record { from = 0; body = body }) ∷ [] }) (nothing_added C O))
+    (sym (answer_whole w.archive b (is_granted m b m.waiting)))
+    (happens.master_hears from b (in_whole (whole_letter w.archive) sent), record { proposes = refl; takes = refl; takes_at = λ n. refl; gives = λ n. refl })))
+step_goes_on {C = C} {O = O} rules config m k w v earlier q (assignment_lost c) =
+    on_by_one rules config (master_behind m c (refusal m c)) w (moment m w ∷ earlier) q.came (nothing_added C O)
+    (master_unheard rules config m (master_behind m c (refusal m c)) w earlier q
+    (happens.assignment_lost c, record { proposes = refl; takes = refl; takes_at = λ n. refl; gives = λ n. refl }))
+step_goes_on {C = C} {O = O} rules config m k w v earlier q (answer_lost from b sent) =
+    on_by_one rules config (activating m b m.waiting) w (moment m w ∷ earlier) q.came (nothing_added C O)
+    (master_unheard rules config m (activating m b m.waiting) w earlier q
+    (happens.answer_lost from b (in_whole (whole_letter w.archive) sent), record { proposes = refl; takes = refl; takes_at = λ n. refl; gives = λ n. refl }))
 
 -- a past on whole logs that a past of a group that cuts its logs stands for
 pub record StandsFor {S C O : Type 0} (rules : Rules S C O) (config : Config) (a : Moment S C O) (past : List (Moment S C O)) : Type 0 where
@@ -83,20 +89,50 @@ pub record StandsFor {S C O : Type 0} (rules : Rules S C O) (config : Config) (a
   pub kept : Kept rules config a.master a.world earlier
   pub covers : Covers (map whole_moment (a ∷ past)) (whole_moment a ∷ earlier)
 
+-- .. with the same proposals, taken by the same nodes, and the same outputs
+pub record SaysAs {S C O : Type 0} {rules : Rules S C O} {config : Config} {xs : List (Moment S C O)} {ys : List (WholeMoment S C O)}
+    (came : Past rules config xs) (whole : WholePast rules config ys) : Type 0 where
+  pub proposes : whole_proposals_of whole ≡ proposals_of came
+  pub takes : whole_taken_of whole ≡ taken_of came
+  pub takes_at : (n : ℕ) → whole_taken_at n whole ≡ taken_at n came
+  pub gives : (n : ℕ) → whole_given_of n whole ≡ given_of n came
+
+pub record StandsWith {S C O : Type 0} (rules : Rules S C O) (config : Config) (a : Moment S C O) (past : List (Moment S C O))
+    (came : Past rules config (a ∷ past)) : Type 0 where
+  pub stands : StandsFor rules config a past
+  pub says : SaysAs came stands.kept.came
+
+pub past_stands_with : {S C O : Type 0} (rules : Rules S C O) (config : Config) (a : Moment S C O) (past : List (Moment S C O)) → (came : Past rules config (a ∷ past)) →
+    StandsWith rules config a past came
+past_stands_with {S = S} {C = C} {O = O} rules config a past (began nodes can is) =
+    record { stands = z.0; says = record { proposes = z.1.proposes; takes = z.1.takes; takes_at = z.1.takes_at; gives = z.1.gives } }
+  where
+    z : (s : StandsFor rules config a []) × SaysNothing s.kept.came
+    z = subst (λ (x : Moment S C O). (s : StandsFor rules config x []) × SaysNothing s.kept.came) (sym is) (
+      record {
+        earlier = [];
+        kept = opens_kept rules nodes config can;
+        covers = covers_first (moment (opening_master config) (opening_world rules nodes config));
+      },
+      opens_silent rules nodes config can,
+    )
+past_stands_with {S = S} {C = C} {O = O} rules config b (a ∷ past) (went_on came step) =
+    let q = past_stands_with rules config a past came in
+    let z = step_goes_on rules config a.master b.master a.world b.world q.stands.earlier q.stands.kept step in
+    record {
+      stands = record {
+        earlier = z.more;
+        kept = z.kept;
+        covers = covers_more (map whole_moment (a ∷ past)) (whole_moment a ∷ q.stands.earlier) (whole_moment b) z.more q.stands.covers z.continues;
+      };
+      says = record {
+        proposes = z.adds.proposes ∙ ap (λ us. us ++ proposal_of step) q.says.proposes;
+        takes = z.adds.takes ∙ ap (λ us. us ++ taken_in step) q.says.takes;
+        takes_at = λ n. z.adds.takes_at n ∙ ap (λ us. us ++ takes_at n step) (q.says.takes_at n);
+        gives = λ n. z.adds.gives n ∙ ap (λ us. us ++ given_in n step) (q.says.gives n);
+      };
+    }
+
 pub past_stands : {S C O : Type 0} (rules : Rules S C O) (config : Config) (a : Moment S C O) (past : List (Moment S C O)) →
     Past rules config (a ∷ past) → StandsFor rules config a past
-past_stands {S = S} {C = C} {O = O} rules config a past (began nodes can is) =
-    subst (λ (x : Moment S C O). StandsFor rules config x []) (sym is)
-    (record {
-      earlier = [];
-      kept = opens_kept rules nodes config can;
-      covers = covers_first (moment (opening_master config) (opening_world rules nodes config));
-    })
-past_stands {S = S} {C = C} {O = O} rules config b (a ∷ past) (went_on came step) =
-    let q = past_stands rules config a past came in
-    let z = step_goes_on rules config a.master b.master a.world b.world q.earlier q.kept step in
-    record {
-      earlier = z.0;
-      kept = z.1;
-      covers = covers_more (map whole_moment (a ∷ past)) (whole_moment a ∷ q.earlier) (whole_moment b) z.0 q.covers z.2;
-    }
+past_stands rules config a past came = (past_stands_with rules config a past came).stands

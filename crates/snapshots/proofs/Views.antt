@@ -9,7 +9,7 @@ use Rattle.agreement.specs.whole.Losses.Thinned.{none as none_left, keeps as kee
 use Rattle.agreement.specs.whole.Protocol.{replica_step as whole_step}
 use Rattle.agreement.specs.whole.Sending.{Outcome as WholeOutcome}
 use Rattle.agreement.specs.MasterState.{MasterState}
-use Rattle.agreement.specs.Steps.{MayHappen, MayTake as WholeMayTake}
+use Rattle.agreement.specs.Steps.{MayTake as WholeMayTake}
 use Rattle.agreement.specs.Steps.MayHappen.{node_takes}
 use Rattle.agreement.specs.World.{World as WholeWorld, moved as whole_moved, messages as whole_messages, outputs as whole_outputs}
 use Rattle.lists.specs.Lists.{In}
@@ -25,6 +25,7 @@ use Rattle.ballot_base.specs.Replica.{ReplicaState}
 use Rattle.ballot_base.specs.Protocol.{Input, replica_step}
 use Rattle.ballot_base.specs.Protocol.Input.{Receives, Proposes, Ticks}
 use Rattle.snapshots.specs.Whole.{whole, whole_effects, whole_input}
+use Rattle.snapshots.proofs.Adds.{StepAdds, added_whole}
 
 -- missing messages, and those that are missing of these
 pub whole_thinned : {C O : Type 0} (archive : List C) {xs ys : List (Effect C O)} → Thinned xs ys → WholeThinned (whole_effects archive xs) (whole_effects archive ys)
@@ -52,7 +53,7 @@ messages_whole archive [] = refl
 messages_whole archive (To to m ∷ es) = ap (λ us. whole_letter archive (to, m) ∷ us) (messages_whole archive es)
 messages_whole archive (Out place o ∷ es) = messages_whole archive es
 
-outputs_whole : {C O : Type 0} (archive : List C) (es : List (Effect C O)) → outputs es ≡ whole_outputs (whole_effects archive es)
+pub outputs_whole : {C O : Type 0} (archive : List C) (es : List (Effect C O)) → outputs es ≡ whole_outputs (whole_effects archive es)
 outputs_whole archive [] = refl
 outputs_whole archive (To to m ∷ es) = outputs_whole archive es
 outputs_whole archive (Out place o ∷ es) = ap (λ us. (place, o) ∷ us) (outputs_whole archive es)
@@ -87,13 +88,13 @@ may_take_whole w n (Receives m) i = in_whole (whole_letter w.archive) i
 may_take_whole w n (Proposes c) i = i
 may_take_whole w n Ticks i = i
 
--- so a step whose outcome is that on the whole logs is one of the group on the whole logs
-pub happens_whole : {S C O : Type 0} (rules : Rules S C O) (m : MasterState) (w : World S C O) (n : ℕ) (r : ReplicaState S C) (input : Input C)
+-- so a step whose outcome is that on the whole logs is one of the group on the whole logs, which adds the same
+pub step_whole : {S C O : Type 0} (rules : Rules S C O) (m : MasterState) (w : World S C O) (n : ℕ) (r : ReplicaState S C) (input : Input C)
     (new : ReplicaState S C) (given : List (Effect C O)) → slice_get w.nodes n ≡ Some r → r.stopped ≡ false → MayTake w n input →
-    Loses rules r (replica_step rules r input) new given →
-    Matches w.archive (replica_step rules r input) (whole_step rules (whole w.archive r) (whole_input w.archive input)) →
-    MayHappen rules m (whole_world w) m (whole_world (moved w n new given))
-happens_whole {S = S} {C = C} {O = O} rules m w n r input new given stands runs may lost matches =
-    subst (λ (v : WholeWorld S C O). MayHappen rules m (whole_world w) m v) (sym (moved_whole w n new given))
-    (node_takes n (whole w.archive r) (whole_input w.archive input) (get_whole (whole w.archive) w.nodes n r stands) runs (may_take_whole w n input may)
-    (whole_loses rules w.archive r (replica_step rules r input) (whole_step rules (whole w.archive r) (whole_input w.archive input)) new given matches lost))
+    WholeLoses rules (whole w.archive r) (whole_step rules (whole w.archive r) (whole_input w.archive input)) (whole w.archive new) (whole_effects w.archive given) →
+    StepAdds rules m (whole_world w) m (whole_world (moved w n new given)) (added_whole w.archive n r input new given)
+step_whole {S = S} {C = C} {O = O} rules m w n r input new given stands runs may lost =
+    subst (λ (v : WholeWorld S C O). StepAdds rules m (whole_world w) m v (added_whole w.archive n r input new given)) (sym (moved_whole w n new given)) (
+      node_takes n (whole w.archive r) (whole_input w.archive input) (get_whole (whole w.archive) w.nodes n r stands) runs (may_take_whole w n input may) lost,
+      record { proposes = refl; takes = refl; takes_at = λ i. refl; gives = λ i. refl },
+    )

@@ -9,6 +9,13 @@ ghost use Rattle.snapshots.specs.Laws.{
   OnePrimaryABallot,
   SnapshotsAreRead,
 };
+ghost use Rattle.snapshots.specs.Orders.{
+  AnswersAtTheNextPlaces,
+  AnswersWhileItLeads,
+  KeepsTheOrder,
+  OneNodeTakesABallot,
+  TakenStandAtOnce,
+};
 
 use machine::Machine;
 
@@ -52,4 +59,35 @@ pub fn snapshots_are_read<M: Machine>()
 /// A ballot has one active primary: two nodes that were active in it, at whatever moments, are one.
 pub fn one_primary_a_ballot<M: Machine>()
     ensures { OnePrimaryABallot M.rules }
+{}
+
+/// Of the commands that were taken in one ballot only, each log has a beginning in the order of
+/// proposing, whichever places of it were cut. Which were taken the past tells: those by which a log
+/// grew.
+pub fn keeps_the_order<M: Machine>()
+    ensures { KeepsTheOrder M.rules }
+{}
+
+/// What a node takes in a step stands at once at the end of its log, and the node is the active
+/// primary of the ballot in which it is counted; a proposal that is not taken changes no log.
+pub fn taken_stand_at_once<M: Machine>()
+    ensures { TakenStandAtOnce M.rules }
+{}
+
+/// All that was taken in a ballot was taken by the node that was its active primary, in that order.
+pub fn one_node_takes_a_ballot<M: Machine>()
+    ensures { OneNodeTakesABallot M.rules }
+{}
+
+/// What a node gives in a step is the machine's answers at the next places of the agreed list: from
+/// where it had applied it to where it has applied it now, where it is the active primary, and else
+/// nothing. A node that takes a snapshot gives nothing for the places below it.
+pub fn answers_at_the_next_places<M: Machine>()
+    ensures { AnswersAtTheNextPlaces M.rules }
+{}
+
+/// So while a node is the active primary of one ballot it gives the answers at all places of the
+/// agreed list, from one moment to another: none is left out, and none comes twice.
+pub fn answers_while_it_leads<M: Machine>()
+    ensures { AnswersWhileItLeads M.rules }
 {}

@@ -27,7 +27,7 @@ use Rattle.agreement.proofs.Given.StepGives.{Gives, from_active, step_gives}
 use Rattle.agreement.proofs.Given.StepGives.Gives.{gives_nothing, gives_idle, gives_next}
 
 -- nothing is given, and nothing applied
-same_gives : {S C O : Type 0} (rules : Rules S C O) (old new : ReplicaState S C) (xs : List C) (given : List (ℕ × O)) → given ≡ [] →
+pub same_gives : {S C O : Type 0} (rules : Rules S C O) (old new : ReplicaState S C) (xs : List C) (given : List (ℕ × O)) → given ≡ [] →
     new.committed ≡ old.committed → (is_active new.role ≡ true → is_active old.role ≡ true) → new.committed ≤ length xs →
     GivesNext rules old new xs given
 same_gives {S = S} {C = C} {O = O} rules old new xs given nothing same stays inside =
@@ -41,7 +41,7 @@ same_gives {S = S} {C = C} {O = O} rules old new xs given nothing same stays ins
     }
 
 -- a node's step, perhaps with losses
-node_gives : {S C O : Type 0} (rules : Rules S C O) (r : ReplicaState S C) (input : Input C) (new : ReplicaState S C) (given : List (Effect C O)) →
+pub node_gives : {S C O : Type 0} (rules : Rules S C O) (r : ReplicaState S C) (input : Input C) (new : ReplicaState S C) (given : List (Effect C O)) →
     r.machine ≡ replay rules (take r.committed r.log) → r.committed ≤ length r.log → new.committed ≤ length new.log →
     Loses rules r (replica_step rules r input) new given → GivesNext rules r new new.log (outputs given)
 node_gives {S = S} {C = C} {O = O} rules r input new given ran within inside (inr (inl (e, f))) =
@@ -72,7 +72,7 @@ node_gives {S = S} {C = C} {O = O} rules r input new given ran within inside (in
               ∙ ap (λ (x : ReplicaState S C). outputs (outputs_between rules x.log (gives_from r) x.committed)) (sym e);
         }
 
-some_same : {X : Type 0} (o : Option X) (x y : X) → o ≡ Some x → o ≡ Some y → x ≡ y
+pub some_same : {X : Type 0} (o : Option X) (x y : X) → o ≡ Some x → o ≡ Some y → x ≡ y
 some_same o x y e f = cc
 
 -- a step of the group, of which the node at place n may be another's
