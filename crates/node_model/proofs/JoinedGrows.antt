@@ -1,9 +1,11 @@
 -- A replica never goes back to an earlier ballot.
-use Rattle.std.proofs.Common.{◌≡◌, ◌≤◌, ◌⊎◌, inl, inr, ℕ, Bool, true, false, ◌==◌, ◌&&◌, ◌||◌, nat_lt, nat_le, if◌then◌else◌, length, List, [], ◌∷◌, ◌++◌, refl, arith}
+use Rattle.std.proofs.Common.{◌≡◌, ◌≤◌, ◌⊎◌, inl, inr, ℕ, Bool, true, false, ◌==◌, ◌&&◌, ◌||◌, nat_lt, nat_le, if◌then◌else◌, Option, Some, None, length, List, [], ◌∷◌, ◌++◌, refl, arith}
 use Rattle.std.specs.List.{list_any}
 use Rattle.std.proofs.lemmas.Bool.{ltb-true, eqb-true, and_parts, or_cases}
 use Rattle.ballot.specs.Machine.{Rules}
-use Rattle.ballot.specs.Changing.{on_new_ballot, on_join, on_state, on_install, on_installed, on_activated, on_superseded}
+use Rattle.ballot.specs.Logs.{Log, places, pushed}
+use Rattle.ballot.specs.Taking.{read_into, taken, with_places}
+use Rattle.ballot.specs.Changing.{answers_installed, hands_on, lacks, waits_for, on_new_ballot, on_join, on_state, on_install, on_installed, on_activated, on_superseded}
 use Rattle.ballot.specs.Body.{Body}
 use Rattle.ballot.specs.Body.TheVariants.{NewBallot, Join, State, Install, Installed, Activate, Activated, Superseded, Append, Held, Commit}
 use Rattle.ballot.specs.Role.{Role}
@@ -44,18 +46,33 @@ up_join {S = S} {C = C} O r from ballot previous =
     joins true e = let less = ltb-true r.joined ballot e in omega (arith, less)
     joins false e = same_le r.joined
 
-up_state : {S C : Type 0} (O : Type 0) (r : ReplicaState S C) (ballot : ℕ) (log : List C) → Up r (on_state O r ballot log)
-unfolding on_state
-up_state O r ballot log =
-    up_if r (r.joined == ballot && (is_fetching r.role && nat_le r.committed (length log))) _ (nothing_done O r) (λ e. same_le r.joined) (λ e. up_nothing O r)
+-- a log that is taken
+up_handed : {S C O : Type 0} (rules : Rules S C O) (r : ReplicaState S C) (ballot : ℕ) (log : Log C) → Up {O = O} r (hands_on O r ballot (taken rules r log))
+up_handed {S = S} {C = C} {O = O} rules r ballot log = by (nat_lt r.log.base log.base) (rules.thawed log.snapshot)
+  where
+    by : (over : Bool) (read : Option S) → Up {O = O} r (hands_on O r ballot (if over then read_into r log read else Some (with_places r log)))
+    by true None = up_nothing O r
+    by true (Some machine) = same_le r.joined
+    by false read = same_le r.joined
 
-up_install : {S C : Type 0} (O : Type 0) (r : ReplicaState S C) (from ballot : ℕ) (log : List C) → Up r (on_install O r from ballot log)
+up_state : {S C O : Type 0} (rules : Rules S C O) (r : ReplicaState S C) (ballot : ℕ) (log : Log C) → Up {O = O} r (on_state rules r ballot log)
+unfolding on_state
+up_state {O = O} rules r ballot log =
+    up_if r (waits_for r ballot (places log)) (hands_on O r ballot (taken rules r log)) (nothing_done O r) (λ e. up_handed rules r ballot log) (λ e. up_nothing O r)
+
+up_answered : {S C : Type 0} (O : Type 0) (r : ReplicaState S C) (from ballot held : ℕ) (t : Option (ReplicaState S C)) → r.joined ≤ ballot →
+    Up {O = O} r (answers_installed O r from ballot held t)
+up_answered O r from ballot held None below = up_nothing O r
+up_answered O r from ballot held (Some took) below = below
+
+up_install : {S C O : Type 0} (rules : Rules S C O) (r : ReplicaState S C) (from ballot : ℕ) (log : Log C) → Up {O = O} r (on_install rules r from ballot log)
 unfolding on_install
-up_install O r from ballot log =
-    up_if r ((nat_lt r.joined ballot || (r.joined == ballot && nat_lt r.held_in ballot)) && nat_le r.committed (length log)) _ _
+up_install {O = O} rules r from ballot log =
+    up_if r (lacks r ballot (places log)) (answers_installed O r from ballot (places log) (taken rules r log)) _
     (λ e.
-    below (or_cases (nat_lt r.joined ballot) (r.joined == ballot && nat_lt r.held_in ballot)
-    (and_parts (nat_lt r.joined ballot || (r.joined == ballot && nat_lt r.held_in ballot)) (nat_le r.committed (length log)) e).0))
+    up_answered O r from ballot (places log) (taken rules r log)
+    (below (or_cases (nat_lt r.joined ballot) (r.joined == ballot && nat_lt r.held_in ballot)
+    (and_parts (nat_lt r.joined ballot || (r.joined == ballot && nat_lt r.held_in ballot)) (nat_le r.committed (places log)) e).0)))
     (λ e. up_if r (r.joined == ballot && r.held_in == ballot) _ (nothing_done O r) (λ f. same_le r.joined) (λ f. up_nothing O r))
   where
     below : (nat_lt r.joined ballot ≡ true) ⊎ ((r.joined == ballot && nat_lt r.held_in ballot) ≡ true) → r.joined ≤ ballot
@@ -81,27 +98,27 @@ up_commit_at {O = O} rules r held = up_if r (nat_lt r.committed held) _ (nothing
 
 up_commit : {S C O : Type 0} (rules : Rules S C O) (r : ReplicaState S C) → Up r (commit rules r)
 unfolding commit
-up_commit rules r = up_commit_at rules r (least (length r.log) r.progress)
+up_commit rules r = up_commit_at rules r (least (places r.log) r.progress)
 
 up_added : {S C O : Type 0} (rules : Rules S C O) (r : ReplicaState S C) (command : C) → Up r (added rules r command)
 unfolding added
-up_added rules r command = up_commit rules (record r { log = r.log ++ command ∷ [] })
+up_added rules r command = up_commit rules (record r { log = pushed r.log command })
 
 pub up_proposed : {S C O : Type 0} (rules : Rules S C O) (r : ReplicaState S C) (command : C) → Up r (proposed rules r command)
 unfolding proposed
 up_proposed {O = O} rules r command =
-    up_if r (is_active r.role && nat_lt (length r.log) most_places) (added rules r command) (nothing_done O r) (λ e. up_added rules r command) (λ e. up_nothing O r)
+    up_if r (is_active r.role && nat_lt (places r.log) most_places) (added rules r command) (nothing_done O r) (λ e. up_added rules r command) (λ e. up_nothing O r)
 
 up_activated : {S C O : Type 0} (rules : Rules S C O) (r : ReplicaState S C) (ballot : ℕ) → Up r (on_activated rules r ballot)
 unfolding on_activated
 up_activated {O = O} rules r ballot =
-    up_if r ((r.joined == ballot && is_installing r.role) && (nat_le (length r.lacking) 0 && nat_lt (length r.log) most_places)) _ (nothing_done O r)
+    up_if r ((r.joined == ballot && is_installing r.role) && (nat_le (length r.lacking) 0 && nat_lt (places r.log) most_places)) _ (nothing_done O r)
     (λ e. up_added rules _ (rules.start_of ballot)) (λ e. up_nothing O r)
 
 up_append : {S C : Type 0} (O : Type 0) (r : ReplicaState S C) (from ballot place : ℕ) (command : C) → Up r (on_append O r from ballot place command)
 unfolding on_append
 up_append O r from ballot place command =
-    up_if r (follows r ballot && nat_le place (length r.log)) _ (nothing_done O r) (λ e. same_le r.joined) (λ e. up_nothing O r)
+    up_if r (follows r ballot && nat_le place (places r.log)) _ (nothing_done O r) (λ e. same_le r.joined) (λ e. up_nothing O r)
 
 up_held : {S C O : Type 0} (rules : Rules S C O) (r : ReplicaState S C) (from ballot held : ℕ) → Up r (on_held rules r from ballot held)
 unfolding on_held
@@ -110,15 +127,15 @@ up_held {O = O} rules r from ballot held = up_if r (leads r ballot) _ (nothing_d
 up_committed : {S C O : Type 0} (rules : Rules S C O) (r : ReplicaState S C) (ballot held : ℕ) → Up r (on_commit rules r ballot held)
 unfolding on_commit
 up_committed {O = O} rules r ballot held =
-    up_if r (follows r ballot && nat_le held (length r.log)) _ (nothing_done O r) (λ e. same_le r.joined) (λ e. up_nothing O r)
+    up_if r (follows r ballot && nat_le held (places r.log)) _ (nothing_done O r) (λ e. same_le r.joined) (λ e. up_nothing O r)
 
 -- ---- each of its steps
 
 up_received : {S C O : Type 0} (rules : Rules S C O) (r : ReplicaState S C) (from : ℕ) (body : Body C) → Up r (received rules r from body)
 up_received {O = O} rules r from (NewBallot ballot members previous previous_members) = up_new_ballot O r ballot members previous previous_members
 up_received {O = O} rules r from (Join ballot previous) = up_join O r from ballot previous
-up_received {O = O} rules r from (State ballot log) = up_state O r ballot log
-up_received {O = O} rules r from (Install ballot log) = up_install O r from ballot log
+up_received rules r from (State ballot log) = up_state rules r ballot log
+up_received rules r from (Install ballot log) = up_install rules r from ballot log
 up_received {O = O} rules r from (Installed ballot held) = up_installed O r from ballot
 up_received {O = O} rules r from (Activate ballot) = up_nothing O r
 up_received rules r from (Activated ballot) = up_activated rules r ballot

@@ -45,14 +45,14 @@ held : (port : Port) (piece : List ℕ) (now : ℕ) (core : CoreState) (did : Ac
     → Before core did [] (λ x. came_with x (Bytes port piece now) core)
 held port piece now core did (inl is) =
     before_is core (quietly (changes port (holding piece) core)) did [] _ is
-    (λ next tail. first_move (exactly (holds port piece)) (λ x. came_with x (Bytes port piece now) core) refl (λ x. refl) tail)
+    (λ next tail. first_move (exactly (holds port piece)) (λ x. came_with x (Bytes port piece now) core) refl (λ x. refl) tt tail)
 held port piece now core did (inr (none_open none is)) =
     before_is core (quietly core) did [] _ is (λ next tail. first_calm (λ x. came_with x (Bytes port piece now) core) (λ x. ap (piece_on x piece) none) tail)
 held port piece now core did (inr (untold c found other is)) =
     before_is core (quietly (changes port closed core)) did [] _ is
-    (λ next tail. first_move (drops port piece) (λ x. came_with x (Bytes port piece now) core) refl (λ x. refl) tail)
+    (λ next tail. first_move (drops port piece) (λ x. came_with x (Bytes port piece now) core) refl (λ x. refl) tt tail)
 held port piece now core did (inr (told c found heard proposes)) =
-    λ next tail. first_move (drops port piece) (λ x. came_with x (Bytes port piece now) core) refl (λ x. refl)
+    λ next tail. first_move (drops port piece) (λ x. came_with x (Bytes port piece now) core) refl (λ x. refl) tt
     (calm_join (still_lost c.name (changes port closed core) did proposes) tail)
 
 opened : (port : Port) (now : ℕ) (core : CoreState) (did : Account) → Opens port core did → Before core did [] (λ x. came_with x (Opened port now) core)
@@ -64,16 +64,16 @@ opened port now core did (inr is) = before_is core (quietly core) did [] _ is (�
 cut : (core : CoreState) (did : Account) → Cuts core did → Before core did [] (λ x. came_with x Cut core)
 cut core did (nothing_to_cut none is) = before_is core (quietly core) did [] _ is (λ next tail. first_calm (λ x. []) (λ x. refl) tail)
 cut core did (cuts_log_at can reads is) =
-    before_is core (quietly (with_cut core)) did [] _ is (λ next tail. first_move (exactly (cuts_log can)) (λ x. []) refl (λ x. refl) tail)
+    before_is core (quietly (with_cut core)) did [] _ is (λ next tail. first_move (exactly (cuts_log can)) (λ x. []) refl (λ x. refl) reads tail)
 cut core did (forgets_cut can is) =
     before_is core (quietly (forgetful core)) did [] _ is
     (before_calm core (quietly (forgetful core)) (λ x. []) (λ x. refl) (calm_move forgets (refl, refl, refl, λ x. refl)))
 
 taken_in : (item : Item) (core : CoreState) (did : Account) → TakesIn item core did → Before core did (heard_with item) (λ x. came_with x item core)
-taken_in (Peer message) core did drives = λ next tail. first_move (hears_losing (Receives message) did refl drives) (λ x. []) refl (λ x. refl) tail
+taken_in (Peer message) core did drives = λ next tail. first_move (hears_losing (Receives message) did refl drives) (λ x. []) refl (λ x. refl) tt tail
 taken_in (Tick now) core did t =
     before_is core (joined t.one t.two) did (Ticks ∷ []) _ t.is
-    (before_then core t.one t.two (Ticks ∷ []) (λ x. []) (λ next tail. first_move (hears_losing Ticks t.one refl t.first) (λ x. []) refl (λ x. refl) tail)
+    (before_then core t.one t.two (Ticks ∷ []) (λ x. []) (λ next tail. first_move (hears_losing Ticks t.one refl t.first) (λ x. []) refl (λ x. refl) tt tail)
     (still_repeated (length t.one.core.connections) (EndsSilent now) (still_silent now) t.one.core t.two t.next))
 taken_in (Opened port now) core did o = opened port now core did o
 taken_in (Bytes port piece now) core did t =
@@ -83,7 +83,7 @@ taken_in (Bytes port piece now) core did t =
 taken_in (Ended port) core did runs = before_calm core did (λ x. []) (λ x. refl) (still_ends port core did runs)
 taken_in Cut core did c = cut core did c
 taken_in Crash core did is =
-    before_is core (quietly (crashed core)) did [] _ is (λ next tail. first_move (exactly crashes) (λ x. []) refl (λ x. refl) tail)
+    before_is core (quietly (crashed core)) did [] _ is (λ next tail. first_move (exactly crashes) (λ x. []) refl (λ x. refl) tt tail)
 
 -- ---- a step
 
@@ -94,7 +94,7 @@ tail_of core did runs =
     (calm_join (all_failed core did runs) (calm_move (exactly settles) (refl, refl, refl, λ x. refl)))
 
 as_run : (item : Item) (core : CoreState) (turn : Turn) → First core turn (heard_with item) (λ x. came_with x item core) → IsRunOn item core turn
-as_run item core turn f = record { run = f.run; first = f.first; hears = f.hears; bytes = f.bytes_so; hands = f.hands }
+as_run item core turn f = record { run = f.run; first = f.first; hears = f.hears; bytes = f.bytes_so; hands = f.hands; freezes = f.freezes }
 
 pub losses_are_moves : LossesAreMoves
 losses_are_moves item core later messages r =

@@ -148,7 +148,7 @@ where_it_serves core of serving = of
 
 exact_keeps : (core : CoreState) (turn : Turn) (m : Moves core turn) → IsOrderly core → AreOfTheBallot core → AreWhereItServes turn.core
 exact_keeps core turn (hears input other) o of = exact_heard core input o of
-exact_keeps core turn (cuts_log can) o of = λ serving. of
+exact_keeps core turn (cuts_log can) o of = λ serving. record { each = of.each }
 exact_keeps core turn crashes o of = λ serving. absurd (both_ways (serves (crashed core)) (and_false (is_active core.replica.state.role)) serving)
 exact_keeps core turn (opens_one port) o of = exact_calm core turn (opens_one port) o refl (where_it_serves core of)
 exact_keeps core turn (holds port piece) o of = exact_calm core turn (holds port piece) o refl (where_it_serves core of)

@@ -4,6 +4,7 @@ use Rattle.std.proofs.Common.{◌≡◌, ℕ, List, [], ◌∷◌, ◌++◌, len
 use Rattle.std.proofs.lemmas.List.{append-nil, length-append}
 use Rattle.std.proofs.lemmas.List.Elements.{filter-append}
 use Rattle.packet.specs.declared.packet.Packet.{Packet}
+use Rattle.ballot.specs.Logs.{pushed}
 use Rattle.ballot.specs.Replica.{CountedReplica, ReplicaState}
 use Rattle.broker_base.specs.State.{State}
 use Rattle.broker_base.specs.Command.{Command}
@@ -65,11 +66,11 @@ losses_propose_in_order id config turn run x written later some joined =
 -- ---- what is read is taken
 
 taken_log : (command : Command) (core between : CoreState) (did : Account) → between.replica ≡ core.replica → Takes command between did
-    → did.core.replica.state.log ≡ core.replica.state.log ++ command ∷ []
+    → did.core.replica.state.log ≡ pushed core.replica.state.log command
 taken_log command core between did same t =
     ap (λ (r : CountedReplica State Command). r.state.log) (delivers_replica did.given (record between { replica = t.replica }) did.core did.messages t.delivers)
     ∙ ap (λ (r : ReplicaState State Command). r.log) t.done.state ∙ added-log rules between.replica.state command
-    ∙ ap (λ (r : CountedReplica State Command). r.state.log ++ command ∷ []) same
+    ∙ ap (λ (r : CountedReplica State Command). pushed r.state.log command) same
 
 pub losses_are_taken : LossesAreTaken
 losses_are_taken core turn (exactly m) read = reads_are_taken core turn m read

@@ -25,11 +25,11 @@ use Rattle.world_base.specs.LossyStep.LosesFailed.{none_failed, tells_one}
 use Rattle.world_base.specs.LossyStep.ReadsNext.{waits, first, later, refuses as refuses_it, ends}
 use Rattle.world_base.specs.Reading.{changes, open_at, refused}
 use Rattle.world_base.specs.Turns.{quiet}
-use Rattle.node_model.specs.LossyMoves.{HandsNothing, HearsAtFirst, IsCalm, LossyMoves, LossyRuns, all_inputs, bytes_on, came_on, forgetful, halting, hears_in, inputs_in, is_handing, turn_of}
-use Rattle.node_model.specs.LossyMoves.LossyMoves.{exactly, first_losing, later_losing, tells_losing, forgets, halts, fails, unheard}
+use Rattle.node_model.specs.LossyMoves.{AllFreeze, Freezes, HandsNothing, HearsAtFirst, IsCalm, LossyMoves, LossyRuns, all_inputs, bytes_on, came_on, forgetful, halting, hears_in, inputs_in, is_handing, turn_of}
+use Rattle.node_model.specs.LossyMoves.LossyMoves.{exactly, hears_losing, first_losing, later_losing, tells_losing, forgets, halts, fails, unheard, drops}
 use Rattle.node_model.specs.LossyMoves.LossyRuns.{rests, goes_on}
 use Rattle.node_model.specs.Moves.{and_then}
-use Rattle.node_model.specs.Moves.Moves.{closes, refuses}
+use Rattle.node_model.specs.Moves.Moves.{hears, opens_one, holds, reads_first, reads_later, closes, refuses, loses_one, loses_next, cuts_log, crashes, settles, hands}
 use Rattle.node_model.proofs.StepsMove.{twice}
 
 abbrev pub Given : Type 0
@@ -230,6 +230,35 @@ bytes_none : {core : CoreState} {turn : Turn} (run : LossyRuns core turn) → Ar
 bytes_none rests still x = refl
 bytes_none (goes_on m run) still x = ap (λ l. l ++ bytes_on x run) (still.0.3 x) ∙ bytes_none run still.1 x
 
+-- in such a move no log is cut
+still_freezes : {core : CoreState} {turn : Turn} (m : LossyMoves core turn) → hears_in m ≡ false → Freezes m
+still_freezes (exactly (hears input other)) calm = tt
+still_freezes (exactly (opens_one port)) calm = tt
+still_freezes (exactly (holds port piece)) calm = tt
+still_freezes (exactly (reads_first now port c connect rest at awaits is room)) calm = tt
+still_freezes (exactly (reads_later now port c packet rest at proposed is room)) calm = tt
+still_freezes (exactly (closes port)) calm = tt
+still_freezes (exactly (refuses port c code at awaits is)) calm = tt
+still_freezes (exactly (loses_one port c at proposed)) calm = tt
+still_freezes (exactly (loses_next c at)) calm = tt
+still_freezes (exactly (cuts_log can)) calm = absurd cc
+still_freezes (exactly crashes) calm = tt
+still_freezes (exactly settles) calm = tt
+still_freezes (exactly (hands port)) calm = tt
+still_freezes (hears_losing input did other drives) calm = tt
+still_freezes (first_losing now port c connect rest did at awaits is taken) calm = tt
+still_freezes (later_losing now port c packet rest did at proposed is taken) calm = tt
+still_freezes (tells_losing name did taken) calm = tt
+still_freezes forgets calm = tt
+still_freezes halts calm = tt
+still_freezes (fails port) calm = tt
+still_freezes unheard calm = tt
+still_freezes (drops port piece) calm = tt
+
+all_freeze : {core : CoreState} {turn : Turn} (run : LossyRuns core turn) → AreStill run → AllFreeze run
+all_freeze rests still = tt
+all_freeze (goes_on m run) still = (still_freezes m still.0.0, all_freeze run still.1)
+
 -- a run in which these are heard, at first, and these bytes come
 pub record First (core : CoreState) (turn : Turn) (inputs : List (Input Command)) (bytes : ConnectionName → List ℕ) : Type 0 where
   pub run : LossyRuns core turn
@@ -237,9 +266,10 @@ pub record First (core : CoreState) (turn : Turn) (inputs : List (Input Command)
   pub hears : all_inputs run ≡ inputs
   pub bytes_so : (x : ConnectionName) → bytes_on x run ≡ bytes x
   pub hands : HandsNothing run
+  pub freezes : AllFreeze run
 
 pub first_calm : {core : CoreState} {turn : Turn} (bytes : ConnectionName → List ℕ) → ((x : ConnectionName) → bytes x ≡ []) → Calm core turn → First core turn [] bytes
-first_calm bytes none (rests, still) = record { run = rests; first = tt; hears = refl; bytes_so = λ x. sym (none x); hands = tt }
+first_calm bytes none (rests, still) = record { run = rests; first = tt; hears = refl; bytes_so = λ x. sym (none x); hands = tt; freezes = tt }
 first_calm bytes none (goes_on m run, still) =
     record {
       run = goes_on m run;
@@ -247,15 +277,17 @@ first_calm bytes none (goes_on m run, still) =
       hears = inputs_none (goes_on m run) still;
       bytes_so = λ x. bytes_none (goes_on m run) still x ∙ sym (none x);
       hands = hands_of (goes_on m run) still;
+      freezes = all_freeze (goes_on m run) still;
     }
 
 pub first_move : {core : CoreState} {one next : Turn} (m : LossyMoves core one) (bytes : ConnectionName → List ℕ) → is_handing m ≡ false → ((x : ConnectionName) → came_on x m ≡ bytes x)
-    → Calm one.core next → First core (and_then one next) (inputs_in m) bytes
-first_move m bytes no_hand came (run, still) =
+    → Freezes m → Calm one.core next → First core (and_then one next) (inputs_in m) bytes
+first_move m bytes no_hand came frozen (run, still) =
     record {
       run = goes_on m run;
       first = calm_of run still;
       hears = ap (λ l. inputs_in m ++ l) (inputs_none run still) ∙ append-nil (inputs_in m);
       bytes_so = λ x. ap (λ l. came_on x m ++ l) (bytes_none run still x) ∙ append-nil (came_on x m) ∙ came x;
       hands = (no_hand, hands_of run still);
+      freezes = (frozen, all_freeze run still);
     }

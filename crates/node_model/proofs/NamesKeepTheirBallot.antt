@@ -17,7 +17,7 @@ use Rattle.world_base.specs.declared.Connection.{Connection}
 use Rattle.world_base.specs.Connections.{is_at, is_open_at, is_over}
 use Rattle.world_base.specs.Core.{CoreState, Turn, rules, serves}
 use Rattle.world_base.specs.Reading.{open_at}
-use Rattle.world_base.specs.Step.{crashed, settled}
+use Rattle.world_base.specs.Step.{crashed, settled, with_cut}
 use Rattle.world_base.specs.Turns.{drives, heard}
 use Rattle.node_model.specs.Closed.{listed_named}
 use Rattle.node_model.specs.Ends.{IsOrderly, proposal_of}
@@ -25,7 +25,7 @@ use Rattle.node_model.specs.Keeping.{AreOfTheBallot, NamesKeepTheirBallot}
 use Rattle.node_model.specs.Moves.{Moves}
 use Rattle.node_model.specs.Moves.Moves.{hears, opens_one, holds, reads_first, reads_later, closes, refuses, loses_one, loses_next, cuts_log, crashes, settles, hands}
 use Rattle.node_model.proofs.Views.{found_passes, view_of_changed}
-use Rattle.node_model.proofs.Kept.{left_true, live, named, stays_driven}
+use Rattle.node_model.proofs.Kept.{left_true, live, named, stays_cut, stays_driven}
 use Rattle.node_model.proofs.MovesOfReplica.{move_same, moved_replica, settled_replica}
 use Rattle.node_model.proofs.OpenBehind.{open_if, settled_open, shuts_open}
 use Rattle.node_model.proofs.ReplicaLeads.{StaysOr, step_stays}
@@ -87,6 +87,16 @@ and_false false = refl
 orderly_crashed : (core : CoreState) → IsOrderly core → IsOrderly (crashed core)
 orderly_crashed core o = record { names = o.names; given = o.given; within = o.within }
 
+-- it cuts its log
+cut_of : (core : CoreState) → IsOrderly core → AreOfTheBallot core → (x : ConnectionName) (d : Connection) → listed_named x (settled (with_cut core)) ≡ Some d →
+    is_over d.stage ≡ false → (serves (settled (with_cut core)) ≡ true) × (x.ballot ≡ (settled (with_cut core)).replica.state.joined)
+cut_of core o of x d e lives =
+    let z = settled_open x (with_cut core) d (stays_cut core o).orderly e lives in
+    let b = of.each x d z.1 lives in (
+      ap (λ r. serves (let k : CoreState = record { replica = r; last_name = record { ballot = 0; count = 0 }; connections = [] } in k)) (settled_replica (with_cut core)) ∙ z.0,
+      b.1 ∙ sym (ap (λ r. r.state.joined) (settled_replica (with_cut core))),
+    )
+
 -- ---- what is proposed
 
 pub proposed_of : (core : CoreState) (port : Port) (c : Connection) (x : ConnectionName) → IsOrderly core → AreOfTheBallot core → open_at port core ≡ Some c
@@ -124,6 +134,7 @@ names_keep_their_ballot =
       opens = λ id config. record { each = λ x c e lives. cc };
       moves = λ core turn m o calm of. record { each = λ x d e lives. move_of core turn m o of (move_same core turn m calm) calm x d e lives };
       hears = λ core input o of. record { each = λ x d e lives. heard_of core input o of x d e lives };
+      cuts = λ core o of. record { each = λ x d e lives. cut_of core o of x d e lives };
       stops = λ core o. record {
         each = λ x d e lives.
             let z = settled_open x (crashed core) d (orderly_crashed core o) e lives in

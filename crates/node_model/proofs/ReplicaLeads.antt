@@ -1,19 +1,21 @@
 -- What a step of a replica makes of the ballot that it leads: it stays the same, or the replica leads none.
-use Rattle.std.proofs.Common.{◌≡◌, ◌⊎◌, inl, inr, ℕ, true, false, List, length, refl, sym, subst}
+use Rattle.std.proofs.Common.{◌≡◌, ◌⊎◌, inl, inr, ℕ, Bool, true, false, if◌then◌else◌, Option, Some, None, List, [], ◌∷◌, length, refl, sym, subst}
 use Rattle.std.specs.Prelude.{nat_lt, nat_le, ◌&&◌, ◌||◌, ◌==◌}
 use Rattle.std.specs.List.{list_any}
 use Rattle.std.proofs.lemmas.Bool.{cases_Bool}
 use Rattle.ballot.specs.Applying.{applied_to}
 use Rattle.ballot.specs.Body.{Body}
 use Rattle.ballot.specs.Body.TheVariants.{NewBallot, Join, State, Install, Installed, Activate, Activated, Superseded, Append, Held, Commit}
-use Rattle.ballot.specs.Changing.{on_new_ballot, on_join, on_install, on_superseded, on_state, on_installed, on_activated}
+use Rattle.ballot.specs.Logs.{Log, places}
+use Rattle.ballot.specs.Taking.{taken}
+use Rattle.ballot.specs.Changing.{answers_installed, hands_on, lacks, waits_for, on_new_ballot, on_join, on_install, on_superseded, on_state, on_installed, on_activated}
 use Rattle.ballot.specs.Machine.{Rules}
 use Rattle.ballot.specs.Protocol.{Input, received, ticked, replica_step}
 use Rattle.ballot.specs.Protocol.Input.{Receives, Proposes, Ticks}
 use Rattle.ballot.specs.Replica.{ReplicaState, is_active, is_fetching, is_installing, others, progress_at}
 use Rattle.ballot.specs.Role.{Role}
 use Rattle.ballot.specs.Role.TheVariants.{Backup, Fetching, Installing, Active}
-use Rattle.ballot.specs.Sending.{Outcome}
+use Rattle.ballot.specs.Sending.{Outcome, message_to, nothing_done}
 use Rattle.ballot.specs.Serving.{commit, follows, leads, least, most_places, on_append, on_commit, on_held, on_tick_active, raised}
 use Rattle.ballot.proofs.ChangeRows.{on_activated-adds, on_activated-stays}
 use Rattle.node_model.proofs.ReplicaStays.{added_same, commit_same, proposed_same}
@@ -40,26 +42,26 @@ join_stays O r from b a = by (cases_Bool (nat_le r.joined b && nat_le a r.held_i
     by (inl e) (inr f) = rw (e, f) (inl refl)
     by (inr e) f = rw e (inl refl)
 
-state_stays : {S C : Type 0} (O : Type 0) (r : ReplicaState S C) (b : ℕ) (log : List C) → StaysOr r (on_state O r b log).state
+state_stays : {S C O : Type 0} (rules : Rules S C O) (r : ReplicaState S C) (b : ℕ) (log : Log C) → StaysOr r (on_state rules r b log).state
 unfolding on_state
-state_stays O r b log = by (cases_Bool (r.joined == b && (is_fetching r.role && nat_le r.committed (length log))))
+state_stays {S = S} {C = C} {O = O} rules r b log = by (waits_for r b (places log)) (taken rules r log)
   where
-    by : ((r.joined == b && (is_fetching r.role && nat_le r.committed (length log))) ≡ true) ⊎ ((r.joined == b && (is_fetching r.role && nat_le r.committed (length log))) ≡ false)
-        → StaysOr r (on_state O r b log).state
-    by (inl e) = rw e (inl refl)
-    by (inr e) = rw e (inl refl)
+    by : (waits : Bool) (t : Option (ReplicaState S C)) → StaysOr r (let o : Outcome S C O = if waits then hands_on O r b t else nothing_done O r in o).state
+    by false t = inl refl
+    by true None = inl refl
+    by true (Some took) = inr refl
 
-install_stays : {S C : Type 0} (O : Type 0) (r : ReplicaState S C) (from b : ℕ) (log : List C) → StaysOr r (on_install O r from b log).state
+install_stays : {S C O : Type 0} (rules : Rules S C O) (r : ReplicaState S C) (from b : ℕ) (log : Log C) → StaysOr r (on_install rules r from b log).state
 unfolding on_install
-install_stays O r from b log =
-    by (cases_Bool ((nat_lt r.joined b || (r.joined == b && nat_lt r.held_in b)) && nat_le r.committed (length log))) (cases_Bool (r.joined == b && r.held_in == b))
+install_stays {S = S} {C = C} {O = O} rules r from b log = by (lacks r b (places log)) (taken rules r log) (r.joined == b && r.held_in == b)
   where
-    by : (((nat_lt r.joined b || (r.joined == b && nat_lt r.held_in b)) && nat_le r.committed (length log)) ≡ true)
-        ⊎ (((nat_lt r.joined b || (r.joined == b && nat_lt r.held_in b)) && nat_le r.committed (length log)) ≡ false)
-        → ((r.joined == b && r.held_in == b) ≡ true) ⊎ ((r.joined == b && r.held_in == b) ≡ false) → StaysOr r (on_install O r from b log).state
-    by (inl e) f = rw e (inr refl)
-    by (inr e) (inl f) = rw (e, f) (inl refl)
-    by (inr e) (inr f) = rw (e, f) (inl refl)
+    by : (lacking : Bool) (t : Option (ReplicaState S C)) (holds : Bool) →
+        StaysOr r (let o : Outcome S C O = if lacking then answers_installed O r from b (places log) t
+        else if holds then record { state = r; effects = message_to O r.id (Installed b (places log)) from ∷ [] } else nothing_done O r in o).state
+    by true None holds = inl refl
+    by true (Some took) holds = inr refl
+    by false t true = inl refl
+    by false t false = inl refl
 
 installed_stays : {S C : Type 0} (O : Type 0) (r : ReplicaState S C) (from b : ℕ) → StaysOr r (on_installed O r from b).state
 unfolding on_installed
@@ -80,9 +82,9 @@ superseded_stays O r b = by (cases_Bool (r.joined == b && is_installing r.role))
 
 append_stays : {S C : Type 0} (O : Type 0) (r : ReplicaState S C) (from b place : ℕ) (c : C) → StaysOr r (on_append O r from b place c).state
 unfolding on_append
-append_stays O r from b place c = by (cases_Bool (follows r b && nat_le place (length r.log)))
+append_stays O r from b place c = by (cases_Bool (follows r b && nat_le place (places r.log)))
   where
-    by : ((follows r b && nat_le place (length r.log)) ≡ true) ⊎ ((follows r b && nat_le place (length r.log)) ≡ false) → StaysOr r (on_append O r from b place c).state
+    by : ((follows r b && nat_le place (places r.log)) ≡ true) ⊎ ((follows r b && nat_le place (places r.log)) ≡ false) → StaysOr r (on_append O r from b place c).state
     by (inl e) = rw e (inl refl)
     by (inr e) = rw e (inl refl)
 
@@ -92,26 +94,26 @@ held_stays rules r from b held = by (cases_Bool (leads r b))
   where
     by : (leads r b ≡ true) ⊎ (leads r b ≡ false) → StaysOr r (on_held rules r from b held).state
     by (inl e) =
-        rw e (inl (commit_same rules (record r { progress = raised from held r.progress }) (least (length r.log) (raised from held r.progress))).joined)
+        rw e (inl (commit_same rules (record r { progress = raised from held r.progress }) (least (places r.log) (raised from held r.progress))).joined)
     by (inr e) = rw e (inl refl)
 
 commit_stays : {S C O : Type 0} (rules : Rules S C O) (r : ReplicaState S C) (b held : ℕ) → StaysOr r (on_commit rules r b held).state
 unfolding on_commit
-commit_stays rules r b held = by (cases_Bool (follows r b && nat_le held (length r.log)))
+commit_stays rules r b held = by (cases_Bool (follows r b && nat_le held (places r.log)))
   where
-    by : ((follows r b && nat_le held (length r.log)) ≡ true) ⊎ ((follows r b && nat_le held (length r.log)) ≡ false) → StaysOr r (on_commit rules r b held).state
+    by : ((follows r b && nat_le held (places r.log)) ≡ true) ⊎ ((follows r b && nat_le held (places r.log)) ≡ false) → StaysOr r (on_commit rules r b held).state
     by (inl e) = rw e (inl refl)
     by (inr e) = rw e (inl refl)
 
 activated_stays : {S C O : Type 0} (rules : Rules S C O) (r : ReplicaState S C) (b : ℕ) → StaysOr r (on_activated rules r b).state
 activated_stays {S = S} {C = C} {O = O} rules r b =
-    by (cases_Bool ((r.joined == b && is_installing r.role) && (nat_le (length r.lacking) 0 && nat_lt (length r.log) most_places)))
+    by (cases_Bool ((r.joined == b && is_installing r.role) && (nat_le (length r.lacking) 0 && nat_lt (places r.log) most_places)))
   where
-    by : (((r.joined == b && is_installing r.role) && (nat_le (length r.lacking) 0 && nat_lt (length r.log) most_places)) ≡ true)
-        ⊎ (((r.joined == b && is_installing r.role) && (nat_le (length r.lacking) 0 && nat_lt (length r.log) most_places)) ≡ false) → StaysOr r (on_activated rules r b).state
+    by : (((r.joined == b && is_installing r.role) && (nat_le (length r.lacking) 0 && nat_lt (places r.log) most_places)) ≡ true)
+        ⊎ (((r.joined == b && is_installing r.role) && (nat_le (length r.lacking) 0 && nat_lt (places r.log) most_places)) ≡ false) → StaysOr r (on_activated rules r b).state
     by (inl e) =
         subst (λ (o : Outcome S C O). StaysOr r o.state) (sym (on_activated-adds rules r b e))
-        (inl (added_same rules (record (applied_to rules r (length r.log)) { role = Active; progress = progress_at (length r.log) (others r.id r.members) })
+        (inl (added_same rules (record (applied_to rules r (places r.log)) { role = Active; progress = progress_at (places r.log) (others r.id r.members) })
         (rules.start_of b)).joined)
     by (inr e) = subst (λ (o : Outcome S C O). StaysOr r o.state) (sym (on_activated-stays rules r b e)) (inl refl)
 
@@ -120,8 +122,8 @@ activated_stays {S = S} {C = C} {O = O} rules r b =
 received_stays : {S C O : Type 0} (rules : Rules S C O) (r : ReplicaState S C) (from : ℕ) (body : Body C) → StaysOr r (received rules r from body).state
 received_stays {O = O} rules r from (NewBallot b members a old) = new_ballot_stays O r b members a old
 received_stays {O = O} rules r from (Join b a) = join_stays O r from b a
-received_stays {O = O} rules r from (State b log) = state_stays O r b log
-received_stays {O = O} rules r from (Install b log) = install_stays O r from b log
+received_stays rules r from (State b log) = state_stays rules r b log
+received_stays rules r from (Install b log) = install_stays rules r from b log
 received_stays {O = O} rules r from (Installed b held) = installed_stays O r from b
 received_stays rules r from (Activate b) = inl refl
 received_stays rules r from (Activated b) = activated_stays rules r b

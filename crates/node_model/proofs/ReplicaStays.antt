@@ -1,7 +1,8 @@
 -- What a proposal leaves of a replica: its role, its ballot, and whether it stopped.
-use Rattle.std.proofs.Common.{◌≡◌, ◌⊎◌, inl, inr, ℕ, ◌<◌, ◌≤◌, true, false, [], ◌∷◌, ◌++◌, length, refl, sym, subst}
+use Rattle.std.proofs.Common.{◌≡◌, ◌⊎◌, inl, inr, ℕ, ◌<◌, ◌≤◌, true, false, refl, sym, subst}
 use Rattle.std.proofs.lemmas.Bool.{cases_Bool, cases_lt}
 use Rattle.ballot.specs.Machine.{Rules}
+use Rattle.ballot.specs.Logs.{places, pushed}
 use Rattle.ballot.specs.Replica.{ReplicaState, is_active}
 use Rattle.ballot.specs.Sending.{Outcome}
 use Rattle.ballot.specs.Serving.{added, commit_at, least, most_places, proposed}
@@ -23,16 +24,16 @@ commit_same {S = S} {C = C} {O = O} rules r held = by (cases_lt r.committed held
 pub added_same : {S C O : Type 0} (rules : Rules S C O) (r : ReplicaState S C) (c : C) → Same r (added rules r c).state
 added_same {S = S} {C = C} {O = O} rules r c =
     subst (λ (o : Outcome S C O). Same r o.state) (sym (added-is rules r c))
-    (let k = commit_same rules (record r { log = r.log ++ c ∷ [] }) (least (length (r.log ++ c ∷ [])) r.progress) in
+    (let k = commit_same rules (record r { log = pushed r.log c }) (least (places (pushed r.log c)) r.progress) in
     record { role = k.role; joined = k.joined; stopped = k.stopped })
 
 pub proposed_same : {S C O : Type 0} (rules : Rules S C O) (r : ReplicaState S C) (c : C) → Same r (proposed rules r c).state
-proposed_same {S = S} {C = C} {O = O} rules r c = by (cases_Bool (is_active r.role)) (cases_lt (length r.log) most_places)
+proposed_same {S = S} {C = C} {O = O} rules r c = by (cases_Bool (is_active r.role)) (cases_lt (places r.log) most_places)
   where
     nothing : Same r r
     nothing = record { role = refl; joined = refl; stopped = refl }
 
-    by : (is_active r.role ≡ true) ⊎ (is_active r.role ≡ false) → (length r.log < most_places) ⊎ (most_places ≤ length r.log) → Same r (proposed rules r c).state
+    by : (is_active r.role ≡ true) ⊎ (is_active r.role ≡ false) → (places r.log < most_places) ⊎ (most_places ≤ places r.log) → Same r (proposed rules r c).state
     by (inl a) (inl room) = subst (λ (o : Outcome S C O). Same r o.state) (sym (proposed-adds rules r c a room)) (added_same rules r c)
     by (inl a) (inr full) = subst (λ (o : Outcome S C O). Same r o.state) (sym (proposed-full rules r c a full)) nothing
     by (inr a) room = subst (λ (o : Outcome S C O). Same r o.state) (sym (proposed-not_active rules r c a)) nothing

@@ -1,9 +1,10 @@
 -- What a node reads is taken into its log.
-use Rattle.std.proofs.Common.{◌≡◌, Bool, true, false, ◌&&◌, nat_lt, List, [], ◌∷◌, ◌++◌, length, refl, ap, ◌∙◌}
+use Rattle.std.proofs.Common.{◌≡◌, Bool, true, false, ◌&&◌, nat_lt, List, [], ◌∷◌, refl, ap, ◌∙◌}
 use Rattle.std.specs.List.{fold}
 use Rattle.packet.specs.Spelling.{spelling}
 use Rattle.ballot.specs.Effect.{Effect}
 use Rattle.ballot.specs.Effect.TheVariants.{To, Out}
+use Rattle.ballot.specs.Logs.{places, pushed}
 use Rattle.ballot.specs.Replica.{CountedReplica, ReplicaState, is_active}
 use Rattle.ballot.specs.Sending.{Outcome}
 use Rattle.ballot.specs.Serving.{most_places, proposed}
@@ -27,8 +28,8 @@ right_true : (a b : Bool) → (a && b) ≡ true → b ≡ true
 right_true true b e = e
 right_true false b e = absurd cc
 
-pub proposed_log : (r : ReplicaState State Command) (command : Command) → is_active r.role ≡ true → nat_lt (length r.log) most_places ≡ true
-    → (proposed rules r command).state.log ≡ r.log ++ command ∷ []
+pub proposed_log : (r : ReplicaState State Command) (command : Command) → is_active r.role ≡ true → nat_lt (places r.log) most_places ≡ true
+    → (proposed rules r command).state.log ≡ pushed r.log command
 unfolding proposed
 proposed_log r command active room = rw (active, room) (added-log rules r command)
 
@@ -51,14 +52,14 @@ moved_log outcome core =
     ap (λ (r : CountedReplica State Command). r.state.log)
     (fold_replica (let k : CoreState = record core { replica = record core.replica { state = outcome.state } } in k) outcome.effects)
 
-proposes_log : (command : Command) (core : CoreState) → has_room core ≡ true → (proposes command core).core.replica.state.log ≡ core.replica.state.log ++ command ∷ []
+proposes_log : (command : Command) (core : CoreState) → has_room core ≡ true → (proposes command core).core.replica.state.log ≡ pushed core.replica.state.log command
 unfolding proposes
 proposes_log command core room =
-    let serving : serves core ≡ true = left_true (serves core) (nat_lt (length core.replica.state.log) most_places) room in
+    let serving : serves core ≡ true = left_true (serves core) (nat_lt (places core.replica.state.log) most_places) room in
     let active : is_active core.replica.state.role ≡ true = left_true (is_active core.replica.state.role) _ serving in
     rw serving
     (moved_log (proposed rules core.replica.state command) core
-    ∙ proposed_log core.replica.state command active (right_true (serves core) (nat_lt (length core.replica.state.log) most_places) room))
+    ∙ proposed_log core.replica.state command active (right_true (serves core) (nat_lt (places core.replica.state.log) most_places) room))
 
 changed_replica : (port : Port) (f : Connection → Connection) (core : CoreState) → (changes port f core).replica ≡ core.replica
 unfolding changes
@@ -66,9 +67,9 @@ changed_replica port f core = refl
 
 -- a command is taken behind a change of a connection
 taken_behind : (command : Command) (core between : CoreState) → between.replica ≡ core.replica → has_room core ≡ true
-    → (proposes command between).core.replica.state.log ≡ core.replica.state.log ++ command ∷ []
+    → (proposes command between).core.replica.state.log ≡ pushed core.replica.state.log command
 taken_behind command core between same room =
-    proposes_log command between (ap room_of same ∙ room) ∙ ap (λ (r : CountedReplica State Command). r.state.log ++ command ∷ []) same
+    proposes_log command between (ap room_of same ∙ room) ∙ ap (λ (r : CountedReplica State Command). pushed r.state.log command) same
   where
     room_of : CountedReplica State Command → Bool
     room_of r = has_room (let k : CoreState = record { replica = r; last_name = record { ballot = 0; count = 0 }; connections = [] } in k)

@@ -138,8 +138,9 @@ is_read (reads_first now port c connect rest at first is room) = true
 is_read (reads_later now port c packet rest at later is room) = true
 is_read _ = false
 
--- Each packet that is read stands in the node's log at once, behind all that stood there: so none is read behind one
--- that was not taken.
+-- Each packet that is read stands in the node's log at once, behind all that stood there, and nothing is cut off it: so
+-- none is read behind one that was not taken.
 abbrev pub ReadsAreTaken : Type 0
 ReadsAreTaken = (core : CoreState) (turn : Turn) (m : Moves core turn) → is_read m ≡ true →
-    turn.core.replica.state.log ≡ core.replica.state.log ++ proposal_of m
+    turn.core.replica.state.log
+    ≡ record core.replica.state.log { rest = core.replica.state.log.rest ++ proposal_of m }

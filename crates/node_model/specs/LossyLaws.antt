@@ -40,7 +40,8 @@ LossesProposeInOrder = (id : ℕ) (config : Config) (turn : Turn) (run : LossyRu
 -- each packet that is read stands in the log at once, behind all that stood there
 abbrev pub LossesAreTaken : Type 0
 LossesAreTaken = (core : CoreState) (turn : Turn) (m : LossyMoves core turn) → is_read m ≡ true →
-    turn.core.replica.state.log ≡ core.replica.state.log ++ proposal_of m
+    turn.core.replica.state.log
+    ≡ record core.replica.state.log { rest = core.replica.state.log.rest ++ proposal_of m }
 
 -- ---- what is put out
 
