@@ -13,14 +13,15 @@ use Rattle.snapshots.specs.Steps.{world_behind}
 use Rattle.snapshots.specs.Steps.MayHappen.{master_assigns, master_hears, assignment_lost, answer_lost}
 use Rattle.snapshots.specs.World.{World}
 use Rattle.node_model.specs.world_base.Core.{rules}
-use Rattle.group_model.specs.Group.{Group, behind_turn, moment_of, opening_group, with_master}
+use Rattle.group_model.specs.Group.{Group, behind_turn, moment_of, opening_group, with_master, with_record}
 use Rattle.group_model.specs.Goes.{MayGo, all_given, all_put, behind_assign, groups_of, put_in_step}
 use Rattle.group_model.specs.Goes.MayGo.{node_acts, node_loses, master_assigns as assigns, master_hears as hears_master, assigns_unheard, answers_unheard}
 use Rattle.group_model.specs.Goes.Went.{opened, then_went}
 use Rattle.group_model.specs.Losing.{WereSent}
-use Rattle.group_model.specs.Losing.{put_in_run as put_losing}
+use Rattle.group_model.specs.Losing.{all_given as given_losing, put_in_run as put_losing}
+use Rattle.group_model.specs.Putting.{recorded_in}
 use Rattle.group_model.specs.Pasts.{GroupsArePasts, packets_in}
-use Rattle.group_model.proofs.LosingNone.{losing_none, same_given, same_put, sent_losing}
+use Rattle.group_model.proofs.LosingNone.{frozen_losing, losing_none, same_given, same_put, same_recorded, sent_losing}
 use Rattle.group_model.proofs.MovesHappen.{Further, by_event}
 use Rattle.group_model.proofs.RunsHappen.{runs_happen}
 use Rattle.group_model.proofs.Packets.{packets_join}
@@ -32,7 +33,7 @@ at_moment m w = record { master = m; world = w }
 
 opens_as : (nodes : ℕ) (config : Config) → moment_of (opening_group nodes config) ≡ opening_moment rules nodes config
 opens_as nodes config =
-    ap (λ l. at_moment (opening_master config) (let w : World State Command Output = record { nodes = l; sent = []; left = [] } in w)) (opened_replicas nodes config)
+    ap (λ l. at_moment (opening_master config) (let w : World State Command Output = record { nodes = l; sent = []; left = []; archive = [] } in w)) (opened_replicas nodes config)
 
 assigned_as : (g : Group) (config : Config) (why : Option AssignRefusal)
     → at_moment (master_behind g.master config why) (world_behind g.master (moment_of g).world config why)
@@ -43,11 +44,12 @@ assigned_as g config None = refl
 pub goes_on : (config : Config) (g h : Group) (step : MayGo g h) (earlier : List (Moment State Command Output)) (came : Past rules config (moment_of g ∷ earlier))
     → Further came (moment_of h) (put_in_step step)
 goes_on config g h (node_acts n core deed turn run at is first sent) earlier came =
-    subst (λ l. Further came (moment_of (behind_turn g n turn (all_given run))) l) (same_put run)
-    (subst (λ l. Further came (moment_of (behind_turn g n turn l)) (put_losing (losing_none run))) (same_given run)
-    (runs_happen g n core turn (losing_none run) turn.messages at (sent_losing g n run sent) (all_kept turn.messages) config earlier came))
+    subst (λ l. Further came (moment_of (behind_turn (with_record g (recorded_in g.archive run)) n turn (all_given run))) l) (same_put run)
+    (subst (λ l. Further came (moment_of (behind_turn (with_record g (recorded_in g.archive run)) n turn l)) (put_losing (losing_none run))) (same_given run)
+    (subst (λ us. Further came (moment_of (behind_turn (with_record g us) n turn (given_losing (losing_none run)))) (put_losing (losing_none run))) (same_recorded g.archive run)
+    (runs_happen g n core turn (losing_none run) turn.messages at (sent_losing g n run sent) (frozen_losing g n run sent) (all_kept turn.messages) config earlier came)))
 goes_on config g h (node_loses n core item turn kept by at runs sent thinned) earlier came =
-    runs_happen g n core turn by.run kept at (subst (WereSent g n) (sym by.hears) sent) thinned config earlier came
+    runs_happen g n core turn by.run kept at (subst (WereSent g n) (sym by.hears) sent) by.freezes thinned config earlier came
 goes_on config g h (assigns wanted) earlier came =
     subst (λ z. Further came z []) (assigned_as g wanted (refusal g.master wanted))
     (by_event came _ (master_assigns wanted) [] 0 [] refl (λ x. refl) refl).further

@@ -1,21 +1,23 @@
 -- A run of moves is one in which something may be lost, and nothing is.
-use Rattle.std.proofs.Common.{◌≡◌, ℕ, ◌++◌, refl, ap}
+use Rattle.std.proofs.Common.{◌≡◌, ℕ, List, ◌++◌, refl, ap}
+use Rattle.broker_base.specs.Command.{Command}
 use Rattle.broker_base.specs.Connection.{ConnectionName}
 use Rattle.node_model.specs.world_base.Core.{CoreState, Turn}
 use Rattle.node_model.specs.Ends.{bytes_on, came_on}
 use Rattle.node_model.specs.Hearing.{HearsAtFirst, IsCalm}
-use Rattle.node_model.specs.LossyMoves.{LossyRuns, all_inputs, inputs_of}
+use Rattle.node_model.specs.LossyMoves.{AllFreeze, Freezes, LossyRuns, all_inputs, inputs_of}
 use Rattle.node_model.specs.LossyMoves.{HearsAtFirst as FirstLosing, IsCalm as CalmLosing, bytes_on as bytes_losing}
 use Rattle.node_model.specs.LossyMoves.LossyMoves.{exactly}
 use Rattle.node_model.specs.LossyMoves.LossyRuns.{rests as rests_losing, goes_on as goes_losing}
 use Rattle.node_model.specs.Moves.{Moves, Runs}
-use Rattle.node_model.specs.Moves.Moves.{hears}
+use Rattle.node_model.specs.Moves.Moves.{hears, cuts_log}
 use Rattle.node_model.specs.Moves.Runs.{rests, goes_on}
 use Rattle.node_model.specs.Puts.{given_in}
 use Rattle.group_model.specs.Group.{Group}
 use Rattle.group_model.specs.Goes.{AllWasSent, WasSent, all_given, put_in_move, put_in_run}
 use Rattle.group_model.specs.Losing.{WereSent}
-use Rattle.group_model.specs.Losing.{all_given as given_losing, put_in_run as put_losing}
+use Rattle.group_model.specs.Losing.{all_given as given_losing, put_in_run as put_losing, recorded_in as recorded_losing}
+use Rattle.group_model.specs.Putting.{recorded_by, recorded_in}
 
 abbrev pub losing_none : {core : CoreState} {turn : Turn} → Runs core turn → LossyRuns core turn
 losing_none rests = rests_losing
@@ -30,6 +32,11 @@ same_given (goes_on m run) = ap (λ l. given_in m ++ l) (same_given run)
 pub same_put : {core : CoreState} {turn : Turn} (run : Runs core turn) → put_losing (losing_none run) ≡ put_in_run run
 same_put rests = refl
 same_put (goes_on m run) = ap (λ l. put_in_move m ++ l) (same_put run)
+
+pub same_recorded : (archive : List Command) {core : CoreState} {turn : Turn} (run : Runs core turn) →
+    recorded_losing archive (losing_none run) ≡ recorded_in archive run
+same_recorded archive rests = refl
+same_recorded archive (goes_on m run) = same_recorded (recorded_by archive m) run
 
 pub same_bytes : (x : ConnectionName) {core : CoreState} {turn : Turn} (run : Runs core turn) → bytes_losing x (losing_none run) ≡ bytes_on x run
 same_bytes x rests = refl
@@ -47,9 +54,18 @@ sent_in_move : (g : Group) (n : ℕ) {core : CoreState} {turn : Turn} (m : Moves
 sent_in_move g n (hears input other) sent = (sent, tt)
 sent_in_move g n m sent = tt
 
-pub sent_by : (g : Group) (n : ℕ) {core : CoreState} {turn : Turn} (m : Moves core turn) → WereSent g n (inputs_of m) → WasSent g n m
-sent_by g n (hears input other) sent = sent.0
-sent_by g n m sent = tt
+pub sent_by : (g : Group) (n : ℕ) {core : CoreState} {turn : Turn} (m : Moves core turn) → WereSent g n (inputs_of m) → Freezes (exactly m) → WasSent g n m
+sent_by g n (hears input other) sent frozen = sent.0
+sent_by g n (cuts_log can) sent frozen = frozen
+sent_by g n m sent frozen = tt
+
+freezes_by : (g : Group) (n : ℕ) {core : CoreState} {turn : Turn} (m : Moves core turn) → WasSent g n m → Freezes (exactly m)
+freezes_by g n (cuts_log can) sent = sent
+freezes_by g n m sent = tt
+
+pub frozen_losing : (g : Group) (n : ℕ) {core : CoreState} {turn : Turn} (run : Runs core turn) → AllWasSent g n run → AllFreeze (losing_none run)
+frozen_losing g n rests sent = tt
+frozen_losing g n (goes_on m run) sent = (freezes_by g n m sent.0, frozen_losing g n run sent.1)
 
 sent_and : (g : Group) (n : ℕ) {core : CoreState} {turn : Turn} (m : Moves core turn) {later : Turn} (run : LossyRuns turn.core later) → WereSent g n (inputs_of m) → WereSent g n (all_inputs run)
     → WereSent g n (inputs_of m ++ all_inputs run)

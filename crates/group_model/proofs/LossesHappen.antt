@@ -2,6 +2,7 @@
 use Rattle.std.proofs.Common.{inl, inr, ◌≡◌, ℕ, Bool, true, false, not, ◌&&◌, nat_lt, List, [], ◌∷◌, length, Some, slice_get, refl, sym, ap, ◌∙◌, subst}
 use Rattle.std.proofs.lemmas.Bool.{ltb-true}
 use Rattle.ballot.specs.Config.{Config}
+use Rattle.ballot.specs.Logs.{places}
 use Rattle.ballot.specs.Losses.{Loses, Thinned}
 use Rattle.ballot.specs.Protocol.{Input}
 use Rattle.ballot.specs.Protocol.Input.{Proposes}
@@ -20,13 +21,13 @@ use Rattle.node_model.specs.world_base.Core.{CoreState, Turn, rules, serves}
 use Rattle.node_model.specs.world_base.Lossy.{Account, Drives, Takes}
 use Rattle.node_model.specs.world_base.Reading.{changes}
 use Rattle.node_model.specs.world_base.Turns.{has_room, heard}
-use Rattle.node_model.specs.LossyMoves.{LossyMoves, given_in, inputs_in, turn_of}
+use Rattle.node_model.specs.LossyMoves.{Freezes, LossyMoves, given_in, inputs_in, turn_of}
 use Rattle.node_model.specs.LossyMoves.LossyMoves.{exactly, hears_losing, first_losing, later_losing, tells_losing, forgets, halts, fails, unheard, drops}
 use Rattle.node_model.specs.Moves.{is_proposal}
 use Rattle.node_model.proofs.LossyOutputs.{delivers_replica}
-use Rattle.group_model.specs.Group.{Group, behind_turn, moment_of, replica_of}
+use Rattle.group_model.specs.Group.{Group, behind_turn, moment_of, replica_of, with_record}
 use Rattle.group_model.specs.Goes.{InputWasSent, keeping}
-use Rattle.group_model.specs.Losing.{WereSent, put_in_move}
+use Rattle.group_model.specs.Losing.{WereSent, put_in_move, recorded_by}
 use Rattle.group_model.proofs.LosingNone.{sent_by}
 use Rattle.group_model.proofs.MovesHappen.{Once, changed_state, heard_as_running, heard_as_stopped, may_take, moves_happen, no_step, none_put, one_step, one_stop, quietly, room_is, state_of}
 use Rattle.group_model.proofs.Packets.{AreTaken, none_taken, proposal_taken}
@@ -106,9 +107,9 @@ takes_happen g n core between command did kept at same taken t config earlier ca
         ∙ taken.room
 
     serving : serves core ≡ true
-    serving = room_serves core (nat_lt (length (replica_of core).log) most_places) room
+    serving = room_serves core (nat_lt (places (replica_of core).log) most_places) room
 
-    fits : nat_lt (length (replica_of core).log) most_places ≡ true
+    fits : nat_lt (places (replica_of core).log) most_places ≡ true
     fits = room_is core room
 
     active : is_active (replica_of core).role ≡ true
@@ -117,7 +118,7 @@ takes_happen g n core between command did kept at same taken t config earlier ca
     outcome : added rules (replica_of between) command ≡ proposed rules (replica_of core) command
     outcome =
         ap (λ (r : ReplicaState State Command). added rules r command) (state_of between core same)
-        ∙ sym (proposed-adds rules (replica_of core) command active (ltb-true (length (replica_of core).log) most_places fits))
+        ∙ sym (proposed-adds rules (replica_of core) command active (ltb-true (places (replica_of core).log) most_places fits))
 
     is : new ≡ (proposed rules (replica_of core) command).state
     is = taken.done.state ∙ ap (λ (o : Outcome State Command Output). o.state) outcome
@@ -130,19 +131,19 @@ takes_happen g n core between command did kept at same taken t config earlier ca
 -- ---- each move
 
 pub losses_happen : (g : Group) (n : ℕ) (core : CoreState) (turn : Turn) (m : LossyMoves core turn) (kept : Given) → slice_get g.nodes n ≡ Some core → WereSent g n (inputs_in m)
-    → Thinned kept turn.messages → (config : Config) (earlier : List (Moment State Command Output)) (came : Past rules config (moment_of g ∷ earlier))
-    → Once came (moment_of (behind_turn g n (keeping kept turn) (given_in m))) (put_in_move m) n (outputs (given_in m))
-losses_happen g n core turn (exactly m) kept at sent t = moves_happen g n core turn m kept at (sent_by g n m sent) t
-losses_happen g n core turn (hears_losing input did other drives) kept at sent t = drives_happen g n core input did kept at other sent.0 drives t
-losses_happen g n core turn (first_losing now port c connect rest did is_at first is taken) kept at sent t =
+    → Freezes m → Thinned kept turn.messages → (config : Config) (earlier : List (Moment State Command Output)) (came : Past rules config (moment_of g ∷ earlier))
+    → Once came (moment_of (behind_turn (with_record g (recorded_by g.archive m)) n (keeping kept turn) (given_in m))) (put_in_move m) n (outputs (given_in m))
+losses_happen g n core turn (exactly m) kept at sent frozen t = moves_happen g n core turn m kept at (sent_by g n m sent frozen) t
+losses_happen g n core turn (hears_losing input did other drives) kept at sent frozen t = drives_happen g n core input did kept at other sent.0 drives t
+losses_happen g n core turn (first_losing now port c connect rest did is_at first is taken) kept at sent frozen t =
     takes_happen g n core (changes port (asked connect.keep_alive) (changes port (left_with now rest) core)) _ did kept at
     (changes_keep port (asked connect.keep_alive) (changes port (left_with now rest) core) ∙ changes_keep port (left_with now rest) core) taken t
-losses_happen g n core turn (later_losing now port c packet rest did is_at later is taken) kept at sent t =
+losses_happen g n core turn (later_losing now port c packet rest did is_at later is taken) kept at sent frozen t =
     takes_happen g n core (changes port (left_with now rest) core) _ did kept at (changes_keep port (left_with now rest) core) taken t
-losses_happen g n core turn (tells_losing name did taken) kept at sent t = takes_happen g n core core (commands.Lost name) did kept at refl taken t
-losses_happen g n core turn forgets kept at sent t = quietly g n core turn.core kept at refl t
-losses_happen g n core turn halts kept at sent t =
+losses_happen g n core turn (tells_losing name did taken) kept at sent frozen t = takes_happen g n core core (commands.Lost name) did kept at refl taken t
+losses_happen g n core turn forgets kept at sent frozen t = quietly g n core turn.core kept at refl t
+losses_happen g n core turn halts kept at sent frozen t =
     λ config earlier came. one_stop g n core (keeping kept turn) [] config earlier came at refl (ap messages (nothing_kept kept t)) refl
-losses_happen g n core turn (fails port) kept at sent t = quietly g n core turn.core kept at (changed_state port failing core) t
-losses_happen g n core turn unheard kept at sent t = quietly g n core turn.core kept at refl t
-losses_happen g n core turn (drops port piece) kept at sent t = quietly g n core turn.core kept at (changed_state port closed core) t
+losses_happen g n core turn (fails port) kept at sent frozen t = quietly g n core turn.core kept at (changed_state port failing core) t
+losses_happen g n core turn unheard kept at sent frozen t = quietly g n core turn.core kept at refl t
+losses_happen g n core turn (drops port piece) kept at sent frozen t = quietly g n core turn.core kept at (changed_state port closed core) t

@@ -4,9 +4,10 @@ use Rattle.std.proofs.lemmas.List.{append-nil, length-take-le}
 use Rattle.lists.specs.Lists.{In, IsPrefixOf}
 use Rattle.lists.proofs.Beginnings.{prefix_length}
 use Rattle.lists.proofs.Tests.{eq_same}
-use Rattle.ballot.specs.Applying.{outputs_between}
+use Rattle.agreement.specs.whole.Applying.{outputs_between}
 use Rattle.lists.specs.Lists.In.{there}
 use Rattle.ballot.specs.Config.{Config}
+use Rattle.ballot.specs.Logs.{places}
 use Rattle.ballot.specs.Losses.{Loses, Thinned, halted}
 use Rattle.ballot.specs.Message.{Message}
 use Rattle.ballot.specs.Protocol.{Input, replica_step}
@@ -23,7 +24,11 @@ use Rattle.story.specs.Story.{is_packet_of}
 use Rattle.agreement.specs.MasterState.{MasterState}
 use Rattle.agreement.specs.Giving.{GivesNext}
 use Rattle.snapshots.specs.Giving.{given_in as gives_in}
-use Rattle.snapshots.specs.Past.{Moment, Past, IsAgreed}
+use Rattle.agreement.specs.World.{outputs as whole_outputs}
+use Rattle.snapshots.specs.Past.{Moment, Past, IsAgreed, whole_moment}
+use Rattle.snapshots.specs.Whole.{whole, whole_log}
+use Rattle.snapshots.proofs.PastsKept.{past_stands}
+use Rattle.snapshots.proofs.Views.{get_whole}
 use Rattle.agreement.specs.Past.{IsChosen, WasActive}
 use Rattle.snapshots.specs.Past.Past.{went_on}
 use Rattle.snapshots.specs.Proposals.{proposal_by, proposal_of, proposals_of, taken_in, taken_of}
@@ -36,7 +41,7 @@ use Rattle.snapshots.specs.World.{moved as moved_world}
 use Rattle.snapshots.proofs.PastsAgree.{nodes_agree}
 use Rattle.snapshots.proofs.PastsAgree.{agreed_grows}
 use Rattle.agreement.proofs.Agreed.PastKnown.{past_known}
-use Rattle.snapshots.proofs.Orders.{answers_at_the_next_places}
+use Rattle.snapshots.proofs.NextPlaces.{answers_at_the_next_places}
 use Rattle.agreement.proofs.Given.Places.{none_between}
 use Rattle.agreement.proofs.Given.StepGives.{from_active}
 use Rattle.node_model.specs.world_base.declared.Connection.{Connection}
@@ -59,6 +64,7 @@ use Rattle.std.proofs.lemmas.Bool.{and_parts, ltb-true}
 use Rattle.group_model.specs.Group.{Group, behind_turn, moment_of, replica_of, with_record}
 use Rattle.group_model.specs.Goes.{InputWasSent, WasSent, keeping, put_in_move}
 use Rattle.group_model.specs.Pasts.{packets_in}
+use Rattle.group_model.specs.Putting.{recorded_by}
 use Rattle.group_model.proofs.Packets.{AreTaken, HasRoomFor, none_taken, packets_join, proposal_taken}
 use Rattle.group_model.proofs.Placed.{get_mapped, set_mapped, set_same}
 use Rattle.group_model.proofs.Thinning.{Given, KeptOf, kept_of_all, nothing_kept}
@@ -79,7 +85,7 @@ pub record Once {config : Config} {a : Moment State Command Output} {earlier : L
     (b : Moment State Command Output) (put : List (ℕ × Command)) (n : ℕ) (given : List (ℕ × Output)) : Type 0 where
   pub further : Further came b put
   pub gives : (xs : List Command) → IsAgreed config (b ∷ further.before) xs → (old new : ReplicaState State Command) → slice_get a.world.nodes n ≡ Some old
-      → slice_get b.world.nodes n ≡ Some new → GivesNext rules old new xs given
+      → slice_get b.world.nodes n ≡ Some new → GivesNext rules (whole a.world.archive old) (whole b.world.archive new) xs given
 
 -- one more event, in which the node at a place gave this
 pub by_event : {config : Config} {a : Moment State Command Output} {earlier : List (Moment State Command Output)} (came : Past rules config (a ∷ earlier))
@@ -96,7 +102,7 @@ by_event {config = config} {a = a} {earlier = earlier} came b step put n given p
         grows = λ xs ys before behind. agreed_grows rules config b (a ∷ earlier) xs ys before behind;
       };
       gives = λ xs behind old new stood stands.
-          subst (GivesNext rules old new xs) is (answers_at_the_next_places rules config a b earlier xs came behind step n old new stood stands);
+          subst (GivesNext rules (whole a.world.archive old) (whole b.world.archive new) xs) is (answers_at_the_next_places rules config a b earlier xs came behind step n old new stood stands);
     }
 
 -- ---- moments of groups
@@ -136,22 +142,24 @@ stays_as_it_is g n core turn given at same none_sent none_left =
 pub one_agreed : (config : Config) (past : List (Moment State Command Output)) (xs ys : List Command) → IsAgreed config past xs → IsAgreed config past ys → IsPrefixOf xs ys
 one_agreed config past xs ys first other = by first.chosen
   where
-    by : (xs ≡ []) ⊎ ((b : ℕ) × WasActive past b × IsChosen config past b xs) → IsPrefixOf xs ys
+    by : (xs ≡ []) ⊎ ((b : ℕ) × WasActive (map whole_moment past) b × IsChosen config (map whole_moment past) b xs) → IsPrefixOf xs ys
     by (inl empty) = record { rest = ys; is = ap (λ l. l ++ ys) (sym empty) }
     by (inr (b, active, chosen)) = other.longest b xs active chosen
 
 -- a node that does nothing gives nothing
 gives_none : (config : Config) (a : Moment State Command Output) (earlier : List (Moment State Command Output)) → Past rules config (a ∷ earlier) → (xs : List Command)
-    → IsAgreed config (a ∷ earlier) xs → (n : ℕ) (r : ReplicaState State Command) → slice_get a.world.nodes n ≡ Some r → GivesNext rules r r xs []
+    → IsAgreed config (a ∷ earlier) xs → (n : ℕ) (r : ReplicaState State Command) → slice_get a.world.nodes n ≡ Some r → GivesNext rules (whole a.world.archive r) (whole a.world.archive r) xs []
 gives_none config a earlier came xs is n r stands =
-    let within = ((past_known rules config a earlier came).serves.sound.nodes n r stands).within in
-    let short = prefix_length ((nodes_agree rules config a earlier xs came is).0.applied n r stands) in
-    let long = length-take-le r.committed r.log within in
+    let q = past_stands rules config a earlier came in
+    let there' = get_whole (whole a.world.archive) a.world.nodes n r stands in
+    let within = ((past_known rules config (whole_moment a) q.earlier q.kept.came).serves.sound.nodes n (whole a.world.archive r) there').within in
+    let short = prefix_length ((nodes_agree rules config a earlier xs came is).0.applied n (whole a.world.archive r) there') in
+    let long = length-take-le r.committed (whole_log a.world.archive r.log) within in
     record {
       idle = λ other. refl;
-      rising = λ active. let from = from_active r active in omega (arith, from);
+      rising = λ active. let from = from_active (whole a.world.archive r) active in omega (arith, from);
       inside = omega (arith, short, long);
-      next = λ active. sym (ap (λ k. outputs (outputs_between rules xs k r.committed)) (from_active r active) ∙ none_between rules xs r.committed);
+      next = λ active. sym (ap (λ k. whole_outputs (outputs_between rules xs k r.committed)) (from_active (whole a.world.archive r) active) ∙ none_between rules xs r.committed);
     }
 
 -- nothing happens
@@ -172,7 +180,8 @@ no_event config a b earlier came n same =
     subst (λ z. Once came z [] n []) same (record {
       further = unchanged came;
       gives = λ xs is old new stood stands.
-          subst (λ (r : ReplicaState State Command). GivesNext rules old r xs []) (one_replica old new (sym stood ∙ stands)) (gives_none config a earlier came xs is n old stood);
+          subst (λ (r : ReplicaState State Command). GivesNext rules (whole a.world.archive old) (whole a.world.archive r) xs []) (one_replica old new (sym stood ∙ stands))
+          (gives_none config a earlier came xs is n old stood);
     })
   where
     one_replica : (r s : ReplicaState State Command) → (let o : Option (ReplicaState State Command) = Some r in o) ≡ Some s → r ≡ s
@@ -240,7 +249,7 @@ no_step g n core turn given config earlier came at replica none_sent none_left =
 -- what is asked of each move, of whose messages these are kept
 abbrev Happens : Group → ℕ → (core : CoreState) (turn : Turn) → Moves core turn → Given → Type 0
 Happens g n core turn m kept = (config : Config) (earlier : List (Moment State Command Output)) (came : Past rules config (moment_of g ∷ earlier))
-    → Once came (moment_of (behind_turn g n (keeping kept turn) (given_in m))) (put_in_move m) n (outputs (given_in m))
+    → Once came (moment_of (behind_turn (with_record g (recorded_by g.archive m)) n (keeping kept turn) (given_in m))) (put_in_move m) n (outputs (given_in m))
 
 pub quietly : (g : Group) (n : ℕ) (core later : CoreState) (kept : Given) → slice_get g.nodes n ≡ Some core → replica_of later ≡ replica_of core → Thinned kept []
     → (config : Config) (earlier : List (Moment State Command Output)) (came : Past rules config (moment_of g ∷ earlier))
@@ -370,8 +379,8 @@ lost_happens : (g : Group) (n : ℕ) (core between : CoreState) (command : Comma
 lost_happens g n core between command kept at same room true e t = put_happens g n core between command kept at same e room t
 lost_happens g n core between command kept at same room false e t = lost_unheard g n core between command kept at same e t
 
-pub room_is : (core : CoreState) → has_room core ≡ true → nat_lt (length (replica_of core).log) most_places ≡ true
-room_is core room = right_true (serves core) (nat_lt (length (replica_of core).log) most_places) room
+pub room_is : (core : CoreState) → has_room core ≡ true → nat_lt (places (replica_of core).log) most_places ≡ true
+room_is core room = right_true (serves core) (nat_lt (places (replica_of core).log) most_places) room
   where
     right_true : (a b : Bool) → (a && b) ≡ true → b ≡ true
     right_true true b e = e
@@ -381,6 +390,15 @@ room_is core room = right_true (serves core) (nat_lt (length (replica_of core).l
 lost_is_none : (core : CoreState) (name : ConnectionName) → HasRoomFor core (commands.Lost name)
 lost_is_none core name x is = let e : is_packet_of (commands.Lost name) x ≡ true = is in absurd cc
 
+-- the log is cut
+cut_happens : (g : Group) (n : ℕ) (core : CoreState) (kept : Given) → slice_get g.nodes n ≡ Some core → can_cut (replica_of core) ≡ true
+    → rules.thawed (rules.frozen (replica_of core).machine) ≡ Some (replica_of core).machine → Thinned kept []
+    → (config : Config) (earlier : List (Moment State Command Output)) (came : Past rules config (moment_of g ∷ earlier))
+    → Once came (moment_of (behind_turn (with_record g (recorded g.archive (replica_of core))) n (keeping kept (quiet (with_cut core))) [])) [] n []
+cut_happens g n core kept at can reads t config earlier came =
+    subst (λ (l : Given). Once came (moment_of (behind_turn (with_record g (recorded g.archive (replica_of core))) n (keeping l (quiet (with_cut core))) [])) [] n [])
+    (sym (nothing_kept kept t)) (one_cut g n core config earlier came at can reads)
+
 pub moves_happen : (g : Group) (n : ℕ) (core : CoreState) (turn : Turn) (m : Moves core turn) (kept : Given) → slice_get g.nodes n ≡ Some core → WasSent g n m
     → Thinned kept turn.messages → Happens g n core turn m kept
 moves_happen g n core turn (hears input other) kept at sent t = heard_happens g n core input kept at other sent t
@@ -389,16 +407,17 @@ moves_happen g n core turn (holds port piece) kept at sent t = quietly g n core 
 moves_happen g n core turn (reads_first now port c connect rest is_at first is room) kept at sent t =
     put_happens g n core (changes port (asked connect.keep_alive) (changes port (left_with now rest) core)) _ kept at
     (changes_keep port (asked connect.keep_alive) (changes port (left_with now rest) core) ∙ changes_keep port (left_with now rest) core)
-    (room_serves core (nat_lt (length (replica_of core).log) most_places) room) (λ x is_one. room_is core room) t
+    (room_serves core (nat_lt (places (replica_of core).log) most_places) room) (λ x is_one. room_is core room) t
 moves_happen g n core turn (reads_later now port c packet rest is_at later is room) kept at sent t =
     put_happens g n core (changes port (left_with now rest) core) _ kept at (changes_keep port (left_with now rest) core)
-    (room_serves core (nat_lt (length (replica_of core).log) most_places) room) (λ x is_one. room_is core room) t
+    (room_serves core (nat_lt (places (replica_of core).log) most_places) room) (λ x is_one. room_is core room) t
 moves_happen g n core turn (closes port) kept at sent t = quietly g n core _ kept at (changed_state port closed core) t
 moves_happen g n core turn (refuses port c code is_at first is) kept at sent t = quietly g n core _ kept at (changed_state port (refused code) core) t
 moves_happen g n core turn (loses_one port c is_at was_asked) kept at sent t =
     lost_happens g n core (changes port closed core) (commands.Lost c.name) kept at (changes_keep port closed core) (lost_is_none core c.name) (serves core) refl t
 moves_happen g n core turn (loses_next c is_at) kept at sent t =
     lost_happens g n core (closes_failed core) (commands.Lost c.name) kept at refl (lost_is_none core c.name) (serves core) refl t
+moves_happen g n core turn (cuts_log can) kept at sent t = cut_happens g n core kept at can sent t
 moves_happen g n core turn crashes kept at sent t =
     λ config earlier came. one_stop g n core (keeping kept turn) [] config earlier came at refl (ap messages (nothing_kept kept t)) refl
 moves_happen g n core turn settles kept at sent t = quietly g n core _ kept at (state_of (settled core) core (settles_keeps core)) t

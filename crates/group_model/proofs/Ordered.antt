@@ -14,7 +14,9 @@ use Rattle.agreement.specs.Proposals.{IsOfBallot, IsPartOf, commands_of}
 use Rattle.snapshots.specs.Proposals.{proposals_of, taken_of}
 use Rattle.agreement.specs.Proposals.IsPartOf.{nothing_left, with_one, without_one}
 use Rattle.snapshots.proofs.PastsAgree.{nodes_agree}
-use Rattle.snapshots.proofs.Orders.{keeps_the_order}
+use Rattle.agreement.specs.whole.Replica.{ReplicaState as WholeState}
+use Rattle.snapshots.specs.Whole.{whole, whole_log}
+use Rattle.snapshots.proofs.Orders.{keeps_the_order, node_at}
 use Rattle.agreement.proofs.Orders.NamesInLists.{filter_prefix}
 use Rattle.node_model.specs.world_base.Core.{rules}
 use Rattle.group_model.specs.Ballots.{IsInItsBallot}
@@ -49,9 +51,9 @@ packets_of_rows x (row ∷ rows) = by (is_packet_of row.1 x) (packets_of_rows x 
     by false same = same
 
 in_log : (config : Config) (g : Group) (groups : List Group) (put : List (ℕ × Command)) → HasPast config g groups put → Each IsInItsBallot put → (x : ConnectionName) (n : ℕ)
-    (r : ReplicaState State Command) → slice_get (moment_of g).world.nodes n ≡ Some r → IsPrefixOf (packets_of x r.log) (packets_of x (commands_of put))
+    (r : ReplicaState State Command) → slice_get (moment_of g).world.nodes n ≡ Some r → IsPrefixOf (packets_of x (whole_log g.archive r.log)) (packets_of x (commands_of put))
 in_log config g groups put of each x n r stands =
-    subst (IsPrefixOf (packets_of x r.log)) ordered
+    subst (IsPrefixOf (packets_of x (whole_log g.archive r.log))) ordered
     ((keeps_the_order rules config (moment_of g) of.earlier of.past).1 (λ (command : Command). is_packet_of command x) x.ballot own n r stands)
   where
     ordered : packets_of x (commands_of (taken_of of.past)) ≡ packets_of x (commands_of put)
@@ -70,8 +72,10 @@ pub in_agreed : (config : Config) (g : Group) (groups : List Group) (put : List 
     (xs : List Command) → IsAgreed config (moment_of g ∷ of.earlier) xs → IsPrefixOf (packets_of x xs) (packets_of x (commands_of put))
 in_agreed config g groups put of each x xs is =
     let holds = (nodes_agree rules config (moment_of g) of.earlier xs of.past is).1 in
+    let at = node_at (whole g.archive) (moment_of g).world.nodes holds.node holds.replica holds.stands in
     prefix_then (filter_prefix (λ (command : Command). is_packet_of command x) xs holds.replica.log holds.held)
-    (in_log config g groups put of each x holds.node holds.replica holds.stands)
+    (subst (λ (l : List Command). IsPrefixOf (packets_of x l) (packets_of x (commands_of put))) (ap (λ (w : WholeState State Command). w.log) at.2)
+    (in_log config g groups put of each x holds.node at.0 at.1))
 
 pub groups_keep_the_order : GroupsKeepTheOrder
 groups_keep_the_order nodes config g went =

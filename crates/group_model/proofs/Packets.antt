@@ -3,6 +3,7 @@ use Rattle.std.proofs.Common.{◌≡◌, ◌<◌, ◌+◌, ℕ, Bool, true, fals
 use Rattle.std.proofs.lemmas.Bool.{lt-ltb}
 use Rattle.std.proofs.lemmas.List.{length-append}
 use Rattle.std.proofs.lemmas.List.Elements.{filter-append}
+use Rattle.ballot.specs.Logs.{Log, places}
 use Rattle.ballot.specs.Protocol.{Input}
 use Rattle.ballot.specs.Protocol.Input.{Receives, Proposes, Ticks}
 use Rattle.ballot.specs.Replica.{ReplicaState, is_active}
@@ -28,7 +29,7 @@ AreTaken r new input = (x : ConnectionName) → packets_in x (taken_by r new inp
 
 -- there is room for the command, if it is a packet of a connection
 abbrev pub HasRoomFor : CoreState → Command → Type 0
-HasRoomFor core command = (x : ConnectionName) → is_packet_of command x ≡ true → nat_lt (length (replica_of core).log) most_places ≡ true
+HasRoomFor core command = (x : ConnectionName) → is_packet_of command x ≡ true → nat_lt (places (replica_of core).log) most_places ≡ true
 
 nothing_if : (b : Bool) (x : ConnectionName) → packets_in x (if b then [] else []) ≡ []
 nothing_if true x = refl
@@ -36,16 +37,18 @@ nothing_if false x = refl
 
 -- what is no proposal has none
 pub none_taken : (r new : ReplicaState State Command) (input : Input Command) → is_proposal input ≡ false → AreTaken r new input
-none_taken r new (Receives message) other = λ x. nothing_if (nat_lt (length r.log) (length new.log)) x
-none_taken r new Ticks other = λ x. nothing_if (nat_lt (length r.log) (length new.log)) x
+none_taken r new (Receives message) other = λ x. nothing_if (nat_lt (places r.log) (places new.log)) x
+none_taken r new Ticks other = λ x. nothing_if (nat_lt (places r.log) (places new.log)) x
 none_taken r new (Proposes command) other = absurd cc
 
 -- where there is room the log grows
-grows : (r : ReplicaState State Command) (command : Command) → is_active r.role ≡ true → nat_lt (length r.log) most_places ≡ true
-    → nat_lt (length r.log) (length (proposed rules r command).state.log) ≡ true
+grows : (r : ReplicaState State Command) (command : Command) → is_active r.role ≡ true → nat_lt (places r.log) most_places ≡ true
+    → nat_lt (places r.log) (places (proposed rules r command).state.log) ≡ true
 grows r command active room =
-    let long = ap length (proposed_log r command active room) ∙ length-append r.log (command ∷ []) in
-    lt-ltb (length r.log) (length (proposed rules r command).state.log) (more (length r.log) (length (proposed rules r command).state.log) long)
+    let same = ap (λ (l : Log Command). places l) (proposed_log r command active room) in
+    let one : length (r.log.rest ++ command ∷ []) ≡ length r.log.rest + 1 = length-append r.log.rest (command ∷ []) in
+    let long : places (proposed rules r command).state.log ≡ places r.log + 1 = omega (arith, same, one) in
+    lt-ltb (places r.log) (places (proposed rules r command).state.log) (more (places r.log) (places (proposed rules r command).state.log) long)
   where
     more : (n m : ℕ) → m ≡ n + 1 → n < m
     more n m e = omega (arith, e)
@@ -64,6 +67,6 @@ proposal_taken core command serving room x = by (is_packet_of command x) refl
     none other true = refl
     none other false = sym (ap (λ (b : Bool). let l : List (ℕ × Command) = if b then (r.joined, command) ∷ [] else [] in l) other)
 
-    by : (b : Bool) → is_packet_of command x ≡ b → if_taken (nat_lt (length r.log) (length (proposed rules r command).state.log)) ≡ if_taken true
+    by : (b : Bool) → is_packet_of command x ≡ b → if_taken (nat_lt (places r.log) (places (proposed rules r command).state.log)) ≡ if_taken true
     by true is = ap if_taken (grows r command (left_true (is_active r.role) (not r.stopped) serving) (room x is))
-    by false other = none other (nat_lt (length r.log) (length (proposed rules r command).state.log))
+    by false other = none other (nat_lt (places r.log) (places (proposed rules r command).state.log))

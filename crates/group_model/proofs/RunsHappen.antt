@@ -13,12 +13,12 @@ use Rattle.snapshots.specs.Past.{Moment, Past}
 use Rattle.snapshots.specs.Proposals.{proposals_of, taken_of}
 use Rattle.snapshots.specs.World.{messages, outputs}
 use Rattle.node_model.specs.world_base.Core.{CoreState, Turn, rules}
-use Rattle.node_model.specs.LossyMoves.{LossyRuns, all_inputs, given_in, inputs_in}
+use Rattle.node_model.specs.LossyMoves.{AllFreeze, LossyRuns, all_inputs, given_in, inputs_in}
 use Rattle.node_model.specs.LossyMoves.LossyRuns.{rests, goes_on}
 use Rattle.node_model.specs.Moves.{and_then}
-use Rattle.group_model.specs.Group.{Group, behind_turn, moment_of}
+use Rattle.group_model.specs.Group.{Group, behind_turn, moment_of, with_record}
 use Rattle.group_model.specs.Goes.{InputWasSent, keeping}
-use Rattle.group_model.specs.Losing.{WereSent, all_given, put_in_move, put_in_run}
+use Rattle.group_model.specs.Losing.{WereSent, all_given, put_in_move, put_in_run, recorded_by, recorded_in}
 use Rattle.group_model.proofs.LossesHappen.{losses_happen}
 use Rattle.group_model.proofs.MovesHappen.{Further, quietly}
 use Rattle.group_model.proofs.Thinning.{Given, KeptOfBoth, kept_of_both}
@@ -28,19 +28,20 @@ use Rattle.group_model.proofs.Placed.{get_of_set, set_twice}
 use Rattle.lists.proofs.Beginnings.{prefix_then}
 use Rattle.lists.proofs.Members.{in_left}
 use Rattle.snapshots.proofs.PastsAgree.{has_agreed}
-use Rattle.agreement.proofs.Effects.{messages-append, outputs-append}
+use Rattle.snapshots.proofs.Effects.{messages-append, outputs-append}
 
 -- ---- what was sent stays sent
 
-input_still : (g : Group) (n : ℕ) (turn : Turn) (given : List (Effect Command Output)) (input : Input Command) → InputWasSent g n input
-    → InputWasSent (behind_turn g n turn given) n input
-input_still g n turn given (Receives message) i = in_left (messages turn.messages) i
-input_still g n turn given (Proposes command) i = tt
-input_still g n turn given Ticks i = tt
+input_still : (g : Group) (archive : List Command) (n : ℕ) (turn : Turn) (given : List (Effect Command Output)) (input : Input Command) → InputWasSent g n input
+    → InputWasSent (behind_turn (with_record g archive) n turn given) n input
+input_still g archive n turn given (Receives message) i = in_left (messages turn.messages) i
+input_still g archive n turn given (Proposes command) i = tt
+input_still g archive n turn given Ticks i = tt
 
-pub were_still : (g : Group) (n : ℕ) (turn : Turn) (given : Given) (inputs : List (Input Command)) → WereSent g n inputs → WereSent (behind_turn g n turn given) n inputs
-were_still g n turn given [] sent = tt
-were_still g n turn given (input ∷ inputs) sent = (input_still g n turn given input sent.0, were_still g n turn given inputs sent.1)
+pub were_still : (g : Group) (archive : List Command) (n : ℕ) (turn : Turn) (given : Given) (inputs : List (Input Command)) → WereSent g n inputs
+    → WereSent (behind_turn (with_record g archive) n turn given) n inputs
+were_still g archive n turn given [] sent = tt
+were_still g archive n turn given (input ∷ inputs) sent = (input_still g archive n turn given input sent.0, were_still g archive n turn given inputs sent.1)
 
 pub were_both : (g : Group) (n : ℕ) (inputs more : List (Input Command)) → WereSent g n (inputs ++ more) → WereSent g n inputs × WereSent g n more
 were_both g n [] more sent = (tt, sent)
@@ -86,15 +87,17 @@ kept_turns g n first next given more kept k =
     ∙ ap (λ (l : Given). behind_turn g n (keeping l (and_then first next)) (given ++ more)) (sym k.is)
 
 pub runs_happen : (g : Group) (n : ℕ) (core : CoreState) (turn : Turn) (run : LossyRuns core turn) (kept : Given) → slice_get g.nodes n ≡ Some core → WereSent g n (all_inputs run)
-    → Thinned kept turn.messages → (config : Config) (earlier : List (Moment State Command Output)) (came : Past rules config (moment_of g ∷ earlier))
-    → Further came (moment_of (behind_turn g n (keeping kept turn) (all_given run))) (put_in_run run)
-runs_happen g n core turn rests kept at sent t config earlier came = (quietly g n core core kept at refl t config earlier came).further
-runs_happen g n core turn (goes_on {first = first} {next = next} m run) kept at sent t config earlier came =
+    → AllFreeze run → Thinned kept turn.messages → (config : Config) (earlier : List (Moment State Command Output)) (came : Past rules config (moment_of g ∷ earlier))
+    → Further came (moment_of (behind_turn (with_record g (recorded_in g.archive run)) n (keeping kept turn) (all_given run))) (put_in_run run)
+runs_happen g n core turn rests kept at sent frozen t config earlier came = (quietly g n core core kept at refl t config earlier came).further
+runs_happen g n core turn (goes_on {first = first} {next = next} m run) kept at sent frozen t config earlier came =
     let k = kept_of_both first.messages next.messages kept t in
     let s = were_both g n (inputs_in m) (all_inputs run) sent in
-    let step = (losses_happen g n core first m k.front at s.0 k.first config earlier came).further in
+    let step = (losses_happen g n core first m k.front at s.0 frozen.0 k.first config earlier came).further in
     let one : Turn = keeping k.front first in
-    let behind : Group = behind_turn g n one (given_in m) in
-    let rest = runs_happen behind n first.core next run k.rest (get_of_set g.nodes n core first.core at) (were_still g n one (given_in m) (all_inputs run) s.1) k.next config step.before step.past in
+    let behind : Group = behind_turn (with_record g (recorded_by g.archive m)) n one (given_in m) in
+    let rest = runs_happen behind n first.core next run k.rest (get_of_set g.nodes n core first.core at)
+    (were_still g (recorded_by g.archive m) n one (given_in m) (all_inputs run) s.1) frozen.1 k.next config step.before step.past in
     both came (put_in_move m) (put_in_run run) step
-    (subst (λ (h : Group). Further step.past (moment_of h) (put_in_run run)) (kept_turns g n first next (given_in m) (all_given run) kept k) rest)
+    (subst (λ (h : Group). Further step.past (moment_of h) (put_in_run run))
+    (kept_turns (with_record g (recorded_in (recorded_by g.archive m) run)) n first next (given_in m) (all_given run) kept k) rest)

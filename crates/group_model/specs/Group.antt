@@ -14,8 +14,9 @@ use Rattle.snapshots.specs.Past.{Moment}
 use Rattle.snapshots.specs.World.{messages, outputs}
 use Rattle.node_model.specs.world_base.Core.{CoreState, Turn, opening_core}
 
--- Node n + 1 stands at place n. The record has the places below the bases of all logs. All messages that were ever sent stay, each with its receiver: any may come late, again
--- or never. So do the outputs that replicas gave, with their places in the log.
+-- Node n + 1 stands at place n. All messages that were ever sent stay, each with its receiver: any may come late, again
+-- or never. So do the outputs that replicas gave, with their places in the log. The record has the places below the bases of
+-- all logs.
 pub record Group : Type 0 where
   pub master : MasterState
   pub nodes : List CoreState

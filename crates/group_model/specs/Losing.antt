@@ -7,23 +7,24 @@ use Rattle.broker_base.specs.Output.{Output}
 use Rattle.node_model.specs.world_base.Core.{CoreState, Turn}
 use Rattle.node_model.specs.LossyMoves.{LossyMoves, LossyRuns, given_in, proposal_of}
 use Rattle.node_model.specs.LossyMoves.LossyMoves.{exactly}
-use Rattle.node_model.specs.Moves.Moves.{cuts_log}
-use Rattle.snapshots.specs.World.{recorded}
 use Rattle.node_model.specs.LossyMoves.LossyRuns.{rests, goes_on}
 use Rattle.group_model.specs.Group.{Group, replica_of}
 use Rattle.group_model.specs.Putting.{InputWasSent}
-use Rattle.group_model.specs.Putting.{commands_put as exactly_put}
+use Rattle.group_model.specs.Putting.{commands_put as exactly_put, recorded_by as exactly_recorded}
 
 -- each of these that comes of others was sent to the node
 abbrev pub WereSent : Group → ℕ → List (Input Command) → Type 0
 WereSent g n [] = Unit {0}
 WereSent g n (input ∷ inputs) = InputWasSent g n input × WereSent g n inputs
 
--- the record of places after a run
+-- the record of places after a move, and after a run
+abbrev pub recorded_by : List Command → {core : CoreState} {turn : Turn} → LossyMoves core turn → List Command
+recorded_by archive (exactly m) = exactly_recorded archive m
+recorded_by archive _ = archive
+
 abbrev pub recorded_in : List Command → {core : CoreState} {turn : Turn} → LossyRuns core turn → List Command
 recorded_in archive rests = archive
-recorded_in archive {core = core} (goes_on (exactly (cuts_log can)) run) = recorded_in (recorded archive (replica_of core)) run
-recorded_in archive (goes_on m run) = recorded_in archive run
+recorded_in archive (goes_on m run) = recorded_in (recorded_by archive m) run
 
 -- what its replica gives
 abbrev pub all_given : {core : CoreState} {turn : Turn} → LossyRuns core turn → List (Effect Command Output)

@@ -32,11 +32,14 @@ abbrev pub AllWasSent : Group → ℕ → {core : CoreState} {turn : Turn} → R
 AllWasSent g n rests = Unit {0}
 AllWasSent g n (goes_on m run) = WasSent g n m × AllWasSent g n run
 
--- the record of places after a run: a cut adds what the log that is cut has applied
+-- the record of places after a move, and after a run: a cut adds what the log that is cut has applied
+abbrev pub recorded_by : List Command → {core : CoreState} {turn : Turn} → Moves core turn → List Command
+recorded_by archive {core = core} (cuts_log can) = recorded archive (replica_of core)
+recorded_by archive _ = archive
+
 abbrev pub recorded_in : List Command → {core : CoreState} {turn : Turn} → Runs core turn → List Command
 recorded_in archive rests = archive
-recorded_in archive {core = core} (goes_on (cuts_log can) run) = recorded_in (recorded archive (replica_of core)) run
-recorded_in archive (goes_on m run) = recorded_in archive run
+recorded_in archive (goes_on m run) = recorded_in (recorded_by archive m) run
 
 -- what its replica gives
 abbrev pub all_given : {core : CoreState} {turn : Turn} → Runs core turn → List (Effect Command Output)

@@ -1,7 +1,6 @@
 pub mod Archived
 pub mod Counted
 pub mod Counting
-pub mod Effects
 pub mod Groups
 pub mod Happening
 pub mod Holders

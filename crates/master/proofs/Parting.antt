@@ -10,7 +10,7 @@ use Rattle.ballot.specs.Losses.{Thinned}
 use Rattle.ballot.specs.Losses.Thinned.{none, keeps, loses}
 use Rattle.snapshots.specs.World.{messages, outputs}
 use Rattle.master.specs.Inside.{Parted, is_message}
-use Rattle.master.proofs.Effects.{messages-append, outputs-append}
+use Rattle.snapshots.proofs.Effects.{messages-append, outputs-append}
 
 -- effects that are parted up to a place
 pub record Parting {C O : Type 0} (old : List (Effect C O)) (from place : ℕ) (now : List (Effect C O)) (at : ℕ)

@@ -5,6 +5,7 @@ pub mod Changing
 pub mod Continues
 pub mod Cuts
 pub mod CutsGoOn
+pub mod Effects
 pub mod Fronts
 pub mod GoesOn
 pub mod Kept

@@ -70,7 +70,7 @@ leads_now (leads_there p) = p
 leads_now (leads_still leads step p) = p
 
 -- the node whose whole log stands at a place
-node_at : {X Y : Type 0} (f : X → Y) (xs : List X) (n : ℕ) (y : Y) → slice_get (map f xs) n ≡ Some y → (x : X) × (slice_get xs n ≡ Some x) × (f x ≡ y)
+pub node_at : {X Y : Type 0} (f : X → Y) (xs : List X) (n : ℕ) (y : Y) → slice_get (map f xs) n ≡ Some y → (x : X) × (slice_get xs n ≡ Some x) × (f x ≡ y)
 node_at f [] n y e = cc
 node_at f (x ∷ xs) zero y e = let g : f x ≡ y = cc in (x, refl, g)
 node_at f (x ∷ xs) (suc n) y e = node_at f xs n y e
