@@ -25,16 +25,17 @@ use Rattle.group_model.specs.node_model.LossyMoves.{came_with}
 use Rattle.group_model.specs.node_model.LossyMoves.{bytes_on as bytes_losing}
 use Rattle.group_model.proofs.of_node_model.Kept.{named}
 use Rattle.group_model.proofs.of_node_model.ProposesInOrder.{commands_join, front_of}
-use Rattle.group_model.specs.Group.{Group, behind_turn, moment_of, opening_cores, opening_group, with_master}
+use Rattle.group_model.specs.Group.{Group, behind_turn, moment_of, opening_cores, opening_group, with_master, with_record}
 use Rattle.group_model.specs.Goes.{MayGo, Went, all_put, behind_assign, groups_of, put_in_run, put_in_step}
 use Rattle.group_model.specs.Goes.MayGo.{node_acts, node_loses, master_assigns, master_hears, assigns_unheard, answers_unheard}
 use Rattle.group_model.specs.Goes.Went.{opened, then_went}
 use Rattle.group_model.specs.Losing.{WereSent}
-use Rattle.group_model.specs.Losing.{put_in_run as put_losing}
+use Rattle.group_model.specs.Losing.{all_given as given_losing, put_in_run as put_losing}
+use Rattle.group_model.specs.Putting.{recorded_in}
 use Rattle.group_model.specs.Order.{packets_of}
 use Rattle.group_model.specs.Pasts.{HasPast}
 use Rattle.group_model.proofs.GroupsArePasts.{goes_on, groups_are_pasts, seen_still}
-use Rattle.group_model.proofs.LosingNone.{first_still, losing_none, same_bytes, same_given, same_put, sent_losing}
+use Rattle.group_model.proofs.LosingNone.{first_still, frozen_losing, losing_none, same_bytes, same_given, same_put, same_recorded, sent_losing}
 use Rattle.group_model.proofs.MovesHappen.{Further}
 use Rattle.group_model.proofs.NamesInGroups.{IsWell, all_well, each_got}
 use Rattle.group_model.proofs.Ordered.{in_agreed}
@@ -90,15 +91,19 @@ group_steps : {config : Config} (g h : Group) (step : MayGo g h) {earlier : List
     → Steps g came h (put_in_step step) (λ x. comes_up x step) (λ x. goes_down x step)
 group_steps g h (node_acts n core deed turn run at is first sent) came well =
     let mine = each_got IsWell g.nodes n core well at in
-    subst (λ (given : List (Effect Command Output)). Steps g came (behind_turn g n turn given) (put_in_run run) (λ x. bytes_on x run) (λ x. handed_in_run x run)) (same_given run)
+    subst (λ (given : List (Effect Command Output)). Steps g came (behind_turn (with_record g (recorded_in g.archive run)) n turn given) (put_in_run run) (λ x. bytes_on x run)
+    (λ x. handed_in_run x run)) (same_given run)
+    (subst (λ (archive : List Command). Steps g came (behind_turn (with_record g archive) n turn (given_losing (losing_none run))) (put_in_run run) (λ x. bytes_on x run)
+    (λ x. handed_in_run x run)) (same_recorded g.archive run)
     (steps_as came (put_losing (losing_none run)) (put_in_run run) (λ x. bytes_losing x (losing_none run)) (λ x. bytes_on x run) (λ x. handed_losing x (losing_none run))
     (λ x. handed_in_run x run) (same_put run) (λ x. same_bytes x run) (λ x. same_handed x run)
-    (run_steps g n core turn (losing_none run) turn.messages (first_still run first) mine.orderly mine.names at (sent_losing g n run sent) (all_kept turn.messages) came))
+    (run_steps g n core turn (losing_none run) turn.messages (first_still run first) mine.orderly mine.names at (sent_losing g n run sent)
+    (frozen_losing g n run sent) (all_kept turn.messages) came)))
 group_steps g h (node_loses n core item turn kept by at runs sent thinned) came well =
     let mine = each_got IsWell g.nodes n core well at in
     steps_as came (put_losing by.run) (put_losing by.run) (λ x. bytes_losing x by.run) (λ x. came_with x item core) (λ x. handed_losing x by.run) (λ x. []) refl by.bytes
     (λ x. none_handed x by.run by.hands)
-    (run_steps g n core turn by.run kept by.first mine.orderly mine.names at (subst (WereSent g n) (sym by.hears) sent) thinned came)
+    (run_steps g n core turn by.run kept by.first mine.orderly mine.names at (subst (WereSent g n) (sym by.hears) sent) by.freezes thinned came)
 group_steps {config = config} g h (master_assigns wanted) {earlier = earlier} came well =
     master_steps g h came (assigned_nodes g wanted (refusal g.master wanted)) (goes_on config g h (master_assigns wanted) earlier came)
 group_steps {config = config} g h (master_hears from ballot sent) {earlier = earlier} came well =

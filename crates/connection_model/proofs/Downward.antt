@@ -8,8 +8,6 @@ use Rattle.broker_base.specs.Connection.{ConnectionName}
 use Rattle.broker_base.specs.State.{State}
 use Rattle.lists.specs.Lists.{IsPrefixOf}
 use Rattle.lists.proofs.Beginnings.{prefix_length, prefix_take, prefix_then, take_prefix}
-use Rattle.agreement.specs.Giving.{gives_from}
-use Rattle.agreement.proofs.Given.StepGives.{from_active}
 use Rattle.group_model.specs.world_base.declared.Connection.{Connection}
 use Rattle.group_model.specs.world_base.Handing.{bytes_of}
 use Rattle.group_model.proofs.of_node_model.Kept.{live}
@@ -68,7 +66,7 @@ seen x old new xs ys bytes k grown sent led low at = by (is_active new.role) ref
 
     by : (b : Bool) → is_active new.role ≡ b → Seen x new ys (answers_to x (take k xs)) bytes
     by true e =
-        let from : k ≡ gives_from old = at (led e) ∙ sym (from_active old (led e)) in
+        let from : k ≡ sent.from = at (led e) ∙ sym (sent.starts (led e)) in
         record {
           k = new.committed;
           low = sent.inside;

@@ -18,7 +18,7 @@ use Rattle.group_model.specs.node_model.LossyMoves.{LossyMoves}
 use Rattle.group_model.specs.node_model.LossyMoves.LossyMoves.{exactly, hears_losing, first_losing, later_losing, tells_losing, forgets, halts, fails, unheard, drops}
 use Rattle.group_model.specs.node_model.Moves.{Moves}
 use Rattle.group_model.specs.node_model.Moves.Moves.{hears, opens_one, holds, reads_first, reads_later, closes, refuses, loses_one, loses_next, cuts_log, crashes, settles, hands}
-use Rattle.group_model.proofs.of_node_model.Kept.{stays_crashed, stays_driven, stays_failed, stays_handed, stays_proposed, stays_settled}
+use Rattle.group_model.proofs.of_node_model.Kept.{stays_crashed, stays_cut, stays_driven, stays_failed, stays_handed, stays_proposed, stays_settled}
 use Rattle.group_model.proofs.of_node_model.LossyReads.{stays_drives, stays_takes}
 use Rattle.group_model.proofs.of_node_model.NamesInOrder.{given_later, next_precedes}
 use Rattle.group_model.proofs.of_node_model.ShutByChanges.{at_orderly}

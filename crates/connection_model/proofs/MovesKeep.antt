@@ -35,9 +35,9 @@ use Rattle.group_model.proofs.of_node_model.LossyClosed.{lossy_names_are_of_the_
 use Rattle.group_model.proofs.of_node_model.LossyReads.{losses_read_in_order}
 use Rattle.group_model.proofs.of_node_model.LossyShuts.{sent_in}
 use Rattle.group_model.proofs.of_node_model.ProposesInOrder.{commands_join}
-use Rattle.group_model.specs.Group.{Group, behind_turn, moment_of, replica_of}
+use Rattle.group_model.specs.Group.{Group, behind_turn, moment_of, replica_of, with_record}
 use Rattle.group_model.specs.Goes.{keeping}
-use Rattle.group_model.specs.Losing.{commands_put, put_in_move}
+use Rattle.group_model.specs.Losing.{commands_put, put_in_move, recorded_by}
 use Rattle.group_model.specs.Order.{packets_of}
 use Rattle.group_model.proofs.MovesHappen.{Once}
 use Rattle.group_model.proofs.Placed.{get_mapped, get_of_set}
@@ -87,7 +87,7 @@ pub record Known {config : Config} (g : Group) {earlier : List (Moment State Com
   pub at : slice_get g.nodes a ≡ Some core
   pub orderly : IsOrderly core
   pub leads : LeadsStill core turn
-  pub once : Once came (moment_of (behind_turn g a (keeping kept turn) (given_in m))) (put_in_move m) a (outputs (given_in m))
+  pub once : Once came (moment_of (behind_turn (with_record g (recorded_by g.archive m)) a (keeping kept turn) (given_in m))) (put_in_move m) a (outputs (given_in m))
 
 -- and of one connection in it
 record Here {config : Config} {g : Group} {earlier : List (Moment State Command Output)} {came : Past rules config (moment_of g ∷ earlier)} {a : ℕ}
@@ -99,7 +99,7 @@ record Here {config : Config} {g : Group} {earlier : List (Moment State Command 
 abbrev Behind : {config : Config} {g : Group} {earlier : List (Moment State Command Output)} {came : Past rules config (moment_of g ∷ earlier)} {a : ℕ}
     {core : CoreState} {turn : Turn} {m : LossyMoves core turn} {kept : List (Effect Command Output)} → Known g came a m kept → ConnectionName → List Packet → List ℕ → List (ℕ × Command) → List ℕ → List Command → Type 0
 Behind {g = g} {a = a} {turn = turn} {m = m} {kept = kept} k x written later put down ys =
-    Stands x written later (behind_turn g a (keeping kept turn) (given_in m)) (moment_of (behind_turn g a (keeping kept turn) (given_in m)) ∷ k.once.further.before) (put ++ put_in_move m)
+    Stands x written later (behind_turn (with_record g (recorded_by g.archive m)) a (keeping kept turn) (given_in m)) (moment_of (behind_turn (with_record g (recorded_by g.archive m)) a (keeping kept turn) (given_in m)) ∷ k.once.further.before) (put ++ put_in_move m)
     (down ++ handed_on x m) ys
 
 unrefused : (x : ConnectionName) {core : CoreState} {turn : Turn} (m : LossyMoves core turn) → refusal_in x m ≡ [] → sent_in x m ≡ spelled (sends_to x (outputs_of (given_in m)))
@@ -284,16 +284,16 @@ held_there {config = config} {g = g} {earlier = earlier} {came = came} {a = a} {
 
 pub move_keeps : {config : Config} {g : Group} {earlier : List (Moment State Command Output)} {came : Past rules config (moment_of g ∷ earlier)} {a : ℕ}
     {core : CoreState} {turn : Turn} {m : LossyMoves core turn} {kept : List (Effect Command Output)} (k : Known g came a m kept) (x : ConnectionName) (written : List Packet) (later : List ℕ) (put : List (ℕ × Command)) (down : List ℕ)
-    (xs ys : List Command) → IsAgreed config (moment_of g ∷ earlier) xs → IsAgreed config (moment_of (behind_turn g a (keeping kept turn) (given_in m)) ∷ k.once.further.before) ys
+    (xs ys : List Command) → IsAgreed config (moment_of g ∷ earlier) xs → IsAgreed config (moment_of (behind_turn (with_record g (recorded_by g.archive m)) a (keeping kept turn) (given_in m)) ∷ k.once.further.before) ys
     → IsPrefixOf (packets_of x ys) (packets_of x (commands_in (put ++ put_in_move m)))
     → Stands x written (came_on x m ++ later) g (moment_of g ∷ earlier) put down xs
-    → Stands x written later (behind_turn g a (keeping kept turn) (given_in m)) (moment_of (behind_turn g a (keeping kept turn) (given_in m)) ∷ k.once.further.before) (put ++ put_in_move m) (down ++ handed_on x m) ys
+    → Stands x written later (behind_turn (with_record g (recorded_by g.archive m)) a (keeping kept turn) (given_in m)) (moment_of (behind_turn (with_record g (recorded_by g.archive m)) a (keeping kept turn) (given_in m)) ∷ k.once.further.before) (put ++ put_in_move m) (down ++ handed_on x m) ys
 move_keeps {config = config} {g = g} {earlier = earlier} {came = came} {a = a} {core = core} {turn = turn} {m = m} {kept = kept} k x written later put down xs ys before behind said stands = by stands
   where
     h : Here k x put xs ys
     h = record {
       grown = k.once.further.grows xs ys before behind;
-      sends = gives_answers_to x (replica_of core) (replica_of turn.core) ys (given_in m)
+      sends = gives_answers_to x g.archive (recorded_by g.archive m) (replica_of core) (replica_of turn.core) ys (given_in m)
           (k.once.gives ys behind (replica_of core) (replica_of turn.core) (get_mapped replica_of g.nodes a core k.at)
           (get_mapped replica_of (slice_set g.nodes a turn.core) a turn.core (get_of_set g.nodes a core turn.core k.at)));
       said = said;

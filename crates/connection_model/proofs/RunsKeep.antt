@@ -20,16 +20,16 @@ use Rattle.group_model.specs.world_base.Core.{CoreState, Turn, rules}
 use Rattle.group_model.specs.world_base.Turns.{quiet}
 use Rattle.group_model.specs.node_model.Ends.{IsOrderly}
 use Rattle.group_model.specs.node_model.Keeping.{AreOfTheBallot}
-use Rattle.group_model.specs.node_model.LossyMoves.{HearsAtFirst, IsCalm, LossyMoves, LossyRuns, all_inputs, bytes_on, came_on, given_in, hears_in, inputs_in}
+use Rattle.group_model.specs.node_model.LossyMoves.{AllFreeze, Freezes, HearsAtFirst, IsCalm, LossyMoves, LossyRuns, all_inputs, bytes_on, came_on, given_in, hears_in, inputs_in}
 use Rattle.group_model.specs.node_model.LossyMoves.LossyRuns.{rests, goes_on}
 use Rattle.group_model.specs.node_model.Moves.{and_then}
 use Rattle.group_model.proofs.of_node_model.Kept.{left_true}
 use Rattle.group_model.proofs.of_node_model.LossyReads.{losses_read_in_order}
 use Rattle.group_model.proofs.of_node_model.OpenBehind.{open_if}
 use Rattle.group_model.specs.Ballots.{IsInItsBallot}
-use Rattle.group_model.specs.Group.{Group, behind_turn, moment_of, replica_of}
+use Rattle.group_model.specs.Group.{Group, behind_turn, moment_of, replica_of, with_record}
 use Rattle.group_model.specs.Goes.{keeping}
-use Rattle.group_model.specs.Losing.{WereSent, all_given, put_in_move, put_in_run}
+use Rattle.group_model.specs.Losing.{WereSent, all_given, put_in_move, put_in_run, recorded_by, recorded_in}
 use Rattle.group_model.specs.Order.{packets_of}
 use Rattle.group_model.specs.Pasts.{packets_in}
 use Rattle.group_model.proofs.LossesHappen.{losses_happen}
@@ -95,16 +95,16 @@ said_first {config = config} h {more = more} f x put is each ys behind =
     in_agreed config h [] (put ++ more) (record { earlier = f.before; past = f.past; proposed = now.proposed; taken = now.taken; seen = tt }) each x ys behind
 
 move_steps : {config : Config} (g : Group) (n : ℕ) (core : CoreState) (turn : Turn) (m : LossyMoves core turn) (kept : Given) → slice_get g.nodes n ≡ Some core → WereSent g n (inputs_in m)
-    → Thinned kept turn.messages → IsOrderly core → LeadsStill core turn → {earlier : List (Moment State Command Output)} (came : Past rules config (moment_of g ∷ earlier))
-    → Steps g came (behind_turn g n (keeping kept turn) (given_in m)) (put_in_move m) (λ x. came_on x m) (λ x. handed_on x m)
-move_steps {config = config} g n core turn m kept at sent_so t o leads {earlier = earlier} came =
-    let known : Known g came n m kept = record { at = at; orderly = o; leads = leads; once = losses_happen g n core turn m kept at sent_so t config earlier came } in
+    → Freezes m → Thinned kept turn.messages → IsOrderly core → LeadsStill core turn → {earlier : List (Moment State Command Output)} (came : Past rules config (moment_of g ∷ earlier))
+    → Steps g came (behind_turn (with_record g (recorded_by g.archive m)) n (keeping kept turn) (given_in m)) (put_in_move m) (λ x. came_on x m) (λ x. handed_on x m)
+move_steps {config = config} g n core turn m kept at sent_so frozen t o leads {earlier = earlier} came =
+    let known : Known g came n m kept = record { at = at; orderly = o; leads = leads; once = losses_happen g n core turn m kept at sent_so frozen t config earlier came } in
     let xs = has_agreed rules config (moment_of g) earlier came in
     record {
       further = known.once.further;
       keeps_each = λ x written later put sent is each good ys behind.
           move_keeps known x written later put sent xs.0 ys xs.1 behind
-          (said_first (behind_turn g n (keeping kept turn) (given_in m)) known.once.further x put is each ys behind) (good xs.0 xs.1);
+          (said_first (behind_turn (with_record g (recorded_by g.archive m)) n (keeping kept turn) (given_in m)) known.once.further x put is each ys behind) (good xs.0 xs.1);
     }
 
 -- ---- one behind the other
@@ -151,15 +151,17 @@ first_leads core turn of x c there lives e = left_true (is_active (replica_of co
 -- one move, and a run behind it
 move_and_run : {config : Config} (g : Group) (n : ℕ) (core : CoreState) (first next : Turn) (m : LossyMoves core first) (run : LossyRuns first.core next) (kept : Given)
     (k : KeptOfBoth kept first.messages next.messages) {earlier : List (Moment State Command Output)} (came : Past rules config (moment_of g ∷ earlier))
-    → (step : Steps g came (behind_turn g n (keeping k.front first) (given_in m)) (put_in_move m) (λ x. came_on x m) (λ x. handed_on x m))
-    → Steps (behind_turn g n (keeping k.front first) (given_in m)) step.further.past
-    (behind_turn (behind_turn g n (keeping k.front first) (given_in m)) n (keeping k.rest next) (all_given run)) (put_in_run run) (λ x. bytes_on x run) (λ x. handed_losing x run)
-    → Steps g came (behind_turn g n (keeping kept (and_then first next)) (given_in m ++ all_given run)) (put_in_move m ++ put_in_run run) (λ x. came_on x m ++ bytes_on x run)
-    (λ x. handed_on x m ++ handed_losing x run)
+    → (step : Steps g came (behind_turn (with_record g (recorded_by g.archive m)) n (keeping k.front first) (given_in m)) (put_in_move m) (λ x. came_on x m) (λ x. handed_on x m))
+    → Steps (behind_turn (with_record g (recorded_by g.archive m)) n (keeping k.front first) (given_in m)) step.further.past
+    (behind_turn (with_record (behind_turn (with_record g (recorded_by g.archive m)) n (keeping k.front first) (given_in m)) (recorded_in (recorded_by g.archive m) run)) n
+    (keeping k.rest next) (all_given run)) (put_in_run run) (λ x. bytes_on x run) (λ x. handed_losing x run)
+    → Steps g came (behind_turn (with_record g (recorded_in (recorded_by g.archive m) run)) n (keeping kept (and_then first next)) (given_in m ++ all_given run))
+    (put_in_move m ++ put_in_run run) (λ x. came_on x m ++ bytes_on x run) (λ x. handed_on x m ++ handed_losing x run)
 move_and_run g n core first next m run kept k came step rest =
     both_steps came (put_in_move m) (put_in_run run) (λ x. came_on x m) (λ x. bytes_on x run) (λ x. handed_on x m) (λ x. handed_losing x run) step
-    (subst (λ (h : Group). Steps (behind_turn g n (keeping k.front first) (given_in m)) step.further.past h (put_in_run run) (λ x. bytes_on x run) (λ x. handed_losing x run))
-    (kept_turns g n first next (given_in m) (all_given run) kept k) rest)
+    (subst (λ (h : Group). Steps (behind_turn (with_record g (recorded_by g.archive m)) n (keeping k.front first) (given_in m)) step.further.past h (put_in_run run)
+    (λ x. bytes_on x run) (λ x. handed_losing x run))
+    (kept_turns (with_record g (recorded_in (recorded_by g.archive m) run)) n first next (given_in m) (all_given run) kept k) rest)
 
 no_move : {config : Config} (g : Group) (n : ℕ) (core : CoreState) (kept : Given) → slice_get g.nodes n ≡ Some core → Thinned kept []
     → {earlier : List (Moment State Command Output)} (came : Past rules config (moment_of g ∷ earlier))
@@ -169,28 +171,28 @@ no_move g n core kept at t came =
     (same_group g n core at ∙ ap (λ (l : Given). behind_turn g n (keeping l (quiet core)) []) (sym (nothing_kept kept t))) (nothing_steps g came)
 
 calm_steps : {config : Config} (g : Group) (n : ℕ) (core : CoreState) (turn : Turn) (run : LossyRuns core turn) (kept : Given) → IsCalm run → IsOrderly core → slice_get g.nodes n ≡ Some core
-    → WereSent g n (all_inputs run) → Thinned kept turn.messages → {earlier : List (Moment State Command Output)} (came : Past rules config (moment_of g ∷ earlier))
-    → Steps g came (behind_turn g n (keeping kept turn) (all_given run)) (put_in_run run) (λ x. bytes_on x run) (λ x. handed_losing x run)
-calm_steps g n core turn rests kept calm o at sent t came = no_move g n core kept at t came
-calm_steps g n core turn (goes_on {first = first} {next = next} m run) kept calm o at sent t came =
+    → WereSent g n (all_inputs run) → AllFreeze run → Thinned kept turn.messages → {earlier : List (Moment State Command Output)} (came : Past rules config (moment_of g ∷ earlier))
+    → Steps g came (behind_turn (with_record g (recorded_in g.archive run)) n (keeping kept turn) (all_given run)) (put_in_run run) (λ x. bytes_on x run) (λ x. handed_losing x run)
+calm_steps g n core turn rests kept calm o at sent frozen t came = no_move g n core kept at t came
+calm_steps g n core turn (goes_on {first = first} {next = next} m run) kept calm o at sent frozen t came =
     let k = kept_of_both first.messages next.messages kept t in
     let s = were_both g n (inputs_in m) (all_inputs run) sent in
     let one : Turn = keeping k.front first in
-    let step = move_steps g n core first m k.front at s.0 k.first o (calm_leads core first m calm.0) came in
+    let step = move_steps g n core first m k.front at s.0 frozen.0 k.first o (calm_leads core first m calm.0) came in
     move_and_run g n core first next m run kept k came step
-    (calm_steps (behind_turn g n one (given_in m)) n first.core next run k.rest calm.1 (losses_read_in_order core first m o).0 (get_of_set g.nodes n core first.core at)
-    (were_still g n one (given_in m) (all_inputs run) s.1) k.next step.further.past)
+    (calm_steps (behind_turn (with_record g (recorded_by g.archive m)) n one (given_in m)) n first.core next run k.rest calm.1 (losses_read_in_order core first m o).0 (get_of_set g.nodes n core first.core at)
+    (were_still g (recorded_by g.archive m) n one (given_in m) (all_inputs run) s.1) frozen.1 k.next step.further.past)
 
 pub run_steps : {config : Config} (g : Group) (n : ℕ) (core : CoreState) (turn : Turn) (run : LossyRuns core turn) (kept : Given) → HearsAtFirst run → IsOrderly core → AreOfTheBallot core
-    → slice_get g.nodes n ≡ Some core → WereSent g n (all_inputs run) → Thinned kept turn.messages
+    → slice_get g.nodes n ≡ Some core → WereSent g n (all_inputs run) → AllFreeze run → Thinned kept turn.messages
     → {earlier : List (Moment State Command Output)} (came : Past rules config (moment_of g ∷ earlier))
-    → Steps g came (behind_turn g n (keeping kept turn) (all_given run)) (put_in_run run) (λ x. bytes_on x run) (λ x. handed_losing x run)
-run_steps g n core turn rests kept first_so o of at sent t came = no_move g n core kept at t came
-run_steps g n core turn (goes_on {first = first} {next = next} m run) kept calm o of at sent t came =
+    → Steps g came (behind_turn (with_record g (recorded_in g.archive run)) n (keeping kept turn) (all_given run)) (put_in_run run) (λ x. bytes_on x run) (λ x. handed_losing x run)
+run_steps g n core turn rests kept first_so o of at sent frozen t came = no_move g n core kept at t came
+run_steps g n core turn (goes_on {first = first} {next = next} m run) kept calm o of at sent frozen t came =
     let k = kept_of_both first.messages next.messages kept t in
     let s = were_both g n (inputs_in m) (all_inputs run) sent in
     let one : Turn = keeping k.front first in
-    let step = move_steps g n core first m k.front at s.0 k.first o (first_leads core first of) came in
+    let step = move_steps g n core first m k.front at s.0 frozen.0 k.first o (first_leads core first of) came in
     move_and_run g n core first next m run kept k came step
-    (calm_steps (behind_turn g n one (given_in m)) n first.core next run k.rest calm (losses_read_in_order core first m o).0 (get_of_set g.nodes n core first.core at)
-    (were_still g n one (given_in m) (all_inputs run) s.1) k.next step.further.past)
+    (calm_steps (behind_turn (with_record g (recorded_by g.archive m)) n one (given_in m)) n first.core next run k.rest calm (losses_read_in_order core first m o).0 (get_of_set g.nodes n core first.core at)
+    (were_still g (recorded_by g.archive m) n one (given_in m) (all_inputs run) s.1) frozen.1 k.next step.further.past)

@@ -18,6 +18,8 @@ use Rattle.story.proofs.Deliveries.{sends_append}
 use Rattle.agreement.specs.Giving.{GivesNext, gives_from}
 use Rattle.group_model.specs.snapshots.World.{outputs}
 use Rattle.agreement.proofs.Given.Places.{none_between}
+use Rattle.agreement.proofs.Given.StepGives.{from_active}
+use Rattle.group_model.specs.snapshots.Whole.{whole}
 use Rattle.model.specs.PutOut.{answered, broker_rules}
 use Rattle.model.proofs.Answers.{put_front, put_push}
 use Rattle.model.proofs.Lists.{take_next, there_is}
@@ -77,10 +79,12 @@ answers_between x agreed first (suc k) past is low =
 -- ---- what a node gives
 
 -- What a node put out for a connection while it became another: nothing where it is no active primary, and else the spelled
--- answers to the connection at the next places.
+-- answers to the connection at the next places, from where it had applied the list if it was one before.
 pub record Sends (x : ConnectionName) (old new : ReplicaState State Command) (agreed : List Command) (bytes : List ℕ) : Type 0 where
+  pub from : ℕ
+  pub starts : is_active old.role ≡ true → from ≡ old.committed
   pub idle : is_active new.role ≡ false → bytes ≡ []
-  pub next : is_active new.role ≡ true → answers_to x (take new.committed agreed) ≡ answers_to x (take (gives_from old) agreed) ++ bytes
+  pub next : is_active new.role ≡ true → answers_to x (take new.committed agreed) ≡ answers_to x (take from agreed) ++ bytes
   pub inside : new.committed ≤ length agreed
 
 outputs_same : (effects : List (Effect Command Output)) → outputs_of effects ≡ answered (outputs effects)
@@ -88,10 +92,14 @@ outputs_same [] = refl
 outputs_same (Out place output ∷ effects) = ap (λ l. output ∷ l) (outputs_same effects)
 outputs_same (To receiver message ∷ effects) = outputs_same effects
 
-pub gives_answers_to : (x : ConnectionName) (old new : ReplicaState State Command) (agreed : List Command) (effects : List (Effect Command Output))
-    → GivesNext rules old new agreed (outputs effects) → Sends x old new agreed (spelled (sends_to x (outputs_of effects)))
-gives_answers_to x old new agreed effects g = record { idle = idle; next = next; inside = g.inside }
+pub gives_answers_to : (x : ConnectionName) (archive more : List Command) (old new : ReplicaState State Command) (agreed : List Command) (effects : List (Effect Command Output))
+    → GivesNext rules (whole archive old) (whole more new) agreed (outputs effects) → Sends x old new agreed (spelled (sends_to x (outputs_of effects)))
+gives_answers_to x archive later old new agreed effects g =
+    record { from = from; starts = λ e. from_active (whole archive old) e; idle = idle; next = next; inside = g.inside }
   where
+    from : ℕ
+    from = gives_from (whole archive old)
+
     idle : is_active new.role ≡ false → spelled (sends_to x (outputs_of effects)) ≡ []
     idle e = ap (λ l. spelled (sends_to x l)) (outputs_same effects ∙ ap answered (g.idle e))
 
@@ -100,11 +108,11 @@ gives_answers_to x old new agreed effects g = record { idle = idle; next = next;
     past zero (suc b) low = absurd (omega (arith, low))
     past (suc a) (suc b) low = let z = past a b (omega (arith, low)) in let f = z.1 in (z.0, omega (arith, f))
 
-    next : is_active new.role ≡ true → answers_to x (take new.committed agreed) ≡ answers_to x (take (gives_from old) agreed) ++ spelled (sends_to x (outputs_of effects))
+    next : is_active new.role ≡ true → answers_to x (take new.committed agreed) ≡ answers_to x (take (gives_from (whole archive old)) agreed) ++ spelled (sends_to x (outputs_of effects))
     next e =
         let low = g.rising e in
         let inside = g.inside in
-        let more = past new.committed (gives_from old) low in
+        let more = past new.committed (gives_from (whole archive old)) low in
         let is = more.1 in
-        answers_between x agreed (gives_from old) more.0 new.committed is inside
-        ∙ ap (λ l. answers_to x (take (gives_from old) agreed) ++ spelled (sends_to x l)) (sym (outputs_same effects ∙ ap answered (g.next e)))
+        answers_between x agreed (gives_from (whole archive old)) more.0 new.committed is inside
+        ∙ ap (λ l. answers_to x (take (gives_from (whole archive old)) agreed) ++ spelled (sends_to x l)) (sym (outputs_same effects ∙ ap answered (g.next e)))

@@ -15,6 +15,8 @@ use Rattle.pipes.specs.Pipe.{IsPiped}
 use Rattle.story.specs.Story.{is_packet_of}
 use Rattle.group_model.specs.snapshots.Past.{Moment}
 use Rattle.group_model.specs.snapshots.Agreeing.{IsPrimary}
+use Rattle.group_model.specs.snapshots.Whole.{whole}
+use Rattle.group_model.proofs.of_snapshots.Views.{get_whole}
 use Rattle.agreement.specs.Proposals.{commands_of as commands_in}
 use Rattle.group_model.specs.world_base.declared.Connection.{Connection}
 use Rattle.group_model.specs.world_base.Core.{CoreState, Turn}
@@ -110,8 +112,8 @@ leads_now g n core x earlier at next =
       moment = moment_of g;
       among = here;
       primary = record {
-        replica = replica_of core;
-        stands = get_mapped replica_of g.nodes n core at;
+        replica = whole g.archive (replica_of core);
+        stands = get_whole (whole g.archive) (moment_of g).world.nodes n (replica_of core) (get_mapped replica_of g.nodes n core at);
         active = left_true (is_active (replica_of core).role) _ next.leads;
         joined = sym next.ballot;
       };
