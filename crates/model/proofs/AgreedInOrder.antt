@@ -1,9 +1,15 @@
 -- The agreed list begins a log, and each log keeps the order of proposing.
-use Rattle.std.proofs.Common.{Bool, List, filter, ap, ◌∙◌}
+use Rattle.std.proofs.Common.{Bool, List, filter, ap, ◌∙◌, subst}
 use Rattle.machine.specs.Machine.{Rules}
 use Rattle.lists.specs.Lists.{IsPrefixOf}
 use Rattle.lists.proofs.Beginnings.{prefix_then}
-use Rattle.agreement.specs.Laws.{KeepsTheOrder, NodesAgree}
+use Rattle.snapshots.specs.Orders.{KeepsTheOrder}
+use Rattle.snapshots.specs.Laws.{NodesAgree}
+use Rattle.snapshots.specs.Proposals.{taken_of}
+use Rattle.snapshots.specs.Whole.{whole}
+use Rattle.snapshots.specs.agreement.Proposals.{commands_of}
+use Rattle.snapshots.specs.agreement.whole.Replica.{ReplicaState as WholeState}
+use Rattle.snapshots.proofs.Orders.{node_at}
 use Rattle.model.specs.Agreed.{AgreedKeepsTheOrder}
 use Rattle.model.proofs.NextPackets.{filter_joined}
 
@@ -11,10 +17,13 @@ filter_front : {X : Type 0} (test : X → Bool) (xs ys : List X) → IsPrefixOf 
 filter_front test xs ys front = record { rest = filter test front.rest; is = ap (filter test) front.is ∙ filter_joined test xs front.rest }
 
 pub agreed_in_order : {S C O : Type 0} (rules : Rules S C O) → KeepsTheOrder rules → NodesAgree rules → AgreedKeepsTheOrder rules
-agreed_in_order {C = Command} rules keeps agree config a past agreed came is =
+agreed_in_order {S = S} {C = C} rules keeps agree config a past agreed came is =
     let order = keeps config a past came in
-    let holds = (agree config a past agreed came is).1 in (
+    let holds = (agree config a past agreed came is).1 in
+    let at = node_at (whole a.world.archive) a.world.nodes holds.node holds.replica holds.stands in (
       order.0,
       λ names ballot own.
-          prefix_then (filter_front names agreed holds.replica.log holds.held) (order.1 names ballot own holds.node holds.replica holds.stands),
+          prefix_then (filter_front names agreed holds.replica.log holds.held)
+          (subst (λ (l : List C). IsPrefixOf (filter names l) (filter names (commands_of (taken_of came)))) (ap (λ (w : WholeState S C). w.log) at.2)
+          (order.1 names ballot own holds.node at.0 at.1)),
     )

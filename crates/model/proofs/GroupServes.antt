@@ -8,12 +8,13 @@ use Rattle.broker_base.proofs.ConnectionNames.{same_itself}
 use Rattle.lists.specs.Lists.{In, IsPrefixOf}
 use Rattle.lists.specs.Lists.In.{here, there}
 use Rattle.lists.proofs.Members.{in_left}
-use Rattle.agreement.specs.Proposals.{IsOfBallot, commands_of, rows_in, taken_at, taken_of}
-use Rattle.agreement.proofs.Agreed.OneNodeTakes.{one_node_takes_a_ballot}
-use Rattle.agreement.proofs.Agreed.PastAgrees.{nodes_agree}
-use Rattle.agreement.proofs.Agreed.PastGrows.{agreed_grows}
-use Rattle.agreement.proofs.Agreed.PastOrder.{keeps_the_order}
-use Rattle.agreement.proofs.Orders.TakenParts.{taken_at_in}
+use Rattle.snapshots.specs.agreement.Proposals.{IsOfBallot, commands_of, rows_in}
+use Rattle.snapshots.specs.Proposals.{taken_at, taken_of}
+use Rattle.snapshots.proofs.Orders.{one_node_takes_a_ballot}
+use Rattle.snapshots.proofs.PastsAgree.{nodes_agree}
+use Rattle.snapshots.proofs.PastsAgree.{agreed_grows}
+use Rattle.snapshots.proofs.Orders.{keeps_the_order}
+use Rattle.snapshots.proofs.Orders.{taken_at_in}
 use Rattle.story.specs.Sides.{Connection}
 use Rattle.story.specs.Story.{is_packet_of}
 use Rattle.model.specs.World.{End}
@@ -98,7 +99,7 @@ groups_serve rules starts config a past w later came before behind takes =
     order : (κ : Connection) (e : End) → ReadsAt came κ e → IsPrefixOf (filter (of_name κ.name) later) (commands_from κ.name 0 (take e.read κ.written))
     order κ e r =
         let whole = named_in (of_name κ.name) κ.name.ballot (taken_of came) (λ row j is. takes.ballots row j κ.name is) in
-        let own = named_in (of_name κ.name) κ.name.ballot (taken_at r.node came) (λ row j is. takes.ballots row (taken_at_in r.node came row j) κ.name is) in
+        let own = named_in (of_name κ.name) κ.name.ballot (taken_at r.node came) (λ row j is. takes.ballots row (taken_at_in rules config a past came r.node row j) κ.name is) in
         let one = one_node_takes_a_ballot rules config a past came r.moment r.node κ.name.ballot r.among r.primary in
         subst (λ (l : List Command). IsPrefixOf (filter (of_name κ.name) later) l)
         (whole ∙ ap (λ (rows : List (ℕ × Command)). filter (of_name κ.name) (commands_of rows)) one ∙ sym own ∙ r.taken) (in_order κ.name)

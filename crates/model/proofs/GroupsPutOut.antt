@@ -1,9 +1,9 @@
 -- What a node of a group gives while it leads a ballot may be put out on its open ends.
 use Rattle.std.proofs.Common.{◌≡◌, ℕ, List, [], ◌∷◌, ◌++◌, set, ap, sym, ◌∙◌, subst, arith}
-use Rattle.agreement.specs.whole.Applying.{outputs_between}
-use Rattle.agreement.specs.Giving.{given_of}
-use Rattle.agreement.specs.World.{outputs}
-use Rattle.agreement.proofs.Given.WhileItLeads.{answers_while_it_leads}
+use Rattle.snapshots.specs.agreement.whole.Applying.{outputs_between}
+use Rattle.snapshots.specs.Giving.{given_of}
+use Rattle.snapshots.specs.agreement.World.{outputs}
+use Rattle.snapshots.proofs.Orders.{answers_while_it_leads}
 use Rattle.broker_base.specs.Output.{Output}
 use Rattle.model.specs.World.{with_client}
 use Rattle.model.specs.Goes.{Reached}

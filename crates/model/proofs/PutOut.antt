@@ -3,11 +3,11 @@ use Rattle.std.proofs.Common.{◌≡◌, ◌≤◌, ◌+◌, ℕ, zero, suc, Lis
 use Rattle.std.specs.Prelude.{slice_get}
 use Rattle.std.proofs.lemmas.List.{append-nil, map-append}
 use Rattle.machine.specs.Machine.{replay}
-use Rattle.agreement.specs.whole.Applying.{outputs_from, outputs_between}
-use Rattle.agreement.specs.whole.Messages.{Effect}
-use Rattle.agreement.specs.whole.Messages.Effect.{Out}
-use Rattle.agreement.specs.World.{outputs}
-use Rattle.agreement.proofs.Given.Places.{between_joins, none_between}
+use Rattle.snapshots.specs.agreement.whole.Applying.{outputs_from, outputs_between}
+use Rattle.snapshots.specs.agreement.whole.Messages.{Effect}
+use Rattle.snapshots.specs.agreement.whole.Messages.Effect.{Out}
+use Rattle.snapshots.specs.agreement.World.{outputs}
+use Rattle.snapshots.proofs.of_agreement.Given.Places.{between_joins, none_between}
 use Rattle.broker_base.specs.Connection.{ConnectionName}
 use Rattle.broker_base.specs.Commands.{past_of, usual_limits}
 use Rattle.broker_base.specs.Answers.{answers_of}

@@ -2,9 +2,10 @@
 use Rattle.std.specs.Prelude.{ℕ, Bool, List, ◌∷◌, filter}
 use Rattle.machine.specs.Machine.{Rules}
 use Rattle.lists.specs.Lists.{IsPrefixOf}
-use Rattle.agreement.specs.whole.Config.{Config}
-use Rattle.agreement.specs.Past.{Moment, Past, IsAgreed}
-use Rattle.agreement.specs.Proposals.{IsOfBallot, IsPartOf, commands_of, proposals_of, taken_of}
+use Rattle.snapshots.specs.ballot_base.declared.config.Config.{Config}
+use Rattle.snapshots.specs.Past.{Moment, Past, IsAgreed}
+use Rattle.snapshots.specs.agreement.Proposals.{IsOfBallot, IsPartOf, commands_of}
+use Rattle.snapshots.specs.Proposals.{proposals_of, taken_of}
 
 -- Of the commands that were taken in one ballot only, as those of one connection, the agreed list has a beginning in the
 -- order of proposing.

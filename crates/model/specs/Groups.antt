@@ -1,15 +1,16 @@
 -- How a group of nodes serves a world: what its nodes take is what the ends of the world's connections read.
 use Rattle.std.specs.Prelude.{◌≡◌, ℕ, true, false, List, ◌∷◌, filter, take}
 use Rattle.machine.specs.Machine.{Rules}
-use Rattle.agreement.specs.whole.Config.{Config}
+use Rattle.snapshots.specs.ballot_base.declared.config.Config.{Config}
 use Rattle.broker_base.specs.Connection.{ConnectionName}
 use Rattle.broker_base.specs.Command.{Command}
 use Rattle.broker_base.specs.Output.{Output}
 use Rattle.broker_base.specs.State.{State}
 use Rattle.lists.specs.Lists.{In}
-use Rattle.agreement.specs.Past.{Moment, Past, IsAgreed}
-use Rattle.agreement.specs.Primaries.{IsPrimary}
-use Rattle.agreement.specs.Proposals.{commands_of, taken_at, taken_of}
+use Rattle.snapshots.specs.Past.{Moment, Past, IsAgreed}
+use Rattle.snapshots.specs.Agreeing.{IsPrimary}
+use Rattle.snapshots.specs.agreement.Proposals.{commands_of}
+use Rattle.snapshots.specs.Proposals.{taken_at, taken_of}
 use Rattle.story.specs.Sides.{Connection}
 use Rattle.story.specs.Story.{is_packet_of}
 use Rattle.model.specs.World.{End, ClientEnds, World}

@@ -1,12 +1,12 @@
 -- What a node gives is put out on the ends of its connections.
 use Rattle.std.specs.Prelude.{◌≡◌, ◌≤◌, ℕ, true, List, ◌∷◌, ◌++◌, length, map, set, slice_get, Some}
 use Rattle.machine.specs.Machine.{Rules}
-use Rattle.agreement.specs.whole.Applying.{outputs_between}
-use Rattle.agreement.specs.whole.Config.{Config}
-use Rattle.agreement.specs.whole.Replica.{ReplicaState}
-use Rattle.agreement.specs.Giving.{LeadsOn, given_of}
-use Rattle.agreement.specs.Past.{Moment, Past, IsAgreed}
-use Rattle.agreement.specs.World.{outputs}
+use Rattle.snapshots.specs.agreement.whole.Applying.{outputs_between}
+use Rattle.snapshots.specs.ballot_base.declared.config.Config.{Config}
+use Rattle.snapshots.specs.ballot_base.Replica.{ReplicaState}
+use Rattle.snapshots.specs.Giving.{LeadsOn, given_of}
+use Rattle.snapshots.specs.Past.{Moment, Past, IsAgreed}
+use Rattle.snapshots.specs.agreement.World.{outputs}
 use Rattle.broker_base.specs.Connection.{ConnectionName}
 use Rattle.broker_base.specs.Place.{Client}
 use Rattle.broker_base.specs.Commands.{usual_limits}

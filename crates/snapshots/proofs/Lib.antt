@@ -25,3 +25,4 @@ pub mod SnapshotsRead
 pub mod TakenStands
 pub mod Taking
 pub mod Views
+pub use Rattle.agreement.proofs as of_agreement

@@ -23,6 +23,7 @@ use Rattle.agreement.proofs.Agreed.PastAgrees as wholes
 use Rattle.agreement.proofs.Agreed.PastKnown.{past_known}
 use Rattle.agreement.proofs.Agreed.PastOrder as orders
 use Rattle.agreement.proofs.Frame.Giving.{same_outputs}
+use Rattle.agreement.proofs.Orders.TakenParts as parts
 use Rattle.agreement.proofs.Given.Places.{between_joins, none_between}
 use Rattle.agreement.proofs.Given.NextPlaces.{some_same}
 use Rattle.agreement.proofs.Given.StepGives.{from_active}
@@ -30,7 +31,7 @@ use Rattle.snapshots.specs.Giving.{LeadsOn, given_in, given_of}
 use Rattle.snapshots.specs.Giving.LeadsOn.{leads_there, leads_still}
 use Rattle.snapshots.specs.Orders.{AnswersWhileItLeads, KeepsTheOrder, OneNodeTakesABallot}
 use Rattle.snapshots.specs.Past.{Moment, Past, whole_moment}
-use Rattle.snapshots.specs.Proposals.{proposals_of, taken_of}
+use Rattle.snapshots.specs.Proposals.{proposals_of, taken_at, taken_of}
 use Rattle.snapshots.specs.Whole.{whole, whole_log}
 use Rattle.snapshots.specs.World.{World, whole_world}
 use Rattle.snapshots.proofs.Continues.{agreed_in}
@@ -60,6 +61,14 @@ one_node_takes_a_ballot rules config a past came c n ballot i primary =
     ∙ takers.one_node_takes_a_ballot rules config (whole_moment a) q.stands.earlier q.stands.kept.came (whole_moment c) n ballot
     (q.stands.covers.all (whole_moment c) (in_whole whole_moment i)) primary
     ∙ ap (rows_in ballot) (q.says.takes_at n)
+
+-- what one node took was taken
+pub taken_at_in : {S C O : Type 0} (rules : Rules S C O) (config : Config) (a : Moment S C O) (past : List (Moment S C O)) → (came : Past rules config (a ∷ past)) →
+    (n : ℕ) (row : ℕ × C) → In row (taken_at n came) → In row (taken_of came)
+taken_at_in {C = C} rules config a past came n row i =
+    let q = past_stands_with rules config a past came in
+    subst (λ (us : List (ℕ × C)). In row us) q.says.takes
+    (parts.taken_at_in n q.stands.kept.came row (subst (λ (us : List (ℕ × C)). In row us) (sym (q.says.takes_at n)) i))
 
 -- ---- while a node leads
 

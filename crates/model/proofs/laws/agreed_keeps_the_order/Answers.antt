@@ -1,5 +1,5 @@
-use Rattle.agreement.proofs.Agreed.PastAgrees.{nodes_agree}
-use Rattle.agreement.proofs.Agreed.PastOrder.{keeps_the_order}
+use Rattle.snapshots.proofs.PastsAgree.{nodes_agree}
+use Rattle.snapshots.proofs.Orders.{keeps_the_order}
 use Rattle.model.proofs.AgreedInOrder.{agreed_in_order}
 use Rattle.model.proofs.laws.agreed_keeps_the_order.Goals as goal
 
