@@ -19,7 +19,8 @@ use Rattle.world_model.specs.world_base.Core.{CoreState}
 use Rattle.world_model.specs.node_model.Moves.{Deed, done}
 use Rattle.world_model.specs.node_model.Moves.Deed.{takes, gives}
 use Rattle.world_model.specs.node_model.Puts.{spelled}
-use Rattle.world_model.specs.group_model.Group.{Group, behind_turn}
+use Rattle.world_model.specs.group_model.Group.{Group, behind_turn, with_record}
+use Rattle.world_model.specs.group_model.Putting.{recorded_in}
 use Rattle.world_model.specs.group_model.Goes.{all_given}
 use Rattle.world_model.specs.group_model.Goes.MayGo.{node_acts}
 use Rattle.world_model.proofs.of_group_model.Placed.{get_of_set}
@@ -39,12 +40,12 @@ pub record Turned (g : Group) (n : ℕ) (deed : Deed) (core later : CoreState) :
   pub stands : slice_get does.behind.nodes n ≡ Some later
   pub down : (x : ConnectionName) → goes_down x does.step ≡ going_with x deed core
 
-pub turned : (g : Group) (n : ℕ) (deed : Deed) (core later : CoreState) → slice_get g.nodes n ≡ Some core → DeedWasSent g n deed → (done deed core).core ≡ later → Turned g n deed core later
+pub turned : (g : Group) (n : ℕ) (deed : Deed) (core later : CoreState) → slice_get g.nodes n ≡ Some core → DeedWasSent g n core deed → (done deed core).core ≡ later → Turned g n deed core later
 turned g n deed core later at sent is =
     let r = deeds_carry_their_bytes g n deed core sent in
     record {
       does = record {
-        behind = behind_turn g n (done deed core) (all_given r.run);
+        behind = behind_turn (with_record g (recorded_in g.archive r.run)) n (done deed core) (all_given r.run);
         step = node_acts n core deed (done deed core) r.run at refl r.first r.sent;
         is = refl;
         faithful = r.bytes;

@@ -47,7 +47,7 @@ abbrev pub serving : List Command → List ℕ → CoreState
 serving log pending =
     record core_opened {
       replica = record core_opened.replica {
-        state = record core_opened.replica.state { log = log; committed = length log; machine = replay rules log };
+        state = record core_opened.replica.state { log = record { base = 0; snapshot = []; rest = log }; committed = length log; machine = replay rules log };
       };
       connections = record (fresh the_port first_name) { stage = Proposed; pending = pending } ∷ [];
     }

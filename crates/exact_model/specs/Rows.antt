@@ -61,4 +61,4 @@ pub record APublicationIsAccepted : Type 0 where
   pub done : map published_by end.clients ≡ (Own.Done 0 news ∷ []) ∷ []
   pub core : CoreState
   pub stands : slice_get end.group.nodes 0 ≡ Some core
-  pub log : core.replica.state.log ≡ list_done
+  pub log : core.replica.state.log ≡ record { base = 0; snapshot = []; rest = list_done }

@@ -1,16 +1,18 @@
--- What a deed of a node has to do with others: a message that is heard, bytes that come in, bytes that are handed over.
-use Rattle.std.proofs.Common.{◌≡◌, false, ℕ, List}
+-- What a deed of a node has to do with others: a message that is heard, bytes that come in, bytes that are handed over. And
+-- whether its log is cut.
+use Rattle.std.proofs.Common.{◌≡◌, false, if◌then◌else◌, ℕ, List}
+use Rattle.ballot.specs.Cutting.{can_cut}
 use Rattle.ballot.specs.Message.{Message}
 use Rattle.ballot.specs.Protocol.Input.{Receives}
 use Rattle.broker_base.specs.Command.{Command}
 use Rattle.world_base.specs.declared.Port.{Port}
-use Rattle.world_base.specs.declared.item.Item.TheVariants.{Peer, Bytes}
+use Rattle.world_base.specs.declared.item.Item.TheVariants.{Peer, Bytes, Cut}
 use Rattle.world_base.specs.Core.{CoreState, Turn}
 use Rattle.node_model.specs.Hearing.{HearsAtFirst, IsCalm}
 use Rattle.node_model.specs.Keeping.{moves_replica}
 use Rattle.node_model.specs.Moves.{Deed, Moves, Runs}
 use Rattle.node_model.specs.Moves.Deed.{takes, gives}
-use Rattle.node_model.specs.Moves.Moves.{hears, holds, hands}
+use Rattle.node_model.specs.Moves.Moves.{hears, holds, cuts_log, hands}
 use Rattle.node_model.specs.Moves.Runs.{rests, goes_on}
 
 pub data Part : Type 0 where
@@ -18,18 +20,21 @@ pub data Part : Type 0 where
   heard : Message Command → Part
   bytes_in : Port → List ℕ → Part
   bytes_out : Port → Part
+  cut : Part
 
 abbrev pub part_in : {core : CoreState} {turn : Turn} → Moves core turn → Part
 part_in (hears (Receives message) is) = Part.heard message
 part_in (holds port piece) = Part.bytes_in port piece
 part_in (hands port) = Part.bytes_out port
+part_in (cuts_log can) = Part.cut
 part_in _ = Part.nothing
 
-abbrev pub part_of : Deed → Part
-part_of (takes (Peer message)) = Part.heard message
-part_of (takes (Bytes port piece now)) = Part.bytes_in port piece
-part_of (gives port) = Part.bytes_out port
-part_of _ = Part.nothing
+abbrev pub part_of : Deed → CoreState → Part
+part_of (takes (Peer message)) core = Part.heard message
+part_of (takes (Bytes port piece now)) core = Part.bytes_in port piece
+part_of (takes Cut) core = if can_cut core.replica.state then Part.cut else Part.nothing
+part_of (gives port) core = Part.bytes_out port
+part_of _ core = Part.nothing
 
 -- a move in which the replica hears nothing and does not stop, and no bytes are carried
 abbrev pub IsBareMove : {core : CoreState} {turn : Turn} → Moves core turn → Type 0

@@ -229,17 +229,17 @@ failed_run core = failed_runs core (find has_failed core.connections) refl
 
 -- ---- a cut
 
-cut_run : (core : CoreState) → First (part_of (takes Cut)) core (quiet (cuts core))
+cut_run : (core : CoreState) → First (part_of (takes Cut) core) core (quiet (cuts core))
 unfolding cuts
 cut_run core = by (can_cut core.replica.state) refl
   where
-    by : (b : Bool) → can_cut core.replica.state ≡ b → First (part_of (takes Cut)) core (quiet (if b then with_cut core else core))
+    by : (b : Bool) → can_cut core.replica.state ≡ b → First (if b then Part.cut else Part.nothing) core (quiet (if b then with_cut core else core))
     by true can = first_move (cuts_log can)
     by false cannot = calm_first rests tt
 
 -- ---- a step
 
-taken_in : (item : Item) (core : CoreState) → First (part_of (takes item)) core (takes_in item core)
+taken_in : (item : Item) (core : CoreState) → First (part_of (takes item) core) core (takes_in item core)
 taken_in (Peer message) core = first_move (hears (Receives message) refl)
 taken_in (Tick now) core =
     first_join (first_move (hears Ticks refl))
@@ -253,23 +253,23 @@ taken_in (Ended port) core = let r = ends_run port core in calm_first r.0 r.1
 taken_in Cut core = cut_run core
 taken_in Crash core = first_move crashes
 
-acted_on : (item : Item) (core : CoreState) → First (part_of (takes item)) core (acts_on item core)
+acted_on : (item : Item) (core : CoreState) → First (part_of (takes item) core) core (acts_on item core)
 acted_on item core =
     first_join (taken_in item core)
     (repeated_runs loses_failed failed_run (length (takes_in item core).core.connections) (takes_in item core).core)
 
-step_runs : (item : Item) (core : CoreState) → First (part_of (takes item)) core (node_step item core)
+step_runs : (item : Item) (core : CoreState) → First (part_of (takes item) core) core (node_step item core)
 step_runs item core =
-    subst (λ (given : Given). First (part_of (takes item)) core (let t : Turn = record { core = settled (acts_on item core).core; messages = given } in t))
+    subst (λ (given : Given). First (part_of (takes item) core) core (let t : Turn = record { core = settled (acts_on item core).core; messages = given } in t))
     (append-nil (acts_on item core).messages) (first_join (acted_on item core) (calm_move settles (refl, refl)))
 
 -- a deed begins with its part, and the moves behind it are bare
-pub deeds_begin : (deed : Deed) (core : CoreState) → First (part_of deed) core (done deed core)
+pub deeds_begin : (deed : Deed) (core : CoreState) → First (part_of deed core) core (done deed core)
 deeds_begin (takes item) core = step_runs item core
 deeds_begin (gives port) core = first_move (hands port)
 
 pub deeds_hear_at_first : DeedsHearAtFirst
-deeds_hear_at_first deed core = let r = deeds_begin deed core in (r.0, begins_hearing (part_of deed) r.0 r.1)
+deeds_hear_at_first deed core = let r = deeds_begin deed core in (r.0, begins_hearing (part_of deed core) r.0 r.1)
 
 pub deeds_are_moves : DeedsAreMoves
 deeds_are_moves [] core = rests

@@ -1,11 +1,12 @@
 -- Each deed of a node has moves that carry just its bytes, and in which the replica hears what was sent to it, at first.
-use Rattle.std.proofs.Common.{◌≡◌, ℕ, ◌+◌, List, [], ◌++◌, refl, sym, ap, ◌∙◌, subst}
+use Rattle.std.proofs.Common.{◌≡◌, ℕ, ◌+◌, Bool, true, false, if◌then◌else◌, Some, List, [], ◌++◌, refl, sym, ap, ◌∙◌, subst}
 use Rattle.std.proofs.lemmas.List.{append-nil}
 use Rattle.lists.specs.Lists.{In}
 use Rattle.ballot.specs.Protocol.Input.{Receives, Proposes, Ticks}
 use Rattle.broker_base.specs.Connection.{ConnectionName}
-use Rattle.connection_model.specs.world_base.declared.item.Item.TheVariants.{Peer, Tick, Opened, Bytes, Ended, Crash}
-use Rattle.connection_model.specs.world_base.Core.{CoreState, Turn}
+use Rattle.connection_model.specs.world_base.declared.item.Item.TheVariants.{Peer, Tick, Opened, Bytes, Ended, Cut, Crash}
+use Rattle.ballot.specs.Cutting.{can_cut}
+use Rattle.connection_model.specs.world_base.Core.{CoreState, Turn, rules}
 use Rattle.connection_model.specs.world_base.Handing.{listed_at}
 use Rattle.connection_model.specs.world_base.Reading.{open_at}
 use Rattle.connection_model.specs.node_model.Ends.{bytes_on, came_on, piece_on}
@@ -16,7 +17,8 @@ use Rattle.connection_model.specs.node_model.Moves.Runs.{rests, goes_on}
 use Rattle.connection_model.proofs.of_node_model.PartsOfMoves.{BeginsWith, IsBare, Part, begins_hearing, part_in, part_of}
 use Rattle.connection_model.proofs.of_node_model.PartsOfMoves.Part.{heard, bytes_in, bytes_out}
 use Rattle.connection_model.proofs.of_node_model.StepsMove.{deeds_begin}
-use Rattle.connection_model.specs.group_model.Group.{Group, behind_turn}
+use Rattle.connection_model.specs.group_model.Group.{Group, behind_turn, replica_of, with_record}
+use Rattle.connection_model.specs.group_model.Putting.{recorded_in}
 use Rattle.connection_model.specs.group_model.Goes.{AllWasSent, WasSent, all_given}
 use Rattle.connection_model.specs.group_model.Goes.MayGo.{node_acts}
 use Rattle.connection_model.specs.Streams.{bytes_named, handed_in_run, handed_on}
@@ -33,28 +35,40 @@ abbrev goes_out : ConnectionName → Part → CoreState → List ℕ
 goes_out x (bytes_out port) core = bytes_named x (listed_at port core)
 goes_out x _ core = []
 
-abbrev PartWasSent : Group → ℕ → Part → Type 0
-PartWasSent g n (heard message) = In (n + 1, message) g.sent
-PartWasSent g n _ = Unit {0}
+abbrev PartWasSent : Group → ℕ → CoreState → Part → Type 0
+PartWasSent g n core (heard message) = In (n + 1, message) g.sent
+PartWasSent g n core Part.cut = rules.thawed (rules.frozen (replica_of core).machine) ≡ Some (replica_of core).machine
+PartWasSent g n core _ = Unit {0}
 
 -- .. of a deed
-deed_parts : (x : ConnectionName) (deed : Deed) (core : CoreState) → (comes_in x (part_of deed) core ≡ coming_with x deed core) × (goes_out x (part_of deed) core ≡ going_with x deed core)
+deed_parts : (x : ConnectionName) (deed : Deed) (core : CoreState) → (comes_in x (part_of deed core) core ≡ coming_with x deed core) × (goes_out x (part_of deed core) core ≡ going_with x deed core)
 deed_parts x (takes (Peer message)) core = (refl, refl)
 deed_parts x (takes (Tick now)) core = (refl, refl)
 deed_parts x (takes (Opened port now)) core = (refl, refl)
 deed_parts x (takes (Bytes port piece now)) core = (refl, refl)
 deed_parts x (takes (Ended port)) core = (refl, refl)
+deed_parts x (takes Cut) core = by (can_cut (replica_of core))
+  where
+    by : (b : Bool) → (comes_in x (if b then Part.cut else Part.nothing) core ≡ []) × (goes_out x (if b then Part.cut else Part.nothing) core ≡ [])
+    by true = (refl, refl)
+    by false = (refl, refl)
 deed_parts x (takes Crash) core = (refl, refl)
 deed_parts x (gives port) core = (refl, refl)
 
-deed_sent : (g : Group) (n : ℕ) (deed : Deed) → DeedWasSent g n deed → PartWasSent g n (part_of deed)
-deed_sent g n (takes (Peer message)) sent = sent
-deed_sent g n (takes (Tick now)) sent = tt
-deed_sent g n (takes (Opened port now)) sent = tt
-deed_sent g n (takes (Bytes port piece now)) sent = tt
-deed_sent g n (takes (Ended port)) sent = tt
-deed_sent g n (takes Crash) sent = tt
-deed_sent g n (gives port) sent = tt
+deed_sent : (g : Group) (n : ℕ) (core : CoreState) (deed : Deed) → DeedWasSent g n core deed → PartWasSent g n core (part_of deed core)
+deed_sent g n core (takes (Peer message)) sent = sent
+deed_sent g n core (takes (Tick now)) sent = tt
+deed_sent g n core (takes (Opened port now)) sent = tt
+deed_sent g n core (takes (Bytes port piece now)) sent = tt
+deed_sent g n core (takes (Ended port)) sent = tt
+deed_sent g n core (takes Cut) sent = by (can_cut (replica_of core)) sent
+  where
+    by : (b : Bool) → (b ≡ true → rules.thawed (rules.frozen (replica_of core).machine) ≡ Some (replica_of core).machine) →
+        PartWasSent g n core (if b then Part.cut else Part.nothing)
+    by true reads = reads refl
+    by false reads = tt
+deed_sent g n core (takes Crash) sent = tt
+deed_sent g n core (gives port) sent = tt
 
 -- .. of a move
 move_parts : (x : ConnectionName) {core : CoreState} {turn : Turn} (m : Moves core turn) → (came_on x m ≡ comes_in x (part_in m) core) × (handed_on x m ≡ goes_out x (part_in m) core)
@@ -74,7 +88,7 @@ move_parts x crashes = (refl, refl)
 move_parts x settles = (refl, refl)
 move_parts x (hands port) = (refl, refl)
 
-move_sent : (g : Group) (n : ℕ) {core : CoreState} {turn : Turn} (m : Moves core turn) → PartWasSent g n (part_in m) → WasSent g n m
+move_sent : (g : Group) (n : ℕ) {core : CoreState} {turn : Turn} (m : Moves core turn) → PartWasSent g n core (part_in m) → WasSent g n m
 move_sent g n (hears (Receives message) is) sent = sent
 move_sent g n (hears (Proposes command) is) sent = tt
 move_sent g n (hears Ticks is) sent = tt
@@ -86,6 +100,7 @@ move_sent g n (closes port) sent = tt
 move_sent g n (refuses port c code at first is) sent = tt
 move_sent g n (loses_one port c at proposed) sent = tt
 move_sent g n (loses_next c at) sent = tt
+move_sent g n (cuts_log can) sent = sent
 move_sent g n crashes sent = tt
 move_sent g n settles sent = tt
 move_sent g n (hands port) sent = tt
@@ -104,7 +119,7 @@ bare_carries x (goes_on {core = core} m run) bare =
 
 bare_sent : (g : Group) (n : ℕ) {core : CoreState} {turn : Turn} (run : Runs core turn) → IsBare run → AllWasSent g n run
 bare_sent g n rests bare = tt
-bare_sent g n (goes_on m run) bare = (move_sent g n m (subst (PartWasSent g n) (sym bare.0.1) tt), bare_sent g n run bare.1)
+bare_sent g n (goes_on {core = core} m run) bare = (move_sent g n m (subst (PartWasSent g n core) (sym bare.0.1) tt), bare_sent g n run bare.1)
 
 -- one that begins with a part carries what that does
 begun_carries : (x : ConnectionName) (part : Part) {core : CoreState} {turn : Turn} (run : Runs core turn) → BeginsWith part run
@@ -117,9 +132,9 @@ begun_carries x part {core = core} (goes_on m run) begins =
       ap (λ l. handed_on x m ++ l) rest.1 ∙ append-nil (handed_on x m) ∙ p.1 ∙ ap (λ part. goes_out x part core) begins.0,
     )
 
-begun_sent : (g : Group) (n : ℕ) (part : Part) {core : CoreState} {turn : Turn} (run : Runs core turn) → BeginsWith part run → PartWasSent g n part → AllWasSent g n run
+begun_sent : (g : Group) (n : ℕ) (part : Part) {core : CoreState} {turn : Turn} (run : Runs core turn) → BeginsWith part run → PartWasSent g n core part → AllWasSent g n run
 begun_sent g n part rests begins sent = tt
-begun_sent g n part (goes_on m run) begins sent = (move_sent g n m (subst (PartWasSent g n) (sym begins.0) sent), bare_sent g n run begins.1)
+begun_sent g n part (goes_on {core = core} m run) begins sent = (move_sent g n m (subst (PartWasSent g n core) (sym begins.0) sent), bare_sent g n run begins.1)
 
 -- ---- the laws
 
@@ -128,10 +143,10 @@ deeds_carry_their_bytes g n deed core sent =
     let r = deeds_begin deed core in
     record {
       run = r.0;
-      first = begins_hearing (part_of deed) r.0 r.1;
-      sent = begun_sent g n (part_of deed) r.0 r.1 (deed_sent g n deed sent);
+      first = begins_hearing (part_of deed core) r.0 r.1;
+      sent = begun_sent g n (part_of deed core) r.0 r.1 (deed_sent g n core deed sent);
       bytes = λ x.
-          let c = begun_carries x (part_of deed) r.0 r.1 in
+          let c = begun_carries x (part_of deed core) r.0 r.1 in
           let d = deed_parts x deed core in
           (c.0 ∙ d.0, c.1 ∙ d.1);
     }
@@ -141,11 +156,12 @@ groups_do_each_deed g n deed core at sent =
     let r = deeds_carry_their_bytes g n deed core sent in
     record {
       does = record {
-        behind = behind_turn g n (done deed core) (all_given r.run);
+        behind = behind_turn (with_record g (recorded_in g.archive r.run)) n (done deed core) (all_given r.run);
         step = node_acts n core deed (done deed core) r.run at refl r.first r.sent;
         is = refl;
         faithful = r.bytes;
       };
       given = all_given r.run;
+      archive = recorded_in g.archive r.run;
       is = refl;
     }

@@ -17,20 +17,21 @@ use Rattle.connection_model.specs.world_base.Core.{CoreState, Turn, rules}
 use Rattle.connection_model.specs.world_base.Turns.{quiet}
 use Rattle.connection_model.specs.node_model.Closed.{listed_named}
 use Rattle.connection_model.specs.node_model.Ends.{IsOrderly}
-use Rattle.connection_model.specs.node_model.LossyMoves.{LossyMoves, LossyRuns, all_inputs, given_in, inputs_in}
+use Rattle.connection_model.specs.node_model.LossyMoves.{AllFreeze, Freezes, LossyMoves, LossyRuns, all_inputs, given_in, inputs_in}
 use Rattle.connection_model.specs.node_model.LossyMoves.LossyRuns.{rests, goes_on}
 use Rattle.connection_model.proofs.of_node_model.Kept.{named}
 use Rattle.connection_model.proofs.of_node_model.LossyClosed.{lossy_names_are_of_the_ballot}
 use Rattle.connection_model.proofs.of_node_model.LossyReads.{losses_read_in_order}
 use Rattle.connection_model.proofs.of_node_model.Views.{some_none}
 use Rattle.world_model.specs.Apart.{HasName, NamesStayApart}
-use Rattle.connection_model.specs.group_model.Group.{Group, behind_turn, moment_of, opening_cores}
+use Rattle.connection_model.specs.group_model.Group.{Group, behind_turn, moment_of, opening_cores, with_record}
+use Rattle.connection_model.specs.group_model.Putting.{recorded_in as recorded_exactly}
 use Rattle.connection_model.specs.group_model.Goes.{MayGo, Went, groups_of, keeping, put_in_step}
-use Rattle.connection_model.specs.group_model.Losing.{WereSent, all_given, put_in_move, put_in_run}
+use Rattle.connection_model.specs.group_model.Losing.{WereSent, all_given, put_in_move, put_in_run, recorded_by, recorded_in}
 use Rattle.connection_model.specs.group_model.Goes.MayGo.{node_acts, node_loses, master_assigns as assigns, master_hears as hears_master, assigns_unheard, answers_unheard}
 use Rattle.connection_model.specs.group_model.Goes.Went.{opened, then_went}
 use Rattle.connection_model.proofs.of_group_model.GroupsArePasts.{goes_on as step_goes_on, groups_are_pasts}
-use Rattle.connection_model.proofs.of_group_model.LosingNone.{losing_none, same_given, same_put, sent_losing}
+use Rattle.connection_model.proofs.of_group_model.LosingNone.{frozen_losing, losing_none, same_given, same_put, same_recorded, sent_losing}
 use Rattle.connection_model.proofs.of_group_model.LossesHappen.{losses_happen}
 use Rattle.connection_model.proofs.of_group_model.MovesHappen.{Further, unchanged}
 use Rattle.connection_model.proofs.of_group_model.NamesInGroups.{all_well, each_got}
@@ -55,10 +56,10 @@ record LedOn {config : Config} (g : Group) {earlier : List (Moment State Command
   led : AreLed g (moment_of g ∷ earlier) → AreLed h (moment_of h ∷ further.before)
 
 move_led : {config : Config} (g : Group) (n : ℕ) (core : CoreState) (turn : Turn) (m : LossyMoves core turn) (kept : Given) → slice_get g.nodes n ≡ Some core → WereSent g n (inputs_in m)
-    → Thinned kept turn.messages → IsOrderly core → {earlier : List (Moment State Command Output)} (came : Past rules config (moment_of g ∷ earlier))
-    → LedOn g came (behind_turn g n (keeping kept turn) (given_in m)) (put_in_move m)
-move_led {config = config} g n core turn m kept at sent t o {earlier = earlier} came =
-    let f = (losses_happen g n core turn m kept at sent t config earlier came).further in
+    → Freezes m → Thinned kept turn.messages → IsOrderly core → {earlier : List (Moment State Command Output)} (came : Past rules config (moment_of g ∷ earlier))
+    → LedOn g came (behind_turn (with_record g (recorded_by g.archive m)) n (keeping kept turn) (given_in m)) (put_in_move m)
+move_led {config = config} g n core turn m kept at sent frozen t o {earlier = earlier} came =
+    let f = (losses_happen g n core turn m kept at sent frozen t config earlier came).further in
     record { further = f; led = λ before x k has. led_later f.kept (on before x k has (set_back g.nodes n k turn.core has.core has.stands)) }
   where
     here_now : AreLed g (moment_of g ∷ earlier) → (x : ConnectionName) (d : Connection) → listed_named x turn.core ≡ Some d → (before : Option Connection) → listed_named x core ≡ before
@@ -66,7 +67,7 @@ move_led {config = config} g n core turn m kept at sent t o {earlier = earlier} 
     here_now before x d now None none = leads_now g n core x earlier at (lossy_names_are_of_the_ballot core turn m o x d none now)
     here_now before x d now (Some c) was = before x n (record { core = core; stands = at; connection = c; listed = was })
 
-    on : AreLed g (moment_of g ∷ earlier) → (x : ConnectionName) (k : ℕ) (has : HasName x (behind_turn g n (keeping kept turn) (given_in m)) k)
+    on : AreLed g (moment_of g ∷ earlier) → (x : ConnectionName) (k : ℕ) (has : HasName x (behind_turn (with_record g (recorded_by g.archive m)) n (keeping kept turn) (given_in m)) k)
         → ((k ≡ n) × (has.core ≡ turn.core)) ⊎ (slice_get g.nodes k ≡ Some has.core) → Led (moment_of g ∷ earlier) k x.ballot
     on before x k has (inl (same, is)) =
         subst (λ i. Led (moment_of g ∷ earlier) i x.ballot) (sym same)
@@ -74,20 +75,20 @@ move_led {config = config} g n core turn m kept at sent t o {earlier = earlier} 
     on before x k has (inr stood) = before x k (record { core = has.core; stands = stood; connection = has.connection; listed = has.listed })
 
 run_led : {config : Config} (g : Group) (n : ℕ) (core : CoreState) (turn : Turn) (run : LossyRuns core turn) (kept : Given) → IsOrderly core → slice_get g.nodes n ≡ Some core
-    → WereSent g n (all_inputs run) → Thinned kept turn.messages → {earlier : List (Moment State Command Output)} (came : Past rules config (moment_of g ∷ earlier))
-    → LedOn g came (behind_turn g n (keeping kept turn) (all_given run)) (put_in_run run)
-run_led g n core turn rests kept o at sent t came =
+    → WereSent g n (all_inputs run) → AllFreeze run → Thinned kept turn.messages → {earlier : List (Moment State Command Output)} (came : Past rules config (moment_of g ∷ earlier))
+    → LedOn g came (behind_turn (with_record g (recorded_in g.archive run)) n (keeping kept turn) (all_given run)) (put_in_run run)
+run_led g n core turn rests kept o at sent frozen t came =
     subst (λ (h : Group). LedOn g came h [])
     (same_group g n core at ∙ ap (λ (l : Given). behind_turn g n (keeping l (quiet core)) []) (sym (nothing_kept kept t))) (record { further = unchanged came; led = λ before. before })
-run_led g n core turn (goes_on {first = first} {next = next} m run) kept o at sent t came =
+run_led g n core turn (goes_on {first = first} {next = next} m run) kept o at sent frozen t came =
     let k = kept_of_both first.messages next.messages kept t in
     let s = were_both g n (inputs_in m) (all_inputs run) sent in
     let one : Turn = keeping k.front first in
-    let step = move_led g n core first m k.front at s.0 k.first o came in
-    let behind : Group = behind_turn g n one (given_in m) in
-    let rest = subst (λ (h : Group). LedOn behind step.further.past h (put_in_run run)) (kept_turns g n first next (given_in m) (all_given run) kept k)
+    let step = move_led g n core first m k.front at s.0 frozen.0 k.first o came in
+    let behind : Group = behind_turn (with_record g (recorded_by g.archive m)) n one (given_in m) in
+    let rest = subst (λ (h : Group). LedOn behind step.further.past h (put_in_run run)) (kept_turns (with_record g (recorded_in (recorded_by g.archive m) run)) n first next (given_in m) (all_given run) kept k)
     (run_led behind n first.core next run k.rest (losses_read_in_order core first m o).0 (get_of_set g.nodes n core first.core at)
-    (were_still g n one (given_in m) (all_inputs run) s.1) k.next step.further.past) in
+    (were_still g (recorded_by g.archive m) n one (given_in m) (all_inputs run) s.1) frozen.1 k.next step.further.past) in
     record { further = both came (put_in_move m) (put_in_run run) step.further rest.further; led = λ before. rest.led (step.led before) }
 
 -- ---- groups
@@ -101,11 +102,12 @@ step_led : {nodes : ℕ} {config : Config} (g h : Group) → Went nodes config g
     (came : Past rules config (moment_of g ∷ earlier)) → LedOn g came h (put_in_step step)
 step_led {nodes = nodes} {config = config} g h went (node_acts n core deed turn run at is first sent) came =
     subst (λ l. LedOn g came h l) (same_put run)
-    (subst (λ l. LedOn g came (behind_turn g n turn l) (put_in_run (losing_none run))) (same_given run)
+    (subst (λ l. LedOn g came (behind_turn (with_record g (recorded_exactly g.archive run)) n turn l) (put_in_run (losing_none run))) (same_given run)
+    (subst (λ us. LedOn g came (behind_turn (with_record g us) n turn (all_given (losing_none run))) (put_in_run (losing_none run))) (same_recorded g.archive run)
     (run_led g n core turn (losing_none run) turn.messages (each_got _ g.nodes n core (all_well nodes config g went).0 at).orderly at (sent_losing g n run sent)
-    (all_kept turn.messages) came))
+    (frozen_losing g n run sent) (all_kept turn.messages) came)))
 step_led {nodes = nodes} {config = config} g h went (node_loses n core item turn kept by at runs sent thinned) came =
-    run_led g n core turn by.run kept (each_got _ g.nodes n core (all_well nodes config g went).0 at).orderly at (subst (WereSent g n) (sym by.hears) sent) thinned came
+    run_led g n core turn by.run kept (each_got _ g.nodes n core (all_well nodes config g went).0 at).orderly at (subst (WereSent g n) (sym by.hears) sent) by.freezes thinned came
 step_led {config = config} g h went (assigns wanted) {earlier = earlier} came =
     let f = step_goes_on config g h (assigns wanted) earlier came in
     record { further = f; led = nodes_led g h (assigned_nodes g wanted (refusal g.master wanted)) f.kept }

@@ -23,14 +23,15 @@ use Rattle.lists.specs.Lists.In.{here, there}
 use Rattle.lists.proofs.OfEach.{each_append, each_then}
 use Rattle.connection_model.specs.world_base.declared.Connection.{Connection}
 use Rattle.connection_model.specs.world_base.declared.item.Item.{Item}
-use Rattle.connection_model.specs.world_base.declared.item.Item.TheVariants.{Peer, Tick, Opened, Bytes, Ended, Crash}
+use Rattle.ballot.specs.Cutting.{can_cut}
+use Rattle.connection_model.specs.world_base.declared.item.Item.TheVariants.{Peer, Tick, Opened, Bytes, Ended, Cut, Crash}
 use Rattle.connection_model.specs.world_base.declared.Port.{Port}
 use Rattle.connection_model.specs.world_base.Connections.{asked, changed, closed, failing, fresh, handed, holding, is_at, is_first, is_listed, is_open_at, is_open_named, is_proposed, left_with, most_pending, put_out, putting}
 use Rattle.connection_model.specs.world_base.Core.{CoreState, Turn, serves}
 use Rattle.connection_model.specs.world_base.Handing.{hands_over, left_by, listed_at}
 use Rattle.connection_model.specs.world_base.KeepAlive.{ends_if, ends_silent, lowest_silent}
 use Rattle.connection_model.specs.world_base.Reading.{begins, changes, ends, loses, loses_open, open_at, reads, reads_next, reads_of, refused, says, unread_of}
-use Rattle.connection_model.specs.world_base.Step.{acts_on, next_name, opens, takes_in}
+use Rattle.connection_model.specs.world_base.Step.{acts_on, next_name, opens, takes_in, cuts, with_cut}
 use Rattle.connection_model.specs.world_base.Turns.{changes_named, drives, has_room, heard, proposes, quiet, repeated, served}
 use Rattle.connection_model.specs.node_model.Moves.{Deed, done}
 use Rattle.connection_model.specs.node_model.Moves.Deed.{takes, gives}
@@ -202,6 +203,14 @@ module _ (P : Connection → Type 0) (follows : IsFollowed P) where
   IsNewOf (takes (Opened port now)) core = list_any (is_at port) core.connections ≡ false → P (fresh port (next_name core))
   IsNewOf _ core = Unit {0}
 
+  each_cut : (core : CoreState) → AllOf core → AllOf (cuts core)
+  unfolding cuts
+  each_cut core all = by (can_cut core.replica.state)
+    where
+      by : (b : Bool) → AllOf (if b then with_cut core else core)
+      by true = all
+      by false = all
+
   each_taken : (item : Item) (core : CoreState) → IsNewOf (takes item) core → AllOf core → AllOf (takes_in item core).core
   each_taken (Peer message) core new all = each_driven (Receives message) core all
   each_taken (Tick now) core new all =
@@ -211,6 +220,7 @@ module _ (P : Connection → Type 0) (follows : IsFollowed P) where
       each_time (reads_next now port) (each_read now port) (unread_of (open_at port (changes port (holding piece) core))) (changes port (holding piece) core)
       (each_at port (holding piece) core (λ d e. record { port = refl; name = refl; lives = λ f. f }) all)
   each_taken (Ended port) core new all = each_ended port core all
+  each_taken Cut core new all = each_cut core all
   each_taken Crash core new all = all
 
   each_left : (port : Port) (core : CoreState) (o : Option Connection) → AllOf core → AllOf (left_by port core o)

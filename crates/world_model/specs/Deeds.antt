@@ -1,22 +1,25 @@
 -- That a world can go on: each deed of a node has moves that carry just its bytes.
-use Rattle.std.specs.Prelude.{◌≡◌, ℕ, ◌+◌, List, slice_get, Some}
+use Rattle.std.specs.Prelude.{◌≡◌, ℕ, ◌+◌, true, List, slice_get, Some}
 use Rattle.lists.specs.Lists.{In}
 use Rattle.ballot.specs.Effect.{Effect}
 use Rattle.broker_base.specs.Command.{Command}
 use Rattle.broker_base.specs.Output.{Output}
-use Rattle.connection_model.specs.world_base.declared.item.Item.TheVariants.{Peer}
-use Rattle.connection_model.specs.world_base.Core.{CoreState, Turn}
+use Rattle.connection_model.specs.world_base.declared.item.Item.TheVariants.{Peer, Cut}
+use Rattle.ballot.specs.Cutting.{can_cut}
+use Rattle.connection_model.specs.world_base.Core.{CoreState, Turn, rules}
 use Rattle.connection_model.specs.node_model.Hearing.{HearsAtFirst}
 use Rattle.connection_model.specs.node_model.Moves.{Deed, Runs, done}
 use Rattle.connection_model.specs.node_model.Moves.Deed.{takes}
-use Rattle.connection_model.specs.group_model.Group.{Group, behind_turn}
+use Rattle.connection_model.specs.group_model.Group.{Group, behind_turn, replica_of, with_record}
 use Rattle.connection_model.specs.group_model.Goes.{AllWasSent}
 use Rattle.world_model.specs.Goes.{CarriesItsBytes, Does}
 
--- what a node takes in of others was sent to it
-abbrev pub DeedWasSent : Group → ℕ → Deed → Type 0
-DeedWasSent g n (takes (Peer message)) = In (n + 1, message) g.sent
-DeedWasSent g n _ = Unit {0}
+-- what a node takes in of others was sent to it, and the bytes to which it cuts its log stand for its machine
+abbrev pub DeedWasSent : Group → ℕ → CoreState → Deed → Type 0
+DeedWasSent g n core (takes (Peer message)) = In (n + 1, message) g.sent
+DeedWasSent g n core (takes Cut) =
+    can_cut (replica_of core) ≡ true → rules.thawed (rules.frozen (replica_of core).machine) ≡ Some (replica_of core).machine
+DeedWasSent g n core _ = Unit {0}
 
 -- moves in which a node's replica hears what was sent, at first, and just the bytes of the deed are carried
 pub record RunsAs (g : Group) (n : ℕ) (deed : Deed) (core : CoreState) (turn : Turn) : Type 0 where
@@ -27,15 +30,16 @@ pub record RunsAs (g : Group) (n : ℕ) (deed : Deed) (core : CoreState) (turn :
 
 -- each deed of a node, whatever the node keeps, has such moves
 abbrev pub DeedsCarryTheirBytes : Type 0
-DeedsCarryTheirBytes = (g : Group) (n : ℕ) (deed : Deed) (core : CoreState) → DeedWasSent g n deed → RunsAs g n deed core (done deed core)
+DeedsCarryTheirBytes = (g : Group) (n : ℕ) (deed : Deed) (core : CoreState) → DeedWasSent g n core deed → RunsAs g n deed core (done deed core)
 
--- a step of a group with this deed of a node, behind which the node is as its own turn leaves it, and all that it gave
--- besides are outputs
+-- a step of a group with this deed of a node, behind which the node is as its own turn leaves it, and all that there is
+-- besides are outputs that it gave, and places that are recorded
 pub record DoesDeed (g : Group) (n : ℕ) (deed : Deed) (core : CoreState) : Type 0 where
   pub does : Does g (Some (n, deed))
   pub given : List (Effect Command Output)
-  pub is : does.behind ≡ behind_turn g n (done deed core) given
+  pub archive : List Command
+  pub is : does.behind ≡ behind_turn (with_record g archive) n (done deed core) given
 
 -- in whatever group a node stands, it can do each deed
 abbrev pub GroupsDoEachDeed : Type 0
-GroupsDoEachDeed = (g : Group) (n : ℕ) (deed : Deed) (core : CoreState) → slice_get g.nodes n ≡ Some core → DeedWasSent g n deed → DoesDeed g n deed core
+GroupsDoEachDeed = (g : Group) (n : ℕ) (deed : Deed) (core : CoreState) → slice_get g.nodes n ≡ Some core → DeedWasSent g n core deed → DoesDeed g n deed core
