@@ -1,8 +1,8 @@
 -- A world comes to have read all that was written, and to have put out all that is agreed.
 use Rattle.std.proofs.Common.{◌≡◌, ◌≤◌, ◌+◌, ℕ, zero, suc, true, List, [], ◌∷◌, length, map, set, Some, refl, sym, ap, ◌∙◌, subst, arith}
 use Rattle.std.specs.Prelude.{slice_get}
-use Rattle.ballot.specs.Applying.{outputs_between}
-use Rattle.world_model.specs.group_model.snapshots.World.{outputs}
+use Rattle.agreement.specs.whole.Applying.{outputs_between}
+use Rattle.agreement.specs.World.{outputs}
 use Rattle.broker_base.specs.Command.{Command}
 use Rattle.broker_base.specs.Commands.{past_of, usual_limits}
 use Rattle.broker_base.specs.Place.{Client}
