@@ -18,11 +18,13 @@ use Rattle.connection_model.proofs.of_node_model.PartsOfMoves.{BeginsWith, IsBar
 use Rattle.connection_model.proofs.of_node_model.PartsOfMoves.Part.{heard, bytes_in, bytes_out}
 use Rattle.connection_model.proofs.of_node_model.StepsMove.{deeds_begin}
 use Rattle.connection_model.specs.group_model.Group.{Group, behind_turn, replica_of, with_record}
-use Rattle.connection_model.specs.group_model.Putting.{recorded_in}
+use Rattle.connection_model.specs.group_model.Putting.{recorded_by, recorded_in}
+use Rattle.connection_model.specs.group_model.snapshots.World.{recorded}
+use Rattle.broker_base.specs.Command.{Command}
 use Rattle.connection_model.specs.group_model.Goes.{AllWasSent, WasSent, all_given}
 use Rattle.connection_model.specs.group_model.Goes.MayGo.{node_acts}
 use Rattle.connection_model.specs.Streams.{bytes_named, handed_in_run, handed_on}
-use Rattle.world_model.specs.Deeds.{DeedWasSent, DeedsCarryTheirBytes, GroupsDoEachDeed}
+use Rattle.world_model.specs.Deeds.{DeedWasSent, DeedsCarryTheirBytes, GroupsDoEachDeed, recorded_after}
 use Rattle.world_model.specs.Goes.{coming_with, going_with}
 
 -- ---- what a part is for one connection
@@ -136,6 +138,53 @@ begun_sent : (g : Group) (n : ℕ) (part : Part) {core : CoreState} {turn : Turn
 begun_sent g n part rests begins sent = tt
 begun_sent g n part (goes_on {core = core} m run) begins sent = (move_sent g n m (subst (PartWasSent g n core) (sym begins.0) sent), bare_sent g n run begins.1)
 
+-- and records what that does
+abbrev recorded_part : List Command → CoreState → Part → List Command
+recorded_part archive core Part.cut = recorded archive (replica_of core)
+recorded_part archive core _ = archive
+
+move_records : (archive : List Command) {core : CoreState} {turn : Turn} (m : Moves core turn) → recorded_by archive m ≡ recorded_part archive core (part_in m)
+move_records archive (hears (Receives message) is) = refl
+move_records archive (hears (Proposes command) is) = refl
+move_records archive (hears Ticks is) = refl
+move_records archive (opens_one port) = refl
+move_records archive (holds port piece) = refl
+move_records archive (reads_first now port c connect rest at first is room) = refl
+move_records archive (reads_later now port c packet rest at later is room) = refl
+move_records archive (closes port) = refl
+move_records archive (refuses port c code at first is) = refl
+move_records archive (loses_one port c at proposed) = refl
+move_records archive (loses_next c at) = refl
+move_records archive (cuts_log can) = refl
+move_records archive crashes = refl
+move_records archive settles = refl
+move_records archive (hands port) = refl
+
+bare_records : (archive : List Command) {core : CoreState} {turn : Turn} (run : Runs core turn) → IsBare run → recorded_in archive run ≡ archive
+bare_records archive rests bare = refl
+bare_records archive (goes_on {core = core} m run) bare =
+    bare_records (recorded_by archive m) run bare.1 ∙ move_records archive m ∙ ap (recorded_part archive core) bare.0.1
+
+begun_records : (archive : List Command) (part : Part) {core : CoreState} {turn : Turn} (run : Runs core turn) → BeginsWith part run →
+    recorded_in archive run ≡ recorded_part archive core part
+begun_records archive part {core = core} rests begins = ap (recorded_part archive core) begins
+begun_records archive part {core = core} (goes_on m run) begins =
+    bare_records (recorded_by archive m) run begins.1 ∙ move_records archive m ∙ ap (recorded_part archive core) begins.0
+
+deed_records : (archive : List Command) (core : CoreState) (deed : Deed) → recorded_part archive core (part_of deed core) ≡ recorded_after archive core deed
+deed_records archive core (takes (Peer message)) = refl
+deed_records archive core (takes (Tick now)) = refl
+deed_records archive core (takes (Opened port now)) = refl
+deed_records archive core (takes (Bytes port piece now)) = refl
+deed_records archive core (takes (Ended port)) = refl
+deed_records archive core (takes Cut) = by (can_cut (replica_of core))
+  where
+    by : (b : Bool) → recorded_part archive core (if b then Part.cut else Part.nothing) ≡ (if b then recorded archive (replica_of core) else archive)
+    by true = refl
+    by false = refl
+deed_records archive core (takes Crash) = refl
+deed_records archive core (gives port) = refl
+
 -- ---- the laws
 
 pub deeds_carry_their_bytes : DeedsCarryTheirBytes
@@ -149,6 +198,7 @@ deeds_carry_their_bytes g n deed core sent =
           let c = begun_carries x (part_of deed core) r.0 r.1 in
           let d = deed_parts x deed core in
           (c.0 ∙ d.0, c.1 ∙ d.1);
+      records = λ archive. begun_records archive (part_of deed core) r.0 r.1 ∙ deed_records archive core deed;
     }
 
 pub groups_do_each_deed : GroupsDoEachDeed
@@ -162,6 +212,5 @@ groups_do_each_deed g n deed core at sent =
         faithful = r.bytes;
       };
       given = all_given r.run;
-      archive = recorded_in g.archive r.run;
-      is = refl;
+      is = ap (λ archive. behind_turn (with_record g archive) n (done deed core) (all_given r.run)) (r.records g.archive);
     }

@@ -1,5 +1,5 @@
 -- That a world can go on: each deed of a node has moves that carry just its bytes.
-use Rattle.std.specs.Prelude.{◌≡◌, ℕ, ◌+◌, true, List, slice_get, Some}
+use Rattle.std.specs.Prelude.{◌≡◌, ℕ, ◌+◌, true, if◌then◌else◌, List, slice_get, Some}
 use Rattle.lists.specs.Lists.{In}
 use Rattle.ballot.specs.Effect.{Effect}
 use Rattle.broker_base.specs.Command.{Command}
@@ -12,6 +12,8 @@ use Rattle.connection_model.specs.node_model.Moves.{Deed, Runs, done}
 use Rattle.connection_model.specs.node_model.Moves.Deed.{takes}
 use Rattle.connection_model.specs.group_model.Group.{Group, behind_turn, replica_of, with_record}
 use Rattle.connection_model.specs.group_model.Goes.{AllWasSent}
+use Rattle.connection_model.specs.group_model.Putting.{recorded_in}
+use Rattle.connection_model.specs.group_model.snapshots.World.{recorded}
 use Rattle.world_model.specs.Goes.{CarriesItsBytes, Does}
 
 -- what a node takes in of others was sent to it, and the bytes to which it cuts its log stand for its machine
@@ -21,24 +23,29 @@ DeedWasSent g n core (takes Cut) =
     can_cut (replica_of core) ≡ true → rules.thawed (rules.frozen (replica_of core).machine) ≡ Some (replica_of core).machine
 DeedWasSent g n core _ = Unit {0}
 
--- moves in which a node's replica hears what was sent, at first, and just the bytes of the deed are carried
+-- the record of places after a deed: a cut adds what the log that is cut has applied
+abbrev pub recorded_after : List Command → CoreState → Deed → List Command
+recorded_after archive core (takes Cut) = if can_cut (replica_of core) then recorded archive (replica_of core) else archive
+recorded_after archive core _ = archive
+
+-- moves in which a node's replica hears what was sent, at first, just the bytes of the deed are carried, and just a cut is recorded
 pub record RunsAs (g : Group) (n : ℕ) (deed : Deed) (core : CoreState) (turn : Turn) : Type 0 where
   pub run : Runs core turn
   pub first : HearsAtFirst run
   pub sent : AllWasSent g n run
   pub bytes : CarriesItsBytes deed run
+  pub records : (archive : List Command) → recorded_in archive run ≡ recorded_after archive core deed
 
 -- each deed of a node, whatever the node keeps, has such moves
 abbrev pub DeedsCarryTheirBytes : Type 0
 DeedsCarryTheirBytes = (g : Group) (n : ℕ) (deed : Deed) (core : CoreState) → DeedWasSent g n core deed → RunsAs g n deed core (done deed core)
 
--- a step of a group with this deed of a node, behind which the node is as its own turn leaves it, and all that there is
--- besides are outputs that it gave, and places that are recorded
+-- a step of a group with this deed of a node, behind which the node is as its own turn leaves it, and the record as the deed
+-- leaves it; all that there is besides are outputs that it gave
 pub record DoesDeed (g : Group) (n : ℕ) (deed : Deed) (core : CoreState) : Type 0 where
   pub does : Does g (Some (n, deed))
   pub given : List (Effect Command Output)
-  pub archive : List Command
-  pub is : does.behind ≡ behind_turn (with_record g archive) n (done deed core) given
+  pub is : does.behind ≡ behind_turn (with_record g (recorded_after g.archive core deed)) n (done deed core) given
 
 -- in whatever group a node stands, it can do each deed
 abbrev pub GroupsDoEachDeed : Type 0
