@@ -1,6 +1,6 @@
 // What nodes and their master do in a step.
 
-ghost use Rattle.std.specs.Prelude.{◌≡◌, ◌-◌, ◌↔◌, ◌≤◌, true, false, None, Some, length, slice_get, IfSome, OnOk, OnErr, IsErr};
+ghost use Rattle.std.specs.Prelude.{◌≡◌, ◌+◌, ◌-◌, ◌↔◌, ◌≤◌, true, false, None, Some, length, slice_get, IfSome, OnOk, OnErr, IsErr};
 ghost use Rattle.ballot.specs.Body.TheVariants.{Activate};
 ghost use Rattle.ballot.specs.Cutting.{can_cut};
 ghost use Rattle.ballot.specs.Losses.{one_more};

@@ -82,9 +82,11 @@ pub fn go_on(group: &mut Group<Tally>, first: usize) {
 /// Whether these commands are the agreed list.
 pub fn agrees(group: &Group<Tally>, commands: &[TallyCommand]) -> bool {
     let (recorded, kept) = group.agreed();
-    match commands.get(..recorded.len()) {
-        Some(front) => front == recorded && commands[recorded.len()..] == *kept,
-        None => false,
+    let front = commands.get(..recorded.len());
+    let behind = commands.get(recorded.len()..);
+    match (front, behind) {
+        (Some(front), Some(behind)) => front == recorded && behind == kept,
+        _ => false,
     }
 }
 
