@@ -16,10 +16,11 @@ use Rattle.world_base.specs.Core.{CoreState, CountedCore}
 use Rattle.world_base.specs.Step.{node_step}
 use Rattle.world_model.specs.node_model.Moves.{Deed, done}
 use Rattle.world_model.specs.node_model.Moves.Deed.{takes}
-use Rattle.world_model.specs.group_model.Group.{Group, behind_turn}
+use Rattle.world_model.specs.group_model.Group.{Group, behind_turn, with_record}
+use Rattle.world_model.specs.group_model.Putting.{recorded_in}
 use Rattle.world_model.specs.group_model.Goes.{all_given}
 use Rattle.world_model.specs.group_model.Goes.MayGo.{node_acts}
-use Rattle.world_model.specs.Deeds.{DeedWasSent}
+use Rattle.world_model.specs.Deeds.{DeedWasSent, recorded_after}
 use Rattle.world_model.proofs.DeedsCarry.{deeds_carry_their_bytes}
 use Rattle.world_model.proofs.of_group_model.Placed.{get_mapped, set_mapped}
 use Rattle.world_nodes.specs.Nodes.{NodesState, StandsFor}
@@ -33,14 +34,15 @@ core_in c = c.core
 -- ---- a deed
 
 pub acts : (old : NodesState) (at : ℕ) (node : CountedCore) (deed : Deed) → slice_get old.nodes at ≡ Some node
-    → ((g : Group) → StandsFor g old → DeedWasSent g at deed) → Acts at deed old (behind_deed at node deed old)
+    → ((g : Group) → StandsFor g old → DeedWasSent g at node.core deed)
+    → Acts at deed old (record (behind_deed at node deed old) { archive = recorded_after old.archive node.core deed })
 acts old at node deed there sent g s =
     let r = deeds_carry_their_bytes g at deed node.core (sent g s) in
     let turn = done deed node.core in
     let found : slice_get g.nodes at ≡ Some node.core = ap (λ (l : List CoreState). slice_get l at) s.nodes ∙ get_mapped core_in old.nodes at node there in
     record {
       does = record {
-        behind = behind_turn g at turn (all_given r.run);
+        behind = behind_turn (with_record g (recorded_in g.archive r.run)) at turn (all_given r.run);
         step = node_acts at node.core deed turn r.run found refl r.first r.sent;
         is = refl;
         faithful = r.bytes;
@@ -50,6 +52,7 @@ acts old at node deed there sent g s =
         nodes = ap (λ (l : List CoreState). slice_set l at turn.core) s.nodes
             ∙ sym (set_mapped core_in old.nodes at (let c : CountedCore = record node { core = turn.core } in c));
         sent = ap (λ (l : List (ℕ × Message Command)). l ++ messages turn.messages) s.sent;
+        archive = r.records g.archive ∙ ap (λ (l : List Command). recorded_after l node.core deed) s.archive;
       };
     }
 
@@ -68,18 +71,18 @@ not_one_more losses low e = omega (arith, low, e)
 -- ---- an item
 
 -- what was sent to the node of a number was sent to the one at its place
-pub deed_sent : (old : NodesState) (node at : ℕ) (item : Item) → at ≡ node - 1 → 0 < node → WasSent node item old.sent
-    → (g : Group) → StandsFor g old → DeedWasSent g at (takes item)
-deed_sent old zero at item place positive sent g s = absurd (omega (arith, positive))
-deed_sent old (suc n) at (Peer message) place positive sent g s =
+pub deed_sent : (old : NodesState) (node at : ℕ) (core : CoreState) (item : Item) → at ≡ node - 1 → 0 < node → WasSent node item old.sent
+    → (g : Group) → StandsFor g old → DeedWasSent g at core (takes item)
+deed_sent old zero at core item place positive sent g s = absurd (omega (arith, positive))
+deed_sent old (suc n) at core (Peer message) place positive sent g s =
     subst (λ (l : List (ℕ × Message Command)). In (at + 1, message) l) (sym s.sent)
     (subst (λ (k : ℕ). In (k, message) old.sent) (let e : suc n ≡ at + 1 = omega (arith, place) in e) sent)
-deed_sent old (suc n) at (Tick now) place positive sent g s = tt
-deed_sent old (suc n) at (Opened port now) place positive sent g s = tt
-deed_sent old (suc n) at (Bytes port piece now) place positive sent g s = tt
-deed_sent old (suc n) at (Ended port) place positive sent g s = tt
-deed_sent old (suc n) at Cut place positive sent g s = tt
-deed_sent old (suc n) at Crash place positive sent g s = tt
+deed_sent old (suc n) at core (Tick now) place positive sent g s = tt
+deed_sent old (suc n) at core (Opened port now) place positive sent g s = tt
+deed_sent old (suc n) at core (Bytes port piece now) place positive sent g s = tt
+deed_sent old (suc n) at core (Ended port) place positive sent g s = tt
+deed_sent old (suc n) at core Cut place positive sent g s = absurd sent
+deed_sent old (suc n) at core Crash place positive sent g s = tt
 
 -- the nodes behind the turn of one
 abbrev pub behind_turn_of : ℕ → CountedCore → List (ℕ × Message Command) → ℕ → NodesState → NodesState

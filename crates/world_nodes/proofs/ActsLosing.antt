@@ -21,14 +21,14 @@ use Rattle.world_nodes.specs.Goes.{Acts}
 use Rattle.world_nodes.specs.Inside.{RunsAt, TookItem, WasSent}
 use Rattle.world_nodes.proofs.Acts.{behind_turn_of, core_in, deed_sent}
 
-were_sent : (g : Group) (at : ℕ) (item : Item) → DeedWasSent g at (takes item) → WereSent g at (heard_with item)
-were_sent g at (Peer message) sent = (sent, tt)
-were_sent g at (Tick now) sent = (tt, tt)
-were_sent g at (Opened port now) sent = tt
-were_sent g at (Bytes port piece now) sent = tt
-were_sent g at (Ended port) sent = tt
-were_sent g at Cut sent = tt
-were_sent g at Crash sent = tt
+were_sent : (g : Group) (at : ℕ) (core : CoreState) (item : Item) → DeedWasSent g at core (takes item) → WereSent g at (heard_with item)
+were_sent g at core (Peer message) sent = (sent, tt)
+were_sent g at core (Tick now) sent = (tt, tt)
+were_sent g at core (Opened port now) sent = tt
+were_sent g at core (Bytes port piece now) sent = tt
+were_sent g at core (Ended port) sent = tt
+were_sent g at core Cut sent = tt
+were_sent g at core Crash sent = tt
 
 -- a node that took an item in, whether memory sufficed or not
 pub turn_loses : (old : NodesState) (node at : ℕ) (x : RunsAt old.nodes node at) (new : CountedCore) (item : Item) (more : List (ℕ × Message Command)) (whole : Bool) (losses : ℕ)
@@ -42,7 +42,7 @@ turn_loses old node at x new item more whole losses t sent =
     record {
       does = record {
         behind = behind_turn g at (keeping t.kept turn) (all_given by.run);
-        step = node_loses at x.core.core item turn t.kept by found t.runs (were_sent g at item (deed_sent old node at item x.place x.positive sent g s)) t.thinned;
+        step = node_loses at x.core.core item turn t.kept by found t.runs (were_sent g at x.core.core item (deed_sent old node at x.core.core item x.place x.positive sent g s)) t.thinned;
         is = refl;
         faithful = tt;
       };

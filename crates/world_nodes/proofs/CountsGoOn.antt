@@ -38,7 +38,7 @@ opens_counting nodes config n told next can stands one untold untold_next =
 
 pub loses_counting : (n : NodesState) (losses : ℕ) (told next : ToldIn) → HaveCounted n told next → HaveCounted (record n { losses = losses }) told next
 loses_counting n losses told next c =
-    record { group = c.group; stands = record { master = c.stands.master; nodes = c.stands.nodes; sent = c.stands.sent }; counts = c.counts }
+    record { group = c.group; stands = record { master = c.stands.master; nodes = c.stands.nodes; archive = c.stands.archive; sent = c.stands.sent }; counts = c.counts }
 
 -- a node does something, and what it told is heard
 pub acts_counting : (old new : NodesState) (at : ℕ) (deed : Deed) (told next told' next' : ToldIn) → HaveCounted old told next → Acts at deed old new

@@ -8,7 +8,7 @@ use Rattle.ballot.specs.Losses.{Thinned}
 use Rattle.ballot.specs.Losses.Thinned.{none, keeps, loses}
 use Rattle.ballot.specs.Message.{Message}
 use Rattle.master.specs.snapshots.World.{messages}
-use Rattle.agreement.proofs.Effects.{messages-append}
+use Rattle.master.proofs.of_snapshots.Effects.{messages-append}
 use Rattle.broker_base.specs.Command.{Command}
 use Rattle.broker_base.specs.Output.{Output}
 use Rattle.world_nodes.specs.Inside.{Keeps}

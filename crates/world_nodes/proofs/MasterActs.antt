@@ -74,6 +74,7 @@ gives_exactly old config none g s = (
     stands = record {
       master = ap (λ (m : MasterState). assigning m config) s.master;
       nodes = s.nodes;
+      archive = s.archive;
       sent = ap (λ (l : Sent). l ++ (config.primary, message g.master) ∷ []) s.sent
           ∙ ap (λ (m : MasterState). old.sent ++ (config.primary, message m) ∷ []) s.master;
     };
@@ -95,6 +96,7 @@ answers_exactly old from ballot sent g s = (
     stands = record {
       master = ap (λ (m : MasterState). activating m ballot m.waiting) s.master;
       nodes = s.nodes;
+      archive = s.archive;
       sent = ap (λ (l : Sent). l ++ (from, message g.master) ∷ []) s.sent
           ∙ ap (λ (m : MasterState). old.sent ++ (from, message m) ∷ []) s.master;
     };
@@ -186,13 +188,14 @@ gives_or_loses old config state body more true losses none state_is body_is kept
       stands = record {
         master = z.stands.master ∙ sym state_is;
         nodes = z.stands.nodes;
+        archive = z.stands.archive;
         sent = z.stands.sent ∙ sym (kept ∙ ap (λ (b : Body Command). old.sent ++ (config.primary, record { from = 0; body = b }) ∷ []) body_is);
       };
     }
 gives_or_loses old config state body more false losses none state_is body_is kept lost g s =
     record {
       does = does_by (gives_unheard g config (ap (λ (m : MasterState). refusal m config) s.master ∙ none));
-      stands = record { master = ap (λ (m : MasterState). assigning m config) s.master ∙ sym state_is; nodes = s.nodes; sent = s.sent ∙ sym lost };
+      stands = record { master = ap (λ (m : MasterState). assigning m config) s.master ∙ sym state_is; nodes = s.nodes; archive = s.archive; sent = s.sent ∙ sym lost };
     }
 
 pub answers_or_loses : (old : NodesState) (from ballot : ℕ) (state : MasterState) (body : Body Command) (more : Sent) (told : Bool) (losses : ℕ)
@@ -208,6 +211,7 @@ answers_or_loses old from ballot state body more true losses sent state_is body_
       stands = record {
         master = z.stands.master ∙ sym state_is;
         nodes = z.stands.nodes;
+        archive = z.stands.archive;
         sent = z.stands.sent ∙ sym (kept ∙ ap (λ (b : Body Command). old.sent ++ (from, record { from = 0; body = b }) ∷ []) body_is);
       };
     }
@@ -217,6 +221,7 @@ answers_or_loses old from ballot state body more false losses sent state_is body
       stands = record {
         master = ap (λ (m : MasterState). activating m ballot m.waiting) s.master ∙ sym state_is;
         nodes = s.nodes;
+        archive = s.archive;
         sent = s.sent ∙ sym lost;
       };
     }

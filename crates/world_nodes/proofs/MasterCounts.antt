@@ -44,6 +44,7 @@ gives_counting old config state body more true losses t next next' c none state_
       stands = record {
         master = s.master ∙ sym state_is;
         nodes = s.nodes;
+        archive = s.archive;
         sent = s.sent ∙ sym (kept ∙ ap (λ (b : Body Command). old.sent ++ (config.primary, record { from = 0; body = b }) ∷ []) body_is);
       };
       counts = group_gives rules (moment_of g) (moment_of (group_giving config g)) config t next next' c.counts
@@ -57,6 +58,7 @@ gives_counting old config state body more false losses t next next' c none state
       stands = record {
         master = ap (λ (m : MasterState). assigning m config) c.stands.master ∙ sym state_is;
         nodes = c.stands.nodes;
+        archive = c.stands.archive;
         sent = c.stands.sent ∙ sym lost;
       };
       counts = group_gives rules (moment_of g) (moment_of h) config t next next' c.counts
@@ -92,6 +94,7 @@ answers_counting old from ballot state body more true losses t next t' next' c s
       stands = record {
         master = s.master ∙ sym state_is;
         nodes = s.nodes;
+        archive = s.archive;
         sent = s.sent ∙ sym (kept ∙ ap (λ (b : Body Command). old.sent ++ (from, record { from = 0; body = b }) ∷ []) body_is);
       };
       counts = group_answers rules (moment_of g) (moment_of (group_answer from ballot g)) from ballot t next t' next' c.counts
@@ -106,6 +109,7 @@ answers_counting old from ballot state body more false losses t next t' next' c 
       stands = record {
         master = ap (λ (m : MasterState). activating m ballot m.waiting) c.stands.master ∙ sym state_is;
         nodes = c.stands.nodes;
+        archive = c.stands.archive;
         sent = c.stands.sent ∙ sym lost;
       };
       counts = group_answers rules (moment_of g) (moment_of h) from ballot t next t' next' c.counts

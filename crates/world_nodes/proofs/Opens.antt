@@ -17,12 +17,13 @@ opened_more config at opened later node before fresh is =
     ∙ ap (λ (l : List CoreState). l ++ node.core ∷ []) before
     ∙ ap (λ (c : CountedCore). opening_cores at config ++ c.core ∷ []) fresh)
 
-pub opened_all : (config : Config) (nodes at : ℕ) (master : MasterState) (opened : List CountedCore) (sent : List (ℕ × Message Command)) (losses : ℕ)
-    → master ≡ opening_master config → cores_of opened ≡ opening_cores at config → at ≡ nodes → sent ≡ []
-    → StandsFor (opening_group nodes config) (record { master = master; nodes = opened; sent = sent; losses = losses })
-opened_all config nodes at master opened sent losses m cores same none =
+pub opened_all : (config : Config) (nodes at : ℕ) (master : MasterState) (opened : List CountedCore) (sent : List (ℕ × Message Command)) (archive : List Command) (losses : ℕ)
+    → master ≡ opening_master config → cores_of opened ≡ opening_cores at config → at ≡ nodes → sent ≡ [] → archive ≡ []
+    → StandsFor (opening_group nodes config) (record { master = master; nodes = opened; sent = sent; archive = archive; losses = losses })
+opened_all config nodes at master opened sent archive losses m cores same none bare =
     record {
       master = sym m;
       nodes = ap (λ (k : ℕ). opening_cores k config) (sym same) ∙ sym cores;
       sent = sym none;
+      archive = sym bare;
     }

@@ -10,7 +10,7 @@ use Rattle.ballot.specs.Message.{Message}
 use Rattle.broker_base.specs.Command.{Command}
 use Rattle.broker_base.specs.Output.{Output}
 use Rattle.world_base.specs.declared.item.Item.{Item}
-use Rattle.world_base.specs.declared.item.Item.TheVariants.{Peer}
+use Rattle.world_base.specs.declared.item.Item.TheVariants.{Cut, Peer}
 use Rattle.world_base.specs.Core.{CountedCore, rules}
 use Rattle.world_base.specs.LossyStep.{RunsOn}
 use Rattle.world_base.specs.Step.{node_step}
@@ -35,9 +35,10 @@ pub record RunsAt (nodes : List CountedCore) (node at : ℕ) : Type 0 where
   pub stands : slice_get nodes at ≡ Some core
   pub runs : running nodes node ≡ Some core
 
--- what a node takes in of others was sent to it
+-- what a node takes in of others was sent to it; a cut is not taken so, since the record has it first
 abbrev pub WasSent : ℕ → Item → List (ℕ × Message Command) → Type 0
 WasSent node (Peer message) sent = In (node, message) sent
+WasSent node Cut sent = ⊥
 WasSent node _ sent = Unit {0}
 
 -- a node took an item in, perhaps with losses, and without any where it was whole

@@ -17,6 +17,7 @@ returns-clause-step c =
       master = c.self.inside.master;
       nodes = c.self.inside.nodes.items;
       sent = c.self.inside.sent.items;
+      archive = c.self.inside.archive.items;
       losses = c.self.inside.losses;
     } in old) c.args.node c.in-Some.at x c.take_in-whole.new.node c.args.item c.take_in-whole.new.sent.items c.take_in-whole.result c.counted-self-inside.result took
     c.counted-self-inside.ensures)
@@ -30,6 +31,7 @@ returns-clause-goes c =
       master = c.self.inside.master;
       nodes = c.self.inside.nodes.items;
       sent = c.self.inside.sent.items;
+      archive = c.self.inside.archive.items;
       losses = c.self.inside.losses;
     } in
     rw (← c.self.view_is) (exactly c.args.node c.args.item old (behind_turn_of c.in-Some.at c.take_in-whole.new.node c.take_in-whole.new.sent.items c.counted-self-inside.result old)
@@ -46,6 +48,7 @@ returns-clause-acts c =
       master = c.self.inside.master;
       nodes = c.self.inside.nodes.items;
       sent = c.self.inside.sent.items;
+      archive = c.self.inside.archive.items;
       losses = c.self.inside.losses;
     } in old) c.args.node c.in-Some.at x c.take_in-whole.new.node c.args.item c.take_in-whole.new.sent.items c.take_in-whole.result c.counted-self-inside.result took sent)
 
@@ -66,6 +69,7 @@ invariant_of-self c =
       master = c.self.inside.master;
       nodes = c.self.inside.nodes.items;
       sent = c.self.inside.sent.items;
+      archive = c.self.inside.archive.items;
       losses = c.self.inside.losses;
     } in old) c.args.node c.in-Some.at x c.take_in-whole.new.node c.args.item c.take_in-whole.new.sent.items c.take_in-whole.result c.counted-self-inside.result took sent)
     refl c.hear_from.ensures.active c.hear_from.ensures.waits

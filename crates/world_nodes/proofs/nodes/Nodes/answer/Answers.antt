@@ -17,6 +17,7 @@ returns-clause-step c =
       master = m;
       nodes = c.self.inside.nodes.items;
       sent = c.self.inside.sent.items;
+      archive = c.self.inside.archive.items;
       losses = c.self.inside.losses;
     } in
     subst (λ (n : NodesState). HearsIn c.args.from (Activate c.args.ballot) n (master_turn c.activate-activation.new.self c.tell-told.new.sent.items c.counted-self-inside.result old))
@@ -34,6 +35,7 @@ returns-clause-acts c =
       master = m;
       nodes = c.self.inside.nodes.items;
       sent = c.self.inside.sent.items;
+      archive = c.self.inside.archive.items;
       losses = c.self.inside.losses;
     } in old) c.args.from c.args.ballot c.activate-activation.new.self c.answer_of.result c.tell-told.new.sent.items c.tell-told.result c.counted-self-inside.result
     sent c.activate-activation.ensures.state body c.tell-told.ensures.told c.tell-told.ensures.lost)
@@ -50,6 +52,7 @@ invariant_of-self c =
       master = m;
       nodes = c.self.inside.nodes.items;
       sent = c.self.inside.sent.items;
+      archive = c.self.inside.archive.items;
       losses = c.self.inside.losses;
     } in old) c.args.from c.args.ballot c.activate-activation.new.self c.answer_of.result c.tell-told.new.sent.items c.tell-told.result c.counted-self-inside.result
     counters.told counters.next turned_to.told turned_to.next c.self.invariant sent c.activate-activation.ensures.state body c.tell-told.ensures.told c.tell-told.ensures.lost

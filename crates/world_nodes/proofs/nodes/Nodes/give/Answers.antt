@@ -23,6 +23,7 @@ returns-clause-step c =
       master = m;
       nodes = c.self.inside.nodes.items;
       sent = c.self.inside.sent.items;
+      archive = c.self.inside.archive.items;
       losses = c.self.inside.losses;
     } in old) c.args.config.now c.assign.new.self _ c.tell-told.new.sent.items c.tell-told.result c.counted-self-inside.result
     state body c.tell-told.ensures.told c.tell-told.ensures.lost c.counted-self-inside.ensures)
@@ -42,6 +43,7 @@ returns-clause-acts c =
       master = m;
       nodes = c.self.inside.nodes.items;
       sent = c.self.inside.sent.items;
+      archive = c.self.inside.archive.items;
       losses = c.self.inside.losses;
     } in old) c.args.config.now c.assign.new.self _ c.tell-told.new.sent.items c.tell-told.result c.counted-self-inside.result
     granted state body c.tell-told.ensures.told c.tell-told.ensures.lost)
@@ -61,6 +63,7 @@ invariant_of-self-2 c =
       master = m;
       nodes = c.self.inside.nodes.items;
       sent = c.self.inside.sent.items;
+      archive = c.self.inside.archive.items;
       losses = c.self.inside.losses;
     } in old) c.args.config.now c.assign.new.self _ c.tell-told.new.sent.items c.tell-told.result c.counted-self-inside.result
     c.self.inside.counters.told c.self.inside.counters.next c.begin.new.self.next c.self.invariant granted state body c.tell-told.ensures.told c.tell-told.ensures.lost

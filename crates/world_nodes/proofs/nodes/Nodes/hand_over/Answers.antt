@@ -17,6 +17,7 @@ returns-in-Ok-clause-goes c =
       master = c.self.inside.master;
       nodes = c.self.inside.nodes.items;
       sent = c.self.inside.sent.items;
+      archive = c.self.inside.archive.items;
       losses = c.self.inside.losses;
     } in old) c.args.node c.index_mut-core.result.now c.outgoing.new.self c.args.port is c.in-Ok.ensures.left)
 
@@ -43,6 +44,7 @@ returns-in-Ok-clause-bytes c =
       master = c.self.inside.master;
       nodes = c.self.inside.nodes.items;
       sent = c.self.inside.sent.items;
+      archive = c.self.inside.archive.items;
       losses = c.self.inside.losses;
     } in old) c.args.node c.args.port c.index_mut-core.result.now c.args.out.now.items c.outgoing.new.out.items is c.in-Ok.ensures.bytes)
 
@@ -55,6 +57,7 @@ returns-in-Ok-clause-answer c =
       master = c.self.inside.master;
       nodes = c.self.inside.nodes.items;
       sent = c.self.inside.sent.items;
+      archive = c.self.inside.archive.items;
       losses = c.self.inside.losses;
     } in old) c.args.node c.args.port c.index_mut-core.result.now c.in-Ok.handed is c.in-Ok.ensures.answer)
 
@@ -68,18 +71,21 @@ returns-in-Ok-clause-step c =
         master = c.self.inside.master;
         nodes = c.self.inside.nodes.items;
         sent = c.self.inside.sent.items;
+        archive = c.self.inside.archive.items;
         losses = c.self.inside.losses;
       } in old) c.args.node c.index_mut-core.result.now c.outgoing.new.self c.args.port is c.in-Ok.ensures.left,
       hands_bytes (let old : NodesState = record {
         master = c.self.inside.master;
         nodes = c.self.inside.nodes.items;
         sent = c.self.inside.sent.items;
+        archive = c.self.inside.archive.items;
         losses = c.self.inside.losses;
       } in old) c.args.node c.args.port c.index_mut-core.result.now c.args.out.now.items c.outgoing.new.out.items is c.in-Ok.ensures.bytes,
       answers_so (let old : NodesState = record {
         master = c.self.inside.master;
         nodes = c.self.inside.nodes.items;
         sent = c.self.inside.sent.items;
+        archive = c.self.inside.archive.items;
         losses = c.self.inside.losses;
       } in old) c.args.node c.args.port c.index_mut-core.result.now c.in-Ok.handed is c.in-Ok.ensures.answer,
     ))
@@ -93,6 +99,7 @@ returns-in-Err-clause-step c =
         master = c.self.inside.master;
         nodes = c.self.inside.nodes.items;
         sent = c.self.inside.sent.items;
+        archive = c.self.inside.archive.items;
         losses = c.self.inside.losses;
       } in old) (c.args.node - 1) c.index_mut-core.result.now c.outgoing.new.self found c.in-Err.ensures.same ∙ c.self.view_is),
       c.in-Err.ensures.err,
@@ -109,5 +116,6 @@ invariant_of-self c =
       master = c.self.inside.master;
       nodes = c.self.inside.nodes.items;
       sent = c.self.inside.sent.items;
+      archive = c.self.inside.archive.items;
       losses = c.self.inside.losses;
     } in old) c.args.node c.index_mut-core.result.now c.outgoing.new.self c.args.port is c.in-Ok.ensures.left)) refl refl refl (λ h. h) (λ h. h)
