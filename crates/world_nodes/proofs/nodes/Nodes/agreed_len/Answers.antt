@@ -13,7 +13,7 @@ agreed_by-requires c = λ m i. members_low _ _ _ c.self.invariant m (rw c.active
 pub returns-then-members-eq1 : goal.returns-then-members-eq1
 returns-then-members-eq1 c =
     let sole = sym (ap (λ (z : NodesState). z.master.members) c.self.view_is) ∙ sym c.active.ensures.members ∙ sole_is c.active.result.1.now c.if-members-eq1.true in
-    subst (AgreeOnSoMany c.args.self.now) (sym (ap length c.log_of.ensures)) (sole_agrees c.args.self.now (get_or c.active.result.1.now 0 0) sole)
+    subst (AgreeOnSoMany c.args.self.now) (sym c.held.ensures) (sole_agrees c.args.self.now (get_or c.active.result.1.now 0 0) sole)
 
 pub returns : goal.returns
 returns c =
