@@ -21,8 +21,8 @@ use Rattle.agreement.specs.World.{can_open}
 use Rattle.group_model.proofs.of_snapshots.PastsAgree.{has_agreed}
 use Rattle.group_model.specs.world_base.Core.{CoreState, opening_core, rules}
 use Rattle.group_model.specs.node_model.Ends.{bytes_on, commands_of}
-use Rattle.group_model.specs.node_model.LossyMoves.{came_with}
-use Rattle.group_model.specs.node_model.LossyMoves.{bytes_on as bytes_losing}
+use Rattle.group_model.specs.node_model.LossyRuns.{came_with}
+use Rattle.group_model.specs.node_model.LossyRuns.{bytes_on as bytes_losing}
 use Rattle.group_model.proofs.of_node_model.Kept.{named}
 use Rattle.group_model.proofs.of_node_model.ProposesInOrder.{commands_join, front_of}
 use Rattle.group_model.specs.Group.{Group, behind_turn, moment_of, opening_cores, opening_group, with_master, with_record}

@@ -2,9 +2,10 @@
 use Rattle.std.proofs.Common.{◌≡◌, ℕ, false, List, [], ◌++◌, refl, ap, ◌∙◌}
 use Rattle.broker_base.specs.Connection.{ConnectionName}
 use Rattle.group_model.specs.world_base.Core.{CoreState, Turn}
-use Rattle.group_model.specs.node_model.LossyMoves.{HandsNothing, LossyMoves, LossyRuns, is_handing}
+use Rattle.group_model.specs.node_model.LossyMoves.{LossyMoves, is_handing}
+use Rattle.group_model.specs.node_model.LossyRuns.{HandsNothing, LossyRuns}
 use Rattle.group_model.specs.node_model.LossyMoves.LossyMoves.{exactly}
-use Rattle.group_model.specs.node_model.LossyMoves.LossyRuns.{rests as rests_losing, goes_on as goes_losing}
+use Rattle.group_model.specs.node_model.LossyRuns.LossyRuns.{rests as rests_losing, goes_on as goes_losing}
 use Rattle.group_model.specs.node_model.Moves.{Moves, Runs}
 use Rattle.group_model.specs.node_model.Moves.Moves.{hands}
 use Rattle.group_model.specs.node_model.Moves.Runs.{rests, goes_on}

@@ -20,8 +20,9 @@ use Rattle.group_model.specs.world_base.Core.{CoreState, Turn, rules}
 use Rattle.group_model.specs.world_base.Turns.{quiet}
 use Rattle.group_model.specs.node_model.Ends.{IsOrderly}
 use Rattle.group_model.specs.node_model.Keeping.{AreOfTheBallot}
-use Rattle.group_model.specs.node_model.LossyMoves.{AllFreeze, Freezes, HearsAtFirst, IsCalm, LossyMoves, LossyRuns, all_inputs, bytes_on, came_on, given_in, hears_in, inputs_in}
-use Rattle.group_model.specs.node_model.LossyMoves.LossyRuns.{rests, goes_on}
+use Rattle.group_model.specs.node_model.LossyMoves.{LossyMoves, came_on, given_in, hears_in, inputs_in}
+use Rattle.group_model.specs.node_model.LossyRuns.{AllFreeze, Freezes, HearsAtFirst, IsCalm, LossyRuns, all_inputs, bytes_on}
+use Rattle.group_model.specs.node_model.LossyRuns.LossyRuns.{rests, goes_on}
 use Rattle.group_model.specs.node_model.Moves.{and_then}
 use Rattle.group_model.proofs.of_node_model.Kept.{left_true}
 use Rattle.group_model.proofs.of_node_model.LossyReads.{losses_read_in_order}

@@ -6,7 +6,7 @@ use Rattle.group_model.specs.world_base.declared.Connection.{Connection}
 use Rattle.group_model.specs.world_base.Core.{CoreState, Turn}
 use Rattle.group_model.specs.world_base.Handing.{listed_at}
 use Rattle.group_model.specs.node_model.Ends.{bytes_on}
-use Rattle.group_model.specs.node_model.LossyMoves.{came_with}
+use Rattle.group_model.specs.node_model.LossyRuns.{came_with}
 use Rattle.group_model.specs.node_model.Moves.{Moves, Runs}
 use Rattle.group_model.specs.node_model.Moves.Moves.{hands}
 use Rattle.group_model.specs.node_model.Moves.Runs.{rests, goes_on}

@@ -5,6 +5,7 @@ pub mod LosingNone
 pub mod Thinning
 pub mod MovesHappen
 pub mod LossesHappen
+pub mod Recorded
 pub mod RunsHappen
 pub mod GroupsArePasts
 pub mod PutsInBallot

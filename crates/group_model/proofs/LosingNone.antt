@@ -5,10 +5,11 @@ use Rattle.broker_base.specs.Connection.{ConnectionName}
 use Rattle.node_model.specs.world_base.Core.{CoreState, Turn}
 use Rattle.node_model.specs.Ends.{bytes_on, came_on}
 use Rattle.node_model.specs.Hearing.{HearsAtFirst, IsCalm}
-use Rattle.node_model.specs.LossyMoves.{AllFreeze, Freezes, LossyRuns, all_inputs, inputs_of}
-use Rattle.node_model.specs.LossyMoves.{HearsAtFirst as FirstLosing, IsCalm as CalmLosing, bytes_on as bytes_losing}
+use Rattle.node_model.specs.LossyMoves.{inputs_of}
+use Rattle.node_model.specs.LossyRuns.{AllFreeze, Freezes, LossyRuns, all_inputs}
+use Rattle.node_model.specs.LossyRuns.{HearsAtFirst as FirstLosing, IsCalm as CalmLosing, bytes_on as bytes_losing}
 use Rattle.node_model.specs.LossyMoves.LossyMoves.{exactly}
-use Rattle.node_model.specs.LossyMoves.LossyRuns.{rests as rests_losing, goes_on as goes_losing}
+use Rattle.node_model.specs.LossyRuns.LossyRuns.{rests as rests_losing, goes_on as goes_losing}
 use Rattle.node_model.specs.Moves.{Moves, Runs}
 use Rattle.node_model.specs.Moves.Moves.{hears, cuts_log}
 use Rattle.node_model.specs.Moves.Runs.{rests, goes_on}

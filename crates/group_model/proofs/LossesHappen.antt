@@ -1,5 +1,5 @@
 -- Each move of a node in which something may be lost is one event among replicas, or none.
-use Rattle.std.proofs.Common.{inl, inr, ◌≡◌, ℕ, Bool, true, false, not, ◌&&◌, nat_lt, List, [], ◌∷◌, length, Some, slice_get, refl, sym, ap, ◌∙◌, subst}
+use Rattle.std.proofs.Common.{inl, inr, ◌≡◌, ℕ, Bool, true, false, not, ◌&&◌, nat_lt, List, [], ◌∷◌, Some, slice_get, refl, sym, ap, ◌∙◌, subst}
 use Rattle.std.proofs.lemmas.Bool.{ltb-true}
 use Rattle.ballot.specs.Config.{Config}
 use Rattle.ballot.specs.Logs.{places}
@@ -21,7 +21,8 @@ use Rattle.node_model.specs.world_base.Core.{CoreState, Turn, rules, serves}
 use Rattle.node_model.specs.world_base.Lossy.{Account, Drives, Takes}
 use Rattle.node_model.specs.world_base.Reading.{changes}
 use Rattle.node_model.specs.world_base.Turns.{has_room, heard}
-use Rattle.node_model.specs.LossyMoves.{Freezes, LossyMoves, given_in, inputs_in, turn_of}
+use Rattle.node_model.specs.LossyMoves.{LossyMoves, given_in, inputs_in, turn_of}
+use Rattle.node_model.specs.LossyRuns.{Freezes}
 use Rattle.node_model.specs.LossyMoves.LossyMoves.{exactly, hears_losing, first_losing, later_losing, tells_losing, forgets, halts, fails, unheard, drops}
 use Rattle.node_model.specs.Moves.{is_proposal}
 use Rattle.node_model.proofs.LossyOutputs.{delivers_replica}

@@ -1,5 +1,5 @@
 -- What a move puts to its replica is put in the ballot of its name, where the names of open connections are of the ballot.
-use Rattle.std.proofs.Common.{◌≡◌, Bool, true, false, nat_lt, if◌then◌else◌, [], ◌∷◌, length, map, refl, ◌∙◌, sym, subst}
+use Rattle.std.proofs.Common.{◌≡◌, Bool, true, false, nat_lt, if◌then◌else◌, [], ◌∷◌, map, refl, ◌∙◌, sym, subst}
 use Rattle.std.proofs.lemmas.Bool.{both_ways}
 use Rattle.lists.specs.Lists.{Each, In}
 use Rattle.lists.specs.Lists.In.{here}
@@ -17,9 +17,10 @@ use Rattle.node_model.specs.world_base.Reading.{changes}
 use Rattle.node_model.specs.Ends.{IsOrderly}
 use Rattle.node_model.specs.Keeping.{AreOfTheBallot}
 use Rattle.node_model.specs.LossyLaws.{AreWhereItServes}
-use Rattle.node_model.specs.LossyMoves.{HearsAtFirst, IsCalm, LossyMoves, LossyRuns, proposal_of}
+use Rattle.node_model.specs.LossyMoves.{LossyMoves, proposal_of}
+use Rattle.node_model.specs.LossyRuns.{HearsAtFirst, IsCalm, LossyRuns}
 use Rattle.node_model.specs.LossyMoves.LossyMoves.{exactly, first_losing, later_losing, tells_losing}
-use Rattle.node_model.specs.LossyMoves.LossyRuns.{rests, goes_on}
+use Rattle.node_model.specs.LossyRuns.LossyRuns.{rests, goes_on}
 use Rattle.node_model.specs.Moves.{Moves}
 use Rattle.node_model.specs.Moves.Moves.{reads_first, reads_later, loses_one, loses_next}
 use Rattle.node_model.proofs.LossyNames.{lossy_names_keep_their_ballot}

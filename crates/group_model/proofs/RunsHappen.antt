@@ -13,8 +13,9 @@ use Rattle.snapshots.specs.Past.{Moment, Past}
 use Rattle.snapshots.specs.Proposals.{proposals_of, taken_of}
 use Rattle.snapshots.specs.World.{messages, outputs}
 use Rattle.node_model.specs.world_base.Core.{CoreState, Turn, rules}
-use Rattle.node_model.specs.LossyMoves.{AllFreeze, LossyRuns, all_inputs, given_in, inputs_in}
-use Rattle.node_model.specs.LossyMoves.LossyRuns.{rests, goes_on}
+use Rattle.node_model.specs.LossyMoves.{given_in, inputs_in}
+use Rattle.node_model.specs.LossyRuns.{AllFreeze, LossyRuns, all_inputs}
+use Rattle.node_model.specs.LossyRuns.LossyRuns.{rests, goes_on}
 use Rattle.node_model.specs.Moves.{and_then}
 use Rattle.group_model.specs.Group.{Group, behind_turn, moment_of, with_record}
 use Rattle.group_model.specs.Goes.{InputWasSent, keeping}

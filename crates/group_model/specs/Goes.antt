@@ -14,7 +14,7 @@ use Rattle.node_model.specs.world_base.Core.{CoreState, Turn}
 use Rattle.node_model.specs.world_base.declared.item.Item.{Item}
 use Rattle.node_model.specs.world_base.LossyStep.{RunsOn}
 use Rattle.node_model.specs.Hearing.{HearsAtFirst}
-use Rattle.node_model.specs.LossyMoves.{IsRunOn, heard_with}
+use Rattle.node_model.specs.LossyRuns.{IsRunOn, heard_with}
 use Rattle.node_model.specs.Moves.{Deed, Runs, done}
 use Rattle.group_model.specs.Group.{Group, behind_turn, opening_group, told_by_master, with_master, with_record}
 use Rattle.group_model.specs.Losing.{WereSent}

@@ -5,9 +5,10 @@ use Rattle.ballot.specs.Protocol.{Input}
 use Rattle.broker_base.specs.Command.{Command}
 use Rattle.broker_base.specs.Output.{Output}
 use Rattle.node_model.specs.world_base.Core.{CoreState, Turn}
-use Rattle.node_model.specs.LossyMoves.{LossyMoves, LossyRuns, given_in, proposal_of}
+use Rattle.node_model.specs.LossyMoves.{LossyMoves, given_in, proposal_of}
+use Rattle.node_model.specs.LossyRuns.{LossyRuns}
 use Rattle.node_model.specs.LossyMoves.LossyMoves.{exactly}
-use Rattle.node_model.specs.LossyMoves.LossyRuns.{rests, goes_on}
+use Rattle.node_model.specs.LossyRuns.LossyRuns.{rests, goes_on}
 use Rattle.group_model.specs.Group.{Group, replica_of}
 use Rattle.group_model.specs.Putting.{InputWasSent}
 use Rattle.group_model.specs.Putting.{commands_put as exactly_put, recorded_by as exactly_recorded}

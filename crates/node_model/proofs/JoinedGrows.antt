@@ -1,5 +1,5 @@
 -- A replica never goes back to an earlier ballot.
-use Rattle.std.proofs.Common.{◌≡◌, ◌≤◌, ◌⊎◌, inl, inr, ℕ, Bool, true, false, ◌==◌, ◌&&◌, ◌||◌, nat_lt, nat_le, if◌then◌else◌, Option, Some, None, length, List, [], ◌∷◌, ◌++◌, refl, arith}
+use Rattle.std.proofs.Common.{◌≡◌, ◌≤◌, ◌⊎◌, inl, inr, ℕ, Bool, true, false, ◌==◌, ◌&&◌, ◌||◌, nat_lt, nat_le, if◌then◌else◌, Option, Some, None, length, List, refl, arith}
 use Rattle.std.specs.List.{list_any}
 use Rattle.std.proofs.lemmas.Bool.{ltb-true, eqb-true, and_parts, or_cases}
 use Rattle.ballot.specs.Machine.{Rules}
@@ -12,7 +12,7 @@ use Rattle.ballot.specs.Role.{Role}
 use Rattle.ballot.specs.Role.TheVariants.{Backup, Fetching, Installing, Active}
 use Rattle.ballot.specs.Protocol.{Input, received, ticked, replica_step}
 use Rattle.ballot.specs.Protocol.Input.{Receives, Proposes, Ticks}
-use Rattle.ballot.specs.Replica.{ReplicaState, is_active, is_fetching, is_installing}
+use Rattle.ballot.specs.Replica.{ReplicaState, is_active, is_installing}
 use Rattle.ballot.specs.Sending.{Outcome, nothing_done}
 use Rattle.ballot.specs.Serving.{most_places, least, follows, leads, commit_at, commit, added, proposed, on_append, on_held, on_commit, on_tick_active}
 use Rattle.node_model.proofs.NamesInOrder.{same_le}

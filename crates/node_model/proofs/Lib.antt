@@ -31,6 +31,7 @@ pub mod LossyReads
 pub mod LossyShuts
 pub mod LossyClosed
 pub mod LossyNames
+pub mod BaseStays
 pub mod LossyRead
 pub mod LossyRuns
 pub mod LossesAreMoves

@@ -41,7 +41,7 @@ use Rattle.node_model.proofs.ReplicaStays.{Same, added_same}
 use Rattle.node_model.proofs.ShutByChanges.{at_replica}
 use Rattle.node_model.proofs.ShutByOutputs.{bytes_for, driven_shuts}
 
--- ---- the replica stays in its role and its ballot
+-- ---- the replica stays in its role and its ballot, and the base of its log
 
 same_state : (core later : CoreState) → later.replica.state ≡ core.replica.state → Same core.replica.state later.replica.state
 same_state core later e =
@@ -49,15 +49,16 @@ same_state core later e =
       role = ap (λ (r : ReplicaState State Command). r.role) e;
       joined = ap (λ (r : ReplicaState State Command). r.joined) e;
       stopped = ap (λ (r : ReplicaState State Command). r.stopped) e;
+      base = ap (λ (r : ReplicaState State Command). r.log.base) e;
     }
 
 same_then : (a b c : CoreState) → Same a.replica.state b.replica.state → Same b.replica.state c.replica.state → Same a.replica.state c.replica.state
-same_then a b c s t = record { role = t.role ∙ s.role; joined = t.joined ∙ s.joined; stopped = t.stopped ∙ s.stopped }
+same_then a b c s t = record { role = t.role ∙ s.role; joined = t.joined ∙ s.joined; stopped = t.stopped ∙ s.stopped; base = t.base ∙ s.base }
 
 state_of : (a b : CoreState) → a.replica ≡ b.replica → a.replica.state ≡ b.replica.state
 state_of a b e = ap (λ (r : CountedReplica State Command). r.state) e
 
-taken_same : (command : Command) (core : CoreState) (did : Account) → Takes command core did → Same core.replica.state did.core.replica.state
+pub taken_same : (command : Command) (core : CoreState) (did : Account) → Takes command core did → Same core.replica.state did.core.replica.state
 taken_same command core did t =
     subst (λ (r : ReplicaState State Command). Same core.replica.state r)
     (sym (ap (λ (r : CountedReplica State Command). r.state) (delivers_replica did.given (record core { replica = t.replica }) did.core did.messages t.delivers)
@@ -65,7 +66,7 @@ taken_same command core did t =
     (added_same rules core.replica.state command)
 
 -- a command is taken behind a change of a connection
-taken_behind : (command : Command) (core between : CoreState) (did : Account) → between.replica ≡ core.replica → Takes command between did
+pub taken_behind : (command : Command) (core between : CoreState) (did : Account) → between.replica ≡ core.replica → Takes command between did
     → Same core.replica.state did.core.replica.state
 taken_behind command core between did same t =
     same_then core between did.core (same_state core between (state_of between core same)) (taken_same command between did t)
@@ -96,11 +97,11 @@ calm_keeps core turn (later_losing now port c packet rest did at later is taken)
     by_same core turn (later_losing now port c packet rest did at later is taken) o tt
     (taken_behind _ core (changes port (left_with now rest) core) did (at_replica port (left_with now rest) core) taken) of
 calm_keeps core turn (tells_losing name did taken) o calm of = by_same core turn (tells_losing name did taken) o tt (taken_same (commands.Lost name) core did taken) of
-calm_keeps core turn forgets o calm of = by_same core turn forgets o tt (record { role = refl; joined = refl; stopped = refl }) of
+calm_keeps core turn forgets o calm of = by_same core turn forgets o tt (record { role = refl; joined = refl; stopped = refl; base = refl }) of
 calm_keeps core turn halts o calm of = stopped_not core
 calm_keeps core turn (fails port) o calm of =
     by_same core turn (fails port) o tt (same_state core (changes port failing core) (state_of (changes port failing core) core (at_replica port failing core))) of
-calm_keeps core turn unheard o calm of = by_same core turn unheard o tt (record { role = refl; joined = refl; stopped = refl }) of
+calm_keeps core turn unheard o calm of = by_same core turn unheard o tt (record { role = refl; joined = refl; stopped = refl; base = refl }) of
 calm_keeps core turn (drops port piece) o calm of =
     by_same core turn (drops port piece) o tt (same_state core (changes port closed core) (state_of (changes port closed core) core (at_replica port closed core))) of
 

@@ -1,6 +1,6 @@
 -- All that a node ever does where memory may be wanting: what it proposes for a connection is a beginning of what its client
 -- writes, and each packet that is read stands in its log at once.
-use Rattle.std.proofs.Common.{◌≡◌, ℕ, List, [], ◌∷◌, ◌++◌, length, refl, sym, ap, ◌∙◌, subst, filter, append_assoc}
+use Rattle.std.proofs.Common.{◌≡◌, ℕ, List, [], ◌++◌, length, refl, sym, ap, ◌∙◌, subst, filter, append_assoc}
 use Rattle.std.proofs.lemmas.List.{append-nil, length-append}
 use Rattle.std.proofs.lemmas.List.Elements.{filter-append}
 use Rattle.packet.specs.declared.packet.Packet.{Packet}
@@ -17,9 +17,10 @@ use Rattle.world_base.specs.Reading.{changes}
 use Rattle.node_model.specs.Ends.{IsEnd, IsOrderly, commands_of}
 use Rattle.node_model.specs.Ends.IsEnd.{not_yet}
 use Rattle.node_model.specs.LossyLaws.{LossesAreTaken, LossesProposeInOrder, ReadsOn}
-use Rattle.node_model.specs.LossyMoves.{LossyMoves, LossyRuns, bytes_on, came_on, proposal_of, proposals_of}
+use Rattle.node_model.specs.LossyMoves.{LossyMoves, came_on, proposal_of}
+use Rattle.node_model.specs.LossyRuns.{LossyRuns, bytes_on, proposals_of}
 use Rattle.node_model.specs.LossyMoves.LossyMoves.{exactly, hears_losing, first_losing, later_losing, tells_losing, forgets, halts, fails, unheard, drops}
-use Rattle.node_model.specs.LossyMoves.LossyRuns.{rests, goes_on}
+use Rattle.node_model.specs.LossyRuns.LossyRuns.{rests, goes_on}
 use Rattle.node_model.proofs.LossyOutputs.{delivers_replica}
 use Rattle.node_model.proofs.LossyReads.{losses_read_in_order}
 use Rattle.node_model.proofs.ProposesInOrder.{commands_join, front_of, opening_orderly, still_to_come}

@@ -25,10 +25,12 @@ use Rattle.world_base.specs.LossyStep.LosesFailed.{none_failed, tells_one}
 use Rattle.world_base.specs.LossyStep.ReadsNext.{waits, first, later, refuses as refuses_it, ends}
 use Rattle.world_base.specs.Reading.{changes, open_at, refused}
 use Rattle.world_base.specs.Turns.{quiet}
-use Rattle.node_model.specs.LossyMoves.{AllFreeze, Freezes, HandsNothing, HearsAtFirst, IsCalm, LossyMoves, LossyRuns, all_inputs, bytes_on, came_on, forgetful, halting, hears_in, inputs_in, is_handing, turn_of}
+use Rattle.node_model.specs.LossyMoves.{LossyMoves, came_on, forgetful, halting, hears_in, inputs_in, is_handing, turn_of}
+use Rattle.node_model.specs.LossyRuns.{AllFreeze, CutsNothing, Freezes, HandsNothing, HearsAtFirst, IsCalm, LossyRuns, all_inputs, bytes_on, cuts_in, exactly_cuts}
 use Rattle.node_model.specs.LossyMoves.LossyMoves.{exactly, hears_losing, first_losing, later_losing, tells_losing, forgets, halts, fails, unheard, drops}
-use Rattle.node_model.specs.LossyMoves.LossyRuns.{rests, goes_on}
-use Rattle.node_model.specs.Moves.{and_then}
+use Rattle.node_model.specs.LossyRuns.LossyRuns.{rests, goes_on}
+use Rattle.node_model.specs.Keeping.{moves_replica}
+use Rattle.node_model.specs.Moves.{Moves, and_then}
 use Rattle.node_model.specs.Moves.Moves.{hears, opens_one, holds, reads_first, reads_later, closes, refuses, loses_one, loses_next, cuts_log, crashes, settles, hands}
 use Rattle.node_model.proofs.StepsMove.{twice}
 
@@ -231,6 +233,18 @@ bytes_none rests still x = refl
 bytes_none (goes_on m run) still x = ap (λ l. l ++ bytes_on x run) (still.0.3 x) ∙ bytes_none run still.1 x
 
 -- in such a move no log is cut
+exactly_still : {core : CoreState} {turn : Turn} (m : Moves core turn) → moves_replica m ≡ false → exactly_cuts m ≡ false
+exactly_still (cuts_log can) calm = absurd cc
+exactly_still m calm = refl
+
+pub still_cuts : {core : CoreState} {turn : Turn} (m : LossyMoves core turn) → hears_in m ≡ false → cuts_in m ≡ false
+still_cuts (exactly m) calm = exactly_still m calm
+still_cuts m calm = refl
+
+pub calm_cuts_none : {core : CoreState} {turn : Turn} (run : LossyRuns core turn) → IsCalm run → CutsNothing run
+calm_cuts_none rests calm = tt
+calm_cuts_none (goes_on m run) calm = (still_cuts m calm.0, calm_cuts_none run calm.1)
+
 still_freezes : {core : CoreState} {turn : Turn} (m : LossyMoves core turn) → hears_in m ≡ false → Freezes m
 still_freezes (exactly (hears input other)) calm = tt
 still_freezes (exactly (opens_one port)) calm = tt
@@ -259,35 +273,39 @@ all_freeze : {core : CoreState} {turn : Turn} (run : LossyRuns core turn) → Ar
 all_freeze rests still = tt
 all_freeze (goes_on m run) still = (still_freezes m still.0.0, all_freeze run still.1)
 
--- a run in which these are heard, at first, and these bytes come
-pub record First (core : CoreState) (turn : Turn) (inputs : List (Input Command)) (bytes : ConnectionName → List ℕ) : Type 0 where
+-- a run in which these are heard, at first, or a log is cut where it may be, and these bytes come
+pub record First (core : CoreState) (turn : Turn) (inputs : List (Input Command)) (may_cut : Bool) (bytes : ConnectionName → List ℕ) : Type 0 where
   pub run : LossyRuns core turn
   pub first : HearsAtFirst run
   pub hears : all_inputs run ≡ inputs
   pub bytes_so : (x : ConnectionName) → bytes_on x run ≡ bytes x
   pub hands : HandsNothing run
+  pub cuts : may_cut ≡ false → CutsNothing run
   pub freezes : AllFreeze run
 
-pub first_calm : {core : CoreState} {turn : Turn} (bytes : ConnectionName → List ℕ) → ((x : ConnectionName) → bytes x ≡ []) → Calm core turn → First core turn [] bytes
-first_calm bytes none (rests, still) = record { run = rests; first = tt; hears = refl; bytes_so = λ x. sym (none x); hands = tt; freezes = tt }
-first_calm bytes none (goes_on m run, still) =
+pub first_calm : {core : CoreState} {turn : Turn} (may_cut : Bool) (bytes : ConnectionName → List ℕ) → ((x : ConnectionName) → bytes x ≡ []) → Calm core turn
+    → First core turn [] may_cut bytes
+first_calm may_cut bytes none (rests, still) = record { run = rests; first = tt; hears = refl; bytes_so = λ x. sym (none x); hands = tt; cuts = λ e. tt; freezes = tt }
+first_calm may_cut bytes none (goes_on m run, still) =
     record {
       run = goes_on m run;
       first = calm_of run still.1;
       hears = inputs_none (goes_on m run) still;
       bytes_so = λ x. bytes_none (goes_on m run) still x ∙ sym (none x);
       hands = hands_of (goes_on m run) still;
+      cuts = λ e. calm_cuts_none (goes_on m run) (calm_of (goes_on m run) still);
       freezes = all_freeze (goes_on m run) still;
     }
 
-pub first_move : {core : CoreState} {one next : Turn} (m : LossyMoves core one) (bytes : ConnectionName → List ℕ) → is_handing m ≡ false → ((x : ConnectionName) → came_on x m ≡ bytes x)
-    → Freezes m → Calm one.core next → First core (and_then one next) (inputs_in m) bytes
-first_move m bytes no_hand came frozen (run, still) =
+pub first_move : {core : CoreState} {one next : Turn} (m : LossyMoves core one) (may_cut : Bool) (bytes : ConnectionName → List ℕ) → is_handing m ≡ false
+    → ((x : ConnectionName) → came_on x m ≡ bytes x) → (may_cut ≡ false → cuts_in m ≡ false) → Freezes m → Calm one.core next → First core (and_then one next) (inputs_in m) may_cut bytes
+first_move m may_cut bytes no_hand came no_cut frozen (run, still) =
     record {
       run = goes_on m run;
       first = calm_of run still;
       hears = ap (λ l. inputs_in m ++ l) (inputs_none run still) ∙ append-nil (inputs_in m);
       bytes_so = λ x. ap (λ l. came_on x m ++ l) (bytes_none run still x) ∙ append-nil (came_on x m) ∙ came x;
       hands = (no_hand, hands_of run still);
+      cuts = λ e. (no_cut e, calm_cuts_none run (calm_of run still));
       freezes = (frozen, all_freeze run still);
     }

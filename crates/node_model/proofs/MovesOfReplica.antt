@@ -51,6 +51,7 @@ same_replica core later e =
       role = ap (λ (r : CountedReplica State Command). r.state.role) e;
       joined = ap (λ (r : CountedReplica State Command). r.state.joined) e;
       stopped = ap (λ (r : CountedReplica State Command). r.state.stopped) e;
+      base = ap (λ (r : CountedReplica State Command). r.state.log.base) e;
     }
 
 proposes_same : (command : Command) (core : CoreState) → Same core.replica.state (proposes command core).core.replica.state
@@ -61,13 +62,13 @@ proposes_same command core = by (serves core)
     by true =
         subst (λ (r : ReplicaState State Command). Same core.replica.state r) (sym (moved_replica (proposed rules core.replica.state command) core))
         (proposed_same rules core.replica.state command)
-    by false = record { role = refl; joined = refl; stopped = refl }
+    by false = record { role = refl; joined = refl; stopped = refl; base = refl }
 
 behind_same : (command : Command) (core between : CoreState) → between.replica ≡ core.replica → Same core.replica.state (proposes command between).core.replica.state
 behind_same command core between e =
     let s = proposes_same command between in
     let t = same_replica core between e in
-    record { role = s.role ∙ t.role; joined = s.joined ∙ t.joined; stopped = s.stopped ∙ t.stopped }
+    record { role = s.role ∙ t.role; joined = s.joined ∙ t.joined; stopped = s.stopped ∙ t.stopped; base = s.base ∙ t.base }
 
 opens_replica : (port : Port) (core : CoreState) → (opens port core).replica ≡ core.replica
 unfolding opens

@@ -1,6 +1,6 @@
 -- What a step of a replica makes of the ballot that it leads: it stays the same, or the replica leads none.
 use Rattle.std.proofs.Common.{◌≡◌, ◌⊎◌, inl, inr, ℕ, Bool, true, false, if◌then◌else◌, Option, Some, None, List, [], ◌∷◌, length, refl, sym, subst}
-use Rattle.std.specs.Prelude.{nat_lt, nat_le, ◌&&◌, ◌||◌, ◌==◌}
+use Rattle.std.specs.Prelude.{nat_lt, nat_le, ◌&&◌, ◌==◌}
 use Rattle.std.specs.List.{list_any}
 use Rattle.std.proofs.lemmas.Bool.{cases_Bool}
 use Rattle.ballot.specs.Applying.{applied_to}
@@ -12,7 +12,7 @@ use Rattle.ballot.specs.Changing.{answers_installed, hands_on, lacks, waits_for,
 use Rattle.ballot.specs.Machine.{Rules}
 use Rattle.ballot.specs.Protocol.{Input, received, ticked, replica_step}
 use Rattle.ballot.specs.Protocol.Input.{Receives, Proposes, Ticks}
-use Rattle.ballot.specs.Replica.{ReplicaState, is_active, is_fetching, is_installing, others, progress_at}
+use Rattle.ballot.specs.Replica.{ReplicaState, is_active, is_installing, others, progress_at}
 use Rattle.ballot.specs.Role.{Role}
 use Rattle.ballot.specs.Role.TheVariants.{Backup, Fetching, Installing, Active}
 use Rattle.ballot.specs.Sending.{Outcome, message_to, nothing_done}

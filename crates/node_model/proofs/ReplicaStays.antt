@@ -1,4 +1,4 @@
--- What a proposal leaves of a replica: its role, its ballot, and whether it stopped.
+-- What a proposal leaves of a replica: its role, its ballot, the base of its log, and whether it stopped.
 use Rattle.std.proofs.Common.{◌≡◌, ◌⊎◌, inl, inr, ℕ, ◌<◌, ◌≤◌, true, false, refl, sym, subst}
 use Rattle.std.proofs.lemmas.Bool.{cases_Bool, cases_lt}
 use Rattle.ballot.specs.Machine.{Rules}
@@ -8,30 +8,31 @@ use Rattle.ballot.specs.Sending.{Outcome}
 use Rattle.ballot.specs.Serving.{added, commit_at, least, most_places, proposed}
 use Rattle.ballot.proofs.StepRows.{added-is, commit_at-goes, commit_at-stays, proposed-adds, proposed-full, proposed-not_active}
 
--- the role, the ballot, and whether it stopped stay
+-- the role, the ballot, the base of the log, and whether it stopped stay
 pub record Same {S C : Type 0} (r s : ReplicaState S C) : Type 0 where
   pub role : s.role ≡ r.role
   pub joined : s.joined ≡ r.joined
   pub stopped : s.stopped ≡ r.stopped
+  pub base : s.log.base ≡ r.log.base
 
 pub commit_same : {S C O : Type 0} (rules : Rules S C O) (r : ReplicaState S C) (held : ℕ) → Same r (commit_at rules r held).state
 commit_same {S = S} {C = C} {O = O} rules r held = by (cases_lt r.committed held)
   where
     by : (r.committed < held) ⊎ (held ≤ r.committed) → Same r (commit_at rules r held).state
-    by (inl above) = subst (λ (o : Outcome S C O). Same r o.state) (sym (commit_at-goes rules r held above)) (record { role = refl; joined = refl; stopped = refl })
-    by (inr below) = subst (λ (o : Outcome S C O). Same r o.state) (sym (commit_at-stays rules r held below)) (record { role = refl; joined = refl; stopped = refl })
+    by (inl above) = subst (λ (o : Outcome S C O). Same r o.state) (sym (commit_at-goes rules r held above)) (record { role = refl; joined = refl; stopped = refl; base = refl })
+    by (inr below) = subst (λ (o : Outcome S C O). Same r o.state) (sym (commit_at-stays rules r held below)) (record { role = refl; joined = refl; stopped = refl; base = refl })
 
 pub added_same : {S C O : Type 0} (rules : Rules S C O) (r : ReplicaState S C) (c : C) → Same r (added rules r c).state
 added_same {S = S} {C = C} {O = O} rules r c =
     subst (λ (o : Outcome S C O). Same r o.state) (sym (added-is rules r c))
     (let k = commit_same rules (record r { log = pushed r.log c }) (least (places (pushed r.log c)) r.progress) in
-    record { role = k.role; joined = k.joined; stopped = k.stopped })
+    record { role = k.role; joined = k.joined; stopped = k.stopped; base = k.base })
 
 pub proposed_same : {S C O : Type 0} (rules : Rules S C O) (r : ReplicaState S C) (c : C) → Same r (proposed rules r c).state
 proposed_same {S = S} {C = C} {O = O} rules r c = by (cases_Bool (is_active r.role)) (cases_lt (places r.log) most_places)
   where
     nothing : Same r r
-    nothing = record { role = refl; joined = refl; stopped = refl }
+    nothing = record { role = refl; joined = refl; stopped = refl; base = refl }
 
     by : (is_active r.role ≡ true) ⊎ (is_active r.role ≡ false) → (places r.log < most_places) ⊎ (most_places ≤ places r.log) → Same r (proposed rules r c).state
     by (inl a) (inl room) = subst (λ (o : Outcome S C O). Same r o.state) (sym (proposed-adds rules r c a room)) (added_same rules r c)

@@ -8,5 +8,6 @@ pub mod Behind
 pub mod Keeping
 pub mod Hearing
 pub mod LossyMoves
+pub mod LossyRuns
 pub mod LossyLaws
 pub use Rattle.world_base.specs as world_base

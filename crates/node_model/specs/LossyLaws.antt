@@ -14,7 +14,8 @@ use Rattle.world_base.specs.Core.{CoreState, Turn, opening_core, serves}
 use Rattle.node_model.specs.Closed.{listed_named}
 use Rattle.node_model.specs.Ends.{IsEnd, IsOrderly, Proposes, commands_of, open_named}
 use Rattle.node_model.specs.Keeping.{AreOfTheBallot}
-use Rattle.node_model.specs.LossyMoves.{LossyMoves, LossyRuns, bytes_on, came_on, given_in, hears_in, is_handing, is_read, proposal_of, proposals_of, refusal_in}
+use Rattle.node_model.specs.LossyMoves.{LossyMoves, came_on, given_in, hears_in, is_handing, is_read, proposal_of, refusal_in}
+use Rattle.node_model.specs.LossyRuns.{LossyRuns, bytes_on, proposals_of}
 use Rattle.node_model.specs.Names.{IsNextName}
 use Rattle.node_model.specs.Puts.{outputs_of, spelled}
 

@@ -1,5 +1,5 @@
 -- What a node may do in a step where memory may be wanting, move by move: one of its moves, or one in which something is lost.
-use Rattle.std.specs.Prelude.{◌≡◌, ℕ, Bool, true, false, List, [], ◌∷◌, ◌++◌, Some, Ok}
+use Rattle.std.specs.Prelude.{◌≡◌, ℕ, Bool, true, false, List, [], ◌∷◌, Some, Ok}
 use Rattle.packet.specs.declared.packet.Packet.{Packet}
 use Rattle.packet.specs.declared.packet.Packet.TheVariants as packets
 use Rattle.packet.specs.declared.connect.Connect.{Connect}
@@ -7,28 +7,23 @@ use Rattle.packet.specs.Verdict.{verdict}
 use Rattle.ballot.specs.Effect.{Effect}
 use Rattle.ballot.specs.Losses.{halted, one_more}
 use Rattle.ballot.specs.Protocol.{Input}
-use Rattle.ballot.specs.Protocol.Input.{Receives, Ticks}
 use Rattle.broker_base.specs.Command.{Command}
 use Rattle.broker_base.specs.Command.TheVariants as commands
 use Rattle.broker_base.specs.Connection.{ConnectionName}
 use Rattle.broker_base.specs.Output.{Output}
 use Rattle.world_base.specs.declared.Port.{Port}
-use Rattle.world_base.specs.declared.item.Item.{Item}
-use Rattle.world_base.specs.declared.item.Item.TheVariants.{Peer, Tick, Bytes}
 use Rattle.world_base.specs.declared.Connection.{Connection}
 use Rattle.world_base.specs.Connections.{asked, closed, failing, is_first, left_with}
 use Rattle.world_base.specs.Core.{CoreState, Turn, rules}
 use Rattle.world_base.specs.Failing.{closes_failed}
 use Rattle.world_base.specs.Lossy.{Account, Drives, Takes}
-use Rattle.world_base.specs.LossyStep.{RunsOn}
 use Rattle.world_base.specs.Reading.{changes, open_at}
 use Rattle.world_base.specs.Turns.{quiet}
 use Rattle.node_model.specs.Closed.{refusal_in as exact_refusal}
 use Rattle.node_model.specs.Ends.{came_on as exact_came, is_read as exact_read, piece_on, proposal_of as exact_proposal}
 use Rattle.node_model.specs.Keeping.{moves_replica}
-use Rattle.node_model.specs.Moves.{Moves, and_then, is_proposal}
-use Rattle.node_model.specs.Moves.Deed.{takes, gives}
-use Rattle.node_model.specs.Moves.Moves.{hears, cuts_log}
+use Rattle.node_model.specs.Moves.{Moves, is_proposal}
+use Rattle.node_model.specs.Moves.Moves.{hears}
 use Rattle.node_model.specs.Puts.{given_in as exact_given, is_handing as exact_handing}
 
 -- ---- one move
@@ -69,11 +64,6 @@ pub data LossyMoves (core : CoreState) : Turn → Type 0 where
   unheard : LossyMoves core (quiet (closes_failed core))
   -- bytes come in on an open connection that is closed, since there is no memory for them
   drops : (port : Port) (piece : List ℕ) → LossyMoves core (quiet (changes port closed core))
-
--- moves one behind the other
-pub data LossyRuns : CoreState → Turn → Type 0 where
-  rests : {core : CoreState} → LossyRuns core (quiet core)
-  goes_on : {core : CoreState} {first next : Turn} → LossyMoves core first → LossyRuns first.core next → LossyRuns core (and_then first next)
 
 -- ---- what a move is
 
@@ -140,69 +130,3 @@ abbrev pub hears_in : {core : CoreState} {turn : Turn} → LossyMoves core turn 
 hears_in (exactly m) = moves_replica m
 hears_in (hears_losing input did other drives) = true
 hears_in _ = false
-
--- ---- runs
-
--- in no move of a run the replica hears something
-abbrev pub IsCalm : {core : CoreState} {turn : Turn} → LossyRuns core turn → Type 0
-IsCalm rests = Unit {0}
-IsCalm (goes_on m run) = (hears_in m ≡ false) × IsCalm run
-
--- in none but the first
-abbrev pub HearsAtFirst : {core : CoreState} {turn : Turn} → LossyRuns core turn → Type 0
-HearsAtFirst rests = Unit {0}
-HearsAtFirst (goes_on m run) = IsCalm run
-
--- the commands that a node proposes in a run, in order, and the bytes that come on the connection of a name
-abbrev pub proposals_of : {core : CoreState} {turn : Turn} → LossyRuns core turn → List Command
-proposals_of rests = []
-proposals_of (goes_on m run) = proposal_of m ++ proposals_of run
-
-abbrev pub bytes_on : ConnectionName → {core : CoreState} {turn : Turn} → LossyRuns core turn → List ℕ
-bytes_on x rests = []
-bytes_on x (goes_on m run) = came_on x m ++ bytes_on x run
-
-abbrev pub all_inputs : {core : CoreState} {turn : Turn} → LossyRuns core turn → List (Input Command)
-all_inputs rests = []
-all_inputs (goes_on m run) = inputs_in m ++ all_inputs run
-
--- nothing is handed over in it
-abbrev pub HandsNothing : {core : CoreState} {turn : Turn} → LossyRuns core turn → Type 0
-HandsNothing rests = Unit {0}
-HandsNothing (goes_on m run) = (is_handing m ≡ false) × HandsNothing run
-
--- the bytes to which a log is cut stand for its machine
-abbrev pub Freezes : {core : CoreState} {turn : Turn} → LossyMoves core turn → Type 0
-Freezes {core = core} (exactly (cuts_log can)) =
-    rules.thawed (rules.frozen core.replica.state.machine) ≡ Some core.replica.state.machine
-Freezes _ = Unit {0}
-
-abbrev pub AllFreeze : {core : CoreState} {turn : Turn} → LossyRuns core turn → Type 0
-AllFreeze rests = Unit {0}
-AllFreeze (goes_on m run) = Freezes m × AllFreeze run
-
--- ---- what a node does at the wish of others
-
--- what the replica hears with an item, and the bytes that come with it on the connection of a name
-abbrev pub heard_with : Item → List (Input Command)
-heard_with (Peer message) = Receives message ∷ []
-heard_with (Tick now) = Ticks ∷ []
-heard_with _ = []
-
-abbrev pub came_with : ConnectionName → Item → CoreState → List ℕ
-came_with x (Bytes port piece now) core = piece_on x piece (open_at port core)
-came_with x _ core = []
-
--- Each step that takes an item with losses is a run of such moves: the replica hears what comes with the item, in the first of them,
--- on each connection the bytes of the item come, nothing is handed over, and what is frozen can be read.
-pub record IsRunOn (item : Item) (core : CoreState) (turn : Turn) : Type 0 where
-  pub run : LossyRuns core turn
-  pub first : HearsAtFirst run
-  pub hears : all_inputs run ≡ heard_with item
-  pub bytes : (x : ConnectionName) → bytes_on x run ≡ came_with x item core
-  pub hands : HandsNothing run
-  pub freezes : AllFreeze run
-
-abbrev pub LossesAreMoves : Type 0
-LossesAreMoves = (item : Item) (core later : CoreState) (messages : List (Effect Command Output)) → RunsOn item core later messages →
-    IsRunOn item core (record { core = later; messages = messages })

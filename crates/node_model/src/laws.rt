@@ -7,7 +7,7 @@ ghost use Rattle.node_model.specs.Ends.{NodesProposeInOrder, NodesReadInOrder, R
 ghost use Rattle.node_model.specs.Hearing.{DeedsHearAtFirst};
 ghost use Rattle.node_model.specs.Keeping.{NamesKeepTheirBallot};
 ghost use Rattle.node_model.specs.LossyLaws.{LossesAreTaken, LossesProposeInOrder, LossesPutInOrder, LossesPutNothingOnClosed, LossesReadInOrder, LossyNamesAreOfTheBallot, LossyNamesKeepTheirBallot};
-ghost use Rattle.node_model.specs.LossyMoves.{LossesAreMoves};
+ghost use Rattle.node_model.specs.LossyRuns.{LossesAreMoves};
 ghost use Rattle.node_model.specs.Moves.{DeedsAreMoves};
 ghost use Rattle.node_model.specs.Names.{NewNamesAreOfTheBallot};
 ghost use Rattle.node_model.specs.Puts.{PutsInOrder};

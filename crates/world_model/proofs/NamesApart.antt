@@ -17,8 +17,9 @@ use Rattle.connection_model.specs.world_base.Core.{CoreState, Turn, rules}
 use Rattle.connection_model.specs.world_base.Turns.{quiet}
 use Rattle.connection_model.specs.node_model.Closed.{listed_named}
 use Rattle.connection_model.specs.node_model.Ends.{IsOrderly}
-use Rattle.connection_model.specs.node_model.LossyMoves.{AllFreeze, Freezes, LossyMoves, LossyRuns, all_inputs, given_in, inputs_in}
-use Rattle.connection_model.specs.node_model.LossyMoves.LossyRuns.{rests, goes_on}
+use Rattle.connection_model.specs.node_model.LossyMoves.{LossyMoves, given_in, inputs_in}
+use Rattle.connection_model.specs.node_model.LossyRuns.{AllFreeze, Freezes, LossyRuns, all_inputs}
+use Rattle.connection_model.specs.node_model.LossyRuns.LossyRuns.{rests, goes_on}
 use Rattle.connection_model.proofs.of_node_model.Kept.{named}
 use Rattle.connection_model.proofs.of_node_model.LossyClosed.{lossy_names_are_of_the_ballot}
 use Rattle.connection_model.proofs.of_node_model.LossyReads.{losses_read_in_order}

@@ -20,8 +20,8 @@ use Rattle.connection_model.specs.world_base.Step.{next_name}
 use Rattle.connection_model.specs.node_model.Ends.{IsGiven, IsOrderly}
 use Rattle.connection_model.specs.node_model.Moves.{Deed, Runs, done}
 use Rattle.connection_model.specs.node_model.Moves.Deed.{takes, gives}
-use Rattle.connection_model.specs.node_model.LossyMoves.{IsRunOn, LossyRuns, came_with}
-use Rattle.connection_model.specs.node_model.LossyMoves.LossyRuns.{rests, goes_on}
+use Rattle.connection_model.specs.node_model.LossyRuns.{IsRunOn, LossyRuns, came_with}
+use Rattle.connection_model.specs.node_model.LossyRuns.LossyRuns.{rests, goes_on}
 use Rattle.connection_model.proofs.of_node_model.LossyReads.{losses_read_in_order}
 use Rattle.connection_model.specs.group_model.Group.{Group}
 use Rattle.connection_model.specs.group_model.Goes.{MayGo, Went}

@@ -1,43 +1,21 @@
 -- A connection that its node does not take changes nothing for the clients, and what holds of all connections is kept.
-use Rattle.std.proofs.Common.{◌≡◌, ◌⊎◌, inl, inr, ℕ, zero, suc, Bool, true, false, ◌&&◌, ◌||◌, ◌==◌, List, [], ◌∷◌, ◌++◌, Option, Some, None, set, slice_get, refl, sym, ap, ◌∙◌, subst}
-use Rattle.std.specs.List.{find, list_any}
+use Rattle.std.proofs.Common.{◌≡◌, ◌⊎◌, inl, inr, ℕ, false, Option, Some, None, slice_get, refl, sym, ap, ◌∙◌, subst}
 use Rattle.std.proofs.lemmas.Bool.{both_ways}
-use Rattle.packet.specs.Spelling.{IsPacket}
-use Rattle.packet.specs.declared.packet.Packet.TheVariants as packets
 use Rattle.ballot.specs.Config.{Config}
-use Rattle.broker_base.specs.Connection.{ConnectionName, same_connection}
-use Rattle.client_base.specs.Called.{new_connection}
+use Rattle.broker_base.specs.Connection.{ConnectionName}
 use Rattle.lists.specs.Lists.{In}
-use Rattle.lists.specs.Lists.In.{here, there}
-use Rattle.lists.proofs.Places.{get_set, get_set_other}
-use Rattle.lists.proofs.Tests.{eq_same}
-use Rattle.model.proofs.Lists.{same_or_other, set_get}
-use Rattle.pipes.specs.Pipe.{Joins}
-use Rattle.story.specs.Sides.{Connection}
-use Rattle.story.proofs.Takes.{same_name_self}
 use Rattle.connection_model.specs.world_base.declared.Connection.{Connection as NodesEnd}
 use Rattle.connection_model.specs.world_base.declared.item.Item.TheVariants.{Opened}
 use Rattle.connection_model.specs.world_base.declared.Port.{Port}
 use Rattle.connection_model.specs.world_base.Core.{CoreState}
 use Rattle.connection_model.specs.world_base.Connections.{is_at}
 use Rattle.connection_model.specs.world_base.Handing.{listed_at}
-use Rattle.connection_model.specs.world_base.Step.{next_name}
-use Rattle.connection_model.specs.node_model.Ends.{IsGiven, Precedes}
-use Rattle.connection_model.specs.node_model.Moves.{Deed}
 use Rattle.connection_model.specs.node_model.Moves.Deed.{takes}
-use Rattle.connection_model.specs.node_model.Puts.{spelled}
-use Rattle.connection_model.proofs.of_node_model.Kept.{named}
-use Rattle.connection_model.proofs.of_node_model.NamesInOrder.{next_precedes, not_both}
 use Rattle.connection_model.specs.group_model.Goes.{Went}
 use Rattle.connection_model.specs.group_model.Goes.Went.{then_went}
-use Rattle.connection_model.proofs.of_group_model.NamesInGroups.{all_well, each_got}
-use Rattle.connection_model.specs.Streams.{comes_up, goes_down}
-use Rattle.world_model.specs.Apart.{HasName}
-use Rattle.world_model.specs.Goes.{Does, after_connecting, deed_of}
-use Rattle.world_model.specs.World.{ClientPipes, HasPipe, Pipe, World, is_used, leads_to, packets_of, with_client}
-use Rattle.world_model.proofs.NamesApart.{names_stay_apart}
-use Rattle.world_model.proofs.NodesGoOn.{IsOpened, StoodAs, carries_with, of_each, stood_as}
-use Rattle.world_model.proofs.OnTheWay.{joins_more}
+use Rattle.world_model.specs.Goes.{Does, deed_of}
+use Rattle.world_model.specs.World.{HasPipe, World, is_used}
+use Rattle.world_model.proofs.NodesGoOn.{IsOpened, of_each, stood_as}
 use Rattle.world_model.proofs.PipesHold.{is_the_port, none_found}
 use Rattle.world_model.proofs.OpensUnused.{OpensUnused, opens_unused}
 use Rattle.world_model.proofs.PortsKept.{IsOfOld}

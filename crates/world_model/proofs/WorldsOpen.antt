@@ -1,6 +1,6 @@
 -- A connection that a client opens gets a name that none had, and what holds of all connections is kept.
-use Rattle.std.proofs.Common.{◌≡◌, ◌⊎◌, inl, inr, ℕ, zero, suc, Bool, true, false, ◌&&◌, ◌||◌, ◌==◌, List, [], ◌∷◌, ◌++◌, Option, Some, None, set, slice_get, refl, sym, ap, ◌∙◌, subst}
-use Rattle.std.specs.List.{find, list_any}
+use Rattle.std.proofs.Common.{◌≡◌, ◌⊎◌, inl, inr, ℕ, zero, suc, false, List, [], ◌++◌, Option, Some, None, set, slice_get, refl, sym, ap, ◌∙◌, subst}
+use Rattle.std.specs.List.{find}
 use Rattle.std.proofs.lemmas.Bool.{both_ways}
 use Rattle.packet.specs.Spelling.{IsPacket}
 use Rattle.packet.specs.declared.packet.Packet.TheVariants as packets
@@ -10,7 +10,6 @@ use Rattle.client_base.specs.Called.{new_connection}
 use Rattle.lists.specs.Lists.{In}
 use Rattle.lists.specs.Lists.In.{here, there}
 use Rattle.lists.proofs.Places.{get_set, get_set_other}
-use Rattle.lists.proofs.Tests.{eq_same}
 use Rattle.model.proofs.Lists.{same_or_other, set_get}
 use Rattle.pipes.specs.Pipe.{Joins}
 use Rattle.story.specs.Sides.{Connection}
@@ -22,7 +21,6 @@ use Rattle.connection_model.specs.world_base.Core.{CoreState}
 use Rattle.connection_model.specs.world_base.Handing.{listed_at}
 use Rattle.connection_model.specs.world_base.Step.{next_name}
 use Rattle.connection_model.specs.node_model.Ends.{IsGiven, Precedes}
-use Rattle.connection_model.specs.node_model.Moves.{Deed}
 use Rattle.connection_model.specs.node_model.Moves.Deed.{takes}
 use Rattle.connection_model.specs.node_model.Puts.{spelled}
 use Rattle.connection_model.proofs.of_node_model.Kept.{named}
@@ -30,12 +28,11 @@ use Rattle.connection_model.proofs.of_node_model.NamesInOrder.{next_precedes, no
 use Rattle.connection_model.specs.group_model.Goes.{Went}
 use Rattle.connection_model.specs.group_model.Goes.Went.{then_went}
 use Rattle.connection_model.proofs.of_group_model.NamesInGroups.{all_well, each_got}
-use Rattle.connection_model.specs.Streams.{comes_up, goes_down}
 use Rattle.world_model.specs.Apart.{HasName}
 use Rattle.world_model.specs.Goes.{Does, after_connecting, deed_of}
-use Rattle.world_model.specs.World.{ClientPipes, HasPipe, Pipe, World, is_used, leads_to, packets_of, with_client}
+use Rattle.world_model.specs.World.{ClientPipes, HasPipe, Pipe, World, is_used, packets_of, with_client}
 use Rattle.world_model.proofs.NamesApart.{names_stay_apart}
-use Rattle.world_model.proofs.NodesGoOn.{IsOpened, StoodAs, carries_with, of_each, stood_as}
+use Rattle.world_model.proofs.NodesGoOn.{IsOpened, StoodAs, of_each, stood_as}
 use Rattle.world_model.proofs.OnTheWay.{joins_more}
 use Rattle.world_model.proofs.PipesHold.{IsListed, PipeHolds, listed_there, none_found}
 use Rattle.world_model.proofs.OpensUnused.{OpensUnused, opens_unused}

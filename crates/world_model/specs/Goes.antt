@@ -1,5 +1,5 @@
 -- What may happen in a world of clients and a group of nodes.
-use Rattle.std.specs.Prelude.{◌≡◌, ℕ, Bool, true, false, List, [], ◌∷◌, ◌++◌, Option, Some, None, Ok, slice_get}
+use Rattle.std.specs.Prelude.{◌≡◌, ℕ, true, false, List, [], ◌∷◌, ◌++◌, Option, Some, None, Ok, slice_get}
 use Rattle.packet.specs.Spelling.{IsPacket}
 use Rattle.packet.specs.declared.packet.Packet.{Packet}
 use Rattle.packet.specs.declared.packet.Packet.TheVariants as packets
@@ -17,65 +17,15 @@ use Rattle.story.specs.Story.{Story, Happens}
 use Rattle.model.specs.Goes.{is_call}
 use Rattle.connection_model.specs.world_base.declared.Connection.{Connection as NodesEnd}
 use Rattle.connection_model.specs.world_base.declared.Port.{Port}
-use Rattle.connection_model.specs.world_base.declared.item.Item.TheVariants.{Peer, Tick, Opened, Bytes, Ended, Cut, Crash}
-use Rattle.connection_model.specs.world_base.Core.{CoreState, Turn}
+use Rattle.connection_model.specs.world_base.declared.item.Item.TheVariants.{Opened, Bytes}
+use Rattle.connection_model.specs.world_base.Core.{CoreState}
 use Rattle.connection_model.specs.world_base.Handing.{listed_at}
-use Rattle.connection_model.specs.world_base.Reading.{open_at}
-use Rattle.connection_model.specs.node_model.Ends.{bytes_on, piece_on}
-use Rattle.connection_model.specs.node_model.Moves.{Deed, Runs}
+use Rattle.connection_model.specs.node_model.Moves.{Deed}
 use Rattle.connection_model.specs.node_model.Moves.Deed.{takes, gives}
 use Rattle.connection_model.specs.node_model.Puts.{spelled}
-use Rattle.connection_model.specs.group_model.Group.{Group}
-use Rattle.connection_model.specs.group_model.Goes.{MayGo}
-use Rattle.connection_model.specs.group_model.Goes.MayGo.{node_acts, node_loses, master_assigns, master_hears, assigns_unheard, answers_unheard}
-use Rattle.connection_model.specs.Streams.{bytes_named, handed_in_run}
 use Rattle.connection_model.specs.Streams.{goes_down as goes_down_in}
+pub use Rattle.world_model.specs.Carrying.{CarriesItsBytes, Does, IsFaithful, coming_with, deed_of, going_with, is_apart}
 use Rattle.world_model.specs.World.{ClientPipes, HasPipe, Pipe, World, after_writing, is_used, newly_written, opening, packets_of, sent_up, with_client, with_pipe}
-
--- ---- what a node does for a connection
-
--- the bytes that come on the connection of a name with a deed, and those that are handed over on it
-abbrev pub coming_with : ConnectionName → Deed → CoreState → List ℕ
-coming_with x (takes (Bytes port piece now)) core = piece_on x piece (open_at port core)
-coming_with x _ core = []
-
-abbrev pub going_with : ConnectionName → Deed → CoreState → List ℕ
-going_with x (gives port) core = bytes_named x (listed_at port core)
-going_with x _ core = []
-
--- the moves of a node carry just the bytes of its deed
-abbrev pub CarriesItsBytes : {core : CoreState} {turn : Turn} → Deed → Runs core turn → Type 0
-CarriesItsBytes {core = core} deed run = (x : ConnectionName) → (bytes_on x run ≡ coming_with x deed core) × (handed_in_run x run ≡ going_with x deed core)
-
--- where an item is taken with losses they do in any case
-abbrev pub IsFaithful : {g h : Group} → MayGo g h → Type 0
-IsFaithful (node_acts n core deed turn run at is first sent) = CarriesItsBytes deed run
-IsFaithful (node_loses n core item turn kept by at runs sent thinned) = Unit {0}
-IsFaithful (master_assigns config) = Unit {0}
-IsFaithful (master_hears from ballot sent) = Unit {0}
-IsFaithful (assigns_unheard config) = Unit {0}
-IsFaithful (answers_unheard from ballot sent) = Unit {0}
-
--- the deed of a step, at a node
-abbrev pub deed_of : {g h : Group} → MayGo g h → Option (ℕ × Deed)
-deed_of (node_acts n core deed turn run at is first sent) = Some (n, deed)
-deed_of (node_loses n core item turn kept by at runs sent thinned) = Some (n, takes item)
-deed_of (master_assigns config) = None
-deed_of (master_hears from ballot sent) = None
-deed_of (assigns_unheard config) = None
-deed_of (answers_unheard from ballot sent) = None
-
--- a deed that a client's connection has no part in, but that it may end
-abbrev pub is_apart : Option (ℕ × Deed) → Bool
-is_apart None = true
-is_apart (Some (n, takes (Peer message))) = true
-is_apart (Some (n, takes (Tick now))) = true
-is_apart (Some (n, takes (Ended port))) = true
-is_apart (Some (n, takes Cut)) = true
-is_apart (Some (n, takes Crash)) = true
-is_apart (Some (n, takes (Opened port now))) = false
-is_apart (Some (n, takes (Bytes port piece now))) = false
-is_apart (Some (n, gives port)) = false
 
 -- ---- what a client does
 
@@ -108,13 +58,6 @@ after_packet others pipes p left side c =
     }
 
 -- ---- the step
-
--- a step of the group with this deed, in which just the bytes of the deed are carried
-pub record Does (g : Group) (deed : Option (ℕ × Deed)) : Type 0 where
-  pub behind : Group
-  pub step : MayGo g behind
-  pub is : deed_of step ≡ deed
-  pub faithful : IsFaithful step
 
 -- of what clients write all can be spelled
 abbrev pub CanBeSpelled : List Connection → List Connection → Type 0

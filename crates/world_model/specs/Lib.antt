@@ -1,4 +1,5 @@
 pub mod World
+pub mod Carrying
 pub mod Goes
 pub mod Carried
 pub mod Published
