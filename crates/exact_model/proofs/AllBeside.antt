@@ -9,7 +9,7 @@ use Rattle.broker_base.specs.Place.{Client}
 use Rattle.lists.specs.Lists.{Each}
 use Rattle.story.specs.Headline.{ExactlyOnce}
 use Rattle.agreement.specs.World.{can_open}
-use Rattle.agreement.proofs.Agreed.PastAgrees.{has_agreed}
+use Rattle.world_model.proofs.of_group_model.of_snapshots.PastsAgree.{has_agreed}
 use Rattle.model.specs.World.{AreApart, ClientEnds, opening as opening_beside, story_of as story_beside}
 use Rattle.model.specs.World as model
 use Rattle.model.specs.Goes.Reached.{begins as begins_beside}

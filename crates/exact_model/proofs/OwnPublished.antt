@@ -12,7 +12,7 @@ use Rattle.session_base.specs.Publication.{is_answered}
 use Rattle.session_base.specs.declared.publication.Publication.{Publication}
 use Rattle.cutter.specs.Stream.{Stream, Takes}
 use Rattle.ballot.specs.Config.{Config}
-use Rattle.agreement.proofs.Agreed.PastAgrees.{has_agreed}
+use Rattle.world_model.proofs.of_group_model.of_snapshots.PastsAgree.{has_agreed}
 use Rattle.broker_base.specs.Command.{Command}
 use Rattle.broker_base.specs.Commands.{past_of, usual_limits}
 use Rattle.broker_base.specs.Connection.{ConnectionName}
