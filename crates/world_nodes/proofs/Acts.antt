@@ -84,11 +84,15 @@ deed_sent old (suc n) at core (Ended port) place positive sent g s = tt
 deed_sent old (suc n) at core Cut place positive sent g s = absurd sent
 deed_sent old (suc n) at core Crash place positive sent g s = tt
 
--- the nodes behind the turn of one
+-- the nodes after the turn of one, and where the record has changed
 abbrev pub behind_turn_of : ℕ → CountedCore → List (ℕ × Message Command) → ℕ → NodesState → NodesState
 behind_turn_of at new more losses old = record old { nodes = slice_set old.nodes at new; sent = more; losses = losses }
 
-whole_turn : (old : NodesState) (at : ℕ) (core new : CountedCore) (item : Item) (more : List (ℕ × Message Command))
+abbrev pub behind_turn_with : ℕ → CountedCore → List (ℕ × Message Command) → List Command → ℕ → NodesState → NodesState
+behind_turn_with at new more archive losses old =
+    record old { nodes = slice_set old.nodes at new; sent = more; archive = archive; losses = losses }
+
+pub whole_turn : (old : NodesState) (at : ℕ) (core new : CountedCore) (item : Item) (more : List (ℕ × Message Command))
     → TookItem core item new old.sent more true → behind_turn_of at new more old.losses old ≡ behind_deed at core (takes item) old
 whole_turn old at core new item more t =
     let e = t.exact refl in

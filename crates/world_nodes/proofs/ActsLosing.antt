@@ -1,5 +1,5 @@
 -- What a node does in a step with losses, too, is what a group that stands for the nodes may do.
-use Rattle.std.proofs.Common.{◌≡◌, ◌-◌, ℕ, Bool, List, ◌++◌, Some, refl, sym, ap, ◌∙◌, subst}
+use Rattle.std.proofs.Common.{◌≡◌, ◌-◌, ℕ, Bool, false, List, ◌++◌, Some, refl, sym, ap, ◌∙◌, subst}
 use Rattle.std.specs.Prelude.{slice_get, slice_set}
 use Rattle.ballot.specs.Message.{Message}
 use Rattle.master.specs.snapshots.World.{messages}
@@ -7,19 +7,53 @@ use Rattle.broker_base.specs.Command.{Command}
 use Rattle.world_base.specs.declared.item.Item.{Item}
 use Rattle.world_base.specs.declared.item.Item.TheVariants.{Peer, Tick, Opened, Bytes, Ended, Cut, Crash}
 use Rattle.world_base.specs.Core.{CoreState, CountedCore, Turn}
-use Rattle.world_model.specs.node_model.LossyMoves.{IsRunOn, heard_with}
+use Rattle.world_model.specs.node_model.LossyRuns.{IsRunOn, heard_with, is_cut}
 use Rattle.world_model.specs.node_model.Moves.Deed.{takes}
 use Rattle.world_model.proofs.of_node_model.LossesAreMoves.{losses_are_moves}
-use Rattle.world_model.specs.group_model.Group.{Group, behind_turn}
+use Rattle.world_model.specs.group_model.Group.{Group, behind_turn, with_record}
 use Rattle.world_model.specs.group_model.Goes.{keeping}
 use Rattle.world_model.specs.group_model.Goes.MayGo.{node_loses}
-use Rattle.world_model.specs.group_model.Losing.{WereSent, all_given}
+use Rattle.world_model.specs.group_model.Losing.{WereSent, all_given, recorded_in}
 use Rattle.world_model.specs.Deeds.{DeedWasSent}
 use Rattle.world_model.proofs.of_group_model.Placed.{get_mapped, set_mapped}
-use Rattle.world_nodes.specs.Nodes.{NodesState}
+use Rattle.world_model.proofs.of_group_model.Recorded.{records_none, records_to}
+use Rattle.world_nodes.specs.Nodes.{NodesState, StandsFor}
 use Rattle.world_nodes.specs.Goes.{Acts}
 use Rattle.world_nodes.specs.Inside.{RunsAt, TookItem, WasSent}
-use Rattle.world_nodes.proofs.Acts.{behind_turn_of, core_in, deed_sent}
+use Rattle.world_nodes.specs.Steps.{recorded_if_cut}
+use Rattle.world_nodes.proofs.Acts.{behind_turn_of, behind_turn_with, core_in, deed_sent}
+
+-- ---- any item
+
+abbrev turn_of : {core new : CountedCore} {item : Item} {sent more : List (ℕ × Message Command)} {whole : Bool} → TookItem core item new sent more whole → Turn
+turn_of {new = new} t = record { core = new.core; messages = t.wanted }
+
+abbrev run_of : {core new : CountedCore} {item : Item} {sent more : List (ℕ × Message Command)} {whole : Bool} → (t : TookItem core item new sent more whole) → IsRunOn item core.core (turn_of t)
+run_of {core = core} {new = new} {item = item} t = losses_are_moves item core.core new.core t.wanted t.runs
+
+-- a node that took an item in, whether memory sufficed or not; the record has what the moves of its step add
+loses_so : (old : NodesState) (at : ℕ) (core new : CountedCore) (item : Item) (more : List (ℕ × Message Command)) (archive : List Command) (whole : Bool) (losses : ℕ)
+    → slice_get old.nodes at ≡ Some core → (t : TookItem core item new old.sent more whole) → ((g : Group) → StandsFor g old → WereSent g at (heard_with item))
+    → recorded_in old.archive (run_of t).run ≡ archive → Acts at (takes item) old (behind_turn_with at new more archive losses old)
+loses_so old at core new item more archive whole losses there t sent records g s =
+    let by = run_of t in
+    let found : slice_get g.nodes at ≡ Some core.core = ap (λ (l : List CoreState). slice_get l at) s.nodes ∙ get_mapped core_in old.nodes at core there in
+    record {
+      does = record {
+        behind = behind_turn (with_record g (recorded_in g.archive by.run)) at (keeping t.kept (turn_of t)) (all_given by.run);
+        step = node_loses at core.core item (turn_of t) t.kept by found t.runs (sent g s) t.thinned;
+        is = refl;
+        faithful = tt;
+      };
+      stands = record {
+        master = s.master;
+        nodes = ap (λ (l : List CoreState). slice_set l at new.core) s.nodes ∙ sym (set_mapped core_in old.nodes at new);
+        sent = ap (λ (l : List (ℕ × Message Command)). l ++ messages t.kept) s.sent ∙ sym t.is;
+        archive = ap (λ (l : List Command). recorded_in l by.run) s.archive ∙ records;
+      };
+    }
+
+-- ---- an item that is no cut
 
 were_sent : (g : Group) (at : ℕ) (core : CoreState) (item : Item) → DeedWasSent g at core (takes item) → WereSent g at (heard_with item)
 were_sent g at core (Peer message) sent = (sent, tt)
@@ -30,25 +64,29 @@ were_sent g at core (Ended port) sent = tt
 were_sent g at core Cut sent = tt
 were_sent g at core Crash sent = tt
 
--- a node that took an item in, whether memory sufficed or not
+no_cut : (node : ℕ) (item : Item) (sent : List (ℕ × Message Command)) → WasSent node item sent → is_cut item ≡ false
+no_cut node (Peer message) sent was = refl
+no_cut node (Tick now) sent was = refl
+no_cut node (Opened port now) sent was = refl
+no_cut node (Bytes port piece now) sent was = refl
+no_cut node (Ended port) sent was = refl
+no_cut node Cut sent was = absurd was
+no_cut node Crash sent was = refl
+
 pub turn_loses : (old : NodesState) (node at : ℕ) (x : RunsAt old.nodes node at) (new : CountedCore) (item : Item) (more : List (ℕ × Message Command)) (whole : Bool) (losses : ℕ)
     → TookItem x.core item new old.sent more whole → WasSent node item old.sent → Acts (node - 1) (takes item) old (behind_turn_of at new more losses old)
 turn_loses old node at x new item more whole losses t sent =
+    let by = run_of t in
     subst (λ (k : ℕ). Acts k (takes item) old (behind_turn_of at new more losses old)) x.place
-    (λ g s.
-    let turn : Turn = record { core = new.core; messages = t.wanted } in
-    let by : IsRunOn item x.core.core turn = losses_are_moves item x.core.core new.core t.wanted t.runs in
-    let found : slice_get g.nodes at ≡ Some x.core.core = ap (λ (l : List CoreState). slice_get l at) s.nodes ∙ get_mapped core_in old.nodes at x.core x.stands in
-    record {
-      does = record {
-        behind = behind_turn g at (keeping t.kept turn) (all_given by.run);
-        step = node_loses at x.core.core item turn t.kept by found t.runs (were_sent g at x.core.core item (deed_sent old node at x.core.core item x.place x.positive sent g s)) t.thinned;
-        is = refl;
-        faithful = tt;
-      };
-      stands = record {
-        master = s.master;
-        nodes = ap (λ (l : List CoreState). slice_set l at new.core) s.nodes ∙ sym (set_mapped core_in old.nodes at new);
-        sent = ap (λ (l : List (ℕ × Message Command)). l ++ messages t.kept) s.sent ∙ sym t.is;
-      };
-    })
+    (loses_so old at x.core new item more old.archive whole losses x.stands t
+    (λ g s. were_sent g at x.core.core item (deed_sent old node at x.core.core item x.place x.positive sent g s))
+    (records_none old.archive by.run (by.cuts (no_cut node item old.sent sent))))
+
+-- ---- a cut
+
+pub cut_loses : (old : NodesState) (at : ℕ) (core new : CountedCore) (more : List (ℕ × Message Command)) (archive : List Command) (whole : Bool) (losses : ℕ)
+    → slice_get old.nodes at ≡ Some core → TookItem core Cut new old.sent more whole → archive ≡ recorded_if_cut old.archive core new
+    → Acts at (takes Cut) old (behind_turn_with at new more archive losses old)
+cut_loses old at core new more archive whole losses there t is =
+    let by = run_of t in
+    loses_so old at core new Cut more archive whole losses there t (λ g s. tt) (records_to old.archive by.run by.first by.hears ∙ sym is)

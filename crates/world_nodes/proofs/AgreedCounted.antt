@@ -1,16 +1,13 @@
 -- The counters of nodes give the length of the agreed list, and the record with the log of a member the list.
-use Rattle.std.proofs.Common.{◌≡◌, ℕ, ◌<◌, ◌≤◌, ◌-◌, ◌^◌, List, [], ◌∷◌, ◌++◌, length, take, map, get_or, zero, suc, Option, None, Some, refl, sym, ap, ◌∙◌, subst, arith}
+use Rattle.std.proofs.Common.{◌≡◌, ℕ, ◌<◌, ◌≤◌, ◌-◌, ◌^◌, List, [], ◌∷◌, ◌++◌, length, take, map, get_or, zero, suc, Option, None, Some, sym, ap, ◌∙◌, subst, arith}
 use Rattle.std.specs.Prelude.{slice_get}
 use Rattle.std.proofs.lemmas.List.{length-map}
 use Rattle.lists.specs.Lists.{In}
-use Rattle.ballot.specs.Config.{Config}
 use Rattle.ballot.specs.Message.{Message}
 use Rattle.ballot.specs.Replica.{ReplicaState, status_of}
 use Rattle.ballot.specs.Status.{Status}
 use Rattle.agreement.specs.MasterState.{MasterState}
-use Rattle.master.specs.snapshots.Past.{IsAgreed, Moment, Past}
 use Rattle.broker_base.specs.Command.{Command}
-use Rattle.broker_base.specs.Output.{Output}
 use Rattle.broker_base.specs.State.{State}
 use Rattle.world_base.specs.Core.{CoreState, CountedCore, rules}
 use Rattle.world_model.specs.group_model.Group.{Group, moment_of, replica_of}
@@ -78,6 +75,7 @@ holds_in n g count at stands h =
 pub recorded_agrees : (n : NodesState) (count at base : ℕ) (read : List Command) → AgreeOnSoMany n count
     → (h : HoldsAt (replicas_of n.nodes) n.master.members count at) → base ≡ h.replica.log.base → count ≤ base → read ≡ n.archive
     → AgreeOn n (take count read ++ [])
+unfolding holds_in
 recorded_agrees n count at base read many h same low seen config g earlier stands came =
     agreed_read rules config (moment_of g) earlier count at base read came (λ xs is. many config g earlier stands came xs is)
     (holds_in n g count at stands h) same low (seen ∙ sym stands.archive)
@@ -86,6 +84,7 @@ recorded_agrees n count at base read many h same low seen config g earlier stand
 pub front_agrees : (n : NodesState) (count at base : ℕ) (read rest : List Command) → AgreeOnSoMany n count
     → (h : HoldsAt (replicas_of n.nodes) n.master.members count at) → base ≡ h.replica.log.base → base < count → read ≡ n.archive
     → rest ≡ h.replica.log.rest → AgreeOn n (take base read ++ take (count - base) rest)
+unfolding holds_in
 front_agrees n count at base read rest many h same high seen kept config g earlier stands came =
     agreed_read_on rules config (moment_of g) earlier count at base read rest came (λ xs is. many config g earlier stands came xs is)
     (holds_in n g count at stands h) same high (seen ∙ sym stands.archive) kept

@@ -1,5 +1,5 @@
 -- What nodes count stays what their messages tell, behind what nodes do.
-use Rattle.std.proofs.Common.{◌≡◌, ℕ, true, List, ◌++◌, length, take, get_or, refl, sym, ap, ◌∙◌, subst}
+use Rattle.std.proofs.Common.{◌≡◌, ℕ, true, List, ◌++◌, length, take, get_or, sym, ap, ◌∙◌, subst}
 use Rattle.ballot.specs.Config.{Config}
 use Rattle.ballot.specs.Message.{Message}
 use Rattle.agreement.specs.MasterState.{MasterState}

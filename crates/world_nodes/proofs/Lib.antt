@@ -2,6 +2,7 @@ mod Acts
 mod ActsLosing
 mod AgreedCounted
 mod CountsGoOn
+mod Cutting
 mod HandsOver
 mod Opens
 mod KeepsAll

@@ -14,7 +14,7 @@ use Rattle.world_base.specs.declared.item.Item.TheVariants.{Cut, Peer}
 use Rattle.world_base.specs.Core.{CountedCore, rules}
 use Rattle.world_base.specs.LossyStep.{RunsOn}
 use Rattle.world_base.specs.Step.{node_step}
-use Rattle.master.specs.Inside.{HoldsAt, IsGroup, ToldIn, held_by}
+use Rattle.master.specs.Inside.{IsGroup, ToldIn, held_by}
 use Rattle.world_model.specs.group_model.Group.{Group, moment_of, replica_of}
 use Rattle.world_nodes.specs.Goes.{running}
 use Rattle.world_nodes.specs.Nodes.{NodesState, StandsFor, cores_of}

@@ -14,7 +14,7 @@ ghost use Rattle.world_nodes.specs.Inside.{RunsAt, WasSent};
 
 use crate::keeping::counted;
 use crate::nodes::Nodes;
-use crate::turning::take_in;
+use crate::turning::{cut_back, take_in};
 use broker::BrokerMachine;
 use master::{Idle, answer_of, config_of, record, tell};
 use world_base::{Body, Command, Config, Item, Members, Memory, Message};
@@ -70,9 +70,8 @@ impl Nodes {
         let core = &mut self.nodes[at];
         let from = self.sent.len();
         let whole = take_in(self.alloc, core, Item::Cut, &mut self.sent);
-        if core.snapshot().0 <= base {
-            self.archive.truncate(before);
-        }
+        let was_cut = core.snapshot().0 > base;
+        cut_back(&mut self.archive, before, was_cut);
         self.counters.hear_from(&self.sent, from);
         self.losses = counted(self.losses, whole, true);
     }

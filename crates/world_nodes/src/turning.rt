@@ -1,6 +1,6 @@
 // The turn of one node.
 
-ghost use Rattle.std.specs.Prelude.{◌≡◌};
+ghost use Rattle.std.specs.Prelude.{◌≡◌, take, if◌then◌else◌};
 ghost use Rattle.world_nodes.specs.Inside.{TookItem};
 
 use crate::keeping::keep_all;
@@ -22,4 +22,14 @@ pub fn take_in(
     node.step(item, &mut effects);
     let whole = node.losses() == before && before < u64::MAX;
     keep_all(effects, sent) && whole
+}
+
+/// Cuts the record back to the places that it had before, where a log was not cut.
+pub fn cut_back(archive: &mut Vec<Command>, before: usize, was_cut: bool)
+    ensures { archive.new.items
+        ≡ (if was_cut then archive.old.items else take before archive.old.items) }
+{
+    if !was_cut {
+        archive.truncate(before);
+    }
 }
