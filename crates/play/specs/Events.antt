@@ -8,7 +8,7 @@ use Rattle.script.specs.declared.order.Order.TheVariants as orders
 use Rattle.world.specs.declared.event.Event.{Event}
 use Rattle.world.specs.declared.event.Event.TheVariants as events
 use Rattle.world.specs.Found.{way_of}
-use Rattle.world.specs.Happening.{down_of, up_of}
+use Rattle.world.specs.Cannot.{down_of, up_of}
 use Rattle.world.specs.World.{WorldState}
 
 -- a number that a node can have

@@ -21,7 +21,8 @@ use Rattle.world.specs.declared.world.WorldClient.{WorldClient}
 use Rattle.world.specs.Asking.{AskedBy, AsksNone, AsksOne, IsAsked, RunAsks}
 use Rattle.world.specs.Found.{is_named}
 use Rattle.world.specs.Happening.{Happens}
-use Rattle.world.specs.Inside.{Counts, GoesAsked, GoesOn, GoesOnBy, IsCall, IsCounted, forgetful}
+use Rattle.world.specs.Inside.Calling.{Counts, IsCall, forgetful}
+use Rattle.world.specs.Inside.Steps.{GoesAsked, GoesOn, GoesOnBy, IsCounted}
 use Rattle.world.specs.Standing.{KeepsReached, WorldGoesBy}
 use Rattle.world.specs.World.{WorldState}
 use Rattle.world.proofs.ClientGoes.{client_asked_forgetful, client_asked_on, same_piped, with_piped}
@@ -113,6 +114,7 @@ asked_counted (events.Publish name p) old asked mid new before counted is (inr m
 asked_counted (events.Assign config) old asked mid new before counted is counts by = by
 asked_counted (events.Deliver number) old asked mid new before counted is counts by = by
 asked_counted (events.Tick node) old asked mid new before counted is counts by = by
+asked_counted (events.Cut node) old asked mid new before counted is counts by = by
 asked_counted (events.Crash node) old asked mid new before counted is counts by = by
 asked_counted (events.Open name node) old asked mid new before counted is counts by = by
 asked_counted (events.CarryUp number count) old asked mid new before counted is counts by = by

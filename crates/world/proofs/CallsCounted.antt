@@ -12,7 +12,8 @@ use Rattle.world_pipes.specs.Piped.{Piped}
 use Rattle.world_pipes.specs.Standing.{StandsFor}
 use Rattle.world_pipes.proofs.CallingFollows.{calling_goes}
 use Rattle.world.specs.declared.world.WorldClient.{WorldClient}
-use Rattle.world.specs.Inside.{Counts, GoesOn, forgetful}
+use Rattle.world.specs.Inside.Calling.{Counts, forgetful}
+use Rattle.world.specs.Inside.Steps.{GoesOn}
 use Rattle.world.specs.World.{WorldState}
 use Rattle.world.proofs.ClientGoes.{client_goes_forgetful, client_goes_on, same_piped, with_piped}
 use Rattle.world.proofs.Joined.{goes_on_rest}

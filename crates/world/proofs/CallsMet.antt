@@ -21,8 +21,10 @@ use Rattle.world_pipes.specs.Piped.{Calls, Piped, TakesLeave}
 use Rattle.world.specs.declared.event.Event.TheVariants as events
 use Rattle.world.specs.declared.world.WorldClient.{WorldClient}
 use Rattle.world.specs.Found.{core_named, is_named, with_piped}
-use Rattle.world.specs.Happening.{Asks, ClientDoes, HoldsNone, Leaves, Loses, Refuses}
-use Rattle.world.specs.Inside.{Counts, IsCall, IsDone, Meets, forgetful}
+use Rattle.world.specs.Doing.{Asks, ClientDoes, Leaves, Loses}
+use Rattle.world.specs.Cannot.{HoldsNone, Refuses}
+use Rattle.world.specs.Inside.Calling.{Counts, IsCall, forgetful}
+use Rattle.world.specs.Inside.Steps.{IsDone, Meets}
 use Rattle.world.specs.World.{WorldState}
 use Rattle.world.proofs.ClientGoes.{same_piped}
 use Rattle.world.proofs.StandsThere.{core_found}
@@ -158,25 +160,25 @@ leave_outcome old (Err (errors.Malformed kind)) new leaves follows = (may_not_le
 pub publish_meets : (name : List ℕ) (p : Publication) (old : WorldState) (result : Result (Unit {0}) Idle) (new : WorldState)
     → ClientMeets name (Refuses (Call.Publishes p)) (Asks (Call.Publishes p)) old result new → Meets (events.Publish name p) old result new
 publish_meets name p old (Ok x) new (inl d) = inl (record { can = d.can; does = inr d.less; exact = λ none. d.exact; uncounted = d.uncounted })
-publish_meets name p old (Ok x) new (inr l) = inr (record { done = l.done; does = l.less; counted = l.counted })
+publish_meets name p old (Ok x) new (inr l) = inr (record { can = λ first. absurd (both_ways false refl first); done = l.done; does = l.less; counted = l.counted })
 publish_meets name p old (Err x) new m = m
 
 pub subscribe_meets : (name filter : List ℕ) (qos : QoS) (old : WorldState) (result : Result (Unit {0}) Idle) (new : WorldState)
     → ClientMeets name (Refuses (Call.Subscribes filter qos)) (Asks (Call.Subscribes filter qos)) old result new → Meets (events.Subscribe name filter qos) old result new
 subscribe_meets name filter qos old (Ok x) new (inl d) = inl (record { can = d.can; does = inr d.less; exact = λ none. d.exact; uncounted = d.uncounted })
-subscribe_meets name filter qos old (Ok x) new (inr l) = inr (record { done = l.done; does = l.less; counted = l.counted })
+subscribe_meets name filter qos old (Ok x) new (inr l) = inr (record { can = λ first. absurd (both_ways false refl first); done = l.done; does = l.less; counted = l.counted })
 subscribe_meets name filter qos old (Err x) new m = m
 
 pub unsubscribe_meets : (name filter : List ℕ) (old : WorldState) (result : Result (Unit {0}) Idle) (new : WorldState)
     → ClientMeets name (Refuses (Call.Unsubscribes filter)) (Asks (Call.Unsubscribes filter)) old result new → Meets (events.Unsubscribe name filter) old result new
 unsubscribe_meets name filter old (Ok x) new (inl d) = inl (record { can = d.can; does = inr d.less; exact = λ none. d.exact; uncounted = d.uncounted })
-unsubscribe_meets name filter old (Ok x) new (inr l) = inr (record { done = l.done; does = l.less; counted = l.counted })
+unsubscribe_meets name filter old (Ok x) new (inr l) = inr (record { can = λ first. absurd (both_ways false refl first); done = l.done; does = l.less; counted = l.counted })
 unsubscribe_meets name filter old (Err x) new m = m
 
 pub disconnect_meets : (name : List ℕ) (old : WorldState) (result : Result (Unit {0}) Idle) (new : WorldState) → ClientMeets name HoldsNone Leaves old result new
     → Meets (events.Disconnect name) old result new
 disconnect_meets name old (Ok x) new (inl d) = inl (record { can = d.can; does = inr d.less; exact = λ none. d.exact; uncounted = d.uncounted })
-disconnect_meets name old (Ok x) new (inr l) = inr (record { done = l.done; does = l.less; counted = l.counted })
+disconnect_meets name old (Ok x) new (inr l) = inr (record { can = λ first. absurd (both_ways false refl first); done = l.done; does = l.less; counted = l.counted })
 disconnect_meets name old (Err x) new m = m
 
 -- one that holds a connection loses it

@@ -12,7 +12,8 @@ use Rattle.world_pipes.proofs.StepsInWorlds.{steps_in_worlds}
 use Rattle.world.specs.declared.place.Place.{Place}
 use Rattle.world.specs.declared.world.WorldClient.{WorldClient}
 use Rattle.world.specs.Housed.{AreHoused, leads, leads_of}
-use Rattle.world.specs.Inside.{GoesOn, GoesOnBy, forgetful}
+use Rattle.world.specs.Inside.Steps.{GoesOn, GoesOnBy}
+use Rattle.world.specs.Inside.Calling.{forgetful}
 use Rattle.world.specs.Standing.{Steps, WorldGoes, WorldGoesBy, published_along}
 use Rattle.world.specs.Standing.Steps.{rests, goes_on}
 use Rattle.world.specs.World.{WorldState}

@@ -15,7 +15,7 @@ use Rattle.world.specs.declared.place.Place.{Place}
 use Rattle.world.specs.declared.world.WorldClient.{WorldClient}
 use Rattle.world.specs.Housed.{LeadsThere, leads_of}
 use Rattle.world.specs.Found.{with_less}
-use Rattle.world.specs.Inside.{TakesUp}
+use Rattle.world.specs.Inside.Carrying.{TakesUp}
 use Rattle.world.specs.Standing.{GoesTo, StandsFor, WorldGoes}
 use Rattle.world.specs.Standing.Steps.{rests, goes_on}
 use Rattle.world.specs.World.{WorldState}

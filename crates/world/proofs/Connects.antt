@@ -22,7 +22,7 @@ use Rattle.world_pipes.specs.Following.{ConnectingFollows}
 use Rattle.world_pipes.specs.Standing.{AreWays}
 use Rattle.world.specs.declared.world.WorldClient.{WorldClient}
 use Rattle.world.specs.Housed.{AreHoused, leads, leads_of}
-use Rattle.world.specs.Inside.{ConnectsAt, IsKnown}
+use Rattle.world.specs.Inside.Connecting.{ConnectsAt, IsKnown}
 use Rattle.world.specs.Standing.{ClientsStand, GoesTo, WorldGoes}
 use Rattle.world.specs.Standing.Steps.{rests, goes_on}
 use Rattle.world.specs.World.{WorldState}

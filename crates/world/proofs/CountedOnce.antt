@@ -7,7 +7,8 @@ use Rattle.master.specs.declared.event.Idle.{Idle}
 use Rattle.world_pipes.specs.declared.sending.Sending.{Sending}
 use Rattle.world_pipes.specs.declared.sending.Sending.TheVariants as sendings
 use Rattle.world.specs.Goes.{CountsOnce}
-use Rattle.world.specs.Inside.{Counts, IsCounted, forgetful}
+use Rattle.world.specs.Inside.Calling.{Counts, forgetful}
+use Rattle.world.specs.Inside.Steps.{IsCounted}
 use Rattle.world.specs.World.{WorldState}
 
 -- not counted by its parts, or by one of them

@@ -5,7 +5,8 @@ use Rattle.world_nodes.specs.Steps.{forgetful}
 use Rattle.world.specs.declared.place.Place.{Place}
 use Rattle.world.specs.Found.{place_numbered, port_of, with_down, with_piped}
 use Rattle.world.specs.Gathering.{AskedWhere, Gathers, GathersAmong, IsAsked, MayBeAsked, is_open_at, put_out}
-use Rattle.world.specs.Inside.{GoesOn, HandsOn, MayHandOn, marked}
+use Rattle.world.specs.Inside.Steps.{GoesOn}
+use Rattle.world.specs.Inside.Handing.{HandsOn, MayHandOn, marked}
 use Rattle.world.specs.World.{WorldState}
 use Rattle.world.proofs.Joined.{goes_on_join}
 use Rattle.world.proofs.StandsThere.{numbered_at}

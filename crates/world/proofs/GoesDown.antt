@@ -30,7 +30,8 @@ use Rattle.world.specs.declared.place.Place.{Place}
 use Rattle.world.specs.declared.world.WorldClient.{WorldClient}
 use Rattle.world.specs.Housed.{LeadsThere, leads_of}
 use Rattle.world.specs.Found.{with_down}
-use Rattle.world.specs.Inside.{MayHandDown, MayPutDown, NodesStay}
+use Rattle.world.specs.Inside.Handing.{MayHandDown, MayPutDown}
+use Rattle.world.specs.Inside.Steps.{NodesStay}
 use Rattle.world.specs.Standing.{GoesTo, StandsFor, WorldGoes}
 use Rattle.world.specs.Standing.Steps.{rests, goes_on}
 use Rattle.world.specs.World.{WorldState}

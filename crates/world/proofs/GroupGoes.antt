@@ -1,12 +1,12 @@
 -- GroupGoes.antt: what nodes and their master do by themselves is a step of the world, whatever memory does.
-use Rattle.std.proofs.Common.{◌≡◌, ◌⊎◌, inl, inr, ◌≤◌, ℕ, zero, suc, true, Option, Some, None, Result, Ok, Err, OnOk, OnErr, refl, arith}
+use Rattle.std.proofs.Common.{◌≡◌, ◌⊎◌, inl, inr, ◌≤◌, ◌-◌, ℕ, zero, suc, true, Option, Some, None, Result, Ok, Err, OnOk, OnErr, refl, arith}
 use Rattle.std.specs.Prelude.{slice_get}
 use Rattle.ballot.specs.Body.{Body}
 use Rattle.ballot.specs.Body.TheVariants.{NewBallot, Join, State, Install, Installed, Activate, Activated, Superseded, Append, Held, Commit}
 use Rattle.ballot.specs.Message.{Message}
 use Rattle.broker_base.specs.Command.{Command}
 use Rattle.master.specs.declared.event.Idle.{Idle}
-use Rattle.world_base.specs.declared.item.Item.TheVariants.{Peer}
+use Rattle.world_base.specs.declared.item.Item.TheVariants.{Cut, Peer}
 use Rattle.exact_model.specs.node_model.Moves.{Deed}
 use Rattle.exact_model.specs.node_model.Moves.Deed.{takes}
 use Rattle.exact_model.specs.group_model.Group.{Group}
@@ -15,10 +15,10 @@ use Rattle.exact_model.specs.world_model.Goes.{is_apart}
 use Rattle.exact_model.specs.world_model.Goes.WorldStep.{goes_on as group_goes}
 use Rattle.world_nodes.specs.Nodes.{NodesState, StandsFor as NodesStand}
 use Rattle.world_nodes.specs.Goes.{Acts, GoesBy}
-use Rattle.world_nodes.specs.Steps.{ComesOrRests, MasterGoesOrRests, MasterHears, forgetful}
+use Rattle.world_nodes.specs.Steps.{ActsOrRests, ComesOrRests, MasterGoesOrRests, MasterHears, forgetful}
 use Rattle.world.specs.Goes.{NodesGo, NodesGoOn}
 use Rattle.world.specs.Goes.Goes.{rests as stands_still, goes_on as then_goes}
-use Rattle.world.specs.Inside.{GoesOn, NodesStay}
+use Rattle.world.specs.Inside.Steps.{GoesOn, NodesStay}
 use Rattle.world.specs.Standing.{WorldGoes}
 use Rattle.world.specs.Standing.Steps.{rests, goes_on}
 use Rattle.world.specs.World.{WorldState}
@@ -79,6 +79,10 @@ acts_or_stays deed old new apart (inr forgets) = stays (nodes_forget old new for
 pub by_assign : {X : Type 0} (r : Result X Idle) (old new : NodesState) → OnOk r (MasterGoesOrRests old new) → OnErr r (new ≡ old) → GoesApart old new
 by_assign (Ok x) old new does same = acts_or_stays None old new refl does
 by_assign (Err e) old new does same = stays (nodes_stay old new same)
+
+pub by_cut : {X : Type 0} (r : Result X Idle) (old new : NodesState) (node : ℕ) → OnOk r (ActsOrRests (node - 1) (takes Cut) old new) → OnErr r (new ≡ old) → GoesApart old new
+by_cut (Ok x) old new node does same = acts_or_stays (Some (node - 1, takes Cut)) old new refl does
+by_cut (Err e) old new node does same = stays (nodes_stay old new same)
 
 -- ---- a message comes
 

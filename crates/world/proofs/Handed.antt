@@ -16,7 +16,9 @@ use Rattle.world.specs.declared.world.WorldClient.{WorldClient}
 use Rattle.world.specs.Goes.{NodesGoOn}
 use Rattle.world.specs.Housed.{AreHoused, leads, leads_of}
 use Rattle.world.specs.Found.{port_of, with_down, with_less}
-use Rattle.world.specs.Inside.{CannotTake, CannotTakeOn, GoesOn, HandsDown, MayHandOn, MayPutDown, PutsDown, TakesUp, TakesUpOnWhere, TakesUpWhere}
+use Rattle.world.specs.Inside.Carrying.{CannotTake, CannotTakeOn, TakesUp, TakesUpOnWhere, TakesUpWhere}
+use Rattle.world.specs.Inside.Steps.{GoesOn}
+use Rattle.world.specs.Inside.Handing.{HandsDown, MayHandOn, MayPutDown, PutsDown}
 use Rattle.world.specs.World.{WorldState}
 use Rattle.world.proofs.ComesUp.{takes_up}
 use Rattle.world.proofs.GoesDown.{put_down, puts_down}

@@ -10,9 +10,9 @@ use Rattle.ballot.specs.Losses.{one_more}
 use Rattle.master.specs.declared.event.Idle.{Idle}
 use Rattle.world_base.specs.declared.item.Item.{Item}
 use Rattle.world_base.specs.declared.item.Item.TheVariants.{Bytes, Crash, Ended, Tick}
-use Rattle.world_nodes.specs.Goes.{Comes, ComesToNobody, running}
+use Rattle.world_nodes.specs.Goes.{Comes, ComesToNobody, CutsExactly, cutting, running}
 use Rattle.world_nodes.specs.Nodes.{NodesState}
-use Rattle.world_nodes.specs.Steps.{ComesIn, GivesIn, LosesNothing as NodesLoseNothing, TakesIn}
+use Rattle.world_nodes.specs.Steps.{ComesIn, CutsIn, GivesIn, LosesNothing as NodesLoseNothing, TakesIn}
 use Rattle.world_pipes.specs.declared.way.Way.{Way}
 use Rattle.world_pipes.specs.Piped.{Piped, is_holding}
 use Rattle.world.specs.declared.event.Event.{Event}
@@ -21,12 +21,16 @@ use Rattle.world.specs.declared.place.Place.{Place}
 use Rattle.world.specs.declared.world.WorldClient.{WorldClient}
 use Rattle.world.specs.Found.{Connected, place_numbered, port_of, with_less, with_piped}
 use Rattle.world.specs.Gathering.{Gathers, TakesItem}
-use Rattle.world.specs.Happening.{CannotHappen, Does, Happens, HappensExactly, HappensLosing, HearsThem, IsClosed, IsNoPart, Run, down_of, is_held, is_held_by, receiver_of, up_of}
+use Rattle.world.specs.Cannot.{CannotHappen, IsClosed, IsNoPart, down_of, is_held, is_held_by, up_of}
+use Rattle.world.specs.Doing.{Does, HearsThem, receiver_of}
+use Rattle.world.specs.Happening.{Happens, HappensExactly, HappensLosing, Run}
 use Rattle.world.specs.Housed.{AreHoused, leads_of}
-use Rattle.world.specs.Inside.{CannotHear, CannotTakeOn, HearsOn, IsCounted, IsDone, Meets, TakesUpOn, forgetful}
+use Rattle.world.specs.Inside.Carrying.{CannotHear, CannotTakeOn, HearsOn, TakesUpOn}
+use Rattle.world.specs.Inside.Steps.{IsCounted, IsDone, Meets}
+use Rattle.world.specs.Inside.Calling.{forgetful}
 use Rattle.world.specs.World.{WorldState}
 use Rattle.world.proofs.GroupGoes.{with_nodes}
-use Rattle.world.proofs.NothingLost.{assigns_exactly, comes_rises, gathers_exactly, gathers_rises, rises_split, takes_exactly}
+use Rattle.world.proofs.NothingLost.{assigns_exactly, comes_rises, cuts_rises, gathers_exactly, gathers_rises, rises_split, takes_exactly}
 use Rattle.world.proofs.StandsThere.{connected, numbered_at, way_found}
 
 -- ---- the master
@@ -73,6 +77,19 @@ pub crashed : (node : ℕ) (old : WorldState) (between : NodesState) (new : Worl
 crashed node old between new can takes gathers still =
     let item : TakesItem false node Crash old new = (between, takes, gathers) in
     record { can = can; does = inr item; exact = λ none. takes_exactly node Crash old new item none; uncounted = still }
+
+-- it cuts its log
+pub cut_done : (node : ℕ) (old : WorldState) (between : NodesState) (new : WorldState) → (cutting old.nodes.nodes node ≡ None → ⊥) → CutsIn node old.nodes between
+    → (NodesLoseNothing old.nodes between → CutsExactly node old.nodes between) → Gathers false node (with_nodes between old) new → new.losses ≡ old.losses → IsDone (events.Cut node) old new
+cut_done node old between new can cuts exact gathers still =
+    record {
+      can = can;
+      does = inr (between, cuts, gathers);
+      exact = λ none.
+          let s = rises_split old.nodes between new.nodes (cuts_rises node old.nodes between cuts) (gathers_rises node (with_nodes between old) new gathers) none in
+          (between, exact s.0, gathers_exactly node (with_nodes between old) new gathers s.1);
+      uncounted = still;
+    }
 
 -- ---- a connection's end at its node
 
@@ -140,7 +157,7 @@ carries_up number place count old mid new at positive up t gathers still =
 
 -- there was no memory for them, and that is counted
 pub lost_up : (number : ℕ) (place : Place) (count : ℕ) (old mid new : WorldState) → mid ≡ old → new ≡ forgetful mid → HappensLosing (events.CarryUp number count) old new
-lost_up number place count old mid new same lost = record { done = old; does = inl refl; counted = lost ∙ ap forgetful same }
+lost_up number place count old mid new same lost = record { can = λ first. absurd (both_ways false refl first); done = old; does = inl refl; counted = lost ∙ ap forgetful same }
 
 pub carries_nothing : (number : ℕ) (place : Place) (count : ℕ) (old : WorldState) → AreHoused (leads_of old.clients) old.connections → slice_get old.connections (number - 1) ≡ Some place → 0 < number
     → CannotTakeOn place count old → CannotHappen (events.CarryUp number count) old
@@ -216,7 +233,7 @@ heard_meets number place count true old client piped new housed at positive owne
     (record { can = d.0; does = inr (does_less number count old heard d.1); exact = λ none. d.1; uncounted = refl }))
 heard_meets number place count false old client piped new housed at positive owned hears is =
     let d = carries_down number place count false old client piped housed at positive owned hears in
-    inr (record { done = with_piped place.client client piped old; does = inr d.1; counted = is })
+    inr (record { can = λ first. d.0; done = with_piped place.client client piped old; does = inr d.1; counted = is })
 
 pub never_opened : (number count : ℕ) (w : WorldState) → place_numbered number w.connections ≡ None → CannotHappen (events.CarryDown number count) w
 never_opened number count w none = inl (ap (λ (o : Option Place). is_held o w.clients) none)
@@ -232,10 +249,11 @@ step_happens event old mid new before counted is so_many (inl d) (inl none) =
     ((let e : mid.nodes.losses ≡ old.nodes.losses = omega (arith, kept, is) in e), (let l : old.nodes.losses < 2 ^ 64 - 1 = omega (arith, is, below) in l)) in
     inl (subst (λ (w : WorldState). HappensExactly event old w) (sym none.0) (record { can = d.can; does = d.exact nodes; uncounted = d.uncounted }))
 step_happens event old mid new before counted is so_many (inl d) (inr one) =
-    inr (record { done = mid; does = d.does; counted = one.0 ∙ ap (λ (k : ℕ). record mid { losses = one_more k }) d.uncounted })
+    inr (record { can = λ first. d.can; done = mid; does = d.does; counted = one.0 ∙ ap (λ (k : ℕ). record mid { losses = one_more k }) d.uncounted })
 step_happens event old mid new before counted is so_many (inr l) (inl none) = inr (subst (λ (w : WorldState). HappensLosing event old w) (sym none.0) l)
 step_happens event old mid new before counted is so_many (inr l) (inr one) =
     inr (record {
+      can = l.can;
       done = l.done;
       does = l.does;
       counted = one.0 ∙ ap (λ (k : ℕ). record mid { losses = one_more k }) (one.1 ∙ so_many) ∙ ap (λ (w : WorldState). record w { losses = one_more old.losses }) l.counted;

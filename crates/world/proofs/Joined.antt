@@ -13,7 +13,7 @@ use Rattle.exact_model.specs.world_model.Goes.Reached.{goes_on as reached_more}
 use Rattle.exact_model.specs.world_model.Published.{published_in, published_on}
 use Rattle.world_nodes.specs.Nodes.{NodesState, StandsFor as NodesStand}
 use Rattle.world.specs.Goes.{LosesNothing, WorldGoesOn}
-use Rattle.world.specs.Inside.{GoesOn, GoesOnBy}
+use Rattle.world.specs.Inside.Steps.{GoesOn, GoesOnBy}
 use Rattle.world.specs.declared.world.WorldClient.{WorldClient}
 use Rattle.world.specs.Standing.{ClientsStand, GoesTo, IsReached, KeepsReached, StandsFor, Steps, WorldGoes, WorldGoesBy, asked_on, published_along}
 use Rattle.world.specs.Standing.Steps.{rests, goes_on}

@@ -11,7 +11,7 @@ use Rattle.world_nodes.specs.Nodes.{NodesState, StandsFor}
 use Rattle.world_nodes.specs.Steps.{LosesNothing as NodesLoseNothing, forgetful}
 use Rattle.world.specs.Goes.{AreReached, Goes, NodesGo, NodesGoOn, StaysReached}
 use Rattle.world.specs.Goes.Goes.{rests, goes_on}
-use Rattle.world.specs.Inside.{NodesStay}
+use Rattle.world.specs.Inside.Steps.{NodesStay}
 
 -- ---- nothing happens
 
@@ -20,7 +20,7 @@ nodes_stay old new same g s = subst (λ (n : NodesState). StandsFor g n) (sym sa
 
 -- but that a loss is counted
 pub nodes_forget : (old new : NodesState) → new ≡ forgetful old → NodesStay old new
-nodes_forget old new is g s = subst (λ (n : NodesState). StandsFor g n) (sym is) (record { master = s.master; nodes = s.nodes; sent = s.sent })
+nodes_forget old new is g s = subst (λ (n : NodesState). StandsFor g n) (sym is) (record { master = s.master; nodes = s.nodes; sent = s.sent; archive = s.archive })
 
 pub staying_goes : (old new : NodesState) → NodesStay old new → NodesGo old new
 staying_goes old new stay g s = record { behind = g; goes = rests; stands = stay g s }

@@ -6,18 +6,19 @@ use Rattle.ballot.specs.Body.TheVariants.{NewBallot, Join, State, Install, Insta
 use Rattle.ballot.specs.Config.{Config}
 use Rattle.ballot.specs.Message.{Message}
 use Rattle.broker_base.specs.Command.{Command}
+use Rattle.exact_model.specs.group_model.snapshots.World.{recorded}
 use Rattle.exact_model.specs.node_model.Moves.Deed.{takes}
 use Rattle.world_base.specs.Core.{CountedCore}
 use Rattle.world_base.specs.declared.item.Item.{Item}
-use Rattle.world_base.specs.declared.item.Item.TheVariants.{Peer}
+use Rattle.world_base.specs.declared.item.Item.TheVariants.{Cut, Peer}
 use Rattle.world_base.specs.declared.Port.{Port}
 use Rattle.world_nodes.specs.Goes.{behind_deed}
 use Rattle.world_nodes.specs.Nodes.{NodesState}
-use Rattle.world_nodes.specs.Steps.{ActsWithLosses, ComesIn, HearsIn, LosesNothing as NodesLoseNothing, TakesIn, forgetful}
+use Rattle.world_nodes.specs.Steps.{ActsWithLosses, ComesIn, CutsIn, CutsWithLosses, HearsIn, LosesNothing as NodesLoseNothing, TakesIn, forgetful}
 use Rattle.world_nodes.proofs.Exactly.{exactly}
 use Rattle.world.specs.Found.{place_numbered, port_of}
 use Rattle.world.specs.Gathering.{AskedWhere, Gathers, GathersAmong, Gives, MayBeAsked, TakesItem, is_open_at}
-use Rattle.world.specs.Happening.{Assigns}
+use Rattle.world.specs.Doing.{Assigns}
 use Rattle.world.specs.World.{WorldState}
 
 -- ---- counts do not fall below the greatest number
@@ -46,6 +47,16 @@ takes_rises node item old new t = by t.way
     by : (new ≡ behind_deed (node - 1) t.core (takes item) old) ⊎ ActsWithLosses (node - 1) item t.core old new → Rises old new
     by (inl is) = let same = ap (λ (n : NodesState). n.losses) is in omega (arith, same)
     by (inr loses) = let more = ap (λ (n : NodesState). n.losses) loses.is in omega (arith, more)
+
+pub cuts_rises : (node : ℕ) (old new : NodesState) → CutsIn node old new → Rises old new
+cuts_rises node old new t = by t.way
+  where
+    by : (new ≡ record (behind_deed (node - 1) t.core (takes Cut) old) { archive = recorded old.archive t.core.core.replica.state })
+        ⊎ CutsWithLosses (node - 1) t.core old new
+        ⊎ (new ≡ forgetful old) → Rises old new
+    by (inl is) = let same = ap (λ (n : NodesState). n.losses) is in omega (arith, same)
+    by (inr (inl loses)) = let more = ap (λ (n : NodesState). n.losses) loses.is in omega (arith, more)
+    by (inr (inr lost)) = forgets_rises old new lost
 
 gives_rises : (o : Option CountedCore) (node : ℕ) (port : Port) (old new : NodesState) → Gives o node port old new → Rises old new
 gives_rises None node port old new is = let same = ap (λ (n : NodesState). n.losses) is in omega (arith, same)

@@ -21,7 +21,7 @@ use Rattle.world_pipes.specs.Following.{ConnectingFollows}
 use Rattle.world_pipes.specs.Piped.{Connects as Opens, Piped, taken_back}
 use Rattle.world_pipes.proofs.TakenBack.{taken_back_ways, taking_back_follows}
 use Rattle.world.specs.Housed.{leads}
-use Rattle.world.specs.Inside.{HearsOfOne, Reaches}
+use Rattle.world.specs.Inside.Connecting.{HearsOfOne, Reaches}
 
 -- ---- a node that takes an item in is there still
 

@@ -1,10 +1,11 @@
 -- There is one agreed list, so that the nodes of a world agree on it, and its clients are exact by it.
-use Rattle.std.proofs.Common.{◌≡◌, ◌⊎◌, inl, inr, ℕ, List, [], ◌∷◌, ◌++◌, length, refl, sym, ap, ◌∙◌, subst, arith}
+use Rattle.std.proofs.Common.{◌≡◌, ◌⊎◌, inl, inr, ℕ, List, [], ◌∷◌, ◌++◌, length, map, refl, sym, ap, ◌∙◌, subst, arith}
 use Rattle.std.proofs.lemmas.List.{append-nil, length-append}
 use Rattle.lists.specs.Lists.{IsPrefixOf}
 use Rattle.lists.proofs.Beginnings.{prefix_length}
 use Rattle.ballot.specs.Config.{Config}
-use Rattle.exact_model.specs.group_model.snapshots.Past.{IsAgreed, Moment}
+use Rattle.exact_model.specs.group_model.Group.{moment_of}
+use Rattle.exact_model.specs.group_model.snapshots.Past.{IsAgreed, Moment, whole_moment}
 use Rattle.agreement.specs.Past.{IsChosen, WasActive}
 use Rattle.broker_base.specs.Command.{Command}
 use Rattle.broker_base.specs.Output.{Output}
@@ -19,7 +20,7 @@ use Rattle.world.specs.Standing.{IsReached}
 begins : (config : Config) (past : List (Moment State Command Output)) (xs ys : List Command) → IsAgreed config past xs → IsAgreed config past ys → IsPrefixOf xs ys
 begins config past xs ys x y = by_chosen x.chosen
   where
-    by_chosen : (xs ≡ []) ⊎ ((b : ℕ) × WasActive past b × IsChosen config past b xs) → IsPrefixOf xs ys
+    by_chosen : (xs ≡ []) ⊎ ((b : ℕ) × WasActive (map whole_moment past) b × IsChosen config (map whole_moment past) b xs) → IsPrefixOf xs ys
     by_chosen (inl none) = subst (λ (l : List Command). IsPrefixOf l ys) (sym none) (record { rest = ys; is = refl })
     by_chosen (inr (b, active, chosen)) = y.longest b xs active chosen
 
@@ -36,9 +37,9 @@ one_agreed config past xs ys x y =
 
 pub reached_agree : (n : NodesState) (list : List Command) → AgreeOn n list → (nodes : ℕ) (config : Config) (r : AreReached nodes config n) → list ≡ r.list
 reached_agree n list agree nodes config r =
-    one_agreed config _ list r.list (agree config r.group r.order.of.earlier r.stands r.order.of.past) r.agreed
+    one_agreed config (moment_of r.group ∷ r.order.of.earlier) list r.list (agree config r.group r.order.of.earlier r.stands r.order.of.past) r.agreed
 
 pub exact_by : (w : WorldState) (list : List Command) → AgreeOn w.nodes list → (nodes : ℕ) (config : Config) (clients : List Client) (r : IsReached nodes config clients w)
     → list ≡ r.exact.agreed
 exact_by w list agree nodes config clients r =
-    one_agreed config _ list r.exact.agreed (agree config r.world.group r.exact.of.earlier r.stands.nodes r.exact.of.past) r.exact.is_agreed
+    one_agreed config (moment_of r.world.group ∷ r.exact.of.earlier) list r.exact.agreed (agree config r.world.group r.exact.of.earlier r.stands.nodes r.exact.of.past) r.exact.is_agreed

@@ -24,9 +24,12 @@ use Rattle.world.specs.declared.event.Event.TheVariants as events
 use Rattle.world.specs.declared.world.WorldClient.{WorldClient}
 use Rattle.world.specs.declared.place.Place.{Place}
 use Rattle.world.specs.Found.{Named, core_named, is_named, port_of, with_piped}
-use Rattle.world.specs.Happening.{Does as HappenDoes, HappensLosing, IsTaken, NoneOpens, OpensOne, is_serving, next_number, with_connection}
+use Rattle.world.specs.Doing.{Does as HappenDoes, NoneOpens, OpensOne, next_number, with_connection}
+use Rattle.world.specs.Happening.{HappensLosing}
+use Rattle.world.specs.Cannot.{IsTaken, is_serving}
 use Rattle.world.specs.Gathering.{Gathers, TakesItem}
-use Rattle.world.specs.Inside.{Begins, ConnectsAt, GoesOn, HasNew, HearsOfOne, IsDone, IsKnown, MayOpenNone, OpensAt, OpensNoneAt}
+use Rattle.world.specs.Inside.Connecting.{Begins, ConnectsAt, HasNew, HearsOfOne, IsKnown, MayOpenNone, OpensAt, OpensNoneAt}
+use Rattle.world.specs.Inside.Steps.{GoesOn, IsDone}
 use Rattle.world.specs.Standing.{GoesTo, WorldGoes}
 use Rattle.world.specs.Standing.Steps.{rests, goes_on}
 use Rattle.world.specs.World.{WorldState}
@@ -157,7 +160,7 @@ open_meets name at node old new client first stands free serving begins = by beg
         inl (record { can = can; does = inr (inl one.less); exact = one.exact; uncounted = o.uncounted })
     by (inr (inl (o, counted))) =
         inl (record { can = can; does = none new o; exact = λ lost. absurd (counted lost); uncounted = losses_none new o })
-    by (inr (inr (mid, o, is))) = inr (record { done = mid; does = none mid o; counted = is })
+    by (inr (inr (mid, o, is))) = inr (record { can = λ asked. can; done = mid; does = none mid o; counted = is })
 
 -- a client that holds a connection opens none
 pub is_taken : (name : List ℕ) (w : WorldState) (at : ℕ) (client : WorldClient) → position (is_named name) w.clients ≡ Some at → slice_get w.clients at ≡ Some client

@@ -18,7 +18,7 @@ use Rattle.world.specs.Housed.{leads}
 use Rattle.world.specs.Found.{with_down}
 use Rattle.world.specs.Gathering.{Gives, is_more, is_told_open, put_out}
 use Rattle.world.specs.Goes.{NodesGoOn}
-use Rattle.world.specs.Inside.{HandsDown, MayHandDown, MayPutDown, PutsDown, tells_open}
+use Rattle.world.specs.Inside.Handing.{HandsDown, MayHandDown, MayPutDown, PutsDown, tells_open}
 use Rattle.world.proofs.GroupGoes.{acts_go}
 use Rattle.world.proofs.LeadsKept.{leads_set}
 use Rattle.world.proofs.NodesGoOn.{nodes_forget, nodes_stay, staying_goes}

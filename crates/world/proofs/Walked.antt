@@ -8,7 +8,8 @@ use Rattle.world.specs.declared.place.Place.{Place}
 use Rattle.world.specs.Found.{place_numbered}
 use Rattle.world.specs.Gathering.{AskedWhere, GathersAmong, is_open_at}
 use Rattle.world.specs.Housed.{open_from}
-use Rattle.world.specs.Inside.{AsksAt, GoesOn, MayHandOn, marked}
+use Rattle.world.specs.Inside.Handing.{AsksAt, MayHandOn, marked}
+use Rattle.world.specs.Inside.Steps.{GoesOn}
 use Rattle.world.specs.World.{WorldState}
 use Rattle.world.proofs.Gathered.{IsGathering, gathered, gathering_on, may_be_asked}
 use Rattle.world.proofs.OpenEnds.{IsNewest, newest, none_open, stands_at}

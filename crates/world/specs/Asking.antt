@@ -8,7 +8,8 @@ use Rattle.world_pipes.specs.Piped.{Piped}
 use Rattle.world.specs.declared.event.Event.{Event}
 use Rattle.world.specs.declared.event.Event.TheVariants as events
 use Rattle.world.specs.Found.{Named, with_piped}
-use Rattle.world.specs.Happening.{Asks, Happens}
+use Rattle.world.specs.Doing.{Asks}
+use Rattle.world.specs.Happening.{Happens}
 use Rattle.world.specs.World.{WorldState}
 
 -- the client of this identifier was asked to publish: its call was done, once, though its connection may be lost with it

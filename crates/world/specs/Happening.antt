@@ -1,206 +1,18 @@
--- What happens in a world: each event, when it cannot happen, and what it does.
-use Rattle.std.specs.Prelude.{◌≡◌, ◌⊎◌, ◌<◌, ℕ, suc, ◌-◌, ◌==◌, ◌&&◌, Bool, true, false, List, [], ◌∷◌, ◌++◌, Option, Some, None, Result, Ok, Err, length, map, slice_get, take}
-use Rattle.agreement.specs.MasterState.{refusal}
+-- What happens in a world: what comes of one event and of a list of them, and how a world begins.
+use Rattle.std.specs.Prelude.{◌≡◌, ◌⊎◌, ℕ, Bool, true, false, List, [], ◌∷◌, Result, Ok, Err, map}
 use Rattle.ballot.specs.Config.{Config}
 use Rattle.ballot.specs.Losses.{one_more}
-use Rattle.ballot.specs.Message.{Message}
-use Rattle.broker_base.specs.Command.{Command}
 use Rattle.broker_base.specs.Place.{Client}
-use Rattle.client.specs.Core.{Core, gone}
-use Rattle.client_base.specs.State.{is_open}
-use Rattle.client_base.specs.Steps.{Call, keeper_step}
-use Rattle.client_base.specs.declared.error.ClientError.{ClientError}
-use Rattle.client_base.specs.declared.error.ClientError.TheVariants as errors
 use Rattle.exact_model.specs.group_model.Group.{opening_group}
 use Rattle.master.specs.declared.event.Idle.{Idle}
-use Rattle.world_base.specs.Core.{CountedCore, serves}
-use Rattle.world_base.specs.declared.item.Item.TheVariants as items
-use Rattle.world_base.specs.declared.Port.{Port}
-use Rattle.world_nodes.specs.Goes.{Comes, ComesToNobody, CutsExactly, behind_giving, cutting, node_of, running}
-use Rattle.world_nodes.specs.Nodes.{NodesState, StandsFor}
-use Rattle.world_nodes.specs.Steps.{ComesIn, CutsIn, GivesIn, TakesIn}
-use Rattle.world_pipes.specs.declared.sending.Sending.{Sending}
-use Rattle.world_pipes.specs.declared.sending.Sending.TheVariants as sendings
-use Rattle.world_pipes.specs.declared.way.Way.{Way}
-use Rattle.world_pipes.specs.Piped.{Calls, Connects, Hears, Piped, TakesLeave, is_holding, new_piped, taken_back}
+use Rattle.world_nodes.specs.Nodes.{StandsFor}
+use Rattle.world_pipes.specs.Piped.{new_piped}
 use Rattle.world.specs.declared.event.Event.{Event}
 use Rattle.world.specs.declared.event.Event.TheVariants as events
-use Rattle.world.specs.declared.place.Place.{Place}
 use Rattle.world.specs.declared.world.WorldClient.{WorldClient}
-use Rattle.world.specs.Found.{Connected, Named, core_named, place_numbered, port_of, way_of, with_less, with_piped}
-use Rattle.world.specs.Gathering.{Gathers, TakesItem}
 use Rattle.world.specs.World.{WorldState}
-
--- ---- when an event cannot happen
-
--- there is no such client, or it holds no connection; or there is none, or it holds one
-abbrev pub HoldsNone : Option Core → Type 0
-HoldsNone None = Unit {0}
-HoldsNone (Some core) = is_open core.state.stage ≡ false
-
-abbrev pub IsTaken : Option Core → Type 0
-IsTaken None = Unit {0}
-IsTaken (Some core) = is_open core.state.stage ≡ true
-
--- there is no such client, or it refuses the call
-abbrev pub Refuses : Call → Option Core → Type 0
-Refuses call None = Unit {0}
-Refuses call (Some core) = (keeper_step call core.state).refusal ≡ None → ⊥
-
--- whether a node is there, runs, and is the primary of an active ballot
-abbrev pub is_serving : Option CountedCore → Bool
-is_serving None = false
-is_serving (Some node) = serves node.core
-
--- the connection was never opened, its end at the node is closed, or the node has stopped
-abbrev pub IsClosed : Option Place → List CountedCore → Type 0
-IsClosed None nodes = Unit {0}
-IsClosed (Some place) nodes = (place.is_open ≡ false) ⊎ (running nodes place.node ≡ None)
-
--- whether a client holds this connection: its newest one
-abbrev pub is_held_by : Option WorldClient → ℕ → Bool
-is_held_by None at = false
-is_held_by (Some client) at = is_holding client.piped && (suc at == length client.piped.ways)
-
-abbrev pub is_held : Option Place → List WorldClient → Bool
-is_held None clients = false
-is_held (Some place) clients = is_held_by (slice_get clients place.client) place.at
-
--- no bytes, or more than wait
-abbrev pub IsNoPart : ℕ → List ℕ → Type 0
-IsNoPart count waiting = (count ≡ 0) ⊎ (length waiting < count)
-
-abbrev pub up_of : Option Way → List ℕ
-up_of None = []
-up_of (Some way) = way.up
-
-abbrev pub down_of : Option Way → List ℕ
-down_of None = []
-down_of (Some way) = way.down
-
-abbrev pub CannotHappen : Event → WorldState → Type 0
-CannotHappen (events.Assign config) w = refusal w.nodes.master config ≡ None → ⊥
-CannotHappen (events.Deliver number) w = ComesToNobody (slice_get w.nodes.sent number) w.nodes
-CannotHappen (events.Tick node) w = running w.nodes.nodes node ≡ None
-CannotHappen (events.Cut node) w = cutting w.nodes.nodes node ≡ None
-CannotHappen (events.Crash node) w = running w.nodes.nodes node ≡ None
-CannotHappen (events.Open name node) w = IsTaken (core_named name w.clients) ⊎ (is_serving (node_of w.nodes.nodes node) ≡ false)
-CannotHappen (events.CarryUp number count) w =
-    IsClosed (place_numbered number w.connections) w.nodes.nodes ⊎ IsNoPart count (up_of (way_of number w))
-CannotHappen (events.CarryDown number count) w =
-    (is_held (place_numbered number w.connections) w.clients ≡ false) ⊎ IsNoPart count (down_of (way_of number w))
-CannotHappen (events.Abandon name) w = HoldsNone (core_named name w.clients)
-CannotHappen (events.Disconnect name) w = HoldsNone (core_named name w.clients)
-CannotHappen (events.Notice number) w = IsClosed (place_numbered number w.connections) w.nodes.nodes
-CannotHappen (events.Publish name publication) w = Refuses (Call.Publishes publication) (core_named name w.clients)
-CannotHappen (events.Subscribe name filter qos) w = Refuses (Call.Subscribes filter qos) (core_named name w.clients)
-CannotHappen (events.Unsubscribe name filter) w = Refuses (Call.Unsubscribes filter) (core_named name w.clients)
-
--- ---- what an event does: exactly, or where losses are allowed (`whole` is false) perhaps with losses
-
--- the master gives a ballot, and an answer of it is heard
-abbrev pub Assigns : Bool → Config → NodesState → NodesState → Type 0
-Assigns true config old new = new ≡ behind_giving config old
-Assigns false config old new = GivesIn config old new
-
-abbrev pub Delivers : Bool → Option (ℕ × Message Command) → NodesState → NodesState → Type 0
-Delivers true message old new = Comes message old new
-Delivers false message old new = ComesIn message old new
-
--- a log is cut
-abbrev pub CutsLog : Bool → ℕ → NodesState → NodesState → Type 0
-CutsLog true node old new = CutsExactly node old new
-CutsLog false node old new = CutsIn node old new
-
--- 0 is the master
-abbrev pub receiver_of : Option (ℕ × Message Command) → ℕ
-receiver_of None = 0
-receiver_of (Some (receiver, message)) = receiver
-
--- the client of this identifier does this, and nothing else is changed
-abbrev pub ClientDoes : List ℕ → (Piped → Piped → Type 0) → WorldState → WorldState → Type 0
-ClientDoes name does old new =
-    (c : Named name old) × (piped : Piped) × does c.client.piped piped × (new ≡ with_piped c.at c.client piped old)
-
--- what it writes is on its way; where losses are allowed, its connection may be lost instead
-abbrev pub Asks : Call → Bool → Piped → Piped → Type 0
-Asks call true old new = Calls (keeper_step call old.core.state) old (Ok sendings.Sent) new
-Asks call false old new = (sending : Sending) × Calls (keeper_step call old.core.state) old (Ok sending) new
-
-abbrev pub Leaves : Bool → Piped → Piped → Type 0
-Leaves true old new = TakesLeave (keeper_step Call.Disconnects old.core.state) old (Ok sendings.Sent) new
-Leaves false old new = (sending : Sending) × TakesLeave (keeper_step Call.Disconnects old.core.state) old (Ok sending) new
-
--- what is under way stays
-abbrev pub Loses : Piped → Piped → Type 0
-Loses old new = new ≡ record old { core = gone old.core }
-
--- whatever it makes of the bytes; it runs out of memory only where losses are allowed
-abbrev pub HearsThem : Bool → ℕ → Piped → Piped → Type 0
-HearsThem whole count old new =
-    (result : Result (Unit {0}) ClientError) × (whole ≡ true → result ≡ Err errors.Memory → ⊥) × Hears count old result new
-
--- a client has a new connection to a node: its CONNECT is under way on it, under the next number
-abbrev pub next_number : WorldState → ℕ
-next_number w = suc (length w.connections)
-
-abbrev pub ConnectsTo : ℕ → ℕ → Piped → Piped → Type 0
-ConnectsTo node number old new = Connects (node - 1) (port_of number) (keeper_step Call.Opens old.core.state) old (Ok tt) new
-
-abbrev pub with_connection : {name : List ℕ} {w : WorldState} → Named name w → Piped → ℕ → WorldState
-with_connection {w = w} c piped node =
-    record (with_piped c.at c.client piped w) {
-      connections = w.connections
-          ++ record { client = c.at; at = length c.client.piped.ways; node = node; is_open = true } ∷ [];
-    }
-
--- its node takes the connection, and what it put out then goes down
-abbrev pub OpensOne : Bool → List ℕ → ℕ → WorldState → WorldState → Type 0
-OpensOne whole name node old new =
-    (c : Named name old) × (piped : Piped) × ConnectsTo node (next_number old) c.client.piped piped
-    × TakesItem whole node (items.Opened (port_of (next_number old)) 0) (with_connection c piped node) new
-
--- No connection comes about: the client runs out of memory, or its node does not take the connection, and it is taken back.
-abbrev pub NoneOpens : ℕ → Port → NodesState → Piped → NodesState → Piped → Type 0
-NoneOpens node port old client new later =
-    ((cause : ClientError) × Connects (node - 1) port (keeper_step Call.Opens client.core.state) client (Err cause) later × (new ≡ old))
-    ⊎ ((opened : Piped) × Connects (node - 1) port (keeper_step Call.Opens client.core.state) client (Ok tt) opened
-    × (later ≡ taken_back opened) × ((new ≡ old) ⊎ TakesIn node (items.Opened port 0) old new))
-
-abbrev pub OpensNone : List ℕ → ℕ → WorldState → WorldState → Type 0
-OpensNone name node old new =
-    (c : Named name old) × (piped : Piped) × (between : NodesState)
-    × NoneOpens node (port_of (next_number old)) old.nodes c.client.piped between piped
-    × (new ≡ record (with_piped c.at c.client piped old) { nodes = between })
-
-abbrev pub OpensWhere : Bool → List ℕ → ℕ → WorldState → WorldState → Type 0
-OpensWhere true name node old new = OpensOne true name node old new
-OpensWhere false name node old new = OpensOne false name node old new ⊎ OpensNone name node old new
-
-abbrev pub Does : Bool → Event → WorldState → WorldState → Type 0
-Does whole (events.Assign config) old new =
-    (between : NodesState) × Assigns whole config old.nodes between × (new ≡ record old { nodes = between })
-Does whole (events.Deliver number) old new =
-    (between : NodesState) × Delivers whole (slice_get old.nodes.sent number) old.nodes between
-    × Gathers whole (receiver_of (slice_get old.nodes.sent number)) (record old { nodes = between }) new
-Does whole (events.Tick node) old new = TakesItem whole node (items.Tick 0) old new
-Does whole (events.Cut node) old new =
-    (between : NodesState) × CutsLog whole node old.nodes between × Gathers whole node (record old { nodes = between }) new
-Does whole (events.Crash node) old new = TakesItem whole node items.Crash old new
-Does whole (events.Open name node) old new = OpensWhere whole name node old new
-Does whole (events.CarryUp number count) old new =
-    (c : Connected number old) × TakesItem whole c.place.node (items.Bytes (port_of number) (take count c.way.up) 0)
-    (with_piped c.place.client c.client (with_less c.place.at count c.way c.client.piped) old) new
-Does whole (events.CarryDown number count) old new =
-    (c : Connected number old) × (piped : Piped) × HearsThem whole count c.client.piped piped
-    × (new ≡ with_piped c.place.client c.client piped old)
-Does whole (events.Abandon name) old new = ClientDoes name Loses old new
-Does whole (events.Disconnect name) old new = ClientDoes name (Leaves whole) old new
-Does whole (events.Notice number) old new =
-    (c : Connected number old) × TakesItem whole c.place.node (items.Ended (port_of number)) old new
-Does whole (events.Publish name publication) old new = ClientDoes name (Asks (Call.Publishes publication) whole) old new
-Does whole (events.Subscribe name filter qos) old new = ClientDoes name (Asks (Call.Subscribes filter qos) whole) old new
-Does whole (events.Unsubscribe name filter) old new = ClientDoes name (Asks (Call.Unsubscribes filter) whole) old new
+use Rattle.world.specs.Cannot.{CannotHappen}
+use Rattle.world.specs.Doing.{Does}
 
 -- ---- what comes of events
 
@@ -210,8 +22,19 @@ pub record HappensExactly (event : Event) (old new : WorldState) : Type 0 where
   pub does : Does true event old new
   pub uncounted : new.losses ≡ old.losses
 
--- nothing was done, or what the event asks was done with losses, and one loss is counted
+-- Whether it is asked first if the event can happen. Where bytes come up or a client is called, memory may run out before that.
+abbrev pub asks_first : Event → Bool
+asks_first (events.CarryUp number count) = false
+asks_first (events.Disconnect name) = false
+asks_first (events.Publish name publication) = false
+asks_first (events.Subscribe name filter qos) = false
+asks_first (events.Unsubscribe name filter) = false
+asks_first _ = true
+
+-- Nothing was done, or what the event asks was done with losses, and one loss is counted. An event that cannot happen is idle, and not
+-- counted, where that is asked first.
 pub record HappensLosing (event : Event) (old new : WorldState) : Type 0 where
+  pub can : asks_first event ≡ true → CannotHappen event old → ⊥
   pub done : WorldState
   pub does : (done ≡ old) ⊎ Does false event old done
   pub counted : new ≡ record done { losses = one_more old.losses }

@@ -5,6 +5,8 @@ pub mod Housed
 pub mod Inside
 pub mod Found
 pub mod Gathering
+pub mod Cannot
+pub mod Doing
 pub mod Happening
 pub mod Asking
 pub mod Laws

@@ -6,9 +6,12 @@ ghost use Rattle.world_nodes.specs.Goes.{node_of};
 ghost use Rattle.world_pipes.specs.Following.{CallingFollows, FollowsAll};
 ghost use Rattle.world_pipes.specs.Piped.{TakesLeave, is_holding, taken_back};
 ghost use Rattle.world.specs.Goes.{CountsOnce, NodesGoOn};
-ghost use Rattle.world.specs.Happening.{Loses, is_serving};
+ghost use Rattle.world.specs.Doing.{Loses};
+ghost use Rattle.world.specs.Cannot.{is_serving};
 ghost use Rattle.world.specs.Housed.{leads};
-ghost use Rattle.world.specs.Inside.{Begins, ConnectsAt, Counts, GoesAsked, GoesOn, HearsOfOne, IsCall, MayOpenNone, Meets, Reaches};
+ghost use Rattle.world.specs.Inside.Connecting.{Begins, ConnectsAt, HearsOfOne, MayOpenNone, Reaches};
+ghost use Rattle.world.specs.Inside.Calling.{Counts, IsCall};
+ghost use Rattle.world.specs.Inside.Steps.{GoesAsked, GoesOn, Meets};
 
 use crate::event::Event;
 use crate::place::Place;

@@ -4,7 +4,9 @@ ghost use Rattle.std.specs.Prelude.{◌≡◌, ◌⊎◌, ◌≤◌, ◌<◌, �
 ghost use Rattle.world_pipes.specs.Following.{FollowsAll};
 ghost use Rattle.world.specs.Goes.{CountsOnce, NodesGoOn};
 ghost use Rattle.world.specs.Housed.{leads};
-ghost use Rattle.world.specs.Inside.{CannotHear, CannotTake, CannotTakeOn, GoesOn, HearsOn, Meets, TakesUpOnWhere, TakesUpWhere, forgetful};
+ghost use Rattle.world.specs.Inside.Carrying.{CannotHear, CannotTake, CannotTakeOn, HearsOn, TakesUpOnWhere, TakesUpWhere};
+ghost use Rattle.world.specs.Inside.Steps.{GoesOn, Meets};
+ghost use Rattle.world.specs.Inside.Calling.{forgetful};
 
 use crate::event::Event;
 use crate::place::Place;

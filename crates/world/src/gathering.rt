@@ -5,7 +5,8 @@ ghost use Rattle.world_nodes.specs.Nodes.{NodesState};
 ghost use Rattle.world.specs.Gathering.{Gathers, GathersAmong};
 ghost use Rattle.world.specs.Goes.{NodesGoOn};
 ghost use Rattle.world.specs.Housed.{leads, open_from};
-ghost use Rattle.world.specs.Inside.{AsksAt, GoesOn, HandsDown, MayHandDown, MayHandOn, MayPutDown, PutsDown, marked, tells_open};
+ghost use Rattle.world.specs.Inside.Handing.{AsksAt, HandsDown, MayHandDown, MayHandOn, MayPutDown, PutsDown, marked, tells_open};
+ghost use Rattle.world.specs.Inside.Steps.{GoesOn};
 
 use crate::place::Place;
 use crate::world::World;

@@ -1,8 +1,8 @@
 // What nodes and their master do in a world.
 
 ghost use Rattle.std.specs.Prelude.{◌≡◌, ◌<◌, ◌-◌, true, Some, slice_get};
-ghost use Rattle.world.specs.Happening.{receiver_of};
-ghost use Rattle.world.specs.Inside.{GoesOn, Meets};
+ghost use Rattle.world.specs.Doing.{receiver_of};
+ghost use Rattle.world.specs.Inside.Steps.{GoesOn, Meets};
 
 use crate::event::Event;
 use crate::place::Place;

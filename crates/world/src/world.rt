@@ -10,7 +10,7 @@ ghost use Rattle.world_pipes.specs.Standing.{StandsFor};
 ghost use Rattle.world.specs.Goes.{AgreedGrows, AreReached, CountsOnce, StaysReached, WorldGoesOn};
 ghost use Rattle.world.specs.Asking.{IsAsked, RunAsks};
 ghost use Rattle.world.specs.Happening.{Happens, Opens, Run, new_world_client};
-ghost use Rattle.world.specs.Inside.{GoesAsked, IsCounted, Meets};
+ghost use Rattle.world.specs.Inside.Steps.{GoesAsked, IsCounted, Meets};
 ghost use Rattle.world.specs.Standing.{ClientsStand, IsReached, KeepsReached, WorldGoesBy, asked_on, identifiers};
 
 use crate::event::Event;

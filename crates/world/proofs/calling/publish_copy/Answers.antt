@@ -2,7 +2,7 @@ use Rattle.std.proofs.Common.{subst}
 use Rattle.client.specs.Core.{publication_with}
 use Rattle.client_base.specs.Steps.{Call}
 use Rattle.session_base.specs.declared.publication.Publication.{Publication}
-use Rattle.world.specs.Inside.{IsCall}
+use Rattle.world.specs.Inside.Calling.{IsCall}
 use Rattle.world.proofs.CallsMet.{is_call, same_publication}
 use Rattle.world.proofs.calling.publish_copy.Goals as goal
 

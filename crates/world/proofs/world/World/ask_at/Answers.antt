@@ -1,6 +1,6 @@
 use Rattle.std.proofs.Common.{◌-◌, Bool, true, false, List, slice_get, refl, ap, ◌∙◌, subst, arith}
 use Rattle.world.specs.declared.place.Place.{Place}
-use Rattle.world.specs.Inside.{MayHandOn}
+use Rattle.world.specs.Inside.Handing.{MayHandOn}
 use Rattle.world.specs.World.{WorldState}
 use Rattle.world.proofs.Joined.{goes_on_join, goes_on_rest, goes_on_still}
 use Rattle.world.proofs.Gathered.{stays_open}

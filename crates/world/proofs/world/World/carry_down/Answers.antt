@@ -1,6 +1,6 @@
 use Rattle.std.proofs.Common.{◌≤◌, refl, arith}
 use Rattle.master.proofs.Counting.{get_there}
-use Rattle.world.specs.Inside.{forgetful}
+use Rattle.world.specs.Inside.Calling.{forgetful}
 use Rattle.world.specs.World.{WorldState}
 use Rattle.world.proofs.CallsCounted.{hearing_counted}
 use Rattle.world.proofs.ClientGoes.{client_goes_on, housed_still, same_piped}

@@ -2,7 +2,7 @@ use Rattle.std.proofs.Common.{◌≡◌, inl, inr, ◌<◌, ◌-◌, ℕ, List, 
 use Rattle.master.proofs.Counting.{get_there}
 use Rattle.world.specs.Found.{port_of}
 use Rattle.world.specs.Housed.{open_from}
-use Rattle.world.specs.Inside.{HearsOfOne, Reaches}
+use Rattle.world.specs.Inside.Connecting.{HearsOfOne, Reaches}
 use Rattle.world.specs.declared.place.Place.{Place}
 use Rattle.world.specs.World.{WorldState}
 use Rattle.world.proofs.ClientGoes.{housed_still}

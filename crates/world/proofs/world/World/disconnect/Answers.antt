@@ -1,7 +1,8 @@
 use Rattle.std.proofs.Common.{◌≤◌, ◌<◌, length, refl, sym, arith}
 use Rattle.master.proofs.Counting.{get_there}
-use Rattle.world.specs.Happening.{HoldsNone, Leaves}
-use Rattle.world.specs.Inside.{forgetful}
+use Rattle.world.specs.Cannot.{HoldsNone}
+use Rattle.world.specs.Doing.{Leaves}
+use Rattle.world.specs.Inside.Calling.{forgetful}
 use Rattle.world.specs.World.{WorldState}
 use Rattle.world.proofs.CallsCounted.{call_counted}
 use Rattle.world.proofs.CallsMet.{client_meets, disconnect_meets, leave_outcome}

@@ -1,8 +1,9 @@
 use Rattle.std.proofs.Common.{◌≤◌, ◌<◌, [], length, refl, sym, arith}
 use Rattle.master.proofs.Counting.{get_there}
 use Rattle.client_base.specs.Steps.{Call}
-use Rattle.world.specs.Happening.{Asks, Refuses}
-use Rattle.world.specs.Inside.{forgetful}
+use Rattle.world.specs.Doing.{Asks}
+use Rattle.world.specs.Cannot.{Refuses}
+use Rattle.world.specs.Inside.Calling.{forgetful}
 use Rattle.world.specs.World.{WorldState}
 use Rattle.world.proofs.CallsCounted.{call_counted}
 use Rattle.world.proofs.CallsMet.{call_outcome, client_meets, unsubscribe_meets}

@@ -1,0 +1,79 @@
+-- When an event cannot happen: then it is idle.
+use Rattle.std.specs.Prelude.{◌≡◌, ◌⊎◌, ◌<◌, ℕ, suc, ◌==◌, ◌&&◌, Bool, true, false, List, [], Option, Some, None, length, slice_get}
+use Rattle.agreement.specs.MasterState.{refusal}
+use Rattle.client.specs.Core.{Core}
+use Rattle.client_base.specs.State.{is_open}
+use Rattle.client_base.specs.Steps.{Call, keeper_step}
+use Rattle.world_base.specs.Core.{CountedCore, serves}
+use Rattle.world_nodes.specs.Goes.{ComesToNobody, cutting, node_of, running}
+use Rattle.world_pipes.specs.declared.way.Way.{Way}
+use Rattle.world_pipes.specs.Piped.{is_holding}
+use Rattle.world.specs.declared.event.Event.{Event}
+use Rattle.world.specs.declared.event.Event.TheVariants as events
+use Rattle.world.specs.declared.place.Place.{Place}
+use Rattle.world.specs.declared.world.WorldClient.{WorldClient}
+use Rattle.world.specs.Found.{core_named, place_numbered, way_of}
+use Rattle.world.specs.World.{WorldState}
+
+-- there is no such client, or it holds no connection; or there is none, or it holds one
+abbrev pub HoldsNone : Option Core → Type 0
+HoldsNone None = Unit {0}
+HoldsNone (Some core) = is_open core.state.stage ≡ false
+
+abbrev pub IsTaken : Option Core → Type 0
+IsTaken None = Unit {0}
+IsTaken (Some core) = is_open core.state.stage ≡ true
+
+-- there is no such client, or it refuses the call
+abbrev pub Refuses : Call → Option Core → Type 0
+Refuses call None = Unit {0}
+Refuses call (Some core) = (keeper_step call core.state).refusal ≡ None → ⊥
+
+-- whether a node is there, runs, and is the primary of an active ballot
+abbrev pub is_serving : Option CountedCore → Bool
+is_serving None = false
+is_serving (Some node) = serves node.core
+
+-- the connection was never opened, its end at the node is closed, or the node has stopped
+abbrev pub IsClosed : Option Place → List CountedCore → Type 0
+IsClosed None nodes = Unit {0}
+IsClosed (Some place) nodes = (place.is_open ≡ false) ⊎ (running nodes place.node ≡ None)
+
+-- whether a client holds this connection: its newest one
+abbrev pub is_held_by : Option WorldClient → ℕ → Bool
+is_held_by None at = false
+is_held_by (Some client) at = is_holding client.piped && (suc at == length client.piped.ways)
+
+abbrev pub is_held : Option Place → List WorldClient → Bool
+is_held None clients = false
+is_held (Some place) clients = is_held_by (slice_get clients place.client) place.at
+
+-- no bytes, or more than wait
+abbrev pub IsNoPart : ℕ → List ℕ → Type 0
+IsNoPart count waiting = (count ≡ 0) ⊎ (length waiting < count)
+
+abbrev pub up_of : Option Way → List ℕ
+up_of None = []
+up_of (Some way) = way.up
+
+abbrev pub down_of : Option Way → List ℕ
+down_of None = []
+down_of (Some way) = way.down
+
+abbrev pub CannotHappen : Event → WorldState → Type 0
+CannotHappen (events.Assign config) w = refusal w.nodes.master config ≡ None → ⊥
+CannotHappen (events.Deliver number) w = ComesToNobody (slice_get w.nodes.sent number) w.nodes
+CannotHappen (events.Tick node) w = running w.nodes.nodes node ≡ None
+CannotHappen (events.Cut node) w = cutting w.nodes.nodes node ≡ None
+CannotHappen (events.Crash node) w = running w.nodes.nodes node ≡ None
+CannotHappen (events.Open name node) w = IsTaken (core_named name w.clients) ⊎ (is_serving (node_of w.nodes.nodes node) ≡ false)
+CannotHappen (events.CarryUp number count) w =
+    IsClosed (place_numbered number w.connections) w.nodes.nodes ⊎ IsNoPart count (up_of (way_of number w))
+CannotHappen (events.CarryDown number count) w =
+    (is_held (place_numbered number w.connections) w.clients ≡ false) ⊎ IsNoPart count (down_of (way_of number w))
+CannotHappen (events.Abandon name) w = HoldsNone (core_named name w.clients)
+CannotHappen (events.Disconnect name) w = HoldsNone (core_named name w.clients)
+CannotHappen (events.Notice number) w = IsClosed (place_numbered number w.connections) w.nodes.nodes
+CannotHappen (events.Publish name publication) w = Refuses (Call.Publishes publication) (core_named name w.clients)
+CannotHappen (events.Subscribe name filter qos) w = Refuses (Call.Subscribes filter qos) (core_named name w.clients)
+CannotHappen (events.Unsubscribe name filter) w = Refuses (Call.Unsubscribes filter) (core_named name w.clients)

@@ -1,0 +1,69 @@
+-- Bytes come to a node, or to a client.
+use Rattle.std.specs.Prelude.{◌≡◌, ◌⊎◌, ◌-◌, ◌==◌, ◌&&◌, ◌≤◌, ◌<◌, ℕ, suc, Bool, true, false, Some, None, length, slice_get, take}
+use Rattle.world_base.specs.declared.Port.{Port}
+use Rattle.world_base.specs.declared.item.Item.TheVariants.{Bytes}
+use Rattle.exact_model.specs.node_model.Moves.Deed.{takes}
+use Rattle.world_nodes.specs.Goes.{Acts, running}
+use Rattle.world_nodes.specs.Nodes.{NodesState}
+use Rattle.world_nodes.specs.Steps.{TakesIn}
+use Rattle.world_pipes.specs.declared.way.Way.{Way}
+use Rattle.world_pipes.specs.Piped.{Piped, is_holding}
+use Rattle.world.specs.declared.place.Place.{Place}
+use Rattle.world.specs.declared.world.WorldClient.{WorldClient}
+use Rattle.world.specs.Found.{port_of, with_less, with_piped}
+use Rattle.world.specs.Cannot.{IsNoPart}
+use Rattle.world.specs.Doing.{HearsThem}
+use Rattle.world.specs.World.{WorldState}
+
+-- ---- bytes come to a node
+
+-- the first so many bytes under way on the connection at this place come to its node, which runs, and are gone from it
+pub record TakesUp (place : Place) (port : Port) (count : ℕ) (old : NodesState) (client : Piped) (new : NodesState) (later : Piped) : Type 0 where
+  pub way : Way
+  pub found : slice_get client.ways place.at ≡ Some way
+  pub some : 0 < count
+  pub part : count ≤ length way.up
+  pub runs : running old.nodes place.node ≡ None → ⊥
+  pub step : TakesIn place.node (Bytes port (take count way.up) 0) old new
+  pub acts : Acts (place.node - 1) (takes (Bytes port (take count way.up) 0)) old new
+  pub is : later ≡ with_less place.at count way client
+
+-- where there is no memory for them, nothing happens
+abbrev pub TakesUpWhere : Bool → Place → Port → ℕ → NodesState → Piped → NodesState → Piped → Type 0
+TakesUpWhere true place port count old client new later = TakesUp place port count old client new later
+TakesUpWhere false place port count old client new later = (new ≡ old) × (later ≡ client)
+
+-- they cannot: too few wait, or the node has stopped
+abbrev pub CannotTake : Place → ℕ → NodesState → Piped → Type 0
+CannotTake place count nodes client =
+    (way : Way) → slice_get client.ways place.at ≡ Some way → (running nodes.nodes place.node ≡ None) ⊎ IsNoPart count way.up
+
+-- the same in a world
+pub record TakesUpOn (number : ℕ) (place : Place) (count : ℕ) (old new : WorldState) : Type 0 where
+  pub client : WorldClient
+  pub owned : slice_get old.clients place.client ≡ Some client
+  pub between : NodesState
+  pub piped : Piped
+  pub takes : TakesUp place (port_of number) count old.nodes client.piped between piped
+  pub is : new ≡ record (with_piped place.client client piped old) { nodes = between }
+
+-- where there is no memory for them, nothing happens
+abbrev pub TakesUpOnWhere : Bool → ℕ → Place → ℕ → WorldState → WorldState → Type 0
+TakesUpOnWhere true number place count old new = TakesUpOn number place count old new
+TakesUpOnWhere false number place count old new = new ≡ old
+
+abbrev pub CannotTakeOn : Place → ℕ → WorldState → Type 0
+CannotTakeOn place count w =
+    (client : WorldClient) → slice_get w.clients place.client ≡ Some client → CannotTake place count w.nodes client.piped
+
+-- ---- bytes come to a client
+
+-- it holds the connection at this place, some bytes wait there, and it hears them, with memory for all or not; or that cannot be
+pub record HearsOn (had : Bool) (at count : ℕ) (old new : Piped) : Type 0 where
+  pub held : (is_holding old && (suc at == length old.ways)) ≡ true
+  pub some : (way : Way) → slice_get old.ways at ≡ Some way → IsNoPart count way.down → ⊥
+  pub hears : HearsThem had count old new
+
+abbrev pub CannotHear : ℕ → ℕ → Piped → Type 0
+CannotHear at count client =
+    (way : Way) → slice_get client.ways at ≡ Some way → ((is_holding client && (suc at == length client.ways)) ≡ false) ⊎ IsNoPart count way.down

@@ -1,0 +1,88 @@
+-- A new connection.
+use Rattle.std.specs.Prelude.{◌≡◌, ◌⊎◌, ◌-◌, ℕ, Bool, true, false, [], ◌∷◌, ◌++◌, Some, Ok, length, slice_get}
+use Rattle.std.specs.Option.{is_some}
+use Rattle.ballot.specs.Losses.{one_more}
+use Rattle.client_base.specs.Steps.{Call, keeper_step}
+use Rattle.world_base.specs.Core.{CountedCore}
+use Rattle.world_base.specs.Handing.{listed_at}
+use Rattle.world_base.specs.declared.Port.{Port}
+use Rattle.world_base.specs.declared.item.Item.TheVariants.{Opened}
+use Rattle.exact_model.specs.node_model.Moves.Deed.{takes}
+use Rattle.world_nodes.specs.Goes.{Acts, node_of}
+use Rattle.world_nodes.specs.Nodes.{NodesState}
+use Rattle.world_nodes.specs.Steps.{LosesNothing as NodesLoseNothing, TakesIn}
+use Rattle.world_pipes.specs.Following.{ConnectingFollows, FollowsAll}
+use Rattle.world_pipes.specs.Piped.{Connects as Opens, Piped}
+use Rattle.world.specs.declared.world.WorldClient.{WorldClient}
+use Rattle.world.specs.Found.{port_of, with_piped}
+use Rattle.world.specs.Gathering.{Gathers}
+use Rattle.world.specs.Doing.{NoneOpens, next_number}
+use Rattle.world.specs.World.{WorldState}
+
+-- the node of this number is there, and has a connection at this port or not
+pub record IsKnown (has : Bool) (node : ℕ) (port : Port) (n : NodesState) : Type 0 where
+  pub core : CountedCore
+  pub stands : node_of n.nodes node ≡ Some core
+  pub known : is_some (listed_at port core.core) ≡ has
+
+-- a node hears of a new connection, and has it then or not
+pub record HearsAndHas (has : Bool) (node : ℕ) (port : Port) (old new : NodesState) : Type 0 where
+  pub step : TakesIn node (Opened port 0) old new
+  pub acts : Acts (node - 1) (takes (Opened port 0)) old new
+  pub known : IsKnown has node port new
+
+-- .. or does not hear of it
+abbrev pub HearsOfOne : Bool → ℕ → Port → NodesState → NodesState → Type 0
+HearsOfOne true node port old new = HearsAndHas true node port old new
+HearsOfOne false node port old new = (new ≡ old) ⊎ HearsAndHas false node port old new
+
+-- a client has a new connection to a node, which takes it
+pub record HasNew (node : ℕ) (port : Port) (old : NodesState) (client : Piped) (new : NodesState) (later : Piped) : Type 0 where
+  pub opens : Opens (node - 1) port (keeper_step Call.Opens client.core.state) client (Ok tt) later
+  pub follows : ConnectingFollows (node - 1) port client (Ok tt) later
+  pub hears : HearsAndHas true node port old new
+
+-- .. or it has none
+abbrev pub Reaches : Bool → ℕ → Port → NodesState → Piped → NodesState → Piped → Type 0
+Reaches true node port old client new later = HasNew node port old client new later
+Reaches false node port old client new later =
+    FollowsAll client later × HearsOfOne false node port old new × NoneOpens node port old client new later
+
+-- the client at this place has a new connection to the node, under the next number, and the node has taken it
+pub record ConnectsAt (i node : ℕ) (old new : WorldState) : Type 0 where
+  pub client : WorldClient
+  pub found : slice_get old.clients i ≡ Some client
+  pub between : NodesState
+  pub piped : Piped
+  pub reaches : HasNew node (port_of (next_number old)) old.nodes client.piped between piped
+  pub is : new ≡ record (with_piped i client piped old) {
+    nodes = between;
+    connections = old.connections ++ record { client = i; at = length client.piped.ways; node = node; is_open = true } ∷ [];
+  }
+
+-- and what the node put out then goes down
+pub record OpensAt (i node : ℕ) (old new : WorldState) : Type 0 where
+  pub between : WorldState
+  pub connects : ConnectsAt i node old between
+  pub gathers : Gathers false node between new
+  pub uncounted : new.losses ≡ old.losses
+
+-- or it has none
+pub record OpensNoneAt (i node : ℕ) (old new : WorldState) : Type 0 where
+  pub client : WorldClient
+  pub found : slice_get old.clients i ≡ Some client
+  pub between : NodesState
+  pub piped : Piped
+  pub none : NoneOpens node (port_of (next_number old)) old.nodes client.piped between piped
+  pub is : new ≡ record (with_piped i client piped old) { nodes = between }
+
+-- or nothing happened at all
+abbrev pub MayOpenNone : ℕ → ℕ → WorldState → WorldState → Type 0
+MayOpenNone i node old new = (new ≡ old) ⊎ OpensNoneAt i node old new
+
+-- it opens one; or it has none, which the nodes counted, or else the world
+abbrev pub Begins : ℕ → ℕ → WorldState → WorldState → Type 0
+Begins i node old new =
+    OpensAt i node old new
+    ⊎ (MayOpenNone i node old new × (NodesLoseNothing old.nodes new.nodes → ⊥))
+    ⊎ ((none : WorldState) × MayOpenNone i node old none × (new ≡ record none { losses = one_more old.losses }))

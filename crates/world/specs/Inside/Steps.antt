@@ -1,0 +1,55 @@
+-- What the parts of a step do, and how a step is counted.
+use Rattle.std.specs.Prelude.{◌≡◌, ◌⊎◌, ◌-◌, ◌≤◌, ◌<◌, ◌^◌, ℕ, true, false, List, [], Result, Ok, Err}
+use Rattle.ballot.specs.Losses.{one_more}
+use Rattle.master.specs.declared.event.Idle.{Idle}
+use Rattle.exact_model.specs.group_model.Group.{Group}
+use Rattle.session_base.specs.declared.publication.Publication.{Publication}
+use Rattle.world_nodes.specs.Nodes.{NodesState, StandsFor as NodesStand}
+use Rattle.world_nodes.specs.Steps.{LosesNothing as NodesLoseNothing}
+use Rattle.world.specs.declared.event.Event.{Event}
+use Rattle.world.specs.Asking.{IsAsked}
+use Rattle.world.specs.Goes.{NodesGoOn}
+use Rattle.world.specs.Cannot.{CannotHappen}
+use Rattle.world.specs.Doing.{Does}
+use Rattle.world.specs.Happening.{HappensLosing}
+use Rattle.world.specs.Standing.{WorldGoesBy}
+use Rattle.world.specs.World.{WorldState}
+
+-- counts do not fall, and whichever world stood for it goes on, while its clients publish this
+pub record GoesOnBy (asked : List (ℕ × Publication)) (old new : WorldState) : Type 0 where
+  pub rises : old.losses ≤ new.losses
+  pub nodes : NodesGoOn old.nodes new.nodes
+  pub goes : WorldGoesBy asked old new
+
+-- nothing is published
+abbrev pub GoesOn : WorldState → WorldState → Type 0
+GoesOn old new = GoesOnBy [] old new
+
+-- what an event asked was published, and nothing else
+pub record GoesAsked (event : Event) (old : WorldState) (result : Result (Unit {0}) Idle) (new : WorldState) : Type 0 where
+  pub asked : List (ℕ × Publication)
+  pub is : IsAsked event old result asked new
+  pub goes : GoesOnBy asked old new
+
+-- whichever group stands for the nodes before stands for them still
+abbrev pub NodesStay : NodesState → NodesState → Type 0
+NodesStay old new = (g : Group) → NodesStand g old → NodesStand g new
+
+-- an event was done, or nothing happened: it was done exactly, unless the nodes counted a loss
+pub record IsDone (event : Event) (old new : WorldState) : Type 0 where
+  pub can : CannotHappen event old → ⊥
+  pub does : (new ≡ old) ⊎ Does false event old new
+  pub exact : NodesLoseNothing old.nodes new.nodes → Does true event old new
+  pub uncounted : new.losses ≡ old.losses
+
+-- what comes of an event, before the step counts what its nodes count
+abbrev pub Meets : Event → WorldState → Result (Unit {0}) Idle → WorldState → Type 0
+Meets event old (Err idle) new = CannotHappen event old × (new ≡ old)
+Meets event old (Ok done) new = IsDone event old new ⊎ HappensLosing event old new
+
+-- Nothing is counted where the nodes had counted so many losses before and count as many now; or one loss is counted, since the world
+-- had counted so many before.
+abbrev pub IsCounted : ℕ → ℕ → WorldState → WorldState → Type 0
+IsCounted before counted old new =
+    ((new ≡ old) × (old.losses ≡ counted → (old.nodes.losses ≡ before) × (before < 2 ^ 64 - 1)))
+    ⊎ ((new ≡ record old { losses = one_more old.losses }) × (old.losses ≡ counted))
