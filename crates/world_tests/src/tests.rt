@@ -3,6 +3,7 @@
 mod changes;
 mod course;
 mod crashes;
+mod cuts;
 mod handshakes;
 mod long;
 mod losing;
@@ -10,3 +11,5 @@ mod memory;
 mod piped;
 mod repeats;
 mod row;
+mod snapshots;
+mod stale;

@@ -14,6 +14,9 @@ const TOPICS: [&str; 3] = ["t/1", "t/2", "u"];
 
 const FILTERS: [&str; 4] = ["t/#", "#", "t/1", "+"];
 
+// After so many events a node cuts its log, each in turn.
+const UNTIL_A_CUT: u64 = 61;
+
 /// How far the run has come.
 #[derive(Drop)]
 pub struct Course {
@@ -30,6 +33,9 @@ pub struct Course {
     pub given: u64,
     /// Whether each node runs.
     pub runs: [bool; 3],
+    /// How many events were tried, and how often a log was cut after one.
+    pub events: u64,
+    pub cuts: u64,
     /// Whether the agreed list never became shorter.
     pub only_grows: bool,
 }
@@ -45,6 +51,8 @@ impl Course {
             last: [0; 4],
             given: 1,
             runs: [true; 3],
+            events: 0,
+            cuts: 0,
             only_grows: true,
         }
     }
@@ -90,8 +98,20 @@ impl Course {
 fn happens(world: &mut World, course: &mut Course, event: &Event) -> bool {
     let before = world.agreed_len();
     let happened = world.step(event).is_ok();
+    course.events = course.events.saturating_add(1);
+    if course.events % UNTIL_A_CUT == 0 {
+        cuts(world, course);
+    }
     course.only_grows = course.only_grows && before <= world.agreed_len();
     happened
+}
+
+// The next node cuts its log, if it has something to cut.
+fn cuts(world: &mut World, course: &mut Course) {
+    let node = (course.events / UNTIL_A_CUT % 3) as u8 + 1;
+    if world.step(&Event::Cut(node)).is_ok() {
+        course.cuts = course.cuts.saturating_add(1);
+    }
 }
 
 /// Lets the next event of the rule happen or be idle. False where it ran out of memory.

@@ -40,11 +40,11 @@ const AFTER: &[Said] = &[
     Said::Connect("b"),
 ];
 
-// The events of the script `primary_crashes` of the folder `examples`, and idle ones among them, with all that waits
-// on connections 3 and 4. The primary holds a publication that its backup holds too, and crashes before it says so.
-// The backup takes over alone: the publisher sends its PUBLISH again, with DUP, and is answered, and the subscriber
-// takes it in once.
-const CRASHED: &[Row] = &[
+/// The events of the script `primary_crashes` of the folder `examples`, and idle ones among them, with all that waits
+/// on connections 3 and 4. The primary holds a publication that its backup holds too, and crashes before it says so.
+/// The backup takes over alone: the publisher sends its PUBLISH again, with DUP, and is answered, and the subscriber
+/// takes it in once.
+pub const CRASHED: &[Row] = &[
     Row::Does(Deed::Open("b", 1), 0, 0),
     Row::Does(Deed::Up(1), 1, 0),
     Row::Does(Deed::Deliver(0), 2, 1),

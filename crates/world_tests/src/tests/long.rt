@@ -68,12 +68,13 @@ fn all_took_each_once(alloc: Global, world: &World) -> bool {
         .all(|client| took_each_once(alloc, world, client))
 }
 
-// Whether it all goes well, with many takeovers.
+// Whether it all goes well, with many takeovers and many cuts.
 fn goes_well(alloc: Global, world: &mut World) -> bool {
     let mut course = Course::new();
     all_come(alloc, world, &mut course)
         && all_took_each_once(alloc, world)
         && world.active().0 > 20
+        && course.cuts > 50
         && world.agreed_len() > 1_000
 }
 
@@ -85,7 +86,7 @@ fn goes_well_from_the_opening(alloc: Global) -> bool {
 }
 
 // Each client takes in each publication at QoS 2 once, whatever comes late, again or never, while two of three
-// nodes crash and other configurations take over. The agreed list never becomes shorter, and nothing is lost.
+// nodes crash, other configurations take over and logs are cut. The agreed list never becomes shorter, and nothing is lost.
 #[test]
 fn whatever_happens_each_is_taken_in_once(rt: HostRuntime) {
     assert!(rt; goes_well_from_the_opening(rt.alloc()));

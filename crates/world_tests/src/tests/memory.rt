@@ -1,12 +1,13 @@
-// Memory that is refused, in the events of the script `answer_waits_for_the_backup` of the folder `examples`. Run with
-// each allocation failing in turn: a step that runs out of memory is counted, and else all comes as ever.
+// Memory that is refused, in the events of the script `answer_waits_for_the_backup` of the folder `examples`, and in a cut
+// of the primary's log after them. Run with each allocation failing in turn: a step that runs out of memory is counted,
+// and else all comes as ever.
 
 use crate::tests::row::{named, opened};
 use std::alloc::Global;
 use world::{Event, World};
 
 // How many messages were sent and commands are agreed after each event.
-const WANTED: &[(u64, u64)] = &[(0, 0), (1, 0), (2, 1), (3, 1), (3, 1)];
+const WANTED: &[(u64, u64)] = &[(0, 0), (1, 0), (2, 1), (3, 1), (3, 1), (3, 1)];
 
 // A CONNECT of 15 bytes goes up, and a CONNACK of 4 comes down once the backup holds it.
 fn events(alloc: Global) -> Option<Vec<Event>> {
@@ -16,6 +17,7 @@ fn events(alloc: Global) -> Option<Vec<Event>> {
     events.push(Event::Deliver(0)).ok()?;
     events.push(Event::Deliver(1)).ok()?;
     events.push(Event::CarryDown(1, 4)).ok()?;
+    events.push(Event::Cut(1)).ok()?;
     Some(events)
 }
 

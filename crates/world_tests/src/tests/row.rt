@@ -11,6 +11,7 @@ pub enum Deed {
     Assign(&'static [u8], u8),
     Deliver(u64),
     Tick(u8),
+    Cut(u8),
     Crash(u8),
     Open(&'static str, u8),
     /// All bytes that wait on a connection go up, or down.
@@ -118,8 +119,8 @@ fn first_fault(alloc: Global, world: &mut World, rows: &[Row]) -> Option<usize> 
     }
 }
 
-// Whether a row holds of a world.
-fn is_right(alloc: Global, world: &mut World, row: &Row) -> bool {
+/// Whether a row holds of a world.
+pub fn is_right(alloc: Global, world: &mut World, row: &Row) -> bool {
     match row {
         Row::Does(deed, messages, agreed) => {
             does(alloc, world, deed)
@@ -192,6 +193,7 @@ fn event_of(alloc: Global, world: &World, deed: &Deed) -> Option<Event> {
         }
         Deed::Deliver(number) => Some(Event::Deliver(*number)),
         Deed::Tick(node) => Some(Event::Tick(*node)),
+        Deed::Cut(node) => Some(Event::Cut(*node)),
         Deed::Crash(node) => Some(Event::Crash(*node)),
         Deed::Up(number) => Some(Event::CarryUp(*number, world.up(*number).len() as u64)),
         Deed::Down(number) => Some(Event::CarryDown(*number, world.down(*number).len() as u64)),

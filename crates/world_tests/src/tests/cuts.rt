@@ -1,0 +1,53 @@
+// A node cuts its log after a row of a table, each node after each row, and all other rows hold as ever.
+
+use crate::tests::crashes::CRASHED;
+use crate::tests::row::{Row, is_right, opened};
+use crate::tests::stale::STALE;
+use std::alloc::Global;
+use world::{Event, World};
+
+// Cuts a node's log, if it has something to cut; then it has nothing more to cut.
+fn is_cut_once(world: &mut World, node: u8) -> bool {
+    let _ = world.step(&Event::Cut(node));
+    world.step(&Event::Cut(node)).is_err()
+}
+
+// Whether each row holds where a node cuts its log after the row at this place, or after each row for the place after the
+// last one.
+fn all_hold(alloc: Global, world: &mut World, rows: &[Row], at: usize, node: u8) -> bool {
+    for (place, row) in rows.iter().enumerate() {
+        if !is_right(alloc, world, row) {
+            return false;
+        }
+        if (at == place || at == rows.len()) && !is_cut_once(world, node) {
+            return false;
+        }
+    }
+    world.losses() == 0
+}
+
+fn hold_from_the_opening(alloc: Global, rows: &[Row], at: usize, node: u8) -> bool {
+    match opened(alloc, 2, &[1, 2]) {
+        Some(mut world) => all_hold(alloc, &mut world, rows, at, node),
+        None => false,
+    }
+}
+
+// The first place after which a cut of a node changes what a row says.
+fn changed_by(alloc: Global, rows: &[Row], node: u8) -> Option<usize> {
+    for at in 0..rows.len().saturating_add(1) {
+        if !hold_from_the_opening(alloc, rows, at, node) {
+            return Some(at);
+        }
+    }
+    None
+}
+
+// A cut changes no message, no agreed command, no byte on a connection and no publication that is taken in.
+#[test]
+fn cuts_change_nothing_else(rt: HostRuntime) {
+    for node in [1, 2] {
+        assert_eq!(rt; changed_by(rt.alloc(), CRASHED, node), None);
+        assert_eq!(rt; changed_by(rt.alloc(), STALE, node), None);
+    }
+}

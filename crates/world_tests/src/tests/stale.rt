@@ -1,0 +1,80 @@
+// A primary of a ballot that is over.
+
+use crate::tests::row::{Deed, Row, Said, Table, fault_in};
+
+// What a subscriber is sent when it comes back (MQTT 3.1.1): its session is present (3.2), and the publication again with
+// DUP (3.3).
+const PRESENT_AND_PUBLISH: &[u8] = b"\x20\x02\x01\x00\x3C\x08\x00\x03t/1\x00\x01x";
+
+// PUBREC (3.5) of Packet Identifier 1, which answers the publisher.
+const PUBREC: &[u8] = b"\x50\x02\x00\x01";
+
+const NOTHING: &[u8] = b"";
+
+// What is agreed at the end. The PUBREC of the subscriber, which the stale primary alone holds, is not.
+const AFTER: &[Said] = &[
+    Said::Connect("b"),
+    Said::Packet,
+    Said::Connect("a"),
+    Said::Packet,
+    Said::Start(2),
+    Said::Connect("b"),
+];
+
+/// The events of the script `stale_primary` of the folder `examples`, with what waits on connections. The subscriber's
+/// PUBREC comes to a primary that another member replaces, and is lost with it. No PUBREL goes down on any connection,
+/// and what the subscriber took in it takes in once.
+pub const STALE: &[Row] = &[
+    Row::Does(Deed::Open("b", 1), 0, 0),
+    Row::Does(Deed::Up(1), 1, 0),
+    Row::Does(Deed::Deliver(0), 2, 1),
+    Row::Does(Deed::Deliver(1), 3, 1),
+    Row::Does(Deed::Down(1), 3, 1),
+    Row::Does(Deed::Subscribe("b"), 3, 1),
+    Row::Does(Deed::Up(1), 4, 1),
+    Row::Does(Deed::Deliver(3), 5, 2),
+    Row::Does(Deed::Deliver(4), 6, 2),
+    Row::Does(Deed::Open("a", 1), 6, 2),
+    Row::Does(Deed::Up(2), 7, 2),
+    Row::Does(Deed::Deliver(6), 8, 3),
+    Row::Does(Deed::Deliver(7), 9, 3),
+    Row::Does(Deed::Down(2), 9, 3),
+    Row::Does(Deed::Publish("a"), 9, 3),
+    Row::Does(Deed::Up(2), 10, 3),
+    Row::Does(Deed::Deliver(9), 11, 4),
+    Row::Does(Deed::Deliver(10), 12, 4),
+    Row::Took("b", 0, 0),
+    Row::Does(Deed::Down(1), 12, 4),
+    Row::Took("b", 1, 1),
+    Row::Does(Deed::Up(1), 13, 4),
+    Row::Does(Deed::Assign(&[2], 2), 14, 4),
+    Row::Does(Deed::Deliver(13), 16, 4),
+    Row::Does(Deed::Deliver(15), 17, 4),
+    Row::Does(Deed::Deliver(16), 18, 4),
+    Row::Does(Deed::Deliver(17), 19, 4),
+    Row::Does(Deed::Deliver(18), 19, 5),
+    Row::Does(Deed::Tick(1), 21, 5),
+    Row::Does(Deed::Deliver(19), 21, 5),
+    Row::Does(Deed::Abandon("b"), 21, 5),
+    Row::Does(Deed::Open("b", 2), 21, 5),
+    Row::Does(Deed::Up(3), 21, 6),
+    Row::HasDown(1, NOTHING),
+    Row::HasDown(2, PUBREC),
+    Row::HasDown(3, PRESENT_AND_PUBLISH),
+    Row::Does(Deed::Down(3), 21, 6),
+    Row::Took("b", 1, 1),
+    Row::Active(2),
+    Row::Agrees(AFTER),
+];
+
+const TABLES: &[Table] = &[Table {
+    name: "stale",
+    nodes: 2,
+    members: &[1, 2],
+    rows: STALE,
+}];
+
+#[test]
+fn a_stale_primary_is_not_heard(rt: HostRuntime) {
+    assert_eq!(rt; fault_in(rt.alloc(), TABLES), None);
+}
