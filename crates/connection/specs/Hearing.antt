@@ -2,6 +2,7 @@
 use Rattle.std.specs.Prelude.{◌≡◌, ℕ, ◌≤◌, List, [], ◌∷◌, ◌++◌, length, map, Option}
 use Rattle.std.specs.List.{flat_map}
 use Rattle.std.specs.Io.KnownBytes.{Consumes, IsAtEnd}
+use Rattle.node_base.specs.Counted.{counted_once}
 use Rattle.node_base.specs.declared.counted.TheConstants.{PIECE_BYTES}
 use Rattle.world_base.specs.declared.Port.{Port}
 use Rattle.world_base.specs.declared.item.Item.{Item}
@@ -33,6 +34,11 @@ EndsSo endings.Refused pieces lost behind = (pieces ≡ []) × (lost ≡ [])
 EndsSo endings.End pieces lost behind = (lost ≡ []) × IsAtEnd behind
 EndsSo endings.Fault pieces lost behind = lost ≡ []
 EndsSo endings.Memory pieces lost behind = length lost ≤ PIECE_BYTES
+
+-- the count of the device's failed calls: it goes up by one where a call failed, and not else
+abbrev pub faults_after : Ending → ℕ → ℕ
+faults_after endings.Fault faults = counted_once faults
+faults_after _ faults = faults
 
 -- What was told behind what was told before is a whole connection, and its pieces are what the device gave.
 pub record Hears (port : Port) (old new : List Item) (ending : Ending) (before behind : Option (List ℕ))

@@ -1,12 +1,10 @@
--- What the parts of listening and writing do.
-use Rattle.std.specs.Prelude.{◌≡◌, ℕ, ◌≤◌, List, [], ◌∷◌, ◌++◌, length, take, Option, Some, None}
-use Rattle.std.specs.Io.KnownBytes.{Appends, Consumes, Keeps}
+-- What the parts of listening do.
+use Rattle.std.specs.Prelude.{◌≡◌, ℕ, List, [], ◌∷◌, ◌++◌, Option, Some, None}
+use Rattle.std.specs.Io.KnownBytes.{Consumes}
 use Rattle.world_base.specs.declared.Port.{Port}
 use Rattle.world_base.specs.declared.item.Item.{Item}
 use Rattle.connection.specs.declared.ending.Ending.{Ending}
-use Rattle.connection.specs.declared.writing.Took.{Took}
-use Rattle.connection.specs.declared.writing.Took.TheVariants as took
-use Rattle.connection.specs.Hearing.{Came, EndsSo, joined, pieces_told}
+use Rattle.connection.specs.Hearing.{Came, EndsSo, faults_after, joined, pieces_told}
 
 -- these pieces were told, and what was read is these and what was lost
 pub record HearsPieces
@@ -38,9 +36,7 @@ HearsPiece port old new (Some ending) before behind =
     (new ≡ old)
     × ((lost : List ℕ) × Consumes before behind lost × ((pieces : List Came) → EndsSo ending pieces lost behind))
 
--- one call of a device: so many bytes joined its own, or none
-abbrev pub TakesOnce : Took → Option (List ℕ) → Option (List ℕ) → List ℕ → Type 0
-TakesOnce (took.Bytes count) old new bytes =
-    (count ≤ length bytes) × Appends old new (take count bytes)
-TakesOnce took.Full old new bytes = Keeps old new
-TakesOnce took.Failed old new bytes = Keeps old new
+-- the count of the device's failed calls after one piece
+abbrev pub faults_so_far : Option Ending → ℕ → ℕ
+faults_so_far None faults = faults
+faults_so_far (Some ending) faults = faults_after ending faults

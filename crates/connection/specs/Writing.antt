@@ -1,6 +1,7 @@
 -- What is written of bytes that are put out, in their order, and what is left.
 use Rattle.std.specs.Prelude.{◌≡◌, ℕ, ◌<◌, ◌⊎◌, List, [], ◌++◌, length, Option}
 use Rattle.std.specs.Io.KnownBytes.{Appends}
+use Rattle.node_base.specs.Counted.{counted_once}
 use Rattle.world_base.specs.declared.Handed.{Handed}
 use Rattle.world_base.specs.declared.Handed.TheVariants as answers
 use Rattle.connection.specs.declared.wrote.Wrote.{Wrote}
@@ -18,7 +19,8 @@ pub record Writes (old new : Option (List ℕ)) (bytes left : List ℕ) : Type 0
 abbrev pub LeavesSo : Wrote → List ℕ → Type 0
 LeavesSo wrotes.Whole left = left ≡ []
 LeavesSo wrotes.Full left = 0 < length left
-LeavesSo wrotes.Failed left = 0 < length left
+LeavesSo wrotes.Stopped left = 0 < length left
+LeavesSo wrotes.Fault left = 0 < length left
 
 module _ {O : Type 0} where
   -- these bytes are what is handed over with this answer, and they joined the list
@@ -40,14 +42,25 @@ module _ {O : Type 0} where
   HandsSo hands flows.Open before bytes behind = hands before bytes answers.Open behind
   HandsSo hands flows.Closed before bytes behind = hands before bytes answers.Closed behind
   HandsSo hands flows.Late before bytes behind = HandsAny hands before bytes behind
-  HandsSo hands flows.Failed before bytes behind = HandsAny hands before bytes behind
+  HandsSo hands flows.Stopped before bytes behind = HandsAny hands before bytes behind
+  HandsSo hands flows.Fault before bytes behind = HandsAny hands before bytes behind
 
--- what is left, by how the writing ended; where it failed, that may be nothing, since memory may have run out
+-- what is left, by how the writing ended; where it stopped, that may be nothing, since memory may have run out
 abbrev pub RestsSo : Flow → List ℕ → Type 0
 RestsSo flows.Open rest = rest ≡ []
 RestsSo flows.Closed rest = rest ≡ []
 RestsSo flows.Late rest = 0 < length rest
-RestsSo flows.Failed rest = Unit {0}
+RestsSo flows.Stopped rest = Unit {0}
+RestsSo flows.Fault rest = 0 < length rest
+
+-- the count of the device's failed calls: it goes up by one where a call failed, and not else
+abbrev pub faults_written : Wrote → ℕ → ℕ
+faults_written wrotes.Fault faults = counted_once faults
+faults_written _ faults = faults
+
+abbrev pub faults_flowed : Flow → ℕ → ℕ
+faults_flowed flows.Fault faults = counted_once faults
+faults_flowed _ faults = faults
 
 -- what was left before, and then what is handed over, is what is written, and then what is left now
 pub record Flows {O : Type 0}

@@ -1,10 +1,12 @@
 // What is put out for a connection is written.
 
-ghost use Rattle.connection.specs.Writing.{Flows};
+ghost use Rattle.std.specs.Prelude.{◌≡◌};
+ghost use Rattle.connection.specs.Writing.{Flows, faults_flowed};
 
 use crate::outlet::Outlet;
 use crate::unwritten::Unwritten;
 use crate::wrote::Wrote;
+use node_base::Counted;
 use std::io::Write;
 use std::sync::Wait;
 use world_base::Handed;
@@ -18,8 +20,10 @@ pub enum Flow {
     Closed,
     /// The device was full, and something is left.
     Late,
-    /// The device takes nothing more, or memory ran out.
-    Failed,
+    /// The device takes nothing more, and no call failed; or memory ran out.
+    Stopped,
+    /// A call of the device failed.
+    Fault,
 }
 
 /// Writes what was left before, and then what is handed over now. As long as something is left nothing more is handed
@@ -28,18 +32,22 @@ pub fn write_out<R: Wait, O: Outlet, W: Write>(
     rt: &R,
     left: &mut Unwritten,
     outlet: &mut O,
-    device: &mut W,
+    device: &mut Counted<W>,
 ) -> Flow
-    ensures { Flows O.hands result outlet.old outlet.new
-        (W.contents device.old) (W.contents device.new) left.old left.new }
+    ensures flows { Flows O.hands result outlet.old outlet.new
+        (W.contents device.old.device) (W.contents device.new.device) left.old left.new }
+
+    // A fault is told exactly where one more call of the device failed.
+    ensures faults { device.new.faults ≡ faults_flowed result device.old.faults }
 {
     match left.write(device) {
         Wrote::Whole => {}
         Wrote::Full => return Flow::Late,
-        Wrote::Failed => return Flow::Failed,
+        Wrote::Stopped => return Flow::Stopped,
+        Wrote::Fault => return Flow::Fault,
     }
     let Ok(handed) = left.take_from(rt, outlet) else {
-        return Flow::Failed;
+        return Flow::Stopped;
     };
     match left.write(device) {
         Wrote::Whole => match handed {
@@ -47,6 +55,7 @@ pub fn write_out<R: Wait, O: Outlet, W: Write>(
             Handed::Closed => Flow::Closed,
         },
         Wrote::Full => Flow::Late,
-        Wrote::Failed => Flow::Failed,
+        Wrote::Stopped => Flow::Stopped,
+        Wrote::Fault => Flow::Fault,
     }
 }

@@ -10,7 +10,6 @@ mod laws;
 mod listening;
 mod outlet;
 mod unwritten;
-mod writing;
 mod wrote;
 
 pub use ending::Ending;
@@ -18,7 +17,7 @@ pub use flow::{Flow, write_out};
 pub use hearer::Hearer;
 pub use laws::nothing_is_left_out;
 pub use listening::listen;
-pub use node_base::PIECE_BYTES;
+pub use node_base::{Counted, PIECE_BYTES};
 pub use outlet::Outlet;
 pub use unwritten::Unwritten;
 pub use wrote::Wrote;

@@ -1,12 +1,12 @@
 // What comes on a connection is told.
 
 ghost use Rattle.std.specs.Prelude.{◌≡◌, length};
-ghost use Rattle.connection.specs.Hearing.{Hears};
-ghost use Rattle.connection.specs.Inside.{HearsOn, HearsPiece};
+ghost use Rattle.connection.specs.Hearing.{Hears, faults_after};
+ghost use Rattle.connection.specs.Inside.{HearsOn, HearsPiece, faults_so_far};
 
 use crate::ending::Ending;
 use crate::hearer::Hearer;
-use node_base::PIECE_BYTES;
+use node_base::{Counted, PIECE_BYTES, ReadOutcome};
 use std::alloc::Global;
 use std::io::Read;
 use std::sync::Wait;
@@ -19,11 +19,14 @@ pub fn listen<R: Wait + Clock, H: Hearer, D: Read>(
     rt: &R,
     alloc: Global,
     port: Port,
-    device: &mut D,
+    device: &mut Counted<D>,
     hearer: &mut H,
 ) -> Ending
-    ensures { Hears port (H.heard hearer.old) (H.heard hearer.new)
-        result (D.remaining device.old) (D.remaining device.new) }
+    ensures hears { Hears port (H.heard hearer.old) (H.heard hearer.new)
+        result (D.remaining device.old.device) (D.remaining device.new.device) }
+
+    // A fault is told exactly where one more call of the device failed.
+    ensures faults { device.new.faults ≡ faults_after result device.old.faults }
 {
     let opened = hearer.now(rt);
     hearer.tell(rt, Item::Opened(port, opened));
@@ -37,11 +40,12 @@ fn hear_on<R: Wait + Clock, H: Hearer, D: Read>(
     rt: &R,
     alloc: Global,
     port: Port,
-    device: &mut D,
+    device: &mut Counted<D>,
     hearer: &mut H,
 ) -> Ending
-    ensures { HearsOn port (H.heard hearer.old) (H.heard hearer.new)
-        result (D.remaining device.old) (D.remaining device.new) }
+    ensures hears { HearsOn port (H.heard hearer.old) (H.heard hearer.new)
+        result (D.remaining device.old.device) (D.remaining device.new.device) }
+    ensures faults { device.new.faults ≡ faults_after result device.old.faults }
 {
     if !hearer.lets_in(rt) {
         return Ending::Refused;
@@ -63,18 +67,19 @@ fn hear_piece<R: Wait + Clock, H: Hearer, D: Read>(
     rt: &R,
     alloc: Global,
     port: Port,
-    device: &mut D,
+    device: &mut Counted<D>,
     room: &mut [u8],
     hearer: &mut H,
 ) -> Option<Ending>
     requires { length room.old ≡ PIECE_BYTES }
-    ensures { HearsPiece port (H.heard hearer.old) (H.heard hearer.new)
-        result (D.remaining device.old) (D.remaining device.new) }
+    ensures hears { HearsPiece port (H.heard hearer.old) (H.heard hearer.new)
+        result (D.remaining device.old.device) (D.remaining device.new.device) }
+    ensures faults { device.new.faults ≡ faults_so_far result device.old.faults }
 {
-    let count = match device.read(room) {
-        Ok(0) => return Some(Ending::End),
-        Ok(count) => count,
-        Err(_) => return Some(Ending::Fault),
+    let count = match device.read_piece(room) {
+        ReadOutcome::Bytes(count) => count,
+        ReadOutcome::End => return Some(Ending::End),
+        ReadOutcome::Fault => return Some(Ending::Fault),
     };
     let Ok(piece) = Piece::from_slice(alloc, &room[..count]) else {
         return Some(Ending::Memory);

@@ -1,11 +1,11 @@
 // What is put out and not written yet.
 
 ghost use Rattle.std.specs.Prelude.{◌≡◌, ◌==◌, ◌≤◌, [], drop, length, IfOk, OnErr};
-ghost use Rattle.connection.specs.Writing.{HandsOver, LeavesSo, Writes};
+ghost use Rattle.connection.specs.Writing.{HandsOver, LeavesSo, Writes, faults_written};
 
 use crate::outlet::Outlet;
-use crate::writing::{Took, write_once};
 use crate::wrote::Wrote;
+use node_base::{Counted, WriteOutcome};
 use std::alloc::{AllocError, Global};
 use std::io::Write;
 use std::marker::Model;
@@ -67,24 +67,29 @@ impl Unwritten {
 
     /// Writes as much as the device takes. A call that was interrupted is made again. One that would have to wait, or did so
     /// for too long, means that the device is full.
-    pub fn write<W: Write>(&mut self, device: &mut W) -> Wrote
-        ensures writes { Writes (W.contents device.old) (W.contents device.new) self.old self.new }
+    pub fn write<W: Write>(&mut self, device: &mut Counted<W>) -> Wrote
+        ensures writes { Writes
+            (W.contents device.old.device) (W.contents device.new.device) self.old self.new }
         ensures leaves { LeavesSo result self.new }
+
+        // A fault is told exactly where one more call of the device failed.
+        ensures faults { device.new.faults ≡ faults_written result device.old.faults }
     {
         for _ in 0..u64::MAX {
             if self.is_empty() {
                 return Wrote::Whole;
             }
-            match write_once(device, self.as_slice()) {
-                Took::Bytes(count) => self.skip(count),
-                Took::Full => return Wrote::Full,
-                Took::Failed => return Wrote::Failed,
+            match device.write_piece(self.as_slice()) {
+                WriteOutcome::Bytes(count) => self.skip(count),
+                WriteOutcome::Full => return Wrote::Full,
+                WriteOutcome::Stopped => return Wrote::Stopped,
+                WriteOutcome::Fault => return Wrote::Fault,
             }
         }
         if self.is_empty() {
             Wrote::Whole
         } else {
-            Wrote::Failed
+            Wrote::Stopped
         }
     }
 

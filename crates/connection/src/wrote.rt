@@ -7,6 +7,8 @@ pub enum Wrote {
     Whole,
     /// The device was full: a beginning was written, and the rest is left.
     Full,
-    /// The device takes nothing more: a beginning was written, and the rest is left.
-    Failed,
+    /// The device takes nothing more, and no call failed: a beginning was written, and the rest is left.
+    Stopped,
+    /// A call of the device failed: a beginning was written, and the rest is left.
+    Fault,
 }

@@ -1,8 +1,11 @@
--- What a whole write and the read of one piece do to the bytes of a device, where those are known.
+-- What a whole write, the write of one piece and the read of one piece do to the bytes of a device, where those are known.
 use Rattle.std.specs.Prelude.{ℕ, ◌<◌, ◌≤◌, Option, List, length, take}
 use Rattle.std.specs.Io.KnownBytes.{Appends, Consumes, IsAtEnd, Keeps}
+use Rattle.node_base.specs.Counted.{counted_once}
 use Rattle.node_base.specs.declared.read_outcome.ReadOutcome.{ReadOutcome}
 use Rattle.node_base.specs.declared.read_outcome.ReadOutcome.TheVariants.{Bytes, End, Fault}
+use Rattle.node_base.specs.declared.write_outcome.WriteOutcome.{WriteOutcome}
+use Rattle.node_base.specs.declared.write_outcome.WriteOutcome.TheVariants as writes
 
 -- what joined the device's bytes is a beginning of these, or all of them
 abbrev pub WritesBeginning : Option (List ℕ) → Option (List ℕ) → List ℕ → Type 0
@@ -13,6 +16,23 @@ WritesBeginning old new bytes =
 abbrev pub WritesShort : Option (List ℕ) → Option (List ℕ) → List ℕ → Type 0
 WritesShort old new bytes =
     (count : ℕ) × (count < length bytes) × Appends old new (take count bytes)
+
+-- the count of failed calls after a read or a write: one that failed is counted
+abbrev pub counted_read : ReadOutcome → ℕ → ℕ
+counted_read Fault faults = counted_once faults
+counted_read _ faults = faults
+
+abbrev pub counted_write : WriteOutcome → ℕ → ℕ
+counted_write writes.Fault faults = counted_once faults
+counted_write _ faults = faults
+
+-- the first bytes of the piece joined the device's, or none
+abbrev pub WritesPiece : WriteOutcome → Option (List ℕ) → Option (List ℕ) → List ℕ → Type 0
+WritesPiece (writes.Bytes count) old new bytes =
+    (count ≤ length bytes) × Appends old new (take count bytes)
+WritesPiece writes.Full old new bytes = Keeps old new
+WritesPiece writes.Stopped old new bytes = Keeps old new
+WritesPiece writes.Fault old new bytes = Keeps old new
 
 -- the piece is what the device gave, from the first byte that was left; its end is no fault
 abbrev pub ReadsPiece : ReadOutcome → Option (List ℕ) → Option (List ℕ) → List ℕ → Type 0

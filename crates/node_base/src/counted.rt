@@ -3,12 +3,13 @@
 ghost use Rattle.std.specs.Prelude.{◌≡◌, ◌≢◌, ◌<◌, length, if◌then◌else◌};
 ghost use Rattle.std.specs.Io.KnownBytes.{Appends, Keeps};
 ghost use Rattle.node_base.specs.Counted.{Watched, counted_once};
-ghost use Rattle.node_base.specs.Engines.{WritesBeginning, WritesShort, ReadsPiece};
+ghost use Rattle.node_base.specs.Engines.{WritesBeginning, WritesPiece, WritesShort, ReadsPiece, counted_read, counted_write};
 ghost use Rattle.node_base.specs.Inside.{WritesOnce};
 
 use crate::read_outcome::ReadOutcome;
+use crate::write_outcome::WriteOutcome;
 use crate::written::Written;
-use std::io::{Read, Write};
+use std::io::{ErrorKind, Read, Write};
 use std::marker::Model;
 
 /// The room that a caller of [`Counted::read_piece`] does well to lend, in bytes.
@@ -83,6 +84,30 @@ impl<W: Write> Counted<W> {
         }
     }
 
+    /// Writes a piece, by one call of the device, which may take a beginning of it. A call that was interrupted took
+    /// nothing, and one that would have to wait, or did so for too long, says that the device is full: neither is a fault.
+    pub fn write_piece(&mut self, bytes: &[u8]) -> WriteOutcome
+        ensures piece { WritesPiece
+            result (W.contents self.old.device) (W.contents self.new.device) bytes.now }
+
+        // A fault is told exactly where one more call of the device failed.
+        ensures faults { self.new.faults ≡ counted_write result self.old.faults }
+    {
+        let error = match self.device.write(bytes) {
+            Ok(0) => return WriteOutcome::Stopped,
+            Ok(count) => return WriteOutcome::Bytes(count),
+            Err(error) => error,
+        };
+        match error.kind() {
+            ErrorKind::Interrupted => WriteOutcome::Bytes(0),
+            ErrorKind::WouldBlock | ErrorKind::TimedOut => WriteOutcome::Full,
+            _ => {
+                self.faults = self.faults.saturating_add(1);
+                WriteOutcome::Fault
+            }
+        }
+    }
+
     // One call of the device: how many bytes it took, or that it failed.
     fn write_once(&mut self, bytes: &[u8]) -> Option<usize>
         ensures { WritesOnce W.contents self.old self.new result bytes.now }
@@ -118,8 +143,7 @@ impl<R: Read> Counted<R> {
             result (R.remaining self.old.device) (R.remaining self.new.device) room.new }
 
         // A fault is told exactly where one more call of the device failed.
-        ensures fault { result ≡ ReadOutcome.Fault → self.new.faults ≡ counted_once self.old.faults }
-        ensures no_fault { result ≢ ReadOutcome.Fault → self.new.faults ≡ self.old.faults }
+        ensures faults { self.new.faults ≡ counted_read result self.old.faults }
     {
         match self.device.read(room) {
             Ok(0) => ReadOutcome::End,

@@ -6,9 +6,11 @@
 mod counted;
 mod gate;
 mod read_outcome;
+mod write_outcome;
 mod written;
 
 pub use counted::{Counted, PIECE_BYTES};
 pub use gate::{Gate, NoGate};
 pub use read_outcome::ReadOutcome;
+pub use write_outcome::WriteOutcome;
 pub use written::Written;

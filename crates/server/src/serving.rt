@@ -7,7 +7,7 @@ ghost use Rattle.server.specs.Serving.{SendsRow, SendsWhole, TellsOne, port_of};
 use crate::ear::Ear;
 use crate::served::Served;
 use crate::shared::Shared;
-use connection::listen;
+use connection::{Counted, listen};
 use mailbox::Lane;
 use node::{Gate, Item, NodeNaming, Port};
 use std::alloc::Global;
@@ -118,7 +118,7 @@ impl<'a, J: NodeNaming, S: Served<J>, G: Gate> Shared<'a, J, S, G> {
             link,
             lane,
         };
-        let mut source = Patient::new(&link.stream);
+        let mut source = Counted::new(Patient::new(&link.stream));
         // However it ended, the node was told so.
         let _ending = listen(rt, self.alloc, link.port, &mut source, &mut ear);
         ear.lane

@@ -2,7 +2,7 @@
 
 use crate::served::Served;
 use crate::shared::Shared;
-use connection::{Flow, Outlet, write_out};
+use connection::{Counted, Flow, Outlet, write_out};
 use node::{Gate, Handed, Memory, NodeNaming, Port};
 use std::alloc::Global;
 use std::sync::{Arc, Wait};
@@ -52,7 +52,7 @@ impl<'a, J: NodeNaming, S: Served<J>, G: Gate> Shared<'a, J, S, G> {
             match self.write_so(rt, link, &mut pen, waits) {
                 Flow::Open => pen = link.lay_back(rt, pen)?,
                 Flow::Late => return Some(pen),
-                Flow::Closed | Flow::Failed => {
+                Flow::Closed | Flow::Stopped | Flow::Fault => {
                     link.shut();
                     return None;
                 }
@@ -73,13 +73,13 @@ impl<'a, J: NodeNaming, S: Served<J>, G: Gate> Shared<'a, J, S, G> {
             return self.write_once(rt, link, pen);
         }
         if !link.set_waiting(false) {
-            return Flow::Failed;
+            return Flow::Stopped;
         }
         let flow = self.write_once(rt, link, pen);
         if link.set_waiting(true) {
             flow
         } else {
-            Flow::Failed
+            Flow::Stopped
         }
     }
 
@@ -90,7 +90,7 @@ impl<'a, J: NodeNaming, S: Served<J>, G: Gate> Shared<'a, J, S, G> {
             shared: self,
             port: link.port,
         };
-        let mut device = &link.stream;
+        let mut device = Counted::new(&link.stream);
         write_out(rt, &mut pen.rest, &mut tap, &mut device)
     }
 }

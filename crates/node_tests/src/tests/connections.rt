@@ -6,6 +6,7 @@ use super::fakes::{Sink, Source};
 use connection::{Ending, Flow, Hearer, Outlet, Unwritten, listen, write_out};
 use mailbox::{Inbox, Lane, Naming, Receiver};
 use node::{Config, Handed, Item, Members, Memory, NodeCore, Piece, Port};
+use node_base::Counted;
 use std::alloc::Global;
 use std::io::ErrorKind;
 use std::marker::Brand;
@@ -102,8 +103,9 @@ fn ends<J: Naming, R: Wait + Clock>(
     let (is_open, bad_call, ending, _) = *row;
     match lane {
         Some(lane) => {
-            let mut source = Source::new(CONNECT, 4, bad_call);
-            listen(rt, alloc, PORT, &mut source, &mut Ear { lane, is_open }) == ending
+            let mut source = Counted::new(Source::new(CONNECT, 4, bad_call));
+            let ended = listen(rt, alloc, PORT, &mut source, &mut Ear { lane, is_open });
+            ended == ending && source.faults() == u64::from(ending == Ending::Fault)
         }
         None => false,
     }
@@ -173,21 +175,21 @@ fn a_connection_is_told_whole(rt: HostRuntime) -> Result<(), Fail> {
     Ok(())
 }
 
-// Which write fails and how, how often the device is full, whether the connection is open then, and how many bytes
-// stand written.
-type WriteRow = (u64, ErrorKind, u64, bool, usize);
+// Which write fails and how, how often the device is full, how the writing ends, and how many bytes stand written. A fault
+// is counted once, and nothing else is.
+type WriteRow = (u64, ErrorKind, u64, Flow, usize);
 
 // Five bytes are two writes, and the answer's four are two.
 const WRITE_ROWS: &[WriteRow] = &[
-    (0, ErrorKind::BrokenPipe, 0, true, 9),
-    (1, ErrorKind::BrokenPipe, 0, false, 0),
-    (2, ErrorKind::BrokenPipe, 0, false, 3),
-    (3, ErrorKind::BrokenPipe, 0, false, 5),
-    (4, ErrorKind::BrokenPipe, 0, false, 8),
-    (2, ErrorKind::WouldBlock, 1, true, 9),
-    (3, ErrorKind::WouldBlock, 1, true, 9),
-    (4, ErrorKind::TimedOut, 1, true, 9),
-    (3, ErrorKind::Interrupted, 0, true, 9),
+    (0, ErrorKind::BrokenPipe, 0, Flow::Open, 9),
+    (1, ErrorKind::BrokenPipe, 0, Flow::Fault, 0),
+    (2, ErrorKind::BrokenPipe, 0, Flow::Fault, 3),
+    (3, ErrorKind::BrokenPipe, 0, Flow::Fault, 5),
+    (4, ErrorKind::BrokenPipe, 0, Flow::Fault, 8),
+    (2, ErrorKind::WouldBlock, 1, Flow::Open, 9),
+    (3, ErrorKind::WouldBlock, 1, Flow::Open, 9),
+    (4, ErrorKind::TimedOut, 1, Flow::Open, 9),
+    (3, ErrorKind::Interrupted, 0, Flow::Open, 9),
 ];
 
 // What was left before, and that with the node's answer after it, CONNACK 0.
@@ -218,19 +220,19 @@ fn connects(alloc: Global, tap: &mut Tap) -> bool {
     }
 }
 
-// Writes what is left and what the node puts out, as often as the device is full: how often it was, and whether the
-// connection is open then. None where that does not end.
+// Writes what is left and what the node puts out, as often as the device is full: how often it was, and how it ended then.
+// None where that does not end.
 fn write_all<R: Wait>(
     rt: &R,
     alloc: Global,
     tap: &mut Tap,
-    sink: &mut Sink,
-) -> Option<(u64, bool)> {
+    sink: &mut Counted<Sink>,
+) -> Option<(u64, Flow)> {
     let mut left = Unwritten::from_slice(alloc, LEFT).ok()?;
     for times in 0..9u64 {
         match write_out(rt, &mut left, tap, sink) {
             Flow::Late => {}
-            flow => return Some((times, matches!(flow, Flow::Open))),
+            flow => return Some((times, flow)),
         }
     }
     None
@@ -238,12 +240,16 @@ fn write_all<R: Wait>(
 
 // Whether what was left before and then the node's answer are written so.
 fn writes<R: Wait>(rt: &R, alloc: Global, tap: &mut Tap, row: &WriteRow) -> bool {
-    let (bad_call, fault, late, open, count) = *row;
-    let mut sink = Sink::new(alloc, 3, bad_call, fault);
-    connects(alloc, tap)
-        && write_all(rt, alloc, tap, &mut sink) == Some((late, open))
-        && sink.bytes().len() == count
-        && ALL.starts_with(sink.bytes())
+    let (bad_call, kind, late, flow, count) = *row;
+    let mut sink = Counted::new(Sink::new(alloc, 3, bad_call, kind));
+    let ended = connects(alloc, tap) && write_all(rt, alloc, tap, &mut sink) == Some((late, flow));
+    let counted = sink.faults() == u64::from(flow == Flow::Fault);
+    ended && counted && has_written(&sink.into_device(), count)
+}
+
+// Whether so many first bytes of all stand written.
+fn has_written(sink: &Sink, count: usize) -> bool {
+    sink.bytes().len() == count && ALL.starts_with(sink.bytes())
 }
 
 // Whether a row comes out with a fresh node as it says.

@@ -3,8 +3,8 @@ use Rattle.world_base.specs.declared.Handed.{Handed}
 use Rattle.connection.proofs.WritesJoin.{writes_behind}
 use Rattle.connection.proofs.flow.write_out.Goals as goal
 
-pub returns-in-Open : goal.returns-in-Open
-returns-in-Open g c =
+pub returns-in-Open-clause-flows : goal.returns-in-Open-clause-flows
+returns-in-Open-clause-flows g c =
     let h = c.in-Ok.ensures.ok in
     record {
       bytes = h.bytes;
@@ -15,8 +15,8 @@ returns-in-Open g c =
       rests = c.in-Whole-write.ensures.leaves;
     }
 
-pub returns-in-Closed : goal.returns-in-Closed
-returns-in-Closed g c =
+pub returns-in-Closed-clause-flows : goal.returns-in-Closed-clause-flows
+returns-in-Closed-clause-flows g c =
     let h = c.in-Ok.ensures.ok in
     record {
       bytes = h.bytes;
@@ -27,8 +27,8 @@ returns-in-Closed g c =
       rests = c.in-Whole-write.ensures.leaves;
     }
 
-pub returns-in-Full-write : goal.returns-in-Full-write
-returns-in-Full-write g c =
+pub returns-in-Full-write-clause-flows : goal.returns-in-Full-write-clause-flows
+returns-in-Full-write-clause-flows g c =
     let h = c.in-Ok.ensures.ok in
     record {
       bytes = h.bytes;
@@ -39,8 +39,8 @@ returns-in-Full-write g c =
       rests = c.in-Full-write.ensures.leaves;
     }
 
-pub returns-in-Failed-write : goal.returns-in-Failed-write
-returns-in-Failed-write g c =
+pub returns-in-Stopped-write-clause-flows : goal.returns-in-Stopped-write-clause-flows
+returns-in-Stopped-write-clause-flows g c =
     let h = c.in-Ok.ensures.ok in
     record {
       bytes = h.bytes;
@@ -49,4 +49,16 @@ returns-in-Failed-write g c =
           writes_behind _ _ _ c.args.left.now h.bytes c.take_from.new.self c.write.new.self c.write-2.new.self
           c.write.ensures.writes c.in-Whole.ensures.leaves h.is c.write-2.ensures.writes;
       rests = tt;
+    }
+
+pub returns-in-Fault-write-clause-flows : goal.returns-in-Fault-write-clause-flows
+returns-in-Fault-write-clause-flows g c =
+    let h = c.in-Ok.ensures.ok in
+    record {
+      bytes = h.bytes;
+      handed = inl (c.in-Ok.handed, h.handed);
+      writes =
+          writes_behind _ _ _ c.args.left.now h.bytes c.take_from.new.self c.write.new.self c.write-2.new.self
+          c.write.ensures.writes c.in-Whole.ensures.leaves h.is c.write-2.ensures.writes;
+      rests = c.in-Fault-write.ensures.leaves;
     }

@@ -1,3 +1,4 @@
+use Rattle.std.specs.Prelude.{◌≡◌}
 use Rattle.connection.specs.Inside.{HearsSome}
 use Rattle.connection.proofs.listening.hear_on.Given as goal
 
@@ -6,5 +7,6 @@ invariant-loop g l = record {
   can : (goal.iterator-loop g).can_next l.iterator';
   ends : (goal.iterator-loop g).is_finite l.iterator';
   heard : HearsSome l.port (g.H.Hearer.heard l.initial.hearer) (g.H.Hearer.heard l.hearer)
-      (g.D.Read.remaining l.initial.device) (g.D.Read.remaining l.device);
+      (g.D.Read.remaining l.initial.device.device) (g.D.Read.remaining l.device.device);
+  faults : l.device.faults ≡ l.initial.device.faults;
 }

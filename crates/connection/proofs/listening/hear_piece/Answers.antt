@@ -4,19 +4,19 @@ use Rattle.std.proofs.lemmas.List.{append-nil, length-take-le}
 use Rattle.world_base.specs.declared.item.Item.TheVariants.{Bytes}
 use Rattle.connection.proofs.listening.hear_piece.Goals as goal
 
-pub returns : goal.returns
-returns g c =
-    let piece = take c.in-Ok.count c.read.new.buf in
-    let is : c.in-Ok-from_slice.piece ≡ piece = c.in-Ok-from_slice.ensures in
+pub returns-clause-hears : goal.returns-clause-hears
+returns-clause-hears g c =
+    let piece = take c.in-Bytes.count c.read_piece.new.room in
+    let is : c.in-Ok.piece ≡ piece = c.in-Ok.ensures in
     let told = c.tell.ensures ∙ ap (λ p. g.H.Hearer.heard c.args.hearer.now ++ Bytes c.args.port p c.now-now.result ∷ []) is in (
       record { bytes = piece; now = c.now-now.result },
-      record { told = told; gave = rw (append-nil (piece ++ []), append-nil piece) c.in-Ok.ensures.bytes.0 },
+      record { told = told; gave = rw (append-nil (piece ++ []), append-nil piece) c.in-Bytes.ensures.piece.2 },
     )
 
-pub returns-in_default : goal.returns-in_default
-returns-in_default g c =
-    let bound = c.in-Ok.ensures.bound.0 in
-    let size = length-take-le c.in-Ok.count c.read.new.buf bound in (
+pub returns-in_default-clause-hears : goal.returns-in_default-clause-hears
+returns-in_default-clause-hears g c =
+    let bound = c.in-Bytes.ensures.piece.1 in
+    let size = length-take-le c.in-Bytes.count c.read_piece.new.room bound in (
       refl,
-      (take c.in-Ok.count c.read.new.buf, c.in-Ok.ensures.bytes.0, λ _. omega (arith, bound, c.read.auto.buf)),
+      (take c.in-Bytes.count c.read_piece.new.room, c.in-Bytes.ensures.piece.2, λ _. omega (arith, bound, c.read_piece.auto.room)),
     )
