@@ -3,7 +3,7 @@ use Rattle.std.proofs.Common.{◌≡◌, ℕ, ◌<◌, ◌⊎◌, inl, inr, Some
 use Rattle.std.specs.Prelude.{nat_lt, nat_le, ◌&&◌, ◌==◌}
 use Rattle.std.specs.List.{list_any}
 use Rattle.std.proofs.lemmas.List.{append-nil}
-use Rattle.std.proofs.lemmas.Bool.{and_from, eq-eqb, eqb-true}
+use Rattle.std.proofs.lemmas.Bool.{and_from, and_parts, eq-eqb, eqb-true}
 use Rattle.machine.specs.Machine.{Rules}
 use Rattle.ballot_base.specs.declared.message.Body.TheVariants.{Join, State, Installed, Activate}
 use Rattle.ballot_base.specs.declared.message.Effect.{Effect}
@@ -126,6 +126,30 @@ state_lost {S = S} {C = C} {O = O} {rules = rules} old new ballot log before wai
     by_log quiet (inl (took, is, other)) =
         let e = ap (λ (o : Outcome S C O). o.effects) (sym (on_state-takes rules old.state took ballot log waits is)) ∙ quiet.nothing_sent in
         absurd (installs_some O (record took { held_in = ballot; role = Installing; lacking = others old.state.id old.state.members }) (others old.state.id old.state.members) e)
+
+-- what counts as lost changes the count alone
+pub lost_is : {S C : Type 0} (old new : CountedReplica S C) → new.state ≡ old.state → new.losses ≡ one_more old.losses →
+    new ≡ record old { losses = one_more old.losses }
+lost_is {S = S} {C = C} old new state losses =
+    ap (λ s. let z : CountedReplica S C = record { state = s; losses = new.losses } in z) state
+    ∙ ap (λ n. let z : CountedReplica S C = record { state = old.state; losses = n } in z) losses
+
+-- a row whose condition does not hold reads nothing, and neither does one whose log was taken
+pub not_read : {P : Type 0} (may none : Bool) → may ≡ false → (may && none) ≡ true → P
+not_read true none other unread = cc
+not_read false none other unread = cc
+
+pub taken_is_read : {S C O P : Type 0} (rules : Rules S C O) (r took : ReplicaState S C) (log : Log C) (may : Bool) →
+    taken rules r log ≡ Some took → (may && reads_none rules r log) ≡ true → P
+taken_is_read {S = S} {C = C} {P = P} rules r took log may is unread = by_log (read_or_none rules r log)
+  where
+    none : reads_none rules r log ≡ true
+    none = (and_parts may (reads_none rules r log) unread).1
+
+    by_log : ((other : ReplicaState S C) × (taken rules r log ≡ Some other) × (reads_none rules r log ≡ false))
+        ⊎ ((taken rules r log ≡ None) × (reads_none rules r log ≡ true)) → P
+    by_log (inl (other, e, read)) = let f = sym none ∙ read in cc
+    by_log (inr (e, other)) = let f = sym e ∙ is in cc
 
 -- Install that is taken, one that counts as lost, and one that is only answered
 pub install_taken : {S C O : Type 0} {rules : Rules S C O} (old took mid new : CountedReplica S C) (from ballot held : ℕ) (log : Log C) (unread : Bool)

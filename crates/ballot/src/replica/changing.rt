@@ -5,6 +5,7 @@ ghost use Rattle.std.specs.Bool.{OnTrue, OnFalse};
 ghost use Rattle.ballot.specs.Inside.{Heard, Went};
 ghost use Rattle.ballot_base.specs.Changing.{on_new_ballot, on_join, on_state, on_install, waits_for, lacks};
 ghost use Rattle.ballot_base.specs.Logs.{places};
+ghost use Rattle.ballot_base.specs.Losses.{one_more};
 ghost use Rattle.ballot_base.specs.Taking.{taken, with_snapshot};
 ghost use Rattle.ballot_base.specs.Unread.{is_unread};
 
@@ -89,6 +90,8 @@ impl<M: Machine> Replica<M> {
         ensures went { Heard M.rules self.old (on_state M.rules self.old.state ballot log)
             (is_unread M.rules self.old.state (Body.State ballot log))
             self.new out.old.items out.new.items }
+        ensures unread { is_unread M.rules self.old.state (Body.State ballot log) ≡ true →
+            self.new ≡ record self.old { losses = one_more self.old.losses } }
         ensures runs { self.new.state.stopped ≡ self.old.state.stopped }
     {
         if !self.waits_for(ballot, log.places()) {
@@ -122,6 +125,8 @@ impl<M: Machine> Replica<M> {
         ensures went { Heard M.rules self.old (on_install M.rules self.old.state from ballot log)
             (is_unread M.rules self.old.state (Body.Install ballot log))
             self.new out.old.items out.new.items }
+        ensures unread { is_unread M.rules self.old.state (Body.Install ballot log) ≡ true →
+            self.new ≡ record self.old { losses = one_more self.old.losses } }
         ensures runs { self.new.state.stopped ≡ self.old.state.stopped }
     {
         let held = log.places();

@@ -2,7 +2,7 @@
 
 ghost use Rattle.std.specs.Prelude.{◌≡◌, ◌<◌, ◌↔◌, true, false, [], ◌∷◌, OnOk, OnErr, IsErr};
 ghost use Rattle.ballot.specs.Inside.{Heard, Says, Went};
-ghost use Rattle.ballot_base.specs.Losses.{Stepped, IsQuiet};
+ghost use Rattle.ballot_base.specs.Losses.{Stepped, IsQuiet, one_more};
 ghost use Rattle.ballot_base.specs.Sending.{message_to};
 ghost use Rattle.ballot_base.specs.Unread.{is_unread};
 ghost use Rattle.ballot_base.specs.Protocol.{received, replica_step};
@@ -35,6 +35,10 @@ impl<M: Machine> Replica<M> {
             self.new ≡ record self.old {
               state = (replica_step M.rules self.old.state (Receives message)).state;
             } }
+        // One whose snapshot has to be read and stands for no machine counts as lost.
+        ensures unread { self.old.state.stopped ≡ false →
+            is_unread M.rules self.old.state message.body ≡ true →
+            self.new ≡ record self.old { losses = one_more self.old.losses } }
 
         ensures halted { IsErr result ↔ (self.new.state.stopped ≡ true) }
         ensures stopped { self.old.state.stopped ≡ true → self.new ≡ self.old }
@@ -56,6 +60,8 @@ impl<M: Machine> Replica<M> {
         requires { self.old.state.stopped ≡ false }
         ensures went { Heard M.rules self.old (received M.rules self.old.state from body)
             (is_unread M.rules self.old.state body) self.new out.old.items out.new.items }
+        ensures unread { is_unread M.rules self.old.state body ≡ true →
+            self.new ≡ record self.old { losses = one_more self.old.losses } }
         ensures ok { OnOk result (self.new.state.stopped ≡ false) }
         ensures err { OnErr result ((self.new.state.stopped ≡ true) ×
             (out.new.items ≡ out.old.items)) }

@@ -6,7 +6,7 @@ use Rattle.ballot_base.specs.Replica.{CountedReplica}
 use Rattle.ballot_base.proofs.ChangeRows.{on_install-stays}
 use Rattle.ballot_base.proofs.LogsTaken.{taken-id}
 use Rattle.ballot.proofs.MessagesTaken.{went_same}
-use Rattle.ballot.proofs.ChangesTaken.{install_taken, install_lost, install_answered}
+use Rattle.ballot.proofs.ChangesTaken.{install_taken, install_lost, install_answered, lost_is, not_read, taken_is_read}
 use Rattle.ballot.proofs.replica.Replica.on_install.Goals as goal
 
 pub returns-then-lacks-clause-went : goal.returns-then-lacks-clause-went
@@ -41,3 +41,23 @@ returns-clause-went g c =
     went_same _ _ _ (on_install-stays steps _ c.args.from c.args.ballot c.args.log
     (ap (lacks c.args.self.now.state c.args.ballot) (sym c.places-held.ensures) ∙ sym c.lacks.ensures ∙ c.if-lacks.false)
     (sym c.holds.ensures ∙ c.if-holds.false))
+
+pub returns-then-lacks-clause-unread : goal.returns-then-lacks-clause-unread
+returns-then-lacks-clause-unread g c = λ unread.
+    let steps = g.M.Machine.rules in
+    taken_is_read steps c.args.self.now.state c.take.new.self.state c.args.log _ c.if-not-take.ensures.took.0 unread
+
+pub returns-then-not-take-clause-unread : goal.returns-then-not-take-clause-unread
+returns-then-not-take-clause-unread g c = λ unread.
+    let same = c.self.view_is ∙ c.if-not-take.ensures.unread.0 in
+    lost_is c.args.self.now _
+    (ap (λ (z : CountedReplica _ _). z.state) same)
+    (c.counted-self-inside.ensures ∙ ap (λ (z : CountedReplica _ _). one_more z.losses) same)
+
+pub returns-then-holds-clause-unread : goal.returns-then-holds-clause-unread
+returns-then-holds-clause-unread g c = λ unread.
+    not_read _ _ (ap (lacks c.args.self.now.state c.args.ballot) (sym c.places-held.ensures) ∙ sym c.lacks.ensures ∙ c.if-lacks.false) unread
+
+pub returns-clause-unread : goal.returns-clause-unread
+returns-clause-unread g c = λ unread.
+    not_read _ _ (ap (lacks c.args.self.now.state c.args.ballot) (sym c.places-held.ensures) ∙ sym c.lacks.ensures ∙ c.if-lacks.false) unread

@@ -6,7 +6,7 @@ use Rattle.ballot_base.specs.Losses.{one_more}
 use Rattle.ballot_base.specs.Replica.{CountedReplica}
 use Rattle.ballot_base.proofs.ChangeRows.{on_state-stays}
 use Rattle.ballot.proofs.MessagesTaken.{went_same}
-use Rattle.ballot.proofs.ChangesTaken.{state_taken, state_lost}
+use Rattle.ballot.proofs.ChangesTaken.{state_taken, state_lost, lost_is, not_read, taken_is_read}
 use Rattle.ballot.proofs.replica.Replica.on_state.Goals as goal
 
 pub returns-then-not-waits_for-clause-went : goal.returns-then-not-waits_for-clause-went
@@ -48,3 +48,25 @@ returns-clause-went g c =
     c.hand_over-sent.ensures
     refl
     c.counted-self-inside-2.ensures
+
+pub returns-then-not-waits_for-clause-unread : goal.returns-then-not-waits_for-clause-unread
+returns-then-not-waits_for-clause-unread g c = λ unread.
+    not_read _ _ (ap (waits_for c.args.self.now.state c.args.ballot) (sym c.places.ensures) ∙ sym c.waits_for.ensures ∙ c.if-not-waits_for.true) unread
+
+pub returns-in_default-clause-unread : goal.returns-in_default-clause-unread
+returns-in_default-clause-unread g c = λ unread.
+    lost_is c.args.self.now _
+    (ap (λ (z : CountedReplica _ _). z.state) c.self.view_is)
+    (c.counted-self-inside.ensures ∙ ap (λ (z : CountedReplica _ _). one_more z.losses) c.self.view_is)
+
+pub returns-then-not-take-clause-unread : goal.returns-then-not-take-clause-unread
+returns-then-not-take-clause-unread g c = λ unread.
+    let same = c.self-2.view_is ∙ c.if-not-take.ensures.unread.0 in
+    lost_is c.args.self.now _
+    (ap (λ (z : CountedReplica _ _). z.state) same)
+    (c.counted-self-inside-then-not-take.ensures ∙ ap (λ (z : CountedReplica _ _). one_more z.losses) same)
+
+pub returns-clause-unread : goal.returns-clause-unread
+returns-clause-unread g c = λ unread.
+    let steps = g.M.Machine.rules in
+    taken_is_read steps c.args.self.now.state c.take.new.self.state c.args.log _ c.if-not-take.ensures.took.0 unread
