@@ -4,11 +4,11 @@ use Rattle.machine.specs.Machine.{Rules}
 use Rattle.agreement.proofs.Agreed.OnePrimary as primaries
 use Rattle.agreement.proofs.Agreed.PastAgrees as wholes
 use Rattle.agreement.proofs.Agreed.PastGrows as growing
-use Rattle.snapshots.specs.Laws.{AgreedGrows, HasAgreed, LogsAreCutRight, MachinesReplay, NodesAgree, OnePrimaryABallot, SnapshotsAreRead}
+use Rattle.snapshots.specs.Laws.{AgreedGrows, HasAgreed, LogsAreCutRight, MachinesReplay, NodesAgree, OnePrimaryABallot, SentLogsAreRight, SnapshotsAreRead}
 use Rattle.snapshots.specs.Past.{whole_moment}
 use Rattle.snapshots.proofs.Continues.{agreed_back, agreed_in, left_back}
 use Rattle.snapshots.proofs.PastsKept.{past_stands}
-use Rattle.snapshots.proofs.SnapshotsRead.{carried_is_read}
+use Rattle.snapshots.proofs.SnapshotsRead.{carried_is_read, carried_log}
 use Rattle.snapshots.proofs.Views.{in_whole}
 
 pub has_agreed : {S C O : Type 0} (rules : Rules S C O) → HasAgreed rules
@@ -35,6 +35,12 @@ pub logs_are_cut_right : {S C O : Type 0} (rules : Rules S C O) → LogsAreCutRi
 logs_are_cut_right rules config a past came n r stands =
     let z = (past_stands rules config a past came).kept.nodes n r stands in
     record { recorded = z.0.within; applied = z.1; bytes = z.0.bytes; snapshot = z.0.read }
+
+pub sent_logs_are_right : {S C O : Type 0} (rules : Rules S C O) → SentLogsAreRight rules
+sent_logs_are_right rules config a past came to message sent log is =
+    let q = past_stands rules config a past came in
+    let z = carried_log rules (whole_moment a ∷ q.earlier) a.world.archive message.body log (q.kept.letters to message sent) is in
+    record { recorded = z.within; bytes = z.bytes; snapshot = z.read }
 
 pub snapshots_are_read : {S C O : Type 0} (rules : Rules S C O) → SnapshotsAreRead rules
 snapshots_are_read rules config a past came to message sent r =

@@ -1,5 +1,5 @@
 -- SnapshotsRead.antt: the snapshot of each message that was sent stands for a machine.
-use Rattle.std.proofs.Common.{◌≡◌, ◌<◌, ◌≤◌, ◌⊎◌, inl, inr, Bool, true, false, List, refl, arith}
+use Rattle.std.proofs.Common.{◌≡◌, ◌<◌, ◌≤◌, ◌⊎◌, inl, inr, Bool, true, false, List, Some, refl, subst, arith}
 use Rattle.std.specs.Prelude.{◌&&◌}
 use Rattle.std.proofs.lemmas.Bool.{cases_lt}
 use Rattle.machine.specs.Machine.{Rules}
@@ -11,6 +11,7 @@ use Rattle.ballot_base.specs.Logs.{Log, places}
 use Rattle.ballot_base.specs.Replica.{ReplicaState}
 use Rattle.ballot_base.specs.Unread.{is_unread, reads_none}
 use Rattle.ballot_base.proofs.LogsTaken.{reads_none-low, reads_none-not}
+use Rattle.snapshots.specs.Laws.{log_in}
 use Rattle.snapshots.proofs.Kept.{Carries, IsSnapshot}
 
 -- a snapshot of a place over a replica's base is one of a place over 0
@@ -40,3 +41,21 @@ carried_is_read rules past archive r (Superseded b) x = refl
 carried_is_read rules past archive r (Append b place c) x = refl
 carried_is_read rules past archive r (Held b held) x = refl
 carried_is_read rules past archive r (Commit b held) x = refl
+
+-- the log that a message carries
+same_log : {C : Type 0} (log other : Log C) → Some log ≡ Some other → log ≡ other
+same_log log other e = cc
+
+pub carried_log : {S C O : Type 0} (rules : Rules S C O) (past : List (Moment S C O)) (archive : List C) (body : Body C) (log : Log C) →
+    Carries rules past archive body → log_in body ≡ Some log → IsSnapshot rules archive log
+carried_log rules past archive (State b other) log x e = subst (λ l. IsSnapshot rules archive l) (same_log other log e) x.0
+carried_log rules past archive (Install b other) log x e = subst (λ l. IsSnapshot rules archive l) (same_log other log e) x.0
+carried_log rules past archive (NewBallot b members a old) log x e = cc
+carried_log rules past archive (Join b a) log x e = cc
+carried_log rules past archive (Installed b held) log x e = cc
+carried_log rules past archive (Activate b) log x e = cc
+carried_log rules past archive (Activated b) log x e = cc
+carried_log rules past archive (Superseded b) log x e = cc
+carried_log rules past archive (Append b place c) log x e = cc
+carried_log rules past archive (Held b held) log x e = cc
+carried_log rules past archive (Commit b held) log x e = cc

@@ -1,5 +1,5 @@
 -- Laws.antt: what holds of every past of a group whose nodes cut their logs. What is said of logs is said of whole ones.
-use Rattle.std.specs.Prelude.{ℕ, ◌<◌, ◌≤◌, ◌≡◌, false, List, ◌∷◌, length, map, take, slice_get, Some}
+use Rattle.std.specs.Prelude.{ℕ, ◌<◌, ◌≤◌, ◌≡◌, false, List, ◌∷◌, length, map, take, slice_get, Option, Some, None}
 use Rattle.machine.specs.Machine.{Rules, replay}
 use Rattle.lists.specs.Lists.{In, IsPrefixOf}
 use Rattle.agreement.specs.Agreement.{Agrees, Holds}
@@ -8,7 +8,10 @@ use Rattle.agreement.specs.Past.{IsAgreed}
 use Rattle.agreement.specs.Primaries.{IsPrimary}
 use Rattle.agreement.specs.Replays.{AreReplays}
 use Rattle.ballot_base.specs.declared.config.Config.{Config}
+use Rattle.ballot_base.specs.declared.message.Body.{Body}
+use Rattle.ballot_base.specs.declared.message.Body.TheVariants.{State, Install}
 use Rattle.ballot_base.specs.declared.message.Message.{Message}
+use Rattle.ballot_base.specs.Logs.{Log}
 use Rattle.ballot_base.specs.Replica.{ReplicaState}
 use Rattle.ballot_base.specs.Unread.{is_unread}
 use Rattle.snapshots.specs.Past.{Moment, Past, whole_moment}
@@ -60,6 +63,25 @@ LogsAreCutRight {S} {C} {O} rules =
     Past rules config (a ∷ past) →
     (n : ℕ) (r : ReplicaState S C) → slice_get a.world.nodes n ≡ Some r →
     IsCutRight rules a.world.archive r
+
+-- the log that a message brings
+abbrev pub log_in : {C : Type 0} → Body C → Option (Log C)
+log_in (State ballot log) = Some log
+log_in (Install ballot log) = Some log
+log_in _ = None
+
+-- it was cut right, too, where it was sent
+pub record IsSentRight {S C O : Type 0} (rules : Rules S C O) (archive : List C) (log : Log C) : Type 0 where
+  pub recorded : log.base ≤ length archive
+  pub bytes : 0 < log.base → log.snapshot ≡ rules.frozen (replay rules (take log.base archive))
+  pub snapshot : 0 < log.base → rules.thawed log.snapshot ≡ Some (replay rules (take log.base archive))
+
+abbrev pub SentLogsAreRight : {S C O : Type 0} → Rules S C O → Type 0
+SentLogsAreRight {S} {C} {O} rules =
+    (config : Config) (a : Moment S C O) (past : List (Moment S C O)) →
+    Past rules config (a ∷ past) →
+    (to : ℕ) (message : Message C) → In (to, message) a.world.sent →
+    (log : Log C) → log_in message.body ≡ Some log → IsSentRight rules a.world.archive log
 
 -- so no node finds a message whose snapshot it has to read and that stands for no machine
 abbrev pub SnapshotsAreRead : {S C O : Type 0} → Rules S C O → Type 0

@@ -7,6 +7,7 @@ ghost use Rattle.snapshots.specs.Laws.{
   MachinesReplay,
   NodesAgree,
   OnePrimaryABallot,
+  SentLogsAreRight,
   SnapshotsAreRead,
 };
 ghost use Rattle.snapshots.specs.Orders.{
@@ -49,6 +50,13 @@ pub fn machines_replay<M: Machine>()
 /// of these places, and stands for it.
 pub fn logs_are_cut_right<M: Machine>()
     ensures { LogsAreCutRight M.rules }
+{}
+
+/// A log that was sent was cut right, too: its base lies within the record, and its snapshot is the
+/// frozen replay of the places below it, and stands for that. So whoever takes it goes on from the
+/// machine of the list's beginning.
+pub fn sent_logs_are_right<M: Machine>()
+    ensures { SentLogsAreRight M.rules }
 {}
 
 /// So a message that has to be read is read: no node counts one as lost for its snapshot.

@@ -7,5 +7,5 @@ mod laws;
 pub use laws::{
     agreed_grows, answers_at_the_next_places, answers_while_it_leads, has_agreed, keeps_the_order,
     logs_are_cut_right, machines_replay, nodes_agree, one_node_takes_a_ballot,
-    one_primary_a_ballot, snapshots_are_read, taken_stand_at_once,
+    one_primary_a_ballot, sent_logs_are_right, snapshots_are_read, taken_stand_at_once,
 };
