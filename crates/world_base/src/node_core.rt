@@ -1,6 +1,6 @@
 // A replica with its connections.
 
-ghost use Rattle.std.specs.Prelude.{◌≡◌, ◌≤◌, ◌↔◌, ◌++◌, false, if◌then◌else◌, IfOk, IsErrOf, OnErr, OnOk};
+ghost use Rattle.std.specs.Prelude.{◌≡◌, ◌≤◌, ◌↔◌, ◌++◌, false, [], if◌then◌else◌, IfOk, IsErrOf, OnErr, OnOk};
 ghost use Rattle.std.specs.Option.{is_some};
 ghost use Rattle.ballot.specs.LawfulConfig.{is_lawful};
 ghost use Rattle.ballot.specs.Cutting.{can_cut};
@@ -73,6 +73,7 @@ impl NodeCore {
     pub fn snapshot(&self) -> (u64, &[u8])
         ensures base { result.0 ≡ self.now.core.replica.state.log.base }
         ensures bytes { result.1.now ≡ self.now.core.replica.state.log.snapshot }
+        ensures none { result.0 ≡ 0 → result.1.now ≡ [] }
         ensures applied { result.0 ≤ self.now.core.replica.state.committed }
     {
         self.serving.snapshot()

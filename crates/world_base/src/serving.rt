@@ -1,6 +1,6 @@
 // A node during a step.
 
-ghost use Rattle.std.specs.Prelude.{◌≡◌, ◌⊎◌, ◌≤◌, ◌^◌, ◌↔◌, false, true, length, IfOk, IfSome, OnSome, IfNone, IsErrOf};
+ghost use Rattle.std.specs.Prelude.{◌≡◌, ◌⊎◌, ◌≤◌, ◌^◌, ◌↔◌, false, true, [], length, IfOk, IfSome, OnSome, IfNone, IsErrOf};
 ghost use Rattle.std.specs.List.{list_any, position};
 ghost use Rattle.broker_model.specs.Connection.{is_connection_name};
 ghost use Rattle.ballot.specs.LawfulConfig.{is_lawful};
@@ -112,6 +112,7 @@ impl Serving {
     pub fn snapshot(&self) -> (u64, &[u8])
         ensures base { result.0 ≡ self.now.core.replica.state.log.base }
         ensures bytes { result.1.now ≡ self.now.core.replica.state.log.snapshot }
+        ensures none { result.0 ≡ 0 → result.1.now ≡ [] }
         ensures applied { result.0 ≤ self.now.core.replica.state.committed }
     {
         self.replica.snapshot()
