@@ -1,4 +1,4 @@
-use Rattle.std.proofs.Common.{◌≡◌, ◌≤◌, ◌-◌, ap, sym, ◌∙◌, take, length, refl, arith}
+use Rattle.std.proofs.Common.{◌-◌, ap, sym, ◌∙◌, length, refl, arith}
 use Rattle.std.proofs.lemmas.List.{length-take-le}
 use Rattle.ballot.specs.Replica.{ReplicaState}
 use Rattle.broker_base.specs.Command.{Command}

@@ -1,5 +1,4 @@
-use Rattle.std.proofs.Common.{◌≡◌, ◌^◌, ◌-◌, ℕ, ap, sym, ◌∙◌, get_or, length, subst}
-use Rattle.lists.specs.Lists.{In}
+use Rattle.std.proofs.Common.{◌^◌, ◌-◌, ap, sym, ◌∙◌, get_or, length, subst}
 use Rattle.master.specs.Inside.{least_but_one}
 use Rattle.master.proofs.Groups.{sole_is}
 use Rattle.world_nodes.specs.Agreed.{AgreeOnSoMany}

@@ -1,4 +1,3 @@
-use Rattle.std.proofs.Common.{◌≡◌, sym, ◌∙◌, inr, false}
 use Rattle.world_nodes.specs.Steps.{GivesIn}
 use Rattle.world_nodes.proofs.Acts.{where_ok}
 use Rattle.world_nodes.proofs.MasterActs.{gives_where}

@@ -1,4 +1,4 @@
-use Rattle.std.proofs.Common.{◌≡◌, ◌≤◌, ◌<◌, ◌+◌, inl, inr, ◌∙◌, ap, sym, length, refl, arith}
+use Rattle.std.proofs.Common.{◌≡◌, ◌+◌, inl, inr, ◌∙◌, ap, length, refl, arith}
 use Rattle.world_base.specs.Core.{CountedCore}
 use Rattle.world_base.specs.declared.item.Item.TheVariants.{Cut}
 use Rattle.world_model.specs.node_model.Moves.Deed.{takes}

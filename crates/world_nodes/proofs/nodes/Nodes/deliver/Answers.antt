@@ -1,5 +1,5 @@
-use Rattle.std.proofs.Common.{sym, ◌∙◌, inr}
-use Rattle.world_nodes.proofs.MasterActs.{asked_in, came_on, came_to_master, came_to_node, comes_exactly, comes_on, comes_or_rests, heard_ballot, heard_or_lost, may_come_on, not_heard, sent_copy}
+use Rattle.std.proofs.Common.{sym, ◌∙◌}
+use Rattle.world_nodes.proofs.MasterActs.{asked_in, came_on, came_to_master, comes_exactly, comes_on, comes_or_rests, heard_ballot, heard_or_lost, may_come_on, sent_copy}
 use Rattle.world_nodes.proofs.nodes.Nodes.deliver.Goals as goal
 
 pub answer-requires : goal.answer-requires

@@ -1,4 +1,4 @@
-use Rattle.std.proofs.Common.{◌≡◌, ◌<◌, ◌-◌, ℕ, List, ap, sym, ◌∙◌, subst, get_or, length, arith}
+use Rattle.std.proofs.Common.{◌-◌, ℕ, List, ap, sym, ◌∙◌, subst, get_or, arith}
 use Rattle.std.specs.Prelude.{slice_get}
 use Rattle.lists.specs.Lists.{In}
 use Rattle.master.specs.Inside.{IsShort}
