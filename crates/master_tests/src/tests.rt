@@ -7,3 +7,4 @@ mod idle;
 mod memory;
 mod stories;
 mod takeovers;
+mod twins;

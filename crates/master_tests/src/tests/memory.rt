@@ -3,6 +3,7 @@
 
 use super::groups::*;
 use super::stories::{Story, goes};
+use ballot::Effect;
 use machine::{Tally, TallyCommand};
 use master::{Event, Group};
 use std::alloc::Global;
@@ -62,5 +63,83 @@ pub fn serves_on(group: &mut Group<Tally>, alloc: Global) -> bool {
 #[test]
 fn a_refused_growth_is_counted(rt: HostRuntime) {
     let told = goes(rt.alloc(), 3, &[1, 2, 3], Story::ServesOn);
+    assert!(rt; told != Some(false));
+}
+
+// The number that a command adds.
+fn number_of(command: &TallyCommand) -> u64 {
+    match command {
+        TallyCommand::Add(number) => *number,
+        TallyCommand::Start(_) => 0,
+    }
+}
+
+// The sum of what the first commands add.
+fn sum_of(commands: &[TallyCommand], most: usize) -> u64 {
+    let mut sum: u64 = 0;
+    for command in commands.iter().take(most) {
+        sum = sum.wrapping_add(number_of(command));
+    }
+    sum
+}
+
+// Whether a total is the answer at a place of the agreed list.
+fn is_answer(group: &Group<Tally>, place: u64, total: u64) -> bool {
+    let (recorded, kept) = group.agreed();
+    let most = (place as usize).saturating_add(1);
+    let front = sum_of(recorded, most);
+    let behind = sum_of(kept, most.saturating_sub(recorded.len()));
+    place < group.agreed_len() && front.wrapping_add(behind) == total
+}
+
+// Whether all outputs that left are answers at places of the agreed list.
+fn are_answers(group: &Group<Tally>) -> bool {
+    group.left().iter().all(|left| match left {
+        Effect::Out(place, total) => is_answer(group, *place, *total),
+        Effect::To(_, _) => false,
+    })
+}
+
+// Node 1 adds a command, and then cuts its log; a second time where memory was wanting for that.
+fn adds_and_cuts(group: &mut Group<Tally>) {
+    answers(group, 1, 2);
+    for _ in 0..2 {
+        let _ = happens(group, &Event::Cut(1));
+    }
+}
+
+// Node 2 becomes the primary of both nodes. What found no memory is said again when time passes.
+fn takes_over(group: &mut Group<Tally>, alloc: Global) -> bool {
+    let Ok(change) = config(alloc, &[1, 2], 2) else {
+        return false;
+    };
+    let _ = gives(group, change);
+    for _ in 0..4 {
+        go_on(group, 0);
+        let _ = happens(group, &Event::Tick(2));
+    }
+    true
+}
+
+/// Whether a log is cut and its snapshot goes over, or one loss is counted; what left is right in any case.
+pub fn cuts_on(group: &mut Group<Tally>, alloc: Global) -> bool {
+    adds_and_cuts(group);
+    if !takes_over(group, alloc) && !takes_over(group, alloc) {
+        return false;
+    }
+    answers(group, 2, 3);
+    let list = [
+        TallyCommand::Add(2),
+        TallyCommand::Start(2),
+        TallyCommand::Add(3),
+    ];
+    let as_ever = agrees(group, &list) && gave(group, 1, 2, 5) && is_active(group, 2);
+    are_answers(group) && (as_ever || group.losses() == 1)
+}
+
+// With one growth refused while a log is cut, or while its snapshot goes over.
+#[test]
+fn a_refused_cut_is_counted(rt: HostRuntime) {
+    let told = goes(rt.alloc(), 2, &[1], Story::CutsOn);
     assert!(rt; told != Some(false));
 }

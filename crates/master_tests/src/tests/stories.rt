@@ -19,6 +19,7 @@ pub enum Story {
     TakesASnapshot,
     IsIdle,
     ServesOn,
+    CutsOn,
     ServesInTurn,
     LeavesLate,
 }
@@ -36,6 +37,7 @@ fn is_told(alloc: Global, group: &mut Group<Tally>, story: Story) -> bool {
         Story::TakesASnapshot => cutting::takes_over_from_a_snapshot(group, alloc),
         Story::IsIdle => idle::is_idle_where_nothing_can_happen(group),
         Story::ServesOn => memory::serves_on(group, alloc),
+        Story::CutsOn => memory::cuts_on(group, alloc),
         Story::ServesInTurn => takeovers::serves_in_turn(group, alloc),
         Story::LeavesLate => takeovers::leaves_late(group, alloc),
     }

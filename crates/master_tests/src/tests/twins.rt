@@ -1,0 +1,198 @@
+// Two groups to which the same happens, but that one of them cuts its logs: nothing else tells them apart.
+
+use super::groups::{agrees, config, counts, group};
+use ballot::{Body, Effect};
+use machine::{Tally, TallyCommand};
+use master::{Event, Group};
+use std::alloc::Global;
+
+// How many events there are besides the cuts, and how many nodes.
+const EVENTS: u64 = 20_000;
+
+const NODES: u8 = 7;
+
+// The figures, as they were worked out apart from this code by the protocol's table.
+const FIGURES: [u64; 6] = [689, 116, 539, 5_358, 612, 389];
+
+// The group that cuts and the one that does not, the message that comes next, and the last number drawn.
+#[derive(Drop)]
+struct Twins {
+    cutting: Group<Tally>,
+    keeping: Group<Tally>,
+    next: u64,
+    drawn: u64,
+    cuts: u64,
+}
+
+// A number below 256.
+fn small(number: u64) -> u8 {
+    match u8::try_from(number) {
+        Ok(small) => small,
+        Err(_) => 0,
+    }
+}
+
+impl Twins {
+    // Draws a number below `limit`, by a fixed rule (Knuth's MMIX).
+    fn draw(&mut self, limit: u64) -> u64 {
+        self.drawn = self
+            .drawn
+            .wrapping_mul(6_364_136_223_846_793_005)
+            .wrapping_add(1_442_695_040_888_963_407);
+        match (self.drawn >> 33).checked_rem(limit) {
+            Some(number) => number,
+            None => 0,
+        }
+    }
+
+    // Draws a node; nodes 6 and 7 seldom.
+    fn draw_node(&mut self) -> u8 {
+        let most = if self.draw(8) == 0 { NODES } else { 5 };
+        small(self.draw(u64::from(most))).saturating_add(1)
+    }
+
+    // Draws three members, and one of them as the primary.
+    fn draw_change(&mut self, alloc: Global) -> Option<Event<TallyCommand>> {
+        let first = small(self.draw(5));
+        let members = [
+            first.saturating_add(1),
+            first.saturating_add(2),
+            first.saturating_add(3),
+        ];
+        let primary = first.saturating_add(1).saturating_add(small(self.draw(3)));
+        let change = config(alloc, &members, primary).ok()?;
+        Some(Event::Assign(change))
+    }
+
+    // The message that comes next, an earlier one again, or one that is not sent yet.
+    fn draw_message(&mut self) -> Event<TallyCommand> {
+        if self.draw(8) == 0 {
+            let sent = (self.keeping.sent().len() as u64).saturating_add(1);
+            return Event::Deliver(self.draw(sent));
+        }
+        let number = self.next;
+        if number < self.keeping.sent().len() as u64 {
+            self.next = number.saturating_add(1);
+        }
+        Event::Deliver(number)
+    }
+
+    // Draws what happens. Two of the nodes crash, at events that are fixed.
+    fn draw_event(&mut self, alloc: Global, at: u64) -> Option<Event<TallyCommand>> {
+        if at == 9_000 || at == 15_000 {
+            return Some(Event::Crash(small(at / 7_000)));
+        }
+        match self.draw(200) {
+            0 => self.draw_change(alloc),
+            1..=49 => {
+                let node = self.draw_node();
+                Some(Event::Propose(node, TallyCommand::Add(self.draw(1_000))))
+            }
+            50..=59 => Some(Event::Tick(self.draw_node())),
+            // A message that is lost.
+            60 => {
+                self.next = self.next.saturating_add(1);
+                Some(Event::Tick(self.draw_node()))
+            }
+            _ => Some(self.draw_message()),
+        }
+    }
+
+    // Whether an event comes to the same in both, and both have sent, given and agreed on as much.
+    fn happens(&mut self, event: &Event<TallyCommand>) -> bool {
+        let one = self.cutting.step(event).is_ok();
+        let other = self.keeping.step(event).is_ok();
+        one == other && counts(&self.cutting) == counts(&self.keeping)
+    }
+
+    // A node cuts its log now and then. Whether nothing is seen of it.
+    fn cuts_now_and_then(&mut self) -> bool {
+        if self.draw(5) == 0 {
+            let node = self.draw_node();
+            if self.cutting.step(&Event::Cut(node)).is_ok() {
+                self.cuts = self.cuts.saturating_add(1);
+            }
+        }
+        counts(&self.cutting) == counts(&self.keeping)
+    }
+
+    // Whether all events come to the same in both.
+    fn go(&mut self, alloc: Global) -> bool {
+        for at in 0..EVENTS {
+            let Some(event) = self.draw_event(alloc, at) else {
+                return false;
+            };
+            if !self.happens(&event) || !self.cuts_now_and_then() {
+                return false;
+            }
+        }
+        true
+    }
+
+    // Whether nothing is lost, and one agreed list and the same outputs came of it.
+    fn are_alike(&self) -> bool {
+        let (recorded, kept) = self.keeping.agreed();
+        let same = recorded.is_empty() && agrees(&self.cutting, kept);
+        same && gave_the_same(self.cutting.left(), self.keeping.left())
+            && self.cutting.losses() == 0
+            && self.keeping.losses() == 0
+    }
+
+    // What came of it all: cuts, the active ballot, agreed places, messages, snapshots among them, and outputs.
+    fn figures(&self) -> [u64; 6] {
+        [
+            self.cuts,
+            self.keeping.active().0,
+            self.keeping.agreed_len(),
+            self.keeping.sent().len() as u64,
+            snapshots_sent(&self.cutting) as u64,
+            self.keeping.left().len() as u64,
+        ]
+    }
+}
+
+// Whether these outputs are the same, with their places.
+fn gave_the_same(one: &[Effect<TallyCommand, u64>], other: &[Effect<TallyCommand, u64>]) -> bool {
+    one.len() == other.len()
+        && one.iter().zip(other).all(|(mine, yours)| match (mine, yours) {
+            (Effect::Out(place, total), Effect::Out(same, equal)) => {
+                place == same && total == equal
+            }
+            _ => false,
+        })
+}
+
+// How many logs were sent that begin with a snapshot.
+fn snapshots_sent(group: &Group<Tally>) -> usize {
+    group
+        .sent()
+        .iter()
+        .filter(|(_, message)| match &message.body {
+            Body::State(_, log) | Body::Install(_, log) => log.base() > 0,
+            _ => false,
+        })
+        .count()
+}
+
+// Two groups of seven nodes with the same members, once all happened to them.
+fn made(alloc: Global) -> Option<Twins> {
+    Some(Twins {
+        cutting: group(alloc, NODES, &[1, 2, 3]).ok()?,
+        keeping: group(alloc, NODES, &[1, 2, 3]).ok()?,
+        next: 0,
+        drawn: 1,
+        cuts: 0,
+    })
+}
+
+// 20,000 events of seven nodes, drawn by a fixed rule: changes of configuration, messages that come late, again or never,
+// and two crashes. One group cuts logs between them, and each event comes to the same in both.
+#[test]
+fn cuts_tell_no_group_apart(rt: HostRuntime) {
+    let mut told = None;
+    if let Some(mut pair) = made(rt.alloc()) {
+        let alike = pair.go(rt.alloc()) && pair.are_alike();
+        told = Some((alike, pair.figures()));
+    }
+    assert!(rt; told == Some((true, FIGURES)));
+}
