@@ -3,8 +3,9 @@
 use crate::fault::Fault;
 use crate::obeying::obey;
 use crate::reading::bytes_of;
-use command_line::{ListeningNode, Serve, table};
-use server::{Place, serve_while};
+use command_line::{ListeningNode, NodeTable, Serve, table};
+use server::{CONNECTIONS, Place, serve_while};
+use std::fs::File;
 use std::io::{BufRead, Write};
 use std::net::{Net, TcpListener, TcpStream};
 use std::rt::Files;
@@ -13,7 +14,11 @@ use std::sync::Wait;
 use std::thread::Threads;
 use std::time::Clock;
 
-/// Serves clients as a file's table of nodes says.
+/// How many files a node may have open at once beside its listener: its connections, one that is turned away, and one by which its
+/// door is closed.
+const FILES: usize = CONNECTIONS as usize + 2;
+
+/// Serves clients as a file's table of nodes says, if as many files can be open at once as its nodes need.
 pub(crate) fn run<R, I, O, E>(
     rt: &R,
     job: &Serve<'_>,
@@ -30,7 +35,21 @@ where
 {
     let bytes = bytes_of(rt, job.config)?;
     let text = str::from_utf8(bytes.as_slice()).ok().ok_or(Fault::Config)?;
-    serve_table(rt, text, input, output, faults)
+    let read = table(rt.alloc(), text)?;
+    find_files(rt, read.nodes.len().saturating_mul(FILES))?;
+    serve_nodes(rt, &read, input, output, faults)
+}
+
+// Looks whether so many files can be open at once.
+fn find_files<R: Files + AllocGlobal>(rt: &R, count: usize) -> Result<(), Fault> {
+    let mut files = Vec::with_capacity(rt.alloc(), count)?;
+    for _ in 0..count {
+        match File::open(rt, "/dev/null") {
+            Ok(file) => files.push(file)?,
+            Err(_) => return Err(Fault::Files(count.saturating_sub(files.len()))),
+        }
+    }
+    Ok(())
 }
 
 /// Serves clients as a table of nodes says, and obeys the lines of the input, until its end or the line
@@ -50,7 +69,24 @@ where
     O: Write,
     E: Write,
 {
-    let read = table(rt.alloc(), text)?;
+    serve_nodes(rt, &table(rt.alloc(), text)?, input, output, faults)
+}
+
+// Serves clients as a table of nodes says.
+fn serve_nodes<R, I, O, E>(
+    rt: &R,
+    read: &NodeTable,
+    input: &mut I,
+    output: &mut O,
+    faults: &mut E,
+) -> Result<(), Fault>
+where
+    R: Threads + Wait + Clock + Sync + AllocGlobal,
+    R: Net<Listener = TcpListener, Stream = TcpStream>,
+    I: BufRead,
+    O: Write,
+    E: Write,
+{
     let nodes = read.nodes.as_slice();
     let places = listen_all(rt, nodes, faults)?;
     serve_while(rt, rt.alloc(), places.as_slice(), &read.config, |peers| {

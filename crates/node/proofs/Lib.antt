@@ -1,3 +1,4 @@
 pub mod Crossing
+mod Growing
 pub mod Replaying
 pub mod WrittenBack

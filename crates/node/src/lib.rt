@@ -1,13 +1,16 @@
 //! A node: a replica with its connections and the inbox that its items come by.
 #![tactic(auto)]
 
+mod growth;
 mod naming;
 mod node_state;
+mod passage;
 mod report;
 
 pub use naming::NodeNaming;
 pub use node_base::{Gate, NoGate, PIECE_BYTES};
 pub use node_state::NodeState;
+pub use passage::{Leave, Passage};
 pub use report::Report;
 pub use world_base::{
     Body, Command, Config, ConnectionId, Effect, Handed, Item, Members, Memory, Message, NodeCore,

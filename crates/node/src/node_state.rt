@@ -7,9 +7,11 @@ ghost use Rattle.world_base.specs.Replica.{status_of};
 ghost use Rattle.lists.specs.Lists.{IsPrefixOf};
 ghost use Rattle.world_base.specs.Stands.{standing_of};
 ghost use Rattle.world_base.specs.Handing.{answer_of, bytes_of, hands_over, idle_ports, listed_at};
+ghost use Rattle.node.specs.Growth.{wants_cut};
 ghost use Rattle.node.specs.Report.{HasRoom};
 ghost use Rattle.node.specs.State.{Replays, TakesOne};
 
+use crate::growth::{grown, is_large};
 use crate::naming::NodeNaming;
 use crate::report::Report;
 use mailbox::{Lane, Receipt, Receiver};
@@ -23,9 +25,13 @@ use world_base::{Command, Effect, Handed, Item, Memory, NodeCore, Output, Port, 
 pub struct NodeState<J: NodeNaming> {
     receiver: Receiver<Item, J>,
     core: NodeCore,
+    /// How many bytes the items brought that were taken since the last cut, at most 2^64 - 1.
+    grown: u64,
 }
 
 impl<J: NodeNaming> Model for NodeState<J> {
+    ghost use Rattle.std.specs.Prelude.{◌≡◌};
+    ghost use Rattle.node.specs.Growth.{bytes_since_cut, counted};
     ghost use Rattle.node.specs.State.{Replays, Seen};
 
     ghost Value = { Seen };
@@ -33,7 +39,8 @@ impl<J: NodeNaming> Model for NodeState<J> {
     ghost view = { λ state. record { taker = state.receiver; node = state.core } };
 
     ghost invariant = { λ state.
-        Replays (J.first_of state.receiver.inbox) state.receiver.taken state.core };
+        Replays (J.first_of state.receiver.inbox) state.receiver.taken state.core
+        × (state.grown ≡ counted (bytes_since_cut state.receiver.taken)) };
 }
 
 impl<J: NodeNaming> NodeState<J> {
@@ -43,7 +50,11 @@ impl<J: NodeNaming> NodeState<J> {
         requires first { core ≡ J.first_of receiver.inbox }
         ensures { result ≡ record { taker = receiver; node = core } }
     {
-        NodeState { receiver, core }
+        NodeState {
+            receiver,
+            core,
+            grown: 0,
+        }
     }
 
     /// The number of its inbox.
@@ -105,6 +116,7 @@ impl<J: NodeNaming> NodeState<J> {
     {
         match self.receiver.take(rt, receipt) {
             Some((_, item)) => {
+                self.grown = grown(self.grown, &item);
                 self.core.step(item, effects);
                 true
             }
@@ -177,6 +189,16 @@ impl<J: NodeNaming> NodeState<J> {
         self.core.status()
     }
 
+    /// Returns whether the log is to be cut for its size: whether it has commands to drop, and what was taken since the last
+    /// cut counts more than 16 MiB and more than the snapshot has bytes.
+    pub fn wants_cut(&self) -> bool
+        ensures { result ≡ wants_cut self.now.taker.taken self.now.node.core }
+    {
+        let (base, snapshot) = self.core.snapshot();
+        let commands = self.core.status().committed - base;
+        self.core.can_cut() && is_large(self.grown, commands, snapshot)
+    }
+
     /// In how many steps memory was wanting. The count stays at 2^64 - 1.
     pub fn losses(&self) -> u64
         ensures { result ≡ self.now.node.losses }
@@ -206,13 +228,16 @@ impl<J: NodeNaming> NodeState<J> {
         ensures each { length result.taken.items ≡ self.taker.lanes }
         ensures replays { Replays (J.first_of self.taker.inbox) self.taker.taken self.node }
 
+        ensures base { result.base ≡ self.node.core.replica.state.log.base }
         ensures gate { result.gate_missed ≡ gate_missed }
     {
         let NodeState {
             mut receiver,
-            core: _core,
+            core,
+            grown: _grown,
         } = self;
         let mut report = room;
+        report.base = core.snapshot().0;
         report.gate_missed = gate_missed;
         receiver.settle(rt, lanes, report.taken.as_mut_slice(), &mut report.left);
         report

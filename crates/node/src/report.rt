@@ -14,6 +14,8 @@ pub struct Report {
     pub taken: Vec<u64>,
     /// The items that it did not take, in order, each with its lane.
     pub left: Vec<(u8, Item)>,
+    /// The place at which its log begins: of the commands below it a snapshot is kept.
+    pub base: u64,
     /// How many times the node went on though its gate had not opened.
     pub gate_missed: u64,
 }
@@ -27,6 +29,7 @@ impl Report {
         Ok(Report {
             taken: Vec::from_elem(alloc, 0u64, lanes)?,
             left: Vec::with_capacity(alloc, INBOX_ITEMS)?,
+            base: 0,
             gate_missed: 0,
         })
     }

@@ -1,4 +1,5 @@
 mod AllMet
+mod CutsApart
 mod GivenBySteps
 mod HandedOver
 mod OwnSendsJoin

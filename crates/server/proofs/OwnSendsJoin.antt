@@ -1,21 +1,27 @@
 -- OwnSendsJoin.antt: what a node's own thread sends at first and then is what it sends.
 use Rattle.std.proofs.Common.{◌≡◌, ℕ, List, [], ◌∷◌, ◌++◌, sym, subst}
 use Rattle.node.specs.declared.Item.{Item}
-use Rattle.node.specs.declared.Item.TheVariants.{Tick}
+use Rattle.node.specs.declared.Item.TheVariants.{Tick, Cut}
 use Rattle.post.specs.Letters.{IsLeft}
 use Rattle.server.specs.Serving.{SendsOwn}
-use Rattle.server.specs.Serving.SendsOwn.{starts, ticks, hands}
+use Rattle.server.specs.Serving.SendsOwn.{starts, ticks, cuts, hands}
 
 pub own_join : (node : ℕ) (before sent behind : List Item)
     → SendsOwn node before sent → SendsOwn node sent behind → SendsOwn node before behind
 own_join node before sent _ first starts = first
 own_join node before sent _ first (ticks now rest) = ticks now (own_join node before sent _ first rest)
+own_join node before sent _ first (cuts rest) = cuts (own_join node before sent _ first rest)
 own_join node before sent _ first (hands item rest letter) = hands item (own_join node before sent _ first rest) letter
 
 -- the time was told
 pub own_tick : (node now : ℕ) (before behind : List Item) → behind ≡ before ++ Tick now ∷ [] → SendsOwn node before behind
 own_tick node now before behind sent =
     subst (λ (items : List Item). SendsOwn node before items) (sym sent) (ticks now starts)
+
+-- the log was cut
+pub own_cut : (node : ℕ) (before behind : List Item) → behind ≡ before ++ Cut ∷ [] → SendsOwn node before behind
+own_cut node before behind sent =
+    subst (λ (items : List Item). SendsOwn node before items) (sym sent) (cuts starts)
 
 -- what was left for the node was sent
 pub own_letter : (node : ℕ) (item : Item) (before behind : List Item)

@@ -1,4 +1,5 @@
 pub mod Closing
+pub mod Cutting
 pub mod Laws
 pub mod Refusals
 pub mod Serving

@@ -1,7 +1,7 @@
 -- What a lane tells of a connection, and what a node puts out for it.
 use Rattle.std.specs.Prelude.{◌≡◌, ℕ, ◌+◌, ◌*◌, List, [], ◌∷◌, ◌++◌, None}
 use Rattle.node.specs.declared.Item.{Item}
-use Rattle.node.specs.declared.Item.TheVariants.{Tick}
+use Rattle.node.specs.declared.Item.TheVariants.{Tick, Cut}
 use Rattle.node.specs.declared.Port.{Port}
 use Rattle.node.specs.declared.Handed.{Handed}
 use Rattle.node.specs.Core.{CountedCore}
@@ -38,10 +38,12 @@ pub record SendsRow (lane : ℕ) (before behind : List Item) : Type 0 where
   pub count : ℕ
   pub tells : TellsEach lane before count behind
 
--- The own thread's lane of a node of this number, which had sent these items, sent the time and letters for the node.
+-- The own thread's lane of a node of this number, which had sent these items, sent the time, cuts of the log, and letters for
+-- the node.
 pub data SendsOwn (node : ℕ) (before : List Item) : List Item → Type 0 where
   starts : SendsOwn node before before
   ticks : {sent : List Item} (now : ℕ) → SendsOwn node before sent → SendsOwn node before (sent ++ Tick now ∷ [])
+  cuts : {sent : List Item} → SendsOwn node before sent → SendsOwn node before (sent ++ Cut ∷ [])
   hands : {sent : List Item} (item : Item)
       → SendsOwn node before sent → IsLeft node item
       → SendsOwn node before (sent ++ item ∷ [])

@@ -1,8 +1,18 @@
-// A law of the words on servers. The call does nothing; its contract is the law.
+// Laws of the words on servers. The calls do nothing; their contracts are the laws.
 
-ghost use Rattle.server.specs.Laws.{PortsDiffer};
+ghost use Rattle.server.specs.Laws.{CutsComeApart, CutsComeOften, PortsDiffer};
 
 /// No two connections of a node have one port.
 pub fn ports_differ()
     ensures { PortsDiffer }
+{}
+
+/// No two nodes have their logs cut after the same tick.
+pub fn cuts_come_apart()
+    ensures { CutsComeApart }
+{}
+
+/// Of any 50 ticks in a row there is one after which a node has its log cut.
+pub fn cuts_come_often()
+    ensures { CutsComeOften }
 {}

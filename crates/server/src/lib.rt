@@ -4,6 +4,7 @@
 //! takes what other nodes and the master have for it.
 #![tactic(auto)]
 
+mod cutting;
 mod ear;
 mod late_writer;
 mod laws;
@@ -11,20 +12,20 @@ mod listening;
 mod node_report;
 mod outcome;
 mod own_thread;
-mod passage;
 mod room;
 mod seat;
 mod serve_error;
 mod served;
 mod serving;
 mod shared;
+mod starting;
 mod turns;
 mod working;
 mod writing;
 
-pub use laws::ports_differ;
+pub use laws::{cuts_come_apart, cuts_come_often, ports_differ};
 pub use listening::{serve_gated, serve_while};
-pub use node::{Config, Gate, Members, Memory, Status};
+pub use node::{Config, Gate, Members, Memory, NoGate, Status};
 pub use node_report::NodeReport;
 pub use post::{OrderError, Peers};
 pub use serve_error::ServeError;

@@ -1,5 +1,5 @@
-// The node's own thread: it takes what other nodes have for it, tells the time, and ends connections whose first packet does not
-// come.
+// The node's own thread: it takes what other nodes have for it, tells the time, has the log cut, and ends connections whose first
+// packet does not come.
 
 ghost use Rattle.std.specs.Prelude.{◌≡◌};
 ghost use Rattle.post.specs.Letters.{IsLeft};
@@ -27,35 +27,46 @@ const LOOKS: u32 = 64;
 
 const STEPS: u32 = 8;
 
+/// When the node was told the time last, and how many times, at most 2^64 - 1.
+#[derive(Clone, Copy)]
+struct Told {
+    time: u64,
+    ticks: u64,
+}
+
 impl<'a, J: NodeNaming, S: Served<J>, G: Gate> Shared<'a, J, S, G> {
     /// Does the work of the node's own thread by its lane, until the door is closed: the lane.
     pub(crate) fn keep_going<R: Wait + Clock>(&self, rt: &R, lane: Lane<Item, J>) -> Lane<Item, J>
         ensures { SendsOwn self.now.seat.node.now.number lane.sent result.sent }
     {
         let mut lane = lane;
-        let mut told = 0;
+        let mut told = Told { time: 0, ticks: 0 };
         for _ in rt.forever() {
             if self.seat.place.door.is_closed(rt) {
                 return lane;
             }
             self.take_letters(rt, &mut lane);
             told = self.tick(rt, &mut lane, told);
+            self.cut_by_size(rt, &mut lane);
             self.rest(rt);
         }
         unreachable!()
     }
 
-    // Tells the node the time, if it was told so long ago that it is due: when it was told last.
-    fn tick<R: Wait + Clock>(&self, rt: &R, lane: &mut Lane<Item, J>, told: u64) -> u64
+    // Tells the node the time, if it was told so long ago that it is due, and then has the log cut, if that is due. Returns
+    // when the node was told the time last.
+    fn tick<R: Wait + Clock>(&self, rt: &R, lane: &mut Lane<Item, J>, told: Told) -> Told
         ensures { SendsOwn self.now.seat.node.now.number lane.old.sent lane.new.sent }
     {
         let now = self.seat.now(rt);
-        if now.saturating_sub(told) < TICK {
+        if now.saturating_sub(told.time) < TICK {
             return told;
         }
         self.send(rt, lane, Item::Tick(now), 0);
         self.end_overdue(rt, now);
-        now
+        let ticks = told.ticks.saturating_add(1);
+        self.cut_in_time(rt, lane, ticks);
+        Told { time: now, ticks }
     }
 
     // Ends the connections whose first packet did not come in time.

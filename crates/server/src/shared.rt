@@ -5,11 +5,10 @@ ghost use Rattle.mailbox.specs.Ends.{ArrivesWhole, unmet};
 ghost use Rattle.node.specs.Report.{HasRoom};
 ghost use Rattle.post.specs.Letters.{EachOpensAs};
 
-use crate::passage::Passage;
 use crate::seat::Seat;
 use crate::served::Served;
 use mailbox::Lane;
-use node::{Config, Gate, Item, Memory, NodeNaming, NodeState, Report};
+use node::{Config, Gate, Item, Memory, NodeNaming, NodeState, Passage, Report};
 use std::alloc::Global;
 use std::marker::PhantomData;
 use std::sync::{Mutex, Wait};

@@ -5,12 +5,11 @@ ghost use Rattle.mailbox.specs.Ends.{all_met, unmet};
 ghost use Rattle.node.specs.Lists.{Each};
 ghost use Rattle.post.specs.Letters.{EachOpens, WasGiven};
 
-use crate::passage::Leave;
 use crate::served::Served;
 use crate::shared::Shared;
 use crate::working::OWN_LANE;
 use mailbox::Lane;
-use node::{Command, Effect, Gate, Item, NodeNaming, NodeState, Output};
+use node::{Command, Effect, Gate, Item, Leave, NodeNaming, NodeState, Output};
 use std::alloc::Global;
 use std::sync::{Arc, Wait};
 use std::time::Clock;
@@ -119,6 +118,10 @@ impl<'a, J: NodeNaming, S: Served<J>, G: Gate> Shared<'a, J, S, G> {
         let more = take_up_to(rt, state, leave, lane, &mut effects);
         self.seat.node.publish(rt, state.status());
         self.seat.peers.hand_on(rt, effects);
+        // The node's own thread has the log cut.
+        if state.wants_cut() {
+            self.seat.node.wake(rt);
+        }
         more
     }
 }
@@ -140,7 +143,7 @@ fn take_up_to<J: NodeNaming, R: Wait>(
     // Where none waits, all was taken that the lane sent: the node has its items in its history.
     ensures none { result ≡ false → lane.new ≡ all_met lane.old }
 {
-    for _ in 0..leave.most {
+    for _ in 0..leave.most() {
         let receipt = lane.receipt();
         if !node.take_one(rt, effects, receipt) {
             node.meet(lane);

@@ -19,6 +19,9 @@ pub(crate) const OWN_LANE: u8 = 0;
 /// A lane for the node's own thread, for each connection, and for the thread that closes what comes on top.
 pub(crate) const LANES: u8 = CONNECTIONS + 2;
 
+/// How many threads a node has: one for each lane, and one that goes on with full sockets.
+pub(crate) const THREADS: usize = LANES as usize + 1;
+
 /// A lane, unless its thread has it in hand. The thread that goes on with full sockets has none.
 pub(crate) type Desk<J> = Option<Lane<Item, J>>;
 
@@ -34,12 +37,7 @@ where
         ComesBack shared.now.seat.node.now.number
         (slice_index_or desks.old place other) (slice_index_or desks.new place other) }
 {
-    thread::for_each_mut(
-        rt,
-        desks,
-        usize::from(LANES) + 1,
-        &|_, desk| shared.sit(rt, desk),
-    );
+    thread::for_each_mut(rt, desks, THREADS, &|_, desk| shared.sit(rt, desk));
 }
 
 impl<'a, J: NodeNaming, S: Served<J>, G: Gate> Shared<'a, J, S, G> {

@@ -4,6 +4,7 @@
 mod answers;
 mod client;
 mod crowds;
+mod cuts;
 mod gates;
 mod heard;
 mod lagging;

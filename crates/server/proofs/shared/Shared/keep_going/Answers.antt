@@ -9,5 +9,8 @@ pub loop-preserved : goal.loop-preserved
 loop-preserved g c = record {
   can = tt;
   ends = tt;
-  own = own_join _ _ _ _ (own_join _ _ _ _ c.loop.invariant.own c.take_letters.ensures) c.tick-told.ensures;
+  own =
+      own_join _ _ _ _
+      (own_join _ _ _ _ (own_join _ _ _ _ c.loop.invariant.own c.take_letters.ensures) c.tick-told.ensures)
+      c.cut_by_size.ensures;
 }

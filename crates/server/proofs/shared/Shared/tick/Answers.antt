@@ -2,11 +2,14 @@ use Rattle.std.proofs.Common.{ap}
 use Rattle.mailbox.specs.Ends.{Sender}
 use Rattle.node.specs.declared.Item.{Item}
 use Rattle.server.specs.Serving.SendsOwn.{starts}
-use Rattle.server.proofs.OwnSendsJoin.{own_tick}
+use Rattle.server.proofs.OwnSendsJoin.{own_join, own_tick}
 use Rattle.server.proofs.shared.Shared.tick.Goals as goal
 
 pub returns-then-saturating_sub-lt-TICK : goal.returns-then-saturating_sub-lt-TICK
 returns-then-saturating_sub-lt-TICK g c = starts
 
 pub returns : goal.returns
-returns g c = own_tick _ c.now-now.result _ _ (ap (λ (lane : Sender Item). lane.sent) c.send.ensures)
+returns g c =
+    own_join _ _ _ _
+    (own_tick _ c.now-now.result _ _ (ap (λ (lane : Sender Item). lane.sent) c.send.ensures))
+    c.cut_in_time.ensures

@@ -2,7 +2,8 @@
 
 ghost use Rattle.std.specs.Prelude.{◌≡◌, IfSome};
 
-use node::Gate;
+use node_base::Gate;
+use std::marker::Model;
 use std::sync::{Mutex, Wait};
 use std::thread;
 use std::time::{Clock, Duration};
@@ -16,18 +17,38 @@ const ASK_MILLIS: u64 = 1;
 /// How many items may be taken at once, where there is no gate.
 const AT_ONCE: u32 = 16;
 
-/// Leave to take items. Nobody but a passage gives it: where there is a gate behind asking it, for one item.
+/// Leave to take items. Only a passage gives it: where there is a gate after asking it, for one item.
 #[derive(Drop)]
-pub(crate) struct Leave {
+pub struct Leave {
     /// The taking's number at the gate, where there is one.
     taking: Option<u64>,
-    /// How many items may be taken.
-    pub(crate) most: u32,
+    most: u32,
+}
+
+impl Model for Leave {
+    ghost use Rattle.std.specs.Prelude.{◌≡◌, IfSome};
+    ghost use Rattle.node.specs.Passing.{Passing};
+
+    ghost Value = { Passing };
+
+    ghost view = { λ leave. record { taking = leave.taking; most = leave.most } };
+
+    ghost invariant = { λ leave. IfSome leave.taking (λ _. leave.most ≡ 1) };
+}
+
+impl Leave {
+    /// Returns how many items may be taken: one where a gate was asked.
+    pub fn most(&self) -> u32
+        ensures most { result ≡ self.now.most }
+        ensures one { IfSome self.now.taking (λ _. result ≡ 1) }
+    {
+        self.most
+    }
 }
 
 /// A node's way through its gate, before each taking. A thread that waits on it holds none of the locks.
 #[derive(Drop)]
-pub(crate) struct Passage<'a, G: Gate> {
+pub struct Passage<'a, G: Gate> {
     gate: &'a G,
     node: u8,
     /// How many takings were begun, at most 2^64 - 1.
@@ -37,7 +58,8 @@ pub(crate) struct Passage<'a, G: Gate> {
 }
 
 impl<'a, G: Gate> Passage<'a, G> {
-    pub(crate) fn new(gate: &'a G, node: u8) -> Passage<'a, G> {
+    /// Returns the way of the node of this number through a gate.
+    pub fn new(gate: &'a G, node: u8) -> Passage<'a, G> {
         Passage {
             gate,
             node,
@@ -47,7 +69,7 @@ impl<'a, G: Gate> Passage<'a, G> {
     }
 
     /// Begins a taking. Where there is a gate it waits until that opens for it, if it does so in time.
-    pub(crate) fn pass<R: Wait + Clock>(&self, rt: &R) -> Leave
+    pub fn pass<R: Wait + Clock>(&self, rt: &R) -> Leave
         ensures { IfSome result.taking (λ _. result.most ≡ 1) }
     {
         if self.gate.is_always_open() {
@@ -75,15 +97,15 @@ impl<'a, G: Gate> Passage<'a, G> {
         count(rt, &self.missed);
     }
 
-    /// A taking is done: the gate hears of it.
-    pub(crate) fn done<R: Wait>(&self, rt: &R, leave: Leave) {
+    /// Tells the gate that a taking is done.
+    pub fn done<R: Wait>(&self, rt: &R, leave: Leave) {
         if let Some(taking) = leave.taking {
             self.gate.answered(rt, self.node, taking);
         }
     }
 
-    /// How many takings the gate did not open for.
-    pub(crate) fn missed(self) -> u64 {
+    /// Returns how many takings the gate did not open for.
+    pub fn missed(self) -> u64 {
         self.missed.into_inner()
     }
 }

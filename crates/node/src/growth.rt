@@ -1,0 +1,113 @@
+// How many bytes the items bring that a node takes.
+
+ghost use Rattle.std.specs.Prelude.{◌≡◌, ◌+◌, ◌*◌, ℕ, length, max, nat_lt, sum_by};
+ghost use Rattle.node.specs.Growth.{bytes_of_body, bytes_of_command, bytes_of_packet, counted, grown};
+
+use packet::{Packet, Subscribe, Unsubscribe};
+use world_base::{Body, Command, Item};
+
+/// What counts as many bytes, at the least, when a log is cut for its size.
+const LEAST: u64 = 16_777_216;
+
+/// What a command of the log counts beside the bytes of its packet.
+const COMMAND_BYTES: u64 = 128;
+
+/// Returns whether items that brought so many bytes, and so many commands, count more than 16 MiB and more than the snapshot has
+/// bytes.
+pub(crate) fn is_large(bytes: u64, commands: u64, snapshot: &[u8]) -> bool
+    ensures { (all : ℕ) → bytes ≡ counted all →
+        result ≡ nat_lt (max 16777216 (length snapshot.now)) (all + 128 * commands) }
+{
+    let size = commands.saturating_mul(COMMAND_BYTES).saturating_add(bytes);
+    size > LEAST.max(snapshot.len() as u64)
+}
+
+/// Returns how many bytes items brought since the last cut, after one item more. The count stays at 2^64 - 1.
+pub(crate) fn grown(bytes: u64, item: &Item) -> u64
+    ensures { result ≡ counted (grown bytes item.now) }
+{
+    match item {
+        Item::Peer(message) => add_body(bytes, &message.body),
+        Item::Bytes(_, piece, _) => add(bytes, piece.as_slice().len()),
+        Item::Cut => 0,
+        _ => bytes,
+    }
+}
+
+// Adds the bytes of what a message of another node brings.
+fn add_body(bytes: u64, body: &Body<Command>) -> u64
+    ensures { result ≡ counted (bytes + bytes_of_body body.now) }
+{
+    match body {
+        Body::Append(_, _, command) => add_command(bytes, command),
+        Body::State(_, log) | Body::Install(_, log) => add_commands(bytes, log.rest()),
+        _ => bytes,
+    }
+}
+
+// Adds the bytes of commands.
+fn add_commands(bytes: u64, commands: &[Command]) -> u64
+    ensures { result ≡ counted (bytes + sum_by bytes_of_command commands.now) }
+{
+    let mut bytes = bytes;
+    for command in commands {
+        bytes = add_command(bytes, command);
+    }
+    bytes
+}
+
+// Adds the bytes of a command.
+fn add_command(bytes: u64, command: &Command) -> u64
+    ensures { result ≡ counted (bytes + bytes_of_command command.now) }
+{
+    match command {
+        Command::Packet(_, packet) => add_packet(bytes, packet.packet()),
+        _ => bytes,
+    }
+}
+
+// Adds the bytes of a packet.
+fn add_packet(bytes: u64, packet: &Packet) -> u64
+    ensures { result ≡ counted (bytes + bytes_of_packet packet.now) }
+{
+    match packet {
+        Packet::Publish(publish) => {
+            let bytes = add(bytes, publish.topic.as_str().len());
+            add(bytes, publish.payload.as_slice().len())
+        }
+        Packet::Subscribe(subscribe) => add_subscribe(bytes, subscribe),
+        Packet::Unsubscribe(unsubscribe) => add_unsubscribe(bytes, unsubscribe),
+        _ => bytes,
+    }
+}
+
+// Adds the bytes of the filters that a client asks for.
+fn add_subscribe(bytes: u64, subscribe: &Subscribe) -> u64
+    ensures { result ≡ counted (bytes + sum_by (λ (wish : _). length wish.filter) subscribe.now.filters) }
+{
+    let wishes = subscribe.filters.as_slice();
+    let mut bytes = bytes;
+    for wish in wishes {
+        bytes = add(bytes, wish.filter.as_str().len());
+    }
+    bytes
+}
+
+// Adds the bytes of the filters that a client gives up.
+fn add_unsubscribe(bytes: u64, unsubscribe: &Unsubscribe) -> u64
+    ensures { result ≡ counted (bytes + sum_by (λ (filter : _). length filter) unsubscribe.now.filters) }
+{
+    let filters = unsubscribe.filters.as_slice();
+    let mut bytes = bytes;
+    for filter in filters {
+        bytes = add(bytes, filter.as_str().len());
+    }
+    bytes
+}
+
+// Adds bytes to a count.
+fn add(bytes: u64, more: usize) -> u64
+    ensures { result ≡ counted (bytes + more) }
+{
+    bytes.saturating_add(more as u64)
+}

@@ -1,0 +1,12 @@
+use Rattle.std.proofs.Common.{ap}
+use Rattle.mailbox.specs.Ends.{Sender}
+use Rattle.node.specs.declared.Item.{Item}
+use Rattle.server.specs.Serving.SendsOwn.{starts}
+use Rattle.server.proofs.OwnSendsJoin.{own_cut}
+use Rattle.server.proofs.shared.Shared.cut_by_size.Goals as goal
+
+pub returns-then-wants_cut : goal.returns-then-wants_cut
+returns-then-wants_cut g c = own_cut _ _ _ (ap (λ (lane : Sender Item). lane.sent) c.send.ensures)
+
+pub returns-else-wants_cut : goal.returns-else-wants_cut
+returns-else-wants_cut g c = starts

@@ -1,0 +1,46 @@
+// When a node has its log cut.
+
+ghost use Rattle.std.specs.Prelude.{◌≡◌};
+ghost use Rattle.server.specs.Cutting.{cuts_after};
+ghost use Rattle.server.specs.Serving.{SendsOwn};
+
+use crate::served::Served;
+use crate::shared::Shared;
+use mailbox::Lane;
+use node::{Gate, Item, NodeNaming};
+use std::sync::Wait;
+use std::time::Clock;
+
+/// After how many ticks a node has its log cut again.
+const TICKS_A_CUT: u64 = 50;
+
+/// How many ticks lie between the first cuts of nodes of neighbouring numbers.
+const APART: u64 = 7;
+
+impl<'a, J: NodeNaming, S: Served<J>, G: Gate> Shared<'a, J, S, G> {
+    /// Has the log cut, if that is due after so many ticks.
+    pub(crate) fn cut_in_time<R: Wait + Clock>(&self, rt: &R, lane: &mut Lane<Item, J>, ticks: u64)
+        ensures { SendsOwn self.now.seat.node.now.number lane.old.sent lane.new.sent }
+    {
+        if cuts_after(self.seat.node.number, ticks) {
+            self.send(rt, lane, Item::Cut, 0);
+        }
+    }
+
+    /// Has the log cut, if what the node took since the last cut asks for that.
+    pub(crate) fn cut_by_size<R: Wait + Clock>(&self, rt: &R, lane: &mut Lane<Item, J>)
+        ensures { SendsOwn self.now.seat.node.now.number lane.old.sent lane.new.sent }
+    {
+        let wants_cut = self.node.lock(rt).state().wants_cut();
+        if wants_cut {
+            self.send(rt, lane, Item::Cut, 0);
+        }
+    }
+}
+
+// Whether the node of a number has its log cut after so many ticks.
+fn cuts_after(number: u8, ticks: u64) -> bool
+    ensures { result ≡ cuts_after number ticks }
+{
+    ticks % TICKS_A_CUT == u64::from(number) * APART % TICKS_A_CUT
+}

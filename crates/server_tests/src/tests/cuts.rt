@@ -1,0 +1,128 @@
+// Nodes that cut their logs, as their reports tell.
+
+use super::client::{is_answered, join};
+use super::crowds::large_publish;
+use super::nodes::listen_all;
+use server::{Config, Members, NoGate, NodeReport, Place, serve_gated};
+use std::io::Write;
+use std::net::{Net, TcpListener, TcpStream};
+use std::sync::Wait;
+use std::thread;
+use std::thread::Threads;
+use std::time::{Clock, Duration};
+
+// What a client sends to the first of some members, the primary, how long they serve then, and which of them have cut their logs
+// at the end.
+struct Row {
+    name: &'static str,
+    members: &'static [u8],
+    publications: u8,
+    milliseconds: u64,
+    are_cut: &'static [bool],
+}
+
+// Node 1 has its log cut after its seventh tick, 1.4 seconds from the beginning, and node 7 after its 49th, 9.8 seconds from there.
+// A publication has 1,000,000 bytes of payload, so the seventeenth passes 16 MiB.
+const ROWS: &[Row] = &[
+    Row {
+        name: "after the seventh tick one of two",
+        members: &[1, 7],
+        publications: 1,
+        milliseconds: 4_000,
+        are_cut: &[true, false],
+    },
+    Row {
+        name: "after more than 16 MiB",
+        members: &[7],
+        publications: 20,
+        milliseconds: 1_000,
+        are_cut: &[true],
+    },
+    Row {
+        name: "and so does a backup",
+        members: &[1, 7],
+        publications: 20,
+        milliseconds: 2_000,
+        are_cut: &[true, true],
+    },
+    Row {
+        name: "not after less",
+        members: &[7],
+        publications: 10,
+        milliseconds: 1_000,
+        are_cut: &[false],
+    },
+];
+
+#[test]
+fn logs_are_cut(rt: HostRuntime) {
+    for row in ROWS {
+        assert!(rt; holds(&rt, row), "{}", row.name);
+    }
+}
+
+// Whether a row holds beside nodes of its own.
+fn holds<R>(rt: &R, row: &Row) -> bool
+where
+    R: AllocGlobal
+        + Threads
+        + Wait
+        + Clock
+        + Sync
+        + Net<Listener = TcpListener, Stream = TcpStream>,
+{
+    let mut places = Vec::new(rt.alloc());
+    listen_all(rt, row.members, &mut places) && serve(rt, row, places.as_slice())
+}
+
+fn serve<R>(rt: &R, row: &Row, places: &[Place]) -> bool
+where
+    R: AllocGlobal + Threads + Wait + Clock + Sync + Net<Stream = TcpStream>,
+{
+    let (Ok(members), Some(first)) = (
+        Members::from_slice(rt.alloc(), row.members),
+        row.members.first(),
+    ) else {
+        return false;
+    };
+    let config = Config {
+        members,
+        primary: *first,
+    };
+    let served = serve_gated(
+        rt,
+        rt.alloc(),
+        places,
+        &config,
+        &NoGate,
+        |_peers| sends(rt, row, places.first()),
+    );
+    match served {
+        Ok((sent, reports)) => sent && are_as_told(reports.as_slice(), row.are_cut),
+        Err(_) => false,
+    }
+}
+
+// Whether the publications are sent and taken, and then it waits.
+fn sends<R>(rt: &R, row: &Row, place: Option<&Place>) -> bool
+where
+    R: AllocGlobal + Wait + Clock + Net<Stream = TcpStream>,
+{
+    let (Ok(large), Some(mut stream)) = (large_publish(rt.alloc()), join(rt, place, b's', false))
+    else {
+        return false;
+    };
+    let sent = (0..row.publications).all(|_| stream.write_all(large.as_slice()).is_ok())
+        && is_answered(&mut stream, &[0xC0, 0], &[0xD0, 0]);
+    thread::sleep(rt, Duration::from_millis(row.milliseconds));
+    sent
+}
+
+// Whether the logs of these nodes were cut, and of no others: a log that was cut begins at a higher place than the first.
+fn are_as_told(reports: &[NodeReport], are_cut: &[bool]) -> bool {
+    reports.len() == are_cut.len()
+        && reports
+            .iter()
+            .zip(are_cut)
+            .all(|(report, is_cut)| (report.report.base > 0) == *is_cut)
+}
