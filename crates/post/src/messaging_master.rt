@@ -1,9 +1,10 @@
 // The master, whose answers are messages.
 
 ghost use Rattle.std.specs.Prelude.{◌≡◌, ◌+◌, ◌↔◌, None, Some, false, IfOk, IsErrOf, OnErr, OnOk};
-ghost use Rattle.agreement.specs.MasterState.{assigned, opening_master, refusal};
+ghost use Rattle.agreement.specs.MasterState.{opening_master, refusal};
 ghost use Rattle.agreement.specs.MasterState.AssignRefusal.{bad_members, ballots_spent};
 ghost use Rattle.ballot_base.specs.LawfulConfig.{is_lawful};
+ghost use Rattle.snapshots.specs.Masters.{assigned};
 ghost use Rattle.node.specs.Command.{Command};
 ghost use Rattle.node.specs.Effect.TheVariants.{To};
 ghost use Rattle.post.specs.Letters.{WasAnswered, WasGiven};
