@@ -11,5 +11,5 @@ mod memory;
 mod piped;
 mod repeats;
 mod row;
-mod snapshots;
 mod stale;
+mod travelling;
