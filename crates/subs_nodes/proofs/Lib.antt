@@ -1,0 +1,17 @@
+pub mod Ways
+pub mod Written
+pub mod TextCut
+pub mod LevelsFound
+pub mod NodeSets
+pub mod ChangedSlot
+pub mod Linked
+pub mod Unlinked
+pub mod RootIsMade
+pub mod ChildIsMade
+pub mod NodeGoes
+pub mod PlaceIsFound
+pub mod NodeAt
+pub mod Raising
+pub mod WalkFinds
+pub mod ContentOfTree
+pub mod TreeGrants

@@ -1,0 +1,35 @@
+-- What nodes named by numbers hold, level by level (MQTT 4.7.1).
+use Rattle.std.specs.Prelude.{ℕ, Bool, true, false, List, [], ◌∷◌, Option, option_and_then, if◌then◌else◌}
+use Rattle.topics.specs.Text.{Levels, levels}
+use Rattle.topics.specs.Matching.{is_all}
+use Rattle.packet.specs.declared.qos.QoS.{QoS}
+use Rattle.subs_base.specs.Content.{Content}
+
+-- the number of the node behind each level of each node
+abbrev pub Children : Type 0
+Children = ℕ → List ℕ → Option ℕ
+
+-- at a node the clients of the filter that ends there, and (at true) of the one with `#` behind it
+abbrev pub Held : Type 0
+Held = ℕ → Bool → List ℕ → Option QoS
+
+-- nodes as functions of their numbers
+pub record Shape : Type 0 where
+  pub child : Children
+  pub held : Held
+  pub used : ℕ → Bool
+
+-- the QoS at which the client asked for the filter of these levels, below a node
+abbrev pub asked : Shape → ℕ → Levels → List ℕ → Option QoS
+asked shape at [] client = shape.held at false client
+asked shape at (level ∷ rest) client =
+    if is_all level rest then shape.held at true client
+    else option_and_then (λ below. asked shape below rest client) (shape.child at level)
+
+-- the same below the root, if there is one
+abbrev pub rows : Shape → Option ℕ → Levels → List ℕ → Option QoS
+rows shape root filter client = option_and_then (λ at. asked shape at filter client) root
+
+-- at each client and filter what stands at the filter's levels
+abbrev pub shape_content : Shape → Option ℕ → Content
+shape_content shape root client filter = rows shape root (levels filter) client

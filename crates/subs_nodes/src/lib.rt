@@ -1,0 +1,13 @@
+//! The index of subscriptions as a tree: nodes in a vector, named by their numbers.
+#![tactic(auto)]
+
+mod finding;
+mod making;
+mod node;
+mod node_id;
+mod nodes;
+mod pruning;
+mod slots;
+mod tree_index;
+
+pub use tree_index::TreeIndex;

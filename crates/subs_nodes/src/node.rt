@@ -1,0 +1,146 @@
+// A node: the clients of the filters that end at it, and the numbers of the nodes of the next levels.
+
+ghost use Rattle.std.specs.Prelude.{◌≡◌, OnOk, OnErr, ◌↔◌, IsTrue, IsSome, is_some, true, false, Some, None, option_map};
+ghost use Rattle.std.specs.Cmp.Lexicographic.{slice_cmp};
+ghost use Rattle.std.specs.Ordering.{nat_cmp};
+ghost use Rattle.std.specs.BTreeMap.{Updates, get};
+ghost use Rattle.subs_nodes.specs.Inside.{held_in, child_in, HoldsNothing};
+ghost use Rattle.subs_nodes.specs.Changes.{SetsRow, SetsChild};
+
+use crate::node_id::NodeId;
+use packet::{ClientId, QoS};
+use std::alloc::{AllocError, Global};
+use std::collections::BTreeMap;
+
+/// The clients of one filter, with the QoS of their subscriptions.
+pub(crate) type Clients = BTreeMap<ClientId, QoS>;
+
+/// The subscriptions of the filters that end with the same levels, and the nodes of the next levels.
+#[derive(Debug, Drop)]
+pub(crate) struct Node {
+    /// The clients of the filter that ends here.
+    pub(crate) here: Clients,
+    /// Those of the filter with `#` behind it.
+    pub(crate) rest: Clients,
+    /// The nodes of the next levels, but for `+`.
+    named: BTreeMap<Vec<u8>, NodeId>,
+    /// The node of `+`.
+    pub(crate) plus: Option<NodeId>,
+}
+
+impl Node {
+    /// A node that holds nothing.
+    pub(crate) fn new(alloc: Global) -> Node
+        ensures { HoldsNothing result }
+    {
+        Node {
+            here: BTreeMap::new(alloc),
+            rest: BTreeMap::new(alloc),
+            named: BTreeMap::new(alloc),
+            plus: None,
+        }
+    }
+
+    /// The node behind the level.
+    pub(crate) fn child(&self, level: &[u8]) -> Option<NodeId>
+        ensures { option_map (λ id. id.number) result ≡ child_in self.now level.now }
+    {
+        if level == b"+".as_slice() {
+            return self.plus;
+        }
+        self.named.get(level).copied()
+    }
+
+    /// Puts a node behind a level.
+    pub(crate) fn set_child(
+        &mut self,
+        alloc: Global,
+        level: &[u8],
+        child: NodeId,
+    ) -> Result<(), AllocError>
+        ensures ok { OnOk result (SetsChild (child_in self.old) (child_in self.new) level.now (Some child.number)) }
+        ensures err { OnErr result (child_in self.new ≡ child_in self.old) }
+        ensures rows { held_in self.new ≡ held_in self.old }
+    {
+        if level == b"+".as_slice() {
+            self.plus = Some(child);
+            return Ok(());
+        }
+        self.named.insert(Vec::from_slice(alloc, level)?, child)?;
+        Ok(())
+    }
+
+    /// Gives up the node behind a level.
+    pub(crate) fn drop_child(&mut self, level: &[u8])
+        ensures child { SetsChild (child_in self.old) (child_in self.new) level.now None }
+        ensures rows { held_in self.new ≡ held_in self.old }
+    {
+        if level == b"+".as_slice() {
+            self.plus = None;
+            return;
+        }
+        self.named.remove(level);
+    }
+
+    /// Sets the client's row, at `#` beside the node or at its own filter.
+    pub(crate) fn set(&mut self, rest: bool, client: &ClientId, qos: QoS) -> Result<(), AllocError>
+        ensures ok { OnOk result (SetsRow (held_in self.old) (held_in self.new) rest client.now (Some qos)) }
+        ensures err { OnErr result (held_in self.new ≡ held_in self.old) }
+        ensures absent { OnErr result (held_in self.old rest client.now ≡ None) }
+        ensures child { child_in self.new ≡ child_in self.old }
+    {
+        if rest {
+            return set_client(&mut self.rest, client, qos);
+        }
+        set_client(&mut self.here, client, qos)
+    }
+
+    /// Takes the client's row out, and says whether there was one.
+    pub(crate) fn clear(&mut self, rest: bool, client: &ClientId) -> bool
+        ensures found { result ≡ is_some (held_in self.old rest client.now) }
+        ensures after { SetsRow (held_in self.old) (held_in self.new) rest client.now None }
+        ensures child { child_in self.new ≡ child_in self.old }
+    {
+        if rest {
+            return clear_client(&mut self.rest, client);
+        }
+        clear_client(&mut self.here, client)
+    }
+
+    /// Whether the node has neither clients nor children.
+    pub(crate) fn is_empty(&self) -> bool
+        ensures { IsTrue result → HoldsNothing self.now }
+    {
+        if !self.here.is_empty() {
+            return false;
+        }
+        if !self.rest.is_empty() {
+            return false;
+        }
+        if !self.named.is_empty() {
+            return false;
+        }
+        self.plus.is_none()
+    }
+}
+
+fn set_client(clients: &mut Clients, client: &ClientId, qos: QoS) -> Result<(), AllocError>
+    ensures ok { OnOk result
+        (Updates (slice_cmp nat_cmp) clients.old clients.new client.now (Some qos)) }
+    ensures err { OnErr result (clients.new.entries ≡ clients.old.entries) }
+    ensures absent { OnErr result (get (slice_cmp nat_cmp) clients.old client.now ≡ None) }
+{
+    if let Some(kept) = clients.get_mut(client) {
+        *kept = qos;
+        return Ok(());
+    }
+    clients.insert(client.clone()?, qos)?;
+    Ok(())
+}
+
+fn clear_client(clients: &mut Clients, client: &ClientId) -> bool
+    ensures found { result ≡ is_some (get (slice_cmp nat_cmp) clients.old client.now) }
+    ensures after { Updates (slice_cmp nat_cmp) clients.old clients.new client.now None }
+{
+    clients.remove(client).is_some()
+}
