@@ -55,7 +55,7 @@ abbrev pub wants_cut : List (ℕ × Item) → CoreState → Bool
 wants_cut taken core =
     can_drop core
     && nat_lt (max 16777216 (length core.replica.state.log.snapshot))
-       (bytes_since_cut taken + 128 * (core.replica.state.committed - core.replica.state.log.base))
+    (bytes_since_cut taken + 128 * (core.replica.state.committed - core.replica.state.log.base))
 
 -- a count of bytes that stays at 2^64 - 1
 abbrev pub counted : ℕ → ℕ

@@ -107,7 +107,7 @@ module _ (old : NodesState) (at : ℕ) (core : CountedCore) (there : slice_get o
       ≡ record (behind_deed (at + 1 - 1) core (takes Cut) old) { archive = recorded old.archive core.core.replica.state }
   whole_cut new more t =
       let base : new.core.replica.state.log.base ≡ core.core.replica.state.committed =
-          ap (λ (c : CountedCore). c.core.replica.state.log.base) (t.exact refl).0 ∙ cut_step_base core.core can in
+      ap (λ (c : CountedCore). c.core.replica.state.log.base) (t.exact refl).0 ∙ cut_step_base core.core can in
       let up = ltb-true core.core.replica.state.log.base core.core.replica.state.committed parts.1 in
       let place : at ≡ at + 1 - 1 = omega arith in
       ap (λ (l : List Command). behind_turn_with at new more l old.losses old) (over new (omega (arith, base, up)))
