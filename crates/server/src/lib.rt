@@ -18,7 +18,6 @@ mod serve_error;
 mod served;
 mod serving;
 mod shared;
-mod starting;
 mod turns;
 mod working;
 mod writing;

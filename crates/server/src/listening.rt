@@ -9,8 +9,7 @@ use crate::seat::Seat;
 use crate::serve_error::ServeError;
 use crate::served::Served;
 use crate::shared::Shared;
-use crate::starting::can_start;
-use crate::working::{Desk, LANES, THREADS, run};
+use crate::working::{Desk, LANES, run};
 use mailbox::{Inbox, Lane};
 use node::{
     Config, Gate, Item, Memory, NoGate, NodeCore, NodeNaming, NodeState, OpeningError, Passage,
@@ -28,10 +27,9 @@ use streams::{CONNECTIONS, Place};
 
 /// Serves the clients of several nodes, each at its place, while `attend` runs beside it with the nodes in
 /// hand, and gives what that returned; all connections are ended then. The nodes open in ballot 1 of this
-/// configuration.
+/// configuration. A node for which no thread can be started is not served.
 ///
-/// The errors are those of the opening, and [`ServeError::Threads`] where fewer threads can be started than the nodes need:
-/// then nothing is served. A node for which none can be started later is not served.
+/// The errors are those of the opening.
 pub fn serve_while<R, T, F>(
     rt: &R,
     alloc: Global,
@@ -70,9 +68,6 @@ where
     requires { F.IsAlwaysCallable attend }
 {
     let peers = open_post(alloc, places, config)?;
-    if !can_start(rt, places.len().saturating_mul(THREADS)) {
-        return Err(ServeError::Threads);
-    }
     let Ok(start) = Instant::now(rt) else {
         return Err(ServeError::Clock);
     };
