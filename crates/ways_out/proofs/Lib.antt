@@ -1,0 +1,17 @@
+pub mod Standing
+pub mod Broadcasts
+pub mod Gathers
+pub mod Rows
+pub mod LeaderRows
+pub mod AllCome
+pub mod Installing
+pub mod Holding
+pub mod Activating
+pub mod Fetching
+pub mod RisingMembers
+pub mod PastsGoOn
+pub mod Premises
+pub mod AllAgreed
+pub mod Ways
+pub mod HasWayOut
+pub mod Answering

@@ -1,0 +1,63 @@
+-- PastsGoOn.antt: what comes in a way out is a past that goes on, so what was agreed begins what is agreed after it.
+use Rattle.std.proofs.Common.{◌≡◌, ℕ, ◌+◌, inl, List, [], ◌∷◌, ◌++◌, None, Option, refl, subst}
+use Rattle.machine.specs.Machine.{Rules}
+use Rattle.lists.specs.Lists.{IsPrefixOf}
+use Rattle.lists.proofs.Beginnings.{prefix_then}
+use Rattle.lists.proofs.Members.{in_at}
+use Rattle.whole.specs.Config.{Config}
+use Rattle.whole.specs.Protocol.Input.{Receives}
+use Rattle.whole.specs.Messages.{Effect}
+use Rattle.whole.specs.Losses.{Thinned}
+use Rattle.whole.specs.Losses.Thinned.{none, keeps}
+use Rattle.agreement.specs.MasterState.{AssignRefusal, master_behind, refusal}
+use Rattle.agreement.specs.Past.{Moment, Past, IsAgreed}
+use Rattle.agreement.specs.Past.Past.{went_on}
+use Rattle.agreement.specs.Steps.{MayHappen, world_behind}
+use Rattle.agreement.specs.Steps.MayHappen.{node_takes, master_assigns, master_hears}
+use Rattle.agreement.proofs.Agreed.PastAgrees.{has_agreed}
+use Rattle.agreement.proofs.Agreed.PastGrows.{agreed_only_grows}
+use Rattle.ways_out.specs.Deliveries.{Delivered, assigned_moment}
+use Rattle.ways_out.specs.Deliveries.Delivered.{all_came, to_master, to_node}
+
+-- nothing need be missing
+thinned_same : {C O : Type 0} (xs : List (Effect C O)) → Thinned xs xs
+thinned_same [] = none
+thinned_same (x ∷ xs) = keeps (thinned_same xs)
+
+-- a past goes on to a moment
+pub record Goes {S C O : Type 0} (rules : Rules S C O) (config : Config) (past : List (Moment S C O)) (b : Moment S C O) : Type 0 where
+  pub between : List (Moment S C O)
+  pub came : Past rules config (b ∷ (between ++ past))
+  pub grown : (xs ys : List C) → IsAgreed config past xs → IsAgreed config (b ∷ (between ++ past)) ys → IsPrefixOf xs ys
+
+-- by one step
+goes_one : {S C O : Type 0} (rules : Rules S C O) (config : Config) (past : List (Moment S C O)) (b c : Moment S C O) → Goes rules config past b →
+    MayHappen rules b.master b.world c.master c.world → Goes rules config past c
+goes_one rules config past b c g step =
+    record {
+      between = b ∷ g.between;
+      came = went_on g.came step;
+      grown = λ xs ys p q. let z = has_agreed rules config b (g.between ++ past) g.came in
+          prefix_then (g.grown xs z.0 p z.1) (agreed_only_grows config (b ∷ (g.between ++ past)) c z.0 ys z.1 q);
+    }
+
+-- by the Assign
+pub assign_goes : {S C O : Type 0} (rules : Rules S C O) (config : Config) (a : Moment S C O) (past : List (Moment S C O)) (new : Config) →
+    Past rules config (a ∷ past) → refusal a.master new ≡ None → Goes rules config (a ∷ past) (assigned_moment new a)
+assign_goes {S = S} {C = C} {O = O} rules config a past new came granted =
+    record {
+      between = [];
+      came = went_on came (subst (λ (o : Option AssignRefusal). MayHappen rules a.master a.world (master_behind a.master new o) (world_behind a.master a.world new o)) granted
+          (master_assigns new));
+      grown = λ xs ys p q. agreed_only_grows config (a ∷ past) (assigned_moment new a) xs ys p q;
+    }
+
+-- by messages that come
+pub deliveries_go : {S C O : Type 0} (rules : Rules S C O) (config : Config) (past : List (Moment S C O)) {ballot : ℕ} {a b : Moment S C O} {ks : List ℕ} →
+    Delivered rules ballot a ks b → Goes rules config past a → Goes rules config past b
+deliveries_go rules config past all_came g = g
+deliveries_go rules config past (to_node k n r m sent stands runs silent joined d) g =
+    deliveries_go rules config past d
+    (goes_one rules config past _ _ g (node_takes n r (Receives m) stands runs (in_at _ k (n + 1, m) sent) (inl (refl, thinned_same _))))
+deliveries_go rules config past (to_master k from ballot sent d) g =
+    deliveries_go rules config past d (goes_one rules config past _ _ g (master_hears from ballot (in_at _ k _ sent)))

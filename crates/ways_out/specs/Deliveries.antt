@@ -1,0 +1,88 @@
+-- Deliveries.antt: messages that come to their receivers one after the other, exactly, each named
+-- by its number, and the numbers of those that lead a new ballot to its start.
+use Rattle.lists.specs.Lists.{In}
+use Rattle.std.specs.Prelude.{ℕ, zero, suc, ◌+◌, ◌≡◌, false, List, [], ◌∷◌, ◌++◌, slice_get, Some}
+use Rattle.machine.specs.Machine.{Rules}
+use Rattle.whole.specs.Messages.Body.{Activate}
+use Rattle.whole.specs.Config.{Config}
+use Rattle.whole.specs.Messages.{Message}
+use Rattle.whole.specs.Protocol.{received}
+use Rattle.whole.specs.Replica.{ReplicaState}
+use Rattle.whole.specs.Sending.{Outcome}
+use Rattle.agreement.specs.MasterState.{activated, assigned, assigning}
+use Rattle.agreement.specs.Past.{Moment}
+use Rattle.agreement.specs.World.{moved, outputs}
+use Rattle.agreement.specs.Steps.{tells_from_master}
+
+-- the moment after a step of the node at place n
+abbrev pub after_outcome : {S C O : Type 0} → ℕ → Outcome S C O → Moment S C O → Moment S C O
+after_outcome n o a = record { master = a.master; world = moved a.world n o.state o.effects }
+
+-- the moment after an Activate that the master hears
+abbrev pub after_activate : {S C O : Type 0} → ℕ → ℕ → Moment S C O → Moment S C O
+after_activate {C = C} from ballot a =
+    record {
+      master = (activated C a.master ballot from a.master.waiting).state;
+      world = tells_from_master a.world (activated C a.master ballot from a.master.waiting);
+    }
+
+-- the moment after an Assign that is not refused
+abbrev pub assigned_moment : {S C O : Type 0} → Config → Moment S C O → Moment S C O
+assigned_moment {C = C} config a =
+    record {
+      master = assigning a.master config;
+      world = tells_from_master a.world (assigned C a.master config);
+    }
+
+-- messages come, one after the other, to nodes that run, give no outputs then, and have joined the
+-- ballot after them, or to the master
+pub data Delivered {S C O : Type 0} (rules : Rules S C O) (ballot : ℕ) :
+    Moment S C O → List ℕ → Moment S C O → Type 0 where
+  all_came : {a : Moment S C O} → Delivered rules ballot a [] a
+  to_node : {a b : Moment S C O} {ks : List ℕ} (k n : ℕ) (r : ReplicaState S C) (m : Message C) →
+      slice_get a.world.sent k ≡ Some (n + 1, m) → slice_get a.world.nodes n ≡ Some r →
+      r.stopped ≡ false → outputs (received rules r m.from m.body).effects ≡ [] →
+      (received rules r m.from m.body).state.joined ≡ ballot →
+      Delivered rules ballot (after_outcome n (received rules r m.from m.body) a) ks b →
+      Delivered rules ballot a (k ∷ ks) b
+  to_master : {a b : Moment S C O} {ks : List ℕ} (k from asked : ℕ) →
+      slice_get a.world.sent k ≡ Some (0, record { from = from; body = Activate asked }) →
+      Delivered rules ballot (after_activate from asked a) ks b →
+      Delivered rules ballot a (k ∷ ks) b
+
+-- a node of this number stands among the nodes, and this holds of it
+pub record NodeIs {S C : Type 0} (P : ℕ → ReplicaState S C → Type 0)
+    (nodes : List (ReplicaState S C)) (m : ℕ) : Type 0 where
+  pub place : ℕ
+  pub number : m ≡ place + 1
+  pub replica : ReplicaState S C
+  pub stands : slice_get nodes place ≡ Some replica
+  pub is : P m replica
+
+-- no number comes twice
+abbrev pub AreApart : List ℕ → Type 0
+AreApart [] = Unit {0}
+AreApart (m ∷ ms) = (In m ms → ⊥) × AreApart ms
+
+-- as many numbers as the second says, each one more than the one before
+abbrev pub numbers_from : ℕ → ℕ → List ℕ
+numbers_from k zero = []
+numbers_from k (suc count) = k ∷ numbers_from (k + 1) count
+
+-- a message to each of some others, and their answers
+abbrev pub asked_and_answered : ℕ → ℕ → List ℕ
+asked_and_answered k others = numbers_from k others ++ numbers_from (k + others) others
+
+-- the number of the Activate, by the count of messages sent before, the count of members of the active ballot, and
+-- that of the members of the new one beside its primary
+abbrev pub asked_at : ℕ → ℕ → ℕ → ℕ
+asked_at sent members others = sent + members + 2 + (others + others)
+
+-- the messages of a way out, where the member at this place of the active ballot is asked for its
+-- log: NewBallot, Join, State; Install and Installed; Activate, Activated; Append and Held
+abbrev pub way_out : ℕ → ℕ → ℕ → ℕ → List ℕ
+way_out sent members place others =
+    sent ∷ (sent + 1 + place) ∷ (sent + 1 + members)
+    ∷ (asked_and_answered (sent + members + 2) others
+    ++ asked_at sent members others ∷ (asked_at sent members others + 1)
+    ∷ asked_and_answered (asked_at sent members others + 2) others)

@@ -1,0 +1,43 @@
+-- Following.antt: what nodes are to the ballot that is led to its start.
+use Rattle.std.specs.Prelude.{ℕ, ◌≡◌, false, List, length}
+use Rattle.whole.specs.Role.TheVariants.{Backup, Active}
+use Rattle.whole.specs.Replica.{ReplicaState, progress_at}
+
+-- the whole list of commands that the log of a node stands for
+abbrev pub whole_log : {S C : Type 0} → ReplicaState S C → List C
+whole_log r = r.log
+
+-- the node of a number runs
+pub record Runs {S C : Type 0} (m : ℕ) (r : ReplicaState S C) : Type 0 where
+  pub runs : r.stopped ≡ false
+
+-- it runs, and its whole log is this one
+pub record RunsWith {S C : Type 0} (log : List C) (m : ℕ) (r : ReplicaState S C) : Type 0 where
+  pub runs : r.stopped ≡ false
+  pub log_is : whole_log r ≡ log
+
+-- it runs as a backup of a ballot, and holds this log there
+pub record Follows {S C : Type 0} (ballot : ℕ) (log : List C) (m : ℕ)
+    (r : ReplicaState S C) : Type 0 where
+  pub runs : r.stopped ≡ false
+  pub id : r.id ≡ m
+  pub joined : r.joined ≡ ballot
+  pub held : r.held_in ≡ ballot
+  pub role : r.role ≡ Backup
+  pub log_is : whole_log r ≡ log
+
+-- it runs as the active primary of a ballot
+pub record LeadsIn {S C : Type 0} (ballot : ℕ) (r : ReplicaState S C) : Type 0 where
+  pub runs : r.stopped ≡ false
+  pub joined : r.joined ≡ ballot
+  pub role : r.role ≡ Active
+
+-- it leads the ballot, has applied all of this log, and knows that these others hold all of it
+pub record Serves {S C : Type 0} (ballot : ℕ) (log : List C) (others_of : List ℕ) (m : ℕ)
+    (r : ReplicaState S C) : Type 0 where
+  pub leads : LeadsIn ballot r
+  pub id : r.id ≡ m
+  pub held : r.held_in ≡ ballot
+  pub log_is : whole_log r ≡ log
+  pub applied : r.committed ≡ length log
+  pub progress_is : r.progress ≡ progress_at (length log) others_of

@@ -1,0 +1,38 @@
+-- Inside.antt: what proofs say of nodes on the way; no law cites it.
+use Rattle.std.specs.Prelude.{ℕ, ◌+◌, ◌≡◌, ◌≤◌, ◌<◌, false, List, [], ◌++◌}
+use Rattle.whole.specs.Role.TheVariants.{Fetching, Installing}
+use Rattle.whole.specs.Replica.{ReplicaState, progress_at}
+
+-- a node that runs and can still take a ballot's log of this length
+pub record CanTake {S C : Type 0} (ballot length_of_log : ℕ) (m : ℕ)
+    (r : ReplicaState S C) : Type 0 where
+  pub runs : r.stopped ≡ false
+  pub id : r.id ≡ m
+  pub joined : r.joined ≤ ballot
+  pub held : r.held_in < ballot
+  pub applied : r.committed ≤ length_of_log
+
+-- the new primary while it fetches a log
+abbrev pub fetching : {S C : Type 0} →
+    ℕ → List ℕ → ℕ → List ℕ → ReplicaState S C → ReplicaState S C
+fetching ballot members previous previous_members r =
+    record r {
+      joined = ballot;
+      role = Fetching;
+      members = members;
+      previous = previous;
+      previous_members = previous_members;
+      lacking = [];
+      progress = [];
+    }
+
+-- and while it installs one
+abbrev pub installing : {S C : Type 0} →
+    ℕ → List C → ReplicaState S C → List ℕ → ReplicaState S C
+installing ballot log r lacking =
+    record r { held_in = ballot; log = log; role = Installing; lacking = lacking }
+
+-- the primary, where these others are known to hold one place more than those
+abbrev pub known : {S C : Type 0} → ℕ → ReplicaState S C → List ℕ → List ℕ → ReplicaState S C
+known held r came left =
+    record r { progress = progress_at (held + 1) came ++ progress_at held left }

@@ -1,0 +1,139 @@
+-- Laws.antt: at each moment of a group a new ballot can be led to its start, which all its members
+-- then hold: by which messages, in which order, and what is agreed after them.
+use Rattle.std.specs.Prelude.{ℕ, ◌+◌, ◌-◌, ◌*◌, ◌<◌, ◌≡◌, false, List, [], ◌∷◌, ◌++◌, length, map, None, slice_get, Some}
+use Rattle.machine.specs.Machine.{Rules, replay}
+use Rattle.lists.specs.Lists.{In, IsPrefixOf}
+use Rattle.whole.specs.Messages.Body.{Held}
+use Rattle.whole.specs.Config.{Config}
+use Rattle.whole.specs.Messages.{Effect}
+use Rattle.whole.specs.Messages.Effect.{Out}
+use Rattle.whole.specs.Protocol.{received, replica_step}
+use Rattle.whole.specs.Protocol.Input.{Proposes}
+use Rattle.whole.specs.Replica.{ReplicaState, others}
+use Rattle.whole.specs.Sending.{Outcome}
+use Rattle.whole.specs.Serving.{most_places}
+use Rattle.agreement.specs.MasterState.{refusal}
+use Rattle.agreement.specs.Past.{Moment, Past, IsAgreed}
+use Rattle.agreement.specs.World.{outputs}
+use Rattle.ways_out.specs.Deliveries.{AreApart, Delivered, NodeIs, after_outcome, assigned_moment, numbers_from, way_out}
+use Rattle.ways_out.specs.Following.{Follows, Runs, RunsWith, Serves}
+
+-- the machine gives nothing at the start of a ballot
+abbrev pub StartsGiveNothing : {S C O : Type 0} → Rules S C O → Type 0
+StartsGiveNothing {S = S} rules = (s : S) (b : ℕ) → rules.gives s (rules.start_of b) ≡ []
+
+-- what a way out asks for: the master would not refuse the configuration, and the nodes that it
+-- names run; so does the member at a place of the active configuration, whose whole log this is,
+-- and the log has room for the ballot's start
+pub record CanBeLed {S C O : Type 0} (a : Moment S C O) (new : Config) (place source : ℕ)
+    (log : List C) : Type 0 where
+  pub granted : refusal a.master new ≡ None
+  pub live : (m : ℕ) → In m new.members → NodeIs Runs a.world.nodes m
+  pub asked : slice_get a.master.members place ≡ Some source
+  pub gives : NodeIs (RunsWith log) a.world.nodes source
+  pub room : length log < most_places
+
+-- a moment at which a ballot is active, all its members hold this log, and its primary has applied
+-- it and knows that they do
+pub record IsLed {S C O : Type 0} (ballot : ℕ) (new : Config) (log : List C)
+    (b : Moment S C O) : Type 0 where
+  pub active : b.master.active ≡ ballot
+  pub members : b.master.members ≡ new.members
+  pub primary : NodeIs (Serves ballot log (others new.primary new.members)) b.world.nodes
+      new.primary
+  pub each : (m : ℕ) → In m (others new.primary new.members) →
+      NodeIs (Follows ballot log) b.world.nodes m
+
+-- a past goes on to a later moment, where this list is agreed; what was agreed before begins it
+pub record GoesOnTo {S C O : Type 0} (rules : Rules S C O) (config : Config)
+    (past : List (Moment S C O)) (b : Moment S C O) (agreed : List C) : Type 0 where
+  pub between : List (Moment S C O)
+  pub came : Past rules config (b ∷ (between ++ past))
+  pub agrees : IsAgreed config (b ∷ (between ++ past)) agreed
+  pub grown : (xs : List C) → IsAgreed config past xs → IsPrefixOf xs agreed
+
+-- a way out: after an Assign of the configuration come the messages of `way_out`; then the next
+-- ballot is led, and the log that was fetched is agreed with the ballot's start after it
+pub record LeadsOut {S C O : Type 0} (rules : Rules S C O) (config : Config)
+    (past : List (Moment S C O)) (a : Moment S C O) (new : Config) (place : ℕ) (log : List C) :
+    Type 0 where
+  pub last : Moment S C O
+  pub delivered : Delivered rules (a.master.given + 1) (assigned_moment new a)
+      (way_out (length a.world.sent) (length a.master.members) place (length new.members - 1)) last
+  -- how many messages were sent then, and how many events led there, with the Assign
+  pub sent : length last.world.sent + 1
+      ≡ length a.world.sent + length a.master.members + 5 * length new.members
+  pub events : length (way_out (length a.world.sent) (length a.master.members) place
+      (length new.members - 1)) + 1 ≡ 4 * length new.members + 2
+  pub led : IsLed (a.master.given + 1) new (log ++ rules.start_of (a.master.given + 1) ∷ []) last
+  pub goes : GoesOnTo rules config past last (log ++ rules.start_of (a.master.given + 1) ∷ [])
+
+-- where starts give nothing there is a way out at each moment of a group
+abbrev pub HasWayOut : {S C O : Type 0} → Rules S C O → Type 0
+HasWayOut {S} {C} {O} rules =
+    StartsGiveNothing rules → (config : Config) (a : Moment S C O) (past : List (Moment S C O)) →
+    Past rules config (a ∷ past) → (new : Config) (place source : ℕ) (log : List C) →
+    CanBeLed a new place source log → LeadsOut rules config (a ∷ past) a new place log
+
+-- all other members of the active ballot have told the whole log of its active primary
+pub record AllHoldIt {S C O : Type 0} (a : Moment S C O) (primary : ℕ) (log : List C)
+    (others_of : List ℕ) : Type 0 where
+  pub primary_serves : NodeIs (Serves a.master.active log others_of) a.world.nodes primary
+  pub member : In primary a.master.members
+  pub all_named : (m : ℕ) → In m a.master.members → (m ≡ primary → ⊥) → In m others_of
+  pub told : (m : ℕ) → In m others_of →
+      In (primary, record { from = m; body = Held a.master.active (length log) }) a.world.sent
+
+-- then that log is the agreed list, whatever came before
+abbrev pub WhatAllHoldIsAgreed : {S C O : Type 0} → Rules S C O → Type 0
+WhatAllHoldIsAgreed {S} {C} {O} rules =
+    (config : Config) (a : Moment S C O) (past : List (Moment S C O)) →
+    Past rules config (a ∷ past) → (primary : ℕ) (log : List C) (others_of : List ℕ) →
+    AllHoldIt a primary log others_of → IsAgreed config (a ∷ past) log
+
+-- a step of the primary that answers a command after a log: it gives what the machine answers
+-- there, before any message, and serves the longer log then
+pub record AnswersCommand {S C O : Type 0} (rules : Rules S C O) (ballot : ℕ) (log : List C) (c : C)
+    (others_of : List ℕ) (primary : ℕ) (o : Outcome S C O) : Type 0 where
+  pub rest : List (Effect C O)
+  pub silent : outputs rest ≡ []
+  pub gives : o.effects ≡ map (Out (length log)) (rules.gives (replay rules log) c) ++ rest
+  pub serves : Serves ballot (log ++ c ∷ []) others_of primary o.state
+
+-- a proposal to the primary at a place, whose replica this is, where others follow: it gives
+-- nothing. The others are sent the command, and answer; the primary takes all answers but the last,
+-- and when that one comes, it answers the command
+pub record IsHeldByAll {S C O : Type 0} (rules : Rules S C O) (a : Moment S C O) (place ballot : ℕ)
+    (r : ReplicaState S C) (log : List C) (c : C) (front : List ℕ) (last : ℕ) : Type 0 where
+  pub quiet : outputs (replica_step rules r (Proposes c)).effects ≡ []
+  pub before : Moment S C O
+  pub delivered : Delivered rules ballot
+      (after_outcome place (replica_step rules r (Proposes c)) a)
+      (numbers_from (length a.world.sent) (length front + 1)
+      ++ numbers_from (length a.world.sent + (length front + 1)) (length front)) before
+  pub master : before.master ≡ a.master
+  pub sent : length before.world.sent ≡ length a.world.sent + 2 * (length front + 1)
+  pub told : (m : ℕ) → In m (front ++ last ∷ []) →
+      In (place + 1, record { from = m; body = Held ballot (length log + 1) }) before.world.sent
+  pub comes : slice_get before.world.sent (length a.world.sent + 2 * length front + 1)
+      ≡ Some (place + 1, record { from = last; body = Held ballot (length log + 1) })
+  pub primary : NodeIs (λ m q. (q.stopped ≡ false) × AnswersCommand rules ballot log c
+      (front ++ last ∷ []) m (received rules q last (Held ballot (length log + 1))))
+      before.world.nodes (place + 1)
+  pub each : (m : ℕ) → In m (front ++ last ∷ []) →
+      NodeIs (Follows ballot (log ++ c ∷ [])) before.world.nodes m
+
+-- the primary of a led ballot answers the next command: at once where it is alone, and else when
+-- all others have answered
+abbrev pub CommandsAreAnswered : {S C O : Type 0} → Rules S C O → Type 0
+CommandsAreAnswered {S} {C} {O} rules =
+    (config : Config) (a : Moment S C O) (past : List (Moment S C O)) →
+    Past rules config (a ∷ past) → (ballot place : ℕ) (r : ReplicaState S C) (log : List C)
+    (others_of : List ℕ) (c : C) → slice_get a.world.nodes place ≡ Some r →
+    Serves ballot log others_of (place + 1) r → length log < most_places →
+    (others_of ≡ [] → AnswersCommand rules ballot log c [] (place + 1)
+    (replica_step rules r (Proposes c)))
+    × ((front : List ℕ) (last : ℕ) → others_of ≡ front ++ last ∷ [] → AreApart others_of →
+    (In (place + 1) others_of → ⊥) →
+    ((m : ℕ) → In m others_of → NodeIs (Follows ballot log) a.world.nodes m) →
+    IsHeldByAll rules a place ballot r log c front last)

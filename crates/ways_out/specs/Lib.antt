@@ -1,0 +1,4 @@
+pub mod Deliveries
+pub mod Following
+pub mod Inside
+pub mod Laws
