@@ -1,6 +1,7 @@
 // A node on worked rows.
 
 mod clients;
+mod cutting;
 mod full_queue;
 mod keep_alive;
 mod memory;

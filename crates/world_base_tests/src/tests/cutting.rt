@@ -1,0 +1,268 @@
+// Nodes that cut their logs, and a snapshot that goes over to another node, byte by byte.
+
+use super::row::{ACCEPTED, Effects, PRESENT, bring, give, hands_over, node_of, take, tell};
+use ballot::Log;
+use std::alloc::Global;
+use world_base::{Body, Command, Effect, Item, Members, NodeCore, Port};
+
+// CONNECT of client `a` with keep alive 0 and CleanSession 0 (MQTT 3.1).
+const CONNECT: &[u8] = &[
+    0x10, 0x0D, 0x00, 0x04, 0x4D, 0x51, 0x54, 0x54, 0x04, 0x00, 0x00, 0x00, 0x00, 0x01, 0x61,
+];
+
+// The broker with client `a` on the first connection of ballot 1, frozen to form 2.
+const CONNECTED: &[u8] = &[
+    0x02, 0x40, 0x00, 0x01, 0x00, 0x01, 0x61, 0x00, 0x01, 0x00, 0x00, 0x00, 0x00, 0x00, 0x00, 0x00,
+    0x01, 0x00, 0x00, 0x00, 0x00, 0x00, 0x00, 0x00, 0x01, 0x00, 0x00, 0x00, 0x00, 0x00, 0x00, 0x00,
+    0x00, 0x00,
+];
+
+// The same in form 1.
+const CONNECTED_BEFORE: &[u8] = &[
+    0x01, 0x00, 0x01, 0x00, 0x01, 0x61, 0x00, 0x01, 0x00, 0x00, 0x00, 0x00, 0x00, 0x00, 0x00, 0x01,
+    0x00, 0x00, 0x00, 0x00, 0x00, 0x00, 0x00, 0x01, 0x00, 0x00, 0x00, 0x00, 0x00, 0x00, 0x00, 0x00,
+    0x00,
+];
+
+// The same once the next ballot has begun: the session has no connection, and the window is 64.
+const BEGUN: &[u8] = &[
+    0x02, 0x40, 0x00, 0x01, 0x00, 0x01, 0x61, 0x00, 0x00, 0x00, 0x00, 0x00, 0x00, 0x00, 0x00, 0x00,
+    0x00, 0x00,
+];
+
+// Bytes that stand for no broker: none at all, a form alone, a window that is neither, and bytes left over.
+const UNREADABLE: &[&[u8]] = &[
+    &[],
+    &[0x02],
+    &[0x02, 0x20, 0x00, 0x00, 0x00, 0x00],
+    &[0x02, 0x40, 0x00, 0x00, 0x00, 0x00, 0x00],
+];
+
+// Whether this is the base of a node's log, and these are the bytes there.
+fn stands_at(node: &NodeCore, base: u64, bytes: &[u8]) -> bool {
+    let (at, snapshot) = node.snapshot();
+    at == base && snapshot == bytes
+}
+
+// Whether a node has something to cut, cuts it and keeps no command; once more it does nothing.
+fn cuts(alloc: Global, node: &mut NodeCore, base: u64, bytes: &[u8]) -> bool {
+    let can = node.can_cut();
+    let first = take(alloc, node, Item::Cut);
+    let cannot = !node.can_cut() && node.rest().is_empty() && stands_at(node, base, bytes);
+    let second = take(alloc, node, Item::Cut);
+    can && cannot && first.is_empty() && second.is_empty() && stands_at(node, base, bytes)
+}
+
+// The master's word on ballot 2 with these members, after ballot 1 of node 1.
+fn ballot_2(alloc: Global, members: &[u8]) -> Option<Body<Command>> {
+    let members = Members::from_slice(alloc, members).ok()?;
+    let before = Members::from_slice(alloc, &[1]).ok()?;
+    Some(Body::NewBallot(2, members, 1, before))
+}
+
+// Whether the one message is State of ballot 2 for node 2, with the broker of one connection at base 1 and no command.
+fn sends_snapshot(effects: &Effects) -> bool {
+    let [Effect::To(2, message)] = effects.as_slice() else {
+        return false;
+    };
+    match &message.body {
+        Body::State(2, log) => {
+            log.base() == 1 && log.snapshot() == CONNECTED && log.rest().is_empty()
+        }
+        _ => false,
+    }
+}
+
+// Whether the one message asks the master to activate ballot 2.
+fn asks_for_2(effects: &Effects) -> bool {
+    let [Effect::To(0, message)] = effects.as_slice() else {
+        return false;
+    };
+    matches!(&message.body, Body::Activate(2))
+}
+
+// Whether node 1, the sole member, takes client `a` and cuts its log.
+fn serves_and_cuts(alloc: Global, one: &mut NodeCore) -> bool {
+    take(alloc, one, Item::Opened(Port(1), 0));
+    bring(alloc, one, 1, CONNECT, 0).is_some()
+        && hands_over(alloc, one, 1, ACCEPTED, true)
+        && cuts(alloc, one, 1, CONNECTED)
+}
+
+// Whether node 2 takes over with node 1 as its backup: State brings the snapshot, and each message goes to its receiver.
+fn takes_over(alloc: Global, one: &mut NodeCore, two: &mut NodeCore) -> Option<bool> {
+    let joins = tell(alloc, two, 0, ballot_2(alloc, &[1, 2])?);
+    let state = give(alloc, one, 1, joins);
+    let is_sent = sends_snapshot(&state);
+    let installs = give(alloc, two, 2, state);
+    let installed = give(alloc, one, 1, installs);
+    let asked = give(alloc, two, 2, installed);
+    let appended = tell(alloc, two, 0, Body::Activated(2));
+    commits(alloc, one, two, appended);
+    Some(is_sent && asks_for_2(&asked) && stands_at(two, 1, CONNECTED))
+}
+
+// Node 1 holds what node 2 appends, and node 2 commits it.
+fn commits(alloc: Global, one: &mut NodeCore, two: &mut NodeCore, appended: Effects) {
+    let held = give(alloc, one, 1, appended);
+    let committed = give(alloc, two, 2, held);
+    give(alloc, one, 1, committed);
+}
+
+// Whether client `a` comes back at node 2, and finds its session.
+fn comes_back(alloc: Global, one: &mut NodeCore, two: &mut NodeCore) -> bool {
+    take(alloc, two, Item::Opened(Port(1), 0));
+    match bring(alloc, two, 1, CONNECT, 0) {
+        Some(appended) => commits(alloc, one, two, appended),
+        None => return false,
+    }
+    hands_over(alloc, two, 1, PRESENT, true)
+}
+
+// Whether a session goes over by a snapshot, and both nodes lose nothing.
+fn session_goes_over(alloc: Global) -> Option<bool> {
+    let mut one = node_of(alloc, 1, &[1])?;
+    let mut two = node_of(alloc, 2, &[1])?;
+    let served = serves_and_cuts(alloc, &mut one);
+    let taken_over = takes_over(alloc, &mut one, &mut two)?;
+    let back = comes_back(alloc, &mut one, &mut two);
+    Some(served && taken_over && back && one.losses() == 0 && two.losses() == 0)
+}
+
+#[test]
+fn a_session_goes_over_by_a_snapshot(rt: HostRuntime) {
+    assert_eq!(rt; session_goes_over(rt.alloc()), Some(true));
+}
+
+// Node 1 sends node 2 a log of one place with this snapshot in ballot 2: what node 2 hands out.
+fn sends(alloc: Global, two: &mut NodeCore, bytes: &[u8]) -> Option<Effects> {
+    let snapshot = Vec::from_slice(alloc, bytes).ok()?;
+    let log = Log::from_parts(1, snapshot, Vec::new(alloc));
+    Some(tell(alloc, two, 1, Body::State(2, log)))
+}
+
+// Whether node 2, alone in ballot 2, goes on from the snapshot of form 1, and its own one is of form 2.
+fn goes_on(alloc: Global, two: &mut NodeCore) -> Option<bool> {
+    let asked = sends(alloc, two, CONNECTED_BEFORE)?;
+    let is_asked = asks_for_2(&asked) && stands_at(two, 1, CONNECTED_BEFORE);
+    tell(alloc, two, 0, Body::Activated(2));
+    Some(is_asked && cuts(alloc, two, 2, BEGUN))
+}
+
+// Whether a snapshot of form 1 is read, and frozen to form 2.
+fn form_1_is_read(alloc: Global) -> Option<bool> {
+    let mut two = node_of(alloc, 2, &[1])?;
+    tell(alloc, &mut two, 0, ballot_2(alloc, &[2])?);
+    Some(goes_on(alloc, &mut two)? && two.losses() == 0)
+}
+
+#[test]
+fn a_snapshot_of_form_1_is_frozen_to_form_2(rt: HostRuntime) {
+    assert_eq!(rt; form_1_is_read(rt.alloc()), Some(true));
+}
+
+// Whether bytes that stand for no broker count as one lost message more, and nothing else comes of them.
+fn is_lost(alloc: Global, two: &mut NodeCore, bytes: &[u8]) -> bool {
+    let (before, losses) = (two.status(), two.losses());
+    let Some(effects) = sends(alloc, two, bytes) else {
+        return false;
+    };
+    let status = two.status();
+    let same = status.ballot == before.ballot && status.role == before.role;
+    let same_places = status.held == before.held && status.committed == before.committed;
+    let kept = stands_at(two, 0, &[]) && two.rest().is_empty() && !status.stopped;
+    effects.is_empty() && same && same_places && kept && two.losses() == losses.saturating_add(1)
+}
+
+// Whether each is lost, and the node goes on from bytes that it can read.
+fn unreadable_are_lost(alloc: Global) -> Option<bool> {
+    let mut two = node_of(alloc, 2, &[1])?;
+    tell(alloc, &mut two, 0, ballot_2(alloc, &[2])?);
+    let lost = UNREADABLE
+        .iter()
+        .all(|bytes| is_lost(alloc, &mut two, bytes));
+    Some(goes_on(alloc, &mut two)? && lost && two.losses() == 4)
+}
+
+#[test]
+fn bytes_that_are_no_snapshot_count_as_lost(rt: HostRuntime) {
+    assert_eq!(rt; unreadable_are_lost(rt.alloc()), Some(true));
+}
+
+// Ballot 2 of nodes 1 and 2 goes on until nothing is said any more. What found no memory is said again when time passes.
+fn settles(alloc: Global, one: &mut NodeCore, two: &mut NodeCore) {
+    for round in 0..16 {
+        let said = take(alloc, two, Item::Tick(round));
+        let asked = asks_for_2(&said);
+        let answers = give(alloc, one, 1, said);
+        let said = give(alloc, two, 2, answers);
+        let answers = give(alloc, one, 1, said);
+        give(alloc, two, 2, answers);
+        if asked {
+            tell(alloc, two, 0, Body::Activated(2));
+        }
+    }
+}
+
+// Client `a` connects by port 1. What finds no memory before it comes is done again.
+fn connects(alloc: Global, node: &mut NodeCore) -> Effects {
+    take(alloc, node, Item::Opened(Port(1), 0));
+    for _ in 0..2 {
+        if let Some(appended) = bring(alloc, node, 1, CONNECT, 0) {
+            return appended;
+        }
+    }
+    Vec::new(alloc)
+}
+
+// What is handed over for port 1.
+fn handed(alloc: Global, node: &mut NodeCore) -> Vec<u8> {
+    let mut out = Vec::new(alloc);
+    for _ in 0..2 {
+        if node.outgoing(Port(1), &mut out).is_ok() {
+            return out;
+        }
+    }
+    out
+}
+
+// Whether client `a` finds its session at node 2; or, where a loss was counted, none, or no node that serves.
+fn finds_session(alloc: Global, one: &mut NodeCore, two: &mut NodeCore) -> bool {
+    let appended = connects(alloc, two);
+    commits(alloc, one, two, appended);
+    settles(alloc, one, two);
+    let out = handed(alloc, two);
+    match one.losses().saturating_add(two.losses()) {
+        0 => out.as_slice() == PRESENT,
+        1 => out.is_empty() || out.as_slice() == ACCEPTED || out.as_slice() == PRESENT,
+        _ => false,
+    }
+}
+
+// Whether a session goes over by a snapshot where one growth is refused, and one step at most is counted.
+fn goes_over_or_counts(alloc: Global, one: &mut NodeCore, two: &mut NodeCore) -> bool {
+    connects(alloc, one);
+    for _ in 0..2 {
+        take(alloc, one, Item::Cut);
+    }
+    let Some(ballot) = ballot_2(alloc, &[1, 2]) else {
+        return true;
+    };
+    tell(alloc, two, 0, ballot);
+    settles(alloc, one, two);
+    finds_session(alloc, one, two)
+}
+
+// Without memory for the nodes nothing is asked of them.
+fn is_well(alloc: Global) -> bool {
+    match (node_of(alloc, 1, &[1]), node_of(alloc, 2, &[1])) {
+        (Some(mut one), Some(mut two)) => goes_over_or_counts(alloc, &mut one, &mut two),
+        _ => true,
+    }
+}
+
+// Run with each allocation failing in turn.
+#[test]
+fn a_refused_snapshot_is_counted(rt: HostRuntime) {
+    assert!(rt; is_well(rt.alloc()));
+}
