@@ -1,4 +1,4 @@
-// A node cuts its log behind an event of a script, each node behind each event, and the script goes on as ever.
+// A node cuts its log after an event of a script, each node after each event, and the script goes on as ever.
 
 use crate::tests::crashes::with_line;
 use crate::tests::scripts::{PRIMARY_CRASHES, STALE_PRIMARY};
@@ -28,7 +28,7 @@ fn is_own_with(told: &str, own: &str, events: usize) -> bool {
             }
         }
         if !line.starts_with("accepted") {
-            seen += 1;
+            seen = seen.saturating_add(1);
         }
     }
     rest.next().is_none()
@@ -55,23 +55,23 @@ fn goes_with_each(alloc: Global, row: &[&str; 2], at: usize, events: usize) -> b
         .all(|line| goes_as_ever(alloc, row, at, events, line))
 }
 
-// Whether it does so behind each of its lines. The first line is no event.
-fn goes_behind_each(alloc: Global, row: &[&str; 2]) -> bool {
+// Whether it does so after each of its lines. The first line is no event.
+fn goes_after_each(alloc: Global, row: &[&str; 2]) -> bool {
     let mut events = 0;
     for (at, byte) in row[0].as_bytes().iter().enumerate() {
         if *byte == b'\n' {
             if !goes_with_each(alloc, row, at.saturating_add(1), events) {
                 return false;
             }
-            events += 1;
+            events = events.saturating_add(1);
         }
     }
     true
 }
 
-// A cut of node 1 or 2 behind each event changes no message, no agreed length and no publication that is taken in.
+// A cut of node 1 or 2 after each event changes no message, no agreed length and no publication that is taken in.
 #[test]
 fn cuts_change_nothing_that_is_told(rt: HostRuntime) {
-    let crashes = goes_behind_each(rt.alloc(), &PRIMARY_CRASHES);
-    assert!(rt; crashes && goes_behind_each(rt.alloc(), &STALE_PRIMARY));
+    let crashes = goes_after_each(rt.alloc(), &PRIMARY_CRASHES);
+    assert!(rt; crashes && goes_after_each(rt.alloc(), &STALE_PRIMARY));
 }
