@@ -34,7 +34,7 @@ pub record Heard {S C O : Type 0} (rules : Rules S C O) (old : CountedReplica S 
 -- the same where no snapshot has to be read
 abbrev pub Went : {S C O : Type 0} → Rules S C O → CountedReplica S C → Outcome S C O →
     CountedReplica S C → List (Effect C O) → List (Effect C O) → Type 0
-Went rules old outcome new before behind = Heard rules old outcome false new before behind
+Went rules old outcome new before after = Heard rules old outcome false new before after
 
 -- what a proposal that found no memory leaves
 abbrev pub Lacks : {S C O : Type 0} →

@@ -214,7 +214,7 @@ one_stop g n core turn given config earlier came at replica none_sent none_left 
     step : MayHappen rules g.master (moment_of g).world g.master (moved_world (moment_of g).world n (halted rules (replica_of core)) [])
     step = node_goes (goes.stops n (replica_of core) (get_mapped replica_of g.nodes n core at))
 
--- a cut, behind which the record has the places that the replica applied
+-- a cut, after which the record has the places that the replica applied
 pub one_cut : (g : Group) (n : ℕ) (core : CoreState) (config : Config) (earlier : List (Moment State Command Output))
     (came : Past rules config (moment_of g ∷ earlier)) → slice_get g.nodes n ≡ Some core → can_cut (replica_of core) ≡ true
     → rules.thawed (rules.frozen (replica_of core).machine) ≡ Some (replica_of core).machine

@@ -40,7 +40,7 @@ where
     serve_nodes(rt, &read, input, output, faults)
 }
 
-// Looks whether so many files can be open at once.
+// Looks whether as many files can be open at once as are asked for.
 fn find_files<R: Files + AllocGlobal>(rt: &R, count: usize) -> Result<(), Fault> {
     let mut files = Vec::with_capacity(rt.alloc(), count)?;
     for _ in 0..count {

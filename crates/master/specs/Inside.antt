@@ -42,7 +42,7 @@ abbrev pub held_by : {S C : Type 0} → Option (ReplicaState S C) → ℕ
 held_by None = 0
 held_by (Some r) = places r.log
 
--- the log of a member's node has so many places
+-- the log of a member's node has at least as many places
 pub record HoldsAt {S C : Type 0} (nodes : List (ReplicaState S C)) (members : List ℕ)
     (held at : ℕ) : Type 0 where
   pub member : ℕ

@@ -14,7 +14,7 @@ use Rattle.master.specs.Group.{GroupState}
 use Rattle.master.specs.Exact.{NodeTurn, Turn, turn, group_step}
 use Rattle.master.specs.Exact.Turn.{by_node, by_cut, by_master, unheeded}
 
--- what an event may do where memory is wanting: nothing (no log is cut then), the step of a node that it
+-- what an event may do where memory runs out: nothing (no log is cut then), the step of a node that it
 -- comes to with losses, or that of the master, whose message is lost
 pub data Happens {S C O : Type 0} (rules : Rules S C O) :
     Moment S C O → Event C → Moment S C O → Type 0 where

@@ -465,7 +465,7 @@ impl<M: Machine> Group<M> {
         }
     }
 
-    // The place of a member of the active ballot whose log has so many places.
+    // The place of a member of the active ballot whose log has at least as many places.
     fn holder(&self, held: u64) -> Option<usize>
         ensures some { IfSome result (λ at.
             HoldsAt self.now.moment.world.nodes self.now.moment.master.members held at) }

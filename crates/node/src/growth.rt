@@ -12,7 +12,7 @@ const LEAST: u64 = 16_777_216;
 /// What a command of the log counts beside the bytes of its packet.
 const COMMAND_BYTES: u64 = 128;
 
-/// Returns whether items that brought so many bytes, and so many commands, count more than 16 MiB and more than the snapshot has
+/// Returns whether items that brought these bytes and commands count more than 16 MiB and more than the snapshot has
 /// bytes.
 pub(crate) fn is_large(bytes: u64, commands: u64, snapshot: &[u8]) -> bool
     ensures { (all : ℕ) → bytes ≡ counted all →

@@ -100,7 +100,7 @@ fn are_answers(group: &Group<Tally>) -> bool {
     })
 }
 
-// Node 1 adds a command, and then cuts its log; a second time where memory was wanting for that.
+// Node 1 adds a command, and then cuts its log; a second time where memory ran out for that.
 fn adds_and_cuts(group: &mut Group<Tally>) {
     answers(group, 1, 2);
     for _ in 0..2 {
