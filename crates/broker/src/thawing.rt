@@ -17,14 +17,15 @@ use crate::rows::Rows;
 use broker_form::thawed_is_in_range;
 use broker_model::Window;
 use broker_tables::{ClientRow, Tables};
-use packet::{ClientId, QoS};
+use packet::ClientId;
 use packet_base::{Reader, Stop};
 use retained::{RetainedPublication, RetainedStore};
+use session::Session;
 use session_form::keep;
 use std::alloc::{AllocError, Global};
 use std::collections::BTreeMap;
 use subs::{SubIndex, TreeIndex};
-use topics::{Filter, TopicName};
+use topics::TopicName;
 
 /// The most topics of which a publication is retained.
 const MAX_TOPICS: usize = 16_384;
@@ -126,7 +127,7 @@ fn index_of(
 {
     let mut index = TreeIndex::new(alloc);
     for (client, row) in sessions {
-        set_all(&mut index, client, row.state.subscriptions())?;
+        set_all(&mut index, client, &row.state)?;
     }
     Ok(index)
 }
@@ -135,11 +136,12 @@ fn index_of(
 fn set_all(
     index: &mut TreeIndex,
     client: &ClientId,
-    held: &[(Filter, QoS)],
+    session: &Session,
 ) -> Result<(), AllocError>
-    ensures { OnOk result (content_of index.new ≡ all_set client.now held.now (content_of index.old)) }
+    ensures { OnOk result (content_of index.new
+        ≡ all_set client.now session.now.subscriptions (content_of index.old)) }
 {
-    for (filter, qos) in held {
+    for (filter, qos) in session.subscriptions() {
         index.set(client, filter, *qos)?;
     }
     Ok(())

@@ -1,58 +1,48 @@
--- A filter is set in its place, or comes last.
-use Rattle.std.proofs.Common.{◌≡◌, ◌<◌, ◌≤◌, ℕ, suc, Bool, true, false, nat_lt, ◌||◌, if◌then◌else◌, List, [], ◌∷◌, ◌++◌, length, refl, ap, sym, arith}
-use Rattle.std.specs.Prelude.{bytes_eq, slice_index_or, slice_set}
+-- What the calls of a map make of its entries is what becomes of a session's subscriptions.
+use Rattle.std.proofs.Common.{◌≡◌, ℕ, Bool, true, false, not, ◌||◌, if◌then◌else◌, List, [], ◌∷◌, ◌++◌, refl, ap, ◌∙◌, sym, Some, None, Option, Ok}
+use Rattle.std.specs.Prelude.{bytes_eq, is_some}
+use Rattle.std.proofs.lemmas.Bool.{or_parts}
+use Rattle.std.specs.Map.{lookup}
+use Rattle.indexmap.specs.IndexMap.{insert_entry}
 use Rattle.packet.specs.declared.qos.QoS.{QoS}
+use Rattle.session_form.specs.Counted.{keep}
 use Rattle.session_base.specs.Subscriptions.{HeldFilter, is_held, with_subscription}
-use Rattle.session.specs.Inside.{place_of}
 
-one_less : (i n : ℕ) (b : Bool) → nat_lt (suc i) (suc n) ≡ b → nat_lt i n ≡ b
-one_less i n true e = grind arith
-one_less i n false e = grind arith
+-- a filter is set in its place, or comes last
+pub set_as_entry : (filter : List ℕ) (qos : QoS) (held : List HeldFilter) → insert_entry bytes_eq held filter qos ≡ with_subscription (filter, qos) held
+set_as_entry filter qos [] = refl
+set_as_entry filter qos (first ∷ others) =
+    ap (λ rest. if bytes_eq filter first.0 then (first.0, qos) ∷ others else first ∷ rest) (set_as_entry filter qos others)
 
-pub in_place : (filter : List ℕ) (qos : QoS) (held : List HeldFilter) (old : HeldFilter) → nat_lt (place_of filter held) (length held) ≡ true →
-    slice_index_or held (place_of filter held) old ≡ old →
-    slice_set held (place_of filter held) (old.0, qos) ≡ with_subscription (filter, qos) held
-in_place filter qos [] old lt e = absurd (cc)
-in_place filter qos (first ∷ others) old lt e = by (bytes_eq filter first.0) lt e (in_place filter qos others old)
+-- a filter is held where the map has it
+pub held_is_found : (filter : List ℕ) (held : List HeldFilter) → is_some (lookup (bytes_eq filter) held) ≡ is_held filter held
+held_is_found filter [] = refl
+held_is_found filter (first ∷ others) = by (bytes_eq filter first.0) (held_is_found filter others)
   where
-    by : (b : Bool) → nat_lt (if b then 0 else suc (place_of filter others)) (suc (length others)) ≡ true →
-        slice_index_or (first ∷ others) (if b then 0 else suc (place_of filter others)) old ≡ old →
-        (nat_lt (place_of filter others) (length others) ≡ true → slice_index_or others (place_of filter others) old ≡ old →
-        slice_set others (place_of filter others) (old.0, qos) ≡ with_subscription (filter, qos) others) →
-        slice_set (first ∷ others) (if b then 0 else suc (place_of filter others)) (old.0, qos) ≡ (if b then (first.0, qos) ∷ others else first ∷ with_subscription (filter, qos) others)
-    by true lt e rest = ap (λ (a : HeldFilter). (a.0, qos) ∷ others) (sym e)
-    by false lt e rest = ap (λ more. first ∷ more) (rest (one_less (place_of filter others) (length others) true lt) e)
+    by : (b : Bool) → is_some (lookup (bytes_eq filter) others) ≡ is_held filter others →
+        is_some (if b then Some first.1 else lookup (bytes_eq filter) others) ≡ (b || is_held filter others)
+    by true rest = refl
+    by false rest = rest
 
-pub at_the_end : (filter : List ℕ) (qos : QoS) (held : List HeldFilter) → nat_lt (place_of filter held) (length held) ≡ false →
-    held ++ (filter, qos) ∷ [] ≡ with_subscription (filter, qos) held
-at_the_end filter qos [] e = refl
-at_the_end filter qos (first ∷ others) e = by (bytes_eq filter first.0) e (at_the_end filter qos others)
-  where
-    by : (b : Bool) → nat_lt (if b then 0 else suc (place_of filter others)) (suc (length others)) ≡ false →
-        (nat_lt (place_of filter others) (length others) ≡ false → others ++ (filter, qos) ∷ [] ≡ with_subscription (filter, qos) others) →
-        first ∷ (others ++ (filter, qos) ∷ []) ≡ (if b then (first.0, qos) ∷ others else first ∷ with_subscription (filter, qos) others)
-    by true f rest = absurd (no (length others) f)
-      where
-        no : (n : ℕ) → nat_lt 0 (suc n) ≡ false → ⊥
-        no n g = grind arith
-    by false f rest = ap (λ more. first ∷ more) (rest (one_less (place_of filter others) (length others) false f))
+-- one that is held is never missing in the map
+pub never_missed : (filter : List ℕ) (held : List HeldFilter) → lookup (bytes_eq filter) held ≡ None → is_held filter held ≡ true → ⊥
+never_missed filter held missed is =
+    let none : is_some (lookup (bytes_eq filter) held) ≡ false = ap is_some missed in
+    absurd (cc (none, held_is_found filter held, is))
 
-pub below : (i n : ℕ) → i < n → nat_lt i n ≡ true
-below i n h = grind arith
+-- a new filter comes last
+pub new_comes_last : (filter : List ℕ) (qos : QoS) (held : List HeldFilter) → is_held filter held ≡ false → with_subscription (filter, qos) held ≡ held ++ (filter, qos) ∷ []
+new_comes_last filter qos [] new = refl
+new_comes_last filter qos (first ∷ others) new =
+    let parts = or_parts (bytes_eq filter first.0) (is_held filter others) new in
+    rw parts.0 (ap (λ rest. first ∷ rest) (new_comes_last filter qos others parts.1))
 
-pub not_below : (i n : ℕ) → n ≤ i → nat_lt i n ≡ false
-not_below i n h = grind arith
+-- reading goes on where the test is true
+pub kept_where : (test : Bool) → {done : Unit {0}} → keep test ≡ Ok done → test ≡ true
+kept_where true e = refl
+kept_where false e = absurd (cc)
 
--- a filter that is held has its place among those held
-pub never_missed : (filter : List ℕ) (held : List HeldFilter) → nat_lt (place_of filter held) (length held) ≡ false → is_held filter held ≡ true → ⊥
-never_missed filter [] missed h = absurd (cc)
-never_missed filter (first ∷ others) missed h = by (bytes_eq filter first.0) missed h (never_missed filter others)
-  where
-    by : (b : Bool) → nat_lt (if b then 0 else suc (place_of filter others)) (suc (length others)) ≡ false →
-        (b || is_held filter others) ≡ true →
-        (nat_lt (place_of filter others) (length others) ≡ false → is_held filter others ≡ true → ⊥) → ⊥
-    by true missed h rest = no (length others) missed
-      where
-        no : (n : ℕ) → nat_lt 0 (suc n) ≡ false → ⊥
-        no n g = grind arith
-    by false missed h rest = rest (one_less (place_of filter others) (length others) false missed) h
+-- what is not held is new
+pub not_held : (held : Bool) → not held ≡ true → held ≡ false
+not_held true e = absurd (cc)
+not_held false e = refl

@@ -1,5 +1,5 @@
 -- What the private calls say: one start of a queue, an entry that is released, and filters.
-use Rattle.std.specs.Prelude.{◌≡◌, ℕ, suc, if◌then◌else◌, ◌==◌, false, bytes_eq, Option, Some, None, List, [], ◌∷◌, ◌++◌}
+use Rattle.std.specs.Prelude.{◌≡◌, ℕ, ◌==◌, false, Option, Some, None, List, [], ◌∷◌, ◌++◌}
 use Rattle.std.specs.Map.{lookup, set_value}
 use Rattle.packet.specs.declared.qos.QoS.{QoS}
 use Rattle.packet.specs.declared.packet.Packet.{Packet}
@@ -7,7 +7,6 @@ use Rattle.packet.specs.declared.packet.Packet.TheVariants as packets
 use Rattle.session_base.specs.declared.publication.Publication.{Publication}
 use Rattle.session_base.specs.declared.awaits.Awaits.TheVariants as waits_for
 use Rattle.session_base.specs.Publication.{publish_of, greater_qos}
-use Rattle.session_base.specs.Subscriptions.{HeldFilter}
 use Rattle.session_base.specs.Queue.{Flight, Queue, started_flight}
 use Rattle.session_form.specs.Form.{IsWritable}
 
@@ -33,11 +32,6 @@ with_released id fs = set_value (λ other. id == other) fs waits_for.Pubcomp
 abbrev pub greater_of : Option QoS → Option QoS → Option QoS
 greater_of (Some q) other = Some (greater_qos q other)
 greater_of None other = other
-
--- where a filter stands among those held, or how many there are
-abbrev pub place_of : List ℕ → List HeldFilter → ℕ
-place_of filter (held ∷ others) = if bytes_eq filter held.0 then 0 else suc (place_of filter others)
-place_of filter [] = 0
 
 -- an entry whose publication, if it has one, can be written
 abbrev pub AreWritable : Flight → Type 0

@@ -15,6 +15,7 @@ use crate::error::EnqueueError;
 use crate::received::Received;
 use crate::session_queue::SessionQueue;
 use crate::subscriptions::Subscriptions;
+use indexmap::IndexMap;
 use packet::{Packet, PacketId, QoS};
 use session_base::{Publication, resend_keeps_the_order};
 use std::alloc::{AllocError, Global};
@@ -214,10 +215,10 @@ impl Session {
     }
 
     /// The subscriptions, in the order of their first granting.
-    pub fn subscriptions(&self) -> &[(Filter, QoS)]
-        ensures { result.now ≡ self.now.subscriptions }
+    pub fn subscriptions(&self) -> &IndexMap<Filter, QoS>
+        ensures { result.now.entries ≡ self.now.subscriptions }
     {
-        self.subscriptions.as_slice()
+        self.subscriptions.all()
     }
 
     /// The greatest QoS of the subscriptions that match the topic, if one does (MQTT 3.3.5).

@@ -3,8 +3,8 @@
 ghost use Rattle.std.specs.Prelude.{◌≡◌, [], true, IsOk, OnOk, OnErr, length};
 ghost use Rattle.session_base.specs.Subscriptions.{is_held, with_subscription, without_filter, granted_qos};
 ghost use Rattle.session_base.specs.Publication.{greater_qos};
-ghost use Rattle.session.specs.Inside.{place_of};
 
+use indexmap::IndexMap;
 use packet::QoS;
 use std::alloc::{AllocError, Global};
 use std::marker::Model;
@@ -13,7 +13,7 @@ use topics::{Filter, TopicName, matches};
 /// Filters with the QoS at which each was granted last, in the order of their first granting.
 #[derive(Drop)]
 pub(crate) struct Subscriptions {
-    pub(crate) held: Vec<(Filter, QoS)>,
+    pub(crate) held: IndexMap<Filter, QoS>,
 }
 
 impl Model for Subscriptions {
@@ -22,7 +22,7 @@ impl Model for Subscriptions {
 
     ghost Value = { List HeldFilter };
 
-    ghost view = { λ subscriptions. subscriptions.held.items };
+    ghost view = { λ subscriptions. subscriptions.held.entries };
 }
 
 impl Subscriptions {
@@ -31,7 +31,7 @@ impl Subscriptions {
         ensures { result ≡ [] }
     {
         Subscriptions {
-            held: Vec::new(alloc),
+            held: IndexMap::new(alloc),
         }
     }
 
@@ -43,8 +43,8 @@ impl Subscriptions {
     }
 
     /// All of them.
-    pub(crate) fn as_slice(&self) -> &[(Filter, QoS)]
-        ensures { result.now ≡ self.now }
+    pub(crate) fn all(&self) -> &IndexMap<Filter, QoS>
+        ensures { result.now.entries ≡ self.now }
     {
         &self.held
     }
@@ -53,12 +53,7 @@ impl Subscriptions {
     pub(crate) fn contains(&self, filter: &Filter) -> bool
         ensures { result ≡ is_held filter.now self.now }
     {
-        for (held, _) in &self.held {
-            if *filter == *held {
-                return true;
-            }
-        }
-        false
+        self.held.contains_key(filter)
     }
 
     /// An identical filter takes the new QoS in its place, and a new one comes last.
@@ -67,35 +62,15 @@ impl Subscriptions {
         ensures err { OnErr result (self.new ≡ self.old) }
         ensures held { is_held filter self.old ≡ true → IsOk result }
     {
-        let place = self.place_of(&filter);
-        if place < self.len() {
-            self.held[place].1 = qos;
-            return Ok(());
-        }
-        self.held.push((filter, qos))?;
+        self.held.insert(filter, qos)?;
         Ok(())
-    }
-
-    // Where the filter stands, or how many there are.
-    fn place_of(&self, filter: &Filter) -> usize
-        ensures { result ≡ place_of filter.now self.now }
-    {
-        let _length = self.held.len();
-        let mut place = 0;
-        for (held, _) in &self.held {
-            if *filter == *held {
-                return place;
-            }
-            place += 1;
-        }
-        place
     }
 
     /// The filter is given up, if it is there. It takes no memory.
     pub(crate) fn remove(&mut self, filter: &Filter)
         ensures { self.new ≡ without_filter filter.now self.old }
     {
-        self.held.retain(|held| !(*filter == held.0));
+        self.held.retain(|held, _qos| !(*filter == *held));
     }
 
     /// The greatest QoS of those that match the topic.

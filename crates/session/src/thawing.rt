@@ -46,7 +46,7 @@ impl Subscriptions {
         ensures { Adds is_new_filter self.old (filter, qos) result self.new }
     {
         keep(!self.contains(&filter))?;
-        match self.held.push((filter, qos)) {
+        match self.set(filter, qos) {
             Ok(()) => Ok(()),
             Err(_) => Err(OUT_OF_MEMORY),
         }

@@ -1,7 +1,7 @@
-use Rattle.std.proofs.Common.{◌≡◌, ◌++◌, drop}
+use Rattle.std.proofs.Common.{◌≡◌, ◌++◌}
 use Rattle.std.specs.List.{flat_map}
 use Rattle.session_form.specs.Form.{held_bytes}
 use Rattle.session.proofs.subscriptions.Subscriptions.write_each.Given as goal
 
 abbrev pub invariant-loop-filter : goal.invariant-loop-filter
-invariant-loop-filter l = l.bytes.items ++ flat_map held_bytes (drop l.filter-index l.filter-items) ≡ l.initial.bytes.items ++ flat_map held_bytes l.self
+invariant-loop-filter l = l.bytes.items ++ flat_map held_bytes l.filter-iterator ≡ l.initial.bytes.items ++ flat_map held_bytes l.self

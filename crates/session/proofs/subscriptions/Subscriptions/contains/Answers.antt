@@ -1,0 +1,10 @@
+use Rattle.std.proofs.Common.{◌∙◌, ap}
+use Rattle.session_base.specs.Subscriptions.{is_held}
+use Rattle.session.proofs.FilterSet.{held_is_found}
+use Rattle.session.proofs.subscriptions.Subscriptions.contains.Goals as goal
+
+pub returns : goal.returns
+returns c =
+    c.contains_key.ensures
+    ∙ held_is_found c.args.filter.now c.self.inside.held.entries
+    ∙ ap (is_held c.args.filter.now) c.self.view_is
