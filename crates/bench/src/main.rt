@@ -17,8 +17,16 @@ use bench_base::list;
 use std::env;
 
 /// The benchmarks, each named like its file.
-const NAMES: [&str; 8] = [
-    "granted", "inbox", "matching", "packets", "retained", "streams", "tree", "windows",
+const NAMES: [&str; 9] = [
+    "granted",
+    "inbox",
+    "matching",
+    "packets",
+    "retained",
+    "streams",
+    "tree",
+    "tree-filled",
+    "windows",
 ];
 
 fn main(rt: HostRuntime) -> Result<()> {
@@ -40,6 +48,7 @@ fn run(rt: &HostRuntime, name: &str) -> Result<()> {
         "retained" => retained_topics::run(rt),
         "streams" => streams::run(rt),
         "tree" => tree::run(rt),
+        "tree-filled" => tree::fill_only(rt),
         "windows" => windows::run(rt),
         _ => bail!("no benchmark has the name {name}"),
     }

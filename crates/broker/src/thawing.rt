@@ -133,11 +133,7 @@ fn index_of(
 }
 
 // The index is told of one client's subscriptions.
-fn set_all(
-    index: &mut TreeIndex,
-    client: &ClientId,
-    session: &Session,
-) -> Result<(), AllocError>
+fn set_all(index: &mut TreeIndex, client: &ClientId, session: &Session) -> Result<(), AllocError>
     ensures { OnOk result (content_of index.new
         ≡ all_set client.now session.now.subscriptions (content_of index.old)) }
 {

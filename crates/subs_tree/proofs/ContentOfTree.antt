@@ -6,15 +6,12 @@ use Rattle.std.specs.Cmp.Lexicographic.{bytes_decides, slice_cmp, texts_ties}
 use Rattle.std.specs.Ordering.{nat_cmp, is_eq}
 use Rattle.std.proofs.lemmas.Bool.{true≢false, and_parts}
 use Rattle.std.proofs.lemmas.List.Splits.{join_with_byte-slice_split}
-use Rattle.topics.specs.Text.{levels}
 use Rattle.packet.specs.declared.qos.QoS.{QoS}
 use Rattle.subs_base.specs.Content.{Content, with_row, without_row, without_client}
 use Rattle.subs_base.specs.ListIndex.{Filters, Clients, content_of, at}
-use Rattle.subs_tree.specs.declared.node.Node.{Node}
-use Rattle.subs_tree.specs.Tree.{asked}
-use Rattle.subs_tree.specs.TreeIndex.{tree_content}
-use Rattle.subs_tree.specs.Inside.{same_levels, with_asked, cleared}
-use Rattle.subs_tree.proofs.AskedAfter.{same_levels_is, same_levels_self}
+use Rattle.topics.specs.Text.{levels}
+use Rattle.subs_tree.specs.Inside.{Asked, same_levels, with_asked, cleared}
+use Rattle.subs_tree.proofs.Ways.{same_levels_is, same_levels_self}
 
 text_of_levels : (text other : List ℕ) → levels text ≡ levels other → text ≡ other
 text_of_levels text other is =
@@ -39,17 +36,21 @@ swapped false true = refl
 swapped false false = refl
 
 -- one row of the tree was set or taken out
+-- what stands at the text of each filter
+abbrev pub at_texts : Asked → Content
+at_texts asked client filter = asked (levels filter) client
+
 pub row_put :
-    (old new : Node) (text filter client : List ℕ) (kept : Option QoS)
+    (old new : Asked) (text filter client : List ℕ) (kept : Option QoS)
     → text ≡ filter
-    → asked new ≡ with_asked (asked old) (levels text) client kept
-    → tree_content new ≡ (λ c f. cond (bytes_eq client c && bytes_eq filter f) kept (tree_content old c f))
+    → new ≡ with_asked old (levels text) client kept
+    → at_texts new ≡ (λ c f. cond (bytes_eq client c && bytes_eq filter f) kept (old (levels f) c))
 row_put old new text filter client kept is after = λ i c f. go c f i
   where
-    go : (c f : List ℕ) → tree_content new c f ≡ cond (bytes_eq client c && bytes_eq filter f) kept (tree_content old c f)
+    go : (c f : List ℕ) → new (levels f) c ≡ cond (bytes_eq client c && bytes_eq filter f) kept (old (levels f) c)
     go c f =
         ap (λ a. a (levels f) c) after
-        ∙ ap (λ b. cond b kept (tree_content old c f))
+        ∙ ap (λ b. cond b kept (old (levels f) c))
         (swapped (same_levels (levels text) (levels f)) (bytes_eq client c) ∙ ap (λ b. bytes_eq client c && b) (same_text text f ∙ ap (λ t. bytes_eq t f) is))
 
 -- a row that was new is taken back
@@ -143,3 +144,8 @@ cleared_none client before = λ i c f. go (bytes_eq client c) (before c f) i
     go : (b : Bool) (o : Option QoS) → cond (b && false) None o ≡ o
     go true o = refl
     go false o = refl
+
+-- what holds anyhow holds at `Err`
+pub anyhow : {X E A : Type 0} (r : Result X E) → A → OnErr r A
+anyhow (Ok x) a = tt
+anyhow (Err e) a = a

@@ -16,7 +16,7 @@ use Rattle.topics.specs.Text.{Levels}
 use Rattle.packet.specs.declared.qos.QoS.{QoS}
 use Rattle.packet.specs.QoS.{qos_number}
 use Rattle.subs_base.proofs.RowsAreGranted.{first}
-use Rattle.subs_tree.specs.declared.node.Node.{Node, out-Node}
+use Rattle.subs_tree.specs.Shape.{Shape}
 use Rattle.subs_tree.specs.Walk.{greatest, Raises, GivesSome, found_at, found_below}
 
 below_twice : (p q r : QoS) → nat_lt (qos_number p) (qos_number q) ≡ true → nat_lt (qos_number q) (qos_number r) ≡ true → nat_lt (qos_number p) (qos_number r) ≡ true
@@ -131,33 +131,34 @@ greatest_either (Some p) (Some r) q is =
 
 -- ---- whom a walk gives something
 
-pub rest_gives : (node : Node) (topic : Levels) → GivesSome (get (slice_cmp nat_cmp) (out-Node node).rest) → GivesSome (found_at node topic)
-rest_gives node [] h =
-    let r = greatest_left (get (slice_cmp nat_cmp) (out-Node node).rest h.0) (get (slice_cmp nat_cmp) (out-Node node).here h.0) h.1 h.2 in
-    (h.0, r.0, r.1)
-rest_gives node (level ∷ rest) h =
-    let r = greatest_left (get (slice_cmp nat_cmp) (out-Node node).rest h.0)
-    (greatest (found_below node level rest h.0) (found_below node (codes "+") rest h.0)) h.1 h.2 in
-    (h.0, r.0, r.1)
+module _ (s : Shape) where
+  pub rest_gives : (node : ℕ) (topic : Levels) → GivesSome (s.held node true) → GivesSome (found_at s node topic)
+  rest_gives node [] h =
+      let r = greatest_left (s.held node true h.0) (s.held node false h.0) h.1 h.2 in
+      (h.0, r.0, r.1)
+  rest_gives node (level ∷ rest) h =
+      let r = greatest_left (s.held node true h.0)
+      (greatest (found_below s node level rest h.0) (found_below s node (codes "+") rest h.0)) h.1 h.2 in
+      (h.0, r.0, r.1)
 
-pub here_gives : (node : Node) → GivesSome (get (slice_cmp nat_cmp) (out-Node node).here) → GivesSome (found_at node [])
-here_gives node h =
-    let r = greatest_right (get (slice_cmp nat_cmp) (out-Node node).rest h.0) (get (slice_cmp nat_cmp) (out-Node node).here h.0) h.1 h.2 in
-    (h.0, r.0, r.1)
+  pub here_gives : (node : ℕ) → GivesSome (s.held node false) → GivesSome (found_at s node [])
+  here_gives node h =
+      let r = greatest_right (s.held node true h.0) (s.held node false h.0) h.1 h.2 in
+      (h.0, r.0, r.1)
 
-pub below_gives : (node : Node) (level : List ℕ) (rest : Levels) → GivesSome (found_below node level rest) → GivesSome (found_at node (level ∷ rest))
-below_gives node level rest h =
-    let one = greatest_left (found_below node level rest h.0) (found_below node (codes "+") rest h.0) h.1 h.2 in
-    let r = greatest_right (get (slice_cmp nat_cmp) (out-Node node).rest h.0)
-    (greatest (found_below node level rest h.0) (found_below node (codes "+") rest h.0)) one.0 one.1 in
-    (h.0, r.0, r.1)
+  pub below_gives : (node : ℕ) (level : List ℕ) (rest : Levels) → GivesSome (found_below s node level rest) → GivesSome (found_at s node (level ∷ rest))
+  below_gives node level rest h =
+      let one = greatest_left (found_below s node level rest h.0) (found_below s node (codes "+") rest h.0) h.1 h.2 in
+      let r = greatest_right (s.held node true h.0)
+      (greatest (found_below s node level rest h.0) (found_below s node (codes "+") rest h.0)) one.0 one.1 in
+      (h.0, r.0, r.1)
 
-pub plus_gives : (node : Node) (level : List ℕ) (rest : Levels) → GivesSome (found_below node (codes "+") rest) → GivesSome (found_at node (level ∷ rest))
-plus_gives node level rest h =
-    let one = greatest_right (found_below node level rest h.0) (found_below node (codes "+") rest h.0) h.1 h.2 in
-    let r = greatest_right (get (slice_cmp nat_cmp) (out-Node node).rest h.0)
-    (greatest (found_below node level rest h.0) (found_below node (codes "+") rest h.0)) one.0 one.1 in
-    (h.0, r.0, r.1)
+  pub plus_gives : (node : ℕ) (level : List ℕ) (rest : Levels) → GivesSome (found_below s node (codes "+") rest) → GivesSome (found_at s node (level ∷ rest))
+  plus_gives node level rest h =
+      let one = greatest_right (found_below s node level rest h.0) (found_below s node (codes "+") rest h.0) h.1 h.2 in
+      let r = greatest_right (s.held node true h.0)
+      (greatest (found_below s node level rest h.0) (found_below s node (codes "+") rest h.0)) one.0 one.1 in
+      (h.0, r.0, r.1)
 
 -- where some are left, some are found
 pub left_gives : (found : List (List ℕ × QoS)) (rows old rest : List (List ℕ × QoS)) (e : List ℕ × QoS) → rows ++ (e ∷ rest) ≡ old ++ found → old ≡ take (length old) rows →

@@ -21,12 +21,11 @@ use Rattle.topics.proofs.OnePass.{bare, bare_levels}
 use Rattle.topics.proofs.LevelByLevel.{is_last_levels}
 use Rattle.packet.specs.declared.qos.QoS.{QoS}
 use Rattle.packet.specs.QoS.{qos_number}
+use Rattle.subs_base.specs.Content.{Content}
 use Rattle.subs_base.specs.Granted.{Row, clients_of, IsGreatest, IsGranted, IsWanted}
 use Rattle.subs_base.proofs.RowsAreGranted.{later, first}
-use Rattle.subs_tree.specs.declared.node.Node.{Node, out-Node}
-use Rattle.subs_tree.specs.Tree.{asked, child}
-use Rattle.subs_tree.specs.TreeIndex.{tree_content}
-use Rattle.subs_tree.specs.Walk.{GivesSome, found_at, found_below, found_named, found_for}
+use Rattle.subs_tree.specs.Shape.{Shape, asked, shape_content}
+use Rattle.subs_tree.specs.Walk.{GivesSome, found_at, found_below, found_named, found_from, found_for}
 use Rattle.subs_tree.proofs.WalkFinds.{AreClean, levels_clean, text_of, found_origin, named_origin, found_reaches, below_reached, matching}
 
 -- ---- a text's first byte, and that of its first level
@@ -87,89 +86,94 @@ dollar_level (x ∷ xs) level rest is h =
 
 -- ---- what was found for a topic, and the filters
 
-abbrev Asks : Node → List ℕ → List ℕ → QoS → Type 0
-Asks root topic client qos = (filter : List ℕ) × (tree_content root client filter ≡ Some qos) × Matches filter topic
+module _ (s : Shape) where
+  -- what is asked s for below a node
+  abbrev below_content : ℕ → Content
+  below_content at client filter = asked s at (levels filter) client
 
-asks_plain : (root : Node) (topic client : List ℕ) (qos : QoS) (ls : Levels) → starts_with 36 topic ≡ false → asked root ls client ≡ Some qos → matches_rest ls (levels topic) ≡ true → AreClean ls → Asks root topic client qos
-asks_plain root topic client qos [] dollar found match clean = absurd (none (levels topic) (is_last_levels topic) match)
-  where
-    none : (ts : Levels) → is_last ts ≡ false → matches_rest [] ts ≡ true → ⊥
-    none [] e m = true≢false e
-    none (t ∷ ts) e m = true≢false (sym m)
-asks_plain root topic client qos (l ∷ ls) dollar found match clean =
-    let text = text_of l ls clean in (
-      l ++ text.0,
-      ap (λ f. asked root f client) text.1 ∙ found,
-      (tested (l ++ text.0) topic).0
-          (rw (never_hidden (starts_with_wildcard (l ++ text.0)) (starts_with 36 topic) dollar) (ap (λ f. matches_rest f (levels topic)) text.1 ∙ match)),
-    )
+  abbrev Asks : ℕ → List ℕ → List ℕ → QoS → Type 0
+  Asks root topic client qos = (filter : List ℕ) × (below_content root client filter ≡ Some qos) × Matches filter topic
 
-asks_dollar : (root : Node) (topic client : List ℕ) (qos : QoS) (l : List ℕ) (ls : Levels) → starts_with 36 l ≡ true → asked root (l ∷ ls) client ≡ Some qos → matches_rest (l ∷ ls) (levels topic) ≡ true → AreClean (l ∷ ls) → Asks root topic client qos
-asks_dollar root topic client qos l ls dollar found match clean =
-    let text = text_of l ls clean in (
-      l ++ text.0,
-      ap (λ f. asked root f client) text.1 ∙ found,
-      (tested (l ++ text.0) topic).0
-          (rw (is_36_then_no_wildcard (l ++ text.0) (plain_first 36 l text.0 dollar)) (ap (λ f. matches_rest f (levels topic)) text.1 ∙ match)),
-    )
+  asks_plain : (root : ℕ) (topic client : List ℕ) (qos : QoS) (ls : Levels) → starts_with 36 topic ≡ false → asked s root ls client ≡ Some qos → matches_rest ls (levels topic) ≡ true → AreClean ls → Asks root topic client qos
+  asks_plain root topic client qos [] dollar found match clean = absurd (none (levels topic) (is_last_levels topic) match)
+    where
+      none : (ts : Levels) → is_last ts ≡ false → matches_rest [] ts ≡ true → ⊥
+      none [] e m = true≢false e
+      none (t ∷ ts) e m = true≢false (sym m)
+  asks_plain root topic client qos (l ∷ ls) dollar found match clean =
+      let text = text_of l ls clean in (
+        l ++ text.0,
+        ap (λ f. asked s root f client) text.1 ∙ found,
+        (tested (l ++ text.0) topic).0
+            (rw (never_hidden (starts_with_wildcard (l ++ text.0)) (starts_with 36 topic) dollar) (ap (λ f. matches_rest f (levels topic)) text.1 ∙ match)),
+      )
 
-pub for_asks : (root : Node) (topic client : List ℕ) (qos : QoS) → has_no_wildcard topic ≡ true → found_for root topic client ≡ Some qos → Asks root topic client qos
-for_asks root topic client qos plain found =
-    elim (starts_with 36 topic) as (λ v. starts_with 36 topic ≡ v → cond v (found_named root (levels topic) client) (found_at root (levels topic) client) ≡ Some qos → Asks root topic client qos) [
-      | true ↦ λ e h. named (levels topic) refl e h
-      | false ↦ λ e h.
-          let r = found_origin root (levels topic) client qos (bare_levels topic plain) (levels_clean topic) h in
-          asks_plain root topic client qos r.0 e r.1 r.2 r.3
-    ] refl found
-  where
-    named : (ts : Levels) → levels topic ≡ ts → starts_with 36 topic ≡ true → found_named root ts client ≡ Some qos → Asks root topic client qos
-    named [] is e h = absurd cc
-    named (t ∷ ts) is e h =
-        let bares : bare (t ∷ ts) ≡ true = ap bare (sym is) ∙ bare_levels topic plain in
-        let both = and_parts (has_no_wildcard t) (bare ts) bares in
-        let clean = subst AreClean is (levels_clean topic) in
-        let r = named_origin root t ts client qos both.0 clean.0 (λ below g. found_origin below ts client qos both.1 clean.1 g) h in
-        asks_dollar root topic client qos t r.0 (dollar_level topic t ts is e) r.1 (ap (matches_rest (t ∷ r.0)) is ∙ r.2) r.3
+  asks_dollar : (root : ℕ) (topic client : List ℕ) (qos : QoS) (l : List ℕ) (ls : Levels) → starts_with 36 l ≡ true → asked s root (l ∷ ls) client ≡ Some qos → matches_rest (l ∷ ls) (levels topic) ≡ true → AreClean (l ∷ ls) → Asks root topic client qos
+  asks_dollar root topic client qos l ls dollar found match clean =
+      let text = text_of l ls clean in (
+        l ++ text.0,
+        ap (λ f. asked s root f client) text.1 ∙ found,
+        (tested (l ++ text.0) topic).0
+            (rw (is_36_then_no_wildcard (l ++ text.0) (plain_first 36 l text.0 dollar)) (ap (λ f. matches_rest f (levels topic)) text.1 ∙ match)),
+      )
 
-pub for_reaches : (root : Node) (topic client filter : List ℕ) (qos : QoS) → tree_content root client filter ≡ Some qos → Matches filter topic → (found : QoS) × (found_for root topic client ≡ Some found) × (qos_number qos ≤ qos_number found)
-for_reaches root topic client filter qos asks matches =
-    let tests = and_parts (not (is_hidden filter topic)) (matches_rest (levels filter) (levels topic)) ((tested filter topic).1 matches) in
-    elim (starts_with 36 topic) as (λ v. starts_with 36 topic ≡ v → (found : QoS) × (cond v (found_named root (levels topic) client) (found_at root (levels topic) client) ≡ Some found) × (qos_number qos ≤ qos_number found)) [
-      | true ↦ λ e. named (levels filter) (levels topic) refl (shown (starts_with_wildcard filter) (starts_with 36 topic) tests.0 e) asks tests.1 (is_last_levels topic)
-      | false ↦ λ e. found_reaches root (levels filter) (levels topic) client qos asks tests.1
-    ] refl
-  where
-    wild : (byte : ℕ) (ls : Levels) → levels filter ≡ ls → first_byte ls ≡ Some byte → starts_with byte filter ≡ true
-    wild byte ls is h = begins byte filter (ap first_byte is ∙ h)
+  pub for_asks : (root : ℕ) (topic client : List ℕ) (qos : QoS) → has_no_wildcard topic ≡ true → found_from s root topic client ≡ Some qos → Asks root topic client qos
+  for_asks root topic client qos plain found =
+      elim (starts_with 36 topic) as (λ v. starts_with 36 topic ≡ v → cond v (found_named s root (levels topic) client) (found_at s root (levels topic) client) ≡ Some qos → Asks root topic client qos) [
+        | true ↦ λ e h. named (levels topic) refl e h
+        | false ↦ λ e h.
+            let r = found_origin s root (levels topic) client qos (bare_levels topic plain) (levels_clean topic) h in
+            asks_plain root topic client qos r.0 e r.1 r.2 r.3
+      ] refl found
+    where
+      named : (ts : Levels) → levels topic ≡ ts → starts_with 36 topic ≡ true → found_named s root ts client ≡ Some qos → Asks root topic client qos
+      named [] is e h = absurd cc
+      named (t ∷ ts) is e h =
+          let bares : bare (t ∷ ts) ≡ true = ap bare (sym is) ∙ bare_levels topic plain in
+          let both = and_parts (has_no_wildcard t) (bare ts) bares in
+          let clean = subst AreClean is (levels_clean topic) in
+          let r = named_origin s root t ts client qos both.0 clean.0 (λ below g. found_origin s below ts client qos both.1 clean.1 g) h in
+          asks_dollar root topic client qos t r.0 (dollar_level topic t ts is e) r.1 (ap (matches_rest (t ∷ r.0)) is ∙ r.2) r.3
 
-    either : (a b : Bool) → (a || b) ≡ false → (a ≡ false) × (b ≡ false)
-    either true b h = absurd cc
-    either false b h = (refl, h)
+  pub for_reaches : (root : ℕ) (topic client filter : List ℕ) (qos : QoS) → below_content root client filter ≡ Some qos → Matches filter topic → (found : QoS) × (found_from s root topic client ≡ Some found) × (qos_number qos ≤ qos_number found)
+  for_reaches root topic client filter qos asks matches =
+      let tests = and_parts (not (is_hidden filter topic)) (matches_rest (levels filter) (levels topic)) ((tested filter topic).1 matches) in
+      elim (starts_with 36 topic) as (λ v. starts_with 36 topic ≡ v → (found : QoS) × (cond v (found_named s root (levels topic) client) (found_at s root (levels topic) client) ≡ Some found) × (qos_number qos ≤ qos_number found)) [
+        | true ↦ λ e. named (levels filter) (levels topic) refl (shown (starts_with_wildcard filter) (starts_with 36 topic) tests.0 e) asks tests.1 (is_last_levels topic)
+        | false ↦ λ e. found_reaches s root (levels filter) (levels topic) client qos asks tests.1
+      ] refl
+    where
+      wild : (byte : ℕ) (ls : Levels) → levels filter ≡ ls → first_byte ls ≡ Some byte → starts_with byte filter ≡ true
+      wild byte ls is h = begins byte filter (ap first_byte is ∙ h)
 
-    hash_first : (l : List ℕ) (ls : Levels) → l ≡ codes "#" → first_byte (l ∷ ls) ≡ Some 35
-    hash_first l ls e = ap (λ (x : List ℕ). first_byte (x ∷ ls)) e
+      either : (a b : Bool) → (a || b) ≡ false → (a ≡ false) × (b ≡ false)
+      either true b h = absurd cc
+      either false b h = (refl, h)
 
-    plus_first : (l : List ℕ) (ls : Levels) → l ≡ codes "+" → first_byte (l ∷ ls) ≡ Some 43
-    plus_first l ls e = ap (λ (x : List ℕ). first_byte (x ∷ ls)) e
+      hash_first : (l : List ℕ) (ls : Levels) → l ≡ codes "#" → first_byte (l ∷ ls) ≡ Some 35
+      hash_first l ls e = ap (λ (x : List ℕ). first_byte (x ∷ ls)) e
 
-    named : (ls ts : Levels) → levels filter ≡ ls → starts_with_wildcard filter ≡ false → asked root ls client ≡ Some qos → matches_rest ls ts ≡ true → is_last ts ≡ false
-        → (found : QoS) × (found_named root ts client ≡ Some found) × (qos_number qos ≤ qos_number found)
-    named ls [] is none h match last = absurd (true≢false last)
-    named [] (t ∷ ts) is none h match last = absurd cc
-    named (l ∷ ls) (t ∷ ts) is none h match last =
-        let no = either (starts_with 35 filter) (starts_with 43 filter) none in
-        elim (is_all l ls) as (λ v. is_all l ls ≡ v → (found : QoS) × (found_named root (t ∷ ts) client ≡ Some found) × (qos_number qos ≤ qos_number found)) [
-          | true ↦ λ e. absurd (true≢false (sym (wild 35 (l ∷ ls) is (hash_first l ls ((bytes_decides l (codes "#")).0 (and_parts _ _ e).0))) ∙ no.0))
-          | false ↦ λ e.
-              let parts = matching l ls t ts e match in
-              let kept : option_and_then (λ b. asked b ls client) (child root l) ≡ Some qos = sym (ap (λ b. cond b (get (slice_cmp nat_cmp) (out-Node root).rest client) (option_and_then (λ b. asked b ls client) (child root l))) e) ∙ h in
-              elim parts.0 as (λ _. (found : QoS) × (found_named root (t ∷ ts) client ≡ Some found) × (qos_number qos ≤ qos_number found)) [
-                | inl plus ↦ absurd (true≢false (sym (wild 43 (l ∷ ls) is (plus_first l ls plus)) ∙ no.1))
-                | inr same ↦
-                    let r = below_reached root l ls ts client qos (λ m g. found_reaches m ls ts client qos g parts.1) kept in
-                    (r.0, ap (λ x. found_below root x ts client) (sym same) ∙ r.1, r.2)
-              ]
-        ] refl
+      plus_first : (l : List ℕ) (ls : Levels) → l ≡ codes "+" → first_byte (l ∷ ls) ≡ Some 43
+      plus_first l ls e = ap (λ (x : List ℕ). first_byte (x ∷ ls)) e
+
+      named : (ls ts : Levels) → levels filter ≡ ls → starts_with_wildcard filter ≡ false → asked s root ls client ≡ Some qos → matches_rest ls ts ≡ true → is_last ts ≡ false
+          → (found : QoS) × (found_named s root ts client ≡ Some found) × (qos_number qos ≤ qos_number found)
+      named ls [] is none h match last = absurd (true≢false last)
+      named [] (t ∷ ts) is none h match last = absurd cc
+      named (l ∷ ls) (t ∷ ts) is none h match last =
+          let no = either (starts_with 35 filter) (starts_with 43 filter) none in
+          elim (is_all l ls) as (λ v. is_all l ls ≡ v → (found : QoS) × (found_named s root (t ∷ ts) client ≡ Some found) × (qos_number qos ≤ qos_number found)) [
+            | true ↦ λ e. absurd (true≢false (sym (wild 35 (l ∷ ls) is (hash_first l ls ((bytes_decides l (codes "#")).0 (and_parts _ _ e).0))) ∙ no.0))
+            | false ↦ λ e.
+                let parts = matching l ls t ts e match in
+                let kept : option_and_then (λ b. asked s b ls client) (s.child root l) ≡ Some qos = sym (ap (λ b. cond b (s.held root true client) (option_and_then (λ b. asked s b ls client) (s.child root l))) e) ∙ h in
+                elim parts.0 as (λ _. (found : QoS) × (found_named s root (t ∷ ts) client ≡ Some found) × (qos_number qos ≤ qos_number found)) [
+                  | inl plus ↦ absurd (true≢false (sym (wild 43 (l ∷ ls) is (plus_first l ls plus)) ∙ no.1))
+                  | inr same ↦
+                      let r = below_reached s root l ls ts client qos (λ m g. found_reaches s m ls ts client qos g parts.1) kept in
+                      (r.0, ap (λ x. found_below s root x ts client) (sym same) ∙ r.1, r.2)
+                ]
+          ] refl
 
 -- ---- the rows
 
@@ -193,25 +197,35 @@ has_row (e ∷ es) client qos h =
 same_some : (p q : QoS) → Some p ≡ Some q → p ≡ q
 same_some p q e = cc
 
+pub for_asks_any : (s : Shape) (root : Option ℕ) (topic client : List ℕ) (qos : QoS) → has_no_wildcard topic ≡ true → found_for s root topic client ≡ Some qos
+    → (filter : List ℕ) × (shape_content s root client filter ≡ Some qos) × Matches filter topic
+for_asks_any s None topic client qos plain found = absurd cc
+for_asks_any s (Some at) topic client qos plain found = for_asks s at topic client qos plain found
+
+pub for_reaches_any : (s : Shape) (root : Option ℕ) (topic client filter : List ℕ) (qos : QoS) → shape_content s root client filter ≡ Some qos → Matches filter topic
+    → (found : QoS) × (found_for s root topic client ≡ Some found) × (qos_number qos ≤ qos_number found)
+for_reaches_any s None topic client filter qos asks matches = absurd cc
+for_reaches_any s (Some at) topic client filter qos asks matches = for_reaches s at topic client filter qos asks matches
+
 pub tree_grants :
-    (root : Node) (topic : List ℕ) (rows : BTreeMap (List ℕ) QoS)
+    (s : Shape) (root : Option ℕ) (topic : List ℕ) (rows : BTreeMap (List ℕ) QoS)
     → has_no_wildcard topic ≡ true
     → IsOrdered (slice_cmp nat_cmp) rows
-    → ((client : List ℕ) → get (slice_cmp nat_cmp) rows client ≡ found_for root topic client)
-    → IsGranted (tree_content root) topic rows.entries
-tree_grants root topic rows plain ordered found = record {
+    → ((client : List ℕ) → get (slice_cmp nat_cmp) rows client ≡ found_for s root topic client)
+    → IsGranted (shape_content s root) topic rows.entries
+tree_grants s root topic rows plain ordered found = record {
   rising = ordered;
   greatest =
-      All-weaker (λ (r : Row). lookup (is_at (slice_cmp nat_cmp r.0)) rows.entries ≡ Some r.1) (λ (r : Row). IsGreatest (tree_content root) topic r.0 r.1)
+      All-weaker (λ (r : Row). lookup (is_at (slice_cmp nat_cmp r.0)) rows.entries ≡ Some r.1) (λ (r : Row). IsGreatest (shape_content s root) topic r.0 r.1)
       (λ r h. record {
-        asked = for_asks root topic r.0 r.1 plain (sym (found r.0) ∙ h);
+        asked = for_asks_any s root topic r.0 r.1 plain (sym (found r.0) ∙ h);
         greatest = λ f other asks matches.
-            let reach = for_reaches root topic r.0 f other asks matches in
+            let reach = for_reaches_any s root topic r.0 f other asks matches in
             subst (λ (p : QoS). qos_number other ≤ qos_number p) (same_some reach.0 r.1 (sym reach.1 ∙ sym (found r.0) ∙ h)) reach.2;
       })
       rows.entries (stands rows.entries ordered);
   complete = λ client filter qos asks matches.
-      let reach = for_reaches root topic client filter qos asks matches in
+      let reach = for_reaches_any s root topic client filter qos asks matches in
       has_row rows.entries client reach.0 (found client ∙ reach.1);
 }
 
@@ -229,6 +243,6 @@ topic_plain topic is =
     first_part false false plain shallow h = absurd cc
 
 -- whom a walk gives something has a filter that matches
-pub wanted_by_walk : (root : Node) (topic : List ℕ) → has_no_wildcard topic ≡ true → GivesSome (found_for root topic) → IsWanted (tree_content root) topic
-wanted_by_walk root topic plain h =
-    let asks = for_asks root topic h.0 h.1 plain h.2 in (h.0, asks.0, h.1, asks.1, asks.2)
+pub wanted_by_walk : (s : Shape) (root : Option ℕ) (topic : List ℕ) → has_no_wildcard topic ≡ true → GivesSome (found_for s root topic) → IsWanted (shape_content s root) topic
+wanted_by_walk s root topic plain h =
+    let asks = for_asks_any s root topic h.0 h.1 plain h.2 in (h.0, asks.0, h.1, asks.1, asks.2)

@@ -1,4 +1,6 @@
-pub mod Tree
+pub mod Shape
+pub mod Ways
+pub mod Changes
 pub mod Inside
+pub mod Standing
 pub mod Walk
-pub mod TreeIndex

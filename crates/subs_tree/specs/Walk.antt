@@ -1,5 +1,5 @@
 -- Whom a walk along a topic's levels finds (MQTT 4.7.1).
-use Rattle.std.specs.Prelude.{◌≡◌, ℕ, List, [], ◌∷◌, codes, Option, Some, None, option_and_then, if◌then◌else◌, nat_lt}
+use Rattle.std.specs.Prelude.{◌≡◌, ℕ, true, false, List, [], ◌∷◌, codes, Option, Some, None, option_and_then, if◌then◌else◌, nat_lt}
 use Rattle.std.specs.BTreeMap.{BTreeMap, get}
 use Rattle.std.specs.Cmp.Lexicographic.{slice_cmp}
 use Rattle.std.specs.Ordering.{nat_cmp}
@@ -7,8 +7,7 @@ use Rattle.topics.specs.Text.{Levels, levels}
 use Rattle.topics.specs.Matching.{starts_with}
 use Rattle.packet.specs.declared.qos.QoS.{QoS}
 use Rattle.packet.specs.QoS.{qos_number}
-use Rattle.subs_tree.specs.declared.node.Node.{Node, out-Node}
-use Rattle.subs_tree.specs.Tree.{child}
+use Rattle.subs_tree.specs.Shape.{Shape}
 
 -- the greater of two QoS, none being the least
 abbrev pub greatest : Option QoS → Option QoS → Option QoS
@@ -26,25 +25,32 @@ Raises old new given =
 abbrev pub GivesSome : (List ℕ → Option QoS) → Type 0
 GivesSome given = (client : List ℕ) × (qos : QoS) × (given client ≡ Some qos)
 
--- the greatest QoS of the client's filters that match these levels of a topic
-abbrev pub found_at : Node → Levels → List ℕ → Option QoS
-found_at node [] client =
-    greatest (get (slice_cmp nat_cmp) (out-Node node).rest client) (get (slice_cmp nat_cmp) (out-Node node).here client)
-found_at node (level ∷ rest) client =
-    greatest (get (slice_cmp nat_cmp) (out-Node node).rest client)
+-- the greatest QoS of the client's filters below a node that match these levels of a topic
+abbrev pub found_at : Shape → ℕ → Levels → List ℕ → Option QoS
+found_at shape at [] client = greatest (shape.held at true client) (shape.held at false client)
+found_at shape at (level ∷ rest) client =
+    greatest (shape.held at true client)
     (greatest
-    (option_and_then (λ below. found_at below rest client) (child node level))
-    (option_and_then (λ below. found_at below rest client) (child node (codes "+"))))
+    (option_and_then (λ below. found_at shape below rest client) (shape.child at level))
+    (option_and_then (λ below. found_at shape below rest client) (shape.child at (codes "+"))))
+
+-- the same behind the node of a level, if there is one
+abbrev pub found_behind : Shape → Option ℕ → Levels → List ℕ → Option QoS
+found_behind shape node rest client = option_and_then (λ below. found_at shape below rest client) node
 
 -- the same of the filters that go on with this level
-abbrev pub found_below : Node → List ℕ → Levels → List ℕ → Option QoS
-found_below node level rest client = option_and_then (λ below. found_at below rest client) (child node level)
+abbrev pub found_below : Shape → ℕ → List ℕ → Levels → List ℕ → Option QoS
+found_below shape at level rest client = option_and_then (λ below. found_at shape below rest client) (shape.child at level)
 
 -- a topic that begins with `$`, which is 36, is matched by no wildcard at the front (MQTT 4.7.2)
-abbrev pub found_named : Node → Levels → List ℕ → Option QoS
-found_named node [] client = None
-found_named node (level ∷ rest) client = found_below node level rest client
+abbrev pub found_named : Shape → ℕ → Levels → List ℕ → Option QoS
+found_named shape at [] client = None
+found_named shape at (level ∷ rest) client = found_below shape at level rest client
 
-abbrev pub found_for : Node → List ℕ → List ℕ → Option QoS
-found_for node topic client =
-    if starts_with 36 topic then found_named node (levels topic) client else found_at node (levels topic) client
+abbrev pub found_from : Shape → ℕ → List ℕ → List ℕ → Option QoS
+found_from shape at topic client =
+    if starts_with 36 topic then found_named shape at (levels topic) client else found_at shape at (levels topic) client
+
+-- the same from the root, if there is one
+abbrev pub found_for : Shape → Option ℕ → List ℕ → List ℕ → Option QoS
+found_for shape root topic client = option_and_then (λ at. found_from shape at topic client) root

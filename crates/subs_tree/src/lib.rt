@@ -1,7 +1,15 @@
-//! The tree of all clients' subscriptions, and the index that stands on it.
+//! The index of subscriptions as a tree: nodes in a vector, named by their numbers.
 #![tactic(auto)]
 
+mod finding;
+mod making;
 mod node;
+mod node_id;
+mod nodes;
+mod pruning;
+mod slots;
+#[cfg(test)]
+mod tests;
 mod tree_index;
 
 pub use tree_index::TreeIndex;

@@ -6,16 +6,16 @@ ghost use Rattle.std.specs.Cmp.Lexicographic.{slice_cmp};
 ghost use Rattle.std.specs.Ordering.{nat_cmp};
 ghost use Rattle.subs_base.specs.ListIndex.{content_of};
 ghost use Rattle.subs_tree.specs.Inside.{cleared};
-ghost use Rattle.subs_tree.specs.TreeIndex.{tree_content};
-ghost use Rattle.subs_tree.specs.Walk.{Raises, GivesSome, found_for};
+ghost use Rattle.subs_tree.specs.Walk.{GivesSome};
+ghost use Rattle.subs_tree.specs.Standing.{content_in, IsSound};
 
-use crate::node::Node;
+use crate::nodes::Nodes;
 use packet::{ClientId, QoS};
 use std::alloc::{AllocError, Global};
 use std::collections::BTreeMap;
 use std::marker::Model;
 use subs_base::{ListIndex, SubIndex};
-use topics::{Filter, TopicName, split_level};
+use topics::{Filter, TopicName};
 
 /// An index that walks the levels of a topic: a publication costs its levels and the rows that are
 /// found, whatever else stands there.
@@ -23,20 +23,20 @@ use topics::{Filter, TopicName, split_level};
 pub struct TreeIndex {
     /// Each client with its filters, which go with it.
     clients: ListIndex,
-    root: Node,
+    pub(crate) nodes: Nodes,
     alloc: Global,
 }
 
 impl Model for TreeIndex {
     ghost use Rattle.std.specs.Prelude.{◌≡◌};
     ghost use Rattle.subs_base.specs.ListIndex.{Clients, content_of};
-    ghost use Rattle.subs_tree.specs.TreeIndex.{tree_content};
+    ghost use Rattle.subs_tree.specs.Standing.{content_in, IsSound};
 
     ghost Value = { Clients };
 
     ghost view = { λ index. index.clients };
 
-    ghost invariant = { λ index. content_of index.clients ≡ tree_content index.root };
+    ghost invariant = { λ index. (content_of index.clients ≡ content_in index.nodes) × IsSound index.nodes };
 }
 
 impl SubIndex for TreeIndex {
@@ -45,7 +45,7 @@ impl SubIndex for TreeIndex {
     fn new(alloc: Global) -> TreeIndex {
         TreeIndex {
             clients: ListIndex::new(alloc),
-            root: Node::new(alloc),
+            nodes: Nodes::new(alloc),
             alloc,
         }
     }
@@ -53,7 +53,7 @@ impl SubIndex for TreeIndex {
     fn set(&mut self, client: &ClientId, filter: &Filter, qos: QoS) -> Result<(), AllocError> {
         self.clients.set(client, filter, qos)?;
         let text = filter.as_str().as_bytes();
-        let set = self.root.set(self.alloc, Some(text), client, qos);
+        let set = self.nodes.set(text, client, qos);
         if set.is_err() {
             self.clients.clear(client, filter);
         }
@@ -62,12 +62,12 @@ impl SubIndex for TreeIndex {
 
     fn clear(&mut self, client: &ClientId, filter: &Filter) -> bool {
         self.clients.clear(client, filter);
-        self.root.clear(Some(filter.as_str().as_bytes()), client)
+        self.nodes.clear(filter.as_str().as_bytes(), client)
     }
 
     fn drop_client(&mut self, client: &ClientId) {
         if let Some(filters) = self.clients.filters_of(client) {
-            clear_all(&mut self.root, filters, client);
+            clear_all(&mut self.nodes, filters, client);
         }
         self.clients.drop_client(client);
     }
@@ -78,7 +78,7 @@ impl SubIndex for TreeIndex {
         rows: &mut Vec<(ClientId, QoS)>,
     ) -> Result<(), AllocError> {
         let mut found = BTreeMap::new(self.alloc);
-        find(&self.root, topic.as_str().as_bytes(), &mut found)?;
+        self.nodes.find(topic.as_str().as_bytes(), &mut found)?;
         let before = rows.len();
         let appended = append_rows(&found, rows);
         if appended.is_err() {
@@ -89,26 +89,14 @@ impl SubIndex for TreeIndex {
 }
 
 /// Removes the client's subscriptions of these filters.
-fn clear_all(root: &mut Node, filters: &BTreeMap<Filter, QoS>, client: &ClientId)
-    ensures { tree_content root.new
-        ≡ cleared client.now filters.now.entries (tree_content root.old) }
+fn clear_all(nodes: &mut Nodes, filters: &BTreeMap<Filter, QoS>, client: &ClientId)
+    requires { IsSound nodes.old }
+    ensures after { content_in nodes.new ≡ cleared client.now filters.now.entries (content_in nodes.old) }
+    ensures sound { IsSound nodes.new }
 {
     for (filter, _) in filters {
-        root.clear(Some(filter.as_str().as_bytes()), client);
+        nodes.clear(filter.as_str().as_bytes(), client);
     }
-}
-
-/// Raises the clients whose filters match: no wildcard at the front matches a topic that begins
-/// with `$` (MQTT 4.7.2).
-fn find(root: &Node, topic: &[u8], found: &mut BTreeMap<ClientId, QoS>) -> Result<(), AllocError>
-    ensures ok { OnOk result (Raises found.old found.new (found_for root.now topic.now)) }
-    ensures some { OnErr result (GivesSome (found_for root.now topic.now)) }
-{
-    if !topic.starts_with(b"$".as_slice()) {
-        return root.find(Some(topic), found);
-    }
-    let (level, behind) = split_level(topic);
-    root.find_below(level, behind, found)
 }
 
 /// Appends the rows. Where memory is wanting, some of them may stand there.

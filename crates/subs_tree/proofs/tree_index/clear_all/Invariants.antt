@@ -1,9 +1,10 @@
 -- Once those that are left are cleared, all are.
 use Rattle.std.proofs.Common.{◌≡◌}
 use Rattle.subs_tree.specs.Inside.{cleared}
-use Rattle.subs_tree.specs.TreeIndex.{tree_content}
+use Rattle.subs_tree.specs.Standing.{content_in, IsSound}
 use Rattle.subs_tree.proofs.tree_index.clear_all.Given as goal
 
 abbrev pub invariant-loop-filter : goal.invariant-loop-filter
 invariant-loop-filter l =
-    cleared l.client l.filter-iterator (tree_content l.root) ≡ cleared l.client l.filters.entries (tree_content l.fn.root)
+    (cleared l.client l.filter-iterator (content_in l.nodes) ≡ cleared l.client l.filters.entries (content_in l.fn.nodes))
+    × IsSound l.nodes

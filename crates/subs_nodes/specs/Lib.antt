@@ -1,6 +1,0 @@
-pub mod Shape
-pub mod Ways
-pub mod Changes
-pub mod Inside
-pub mod Standing
-pub mod Walk

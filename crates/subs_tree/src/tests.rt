@@ -1,0 +1,85 @@
+// The number of nodes, of which no clause speaks.
+
+use crate::tree_index::TreeIndex;
+use packet::{ClientId, QoS};
+use std::alloc::Global;
+use std::test::*;
+use subs_base::SubIndex;
+use topics::Filter;
+
+const FILTERS: u32 = 100_000;
+
+/// The root, `a`, 331 groups, in each of which is a `+`, and one for each filter.
+const NODES: usize = 1 + 1 + 331 + 331 + 100_000;
+
+/// A filter of four levels, of which some begin alike and some have a `+`.
+fn filter_of(alloc: Global, number: u32) -> Option<Filter> {
+    let group = number % 331;
+    let text = if number % 2 == 0 {
+        format!(in alloc; "a/{group}/+/{number}")
+    } else {
+        format!(in alloc; "a/{group}/{number}/#")
+    };
+    Filter::new(alloc, text.ok()?.as_str()).ok()
+}
+
+/// Sets the filter of a number, and says whether there was memory.
+fn set_one(alloc: Global, index: &mut TreeIndex, client: &ClientId, number: u32) -> bool {
+    match filter_of(alloc, number) {
+        Some(filter) => index.set(client, &filter, QoS::AtLeastOnce).is_ok(),
+        None => false,
+    }
+}
+
+/// Clears the filter of a number, and says whether it was there.
+fn clear_one(alloc: Global, index: &mut TreeIndex, client: &ClientId, number: u32) -> bool {
+    match filter_of(alloc, number) {
+        Some(filter) => index.clear(client, &filter),
+        None => false,
+    }
+}
+
+fn set_all(alloc: Global, index: &mut TreeIndex, client: &ClientId) -> bool {
+    for number in 0..FILTERS {
+        if !set_one(alloc, index, client, number) {
+            return false;
+        }
+    }
+    true
+}
+
+fn clear_all(alloc: Global, index: &mut TreeIndex, client: &ClientId) -> bool {
+    for number in 0..FILTERS {
+        if !clear_one(alloc, index, client, number) {
+            return false;
+        }
+    }
+    true
+}
+
+/// How many nodes there are, and for how many there is room.
+fn counts(index: &TreeIndex) -> (usize, usize) {
+    (index.nodes.slab.len(), index.nodes.slab.capacity())
+}
+
+/// How many nodes all filters have, whether that stays so once they were dropped, set, cleared and set again, and whether the root
+/// alone was left in between.
+fn nodes_in_turn(alloc: Global) -> Option<(usize, bool, bool)> {
+    let mut index = TreeIndex::new(alloc);
+    let client = ClientId::new(alloc, "a").ok()?;
+    let first = set_all(alloc, &mut index, &client);
+    let before = counts(&index);
+    index.drop_client(&client);
+    let dropped = index.nodes.slab.len();
+    let second = set_all(alloc, &mut index, &client);
+    let between = counts(&index);
+    let cleared = clear_all(alloc, &mut index, &client) && index.nodes.slab.len() == 1;
+    let third = set_all(alloc, &mut index, &client);
+    let stays = first && second && third && between == before && counts(&index) == before;
+    Some((before.0, stays, dropped == 1 && cleared))
+}
+
+#[test]
+fn nodes_are_used_again(rt: HostRuntime) {
+    assert_eq!(rt; nodes_in_turn(rt.alloc()), Some((NODES, true, true)));
+}
