@@ -2,8 +2,8 @@ pub mod ActivationTaken
 pub mod ChangesTaken
 pub mod Committed
 pub mod Heeding
+pub mod MachineShown
 pub mod MessagesTaken
-pub mod PlacesApplied
 pub mod ProposalAnswered
 pub mod ReplicaOpens
 pub mod TicksTaken

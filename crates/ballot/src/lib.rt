@@ -2,11 +2,8 @@
 //! protocol, for any machine that meets the laws of `machine`.
 #![tactic(auto)]
 
-mod applying;
 mod error;
-mod progress;
 mod replica;
-mod taking;
 
 pub use ballot_base::{Body, Config, Effect, Log, Members, Message, Role, Status, copy_log};
 pub use error::{OpeningError, ProposeError};

@@ -10,11 +10,10 @@ ghost use Rattle.ballot_base.specs.Losses.{Stepped, Done, halted, one_more};
 ghost use Rattle.ballot_base.specs.Replica.{is_active, opening, status_of};
 ghost use Rattle.ballot_base.specs.Serving.{added, commit_at, most_places, proposed};
 
-use crate::applying::apply_places;
 use crate::error::{OpeningError, ProposeError};
-use crate::progress::{least_held, progress_of_others};
 use ballot_base::{
-    Config, Effect, Log, Members, Progress, Role, Status, send_appends, send_commits,
+    Config, Effect, Log, Members, Progress, Role, Status, apply_places, least_held,
+    progress_of_others, send_appends, send_commits,
 };
 use machine::{Halted, Machine};
 use std::alloc::Global;

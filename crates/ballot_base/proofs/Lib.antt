@@ -4,6 +4,7 @@ pub mod KeptCommands
 pub mod LogsTaken
 pub mod LongerLogs
 pub mod MessageRows
+pub mod PlacesApplied
 pub mod SendsJoin
 pub mod StepRows
 pub mod ThinnedEffects

@@ -1,19 +1,25 @@
-//! What replicas say to each other, what a call of theirs hands out, and the protocol's step as
-//! definitions that the replica above is proved to follow.
+//! What replicas say to each other, what a call of theirs hands out, the parts of a replica that need no
+//! role, and the protocol's step as definitions that the replica above is proved to follow.
 #![tactic(auto)]
 
+mod applying;
 mod config;
 mod copying;
+mod following;
 mod log;
 mod message;
 mod sending;
 mod status;
+mod taking;
 
+pub use applying::{apply_dropping, apply_places};
 pub use config::{Config, Members};
 pub use copying::copy_log;
+pub use following::{forget, least_held, least_raised, others_of, progress_of_others, raise};
 pub use log::Log;
 pub use message::{Body, Effect, Message};
 pub use sending::{
     MASTER, send, send_appends, send_behind, send_commits, send_installs, send_joins, send_state,
 };
 pub use status::{Progress, Role, Status};
+pub use taking::{counted, take_in};

@@ -13,10 +13,10 @@ ghost use Rattle.ballot_base.specs.Applying.{applied_to};
 ghost use Rattle.lists.specs.Lists.{IsPrefixOf};
 
 use super::{MOST_PLACES, Replica};
-use crate::applying::apply_dropping;
-use crate::progress::{least_held, progress_of_others};
-use crate::taking::counted;
-use ballot_base::{Body, Effect, Progress, Role, send_appends};
+use ballot_base::{
+    Body, Effect, Progress, Role, apply_dropping, counted, least_held, progress_of_others,
+    send_appends,
+};
 use machine::{Halted, Machine, Memory};
 use std::mem;
 

@@ -10,9 +10,7 @@ ghost use Rattle.ballot_base.specs.Taking.{taken, with_snapshot};
 ghost use Rattle.ballot_base.specs.Unread.{is_unread};
 
 use super::Replica;
-use crate::progress::others_of;
-use crate::taking::counted;
-use ballot_base::{Body, Effect, Log, Members, Role, send_joins, send_state};
+use ballot_base::{Body, Effect, Log, Members, Role, counted, others_of, send_joins, send_state};
 use machine::Machine;
 
 impl<M: Machine> Replica<M> {

@@ -5,7 +5,7 @@ ghost use Rattle.ballot_base.specs.Cutting.{can_cut, cut};
 ghost use Rattle.ballot_base.specs.Losses.{one_more};
 
 use super::Replica;
-use crate::taking::counted;
+use ballot_base::counted;
 use machine::Machine;
 
 impl<M: Machine> Replica<M> {

@@ -10,8 +10,7 @@ ghost use Rattle.ballot_base.specs.Sending.{nothing_done};
 ghost use Rattle.ballot_base.specs.Serving.{least, raised};
 
 use super::Replica;
-use crate::progress::least_raised;
-use ballot_base::{Body, Message, Progress, Role};
+use ballot_base::{Body, Message, Progress, Role, least_raised};
 use machine::Machine;
 
 impl<M: Machine> Replica<M> {

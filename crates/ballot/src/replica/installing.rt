@@ -7,8 +7,7 @@ ghost use Rattle.ballot_base.specs.Changing.{on_installed, on_superseded};
 ghost use Rattle.ballot_base.specs.Replica.{is_installing};
 
 use super::Replica;
-use crate::progress::forget;
-use ballot_base::{Body, Effect, MASTER, Role};
+use ballot_base::{Body, Effect, MASTER, Role, forget};
 use machine::Machine;
 
 impl<M: Machine> Replica<M> {

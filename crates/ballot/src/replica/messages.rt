@@ -10,10 +10,9 @@ ghost use Rattle.ballot_base.specs.Protocol.Input.{Receives};
 ghost use Rattle.ballot_base.specs.Serving.{follows, leads, on_append, on_commit, on_held};
 
 use super::Replica;
-use crate::applying::apply_dropping;
-use crate::progress::{least_raised, raise};
-use crate::taking::{counted, take_in};
-use ballot_base::{Body, Effect, Message, send};
+use ballot_base::{
+    Body, Effect, Message, apply_dropping, counted, least_raised, raise, send, take_in,
+};
 use machine::{Halted, Machine};
 
 impl<M: Machine> Replica<M> {

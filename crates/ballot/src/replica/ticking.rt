@@ -10,9 +10,9 @@ ghost use Rattle.ballot_base.specs.Sending.{message_to_followed};
 ghost use Rattle.ballot_base.specs.Changing.{installs};
 
 use super::Replica;
-use crate::taking::counted;
 use ballot_base::{
-    Body, Effect, MASTER, Message, Role, send, send_behind, send_commits, send_installs, send_joins,
+    Body, Effect, MASTER, Message, Role, counted, send, send_behind, send_commits, send_installs,
+    send_joins,
 };
 use machine::Machine;
 

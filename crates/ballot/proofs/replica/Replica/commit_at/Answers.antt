@@ -1,7 +1,7 @@
 use Rattle.std.proofs.Common.{◌≡◌, false, refl, ap, ◌∙◌}
 use Rattle.ballot_base.specs.Logs.{part}
 use Rattle.ballot_base.specs.Replica.{CountedReplica}
-use Rattle.ballot.proofs.PlacesApplied.{shown, shown_applied}
+use Rattle.ballot.proofs.MachineShown.{shown, shown_applied}
 use Rattle.ballot.proofs.Committed.{commit_stays, commit_gives_nothing, commit_goes, commit_gives}
 use Rattle.ballot.proofs.replica.Replica.commit_at.Goals as goal
 

@@ -2,7 +2,7 @@ use Rattle.std.proofs.Common.{◌≡◌, false, cond, ap, ◌≤◌, ◌<◌, re
 use Rattle.ballot_base.specs.Logs.{part, places}
 use Rattle.ballot_base.specs.Replica.{CountedReplica}
 use Rattle.ballot_base.proofs.MessageRows.{on_commit-elsewhere, on_commit-past}
-use Rattle.ballot.proofs.PlacesApplied.{shown_applied}
+use Rattle.ballot.proofs.MachineShown.{shown_applied}
 use Rattle.ballot.proofs.MessagesTaken.{went_same, commit_known, commit_taken, commit_halted}
 use Rattle.ballot.proofs.replica.Replica.on_commit.Goals as goal
 

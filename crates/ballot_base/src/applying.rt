@@ -6,12 +6,12 @@ ghost use Rattle.lists.specs.Lists.{IsPrefixOf};
 ghost use Rattle.ballot_base.specs.Applying.{outputs_from};
 ghost use Rattle.ballot_base.specs.Logs.{part, places};
 
-use ballot_base::{Effect, Log};
+use crate::{Effect, Log};
 use machine::{Halted, Machine};
 use std::alloc::Global;
 
 /// Appends the outputs of one place. On an error some of them may stand behind `out`.
-pub fn put_out<C: Drop, O: Drop>(
+fn put_out<C: Drop, O: Drop>(
     place: u64,
     given: Vec<O>,
     out: &mut Vec<Effect<C, O>>,

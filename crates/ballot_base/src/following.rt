@@ -4,7 +4,7 @@ ghost use Rattle.std.specs.Prelude.{◌≡◌, IfOk};
 ghost use Rattle.ballot_base.specs.Replica.{others, progress_at};
 ghost use Rattle.ballot_base.specs.Serving.{least, raised, raised_progress};
 
-use ballot_base::Progress;
+use crate::Progress;
 use machine::Memory;
 use std::alloc::Global;
 

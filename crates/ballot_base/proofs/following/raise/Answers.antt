@@ -2,7 +2,7 @@ use Rattle.std.proofs.Common.{◌<◌, length, set, ap, ◌∙◌, arith}
 use Rattle.std.proofs.lemmas.List.{get_or_default}
 use Rattle.std.proofs.lemmas.List.Edits.{map_over_more}
 use Rattle.ballot_base.specs.Serving.{raised_progress}
-use Rattle.ballot.proofs.progress.raise.Goals as goal
+use Rattle.ballot_base.proofs.following.raise.Goals as goal
 
 pub loop-reached-preserved : goal.loop-reached-preserved
 loop-reached-preserved c =

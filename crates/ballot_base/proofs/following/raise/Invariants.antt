@@ -1,6 +1,6 @@
 use Rattle.std.proofs.Common.{◌≡◌, ◌++◌, map, take, drop}
 use Rattle.ballot_base.specs.Serving.{raised_progress}
-use Rattle.ballot.proofs.progress.raise.Given as goal
+use Rattle.ballot_base.proofs.following.raise.Given as goal
 
 abbrev pub invariant-loop-reached : goal.invariant-loop-reached
 invariant-loop-reached l =

@@ -1,6 +1,6 @@
 use Rattle.std.proofs.Common.{arith}
-use Rattle.ballot.proofs.PlacesApplied.{place_applied}
-use Rattle.ballot.proofs.applying.apply_dropping.Goals as goal
+use Rattle.ballot_base.proofs.PlacesApplied.{place_applied}
+use Rattle.ballot_base.proofs.applying.apply_dropping.Goals as goal
 
 pub loop-place-preserved : goal.loop-place-preserved
 loop-place-preserved g c =

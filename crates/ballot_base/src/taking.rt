@@ -6,7 +6,7 @@ ghost use Rattle.ballot_base.specs.Losses.{one_more};
 ghost use Rattle.ballot_base.specs.Logs.{places};
 ghost use Rattle.ballot_base.specs.Serving.{extended};
 
-use ballot_base::Log;
+use crate::Log;
 
 /// Takes a command where its place is the next one of the log. Whether memory was found, where it
 /// was needed, is the result; where not, the log stays.

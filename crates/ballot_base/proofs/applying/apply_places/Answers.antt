@@ -1,7 +1,7 @@
 use Rattle.std.proofs.Common.{arith}
-use Rattle.ballot.proofs.PlacesApplied.{on_err_any, place_applied, place_given}
+use Rattle.ballot_base.proofs.PlacesApplied.{on_err_any, place_applied, place_given}
 use Rattle.lists.proofs.Beginnings.{prefix_then}
-use Rattle.ballot.proofs.applying.apply_places.Goals as goal
+use Rattle.ballot_base.proofs.applying.apply_places.Goals as goal
 
 pub returns-in_err-put_out-clause-err : goal.returns-in_err-put_out-clause-err
 returns-in_err-put_out-clause-err g c =

@@ -2,7 +2,7 @@ use Rattle.std.proofs.Common.{◌≡◌, ◌++◌}
 use Rattle.machine.specs.Machine.{replay_from}
 use Rattle.ballot_base.specs.Logs.{part}
 use Rattle.ballot_base.specs.Applying.{outputs_from}
-use Rattle.ballot.proofs.applying.apply_places.Given as goal
+use Rattle.ballot_base.proofs.applying.apply_places.Given as goal
 
 abbrev pub invariant-loop-place : goal.invariant-loop-place
 invariant-loop-place g l =

@@ -1,6 +1,6 @@
 use Rattle.std.proofs.Common.{◌≡◌, take}
 use Rattle.ballot_base.specs.Replica.{others, progress_at}
-use Rattle.ballot.proofs.progress.progress_of_others.Given as goal
+use Rattle.ballot_base.proofs.following.progress_of_others.Given as goal
 
 abbrev pub invariant-loop-member : goal.invariant-loop-member
 invariant-loop-member l =

@@ -1,6 +1,6 @@
 use Rattle.std.proofs.Common.{◌≡◌, take}
 use Rattle.ballot_base.specs.Replica.{others}
-use Rattle.ballot.proofs.progress.others_of.Given as goal
+use Rattle.ballot_base.proofs.following.others_of.Given as goal
 
 abbrev pub invariant-loop-member : goal.invariant-loop-member
 invariant-loop-member l =

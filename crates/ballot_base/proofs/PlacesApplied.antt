@@ -1,5 +1,5 @@
 -- PlacesApplied.antt: one place more is applied, and its outputs are given.
-use Rattle.std.proofs.Common.{◌≡◌, ℕ, ◌+◌, ◌-◌, ◌<◌, ◌≤◌, Bool, true, false, cond, refl, List, [], ◌++◌, get_or, map, Result, Ok, Err, OnErr, ap, ap₂, sym, ◌∙◌, append_assoc}
+use Rattle.std.proofs.Common.{◌≡◌, ℕ, ◌+◌, ◌-◌, ◌<◌, ◌≤◌, List, [], ◌++◌, get_or, map, Result, Ok, Err, OnErr, ap, ap₂, sym, ◌∙◌, append_assoc}
 use Rattle.machine.specs.Machine.{Rules, replay_from}
 use Rattle.ballot_base.specs.declared.message.Effect.{Effect}
 use Rattle.ballot_base.specs.declared.message.Effect.TheVariants.{Out}
@@ -45,15 +45,3 @@ place_given {C = C} rules s0 log from place base rest x s given none start mid n
     ∙ ap (λ ys. (start ++ outputs_from rules s0 from earlier) ++ map (Out place) ys) output
     ∙ append_assoc start (outputs_from rules s0 from earlier) _
     ∙ ap (λ (zs : List (Effect C _)). start ++ zs) (sym (outputs_part-more rules s0 log from place x kept rising below))
-
--- what a replica that runs shows is its machine
-pub shown : {S : Type 0} (stopped : Bool) (opens machine : S) → stopped ≡ false → machine ≡ cond stopped opens machine
-shown true opens machine running = cc
-shown false opens machine running = refl
-
--- and so behind the places that its machine did
-pub shown_applied : {S C O : Type 0} (rules : Rules S C O) (stopped : Bool) (opens machine after : S) (commands : List C) →
-    stopped ≡ false → after ≡ replay_from rules machine commands →
-    cond stopped opens after ≡ replay_from rules (cond stopped opens machine) commands
-shown_applied rules true opens machine after commands running done = cc
-shown_applied rules false opens machine after commands running done = done
