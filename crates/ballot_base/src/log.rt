@@ -1,6 +1,6 @@
 // A log as replicas keep it and as messages carry it.
 
-ghost use Rattle.std.specs.Prelude.{◌≡◌, ◌≤◌, ◌<◌, ◌+◌, ◌-◌, ◌^◌, length, drop, OnOk, OnErr};
+ghost use Rattle.std.specs.Prelude.{◌≡◌, [], ◌≤◌, ◌<◌, ◌+◌, ◌-◌, ◌^◌, length, drop, OnOk, OnErr};
 ghost use Rattle.ballot_base.specs.Logs.{empty_log, places, popped, pushed};
 
 use machine::Memory;
@@ -65,6 +65,18 @@ impl<C: Drop> Log<C> {
         ensures { result.now ≡ self.now.snapshot }
     {
         self.snapshot.as_slice()
+    }
+
+    /// Returns an empty vector with room for as many bytes as the snapshot has, and an eighth more.
+    /// Where there is no memory for that, it has no room yet.
+    pub fn room(&self, alloc: Global) -> Vec<u8>
+        ensures { result.items ≡ [] }
+    {
+        let length = self.snapshot.len();
+        match Vec::with_capacity(alloc, length.saturating_add(length / 8)) {
+            Ok(room) => room,
+            Err(_) => Vec::new(alloc),
+        }
     }
 
     /// The commands from the base on.

@@ -17,9 +17,10 @@ impl<M: Machine> Replica<M> {
         !self.stopped && self.log.base() < self.committed
     }
 
-    /// Drops the places that are applied, once the machine is frozen in their stead. Nothing is
-    /// sent. False where there is nothing to drop, or no memory was found: then nothing is changed,
-    /// but the latter is counted.
+    /// Drops the places that are applied, once the machine is frozen in their stead. Its bytes go into a
+    /// vector with room for as many as the last snapshot has, so that it seldom grows. Nothing is sent.
+    /// False where there is nothing to drop, or no memory was found: then nothing is changed, but the
+    /// latter is counted.
     pub fn cut(&mut self) -> bool
         ensures done { result ≡ true → (can_cut self.old.state ≡ true)
             × (self.new ≡ record self.old { state = cut M.rules self.old.state }) }
@@ -37,7 +38,7 @@ impl<M: Machine> Replica<M> {
         if self.stopped || self.committed <= self.log.base() {
             return false;
         }
-        let mut snapshot = Vec::new(self.alloc);
+        let mut snapshot = self.log.room(self.alloc);
         match self.machine.freeze(&mut snapshot) {
             Ok(()) => {
                 self.log.cut(self.committed, snapshot);
