@@ -1,6 +1,6 @@
 // The machine that a replica drives.
 
-use crate::freezing::frozen_tables;
+use crate::freezing::freeze_tables;
 use crate::thawing::thawed_tables;
 use broker_form::thawed_is_in_range;
 use broker_model::{Command, Output};
@@ -82,8 +82,7 @@ impl Machine for BrokerMachine {
     }
 
     fn freeze(&self, bytes: &mut Vec<u8>) -> Result<(), Memory> {
-        let frozen = frozen_tables(&self.tables)?;
-        bytes.extend_from_slice(&frozen)?;
+        freeze_tables(&self.tables, bytes)?;
         Ok(())
     }
 

@@ -1,6 +1,6 @@
 // A broker's tables as bytes, form 2.
 
-ghost use Rattle.std.specs.Prelude.{◌≡◌, ◌<◌, ◌++◌, length, IfOk, OnOk};
+ghost use Rattle.std.specs.Prelude.{◌≡◌, ◌<◌, ◌++◌, length, OnErr, OnOk};
 ghost use Rattle.std.specs.List.{flat_map, AllByRecursion};
 ghost use Rattle.session_form.specs.FormLaws.{HasForm};
 ghost use Rattle.broker_model.specs.Commands.{usual_limits};
@@ -21,19 +21,35 @@ use topics::TopicName;
 // The number of the form.
 const FORM: u8 = 2;
 
-// The bytes of the tables.
-pub(crate) fn frozen_tables(tables: &Tables) -> Result<Vec<u8>, AllocError>
+// Appends the bytes of the tables. Where there is no memory nothing is changed.
+pub(crate) fn freeze_tables(tables: &Tables, bytes: &mut Vec<u8>) -> Result<(), AllocError>
     requires { IsBrokerState usual_limits (state_in tables.now) }
-    ensures { IfOk result (λ bytes. bytes.items ≡ frozen (state_in tables.now)) }
+    ensures ok { OnOk result (bytes.new.items ≡ bytes.old.items ++ frozen (state_in tables.now)) }
+    ensures err { OnErr result (bytes.new.items ≡ bytes.old.items) }
 {
-    let mut bytes = Vec::new(tables.alloc);
+    if !bytes.is_empty() {
+        let mut frozen = Vec::new(tables.alloc);
+        write_tables(tables, &mut frozen)?;
+        return bytes.extend_from_slice(&frozen);
+    }
+    let written = write_tables(tables, bytes);
+    if written.is_err() {
+        bytes.clear();
+    }
+    written
+}
+
+// Appends the bytes of the tables, some of them where there is no memory for all.
+fn write_tables(tables: &Tables, bytes: &mut Vec<u8>) -> Result<(), AllocError>
+    requires { IsBrokerState usual_limits (state_in tables.now) }
+    ensures { OnOk result (bytes.new.items ≡ bytes.old.items ++ frozen (state_in tables.now)) }
+{
     bytes.push(FORM)?;
     bytes.push(tables.window.size() as u8)?;
-    write_number(tables.sessions.len() as u16, &mut bytes)?;
-    write_sessions(&tables.sessions, &mut bytes)?;
-    write_number(tables.retained.len() as u16, &mut bytes)?;
-    write_retained(&tables.retained, &mut bytes)?;
-    Ok(bytes)
+    write_number(tables.sessions.len() as u16, bytes)?;
+    write_sessions(&tables.sessions, bytes)?;
+    write_number(tables.retained.len() as u16, bytes)?;
+    write_retained(&tables.retained, bytes)
 }
 
 // Appends each session, by the bytes of the clients.
