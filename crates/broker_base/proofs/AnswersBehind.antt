@@ -64,7 +64,7 @@ fills_behind w command mark c (Some kept) = while_connected kept.connection (fil
 fills_behind w command mark c None = []
 
 started_by_kept : (limits : Limits) (place : Place) (past : Past) (c : Client) (x : ConnectionName) (session : Option Bool) → session_of past c ≡ session →
-    accepts place.command place.mark c ≡ None → ends_any place (current_connection past c) ≡ false → copies_at place past c ≡ [] →
+    accepts place.command place.mark c ≡ None → ends_any place c (current_connection past c) ≡ false → copies_at place past c ≡ [] →
     all_started x (length past) (entries_of limits (place ∷ past) c)
     ≡ map (Send x) (fills_behind (window_at limits (place ∷ past)) place.command place.mark c
     (kept_with (length past) session (current_connection past c) (subscriptions_of past c) (received_of past c) (entries_of limits past c)))
@@ -77,7 +77,7 @@ started_by_kept limits place past c x (Some clean) is_session not_opened not_end
     ∙ started_behind x (window_at limits (place ∷ past)) (length past) place.command place.mark c (current_connection past c) (entries_of limits past c) (sound_entries limits past c)
 
 pub starts_are : (limits : Limits) (place : Place) (past : Past) (c : Client) (x : ConnectionName) →
-    accepts place.command place.mark c ≡ None → ends_any place (current_connection past c) ≡ false → copies_at place past c ≡ [] →
+    accepts place.command place.mark c ≡ None → ends_any place c (current_connection past c) ≡ false → copies_at place past c ≡ [] →
     all_started x (length past) (entries_of limits (place ∷ past) c)
     ≡ map (Send x) (fills_behind (window_at limits (place ∷ past)) place.command place.mark c (client_session limits past c))
 starts_are limits place past c x = started_by_kept limits place past c x (session_of past c) refl

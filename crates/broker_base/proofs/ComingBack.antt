@@ -53,10 +53,10 @@ pub resumed_is : (limits : Limits) (past : Past) (c : Client) (x : ConnectionNam
     resent x (length past) (entries_of limits (place ∷ past) c) ≡ map (Send x) (resumed (window_at limits (place ∷ past)) clean (client_session limits past c))
 unfolding entries_of session_of current_connection
 resumed_is limits past c x clean place opens no_copies no_answer =
-    ap (λ opened. resent x (length past) (in_session (newest_session opened (ends_any place (current_connection past c)) (session_of past c)) (is_beginning opened (session_of past c)) []
-    (started (window_at limits (place ∷ past)) (length past) (newest_connection opened (ends_any place (current_connection past c)) (current_connection past c))
+    ap (λ opened. resent x (length past) (in_session (newest_session opened (ends_any place c (current_connection past c)) (session_of past c)) (is_beginning opened (session_of past c)) []
+    (started (window_at limits (place ∷ past)) (length past) (newest_connection opened (ends_any place c (current_connection past c)) (current_connection past c))
     (answered_by place.command place.mark (length past) c (entries_of limits past c) ++ map (Entry.Waits (length past)) (queued (copies_at place past c)))))) opens
-    ∙ ap₂ (λ es ps. resent x (length past) (in_session (newest_session (Some (x, clean)) (ends_any place (current_connection past c)) (session_of past c)) (is_beginning (Some (x, clean)) (session_of past c)) []
-    (started (window_at limits (place ∷ past)) (length past) (newest_connection (Some (x, clean)) (ends_any place (current_connection past c)) (current_connection past c)) (es ++ map (Entry.Waits (length past)) (queued ps))))) no_answer no_copies
-    ∙ resumed_by x (window_at limits (place ∷ past)) (length past) clean (ends_any place (current_connection past c)) (session_of past c) (current_connection past c)
+    ∙ ap₂ (λ es ps. resent x (length past) (in_session (newest_session (Some (x, clean)) (ends_any place c (current_connection past c)) (session_of past c)) (is_beginning (Some (x, clean)) (session_of past c)) []
+    (started (window_at limits (place ∷ past)) (length past) (newest_connection (Some (x, clean)) (ends_any place c (current_connection past c)) (current_connection past c)) (es ++ map (Entry.Waits (length past)) (queued ps))))) no_answer no_copies
+    ∙ resumed_by x (window_at limits (place ∷ past)) (length past) clean (ends_any place c (current_connection past c)) (session_of past c) (current_connection past c)
     (subscriptions_of past c) (received_of past c) (entries_of limits past c) (sound_entries limits past c)

@@ -6,7 +6,7 @@ use Rattle.std.specs.Ordering.{match_ordering}
 use Rattle.retained.specs.Retained.{RetainedTopics}
 use Rattle.broker_model.specs.Connection.{ConnectionName, same_connection}
 use Rattle.broker_model.specs.Place.{Client, by_bytes, Place, only_if}
-use Rattle.broker_model.specs.Past.{accepts, any_connection, ends_any}
+use Rattle.broker_model.specs.Past.{accepts, any_connection, expels, ends_any}
 use Rattle.broker_base.specs.ClientSession.{ClientSession}
 use Rattle.broker_base.specs.SessionStep.{kept_anew, kept_resumed, kept_connected, kept_by, kept_after}
 use Rattle.broker_base.specs.State.{Sessions, keyed, put_session}
@@ -46,7 +46,7 @@ not_by : (y : ConnectionName) (w : ℕ) (place : Place) (content : RetainedTopic
     NotOn y (kept_by w place content c opened (Some old))
 not_by y w place content c (Some a) old other h = not_connected y w a (Some old) (other a refl)
 not_by y w place content c None old other h =
-    not_only y (not (old.clean && ends_any place old.connection)) _ (not_left y (not (ends_any place old.connection)) old.connection h)
+    not_only y (not (expels place.command c || (old.clean && ends_any place c old.connection))) _ (not_left y (not (ends_any place c old.connection)) old.connection h)
 
 pub not_after : (y : ConnectionName) (w : ℕ) (place : Place) (content : RetainedTopics) (c : Client) (old : ClientSession) →
     ((a : ConnectionName × Bool) → accepts place.command place.mark c ≡ Some a → same_connection y a.0 ≡ false) → any_connection (same_connection y) old.connection ≡ false →
@@ -97,7 +97,7 @@ old_by : (w : ℕ) (place : Place) (content : RetainedTopics) (c : Client) (open
     OnOld old.connection (kept_by w place content c opened (Some old))
 old_by w place content c (Some a) old e = absurd (cc)
 old_by w place content c None old e =
-    old_only old.connection (not (old.clean && ends_any place old.connection)) _ (old_left (not (ends_any place old.connection)) old.connection)
+    old_only old.connection (not (expels place.command c || (old.clean && ends_any place c old.connection))) _ (old_left (not (ends_any place c old.connection)) old.connection)
 
 pub old_after : (w : ℕ) (place : Place) (content : RetainedTopics) (c : Client) (old : ClientSession) → accepts place.command place.mark c ≡ None → OnOld old.connection (session_after w place content c old)
 old_after w place content c old e =

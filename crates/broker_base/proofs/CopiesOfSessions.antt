@@ -46,7 +46,7 @@ delivered x w n es copies s quiet quiet_flights =
 -- by the session and the connection
 copies_by_kept : (limits : Limits) (place : Place) (past : Past) (c : Client) (session : Option Bool) (connection : Option ConnectionName) →
     session_of past c ≡ session → current_connection past c ≡ connection →
-    accepts place.command place.mark c ≡ None → ends_any place (current_connection past c) ≡ false →
+    accepts place.command place.mark c ≡ None → ends_any place c (current_connection past c) ≡ false →
     answered_by place.command place.mark (length past) c (entries_of limits past c) ≡ entries_of limits past c →
     window_at limits (place ∷ past) ≡ window_at limits past →
     handed_to connection (length past) (copies_at place past c) (made_at (length past) (entries_of limits (place ∷ past) c))
@@ -66,7 +66,7 @@ copies_by_kept limits place past c (Some clean) (Some x) is_session is_connectio
     ∙ ap (λ ps. map (Send x) (copies_sent (window_at limits (place ∷ past)) ps (queue_of (length past) (entries_of limits past c)))) (copies_are place.command place.mark past c)
 
 pub deliveries_are : (limits : Limits) (place : Place) (past : Past) (c : Client) →
-    accepts place.command place.mark c ≡ None → ends_any place (current_connection past c) ≡ false →
+    accepts place.command place.mark c ≡ None → ends_any place c (current_connection past c) ≡ false →
     answered_by place.command place.mark (length past) c (entries_of limits past c) ≡ entries_of limits past c →
     window_at limits (place ∷ past) ≡ window_at limits past →
     deliveries_to limits place past c ≡ copies_to (window_at limits (place ∷ past)) place (retained_publications past) c (client_session limits past c)

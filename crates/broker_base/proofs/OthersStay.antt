@@ -23,7 +23,7 @@ pub stays_with : (limits : Limits) (later : ℕ) → IsWindow limits later → (
     (kept_with (length past) (Some clean) (current_connection past c) (subscriptions_of past c) (received_of past c) (entries_of limits past c))
     ≡ kept_with (length past) (Some clean) (current_connection past c) (subscriptions_of past c) (received_of past c) (entries_of limits past c)
 stays_with limits later follows place past c clean untouched =
-    let h = or_parts (ends_any place (current_connection past c)) (is_about place.command place.mark c (subscriptions_of past c)) untouched in
+    let h = or_parts (ends_any place c (current_connection past c)) (is_about place.command place.mark c (subscriptions_of past c)) untouched in
     kept_stays (window_at limits (place ∷ past)) place (retained_publications past) c
     (record { clean = clean; connection = current_connection past c; state = record { subscriptions = subscriptions_of past c; received = received_of past c; queue = queue_of (length past) (entries_of limits past c) } })
     h.0 h.1

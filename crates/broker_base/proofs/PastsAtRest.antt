@@ -42,7 +42,7 @@ at_rest limits later follows place past c = by (session_of past c)
         (kept_with (length past) session (current_connection past c) (subscriptions_of past c) (received_of past c) (entries_of limits past c))
     by None = tt
     by (Some clean) = λ x e.
-        let h = was_there x (ends_any place (current_connection past c)) (current_connection past c) e in (
+        let h = was_there x (ends_any place c (current_connection past c)) (current_connection past c) e in (
           subst (λ (w : ℕ). IsQuietQueue w (flights_below (length past) (entries_of limits past c)) (waiting_of (entries_of limits past c)))
               (sym (same_window limits later follows place past (no_start place.command place.mark x (ap (any_connection (ends place.command place.mark)) (sym h.1) ∙ h.0))))
               (quiet_queue limits past c x h.1),

@@ -13,7 +13,7 @@ use Rattle.session_base.proofs.FillsOfQueues.{fill_done}
 use Rattle.session_base.proofs.IdentifiersStayApart.{pubrec_length}
 use Rattle.broker_model.specs.Connection.{ConnectionName}
 use Rattle.broker_model.specs.Place.{Client, same_client, Mark, Place, Limits, only_if}
-use Rattle.broker_model.specs.Past.{accepts, any_connection, ends, ends_any}
+use Rattle.broker_model.specs.Past.{accepts, any_connection, ends, expels, ends_any}
 use Rattle.broker_model.specs.Commands.{is_start}
 use Rattle.broker_base.specs.ClientSession.{ClientSession}
 use Rattle.broker_base.specs.SessionStep.{copies_with, answered_queue, kept_on, kept_anew, kept_resumed, kept_connected, kept_by, kept_after}
@@ -78,10 +78,10 @@ quiet_only w false kept h = tt
 
 -- where its connection stays, the window does, and so does what was quiet
 quiet_same : (v w : ℕ) (place : Place) (kept : ClientSession) → (is_start place.command ≡ false → w ≡ v) → HasQuietQueue v kept →
-    (x : ConnectionName) → only_if (not (ends_any place kept.connection)) kept.connection ≡ Some x → QuietNow w kept.state.queue
-quiet_same v w place kept window quiet x e = by (ends_any place kept.connection) refl e quiet
+    (x : ConnectionName) → only_if (not (ends_any place c kept.connection)) kept.connection ≡ Some x → QuietNow w kept.state.queue
+quiet_same v w place kept window quiet x e = by (ends_any place c kept.connection) refl e quiet
   where
-    by : (over : Bool) → ends_any place kept.connection ≡ over → only_if (not over) kept.connection ≡ Some x → HasQuietQueue v kept → QuietNow w kept.state.queue
+    by : (over : Bool) → ends_any place c kept.connection ≡ over → only_if (not over) kept.connection ≡ Some x → HasQuietQueue v kept → QuietNow w kept.state.queue
     by true ended f k = absurd (cc)
     by false ended f (inl none) = absurd (let g : None ≡ Some x = sym none ∙ f in cc)
     by false ended f (inr k) =
@@ -96,10 +96,10 @@ quiet_by : (v w : ℕ) (place : Place) (content : RetainedTopics) (c : Client) (
     If (HasQuietQueue w) (kept_by w place content c opened (Some old))
 quiet_by v w place content c (Some opened) old window h = quiet_connected w opened (Some old)
 quiet_by v w place content c None old window h =
-    quiet_only w (not (old.clean && ends_any place old.connection)) _
-    (quiet_on w place content c (only_if (not (ends_any place old.connection)) old.connection) old h.0.identifiers (quiet_same v w place old window h.1))
+    quiet_only w (not (expels place.command c || (old.clean && ends_any place c old.connection))) _
+    (quiet_on w place content c (only_if (not (ends_any place c old.connection)) old.connection) old h.0.identifiers (quiet_same v w place old window h.1))
 
-untouched_quiet : (v w : ℕ) (place : Place) (kept : ClientSession) → (is_start place.command ≡ false → w ≡ v) → ends_any place kept.connection ≡ false → HasQuietQueue v kept → HasQuietQueue w kept
+untouched_quiet : (v w : ℕ) (place : Place) (kept : ClientSession) → (is_start place.command ≡ false → w ≡ v) → ends_any place c kept.connection ≡ false → HasQuietQueue v kept → HasQuietQueue w kept
 untouched_quiet v w place kept window not_ended quiet = by kept.connection refl
   where
     by : (connection : Option ConnectionName) → kept.connection ≡ connection → HasQuietQueue w kept
@@ -111,7 +111,7 @@ quiet_row : (v w : ℕ) (place : Place) (content : RetainedTopics) (c : Client) 
 quiet_row v w place content c kept window h =
     elim (touches place c kept) as (λ (b : Bool). touches place c kept ≡ b → If (HasQuietQueue w) (if b then kept_after w place content c (Some kept) else Some kept)) [
       | true ↦ λ e. quiet_by v w place content c (accepts place.command place.mark c) kept window h
-      | false ↦ λ e. untouched_quiet v w place kept window (or_parts (ends_any place kept.connection) (is_about place.command place.mark c kept.state.subscriptions) e).0 h.1
+      | false ↦ λ e. untouched_quiet v w place kept window (or_parts (ends_any place c kept.connection) (is_about place.command place.mark c kept.state.subscriptions) e).0 h.1
     ] refl
 
 -- ---- the state

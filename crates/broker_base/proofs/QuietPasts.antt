@@ -95,7 +95,7 @@ pub no_connection : (past : Past) (c : Client) → session_of past c ≡ None �
 unfolding session_of current_connection
 no_connection [] c e = refl
 no_connection (place ∷ past) c e =
-    no_session (accepts place.command place.mark c) (ends_any place (current_connection past c)) (session_of past c) (current_connection past c) (no_connection past c) e
+    no_session (accepts place.command place.mark c) (ends_any place c (current_connection past c)) (session_of past c) (current_connection past c) (no_connection past c) e
 
 -- ---- the entries of a session that goes on
 
@@ -112,14 +112,14 @@ entries_by w n clean es None true (Some old) connection a b c = absurd (cc)
 entries_by w n clean es None false (Some true) connection a b c = refl
 entries_by w n clean es None false (Some false) connection a b c = refl
 
-pub entries_next : (limits : Limits) (place : Place) (past : Past) (c : Client) (clean : Bool) → accepts place.command place.mark c ≡ None → ends_any place (current_connection past c) ≡ false → session_of past c ≡ Some clean →
+pub entries_next : (limits : Limits) (place : Place) (past : Past) (c : Client) (clean : Bool) → accepts place.command place.mark c ≡ None → ends_any place c (current_connection past c) ≡ false → session_of past c ≡ Some clean →
     entries_of limits (place ∷ past) c
     ≡ started (window_at limits (place ∷ past)) (length past) (current_connection past c) (answered_by place.command place.mark (length past) c (entries_of limits past c) ++ map (Entry.Waits (length past)) (queued (copies_at place past c)))
 unfolding entries_of session_of current_connection
 entries_next limits place past c clean a b e =
     entries_by (window_at limits (place ∷ past)) (length past) clean
     (answered_by place.command place.mark (length past) c (entries_of limits past c) ++ map (Entry.Waits (length past)) (queued (copies_at place past c)))
-    (accepts place.command place.mark c) (ends_any place (current_connection past c)) (session_of past c) (current_connection past c) a b e
+    (accepts place.command place.mark c) (ends_any place c (current_connection past c)) (session_of past c) (current_connection past c) a b e
 
 none_by : (es : List Entry) (opened : Option (ConnectionName × Bool)) (over : Bool) (session : Option Bool) → opened ≡ None → session ≡ None →
     in_session (newest_session opened over session) (is_beginning opened session) [] es ≡ []
@@ -130,6 +130,6 @@ none_by es None over None e f = refl
 pub entries_none : (limits : Limits) (place : Place) (past : Past) (c : Client) → accepts place.command place.mark c ≡ None → session_of past c ≡ None → entries_of limits (place ∷ past) c ≡ []
 unfolding entries_of session_of current_connection
 entries_none limits place past c a e =
-    none_by (started (window_at limits (place ∷ past)) (length past) (newest_connection (accepts place.command place.mark c) (ends_any place (current_connection past c)) (current_connection past c))
+    none_by (started (window_at limits (place ∷ past)) (length past) (newest_connection (accepts place.command place.mark c) (ends_any place c (current_connection past c)) (current_connection past c))
     (answered_by place.command place.mark (length past) c (entries_of limits past c) ++ map (Entry.Waits (length past)) (queued (copies_at place past c))))
-    (accepts place.command place.mark c) (ends_any place (current_connection past c)) (session_of past c) a e
+    (accepts place.command place.mark c) (ends_any place c (current_connection past c)) (session_of past c) a e

@@ -25,7 +25,7 @@ use Rattle.session_base.proofs.IdentifiersStayApart.{answers_keep_apart}
 use Rattle.session_base.proofs.OrderInFlight.{released_first}
 use Rattle.broker_model.specs.Connection.{ConnectionName}
 use Rattle.broker_model.specs.Place.{Client, same_client, Mark, Place, Limits, only_if}
-use Rattle.broker_model.specs.Past.{accepts, ends_any}
+use Rattle.broker_model.specs.Past.{accepts, expels, ends_any}
 use Rattle.broker_base.specs.ClientSession.{ClientSession}
 use Rattle.broker_base.specs.SessionStep.{copies_with, filled_on, answered_queue, copied_queue, kept_on, kept_anew, kept_resumed, kept_connected, kept_by, kept_after}
 use Rattle.broker_base.specs.State.{State}
@@ -161,9 +161,9 @@ sound_by : (w : ℕ) (place : Place) (content : RetainedTopics) (c : Client) (op
     If IsSoundSession (kept_by w place content c opened (Some old))
 sound_by w place content c (Some opened) old h = sound_connected w opened (Some old) h
 sound_by w place content c None old h =
-    sound_only (not (old.clean && ends_any place old.connection)) (kept_on w place content c (only_if (not (ends_any place old.connection)) old.connection) old)
-    (λ kept. sound_on w place content c (only_if (not (ends_any place old.connection)) old.connection) old
-    (still_served old.clean (ends_any place old.connection) old.connection kept h.served) h)
+    sound_only (not (expels place.command c || (old.clean && ends_any place c old.connection))) (kept_on w place content c (only_if (not (ends_any place c old.connection)) old.connection) old)
+    (λ kept. sound_on w place content c (only_if (not (ends_any place c old.connection)) old.connection) old
+    (still_served old.clean (ends_any place c old.connection) old.connection kept h.served) h)
 
 sound_row : (w : ℕ) (place : Place) (content : RetainedTopics) (c : Client) (kept : ClientSession) → IsSoundSession kept → If IsSoundSession (session_after w place content c kept)
 sound_row w place content c kept h =

@@ -86,7 +86,7 @@ still_there : (clean : Bool) (kept : ClientSession) → only_if (not (clean && f
 still_there true kept = refl
 still_there false kept = refl
 
-pub kept_stays : (w : ℕ) (place : Place) (content : RetainedTopics) (c : Client) (kept : ClientSession) → ends_any place kept.connection ≡ false → is_about place.command place.mark c kept.state.subscriptions ≡ false →
+pub kept_stays : (w : ℕ) (place : Place) (content : RetainedTopics) (c : Client) (kept : ClientSession) → ends_any place c kept.connection ≡ false → is_about place.command place.mark c kept.state.subscriptions ≡ false →
     kept_after w place content c (Some kept) ≡ Some kept
 kept_stays w place content c kept not_ended not_about =
     ap (λ opened. kept_by w place content c opened (Some kept)) (not_opened place.command place.mark c kept.state.subscriptions not_about)

@@ -71,6 +71,7 @@ mark_in limits state (commands.Packet x packet) = packet_mark_in limits state pa
 mark_in limits state (commands.Connect x c clean) = connect_mark_in limits state c (owner_in x state.sessions)
 mark_in limits state (commands.Lost x) = Mark.NoPart
 mark_in limits state (commands.Start ballot) = Mark.NoPart
+mark_in limits state (commands.Expel c) = Mark.NoPart
 
 -- the command with its mark
 abbrev pub place_in : Limits → State → Command → Place

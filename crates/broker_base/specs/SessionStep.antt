@@ -9,7 +9,7 @@ use Rattle.session_base.specs.Session.{empty_session}
 use Rattle.session_base.specs.Queue.{Flight, Queue, on_puback, on_pubrec, on_pubcomp, fill, filled, copies_left, copies_waiting}
 use Rattle.broker_model.specs.Connection.{ConnectionName}
 use Rattle.broker_model.specs.Place.{Client, same_client, Mark, Place, only_if}
-use Rattle.broker_model.specs.Past.{accepts, ends_any}
+use Rattle.broker_model.specs.Past.{accepts, expels, ends_any}
 use Rattle.broker_model.specs.Subscriptions.{granted_of, subscribed}
 use Rattle.broker_model.specs.Received.{received_by}
 use Rattle.broker_model.specs.Entries.{copy_of, copies_for_all}
@@ -83,12 +83,12 @@ kept_connected window opened None = kept_anew opened
 kept_connected window opened (Some old) =
     if opened.1 || old.clean then kept_anew opened else kept_resumed window opened old
 
--- any other command: the connection may end, and a clean session with it
+-- any other command: the connection may end, and a clean session with it; an Expel of the client ends both
 abbrev pub kept_later : ℕ → Place → RetainedTopics → Client → Option ClientSession → Option ClientSession
 kept_later window place content c None = None
 kept_later window place content c (Some old) =
-    only_if (not (old.clean && ends_any place old.connection))
-    (Some (kept_on window place content c (only_if (not (ends_any place old.connection)) old.connection) old))
+    only_if (not (expels place.command c || (old.clean && ends_any place c old.connection)))
+    (Some (kept_on window place content c (only_if (not (ends_any place c old.connection)) old.connection) old))
 
 -- by what the command opens for the client
 abbrev pub kept_by : ℕ → Place → RetainedTopics → Client → Option (ConnectionName × Bool) → Option ClientSession → Option ClientSession

@@ -29,7 +29,7 @@ is_about _ _ c held = false
 -- whether a place touches a client's session; every other stays as it is
 abbrev pub touches : Place → Client → ClientSession → Bool
 touches place c kept =
-    ends_any place kept.connection || is_about place.command place.mark c kept.state.subscriptions
+    ends_any place c kept.connection || is_about place.command place.mark c kept.state.subscriptions
 
 -- a session after a place, if it is left
 abbrev pub session_after : ℕ → Place → RetainedTopics → Client → ClientSession → Option ClientSession

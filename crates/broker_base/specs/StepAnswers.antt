@@ -99,3 +99,4 @@ answers_by_state window place state (commands.Connect x c clean) mark =
     connect_answers_in window x clean (session_in c state.sessions) mark
 answers_by_state window place state (commands.Lost x) mark = []
 answers_by_state window place state (commands.Start ballot) mark = []
+answers_by_state window place state (commands.Expel c) mark = closed (connection_of (session_in c state.sessions))

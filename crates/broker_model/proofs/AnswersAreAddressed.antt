@@ -311,3 +311,4 @@ answers_are_addressed limits past (commands.Packet x packet) =
     packet-addressed packet (mark_of limits past (commands.Packet x packet)) limits (place_of limits past (commands.Packet x packet)) past (commands.Packet x packet) x refl
 answers_are_addressed limits past (commands.Lost x) = tt
 answers_are_addressed limits past (commands.Start ballot) = tt
+answers_are_addressed limits past (commands.Expel c) = closed-addressed past (commands.Expel c) c (current_connection past c) refl

@@ -160,6 +160,7 @@ fresh-by (commands.Packet x packets.Disconnect) m past c = omega arith
 fresh-by (commands.Connect x d clean) m past c = omega arith
 fresh-by (commands.Lost x) m past c = omega arith
 fresh-by (commands.Start ballot) m past c = omega arith
+fresh-by (commands.Expel d) m past c = omega arith
 
 -- ---- entries come from places below
 

@@ -54,6 +54,7 @@ fresh_untaken (commands.Packet x packets.Disconnect) m past c e = refl
 fresh_untaken (commands.Connect x d clean) m past c e = refl
 fresh_untaken (commands.Lost x) m past c e = refl
 fresh_untaken (commands.Start ballot) m past c e = refl
+fresh_untaken (commands.Expel d) m past c e = refl
 
 -- ---- one more place
 

@@ -120,6 +120,7 @@ answers-by (commands.Packet x packets.Disconnect) m n c = no-answer n
 answers-by (commands.Connect x d clean) m n c = no-answer n
 answers-by (commands.Lost x) m n c = no-answer n
 answers-by (commands.Start ballot) m n c = no-answer n
+answers-by (commands.Expel d) m n c = no-answer n
 
 -- ---- growing
 

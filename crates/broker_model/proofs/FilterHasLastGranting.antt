@@ -169,6 +169,7 @@ word-by (commands.Packet x packets.Disconnect) m c f held = refl
 word-by (commands.Connect x d clean) m c f held = refl
 word-by (commands.Lost x) m c f held = refl
 word-by (commands.Start ballot) m c f held = refl
+word-by (commands.Expel d) m c f held = refl
 
 in-session : (session : Option Bool) (beginning : Bool) (f : List ℕ) (held : List HeldFilter) → qos_asked f (in_session session beginning [] held) ≡ in_session session beginning None (qos_asked f held)
 in-session (Some clean) true f held = refl

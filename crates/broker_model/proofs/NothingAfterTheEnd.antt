@@ -1,11 +1,11 @@
 -- An ended session gets nothing more: what is sent to a connection is sent in the session of its Connect.
-use Rattle.std.proofs.Common.{◌≡◌, ◌≤◌, ◌+◌, ℕ, Bool, true, false, if◌then◌else◌, [], ◌∷◌, ◌++◌, length, Option, Some, None, refl, sym, ◌∙◌, ap, ap₂, subst, arith, inl, inr, append_assoc}
+use Rattle.std.proofs.Common.{◌≡◌, ◌≤◌, ◌+◌, ℕ, Bool, true, false, if◌then◌else◌, [], ◌∷◌, ◌++◌, ◌||◌, length, Option, Some, None, refl, sym, ◌∙◌, ap, ap₂, subst, arith, inl, inr, append_assoc}
 use Rattle.std.specs.Prelude.{is_some}
 use Rattle.std.specs.List.{AllByRecursion}
 use Rattle.lists.specs.Lists.{In}
 use Rattle.broker_model.specs.Connection.{ConnectionName}
 use Rattle.broker_model.specs.Place.{Client, Mark, Place, Past, Limits, only_if, same_client}
-use Rattle.broker_model.specs.Past.{accepts, ends, ends_any, any_connection, newest_session, is_beginning, current_connection, session_of, session_start}
+use Rattle.broker_model.specs.Past.{accepts, ends, expels, ends_any, any_connection, newest_session, is_beginning, current_connection, session_of, session_start}
 use Rattle.broker_model.specs.Commands.{place_of}
 use Rattle.broker_model.specs.Answers.{answers_at}
 use Rattle.broker_model.specs.Laws.{Keeps}
@@ -85,23 +85,28 @@ start_has_session [] c n e = cc
 start_has_session (place ∷ past) c n e = by (accepts place.command place.mark c) refl e
   where
     by : (o : Option (ConnectionName × Bool)) → accepts place.command place.mark c ≡ o
-        → (if is_beginning o (session_of past c) then Some (length past) else only_if (is_some (newest_session o (ends_any place (current_connection past c)) (session_of past c))) (session_start past c)) ≡ Some n
-        → is_some (newest_session o (ends_any place (current_connection past c)) (session_of past c)) ≡ true
+        → (if is_beginning o (session_of past c) then Some (length past) else only_if (is_some (newest_session o (expels place.command c) (ends_any place c (current_connection past c)) (session_of past c))) (session_start past c)) ≡ Some n
+        → is_some (newest_session o (expels place.command c) (ends_any place c (current_connection past c)) (session_of past c)) ≡ true
     by (Some opened) a f = refl
-    by None a f = (there_only (is_some (newest_session None (ends_any place (current_connection past c)) (session_of past c))) (session_start past c) n f).0
+    by None a f = (there_only (is_some (newest_session None (expels place.command c) (ends_any place c (current_connection past c)) (session_of past c))) (session_start past c) n f).0
 
-no_end : (clean : Bool) (session : Option Bool) → newest_session None false session ≡ session
+no_end : (clean : Bool) (session : Option Bool) → newest_session None false false session ≡ session
 no_end clean None = refl
 no_end clean (Some true) = refl
 no_end clean (Some false) = refl
 
+not_expelled : (a b : Bool) → (a || b) ≡ false → a ≡ false
+not_expelled true b e = e
+not_expelled false b e = refl
+
 -- at a place that opens nothing for the client and does not end its connection
 start_stays : (place : Place) (below : Past) (c : Client) (n : ℕ) → session_start below c ≡ Some n → accepts place.command place.mark c ≡ None
-    → ends_any place (current_connection below c) ≡ false → session_start (place ∷ below) c ≡ Some n
+    → ends_any place c (current_connection below c) ≡ false → session_start (place ∷ below) c ≡ Some n
 unfolding session_start session_of
 start_stays place below c n e none over =
-    ap (λ o. if is_beginning o (session_of below c) then Some (length below) else only_if (is_some (newest_session o (ends_any place (current_connection below c)) (session_of below c))) (session_start below c)) none
-    ∙ ap (λ b. only_if (is_some (newest_session None b (session_of below c))) (session_start below c)) over
+    ap (λ o. if is_beginning o (session_of below c) then Some (length below) else only_if (is_some (newest_session o (expels place.command c) (ends_any place c (current_connection below c)) (session_of below c))) (session_start below c)) none
+    ∙ ap₂ (λ a b. only_if (is_some (newest_session None a b (session_of below c))) (session_start below c))
+    (not_expelled (expels place.command c) (any_connection (ends place.command place.mark) (current_connection below c)) over) over
     ∙ ap (λ s. only_if (is_some s) (session_start below c)) (no_end true (session_of below c))
     ∙ ap (λ b. only_if b (session_start below c)) (start_has_session below c n e)
     ∙ e
@@ -115,11 +120,11 @@ kept_starts (next ∷ later) opened earlier c x clean n a kept e =
     let current : current_connection below c ≡ Some x =
     (current_is_last_accepted below c x).1 (record { later = later; place = opened; earlier = earlier; clean = clean; is = refl; opened = a; kept = kept.1 }) in
     start_stays next below c n (kept_starts later opened earlier c x clean n a kept.1 e) kept.0.0
-    (ap (any_connection (ends next.command next.mark)) current ∙ kept.0.1)
+    (ap (ends_any next c) current ∙ kept.0.1)
 
-quiet_ends : (place : Place) (o : Option ConnectionName) → IsQuiet place → ends_any place o ≡ false
-quiet_ends place None q = refl
-quiet_ends place (Some x) q = q.1 x
+quiet_ends : (place : Place) (c : Client) (o : Option ConnectionName) → IsQuiet place → ends_any place c o ≡ false
+quiet_ends place c None q = ap (λ b. b || false) (q.2 c)
+quiet_ends place c (Some x) q = ap₂ (λ a b. a || b) (q.2 c) (q.1 x)
 
 -- ---- the law
 
@@ -150,7 +155,7 @@ ends_with_the_session limits past marked place opened below earlier x packet c c
         let kept : AllByRecursion (Keeps c x) was.later = subst (λ (k : Client). AllByRecursion (Keeps k x) was.later) one was.kept in
         let began : session_start below c ≡ Some start =
         ap (λ b. session_start b c) (was.is ∙ ap₂ (λ (p : Place) (b : Past). was.later ++ p ∷ b) same.0 same.1) ∙ kept_starts was.later opened earlier c x clean start a kept begun in
-        start_stays place below c start began (quiet.0 c) (quiet_ends place (current_connection below c) quiet)
+        start_stays place below c start began (quiet.0 c) (quiet_ends place c (current_connection below c) quiet)
       where
         clients_are : (k l : Client) (b : Bool) → commands.Connect x k b ≡ commands.Connect x l clean → k ≡ l
         clients_are k l b e = cc

@@ -128,7 +128,7 @@ none-ends : (x : ConnectionName) (current : Option ConnectionName) → any_conne
 none-ends x None = refl
 none-ends x (Some y) = and-false (same_connection x y)
 
-same-session : (over : Bool) (session : Option Bool) → over ≡ false → newest_session None over session ≡ session
+same-session : (over : Bool) (session : Option Bool) → over ≡ false → newest_session None false over session ≡ session
 same-session over None e = refl
 same-session over (Some clean) e = rw e (by clean)
   where

@@ -20,15 +20,15 @@ use Rattle.broker_model.proofs.EntersOnce.{times, times-started, times-more, non
 -- ---- where there is no session there is no filter
 
 -- a taken publication ends no connection
-ends_none : (x : ConnectionName) (p : Publish) (d : Client) (current : Option ConnectionName) → ends_any (taken x p d) current ≡ false
-ends_none x p d (Some y) = by (same_connection x y)
+ends_none : (x : ConnectionName) (p : Publish) (d c : Client) (current : Option ConnectionName) → ends_any (taken x p d) c current ≡ false
+ends_none x p d c (Some y) = by (same_connection x y)
   where
     by : (b : Bool) → (b && false) ≡ false
     by true = refl
     by false = refl
-ends_none x p d None = refl
+ends_none x p d c None = refl
 
-no_session : (over : Bool) (session : Option Bool) → over ≡ false → newest_session None over session ≡ None → session ≡ None
+no_session : (over : Bool) (session : Option Bool) → over ≡ false → newest_session None false over session ≡ None → session ≡ None
 no_session over None e n = refl
 no_session false (Some true) e n = cc
 no_session false (Some false) e n = cc
@@ -49,7 +49,7 @@ no_qos past c p e = ap (λ held. option_map (lower_qos p.qos) (granted_qos p.top
 pub gone_before : (past : Past) (x : ConnectionName) (p : Publish) (d c : Client) → session_of (taken x p d ∷ past) c ≡ None → session_of past c ≡ None
 unfolding session_of
 gone_before past x p d c e =
-    no_session (ends_any (taken x p d) (current_connection past c)) (session_of past c) (ends_none x p d (current_connection past c)) e
+    no_session (ends_any (taken x p d) c (current_connection past c)) (session_of past c) (ends_none x p d c (current_connection past c)) e
 
 -- ---- where there is one
 

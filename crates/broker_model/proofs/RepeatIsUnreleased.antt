@@ -67,6 +67,7 @@ word-by (commands.Packet x packets.Disconnect) m c id ids = refl
 word-by (commands.Connect x d clean) m c id ids = refl
 word-by (commands.Lost x) m c id ids = refl
 word-by (commands.Start ballot) m c id ids = refl
+word-by (commands.Expel d) m c id ids = refl
 
 in-session : (session : Option Bool) (beginning : Bool) (id : ℕ) (ids : List ℕ) → has_id id (in_session session beginning [] ids) ≡ in_session session beginning false (has_id id ids)
 in-session (Some clean) true id ids = refl

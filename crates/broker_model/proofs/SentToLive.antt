@@ -8,7 +8,7 @@ use Rattle.lists.specs.Lists.{In}
 use Rattle.lists.specs.Lists.In.{here, there}
 use Rattle.broker_model.specs.Connection.{ConnectionName, same_connection}
 use Rattle.broker_model.specs.Place.{Client, Mark, Place, Past, Limits}
-use Rattle.broker_model.specs.Past.{is_leaving, ends, accepts, current_connection, begins}
+use Rattle.broker_model.specs.Past.{is_leaving, ends, expels, accepts, current_connection, begins}
 use Rattle.broker_model.specs.Owner.{owner_of}
 use Rattle.broker_model.specs.Marks.{mark_of, packet_mark_of}
 use Rattle.broker_model.specs.Times.{entries_of}
@@ -110,7 +110,9 @@ no_send x y packet (there i) = elim i [ ]
 
 -- a place that opens and ends nothing
 abbrev pub IsQuiet : Place → Type 0
-IsQuiet place = ((c : Client) → accepts place.command place.mark c ≡ None) × ((z : ConnectionName) → ends place.command place.mark z ≡ false)
+IsQuiet place =
+    ((c : Client) → accepts place.command place.mark c ≡ None) × ((z : ConnectionName) → ends place.command place.mark z ≡ false)
+    × ((c : Client) → expels place.command c ≡ false)
 
 -- the place is its Connect, or it is a client's current one and the place opens and ends nothing
 abbrev pub SentAt : Past → Place → ConnectionName → Type 0
@@ -122,7 +124,7 @@ no_and true m e = e
 no_and false m e = refl
 
 quiet_packet : (x : ConnectionName) (packet : Packet) (mark : Mark) → is_leaving mark ≡ false → IsQuiet (record { command = commands.Packet x packet; mark = mark })
-quiet_packet x packet mark e = (λ c. refl, λ z. no_and (same_connection x z) (is_leaving mark) e)
+quiet_packet x packet mark e = (λ c. refl, λ z. no_and (same_connection x z) (is_leaving mark) e, λ c. refl)
 
 some_name : (x y : ConnectionName) → Some x ≡ Some y → x ≡ y
 some_name x y e = cc
@@ -163,3 +165,8 @@ sent_at limits below (commands.Connect x c clean) y q i =
     inl (c, clean, ap (λ z. commands.Connect z c clean) (sym to))
 sent_at limits below (commands.Lost x) y q i = elim i [ ]
 sent_at limits below (commands.Start ballot) y q i = elim i [ ]
+sent_at limits below (commands.Expel c) y q i = absurd (close_only (current_connection below c) i)
+  where
+    close_only : (o : Option ConnectionName) → In (Send y q) (closed o) → ⊥
+    close_only None i = elim i [ ]
+    close_only (Some x) i = no_send x y q i

@@ -22,6 +22,7 @@ named_in (commands.Connect x c clean) = Some x
 named_in (commands.Packet x packet) = Some x
 named_in (commands.Lost x) = Some x
 named_in (commands.Start ballot) = None
+named_in (commands.Expel c) = None
 
 -- a PUBLISH or a Close, which a client may get for another's command
 abbrev pub is_unasked : Output → Bool

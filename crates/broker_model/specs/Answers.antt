@@ -80,12 +80,13 @@ connect_answers limits place past x c Mark.Accepted =
 connect_answers limits place past x c Mark.Full = turned_away x ∷ Close x ∷ []
 connect_answers limits place past x c _ = Close x ∷ []
 
--- the answers to a command, by its mark: a Lost and a Start have none
+-- the answers to a command, by its mark: a Lost and a Start have none, and an expelled client's connection is closed
 abbrev pub answers_by : Limits → Place → Past → Command → Mark → List Output
 answers_by limits place past (commands.Packet x packet) mark = packet_answers limits place past x packet mark
 answers_by limits place past (commands.Connect x c clean) mark = connect_answers limits place past x c mark
 answers_by limits place past (commands.Lost x) mark = []
 answers_by limits place past (commands.Start ballot) mark = []
+answers_by limits place past (commands.Expel c) mark = closed (current_connection past c)
 
 -- the answers at a place
 abbrev pub answers_at : Limits → Place → Past → List Output

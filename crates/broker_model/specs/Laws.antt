@@ -8,7 +8,7 @@ use Rattle.packet.specs.declared.subscribe.Subscription.{Subscription}
 use Rattle.packet.specs.declared.packet.Packet.TheVariants as packets
 use Rattle.broker_model.specs.Connection.{ConnectionName}
 use Rattle.broker_model.specs.Place.{Client, same_client, Mark, Place, Past}
-use Rattle.broker_model.specs.Past.{accepts, ends, current_connection, session_of, begins, in_session}
+use Rattle.broker_model.specs.Past.{accepts, ends_any, current_connection, session_of, begins, in_session}
 use Rattle.broker_model.specs.Subscriptions.{granted_of, subscriptions_of}
 use Rattle.lists.specs.Lists.{has_id}
 use Rattle.session_base.specs.Subscriptions.{HeldFilter}
@@ -18,9 +18,9 @@ use Rattle.broker_model.specs.declared.command.Command.TheVariants as commands
 
 -- ---- connections
 
--- the place is no accepted Connect of the client, and does not end the connection
+-- the place is no accepted Connect of the client, and does not end its connection
 abbrev pub Keeps : Client → ConnectionName → Place → Type 0
-Keeps c x place = (accepts place.command place.mark c ≡ None) × (ends place.command place.mark x ≡ false)
+Keeps c x place = (accepts place.command place.mark c ≡ None) × (ends_any place c (Some x) ≡ false)
 
 -- the client's last accepted Connect opened x, and no later place ended it
 pub record WasOpened (past : Past) (c : Client) (x : ConnectionName) : Type 0 where

@@ -24,6 +24,7 @@ pub mod RowWords
 pub mod Rows
 pub mod Sends
 pub mod SessionRows
+pub mod ExpelRows
 pub mod Sized
 pub mod StartLaws
 pub mod Subscriptions

@@ -13,3 +13,4 @@ IsBrokerCommand (commands.Connect x c clean) = IsConnectionName x × (is_client 
 IsBrokerCommand (commands.Packet x packet) = IsConnectionName x × Fits packet × IsSized packet
 IsBrokerCommand (commands.Lost x) = IsConnectionName x
 IsBrokerCommand (commands.Start ballot) = Unit {0}
+IsBrokerCommand (commands.Expel c) = is_client c ≡ true

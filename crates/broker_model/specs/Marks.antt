@@ -90,3 +90,4 @@ mark_of limits past (commands.Packet x packet) = packet_mark_of limits past pack
 mark_of limits past (commands.Connect x c clean) = connect_mark limits past c (owner_of past x)
 mark_of limits past (commands.Lost x) = Mark.NoPart
 mark_of limits past (commands.Start ballot) = Mark.NoPart
+mark_of limits past (commands.Expel c) = Mark.NoPart

@@ -26,15 +26,21 @@ ends (commands.Packet y packet) mark x = same_connection y x && is_leaving mark
 ends (commands.Connect y d clean) mark x = same_connection y x
 ends (commands.Lost y) mark x = same_connection y x
 ends (commands.Start ballot) mark x = true
+ends (commands.Expel d) mark x = false
+
+-- whether a command ends the client's session, and its connection with it
+abbrev pub expels : Command → Client → Bool
+expels (commands.Expel d) c = same_client d c
+expels _ c = false
 
 -- whether there is a connection of which the test holds
 abbrev pub any_connection : (ConnectionName → Bool) → Option ConnectionName → Bool
 any_connection test (Some x) = test x
 any_connection test None = false
 
--- whether a place ends this connection, if there is one
-abbrev pub ends_any : Place → Option ConnectionName → Bool
-ends_any place = any_connection (ends place.command place.mark)
+-- whether a place ends this connection of the client, if there is one: an Expel of the client does
+abbrev pub ends_any : Place → Client → Option ConnectionName → Bool
+ends_any place c connection = expels place.command c || any_connection (ends place.command place.mark) connection
 
 -- the new connection, else the old one unless it is over
 abbrev pub newest_connection : Option (ConnectionName × Bool) → Bool → Option ConnectionName → Option ConnectionName
@@ -46,23 +52,23 @@ unfoldable pub current_connection : Past → Client → Option ConnectionName
 current_connection [] c = None
 current_connection (place ∷ past) c =
     newest_connection (accepts place.command place.mark c)
-    (ends_any place (current_connection past c)) (current_connection past c)
+    (ends_any place c (current_connection past c)) (current_connection past c)
 
 -- ---- sessions
 
--- A session and its CleanSession flag: an accepted Connect leaves one with its own flag, and a clean
--- one is over with its connection.
-abbrev pub newest_session : Option (ConnectionName × Bool) → Bool → Option Bool → Option Bool
-newest_session (Some opened) over old = Some opened.1
-newest_session None over (Some clean) = only_if (not (clean && over)) (Some clean)
-newest_session None over None = None
+-- A session and its CleanSession flag: an accepted Connect leaves one with its own flag, an Expel of its client
+-- leaves none, and a clean one is over with its connection.
+abbrev pub newest_session : Option (ConnectionName × Bool) → Bool → Bool → Option Bool → Option Bool
+newest_session (Some opened) expelled over old = Some opened.1
+newest_session None expelled over (Some clean) = only_if (not (expelled || (clean && over))) (Some clean)
+newest_session None expelled over None = None
 
 -- the session of a client: its CleanSession flag, or none (MQTT 3.1.2.4)
 unfoldable pub session_of : Past → Client → Option Bool
 session_of [] c = None
 session_of (place ∷ past) c =
-    newest_session (accepts place.command place.mark c)
-    (ends_any place (current_connection past c)) (session_of past c)
+    newest_session (accepts place.command place.mark c) (expels place.command c)
+    (ends_any place c (current_connection past c)) (session_of past c)
 
 -- whether an accepted Connect with this flag begins a session: it is clean, finds none, or finds a clean one
 abbrev pub begins_session : Bool → Option Bool → Bool

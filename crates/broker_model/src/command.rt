@@ -19,6 +19,8 @@ pub enum Command {
     Lost(ConnectionId),
     /// A new ballot begins: the connections of earlier ones are gone.
     Start(u64),
+    /// An administrator ends the session of this client, if there is one, and its connection with it.
+    Expel(ClientId),
 }
 
 impl Command {
@@ -33,6 +35,7 @@ impl Command {
             Command::Packet(connection, packet) => Command::Packet(*connection, packet.copy()?),
             Command::Lost(connection) => Command::Lost(*connection),
             Command::Start(ballot) => Command::Start(*ballot),
+            Command::Expel(client) => Command::Expel(client.clone()?),
         })
     }
 
@@ -53,6 +56,9 @@ impl Command {
                 let _ballot = connection.ballot();
             }
             Command::Start(_) => {}
+            Command::Expel(client) => {
+                let _text = client.as_str();
+            }
         }
     }
 }

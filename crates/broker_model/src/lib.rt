@@ -21,10 +21,11 @@ pub use laws::{
 };
 pub use rows::{
     a_full_queue_keeps_the_order, a_repeat_before_pubrel, a_second_connection_takes_over,
-    connect_is_answered, entries_have_their_places, exactly_once_is_sent_again,
-    last_connection_is_live, last_publication_is_retained, limits_are_met, lower_qos_is_delivered,
-    ping_unsubscribe_and_violations, puback_frees_its_identifier, publish_reaches_the_subscriber,
-    pubrel_twice, retained_at_subscribe, sessions_begin_and_end, subscribe_is_granted,
+    an_expelled_session_is_gone, connect_is_answered, entries_have_their_places,
+    exactly_once_is_sent_again, last_connection_is_live, last_publication_is_retained,
+    limits_are_met, lower_qos_is_delivered, ping_unsubscribe_and_violations,
+    puback_frees_its_identifier, publish_reaches_the_subscriber, pubrel_twice,
+    retained_at_subscribe, sessions_begin_and_end, subscribe_is_granted,
     two_filters_one_publication, window_of_64,
 };
 pub use sized_packet::{SizedPacket, Unspellable};

@@ -5,6 +5,7 @@ ghost use Rattle.broker_model.specs.MoreRows.{FullQueueRefuses, FullQueueGoesOn,
 ghost use Rattle.broker_model.specs.LimitRows.{LimitsAre, NamesAre, FifthSessionIsRefused, FifthFilterIsRefused, FifthTopicIsRefused, RoomIsLessWhatEarlierFiltersNeed, ConnectOnACurrentConnection};
 ghost use Rattle.broker_model.specs.QosRows.{LowerQosIsDelivered, RetainedAtTheLowerQos, LastIsRetained, ExactlyOnceIsSentAgain, CopiesComeByClient};
 ghost use Rattle.broker_model.specs.SessionRows.{SessionsBegin, SessionsEnd, PlacesStandInSessions, EntriesHaveTheirPlaces, NewOnce, LastConnectionIsLive};
+ghost use Rattle.broker_model.specs.ExpelRows.{ExpelledOnce, NothingIsLeft, IdentifiersAreGone, ExpelEnds};
 
 /// A first CONNECT gets CONNACK 0 without a session.
 pub fn connect_is_answered()
@@ -116,6 +117,15 @@ pub fn sessions_begin_and_end()
     ensures begin { SessionsBegin }
     ensures end { SessionsEnd }
     ensures places { PlacesStandInSessions }
+{}
+
+/// An expelled client's connection is closed, and its session is gone with all that was kept in it: the client
+/// finds none when it comes back (MQTT 3.1.2.4, 4.1).
+pub fn an_expelled_session_is_gone()
+    ensures once { ExpelledOnce }
+    ensures nothing { NothingIsLeft }
+    ensures identifiers { IdentifiersAreGone }
+    ensures ends { ExpelEnds }
 {}
 
 /// Which connection counts: the last accepted one of a client, and no other, also where it sends a

@@ -6,7 +6,7 @@ use Rattle.retained.specs.Retained.{RetainedTopics}
 use Rattle.session_base.specs.Queue.{Flight, on_puback, on_pubrec, on_pubcomp}
 use Rattle.broker_model.specs.Connection.{ConnectionName}
 use Rattle.broker_model.specs.Place.{Client, same_client, Mark, Place, only_if}
-use Rattle.broker_model.specs.Past.{accepts, ends_any}
+use Rattle.broker_model.specs.Past.{accepts, expels, ends_any}
 use Rattle.broker_model.specs.Subscriptions.{subscribed}
 use Rattle.broker_model.specs.Received.{received_by}
 use Rattle.broker_model.specs.Entries.{queued}
@@ -49,8 +49,8 @@ filled_connected window place content c opened (Some old) =
 abbrev pub filled_later : ℕ → Place → RetainedTopics → Client → Option ClientSession → Option ClientSession
 filled_later window place content c None = None
 filled_later window place content c (Some old) =
-    only_if (not (old.clean && ends_any place old.connection))
-    (Some (filled_kept window place content c old.clean (only_if (not (ends_any place old.connection)) old.connection) old))
+    only_if (not (expels place.command c || (old.clean && ends_any place c old.connection)))
+    (Some (filled_kept window place content c old.clean (only_if (not (ends_any place c old.connection)) old.connection) old))
 
 abbrev pub filled_by : ℕ → Place → RetainedTopics → Client → Option (ConnectionName × Bool) → Option ClientSession → Option ClientSession
 filled_by window place content c (Some opened) old = Some (filled_connected window place content c opened old)

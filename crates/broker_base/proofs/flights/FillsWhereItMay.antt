@@ -10,7 +10,7 @@ use Rattle.session_base.specs.Queue.{Flight, on_puback, on_pubrec, on_pubcomp, f
 use Rattle.session_base.proofs.CopiesOneByOne.{fill_quiet, copies_are_one_fill}
 use Rattle.broker_model.specs.Connection.{ConnectionName}
 use Rattle.broker_model.specs.Place.{Client, same_client, Mark, Place, only_if}
-use Rattle.broker_model.specs.Past.{ends_any}
+use Rattle.broker_model.specs.Past.{expels, ends_any}
 use Rattle.broker_model.specs.Subscriptions.{subscribed}
 use Rattle.broker_model.specs.Received.{received_by}
 use Rattle.broker_model.specs.Entries.{queued}
@@ -72,23 +72,23 @@ queues_same w command mark content c connection held fs ms h = copies_same w con
 -- the queue of a session whose connection the place leaves is at rest
 abbrev pub RestsAt : ℕ → Place → Option ClientSession → Type 0
 RestsAt w place (Some old) =
-    (x : ConnectionName) → only_if (not (ends_any place old.connection)) old.connection ≡ Some x → IsAtRest w old.state.queue.in_flight old.state.queue.waiting
+    (x : ConnectionName) → only_if (not (ends_any place c old.connection)) old.connection ≡ Some x → IsAtRest w old.state.queue.in_flight old.state.queue.waiting
 RestsAt w place None = Unit {0}
 
 later_same : (w : ℕ) (place : Place) (content : RetainedTopics) (c : Client) (old : Option ClientSession) → RestsAt w place old →
     filled_later w place content c old ≡ kept_later w place content c old
 later_same w place content c None h = refl
 later_same w place content c (Some old) h =
-    ap (λ q. only_if (not (old.clean && ends_any place old.connection)) (Some (record {
+    ap (λ q. only_if (not (expels place.command c || (old.clean && ends_any place c old.connection))) (Some (record {
       clean = old.clean;
-      connection = only_if (not (ends_any place old.connection)) old.connection;
+      connection = only_if (not (ends_any place c old.connection)) old.connection;
       state = record {
         subscriptions = subscribed place.command place.mark c old.state.subscriptions;
         received = received_by place.command place.mark c old.state.received;
         queue = q;
       };
     })))
-    (queues_same w place.command place.mark content c (only_if (not (ends_any place old.connection)) old.connection) old.state.subscriptions old.state.queue.in_flight old.state.queue.waiting h)
+    (queues_same w place.command place.mark content c (only_if (not (ends_any place c old.connection)) old.connection) old.state.subscriptions old.state.queue.in_flight old.state.queue.waiting h)
 
 connected_same : (w : ℕ) (content : RetainedTopics) (c d : Client) (x : ConnectionName) (clean : Bool) (old : Option ClientSession) →
     filled_by w (record { command = commands.Connect x d clean; mark = Mark.Accepted }) content c (Some (x, clean)) old

@@ -66,7 +66,7 @@ pubrels_behind i (Some kept) = pubrec_sends i (on_pubrec i kept.state.queue.in_f
 pubrels_behind i None = []
 
 pubrec_by_kept : (limits : Limits) (place : Place) (past : Past) (c : Client) (x : ConnectionName) (i : ℕ) (session : Option Bool) → session_of past c ≡ session →
-    accepts place.command place.mark c ≡ None → ends_any place (current_connection past c) ≡ false → copies_at place past c ≡ [] →
+    accepts place.command place.mark c ≡ None → ends_any place c (current_connection past c) ≡ false → copies_at place past c ≡ [] →
     answered_by place.command place.mark (length past) c (entries_of limits past c) ≡ map (at_pubrec (length past) i) (entries_of limits past c) →
     (if has_id i (released_below (suc (length past)) (entries_of limits (place ∷ past) c)) then Send x (packets.Pubrel i) ∷ [] else [])
     ≡ map (Send x) (pubrels_behind i (kept_with (length past) session (current_connection past c) (subscriptions_of past c) (received_of past c) (entries_of limits past c)))
@@ -89,7 +89,7 @@ pubrec_by_kept limits place past c x i (Some clean) is_session not_opened not_en
     by false = refl
 
 pub pubrec_is : (limits : Limits) (place : Place) (past : Past) (c : Client) (x : ConnectionName) (i : ℕ) →
-    accepts place.command place.mark c ≡ None → ends_any place (current_connection past c) ≡ false → copies_at place past c ≡ [] →
+    accepts place.command place.mark c ≡ None → ends_any place c (current_connection past c) ≡ false → copies_at place past c ≡ [] →
     answered_by place.command place.mark (length past) c (entries_of limits past c) ≡ map (at_pubrec (length past) i) (entries_of limits past c) →
     (if has_id i (released_below (suc (length past)) (entries_of limits (place ∷ past) c)) then Send x (packets.Pubrel i) ∷ [] else [])
     ≡ map (Send x) (pubrels_behind i (client_session limits past c))
