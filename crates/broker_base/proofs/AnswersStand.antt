@@ -5,11 +5,11 @@ use Rattle.broker_model.specs.Connection.{ConnectionName}
 use Rattle.broker_model.specs.Place.{Client, Mark, Place, Past, Limits, only_if}
 use Rattle.broker_model.specs.Past.{session_of, is_beginning, begins_session}
 use Rattle.broker_model.specs.Times.{window_at}
-use Rattle.broker_model.specs.Answers.{welcome, connect_answers, answers_by, answers_at}
+use Rattle.broker_model.specs.Answers.{closed, welcome, connect_answers, answers_by, answers_at}
 use Rattle.broker_base.specs.ClientSession.{ClientSession, client_session}
 use Rattle.broker_base.specs.State.{state_of}
 use Rattle.broker_base.specs.Step.{IsWindow}
-use Rattle.broker_base.specs.StepAnswers.{connect_answers_in, answers_by_state}
+use Rattle.broker_base.specs.StepAnswers.{connection_of, connect_answers_in, answers_by_state}
 use Rattle.broker_model.specs.declared.command.Command.{Command}
 use Rattle.broker_model.specs.declared.command.Command.TheVariants as commands
 use Rattle.broker_model.proofs.ClientsInOrder.{same_self}
@@ -53,6 +53,8 @@ answers_are_by limits later follows past (commands.Connect x c clean) mark =
     ∙ connect_answers_are limits past x c clean mark
 answers_are_by limits later follows past (commands.Lost x) mark = refl
 answers_are_by limits later follows past (commands.Start ballot) mark = refl
+answers_are_by limits later follows past (commands.Expel c) mark =
+    ap (λ old. closed (connection_of old)) (session_is limits past c) ∙ sym (closed_is limits past c)
 
 pub answers_are : (limits : Limits) (later : ℕ) → IsWindow limits later → (place : Place) (past : Past) →
     answers_by_state (window_at limits (place ∷ past)) place (state_of limits past) place.command place.mark ≡ answers_at limits place past

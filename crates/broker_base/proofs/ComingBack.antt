@@ -5,7 +5,7 @@ use Rattle.packet.specs.declared.packet.Packet.TheVariants as packets
 use Rattle.session_base.specs.Sending.{fill_sends, resend}
 use Rattle.broker_model.specs.Connection.{ConnectionName}
 use Rattle.broker_model.specs.Place.{Client, Place, Past, Limits}
-use Rattle.broker_model.specs.Past.{accepts, ends_any, current_connection, session_of, newest_session, newest_connection, is_beginning, in_session}
+use Rattle.broker_model.specs.Past.{accepts, expels, ends_any, current_connection, session_of, newest_session, newest_connection, is_beginning, in_session}
 use Rattle.broker_model.specs.Subscriptions.{subscriptions_of}
 use Rattle.broker_model.specs.Received.{received_of}
 use Rattle.broker_model.specs.Entries.{Entry, copies_at, queued}
@@ -34,12 +34,12 @@ closed_is limits past c = by (session_of past c) refl
     by None e = ap closed (no_connection past c e)
     by (Some clean) e = refl
 
-resumed_by : (x : ConnectionName) (w n : ℕ) (clean over : Bool) (session : Option Bool) (connection : Option ConnectionName) (held : List HeldFilter) (ids : List ℕ) (es : List Entry) → Sound n es →
-    resent x n (in_session (newest_session (Some (x, clean)) over session) (is_beginning (Some (x, clean)) session) []
+resumed_by : (x : ConnectionName) (w n : ℕ) (clean expelled over : Bool) (session : Option Bool) (connection : Option ConnectionName) (held : List HeldFilter) (ids : List ℕ) (es : List Entry) → Sound n es →
+    resent x n (in_session (newest_session (Some (x, clean)) expelled over session) (is_beginning (Some (x, clean)) session) []
     (started w n (newest_connection (Some (x, clean)) over connection) (es ++ map (Entry.Waits n) [])))
     ≡ map (Send x) (resumed w clean (kept_with n session connection held ids es))
-resumed_by x w n clean over None connection held ids es s = ap (λ ids. map (λ id. Send x (packets.Pubrel id)) ids ++ [] ++ []) (none_released_ever n)
-resumed_by x w n clean over (Some old) connection held ids es s = by (clean || old)
+resumed_by x w n clean expelled over None connection held ids es s = ap (λ ids. map (λ id. Send x (packets.Pubrel id)) ids ++ [] ++ []) (none_released_ever n)
+resumed_by x w n clean expelled over (Some old) connection held ids es s = by (clean || old)
   where
     by : (b : Bool) →
         resent x n (in_session (Some clean) b [] (start_all w n [] (es ++ map (Entry.Waits n) [])))
@@ -53,10 +53,10 @@ pub resumed_is : (limits : Limits) (past : Past) (c : Client) (x : ConnectionNam
     resent x (length past) (entries_of limits (place ∷ past) c) ≡ map (Send x) (resumed (window_at limits (place ∷ past)) clean (client_session limits past c))
 unfolding entries_of session_of current_connection
 resumed_is limits past c x clean place opens no_copies no_answer =
-    ap (λ opened. resent x (length past) (in_session (newest_session opened (ends_any place c (current_connection past c)) (session_of past c)) (is_beginning opened (session_of past c)) []
+    ap (λ opened. resent x (length past) (in_session (newest_session opened (expels place.command c) (ends_any place c (current_connection past c)) (session_of past c)) (is_beginning opened (session_of past c)) []
     (started (window_at limits (place ∷ past)) (length past) (newest_connection opened (ends_any place c (current_connection past c)) (current_connection past c))
     (answered_by place.command place.mark (length past) c (entries_of limits past c) ++ map (Entry.Waits (length past)) (queued (copies_at place past c)))))) opens
-    ∙ ap₂ (λ es ps. resent x (length past) (in_session (newest_session (Some (x, clean)) (ends_any place c (current_connection past c)) (session_of past c)) (is_beginning (Some (x, clean)) (session_of past c)) []
+    ∙ ap₂ (λ es ps. resent x (length past) (in_session (newest_session (Some (x, clean)) (expels place.command c) (ends_any place c (current_connection past c)) (session_of past c)) (is_beginning (Some (x, clean)) (session_of past c)) []
     (started (window_at limits (place ∷ past)) (length past) (newest_connection (Some (x, clean)) (ends_any place c (current_connection past c)) (current_connection past c)) (es ++ map (Entry.Waits (length past)) (queued ps))))) no_answer no_copies
-    ∙ resumed_by x (window_at limits (place ∷ past)) (length past) clean (ends_any place c (current_connection past c)) (session_of past c) (current_connection past c)
+    ∙ resumed_by x (window_at limits (place ∷ past)) (length past) clean (expels place.command c) (ends_any place c (current_connection past c)) (session_of past c) (current_connection past c)
     (subscriptions_of past c) (received_of past c) (entries_of limits past c) (sound_entries limits past c)

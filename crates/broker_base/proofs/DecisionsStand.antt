@@ -106,3 +106,4 @@ mark_is limits past (commands.Packet x packet) = packet_owner limits past x pack
 mark_is limits past (commands.Connect x c clean) = connect_owner limits past x c (named past)
 mark_is limits past (commands.Lost x) = refl
 mark_is limits past (commands.Start ballot) = refl
+mark_is limits past (commands.Expel c) = refl

@@ -10,7 +10,7 @@ use Rattle.session_base.proofs.FillsOfQueues.{fill_within}
 use Rattle.session_base.proofs.IdentifiersStayApart.{pubrec_length}
 use Rattle.broker_model.specs.Connection.{ConnectionName}
 use Rattle.broker_model.specs.Place.{Client, same_client, Mark, Place, Limits, only_if}
-use Rattle.broker_model.specs.Past.{accepts, ends_any}
+use Rattle.broker_model.specs.Past.{accepts, ends_any, expels}
 use Rattle.broker_model.specs.Commands.{is_start}
 use Rattle.broker_base.specs.ClientSession.{ClientSession}
 use Rattle.broker_base.specs.SessionStep.{copies_with, filled_on, answered_queue, copied_queue, kept_on, kept_anew, kept_resumed, kept_connected, kept_by, kept_after}
@@ -102,8 +102,8 @@ fits_by : (w : ℕ) (place : Place) (content : RetainedTopics) (c : Client) (ope
     If (FitsWindow w) (kept_by w place content c opened (Some old))
 fits_by w place content c (Some opened) old h = fits_connected w opened (Some old) h
 fits_by w place content c None old h =
-    fits_only w (not (old.clean && ends_any place old.connection)) _
-    (fits_kept w place content c (only_if (not (ends_any place old.connection)) old.connection) old h.0 h.1)
+    fits_only w (not (expels place.command c || (old.clean && ends_any place c old.connection))) _
+    (fits_kept w place content c (only_if (not (ends_any place c old.connection)) old.connection) old h.0 h.1)
 
 fits_row : (w : ℕ) (place : Place) (content : RetainedTopics) (c : Client) (kept : ClientSession) → Both w kept → If (FitsWindow w) (session_after w place content c kept)
 fits_row w place content c kept h =

@@ -6,7 +6,7 @@ use Rattle.retained.specs.Retained.{RetainedTopics}
 use Rattle.session_base.specs.declared.publication.Publication.{Publication}
 use Rattle.broker_model.specs.Connection.{ConnectionName}
 use Rattle.broker_model.specs.Place.{Client, Place, Past, Limits, only_if}
-use Rattle.broker_model.specs.Past.{accepts, ends_any, newest_connection, current_connection, newest_session, session_of, is_beginning, in_session}
+use Rattle.broker_model.specs.Past.{accepts, expels, ends_any, newest_connection, current_connection, newest_session, session_of, is_beginning, in_session}
 use Rattle.broker_model.specs.Subscriptions.{subscribed, subscriptions_of}
 use Rattle.broker_model.specs.Received.{received_by, received_of}
 use Rattle.broker_model.specs.Retained.{retained_publications}
@@ -50,30 +50,30 @@ anew n opened = ap (λ ids. Some (record { clean = opened.1; connection = Some o
 -- the place's values, from those below
 abbrev pub kept_next : ℕ → Place → ℕ → Client → Option (ConnectionName × Bool) → Option Bool → Option ConnectionName → List HeldFilter → List ℕ → List Entry → List Publication → Option ClientSession
 kept_next w place n c opened session connection held ids es ps =
-    kept_with (suc n) (newest_session opened (ends_any place connection) session) (newest_connection opened (ends_any place connection) connection)
-    (in_session (newest_session opened (ends_any place connection) session) (is_beginning opened session) [] (subscribed place.command place.mark c held))
-    (in_session (newest_session opened (ends_any place connection) session) (is_beginning opened session) [] (received_by place.command place.mark c ids))
-    (in_session (newest_session opened (ends_any place connection) session) (is_beginning opened session) []
-    (started w n (newest_connection opened (ends_any place connection) connection) (answered_by place.command place.mark n c es ++ map (Entry.Waits n) ps)))
+    kept_with (suc n) (newest_session opened (expels place.command c) (ends_any place c connection) session) (newest_connection opened (ends_any place c connection) connection)
+    (in_session (newest_session opened (expels place.command c) (ends_any place c connection) session) (is_beginning opened session) [] (subscribed place.command place.mark c held))
+    (in_session (newest_session opened (expels place.command c) (ends_any place c connection) session) (is_beginning opened session) [] (received_by place.command place.mark c ids))
+    (in_session (newest_session opened (expels place.command c) (ends_any place c connection) session) (is_beginning opened session) []
+    (started w n (newest_connection opened (ends_any place c connection) connection) (answered_by place.command place.mark n c es ++ map (Entry.Waits n) ps)))
 
 next_is : (w : ℕ) (place : Place) (content : RetainedTopics) (n : ℕ) (c : Client) (opened : Option (ConnectionName × Bool)) (session : Option Bool) (connection : Option ConnectionName)
     (held : List HeldFilter) (ids : List ℕ) (es : List Entry) → Sound n es →
     kept_next w place n c opened session connection held ids es (queued (copies_with place.command place.mark content c held))
     ≡ filled_by w place content c opened (kept_with n session connection held ids es)
 next_is w place content n c None None connection held ids es s = refl
-next_is w place content n c None (Some clean) connection held ids es s = by (clean && ends_any place connection)
+next_is w place content n c None (Some clean) connection held ids es s = by (expels place.command c || (clean && ends_any place c connection))
   where
     by : (b : Bool) →
-        kept_with (suc n) (only_if (not b) (Some clean)) (only_if (not (ends_any place connection)) connection)
+        kept_with (suc n) (only_if (not b) (Some clean)) (only_if (not (ends_any place c connection)) connection)
         (in_session (only_if (not b) (Some clean)) false [] (subscribed place.command place.mark c held))
         (in_session (only_if (not b) (Some clean)) false [] (received_by place.command place.mark c ids))
         (in_session (only_if (not b) (Some clean)) false []
-        (started w n (only_if (not (ends_any place connection)) connection) (answered_by place.command place.mark n c es ++ map (Entry.Waits n) (queued (copies_with place.command place.mark content c held)))))
-        ≡ only_if (not b) (Some (filled_kept w place content c clean (only_if (not (ends_any place connection)) connection)
+        (started w n (only_if (not (ends_any place c connection)) connection) (answered_by place.command place.mark n c es ++ map (Entry.Waits n) (queued (copies_with place.command place.mark content c held)))))
+        ≡ only_if (not b) (Some (filled_kept w place content c clean (only_if (not (ends_any place c connection)) connection)
         (record { clean = clean; connection = connection; state = record { subscriptions = held; received = ids; queue = queue_of n es } })))
     by true = refl
-    by false = ap (λ q. Some (record { clean = clean; connection = only_if (not (ends_any place connection)) connection; state = record { subscriptions = subscribed place.command place.mark c held; received = received_by place.command place.mark c ids; queue = q } }))
-        (queue_after w place.command place.mark n c (only_if (not (ends_any place connection)) connection) es (queued (copies_with place.command place.mark content c held)) s)
+    by false = ap (λ q. Some (record { clean = clean; connection = only_if (not (ends_any place c connection)) connection; state = record { subscriptions = subscribed place.command place.mark c held; received = received_by place.command place.mark c ids; queue = q } }))
+        (queue_after w place.command place.mark n c (only_if (not (ends_any place c connection)) connection) es (queued (copies_with place.command place.mark content c held)) s)
 next_is w place content n c (Some opened) None connection held ids es s = anew (suc n) opened
 next_is w place content n c (Some opened) (Some clean) connection held ids es s = by (opened.1 || clean)
   where

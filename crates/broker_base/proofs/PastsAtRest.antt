@@ -1,13 +1,14 @@
 -- After one more command what is kept of a client's session is the step of what was kept before: in every past a
 -- connected client's queue is quiet, and its identifiers are distinct.
 use Rattle.std.proofs.Common.{◌≡◌, ℕ, ◌≤◌, Bool, true, false, not, ◌==◌, Option, Some, None, List, ◌∷◌, length, refl, ap, ◌∙◌, sym, subst}
+use Rattle.std.proofs.lemmas.Bool.{or_parts}
 use Rattle.lists.specs.Lists.{IsDistinct}
 use Rattle.session_base.specs.Laws.{IsQuietQueue}
 use Rattle.session_base.specs.Queue.{ids_of}
 use Rattle.session_base.proofs.IdentifiersStayApart.{distinct, pubrec_length}
 use Rattle.broker_model.specs.Connection.{ConnectionName}
 use Rattle.broker_model.specs.Place.{Client, Place, Past, Limits, only_if}
-use Rattle.broker_model.specs.Past.{any_connection, ends, ends_any, current_connection, session_of}
+use Rattle.broker_model.specs.Past.{ends, expels, ends_any, current_connection, session_of}
 use Rattle.broker_model.specs.Subscriptions.{subscriptions_of}
 use Rattle.broker_model.specs.Received.{received_of}
 use Rattle.broker_model.specs.Retained.{retained_publications}
@@ -35,16 +36,16 @@ was_there : (x : ConnectionName) (over : Bool) (connection : Option ConnectionNa
 was_there x true connection e = absurd (cc)
 was_there x false connection e = (refl, e)
 
-at_rest : (limits : Limits) (later : ℕ) → IsWindow limits later → (place : Place) (past : Past) (c : Client) → RestsAt (window_at limits (place ∷ past)) place (client_session limits past c)
+at_rest : (limits : Limits) (later : ℕ) → IsWindow limits later → (place : Place) (past : Past) (c : Client) → RestsAt (window_at limits (place ∷ past)) place c (client_session limits past c)
 at_rest limits later follows place past c = by (session_of past c)
   where
-    by : (session : Option Bool) → RestsAt (window_at limits (place ∷ past)) place
+    by : (session : Option Bool) → RestsAt (window_at limits (place ∷ past)) place c
         (kept_with (length past) session (current_connection past c) (subscriptions_of past c) (received_of past c) (entries_of limits past c))
     by None = tt
     by (Some clean) = λ x e.
         let h = was_there x (ends_any place c (current_connection past c)) (current_connection past c) e in (
           subst (λ (w : ℕ). IsQuietQueue w (flights_below (length past) (entries_of limits past c)) (waiting_of (entries_of limits past c)))
-              (sym (same_window limits later follows place past (no_start place.command place.mark x (ap (any_connection (ends place.command place.mark)) (sym h.1) ∙ h.0))))
+              (sym (same_window limits later follows place past (no_start place.command place.mark x ((or_parts (expels place.command c) (ends place.command place.mark x) (ap (ends_any place c) (sym h.1) ∙ h.0)).1))))
               (quiet_queue limits past c x h.1),
           λ id. pubrec_length id (flights_below (length past) (entries_of limits past c)) (apart (length past) (entries_of limits past c) (sound_entries limits past c)),
         )

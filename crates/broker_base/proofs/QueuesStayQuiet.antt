@@ -77,16 +77,16 @@ quiet_only w true kept h = h
 quiet_only w false kept h = tt
 
 -- where its connection stays, the window does, and so does what was quiet
-quiet_same : (v w : ℕ) (place : Place) (kept : ClientSession) → (is_start place.command ≡ false → w ≡ v) → HasQuietQueue v kept →
+quiet_same : (v w : ℕ) (place : Place) (c : Client) (kept : ClientSession) → (is_start place.command ≡ false → w ≡ v) → HasQuietQueue v kept →
     (x : ConnectionName) → only_if (not (ends_any place c kept.connection)) kept.connection ≡ Some x → QuietNow w kept.state.queue
-quiet_same v w place kept window quiet x e = by (ends_any place c kept.connection) refl e quiet
+quiet_same v w place c kept window quiet x e = by (ends_any place c kept.connection) refl e quiet
   where
     by : (over : Bool) → ends_any place c kept.connection ≡ over → only_if (not over) kept.connection ≡ Some x → HasQuietQueue v kept → QuietNow w kept.state.queue
     by true ended f k = absurd (cc)
     by false ended f (inl none) = absurd (let g : None ≡ Some x = sym none ∙ f in cc)
     by false ended f (inr k) =
         subst (λ (n : ℕ). QuietNow n kept.state.queue)
-        (sym (window (no_start place.command place.mark x (ap (any_connection (ends place.command place.mark)) (sym f) ∙ ended)))) k
+        (sym (window (no_start place.command place.mark x ((or_parts (expels place.command c) (ends place.command place.mark x) (ap (ends_any place c) (sym f) ∙ ended)).1)))) k
 
 -- a session that is sound, and quiet in this window
 abbrev pub Both : ℕ → ClientSession → Type 0
@@ -97,21 +97,21 @@ quiet_by : (v w : ℕ) (place : Place) (content : RetainedTopics) (c : Client) (
 quiet_by v w place content c (Some opened) old window h = quiet_connected w opened (Some old)
 quiet_by v w place content c None old window h =
     quiet_only w (not (expels place.command c || (old.clean && ends_any place c old.connection))) _
-    (quiet_on w place content c (only_if (not (ends_any place c old.connection)) old.connection) old h.0.identifiers (quiet_same v w place old window h.1))
+    (quiet_on w place content c (only_if (not (ends_any place c old.connection)) old.connection) old h.0.identifiers (quiet_same v w place c old window h.1))
 
-untouched_quiet : (v w : ℕ) (place : Place) (kept : ClientSession) → (is_start place.command ≡ false → w ≡ v) → ends_any place c kept.connection ≡ false → HasQuietQueue v kept → HasQuietQueue w kept
-untouched_quiet v w place kept window not_ended quiet = by kept.connection refl
+untouched_quiet : (v w : ℕ) (place : Place) (c : Client) (kept : ClientSession) → (is_start place.command ≡ false → w ≡ v) → ends_any place c kept.connection ≡ false → HasQuietQueue v kept → HasQuietQueue w kept
+untouched_quiet v w place c kept window not_ended quiet = by kept.connection refl
   where
     by : (connection : Option ConnectionName) → kept.connection ≡ connection → HasQuietQueue w kept
     by None e = inl e
-    by (Some x) e = inr (quiet_same v w place kept window quiet x (ap (λ b. only_if (not b) kept.connection) not_ended ∙ e))
+    by (Some x) e = inr (quiet_same v w place c kept window quiet x (ap (λ b. only_if (not b) kept.connection) not_ended ∙ e))
 
 quiet_row : (v w : ℕ) (place : Place) (content : RetainedTopics) (c : Client) (kept : ClientSession) → (is_start place.command ≡ false → w ≡ v) → Both v kept →
     If (HasQuietQueue w) (session_after w place content c kept)
 quiet_row v w place content c kept window h =
     elim (touches place c kept) as (λ (b : Bool). touches place c kept ≡ b → If (HasQuietQueue w) (if b then kept_after w place content c (Some kept) else Some kept)) [
       | true ↦ λ e. quiet_by v w place content c (accepts place.command place.mark c) kept window h
-      | false ↦ λ e. untouched_quiet v w place kept window (or_parts (ends_any place c kept.connection) (is_about place.command place.mark c kept.state.subscriptions) e).0 h.1
+      | false ↦ λ e. untouched_quiet v w place c kept window (or_parts (ends_any place c kept.connection) (is_about place.command place.mark c kept.state.subscriptions) e).0 h.1
     ] refl
 
 -- ---- the state

@@ -1,13 +1,13 @@
 -- In every past a connected client's queue is quiet: nothing waits, or the window is full. A client with a
 -- connection has a session. What a place makes of the entries of a session that goes on.
-use Rattle.std.proofs.Common.{◌≡◌, ℕ, ◌+◌, ◌≤◌, suc, Bool, true, false, not, ◌&&◌, ◌⊎◌, inl, inr, nat_lt, if◌then◌else◌, Option, Some, None, List, [], ◌∷◌, ◌++◌, length, map, refl, ap, ◌∙◌, sym, arith}
+use Rattle.std.proofs.Common.{◌≡◌, ℕ, ◌+◌, ◌≤◌, suc, Bool, true, false, not, ◌&&◌, ◌||◌, ◌⊎◌, inl, inr, nat_lt, if◌then◌else◌, Option, Some, None, List, [], ◌∷◌, ◌++◌, length, map, refl, ap, ◌∙◌, sym, arith}
 use Rattle.std.proofs.lemmas.List.{length-map}
 use Rattle.session_base.specs.declared.publication.Publication.{Publication}
 use Rattle.session_base.specs.Identifiers.{least_free}
 use Rattle.session_base.specs.Queue.{Flight, ids_of, fill}
 use Rattle.broker_model.specs.Connection.{ConnectionName}
 use Rattle.broker_model.specs.Place.{Client, Place, Past, Limits, only_if}
-use Rattle.broker_model.specs.Past.{accepts, ends_any, newest_connection, current_connection, newest_session, session_of, is_beginning, begins, in_session}
+use Rattle.broker_model.specs.Past.{accepts, any_connection, ends, expels, ends_any, newest_connection, current_connection, newest_session, session_of, is_beginning, begins, in_session}
 use Rattle.broker_model.specs.Entries.{Entry, copies_at, queued}
 use Rattle.broker_model.specs.Readings.{waiting_of, busy_ids}
 use Rattle.broker_model.specs.Times.{answered_by, start_all, started, window_at, entries_of}
@@ -82,20 +82,21 @@ ended_too : (over : Bool) (connection : Option ConnectionName) → connection �
 ended_too true connection e = refl
 ended_too false connection e = e
 
-no_session : (opened : Option (ConnectionName × Bool)) (over : Bool) (session : Option Bool) (connection : Option ConnectionName) →
-    (session ≡ None → connection ≡ None) → newest_session opened over session ≡ None → newest_connection opened over connection ≡ None
-no_session (Some a) over session connection h e = absurd (cc)
-no_session None over None connection h e = ended_too over connection (h refl)
-no_session None true (Some true) connection h e = refl
-no_session None true (Some false) connection h e = absurd (cc)
-no_session None false (Some true) connection h e = absurd (cc)
-no_session None false (Some false) connection h e = absurd (cc)
+no_session : (opened : Option (ConnectionName × Bool)) (expelled over : Bool) (session : Option Bool) (connection : Option ConnectionName) →
+    (session ≡ None → connection ≡ None) → newest_session opened expelled (expelled || over) session ≡ None → newest_connection opened (expelled || over) connection ≡ None
+no_session (Some a) expelled over session connection h e = absurd (cc)
+no_session None expelled over None connection h e = ended_too (expelled || over) connection (h refl)
+no_session None true over (Some clean) connection h e = refl
+no_session None false true (Some true) connection h e = refl
+no_session None false true (Some false) connection h e = absurd (cc)
+no_session None false false (Some true) connection h e = absurd (cc)
+no_session None false false (Some false) connection h e = absurd (cc)
 
 pub no_connection : (past : Past) (c : Client) → session_of past c ≡ None → current_connection past c ≡ None
 unfolding session_of current_connection
 no_connection [] c e = refl
 no_connection (place ∷ past) c e =
-    no_session (accepts place.command place.mark c) (ends_any place c (current_connection past c)) (session_of past c) (current_connection past c) (no_connection past c) e
+    no_session (accepts place.command place.mark c) (expels place.command c) (any_connection (ends place.command place.mark) (current_connection past c)) (session_of past c) (current_connection past c) (no_connection past c) e
 
 -- ---- the entries of a session that goes on
 
@@ -103,14 +104,15 @@ goes_on : (clean over : Bool) → over ≡ false → only_if (not (clean && over
 goes_on true over e = ap (λ b. only_if (not b) (Some true)) e
 goes_on false over e = refl
 
-entries_by : (w n : ℕ) (clean : Bool) (es : List Entry) (opened : Option (ConnectionName × Bool)) (over : Bool) (session : Option Bool) (connection : Option ConnectionName) →
-    opened ≡ None → over ≡ false → session ≡ Some clean →
-    in_session (newest_session opened over session) (is_beginning opened session) [] (started w n (newest_connection opened over connection) es) ≡ started w n connection es
-entries_by w n clean es (Some opened) over session connection a b c = absurd (cc)
-entries_by w n clean es None over None connection a b c = absurd (cc)
-entries_by w n clean es None true (Some old) connection a b c = absurd (cc)
-entries_by w n clean es None false (Some true) connection a b c = refl
-entries_by w n clean es None false (Some false) connection a b c = refl
+entries_by : (w n : ℕ) (clean : Bool) (es : List Entry) (opened : Option (ConnectionName × Bool)) (expelled over : Bool) (session : Option Bool) (connection : Option ConnectionName) →
+    opened ≡ None → (expelled || over) ≡ false → session ≡ Some clean →
+    in_session (newest_session opened expelled (expelled || over) session) (is_beginning opened session) [] (started w n (newest_connection opened (expelled || over) connection) es) ≡ started w n connection es
+entries_by w n clean es (Some opened) expelled over session connection a b c = absurd (cc)
+entries_by w n clean es None expelled over None connection a b c = absurd (cc)
+entries_by w n clean es None true over (Some old) connection a b c = absurd (cc)
+entries_by w n clean es None false true (Some old) connection a b c = absurd (cc)
+entries_by w n clean es None false false (Some true) connection a b c = refl
+entries_by w n clean es None false false (Some false) connection a b c = refl
 
 pub entries_next : (limits : Limits) (place : Place) (past : Past) (c : Client) (clean : Bool) → accepts place.command place.mark c ≡ None → ends_any place c (current_connection past c) ≡ false → session_of past c ≡ Some clean →
     entries_of limits (place ∷ past) c
@@ -119,17 +121,17 @@ unfolding entries_of session_of current_connection
 entries_next limits place past c clean a b e =
     entries_by (window_at limits (place ∷ past)) (length past) clean
     (answered_by place.command place.mark (length past) c (entries_of limits past c) ++ map (Entry.Waits (length past)) (queued (copies_at place past c)))
-    (accepts place.command place.mark c) (ends_any place c (current_connection past c)) (session_of past c) (current_connection past c) a b e
+    (accepts place.command place.mark c) (expels place.command c) (any_connection (ends place.command place.mark) (current_connection past c)) (session_of past c) (current_connection past c) a b e
 
-none_by : (es : List Entry) (opened : Option (ConnectionName × Bool)) (over : Bool) (session : Option Bool) → opened ≡ None → session ≡ None →
-    in_session (newest_session opened over session) (is_beginning opened session) [] es ≡ []
-none_by es (Some a) over session e f = absurd (cc)
-none_by es None over (Some clean) e f = absurd (cc)
-none_by es None over None e f = refl
+none_by : (es : List Entry) (opened : Option (ConnectionName × Bool)) (expelled over : Bool) (session : Option Bool) → opened ≡ None → session ≡ None →
+    in_session (newest_session opened expelled over session) (is_beginning opened session) [] es ≡ []
+none_by es (Some a) expelled over session e f = absurd (cc)
+none_by es None expelled over (Some clean) e f = absurd (cc)
+none_by es None expelled over None e f = refl
 
 pub entries_none : (limits : Limits) (place : Place) (past : Past) (c : Client) → accepts place.command place.mark c ≡ None → session_of past c ≡ None → entries_of limits (place ∷ past) c ≡ []
 unfolding entries_of session_of current_connection
 entries_none limits place past c a e =
     none_by (started (window_at limits (place ∷ past)) (length past) (newest_connection (accepts place.command place.mark c) (ends_any place c (current_connection past c)) (current_connection past c))
     (answered_by place.command place.mark (length past) c (entries_of limits past c) ++ map (Entry.Waits (length past)) (queued (copies_at place past c))))
-    (accepts place.command place.mark c) (ends_any place c (current_connection past c)) (session_of past c) a e
+    (accepts place.command place.mark c) (expels place.command c) (ends_any place c (current_connection past c)) (session_of past c) a e

@@ -151,11 +151,12 @@ sound_only true kept h = h refl
 sound_only false kept h = tt
 
 -- a clean session that is kept keeps its connection
-still_served : (clean over : Bool) (connection : Option ConnectionName) → not (clean && over) ≡ true → (clean ≡ true → is_some connection ≡ true) →
+still_served : (expelled clean over : Bool) (connection : Option ConnectionName) → not (expelled || (clean && over)) ≡ true → (clean ≡ true → is_some connection ≡ true) →
     clean ≡ true → is_some (only_if (not over) connection) ≡ true
-still_served true true connection kept h e = absurd (cc)
-still_served true false connection kept h e = h e
-still_served false over connection kept h e = absurd (cc)
+still_served true clean over connection kept h e = absurd (cc)
+still_served false true true connection kept h e = absurd (cc)
+still_served false true false connection kept h e = h e
+still_served false false over connection kept h e = absurd (cc)
 
 sound_by : (w : ℕ) (place : Place) (content : RetainedTopics) (c : Client) (opened : Option (ConnectionName × Bool)) (old : ClientSession) → IsSoundSession old →
     If IsSoundSession (kept_by w place content c opened (Some old))
@@ -163,7 +164,7 @@ sound_by w place content c (Some opened) old h = sound_connected w opened (Some 
 sound_by w place content c None old h =
     sound_only (not (expels place.command c || (old.clean && ends_any place c old.connection))) (kept_on w place content c (only_if (not (ends_any place c old.connection)) old.connection) old)
     (λ kept. sound_on w place content c (only_if (not (ends_any place c old.connection)) old.connection) old
-    (still_served old.clean (ends_any place c old.connection) old.connection kept h.served) h)
+    (still_served (expels place.command c) old.clean (ends_any place c old.connection) old.connection kept h.served) h)
 
 sound_row : (w : ℕ) (place : Place) (content : RetainedTopics) (c : Client) (kept : ClientSession) → IsSoundSession kept → If IsSoundSession (session_after w place content c kept)
 sound_row w place content c kept h =

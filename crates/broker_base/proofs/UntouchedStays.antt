@@ -1,5 +1,5 @@
 -- What a command is not about stays, of plain values.
-use Rattle.std.proofs.Common.{◌≡◌, ℕ, Bool, true, false, not, ◌&&◌, if◌then◌else◌, Option, Some, None, List, [], ◌∷◌, refl, ap, ap₂, ◌∙◌}
+use Rattle.std.proofs.Common.{◌≡◌, ℕ, Bool, true, false, not, ◌&&◌, ◌||◌, if◌then◌else◌, Option, Some, None, List, [], ◌∷◌, refl, ap, ap₂, ◌∙◌}
 use Rattle.std.proofs.lemmas.Bool.{or_parts}
 use Rattle.session_base.specs.Subscriptions.{HeldFilter, granted_qos}
 use Rattle.packet.specs.declared.packet.Packet.TheVariants as packets
@@ -7,7 +7,7 @@ use Rattle.retained.specs.Retained.{RetainedTopics}
 use Rattle.session_base.specs.Queue.{Queue}
 use Rattle.broker_model.specs.Connection.{ConnectionName}
 use Rattle.broker_model.specs.Place.{Client, same_client, Mark, Place, Past, Limits, only_if}
-use Rattle.broker_model.specs.Past.{accepts, ends, ends_any}
+use Rattle.broker_model.specs.Past.{accepts, any_connection, ends, expels, ends_any}
 use Rattle.session_base.specs.Publication.{publication_of, lower_qos}
 use Rattle.packet.specs.declared.qos.QoS.{QoS}
 use Rattle.std.specs.Prelude.{option_map, is_some}
@@ -64,6 +64,7 @@ no_start (commands.Packet y packet) mark x e = refl
 no_start (commands.Connect y d clean) mark x e = refl
 no_start (commands.Lost y) mark x e = refl
 no_start (commands.Start ballot) mark x e = absurd (cc)
+no_start (commands.Expel d) mark x e = refl
 
 pub same_window : (limits : Limits) (later : ℕ) → IsWindow limits later → (place : Place) (past : Past) → is_start place.command ≡ false → window_at limits (place ∷ past) ≡ window_at limits past
 same_window limits later follows place past e = follows place past ∙ if_no (is_start place.command) later (limits.window past) e
@@ -73,14 +74,19 @@ no_copy w None q = ap (λ ms. record { in_flight = q.in_flight; waiting = ms }) 
 no_copy w (Some x) q = refl
 
 -- what is kept, with these parts
-abbrev pub parts : ClientSession → Bool → List HeldFilter → List ℕ → Queue → Option ClientSession
-parts kept over held ids q =
-    only_if (not (kept.clean && over))
+abbrev pub parts : ClientSession → Bool → Bool → List HeldFilter → List ℕ → Queue → Option ClientSession
+parts kept expelled over held ids q =
+    only_if (not (expelled || (kept.clean && over)))
     (Some (record {
       clean = kept.clean;
       connection = only_if (not over) kept.connection;
       state = record { subscriptions = held; received = ids; queue = q };
     }))
+
+-- an Expel of the client ends whatever connection it has, or none
+not_expelled : (expelled over : Bool) → (expelled || over) ≡ false → expelled ≡ false
+not_expelled true over e = e
+not_expelled false over e = refl
 
 still_there : (clean : Bool) (kept : ClientSession) → only_if (not (clean && false)) (Some kept) ≡ Some kept
 still_there true kept = refl
@@ -90,14 +96,15 @@ pub kept_stays : (w : ℕ) (place : Place) (content : RetainedTopics) (c : Clien
     kept_after w place content c (Some kept) ≡ Some kept
 kept_stays w place content c kept not_ended not_about =
     ap (λ opened. kept_by w place content c opened (Some kept)) (not_opened place.command place.mark c kept.state.subscriptions not_about)
-    ∙ ap (λ over. parts kept over (subscribed place.command place.mark c kept.state.subscriptions) (received_by place.command place.mark c kept.state.received)
+    ∙ ap₂ (λ expelled over. parts kept expelled over (subscribed place.command place.mark c kept.state.subscriptions) (received_by place.command place.mark c kept.state.received)
     (copied_queue w (only_if (not over) kept.connection) (copies_with place.command place.mark content c kept.state.subscriptions)
-    (answered_queue w place.command place.mark c (only_if (not over) kept.connection) kept.state.queue))) not_ended
-    ∙ ap₂ (λ held ids. parts kept false held ids (copied_queue w kept.connection (copies_with place.command place.mark content c kept.state.subscriptions)
+    (answered_queue w place.command place.mark c (only_if (not over) kept.connection) kept.state.queue)))
+    (not_expelled (expels place.command c) (any_connection (ends place.command place.mark) kept.connection) not_ended) not_ended
+    ∙ ap₂ (λ held ids. parts kept false false held ids (copied_queue w kept.connection (copies_with place.command place.mark content c kept.state.subscriptions)
     (answered_queue w place.command place.mark c kept.connection kept.state.queue)))
     (subscribed_same place.command place.mark c kept.state.subscriptions not_about) (received_same place.command place.mark c kept.state.subscriptions kept.state.received not_about)
-    ∙ ap₂ (λ copies q. parts kept false kept.state.subscriptions kept.state.received (copied_queue w kept.connection copies q))
+    ∙ ap₂ (λ copies q. parts kept false false kept.state.subscriptions kept.state.received (copied_queue w kept.connection copies q))
     (no_copies place.command place.mark content c kept.state.subscriptions not_about)
     (answered_same w place.command place.mark c kept.state.subscriptions kept.connection kept.state.queue not_about)
-    ∙ ap (parts kept false kept.state.subscriptions kept.state.received) (no_copy w kept.connection kept.state.queue)
+    ∙ ap (parts kept false false kept.state.subscriptions kept.state.received) (no_copy w kept.connection kept.state.queue)
     ∙ still_there kept.clean kept

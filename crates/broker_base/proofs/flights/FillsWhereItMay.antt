@@ -70,12 +70,12 @@ queues_same w command mark content c connection held fs ms h = copies_same w con
 -- ---- sessions
 
 -- the queue of a session whose connection the place leaves is at rest
-abbrev pub RestsAt : ℕ → Place → Option ClientSession → Type 0
-RestsAt w place (Some old) =
+abbrev pub RestsAt : ℕ → Place → Client → Option ClientSession → Type 0
+RestsAt w place c (Some old) =
     (x : ConnectionName) → only_if (not (ends_any place c old.connection)) old.connection ≡ Some x → IsAtRest w old.state.queue.in_flight old.state.queue.waiting
-RestsAt w place None = Unit {0}
+RestsAt w place c None = Unit {0}
 
-later_same : (w : ℕ) (place : Place) (content : RetainedTopics) (c : Client) (old : Option ClientSession) → RestsAt w place old →
+later_same : (w : ℕ) (place : Place) (content : RetainedTopics) (c : Client) (old : Option ClientSession) → RestsAt w place c old →
     filled_later w place content c old ≡ kept_later w place content c old
 later_same w place content c None h = refl
 later_same w place content c (Some old) h =
@@ -105,7 +105,7 @@ connected_same w content c d x clean (Some old) =
       })) (append_none old.state.queue.waiting)
     ]
 
-after_by : (w : ℕ) (command : Command) (mark : Mark) (content : RetainedTopics) (c : Client) (old : Option ClientSession) → RestsAt w (record { command = command; mark = mark }) old →
+after_by : (w : ℕ) (command : Command) (mark : Mark) (content : RetainedTopics) (c : Client) (old : Option ClientSession) → RestsAt w (record { command = command; mark = mark }) c old →
     filled_after w (record { command = command; mark = mark }) content c old ≡ kept_after w (record { command = command; mark = mark }) content c old
 after_by w (commands.Connect x d clean) Mark.Accepted content c old h =
     elim (same_client d c) as (λ (b : Bool).
@@ -116,6 +116,6 @@ after_by w (commands.Connect x d clean) Mark.Accepted content c old h =
     ]
 after_by w command mark content c old h = later_same w (record { command = command; mark = mark }) content c old h
 
-pub after_same : (w : ℕ) (place : Place) (content : RetainedTopics) (c : Client) (old : Option ClientSession) → RestsAt w place old →
+pub after_same : (w : ℕ) (place : Place) (content : RetainedTopics) (c : Client) (old : Option ClientSession) → RestsAt w place c old →
     filled_after w place content c old ≡ kept_after w place content c old
 after_same w place content c old h = after_by w place.command place.mark content c old h
