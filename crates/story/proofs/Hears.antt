@@ -194,6 +194,7 @@ numbers_more (place ∷ past) κ κ' others more n w h =
     one (commands.Connect x c clean) e = refl
     one (commands.Lost x) e = refl
     one (commands.Start b) e = refl
+    one (commands.Expel d) e = refl
 
 -- ---- the event
 

@@ -29,7 +29,7 @@ and_false true m e = e
 and_false false m e = refl
 
 -- it ends no connection
-ends_none : (x : ConnectionName) (packet : Packet) (mark : Mark) (current : Option ConnectionName) → is_leaving mark ≡ false → ends_any (at_packet x packet mark) current ≡ false
+ends_none : (x : ConnectionName) (packet : Packet) (mark : Mark) (current : Option ConnectionName) → is_leaving mark ≡ false → ends_any (at_packet x packet mark) [] current ≡ false
 ends_none x packet mark None e = refl
 ends_none x packet mark (Some y) e = and_false (same_connection x y) (is_leaving mark) e
 
@@ -38,7 +38,7 @@ pub current_packet : (past : Past) (c : Client) (x : ConnectionName) (packet : P
 unfolding current_connection
 current_packet past c x packet mark e = ap (λ b. only_if (not b) (current_connection past c)) (ends_none x packet mark (current_connection past c) e)
 
-session_by : (session : Option Bool) (over : Bool) → over ≡ false → newest_session None over session ≡ session
+session_by : (session : Option Bool) (over : Bool) → over ≡ false → newest_session None false over session ≡ session
 session_by None over e = refl
 session_by (Some true) over e = rw e refl
 session_by (Some false) over e = refl
@@ -46,7 +46,7 @@ session_by (Some false) over e = refl
 pub session_packet : (past : Past) (c : Client) (x : ConnectionName) (packet : Packet) (mark : Mark) → is_leaving mark ≡ false
     → session_of (at_packet x packet mark ∷ past) c ≡ session_of past c
 unfolding session_of
-session_packet past c x packet mark e = session_by (session_of past c) (ends_any (at_packet x packet mark) (current_connection past c)) (ends_none x packet mark (current_connection past c) e)
+session_packet past c x packet mark e = session_by (session_of past c) (ends_any (at_packet x packet mark) c (current_connection past c)) (ends_none x packet mark (current_connection past c) e)
 
 kept_by : {A : Type 0} (session : Option Bool) (clean : Bool) (fresh kept : A) → session ≡ Some clean → in_session session false fresh kept ≡ kept
 kept_by session clean fresh kept e = rw e refl

@@ -45,6 +45,7 @@ counted_at (suc i) (κ ∷ connections) = κ ∷ counted_at i connections
 
 abbrev pub names_client : Client → Command → Type 0
 names_client c (commands.Connect x d clean) = d ≡ c
+names_client c (commands.Expel d) = d ≡ c
 names_client c _ = ⊥
 
 abbrev pub is_packet_of : Command → ConnectionName → Bool

@@ -47,6 +47,7 @@ carried_publish connections (commands.Packet x _) past k e = cc
 carried_publish connections (commands.Connect x d clean) past k e = cc
 carried_publish connections (commands.Lost x) past k e = cc
 carried_publish connections (commands.Start ballot) past k e = cc
+carried_publish connections (commands.Expel d) past k e = cc
 
 pub says_at : (c : Client) (ps : List Publication) (connections : List Connection) (past : Past) (place : Place) (below : Past) → PlacesSay c ps connections past → StandsAt past place below
     → Says c ps connections place below

@@ -87,6 +87,7 @@ new_is_taken (commands.Packet x _) mark e = absurd (both_ways false refl e)
 new_is_taken (commands.Connect x c clean) mark e = absurd (both_ways false refl e)
 new_is_taken (commands.Lost x) mark e = absurd (both_ways false refl e)
 new_is_taken (commands.Start ballot) mark e = absurd (both_ways false refl e)
+new_is_taken (commands.Expel d) mark e = absurd (both_ways false refl e)
 
 -- a place of these that carries k, and is taken for the client
 abbrev TakenIn : Client → List Connection → ℕ → Past → Type 0

@@ -46,6 +46,7 @@ none_carried connections (commands.Packet x _) past e = refl
 none_carried connections (commands.Connect x d clean) past e = refl
 none_carried connections (commands.Lost x) past e = refl
 none_carried connections (commands.Start ballot) past e = refl
+none_carried connections (commands.Expel d) past e = refl
 
 -- ---- the events
 

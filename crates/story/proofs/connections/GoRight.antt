@@ -75,6 +75,11 @@ all_right limits place past = by place.command
     by (commands.Connect x c clean) = connect_right limits place past x c clean place.mark
     by (commands.Lost x) = tt
     by (commands.Start b) = tt
+    by (commands.Expel d) = closes (current_connection past d)
+      where
+        closes : (o : Option ConnectionName) → Each (GoesRight (commands.Expel d) past) (closed o)
+        closes None = tt
+        closes (Some y) = (tt, tt)
 
 -- ---- what a connection is sent
 
@@ -113,6 +118,7 @@ not_its_connect (commands.Packet x packet) y e = refl
 not_its_connect (commands.Connect x c clean) y e = e
 not_its_connect (commands.Lost x) y e = refl
 not_its_connect (commands.Start b) y e = refl
+not_its_connect (commands.Expel d) y e = refl
 
 -- so at a place
 pub place_no_connack : (limits : Limits) (place : Place) (past : Past) (y : ConnectionName) → is_connect_of place.command y ≡ false → no_connacks (sends_to y (answers_at limits place past))

@@ -1,12 +1,12 @@
 -- Each event keeps what is sent to a connection of the client: a CONNACK first, no other, and no PUBREC or PUBCOMP before a second packet is taken.
-use Rattle.std.proofs.Common.{◌≡◌, ◌≤◌, ℕ, zero, suc, Bool, true, false, if◌then◌else◌, List, [], ◌∷◌, ◌++◌, Some, refl, ap, sym, ◌∙◌, subst}
+use Rattle.std.proofs.Common.{◌≡◌, ◌≤◌, ℕ, zero, suc, Bool, true, false, if◌then◌else◌, List, [], ◌∷◌, ◌++◌, Some, refl, ap, sym, ◌∙◌, subst, Option, None}
 use Rattle.std.specs.Prelude.{slice_get}
 use Rattle.std.proofs.lemmas.List.{append-nil}
 use Rattle.packet.specs.declared.packet.Packet.{Packet}
 use Rattle.packet.specs.declared.packet.Packet.TheVariants as packets
 use Rattle.broker_base.specs.Connection.{ConnectionName, same_connection}
 use Rattle.broker_base.specs.Place.{Place, Past, Limits}
-use Rattle.broker_base.specs.Answers.{answers_by, answers_at}
+use Rattle.broker_base.specs.Answers.{answers_by, answers_at, closed}
 use Rattle.broker_base.specs.Commands.{place_of}
 use Rattle.broker_base.specs.Command.{Command}
 use Rattle.broker_base.specs.Command.TheVariants as commands
@@ -32,6 +32,7 @@ use Rattle.story.proofs.publishing.Last.{each_there, none_named, taken_more}
 use Rattle.story.proofs.publishing.Grown.{handled_grows}
 use Rattle.story.proofs.connections.GoRight.{not_its_connect, place_no_connack, place_nothing}
 use Rattle.story.proofs.connections.Opens.{FirstOf, connack_more, own_first}
+use Rattle.broker_base.specs.Past.{current_connection}
 
 -- ---- a place of another connection
 
@@ -44,6 +45,11 @@ place_none limits place past y = by place.command
     by (commands.Connect x c clean) e = connect_none y limits place past x c place.mark
     by (commands.Lost x) e = refl
     by (commands.Start b) e = refl
+    by (commands.Expel d) e = closes (current_connection past d)
+      where
+        closes : (o : Option ConnectionName) → NoneSent y (closed o)
+        closes None = refl
+        closes (Some x) = refl
 
 -- what a connection keeps
 abbrev pub KeptFirst : Limits → Past → Connection → Type 0

@@ -1,5 +1,5 @@
 -- What a connection is sent at one more place: a CONNACK stands there at a Connect of its own alone.
-use Rattle.std.proofs.Common.{◌≡◌, ℕ, zero, suc, Bool, true, false, not, if◌then◌else◌, List, [], ◌∷◌, length, Some, refl, sym, ◌∙◌, subst}
+use Rattle.std.proofs.Common.{◌≡◌, ℕ, zero, suc, Bool, true, false, not, if◌then◌else◌, List, [], ◌∷◌, length, Some, refl, sym, ◌∙◌, subst, Option, None}
 use Rattle.std.specs.Prelude.{slice_get}
 use Rattle.packet.specs.RefusalCode.TheVariants as refusals
 use Rattle.packet.specs.declared.connack.Connack.TheVariants as connacks
@@ -91,6 +91,11 @@ pub other_sends : (P : Place → Packet → Type 0) → IsAsked P → (limits : 
 other_sends P asked limits past (commands.Packet x packet) y other = packet_sends P asked limits past y x packet
 other_sends P asked limits past (commands.Lost x) y other = tt
 other_sends P asked limits past (commands.Start b) y other = tt
+other_sends P asked limits past (commands.Expel d) y other = closes (current_connection past d)
+  where
+    closes : (o : Option ConnectionName) → Each (P (place_of limits past (commands.Expel d))) (sends_to y (closed o))
+    closes None = tt
+    closes (Some x) = tt
 other_sends P asked limits past (commands.Connect x d clean) y other =
     let place = place_of limits past (commands.Connect x d clean) in
     subst (Each (P place)) (sym (connect_elsewhere limits past y x d clean (mark_of limits past (commands.Connect x d clean)) (same_turned y x ∙ other))) tt

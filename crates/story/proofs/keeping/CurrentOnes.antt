@@ -64,6 +64,7 @@ pub none_opened : (c : Client) (command : Command) (mark : Mark) → (names_clie
 none_opened c (commands.Packet x packet) mark other = refl
 none_opened c (commands.Lost x) mark other = refl
 none_opened c (commands.Start b) mark other = refl
+none_opened c (commands.Expel d) mark other = refl
 none_opened c (commands.Connect x d clean) mark other = not_accepted x d c clean mark (by (cases_Bool (same_client d c)))
   where
     by : (same_client d c ≡ true) ⊎ (same_client d c ≡ false) → same_client d c ≡ false

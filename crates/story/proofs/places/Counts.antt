@@ -54,7 +54,7 @@ pub current_counted : (past : Past) (c : Client) (x : ConnectionName) → curren
 unfolding current_connection
 current_counted [] c x e = cc
 current_counted (place ∷ past) c x e =
-    by (opened_or_old place.command place.mark c (ends_any place (current_connection past c)) (current_connection past c) x e) (current_counted past c x)
+    by (opened_or_old place.command place.mark c (ends_any place c (current_connection past c)) (current_connection past c) x e) (current_counted past c x)
   where
     by : (is_packet_of place.command x ≡ true) ⊎ (current_connection past c ≡ Some x) → (current_connection past c ≡ Some x → 1 ≤ count_of x past) → 1 ≤ count_of x (place ∷ past)
     by (inl here) ih = let more = counted_here x place past here in omega (arith, more)

@@ -5,7 +5,7 @@ use Rattle.packet.specs.declared.packet.Packet.{Packet}
 use Rattle.packet.specs.declared.packet.Packet.TheVariants as packets
 use Rattle.broker_base.specs.Connection.{ConnectionName, same_connection}
 use Rattle.broker_base.specs.Place.{Client, Mark, Place, Past, Limits, only_if}
-use Rattle.broker_base.specs.Past.{accepts, any_connection, ends_any, is_leaving, current_connection, session_of}
+use Rattle.broker_base.specs.Past.{accepts, any_connection, expels, ends_any, is_leaving, current_connection, session_of}
 use Rattle.broker_base.specs.Received.{receives, received_by, received_of}
 use Rattle.session_base.specs.Identifiers.{without_id}
 use Rattle.broker_base.specs.Marks.{packet_mark, packet_mark_of}
@@ -36,15 +36,15 @@ IsOver place past c = Behind place past c None (session_of past c) (received_of 
 -- ---- any command
 
 -- one that opens nothing for the client, and receives nothing
-pub as_before : (place : Place) (past : Past) (c : Client) → accepts place.command place.mark c ≡ None → IsKeptSession (session_of past c)
-    → received_by place.command place.mark c (received_of past c) ≡ received_of past c → ends_any place (current_connection past c) ≡ false → IsAsBefore place past c
-as_before place past c opens kept same on =
-    record { connection_is = current_stays place past c opens on; session_is = session_stays place past c opens kept; received_is = received_stays place past c opens kept same }
+pub as_before : (place : Place) (past : Past) (c : Client) → accepts place.command place.mark c ≡ None → expels place.command c ≡ false → IsKeptSession (session_of past c)
+    → received_by place.command place.mark c (received_of past c) ≡ received_of past c → ends_any place c (current_connection past c) ≡ false → IsAsBefore place past c
+as_before place past c opens spared kept same on =
+    record { connection_is = current_stays place past c opens on; session_is = session_stays place past c opens spared kept; received_is = received_stays place past c opens spared kept same }
 
-pub is_over : (place : Place) (past : Past) (c : Client) → accepts place.command place.mark c ≡ None → IsKeptSession (session_of past c)
-    → received_by place.command place.mark c (received_of past c) ≡ received_of past c → ends_any place (current_connection past c) ≡ true → IsOver place past c
-is_over place past c opens kept same over =
-    record { connection_is = current_ends place past c opens over; session_is = session_stays place past c opens kept; received_is = received_stays place past c opens kept same }
+pub is_over : (place : Place) (past : Past) (c : Client) → accepts place.command place.mark c ≡ None → expels place.command c ≡ false → IsKeptSession (session_of past c)
+    → received_by place.command place.mark c (received_of past c) ≡ received_of past c → ends_any place c (current_connection past c) ≡ true → IsOver place past c
+is_over place past c opens spared kept same over =
+    record { connection_is = current_ends place past c opens over; session_is = session_stays place past c opens spared kept; received_is = received_stays place past c opens spared kept same }
 
 -- ---- the client's own Connect
 
@@ -77,7 +77,7 @@ nobodys_mark limits past c connections x packet nobody named not =
 
 -- whether it ends the connection
 pub own_ends : (past : Past) (c : Client) (x : ConnectionName) (packet : Packet) (mark : Mark) → current_connection past c ≡ Some x
-    → ends_any (at_packet x packet mark) (current_connection past c) ≡ is_leaving mark
+    → ends_any (at_packet x packet mark) c (current_connection past c) ≡ is_leaving mark
 own_ends past c x packet mark current =
     ap (any_connection (λ y. same_connection x y && is_leaving mark)) current ∙ ap (λ b. b && is_leaving mark) (same_itself x)
 
@@ -88,8 +88,8 @@ behind_packet past c x packet mark current live staying =
     let place = at_packet x packet mark in
     record {
       connection_is = current_stays place past c refl (own_ends past c x packet mark current ∙ staying) ∙ current;
-      session_is = session_stays place past c refl (inr live) ∙ live;
-      received_is = received_live place past c refl live;
+      session_is = session_stays place past c refl refl (inr live) ∙ live;
+      received_is = received_live place past c refl refl live;
     }
 
 -- a new publication at QoS 2
@@ -118,7 +118,7 @@ behind_pubrel past c x id current live =
 
 pub behind_lost : (past : Past) (c : Client) (x : ConnectionName) → IsKeptSession (session_of past c) → any_connection (same_connection x) (current_connection past c) ≡ true
     → IsOver (record { command = commands.Lost x; mark = Mark.NoPart }) past c
-behind_lost past c x kept over = is_over (record { command = commands.Lost x; mark = Mark.NoPart }) past c refl kept refl over
+behind_lost past c x kept over = is_over (record { command = commands.Lost x; mark = Mark.NoPart }) past c refl refl kept refl over
 
 pub behind_start : (past : Past) (c : Client) (ballot : ℕ) → IsKeptSession (session_of past c) → IsOver (record { command = commands.Start ballot; mark = Mark.NoPart }) past c
 behind_start past c ballot kept = by (current_connection past c) refl
@@ -127,10 +127,10 @@ behind_start past c ballot kept = by (current_connection past c) refl
     place = record { command = commands.Start ballot; mark = Mark.NoPart }
 
     by : (o : Option ConnectionName) → current_connection past c ≡ o → IsOver (record { command = commands.Start ballot; mark = Mark.NoPart }) past c
-    by (Some y) e = is_over place past c refl kept refl (ap (ends_any place) e)
+    by (Some y) e = is_over place past c refl refl kept refl (ap (ends_any place c) e)
     by None e =
         record {
-          connection_is = current_stays place past c refl (ap (ends_any place) e) ∙ e;
-          session_is = session_stays place past c refl kept;
-          received_is = received_stays place past c refl kept refl;
+          connection_is = current_stays place past c refl (ap (ends_any place c) e) ∙ e;
+          session_is = session_stays place past c refl refl kept;
+          received_is = received_stays place past c refl refl kept refl;
         }

@@ -91,7 +91,7 @@ takes_nobodys limits past keeper connections i κ packet shape stands not =
     let current : current_connection (place ∷ past) c ≡ current_connection past c = current_stays place past c refl (never_ended κ.name packet (current_connection past c)) in
     let goes =
     goes_counted limits place past keeper connections i κ shape stands (new_nobodys κ.name packet)
-    (sym (received_stays place past c refl shape.session (received_nobodys κ.name packet c (received_of past c)))) (λ μ e. answers_nobodys μ.name limits past κ.name packet)
+    (sym (received_stays place past c refl refl shape.session (received_nobodys κ.name packet c (received_of past c)))) (λ μ e. answers_nobodys μ.name limits past κ.name packet)
     (choice (current_connection (place ∷ past) c) current) in
     subst (λ (m : Mark). GoesTo h (as_publisher limits (story_by (at_packet κ.name packet m ∷ past) (counted_at i connections) keeper)))
     (sym (ap (packet_mark_of limits past packet) (none_owns past c connections κ.name shape.nobody_else (is_named i connections κ stands) not))) goes

@@ -56,7 +56,7 @@ nobodys_sends limits past y x (packets.Subscribe p) c = sym (ap (λ l. forward_o
 nobodys_sends limits past y x packet c = sym (ap (λ l. forward_of (sends_to x l)) (none_handed limits (at_packet y packet Mark.NoPart) past c refl))
 
 -- it ends no other connection
-pub ends_not : (y : ConnectionName) (packet : Packet) (mark : Mark) (current : Option ConnectionName) → ((x : ConnectionName) → current ≡ Some x → same_connection y x ≡ false) → ends_any (at_packet y packet mark) current ≡ false
+pub ends_not : (y : ConnectionName) (packet : Packet) (mark : Mark) (current : Option ConnectionName) → ((x : ConnectionName) → current ≡ Some x → same_connection y x ≡ false) → ends_any (at_packet y packet mark) [] current ≡ false
 ends_not y packet mark None h = refl
 ends_not y packet mark (Some x) h = ap (λ b. b && is_leaving mark) (h x refl)
 

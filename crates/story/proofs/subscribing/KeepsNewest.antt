@@ -39,6 +39,7 @@ not_opened : (limits : Limits) (past : Past) (c : Client) (command : Command) �
 not_opened limits past c (commands.Packet x packet) other = refl
 not_opened limits past c (commands.Lost x) other = refl
 not_opened limits past c (commands.Start b) other = refl
+not_opened limits past c (commands.Expel d) other = refl
 not_opened limits past c (commands.Connect x d clean) other = not_accepted x d c clean (mark_of limits past (commands.Connect x d clean)) (by (cases_Bool (same_client d c)))
   where
     by : (same_client d c ≡ true) ⊎ (same_client d c ≡ false) → same_client d c ≡ false

@@ -18,9 +18,9 @@ use Rattle.story.proofs.subscribing.places.Quiet.{current_same, current_over}
 -- a place that opens no connection of the client leaves it the current one, or none
 pub stays_or_none : (place : Place) (past : Past) (c : Client) → accepts place.command place.mark c ≡ None
     → (current_connection (place ∷ past) c ≡ current_connection past c) ⊎ (current_connection (place ∷ past) c ≡ None)
-stays_or_none place past c e = by (cases_Bool (ends_any place (current_connection past c)))
+stays_or_none place past c e = by (cases_Bool (ends_any place c (current_connection past c)))
   where
-    by : (ends_any place (current_connection past c) ≡ true) ⊎ (ends_any place (current_connection past c) ≡ false)
+    by : (ends_any place c (current_connection past c) ≡ true) ⊎ (ends_any place c (current_connection past c) ≡ false)
         → (current_connection (place ∷ past) c ≡ current_connection past c) ⊎ (current_connection (place ∷ past) c ≡ None)
     by (inl f) = inr (current_over place past c e f)
     by (inr f) = inl (current_same place past c e f)

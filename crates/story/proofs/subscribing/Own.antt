@@ -61,7 +61,7 @@ own_plain limits s i κ w place o p none =
     (sym (own_left limits s i κ w o ∙ none (left_behind current (counted_at i s.connections))))
 
 -- a packet that ends no connection
-pub stays_on : (y : ConnectionName) (packet : Packet) (mark : Mark) (current : Option ConnectionName) → is_leaving mark ≡ false → ends_any (at_packet y packet mark) current ≡ false
+pub stays_on : (y : ConnectionName) (packet : Packet) (mark : Mark) (current : Option ConnectionName) → is_leaving mark ≡ false → ends_any (at_packet y packet mark) [] current ≡ false
 stays_on y packet mark None e = refl
 stays_on y packet mark (Some x) e = by (same_connection y x) (is_leaving mark) e
   where
@@ -91,8 +91,8 @@ pub own_parts : (limits : Limits) (s : Story) (i : ℕ) (κ : Connection) (w : W
     → GoesTo (as_subscriber limits s) (as_subscriber limits (placed s (at_packet κ.name packet mark) (counted_at i s.connections)))
 own_parts limits s i κ w packet mark o leaving answers copies sends =
     let place = at_packet κ.name packet mark in
-    let over = current_over place s.past s.keeper.client refl (ap (ends_any place) o.current ∙ ap₂ (λ a b. a && b) (same_name_self κ.name) leaving) in
-    place_parts limits s place (counted_at i s.connections) o.shape over (entries_over limits place s.past s.keeper.client o.shape.session refl over answers copies) sends
+    let over = current_over place s.past s.keeper.client refl (ap (ends_any place s.keeper.client) o.current ∙ ap₂ (λ a b. a && b) (same_name_self κ.name) leaving) in
+    place_parts limits s place (counted_at i s.connections) o.shape over (entries_over limits place s.past s.keeper.client o.shape.session refl refl over answers copies) sends
     (view_counted limits (place ∷ s.past) None s.keeper s.connections i o.n κ o.at o.taken) (accepted_counted i s.connections)
 
 -- a PUBLISH, by what becomes of it

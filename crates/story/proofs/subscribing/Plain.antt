@@ -30,7 +30,7 @@ use Rattle.story.proofs.subscribing.Delivered.{deliveries_sent}
 -- it opens and ends no connection of the client, answers none of its entries, and sends it the copies that it makes
 pub record IsPlain (limits : Limits) (s : Story) (place : Place) : Type 0 where
   pub opens : accepts place.command place.mark s.keeper.client ≡ None
-  pub goes : ends_any place (current_connection s.past s.keeper.client) ≡ false
+  pub goes : ends_any place s.keeper.client (current_connection s.past s.keeper.client) ≡ false
   pub answers : answered_by place.command place.mark (length s.past) s.keeper.client (entries_of limits s.past s.keeper.client) ≡ entries_of limits s.past s.keeper.client
   pub window : window_at limits (place ∷ s.past) ≡ window_at limits s.past
   pub sends : (x : ConnectionName) → any_named (same_connection x) s.connections ≡ true

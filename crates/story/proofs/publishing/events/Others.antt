@@ -7,7 +7,7 @@ use Rattle.packet.specs.declared.packet.Packet.TheVariants as packets
 use Rattle.session_base.specs.Publication.{publication_of}
 use Rattle.broker_base.specs.Connection.{ConnectionName, same_connection}
 use Rattle.broker_base.specs.Place.{Client, Mark, Place, Past, Limits, same_client, only_if}
-use Rattle.broker_base.specs.Past.{accepts, ends_any, current_connection}
+use Rattle.broker_base.specs.Past.{accepts, ends_any, current_connection, expels}
 use Rattle.broker_base.specs.Owner.{owner_of}
 use Rattle.broker_base.specs.Received.{is_new, is_repeat, receives, received_by, received_of}
 use Rattle.session_base.specs.Identifiers.{without_id}
@@ -29,9 +29,10 @@ use Rattle.story.proofs.places.Owned.{owner_is_other}
 use Rattle.story.proofs.publishing.Links.{current_last, forward_last}
 use Rattle.story.proofs.publishing.First.{story_by}
 use Rattle.story.proofs.publishing.Last.{each_last, none_named}
-use Rattle.story.proofs.publishing.Elsewhere.{connect_none}
+use Rattle.story.proofs.publishing.Elsewhere.{connect_none, NoneSent}
 use Rattle.story.proofs.publishing.PacketAnswers.{packet_none}
 use Rattle.story.proofs.publishing.AtPlaces.{NoneToLast, come_same, StaysOrLeaves, goes_place}
+use Rattle.broker_base.specs.Answers.{closed}
 
 -- ---- it carries none of the client's publications
 
@@ -47,6 +48,7 @@ carries_none connections (commands.Packet x packet) past e = refl
 carries_none connections (commands.Connect x c clean) past e = refl
 carries_none connections (commands.Lost x) past e = refl
 carries_none connections (commands.Start b) past e = refl
+carries_none connections (commands.Expel d) past e = refl
 
 number_none : (connections : List Connection) (place : Place) (past : Past) → carries connections place.command past ≡ None → new_numbers connections past ≡ new_numbers connections (place ∷ past)
 number_none connections place past e = sym (ap (λ number. new_numbers connections past ++ more_by (is_new place.command place.mark) number) e ∙ by (is_new place.command place.mark))
@@ -62,15 +64,15 @@ none_current None = refl
 none_current (Some κ) = refl
 
 goes_other : (limits : Limits) (place : Place) (past : Past) (keeper : Keeper) (connections : List Connection) → HasShape limits (story_by past connections keeper)
-    → accepts place.command place.mark keeper.client ≡ None → received_by place.command place.mark keeper.client (received_of past keeper.client) ≡ received_of past keeper.client
+    → accepts place.command place.mark keeper.client ≡ None → expels place.command keeper.client ≡ false → received_by place.command place.mark keeper.client (received_of past keeper.client) ≡ received_of past keeper.client
     → any_named (is_packet_of place.command) connections ≡ false → NoneToLast limits place past connections
     → GoesTo (as_publisher limits (story_by past connections keeper)) (as_publisher limits (story_by (place ∷ past) connections keeper))
-goes_other limits place past keeper connections shape opens same none quiet =
+goes_other limits place past keeper connections shape opens spared same none quiet =
     goes_place limits place past keeper connections connections (number_none connections place past (carries_none connections place.command past none))
-    (sym (received_stays place past keeper.client opens shape.session same)) (come_same limits place past keeper connections shape.connections quiet)
-    (by (cases_Bool (ends_any place (current_connection past keeper.client))))
+    (sym (received_stays place past keeper.client opens spared shape.session same)) (come_same limits place past keeper connections shape.connections quiet)
+    (by (cases_Bool (ends_any place keeper.client (current_connection past keeper.client))))
   where
-    by : (ends_any place (current_connection past keeper.client) ≡ true) ⊎ (ends_any place (current_connection past keeper.client) ≡ false)
+    by : (ends_any place keeper.client (current_connection past keeper.client) ≡ true) ⊎ (ends_any place keeper.client (current_connection past keeper.client) ≡ false)
         → StaysOrLeaves (current_last (current_connection past keeper.client) (last_confirmed connections)) (current_last (current_connection (place ∷ past) keeper.client) (last_confirmed connections))
         (forward_last (last_confirmed connections)) (forward_last (last_confirmed connections))
     by (inl over) = inl (ap (λ o. current_last o (last_confirmed connections)) (current_ends place past keeper.client opens over) ∙ none_current (last_confirmed connections))
@@ -116,7 +118,7 @@ pub others_take_it : (limits : Limits) (past : Past) (keeper : Keeper) (connecti
     → (names_client keeper.client command → ⊥) → any_named (is_packet_of command) connections ≡ false
     → GoesTo (as_publisher limits (story_by past connections keeper)) (as_publisher limits (story_by (place_of limits past command ∷ past) connections keeper))
 others_take_it limits past keeper connections (commands.Packet x packet) shape other none =
-    goes_other limits (place_of limits past (commands.Packet x packet)) past keeper connections shape refl (by (owner_of past x) refl) none
+    goes_other limits (place_of limits past (commands.Packet x packet)) past keeper connections shape refl refl (by (owner_of past x) refl) none
     (λ κ e. packet_none κ.name limits (place_of limits past (commands.Packet x packet)) past x packet (packet_mark_of limits past packet (owner_of past x))
     (λ h. same_turned κ.name x ∙ each_last (λ (μ : Connection). same_connection x μ.name ≡ false) connections κ (none_named (same_connection x) connections none) e))
   where
@@ -128,9 +130,15 @@ others_take_it limits past keeper connections (commands.Packet x packet) shape o
         (owner_is_other past keeper.client d connections x (mine (current_connection past keeper.client) connections shape.last_is_current) none e)
 others_take_it limits past keeper connections (commands.Connect x d clean) shape other none =
     let place = place_of limits past (commands.Connect x d clean) in
-    goes_other limits place past keeper connections shape (opens_other x keeper.client d clean place.mark (not_same keeper.client d other)) refl none
+    goes_other limits place past keeper connections shape (opens_other x keeper.client d clean place.mark (not_same keeper.client d other)) refl refl none
     (λ κ e. connect_none κ.name limits place past x d place.mark)
 others_take_it limits past keeper connections (commands.Lost x) shape other none =
-    goes_other limits (place_of limits past (commands.Lost x)) past keeper connections shape refl refl none (λ κ e. refl)
+    goes_other limits (place_of limits past (commands.Lost x)) past keeper connections shape refl refl refl none (λ κ e. refl)
 others_take_it limits past keeper connections (commands.Start b) shape other none =
-    goes_other limits (place_of limits past (commands.Start b)) past keeper connections shape refl refl none (λ κ e. refl)
+    goes_other limits (place_of limits past (commands.Start b)) past keeper connections shape refl refl refl none (λ κ e. refl)
+others_take_it limits past keeper connections (commands.Expel d) shape other none =
+    goes_other limits (place_of limits past (commands.Expel d)) past keeper connections shape refl (not_same keeper.client d other) refl none (λ κ e. closes κ.name (current_connection past d))
+  where
+    closes : (y : ConnectionName) (o : Option ConnectionName) → NoneSent y (closed o)
+    closes y None = refl
+    closes y (Some x) = refl

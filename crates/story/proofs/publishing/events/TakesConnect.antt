@@ -110,7 +110,7 @@ takes_opening limits past keeper connections i κ shape stands none =
     full : GoesTo h (after Mark.Full)
     full =
         let place = at_connect κ.name keeper.client Mark.Full in
-        goes_counted limits place past keeper connections i κ shape stands refl (sym (received_stays place past keeper.client refl shape.session refl))
+        goes_counted limits place past keeper connections i κ shape stands refl (sym (received_stays place past keeper.client refl refl shape.session refl))
         (λ μ e. connect_none μ.name limits place past κ.name keeper.client Mark.Full)
         (choice (current_connection (place ∷ past) keeper.client) (current_stays place past keeper.client refl (not_its_end κ.name (current_connection past keeper.client) not)))
       where

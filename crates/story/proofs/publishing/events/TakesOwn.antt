@@ -58,7 +58,7 @@ pub passes : (limits : Limits) (past : Past) (keeper : Keeper) (connections : Li
     → GoesTo (as_publisher limits (story_by past connections keeper)) (behind_place limits past keeper connections i (at_packet κ.name w.packet mark))
 passes limits past keeper connections i κ w mark o staying old received none quiet =
     let place = at_packet κ.name w.packet mark in
-    goes_counted limits place past keeper connections i κ o.whole o.stands old (sym (received_live place past keeper.client refl o.live ∙ received))
+    goes_counted limits place past keeper connections i κ o.whole o.stands old (sym (received_live place past keeper.client refl refl o.live ∙ received))
     (λ μ e.
     let found : Some κ ≡ Some μ = sym o.last ∙ e in
     let same : κ ≡ μ = cc in
@@ -78,7 +78,7 @@ pub ends_current : (limits : Limits) (past : Past) (keeper : Keeper) (connection
 ends_current limits past keeper connections i κ w mark o leaving old received none =
     let place = at_packet κ.name w.packet mark in
     let over = ap (any_connection (λ y. same_connection κ.name y && is_leaving mark)) o.current ∙ ap₂ (λ a b. a && b) (same_itself κ.name) leaving in
-    goes_counted limits place past keeper connections i κ o.whole o.stands old (sym (received_live place past keeper.client refl o.live ∙ received))
+    goes_counted limits place past keeper connections i κ o.whole o.stands old (sym (received_live place past keeper.client refl refl o.live ∙ received))
     (λ μ e.
     let found : Some κ ≡ Some μ = sym o.last ∙ e in
     let same : κ ≡ μ = cc in
@@ -140,7 +140,7 @@ takes_one limits past keeper connections i κ w mark m o staying forward answers
       like = record {
         items = items_taken m h l;
         accepted = accepted l;
-        received = λ id. received l id ∙ ap (has_id id) (sym (received_live place past keeper.client refl o.live));
+        received = λ id. received l id ∙ ap (has_id id) (sym (received_live place past keeper.client refl refl o.live));
         link = link_taken m h l ∙ sym after;
       };
     }

@@ -5,7 +5,7 @@ use Rattle.packet.specs.declared.packet.Packet.{Packet}
 use Rattle.packet.specs.declared.packet.Packet.TheVariants as packets
 use Rattle.broker_base.specs.Connection.{ConnectionName, same_connection}
 use Rattle.broker_base.specs.Place.{Client, Mark, Place, Past, Limits, same_client}
-use Rattle.broker_base.specs.Past.{accepts, session_of}
+use Rattle.broker_base.specs.Past.{accepts, session_of, expels}
 use Rattle.broker_base.specs.Marks.{mark_of}
 use Rattle.broker_base.specs.Commands.{place_of}
 use Rattle.broker_base.specs.Command.{Command}
@@ -23,6 +23,7 @@ use Rattle.story.proofs.places.Counts.{only_there}
 use Rattle.story.proofs.places.After.{IsKeptSession, session_stays, session_opens}
 use Rattle.story.proofs.publishing.Grown.{handled_grows}
 use Rattle.story.proofs.publishing.Last.{each_there}
+use Rattle.story.proofs.places.Spared.{taken_spares, other_spares}
 
 -- ---- names
 
@@ -63,12 +64,12 @@ events_keep_names limits s t a (unsubscribes p on id) = written_apart (plain (pa
 abbrev pub OpensKept : Client → Place → Type 0
 OpensKept c place = (opened : ConnectionName × Bool) → accepts place.command place.mark c ≡ Some opened → opened.1 ≡ false
 
-session_kept : (place : Place) (past : Past) (c : Client) → OpensKept c place → IsKeptSession (session_of past c) → IsKeptSession (session_of (place ∷ past) c)
-session_kept place past c kept s = by (accepts place.command place.mark c) refl
+session_kept : (place : Place) (past : Past) (c : Client) → OpensKept c place → expels place.command c ≡ false → IsKeptSession (session_of past c) → IsKeptSession (session_of (place ∷ past) c)
+session_kept place past c kept spared s = by (accepts place.command place.mark c) refl
   where
     by : (o : Option (ConnectionName × Bool)) → accepts place.command place.mark c ≡ o → IsKeptSession (session_of (place ∷ past) c)
     by (Some opened) e = inr (session_opens place past c opened e ∙ ap (λ b. Some b) (kept opened e))
-    by None e = subst IsKeptSession (sym (session_stays place past c e s)) s
+    by None e = subst IsKeptSession (sym (session_stays place past c e spared s)) s
 
 kept_connect : (x : ConnectionName) (c d : Client) (mark : Mark) → OpensKept c (record { command = commands.Connect x d false; mark = mark })
 kept_connect x c d Mark.Accepted opened e =
@@ -95,14 +96,16 @@ kept_other c (commands.Connect x d clean) _ other opened e = cc
 kept_other c (commands.Packet x packet) mark other opened e = cc
 kept_other c (commands.Lost x) mark other opened e = cc
 kept_other c (commands.Start b) mark other opened e = cc
+kept_other c (commands.Expel d) mark other opened e = cc
 
 pub events_keep_session : (limits : Limits) (s t : Story) → IsSoundStory limits s → Happens limits s t → IsKeptSession (session_of t.past s.keeper.client)
 events_keep_session limits s t sound (takes i κ w stands next) =
     let this = each_there (ConnectionInShape limits s.past s.keeper.client) i s.connections κ stands sound.shape.connections in
     let command = command_of κ.name κ.taken w.packet in
-    session_kept (place_of limits s.past command) s.past s.keeper.client (kept_taken limits s.past s.keeper.client κ w κ.taken (mark_of limits s.past command) this next) sound.shape.session
+    session_kept (place_of limits s.past command) s.past s.keeper.client (kept_taken limits s.past s.keeper.client κ w κ.taken (mark_of limits s.past command) this next)
+    (taken_spares κ.name κ.taken w.packet s.keeper.client) sound.shape.session
 events_keep_session limits s t sound (others_take command other none) =
-    session_kept (place_of limits s.past command) s.past s.keeper.client (kept_other s.keeper.client command (mark_of limits s.past command) other) sound.shape.session
+    session_kept (place_of limits s.past command) s.past s.keeper.client (kept_other s.keeper.client command (mark_of limits s.past command) other) (other_spares s.keeper.client command other) sound.shape.session
 events_keep_session limits s t sound (receives κ others packet are opened next) = sound.shape.session
 events_keep_session limits s t sound (opens_anew x fresh none uncounted) = sound.shape.session
 events_keep_session limits s t sound loses = sound.shape.session

@@ -38,12 +38,12 @@ nobody_placed : (place : Place) (past : Past) (c : Client) (connections : List C
 unfolding current_connection
 nobody_placed place past c connections own nobody d x current named = by (accepts place.command place.mark d) refl current
   where
-    by : (o : Option (ConnectionName × Bool)) → accepts place.command place.mark d ≡ o → newest_connection o (ends_any place (current_connection past d)) (current_connection past d) ≡ Some x
+    by : (o : Option (ConnectionName × Bool)) → accepts place.command place.mark d ≡ o → newest_connection o (ends_any place d (current_connection past d)) (current_connection past d) ≡ Some x
         → same_client d c ≡ true
     by (Some opened) e f =
         let same : x ≡ opened.0 = cc in
         own d opened e (subst (λ (y : ConnectionName). any_named (same_connection y) connections ≡ true) same named)
-    by None e f = nobody d x (only_there (not (ends_any place (current_connection past d))) (current_connection past d) x f).1 named
+    by None e f = nobody d x (only_there (not (ends_any place d (current_connection past d))) (current_connection past d) x f).1 named
 
 -- a Connect of the client
 own_connect : (x : ConnectionName) (c : Client) (connections : List Connection) (clean : Bool) (mark : Mark) → OpensOwn c connections (record { command = commands.Connect x c clean; mark = mark })
@@ -76,6 +76,7 @@ other_opens c connections (commands.Connect x k clean) _ none d opened e named =
 other_opens c connections (commands.Packet x packet) mark none d opened e named = cc
 other_opens c connections (commands.Lost x) mark none d opened e named = cc
 other_opens c connections (commands.Start b) mark none d opened e named = cc
+other_opens c connections (commands.Expel k) mark none d opened e named = cc
 
 -- ---- connections
 

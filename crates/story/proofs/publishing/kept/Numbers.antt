@@ -31,6 +31,7 @@ same_carries connections later place past same = one place.command refl
     one (commands.Connect x c clean) e = refl
     one (commands.Lost x) e = refl
     one (commands.Start b) e = refl
+    one (commands.Expel d) e = refl
 
 pub same_numbers : (connections later : List Connection) (past : Past) → SameNumbers connections later past → new_numbers later past ≡ new_numbers connections past
 same_numbers connections later [] same = refl

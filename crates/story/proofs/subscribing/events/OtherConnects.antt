@@ -75,7 +75,7 @@ connect_elsewhere limits past x y d clean _ e = refl
 
 -- it ends no other connection
 pub connect_ends : (y : ConnectionName) (d : Client) (clean : Bool) (mark : Mark) (current : Option ConnectionName) → ((x : ConnectionName) → current ≡ Some x → same_connection y x ≡ false)
-    → ends_any (at_connect y d clean mark) current ≡ false
+    → ends_any (at_connect y d clean mark) [] current ≡ false
 connect_ends y d clean mark None h = refl
 connect_ends y d clean mark (Some x) h = h x refl
 

@@ -1,5 +1,5 @@
 -- Another command comes next in the list.
-use Rattle.std.proofs.Common.{◌≡◌, ℕ, true, false, ◌∷◌, Option, Some, None, refl, ap, sym, ◌∙◌, ◌⊎◌, inl, inr}
+use Rattle.std.proofs.Common.{◌≡◌, ℕ, true, false, ◌||◌, [], ◌∷◌, Option, Some, None, refl, ap, sym, ◌∙◌, ◌⊎◌, inl, inr}
 use Rattle.std.proofs.lemmas.Bool.{cases_Bool}
 use Rattle.broker_base.specs.Connection.{ConnectionName}
 use Rattle.broker_base.specs.Place.{Client, Mark, Place, Past, Limits}
@@ -22,6 +22,8 @@ use Rattle.story.proofs.subscribing.events.OtherConnects.{other_connect}
 use Rattle.story.proofs.subscribing.places.Over.{entries_over}
 use Rattle.story.proofs.subscribing.places.Publishes.{none_handed}
 use Rattle.story.proofs.subscribing.places.Quiet.{current_same, current_over}
+use Rattle.story.proofs.places.Spared.{not_this}
+use Rattle.broker_base.specs.Answers.{closed}
 
 -- a connection's loss
 abbrev pub at_lost : ConnectionName → Place
@@ -37,13 +39,13 @@ stays_plain limits s place shape p = plain_goes limits s place s.connections sha
 
 -- a connection is lost
 goes_loss : (limits : Limits) (s : Story) → HasShape limits s → IsSteady limits → (y : ConnectionName) → GoesTo (as_subscriber limits s) (as_subscriber limits (placed s (at_lost y) s.connections))
-goes_loss limits s shape steady y = by (cases_Bool (ends_any (at_lost y) (current_connection s.past s.keeper.client)))
+goes_loss limits s shape steady y = by (cases_Bool (ends_any (at_lost y) s.keeper.client (current_connection s.past s.keeper.client)))
   where
-    by : (ends_any (at_lost y) (current_connection s.past s.keeper.client) ≡ true) ⊎ (ends_any (at_lost y) (current_connection s.past s.keeper.client) ≡ false)
+    by : (ends_any (at_lost y) s.keeper.client (current_connection s.past s.keeper.client) ≡ true) ⊎ (ends_any (at_lost y) s.keeper.client (current_connection s.past s.keeper.client) ≡ false)
         → GoesTo (as_subscriber limits s) (as_subscriber limits (placed s (at_lost y) s.connections))
     by (inl e) =
         let over = current_over (at_lost y) s.past s.keeper.client refl e in
-        place_parts limits s (at_lost y) s.connections shape over (entries_over limits (at_lost y) s.past s.keeper.client shape.session refl over refl refl) (λ x h. refl) refl refl
+        place_parts limits s (at_lost y) s.connections shape over (entries_over limits (at_lost y) s.past s.keeper.client shape.session refl refl over refl refl) (λ x h. refl) refl refl
     by (inr e) =
         stays_plain limits s (at_lost y) shape
         (record {
@@ -59,14 +61,37 @@ start_over : (b : ℕ) (past : Past) (c : Client) → current_connection (at_sta
 start_over b past c = by (current_connection past c) refl
   where
     by : (o : Option ConnectionName) → current_connection past c ≡ o → current_connection (at_start b ∷ past) c ≡ None
-    by None e = current_same (at_start b) past c refl (ap (ends_any (at_start b)) e) ∙ e
-    by (Some x) e = current_over (at_start b) past c refl (ap (ends_any (at_start b)) e)
+    by None e = current_same (at_start b) past c refl (ap (ends_any (at_start b) c) e) ∙ e
+    by (Some x) e = current_over (at_start b) past c refl (ap (ends_any (at_start b) c) e)
 
 -- a ballot begins
 goes_start : (limits : Limits) (s : Story) → HasShape limits s → (b : ℕ) → GoesTo (as_subscriber limits s) (as_subscriber limits (placed s (at_start b) s.connections))
 goes_start limits s shape b =
     let over = start_over b s.past s.keeper.client in
-    place_parts limits s (at_start b) s.connections shape over (entries_over limits (at_start b) s.past s.keeper.client shape.session refl over refl refl) (λ x h. refl) refl refl
+    place_parts limits s (at_start b) s.connections shape over (entries_over limits (at_start b) s.past s.keeper.client shape.session refl refl over refl refl) (λ x h. refl) refl refl
+
+-- another client is expelled
+abbrev pub at_expel : Client → Place
+at_expel d = record { command = commands.Expel d; mark = Mark.NoPart }
+
+goes_expel : (limits : Limits) (s : Story) → HasShape limits s → IsSteady limits → (d : Client) → (d ≡ s.keeper.client → ⊥) → GoesTo (as_subscriber limits s) (as_subscriber limits (placed s (at_expel d) s.connections))
+goes_expel limits s shape steady d other =
+    stays_plain limits s (at_expel d) shape
+    (record {
+      opens = refl;
+      goes = ends (current_connection s.past s.keeper.client);
+      answers = refl;
+      window = steady (at_expel d) s.past refl;
+      sends = λ x h. ap forward_of (closes x (current_connection s.past d)) ∙ sym (ap (λ l. forward_of (sends_to x l)) (none_handed limits (at_expel d) s.past s.keeper.client refl));
+    })
+  where
+    ends : (o : Option ConnectionName) → ends_any (at_expel d) s.keeper.client o ≡ false
+    ends None = ap (λ b. b || false) (not_this s.keeper.client d other)
+    ends (Some x) = ap (λ b. b || false) (not_this s.keeper.client d other)
+
+    closes : (x : ConnectionName) (o : Option ConnectionName) → sends_to x (closed o) ≡ []
+    closes x None = refl
+    closes x (Some y) = refl
 
 -- another command
 pub goes_others : (limits : Limits) (s : Story) → HasShape limits s → IsSteady limits → (command : Command) → (names_client s.keeper.client command → ⊥) → any_named (is_packet_of command) s.connections ≡ false
@@ -77,3 +102,4 @@ goes_others limits s shape steady (commands.Connect y d clean) other fresh =
     stays_plain limits s (place_of limits s.past (commands.Connect y d clean)) shape (other_connect limits s shape steady y d clean (mark_of limits s.past (commands.Connect y d clean)) fresh other)
 goes_others limits s shape steady (commands.Lost y) other fresh = goes_loss limits s shape steady y
 goes_others limits s shape steady (commands.Start b) other fresh = goes_start limits s shape b
+goes_others limits s shape steady (commands.Expel d) other fresh = goes_expel limits s shape steady d other

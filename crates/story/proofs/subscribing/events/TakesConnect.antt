@@ -42,7 +42,7 @@ full_sends : (limits : Limits) (past : Past) (y x : ConnectionName) (c : Client)
 full_sends limits past y x c = skips x y (packets.Connack (connacks.Refused refusals.ServerUnavailable)) (Close y ∷ []) (λ f. refl)
 
 -- it ends nothing of a client without a connection
-full_ends : (y : ConnectionName) (c : Client) (current : Option ConnectionName) → current ≡ None → ends_any (at_full y c) current ≡ false
+full_ends : (y : ConnectionName) (c : Client) (current : Option ConnectionName) → current ≡ None → ends_any (at_full y c) [] current ≡ false
 full_ends y c None e = refl
 full_ends y c (Some x) e = absurd (cc)
 

@@ -6,7 +6,7 @@ use Rattle.packet.specs.declared.connack.Connack.TheVariants as connacks
 use Rattle.packet.specs.declared.packet.Packet.TheVariants as packets
 use Rattle.broker_base.specs.Connection.{ConnectionName, same_connection}
 use Rattle.broker_base.specs.Place.{Client, same_client, Mark, Place, Past, Limits, only_if}
-use Rattle.broker_base.specs.Past.{accepts, ends_any, newest_connection, newest_session, is_beginning, current_connection, session_of, begins, in_session}
+use Rattle.broker_base.specs.Past.{accepts, expels, ends_any, newest_connection, newest_session, is_beginning, current_connection, session_of, begins, in_session}
 use Rattle.broker_base.specs.Entries.{Entry}
 use Rattle.broker_base.specs.Readings.{released_below}
 use Rattle.broker_base.specs.Times.{start_all, started, window_at, entries_of}
@@ -39,7 +39,7 @@ opened y c = ap (λ b. only_if b (Some (y, false))) (same_self c)
 -- and the current connection
 pub accepted_current : (past : Past) (y : ConnectionName) (c : Client) → current_connection (at_accepted y c ∷ past) c ≡ Some y
 unfolding current_connection
-accepted_current past y c = ap (λ o. newest_connection o (ends_any (at_accepted y c) (current_connection past c)) (current_connection past c)) (opened y c)
+accepted_current past y c = ap (λ o. newest_connection o (ends_any (at_accepted y c) c (current_connection past c)) (current_connection past c)) (opened y c)
 
 -- the flag of what is opened
 abbrev flag_of : Option (ConnectionName × Bool) → Bool
@@ -52,24 +52,24 @@ name_of x (Some a) = a.0
 name_of x None = x
 
 -- a session that is not clean goes on, or none was there
-in_accepted : (o : Option (ConnectionName × Bool)) (y : ConnectionName) (over : Bool) (session : Option Bool) (w n : ℕ) (current : Option ConnectionName) (es : List Entry)
+in_accepted : (o : Option (ConnectionName × Bool)) (y : ConnectionName) (expelled over : Bool) (session : Option Bool) (w n : ℕ) (current : Option ConnectionName) (es : List Entry)
     → o ≡ Some (y, false) → current ≡ Some y → ((session ≡ None) × (es ≡ [])) ⊎ (session ≡ Some false)
-    → in_session (newest_session o over session) (is_beginning o session) [] (started w n current es) ≡ start_all w n [] es
-in_accepted (Some (z, true)) y over session w n current es e f h = absurd (both_ways true (ap flag_of e) refl)
-in_accepted (Some (z, false)) y over session w n None es e f h = absurd (cc)
-in_accepted (Some (z, false)) y over None w n (Some x) es e f (inl h) = sym (ap (start_all w n []) h.1)
-in_accepted (Some (z, false)) y over None w n (Some x) es e f (inr h) = absurd (cc)
-in_accepted (Some (z, false)) y over (Some true) w n (Some x) es e f (inl h) = absurd (cc)
-in_accepted (Some (z, false)) y over (Some true) w n (Some x) es e f (inr h) = absurd (cc)
-in_accepted (Some (z, false)) y over (Some false) w n (Some x) es e f h = refl
-in_accepted None y over session w n current es e f h = absurd (cc)
+    → in_session (newest_session o expelled over session) (is_beginning o session) [] (started w n current es) ≡ start_all w n [] es
+in_accepted (Some (z, true)) y expelled over session w n current es e f h = absurd (both_ways true (ap flag_of e) refl)
+in_accepted (Some (z, false)) y expelled over session w n None es e f h = absurd (cc)
+in_accepted (Some (z, false)) y expelled over None w n (Some x) es e f (inl h) = sym (ap (start_all w n []) h.1)
+in_accepted (Some (z, false)) y expelled over None w n (Some x) es e f (inr h) = absurd (cc)
+in_accepted (Some (z, false)) y expelled over (Some true) w n (Some x) es e f (inl h) = absurd (cc)
+in_accepted (Some (z, false)) y expelled over (Some true) w n (Some x) es e f (inr h) = absurd (cc)
+in_accepted (Some (z, false)) y expelled over (Some false) w n (Some x) es e f h = refl
+in_accepted None y expelled over session w n current es e f h = absurd (cc)
 
 -- its entries go on, and what may starts
 pub accepted_entries : (limits : Limits) (past : Past) (y : ConnectionName) (c : Client) → (session_of past c ≡ None) ⊎ (session_of past c ≡ Some false)
     → entries_of limits (at_accepted y c ∷ past) c ≡ start_all (window_at limits (at_accepted y c ∷ past)) (length past) [] (entries_of limits past c)
 unfolding entries_of session_of
 accepted_entries limits past y c session =
-    in_accepted (accepts (commands.Connect y c false) Mark.Accepted c) y (ends_any (at_accepted y c) (current_connection past c)) (session_of past c) (window_at limits (at_accepted y c ∷ past)) (length past)
+    in_accepted (accepts (commands.Connect y c false) Mark.Accepted c) y (expels (commands.Connect y c false) c) (ends_any (at_accepted y c) c (current_connection past c)) (session_of past c) (window_at limits (at_accepted y c ∷ past)) (length past)
     (current_connection (at_accepted y c ∷ past) c) (entries_of limits past c ++ []) (opened y c) (accepted_current past y c) (by session)
     ∙ ap (start_all (window_at limits (at_accepted y c ∷ past)) (length past) []) (append-nil (entries_of limits past c))
   where
@@ -124,5 +124,5 @@ pub served_counted : (past : Past) (c : Client) (x : ConnectionName) → current
 unfolding current_connection
 served_counted [] c x e = absurd (cc)
 served_counted (place ∷ past) c x e =
-    served_by (accepts place.command place.mark c) (ends_any place (current_connection past c)) (current_connection past c) x (is_packet_of place.command x) (count_of x past)
+    served_by (accepts place.command place.mark c) (ends_any place c (current_connection past c)) (current_connection past c) x (is_packet_of place.command x) (count_of x past)
     (λ clean f. accepts_counted place.command place.mark c x clean (count_of x past) f) (λ f. served_counted past c x f) e
