@@ -7,11 +7,13 @@ use Rattle.broker_base.specs.Received.{received_of}
 use Rattle.broker_base.specs.Times.{entries_of}
 use Rattle.handshake.specs.Sides.{IsGood}
 use Rattle.story.specs.Story.{Story, Told, no_story}
-use Rattle.story.specs.Story.Told.{begins, goes_on}
+use Rattle.story.specs.Story.Told.{begins, goes_on, begins_at}
 use Rattle.story.specs.Headline.{AcceptedInOrder}
 use Rattle.story.specs.Inside.Projections.{as_publisher, as_subscriber}
 use Rattle.story.specs.Inside.Shape.{HasShape, IsSoundStory, EventKeepsShape, EventPublishes, EventSubscribes}
 use Rattle.story.proofs.Ends.{good_goes, accepted_in_order}
+use Rattle.broker_base.specs.Commands.{past_of}
+use Rattle.story.proofs.Beginnings.{begun_is_sound}
 
 opening_shape : (limits : Limits) (c : Client) → HasShape limits (no_story c)
 unfolding current_connection session_of
@@ -52,6 +54,8 @@ subscriber_opens limits c =
 pub stories_are_sound : EventKeepsShape → EventPublishes → EventSubscribes → (limits : Limits) → IsSteady limits → (c : Client) (s : Story) → Told limits c s → IsSoundStory limits s
 stories_are_sound keeps publishes subscribes limits steady c s begins =
     record { shape = opening_shape limits c; publisher = publisher_opens limits c; subscriber = subscriber_opens limits c }
+stories_are_sound keeps publishes subscribes limits steady c s (begins_at list own none unsent apart) =
+    begun_is_sound limits (past_of limits list) c own none unsent apart
 stories_are_sound keeps publishes subscribes limits steady c s (goes_on {s = r} told happens) =
     let sound = stories_are_sound keeps publishes subscribes limits steady c r told in
     record {

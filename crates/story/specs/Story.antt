@@ -9,17 +9,19 @@ use Rattle.session_base.specs.Publication.{is_answered}
 use Rattle.session_base.specs.Identifiers.{least_free}
 use Rattle.broker_base.specs.Connection.{ConnectionName, same_connection}
 use Rattle.broker_base.specs.Place.{Client, Past, Limits}
-use Rattle.broker_base.specs.Commands.{place_of}
+use Rattle.broker_base.specs.Commands.{place_of, past_of}
 use Rattle.broker_base.specs.Command.{Command}
 use Rattle.broker_base.specs.Command.TheVariants as commands
 use Rattle.story.specs.Sends.{put_to}
-use Rattle.client_base.specs.Keeper.{Written, Keeper, new_keeper, ids_in_use}
+use Rattle.client_base.specs.Keeper.{Written, Keeper, new_keeper, ids_in_use, Own}
 use Rattle.client_base.specs.declared.request.Request.TheVariants as requests
 use Rattle.story.specs.Sides.{Connection, Side}
 use Rattle.client_base.specs.Written.{plain}
 use Rattle.client_base.specs.Handled.{handled, lost}
 use Rattle.client_base.specs.Called.{new_connection, adds_own, written_for}
 use Rattle.client_base.specs.Written.{writes_first}
+use Rattle.broker_base.specs.Past.{session_of}
+use Rattle.lists.specs.Lists.{IsDistinct}
 
 -- the connections, the newest first: the client holds the first one while it is open
 pub record Story : Type 0 where
@@ -114,6 +116,19 @@ pub data Happens (limits : Limits) (s : Story) : Story → Type 0 where
         keeper = record s.keeper { requests = s.keeper.requests ++ requests.Unsubscribes p.id ∷ [] };
       })
 
+-- publications that were never sent, numbered from this one on
+abbrev pub AreUnsent : ℕ → List Own → Type 0
+AreUnsent n (Own.Unsent k p id ∷ own) = (k ≡ n) × AreUnsent (suc n) own
+AreUnsent n [] = Unit {0}
+AreUnsent n _ = ⊥
+
+-- a client that was never served, with what it published so far
+abbrev pub unserved : Client → List Own → Keeper
+unserved c own = record (new_keeper c) { own = own }
+
+-- A story of one session begins with the list, or where the client has no session: then nothing is left of what it had.
 pub data Told (limits : Limits) (c : Client) : Story → Type 0 where
   begins : Told limits c (no_story c)
+  begins_at : (list : List Command) (own : List Own) → session_of (past_of limits list) c ≡ None → AreUnsent 0 own → IsDistinct (ids_in_use (unserved c own)) →
+      Told limits c (record { past = past_of limits list; connections = []; keeper = unserved c own })
   goes_on : {s t : Story} → Told limits c s → Happens limits s t → Told limits c t

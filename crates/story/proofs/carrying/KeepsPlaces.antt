@@ -3,16 +3,16 @@ use Rattle.std.proofs.Common.{◌≡◌, false, if◌then◌else◌, List, [], �
 use Rattle.packet.specs.declared.packet.Packet.TheVariants as packets
 use Rattle.broker_base.specs.Connection.{ConnectionName, same_connection}
 use Rattle.broker_base.specs.Place.{Client, Past, Limits}
-use Rattle.broker_base.specs.Commands.{place_of}
+use Rattle.broker_base.specs.Commands.{place_of, past_of}
 use Rattle.broker_base.specs.QuietLaws.{IsSteady}
 use Rattle.broker_base.specs.Command.{Command}
 use Rattle.broker_base.specs.Command.TheVariants as commands
-use Rattle.broker_base.proofs.MarksOfPlaces.{AreMarked}
+use Rattle.broker_base.proofs.MarksOfPlaces.{AreMarked, past_is_marked}
 use Rattle.lists.specs.Lists.{Each}
 use Rattle.lists.proofs.Tests.{or_none}
 use Rattle.story.specs.Sides.{Connection}
 use Rattle.story.specs.Story.{Story, Told, Happens, any_named, is_packet_of}
-use Rattle.story.specs.Story.Told.{begins, goes_on}
+use Rattle.story.specs.Story.Told.{begins, goes_on, begins_at}
 use Rattle.story.specs.Story.Happens.{takes, others_take, receives, opens_anew, loses, disconnects, publishes_one, subscribes, unsubscribes}
 use Rattle.story.specs.Carried.{carries, connection_named, number_at, publications_of}
 use Rattle.story.specs.Inside.Shape.{IsSoundStory}
@@ -25,6 +25,7 @@ use Rattle.story.proofs.carrying.KeepsWritten.{events_say, events_keep_of}
 use Rattle.story.proofs.carrying.KeepsNumbers.{events_keep_numbers}
 use Rattle.story.proofs.carrying.PlacesSay.{PlacesSay, says_nothing, places_later}
 use Rattle.story.proofs.carrying.SaysTaken.{taken_says}
+use Rattle.session_base.specs.declared.publication.Publication.{Publication}
 
 -- what this page keeps
 pub record IsCarried (limits : Limits) (s : Story) : Type 0 where
@@ -91,8 +92,15 @@ events_keep_carried limits s t sound (publishes_one p needs) c = stays_carried l
 events_keep_carried limits s t sound (subscribes p on id) c = stays_carried limits s t sound (subscribes p on id) refl c
 events_keep_carried limits s t sound (unsubscribes p on id) c = stays_carried limits s t sound (unsubscribes p on id) refl c
 
+-- without connections no place carries anything
+nothing_said : (c : Client) (ps : List Publication) (past : Past) → PlacesSay c ps [] past
+nothing_said c ps [] = tt
+nothing_said c ps (place ∷ past) = (says_nothing c ps [] place past (none_carried [] place.command past refl), nothing_said c ps past)
+
 -- every story
 pub told_carried : (limits : Limits) → IsSteady limits → (c : Client) (s : Story) → Told limits c s → IsCarried limits s
 told_carried limits steady c s begins = record { written = tt; places = tt; marked = tt }
+told_carried limits steady c s (begins_at list own none unsent apart) =
+    record { written = tt; places = nothing_said c (publications_of own) (past_of limits list); marked = past_is_marked limits list }
 told_carried limits steady c s (goes_on {s = r} told happens) =
     events_keep_carried limits r s (told_stories_are_sound limits steady c r told) happens (told_carried limits steady c r told)
