@@ -6,3 +6,5 @@ pub mod Headline
 pub mod Laws
 pub mod Inside
 pub mod Rows
+pub mod InStep
+pub mod Lives

@@ -1,0 +1,2 @@
+pub mod StepsBefore
+pub mod Starts
