@@ -1,2 +1,3 @@
 pub mod StepsBefore
 pub mod Starts
+pub mod Beside
