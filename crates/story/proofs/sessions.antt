@@ -1,3 +1,4 @@
 pub mod StepsBefore
 pub mod Starts
 pub mod Beside
+pub mod Anew

@@ -55,7 +55,7 @@ pub record HasBeside (limits : Limits) (c : Client) (s : Story) : Type 0 where
 
 -- ---- what is kept
 
-none_kept : (test : ConnectionName → Bool) (flags : List Bool) (connections : List Connection) → any_named test connections ≡ false → any_named test (kept_of flags connections) ≡ false
+pub none_kept : (test : ConnectionName → Bool) (flags : List Bool) (connections : List Connection) → any_named test connections ≡ false → any_named test (kept_of flags connections) ≡ false
 none_kept test [] connections e = e
 none_kept test (true ∷ flags) (κ ∷ connections) e =
     let h = or_none (test κ.name) (any_named test connections) e in ap₂ (λ a b. a || b) h.0 (none_kept test flags connections h.1)
@@ -138,7 +138,7 @@ later_named x (suc n) packet connections less e = e
 
 -- ---- the events
 
-abbrev with_connections : Past → Keeper → List Connection → Story
+abbrev pub with_connections : Past → Keeper → List Connection → Story
 with_connections past keeper connections = record { past = past; connections = connections; keeper = keeper }
 
 goes_taken : (limits : Limits) (c : Client) (s : Story) (b : HasBeside limits c s) (i : ℕ) (κ : Connection) (w : Written) → slice_get κ.written κ.taken ≡ Some w
