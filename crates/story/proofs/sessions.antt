@@ -2,3 +2,4 @@ pub mod StepsBefore
 pub mod Starts
 pub mod Beside
 pub mod Anew
+pub mod Awaiting

@@ -76,7 +76,7 @@ gone_writes more (true ∷ flags) (κ ∷ connections) h g = g
 gone_writes more (true ∷ flags) [] h g = tt
 gone_writes more (false ∷ flags) connections h g = absurd h
 
-gone_counted : (i : ℕ) (flags : List Bool) (connections : List Connection) → AreGone flags connections → AreGone flags (counted_at i connections)
+pub gone_counted : (i : ℕ) (flags : List Bool) (connections : List Connection) → AreGone flags connections → AreGone flags (counted_at i connections)
 gone_counted i [] connections g = tt
 gone_counted i (true ∷ flags) [] g = tt
 gone_counted i (false ∷ flags) [] g = tt
@@ -99,14 +99,14 @@ pub record IsLeft (flags : List Bool) (connections : List Connection) (i : ℕ) 
   pub none : any_named (same_connection κ.name) (kept_of flags connections) ≡ false
   pub counted : kept_of flags (counted_at i connections) ≡ kept_of flags connections
 
-other_name : (x : ConnectionName) (connections : List Connection) (i : ℕ) (κ : Connection) → any_named (same_connection x) connections ≡ false → slice_get connections i ≡ Some κ → same_connection κ.name x ≡ false
+pub other_name : (x : ConnectionName) (connections : List Connection) (i : ℕ) (κ : Connection) → any_named (same_connection x) connections ≡ false → slice_get connections i ≡ Some κ → same_connection κ.name x ≡ false
 other_name x [] i κ e at = absurd (cc)
 other_name x (μ ∷ connections) zero κ e at =
     let same : μ ≡ κ = cc in
     same_turned κ.name x ∙ ap (λ (z : Connection). same_connection x z.name) (sym same) ∙ (or_none (same_connection x μ.name) (any_named (same_connection x) connections) e).0
 other_name x (μ ∷ connections) (suc i) κ e at = other_name x connections i κ (or_none (same_connection x μ.name) (any_named (same_connection x) connections) e).1 at
 
-find : (flags : List Bool) (connections : List Connection) (i : ℕ) (κ : Connection) → NamesApart connections → AreGone flags connections → slice_get connections i ≡ Some κ
+pub find : (flags : List Bool) (connections : List Connection) (i : ℕ) (κ : Connection) → NamesApart connections → AreGone flags connections → slice_get connections i ≡ Some κ
     → IsKept flags connections i κ ⊎ IsLeft flags connections i κ
 find [] connections i κ apart gone at = inl (record { j = i; stands = at; counted = refl })
 find (true ∷ flags) [] i κ apart gone at = absurd (cc)
@@ -127,11 +127,11 @@ find (false ∷ flags) (μ ∷ connections) (suc i) κ apart gone at = by (find 
     by (inr l) = inr (record { taken = l.taken; none = l.none; counted = l.counted })
 
 -- a packet behind the CONNECT
-later_other : (c : Client) (x : ConnectionName) (n : ℕ) (packet : Packet) → 1 ≤ n → names_client c (command_of x n packet) → ⊥
+pub later_other : (c : Client) (x : ConnectionName) (n : ℕ) (packet : Packet) → 1 ≤ n → names_client c (command_of x n packet) → ⊥
 later_other c x zero packet less h = omega (arith, less)
 later_other c x (suc n) packet less h = h
 
-later_named : (x : ConnectionName) (n : ℕ) (packet : Packet) (connections : List Connection) → 1 ≤ n → any_named (same_connection x) connections ≡ false
+pub later_named : (x : ConnectionName) (n : ℕ) (packet : Packet) (connections : List Connection) → 1 ≤ n → any_named (same_connection x) connections ≡ false
     → any_named (is_packet_of (command_of x n packet)) connections ≡ false
 later_named x zero packet connections less e = absurd (omega (arith, less))
 later_named x (suc n) packet connections less e = e

@@ -23,7 +23,7 @@ or_there true b e = refl
 or_there false b e = e
 
 -- a Connect that began a session did so in every later past
-began_stays : (place : Place) (past : Past) (c : Client) (x : ConnectionName) → began_again past c x ≡ true → began_again (place ∷ past) c x ≡ true
+pub began_stays : (place : Place) (past : Past) (c : Client) (x : ConnectionName) → began_again past c x ≡ true → began_again (place ∷ past) c x ≡ true
 began_stays place past c x e = or_there (opens_on x (accepts place.command place.mark c) && (begins place past c && has_begun past c)) (began_again past c x) e
 
 -- one place earlier
