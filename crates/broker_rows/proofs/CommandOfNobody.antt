@@ -14,7 +14,7 @@ use Rattle.broker_base.specs.Command.{Command}
 use Rattle.broker_base.specs.Command.TheVariants as commands
 use Rattle.broker_rows.specs.Touched.{Untouched, comes_on, is_accepted, IsIdle}
 use Rattle.broker_rows.proofs.OneRow.{left_untouched}
-use Rattle.broker_rows.proofs.OneCommand.{ends_none}
+use Rattle.broker_rows.proofs.OneCommand.{ends_none, spares}
 use Rattle.broker_rows.proofs.CommandOfOwner.{only_left}
 
 -- a connection without an owner is nobody's
@@ -40,7 +40,7 @@ none_touched : (command : Command) (mark : Mark) (x : ConnectionName) (rows : Se
     Untouched (record { command = command; mark = mark }) rows
 none_touched command mark x [] on idle nobodys = tt
 none_touched command mark x (row ∷ rows) on idle nobodys = (
-  ap₂ (λ a b. a || b) (ends_none command mark x row.1.connection on nobodys.0) (about_nobody command mark row.0 row.1.state.subscriptions idle),
+  ap₂ (λ a b. a || b) (ap₂ (λ a b. a || b) (spares command x row.0 on) (ends_none command mark x row.1.connection on nobodys.0)) (about_nobody command mark row.0 row.1.state.subscriptions idle),
   none_touched command mark x rows on idle nobodys.1,
 )
 
@@ -63,6 +63,7 @@ nobodys_mark limits state (commands.Connect y c clean) x on none e =
     (ap (λ o. is_accepted (connect_mark_in limits state c o)) (sym here) ∙ e))
 nobodys_mark limits state (commands.Lost y) x on none e = tt
 nobodys_mark limits state (commands.Start ballot) x on none e = absurd (cc)
+nobodys_mark limits state (commands.Expel c) x on none e = absurd (cc)
 
 -- every row stays
 pub nobody_stays : (limits : Limits) (later : ℕ) (state : State) (command : Command) (x : ConnectionName) → comes_on command ≡ Some x →

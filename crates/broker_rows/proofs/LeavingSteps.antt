@@ -50,8 +50,8 @@ leaving_step limits later state x c kept served packet leaving =
     let place : Place = record { command = commands.Packet x packet; mark = mark } in
     served_step limits later state (commands.Packet x packet) x c kept mark (left_off kept) (Close x ∷ []) served refl refl
     (ap (packet_mark_in limits state packet) served.owner) (not_taken mark leaving)
-    (parted_is state.window place state.retained c kept (parting mark leaving)
-    (ap (ends_any place) (served_on state x c kept served) ∙ ap₂ (λ a b. a && b) (same_own x) leaving))
+    (parted_is state.window place state.retained c kept (parting mark leaving) refl
+    (ap (ends_any place c) (served_on state x c kept served) ∙ ap₂ (λ a b. a && b) (same_own x) leaving))
     (closes state.window place state x packet mark leaving)
 
 -- a further Connect
@@ -60,11 +60,11 @@ further_connect_step limits later state x c kept served named clean =
     let place : Place = record { command = commands.Connect x named clean; mark = Mark.Leaves c } in
     served_step limits later state (commands.Connect x named clean) x c kept (Mark.Leaves c) (left_off kept) (Close x ∷ []) served refl refl
     (ap (connect_mark_in limits state named) served.owner) refl
-    (parted_is state.window place state.retained c kept tt (ap (ends_any place) (served_on state x c kept served) ∙ same_own x)) refl
+    (parted_is state.window place state.retained c kept tt refl (ap (ends_any place c) (served_on state x c kept served) ∙ same_own x)) refl
 
 -- its loss
 pub lost_step : LostStep
 lost_step limits later state x c kept served =
     let place : Place = record { command = commands.Lost x; mark = Mark.NoPart } in
     served_step limits later state (commands.Lost x) x c kept Mark.NoPart (left_off kept) [] served refl refl refl refl
-    (parted_is state.window place state.retained c kept tt (ap (ends_any place) (served_on state x c kept served) ∙ same_own x)) refl
+    (parted_is state.window place state.retained c kept tt refl (ap (ends_any place c) (served_on state x c kept served) ∙ same_own x)) refl

@@ -7,7 +7,7 @@ use Rattle.packet.specs.declared.packet.Packet.TheVariants as packets
 use Rattle.session_base.specs.Publication.{publication_of}
 use Rattle.broker_base.specs.Connection.{ConnectionName, same_connection}
 use Rattle.broker_base.specs.Place.{Client, same_client, Mark, Limits}
-use Rattle.broker_base.specs.Past.{any_connection, is_leaving, ends}
+use Rattle.broker_base.specs.Past.{any_connection, is_leaving, ends, expels}
 use Rattle.broker_base.specs.ClientSession.{ClientSession}
 use Rattle.broker_base.specs.State.{State, owner_in}
 use Rattle.broker_base.specs.Decisions.{refuses, is_again, owned_mark, packet_mark_in, connect_mark_in, mark_in, place_in}
@@ -25,6 +25,15 @@ ends_on (commands.Packet y packet) mark x z on off =
 ends_on (commands.Connect y d clean) mark x z on off = let same : y ≡ x = cc in ap (λ n. same_connection n z) same ∙ off
 ends_on (commands.Lost y) mark x z on off = let same : y ≡ x = cc in ap (λ n. same_connection n z) same ∙ off
 ends_on (commands.Start ballot) mark x z on off = absurd (cc)
+ends_on (commands.Expel c) mark x z on off = absurd (cc)
+
+-- and expels nobody
+pub spares : (command : Command) (x : ConnectionName) (c : Client) → comes_on command ≡ Some x → expels command c ≡ false
+spares (commands.Packet y packet) x c on = refl
+spares (commands.Connect y d clean) x c on = refl
+spares (commands.Lost y) x c on = refl
+spares (commands.Start ballot) x c on = refl
+spares (commands.Expel d) x c on = absurd (cc)
 
 -- nor that of a session that is not on x
 pub ends_none : (command : Command) (mark : Mark) (x : ConnectionName) (connection : Option ConnectionName) → comes_on command ≡ Some x →
@@ -47,7 +56,7 @@ about_one _ _ d c of other subscriptions = refl
 pub ones_marked : (command : Command) (mark : Mark) (x : ConnectionName) (d : Client) → comes_on command ≡ Some x → IsMarkOf d mark →
     IsOnes (record { command = command; mark = mark }) x d
 ones_marked command mark x d on of c kept other off =
-    ap₂ (λ a b. a || b) (ends_none command mark x kept.connection on off) (about_one command mark d c of other kept.state.subscriptions)
+    ap₂ (λ a b. a || b) (ap₂ (λ a b. a || b) (spares command x c on) (ends_none command mark x kept.connection on off)) (about_one command mark d c of other kept.state.subscriptions)
 
 -- ---- the marks of an owner's commands
 
@@ -82,6 +91,7 @@ owners_mark limits state (commands.Connect y c clean) x owner on found e =
     subst (λ (o : Option (Client × ClientSession)). IsMarkOf owner.0 (connect_mark_in limits state c o)) (sym here) refl
 owners_mark limits state (commands.Lost y) x owner on found e = tt
 owners_mark limits state (commands.Start ballot) x owner on found e = absurd (cc)
+owners_mark limits state (commands.Expel c) x owner on found e = absurd (cc)
 
 -- a command of an owner is of its connection and client alone
 pub ones_owned : (limits : Limits) (state : State) (command : Command) (x : ConnectionName) (owner : Client × ClientSession) → comes_on command ≡ Some x →

@@ -28,7 +28,7 @@ abbrev pub packet_at : ConnectionName → Packet → Mark → Place
 packet_at x packet mark = record { command = commands.Packet x packet; mark = mark }
 
 -- a mark that does not leave ends no connection
-pub stays_on : (x : ConnectionName) (packet : Packet) (mark : Mark) (connection : Option ConnectionName) → is_leaving mark ≡ false → ends_any (packet_at x packet mark) connection ≡ false
+pub stays_on : (x : ConnectionName) (packet : Packet) (mark : Mark) (connection : Option ConnectionName) → is_leaving mark ≡ false → ends_any (packet_at x packet mark) [] connection ≡ false
 stays_on x packet mark None e = refl
 stays_on x packet mark (Some y) e = both _ e
   where

@@ -5,7 +5,7 @@ use Rattle.retained.specs.Retained.{RetainedTopics}
 use Rattle.session_base.specs.Subscriptions.{HeldFilter}
 use Rattle.session_base.specs.Queue.{Queue}
 use Rattle.broker_base.specs.Place.{Client, Mark, Place, only_if}
-use Rattle.broker_base.specs.Past.{accepts, ends_any}
+use Rattle.broker_base.specs.Past.{accepts, ends_any, expels}
 use Rattle.broker_base.specs.Subscriptions.{subscribed}
 use Rattle.broker_base.specs.Received.{received_by}
 use Rattle.broker_base.specs.ClientSession.{ClientSession}
@@ -73,11 +73,11 @@ kept_off w place content c kept parting =
     ∙ ap (λ waiting. off kept kept.state.subscriptions kept.state.received (record { in_flight = kept.state.queue.in_flight; waiting = waiting })) (append_none kept.state.queue.waiting)
 
 -- what is left of the session
-pub parted_is : (w : ℕ) (place : Place) (content : RetainedTopics) (c : Client) (kept : ClientSession) → IsParting place.mark → ends_any place kept.connection ≡ true →
+pub parted_is : (w : ℕ) (place : Place) (content : RetainedTopics) (c : Client) (kept : ClientSession) → IsParting place.mark → expels place.command c ≡ false → ends_any place c kept.connection ≡ true →
     session_after w place content c kept ≡ left_off kept
-parted_is w place content c kept parting over =
+parted_is w place content c kept parting spared over =
     ap (λ b. if b || is_about place.command place.mark c kept.state.subscriptions then kept_after w place content c (Some kept) else Some kept) over
     ∙ ap (λ opened. kept_by w place content c opened (Some kept)) (opens_none place.command place.mark c parting)
-    ∙ ap (λ b. only_if (not (kept.clean && b)) (Some (kept_on w place content c (only_if (not b) kept.connection) kept))) over
+    ∙ ap₂ (λ a b. only_if (not (a || (kept.clean && b))) (Some (kept_on w place content c (only_if (not b) kept.connection) kept))) spared over
     ∙ by_clean kept.clean (kept_on w place content c None kept)
     ∙ ap (λ later. if kept.clean then None else Some later) (kept_off w place content c kept parting)

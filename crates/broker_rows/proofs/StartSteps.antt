@@ -31,9 +31,9 @@ pub row_left : (w ballot : ℕ) (content : RetainedTopics) (c : Client) (kept : 
 row_left w ballot content c kept served = by kept.connection refl
   where
     by : (connection : Option ConnectionName) → kept.connection ≡ connection → session_after w (start ballot) content c kept ≡ left_off kept
-    by (Some x) e = parted_is w (start ballot) content c kept tt (ap (ends_any (start ballot)) e)
+    by (Some x) e = parted_is w (start ballot) content c kept tt refl (ap (ends_any (start ballot) c) e)
     by None e =
-        ap (λ connection. if ends_any (start ballot) connection || false then kept_after w (start ballot) content c (Some kept) else Some kept) e
+        ap (λ connection. if ends_any (start ballot) c connection || false then kept_after w (start ballot) content c (Some kept) else Some kept) e
         ∙ off_already kept e kept.clean refl served
 
 -- all sessions

@@ -41,6 +41,7 @@ comes_on (commands.Packet x packet) = Some x
 comes_on (commands.Connect x c clean) = Some x
 comes_on (commands.Lost x) = Some x
 comes_on (commands.Start ballot) = None
+comes_on (commands.Expel c) = None
 
 -- whether it is the mark of a taken publication
 abbrev pub is_taken : Mark → Bool
