@@ -48,7 +48,7 @@ opening x c clean = record { command = commands.Connect x c clean; mark = Mark.A
 own_stays : (w : ℕ) (x : ConnectionName) (c : Client) (clean : Bool) (content : RetainedTopics) (row : Client × ClientSession) → same_client c row.0 ≡ true →
     session_after w (opening x c clean) content row.0 row.1 ≡ Some (kept_connected w (x, clean) (Some row.1))
 own_stays w x c clean content row e =
-    elim (ends_any (opening x c clean) row.1.connection) as (λ (ends : Bool). (if ends || same_client c row.0 then
+    elim (ends_any (opening x c clean) row.0 row.1.connection) as (λ (ends : Bool). (if ends || same_client c row.0 then
     kept_by w (opening x c clean) content row.0 (only_if (same_client c row.0) (Some (x, clean))) (Some row.1) else Some row.1)
     ≡ Some (kept_connected w (x, clean) (Some row.1))) [
       | true ↦ ap (λ b. kept_by w (opening x c clean) content row.0 (only_if b (Some (x, clean))) (Some row.1)) e
@@ -209,3 +209,4 @@ stays_retained limits state (commands.Packet x packet) sent h = h
 stays_retained limits state (commands.Connect x c clean) sent h = h
 stays_retained limits state (commands.Lost x) sent h = h
 stays_retained limits state (commands.Start ballot) sent h = h
+stays_retained limits state (commands.Expel c) sent h = h

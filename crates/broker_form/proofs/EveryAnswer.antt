@@ -125,6 +125,7 @@ answers_are_spelled limits later state (commands.Connect x c clean) m k h =
     (found_in_range limits c state.sessions h.sessions)
 answers_are_spelled limits later state (commands.Lost x) m k h = tt
 answers_are_spelled limits later state (commands.Start ballot) m k h = tt
+answers_are_spelled limits later state (commands.Expel c) m k h = closed_spelled (connection_of (session_in c state.sessions))
 
 lists_from : (state : State) (commands : List Command) → AllByRecursion IsBrokerCommand commands → IsBrokerState usual_limits state →
     IsBrokerState usual_limits (state_from usual_limits 64 state commands)

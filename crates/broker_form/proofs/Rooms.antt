@@ -187,3 +187,4 @@ rooms limits state (commands.Packet x packet) sorted h =
 rooms limits state (commands.Connect x d clean) sorted h = nothing_made limits _ state.retained state.sessions (λ content c held. (refl, omega arith)) h
 rooms limits state (commands.Lost x) sorted h = nothing_made limits _ state.retained state.sessions (λ content c held. (refl, omega arith)) h
 rooms limits state (commands.Start ballot) sorted h = nothing_made limits _ state.retained state.sessions (λ content c held. (refl, omega arith)) h
+rooms limits state (commands.Expel c) sorted h = nothing_made limits _ state.retained state.sessions (λ content c held. (refl, omega arith)) h

@@ -10,7 +10,7 @@ use Rattle.session_base.specs.declared.publication.Publication.{Publication}
 use Rattle.session_base.specs.Queue.{Queue, ids_of, on_puback, on_pubcomp}
 use Rattle.broker_model.specs.Connection.{ConnectionName, IsConnectionName}
 use Rattle.broker_model.specs.Place.{Client, same_client, Mark, Place, Limits, only_if}
-use Rattle.broker_model.specs.Past.{accepts, ends_any}
+use Rattle.broker_model.specs.Past.{accepts, expels, ends_any}
 use Rattle.broker_model.specs.Subscriptions.{subscribed}
 use Rattle.broker_model.specs.Entries.{queued}
 use Rattle.broker_model.specs.Logged.{IsBrokerCommand}
@@ -148,9 +148,9 @@ after_by : (w : ℕ) (limits : Limits) (place : Place) (content : RetainedTopics
 after_by w limits place content c (Some opened) old named m k r sound room h =
     connected w limits c opened (Some old) m (named opened refl) h.client h
 after_by w limits place content c None old named m k r sound room h =
-    session_if limits c (not (old.clean && ends_any place old.connection)) _
-    (goes_on w limits place content c (only_if (not (ends_any place old.connection)) old.connection) old m k r
-    (named_left (not (ends_any place old.connection)) old.connection h.connection) sound room h)
+    session_if limits c (not (expels place.command c || (old.clean && ends_any place c old.connection))) _
+    (goes_on w limits place content c (only_if (not (ends_any place c old.connection)) old.connection) old m k r
+    (named_left (not (ends_any place c old.connection)) old.connection h.connection) sound room h)
 
 pub session_in_range : (w : ℕ) (limits : Limits) (place : Place) (content : RetainedTopics) (c : Client) (old : ClientSession) →
     limits.entries < 2 ^ 16 → IsBrokerCommand place.command → AllByRecursion IsRetained content →

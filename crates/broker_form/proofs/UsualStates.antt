@@ -41,3 +41,4 @@ stays_usual state command usual good =
     window (commands.Connect x c clean) e = e
     window (commands.Packet x packet) e = e
     window (commands.Lost x) e = e
+    window (commands.Expel c) e = e
