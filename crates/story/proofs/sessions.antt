@@ -3,3 +3,4 @@ pub mod Starts
 pub mod Beside
 pub mod Anew
 pub mod Awaiting
+pub mod Again

@@ -20,7 +20,7 @@ use Rattle.story.specs.Story.Happens.{opens_anew, loses}
 use Rattle.story.specs.Inside.Shape.{NamesApart}
 use Rattle.story.proofs.sessions.Beside.{kept_of, with_connections, none_kept}
 
-abbrev is_zero : ℕ → Bool
+abbrev pub is_zero : ℕ → Bool
 is_zero zero = true
 is_zero (suc n) = false
 

@@ -33,7 +33,7 @@ abbrev pub at_accepted : ConnectionName → Client → Place
 at_accepted y c = at_connect y c false Mark.Accepted
 
 -- it is accepted
-opened : (y : ConnectionName) (c : Client) → accepts (commands.Connect y c false) Mark.Accepted c ≡ Some (y, false)
+pub opened : (y : ConnectionName) (c : Client) → accepts (commands.Connect y c false) Mark.Accepted c ≡ Some (y, false)
 opened y c = ap (λ b. only_if b (Some (y, false))) (same_self c)
 
 -- and the current connection
