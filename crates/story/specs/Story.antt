@@ -1,5 +1,5 @@
 -- One client's story: the list of commands, its connections as packets, what it keeps; and what may happen.
-use Rattle.std.specs.Prelude.{◌≡◌, ℕ, zero, suc, Bool, true, false, ◌||◌, if◌then◌else◌, List, [], ◌∷◌, ◌++◌, Some, slice_get}
+use Rattle.std.specs.Prelude.{◌≡◌, ℕ, zero, suc, Bool, true, false, ◌||◌, if◌then◌else◌, List, [], ◌∷◌, ◌++◌, Some, slice_get, Option, None, is_some}
 use Rattle.packet.specs.declared.subscribe.Subscribe.{Subscribe}
 use Rattle.packet.specs.declared.unsubscribe.Unsubscribe.{Unsubscribe}
 use Rattle.packet.specs.declared.packet.Packet.{Packet}
@@ -45,10 +45,11 @@ counted_at i [] = []
 counted_at zero (κ ∷ connections) = record κ { taken = suc κ.taken } ∷ connections
 counted_at (suc i) (κ ∷ connections) = κ ∷ counted_at i connections
 
-abbrev pub names_client : Client → Command → Type 0
-names_client c (commands.Connect x d clean) = d ≡ c
-names_client c (commands.Expel d) = d ≡ c
-names_client c _ = ⊥
+-- a Connect of the client, and an Expel of it where it has a session
+abbrev pub names_client : Past → Client → Command → Type 0
+names_client past c (commands.Connect x d clean) = d ≡ c
+names_client past c (commands.Expel d) = (d ≡ c) × (is_some (session_of past c) ≡ true)
+names_client past c _ = ⊥
 
 abbrev pub is_packet_of : Command → ConnectionName → Bool
 is_packet_of (commands.Packet x packet) y = same_connection x y
@@ -80,7 +81,7 @@ pub data Happens (limits : Limits) (s : Story) : Story → Type 0 where
         connections = counted_at i s.connections;
         keeper = s.keeper;
       })
-  others_take : (command : Command) → (names_client s.keeper.client command → ⊥) → any_named (is_packet_of command) s.connections ≡ false →
+  others_take : (command : Command) → (names_client s.past s.keeper.client command → ⊥) → any_named (is_packet_of command) s.connections ≡ false →
       Happens limits s (record s { past = place_of limits s.past command ∷ s.past })
   receives : (κ : Connection) (others : List Connection) (packet : Packet) → s.connections ≡ κ ∷ others → s.keeper.is_open ≡ true →
       slice_get (put_to limits s.past κ.name) κ.handled ≡ Some packet →

@@ -60,12 +60,12 @@ one_written (Some x) more [] h = h
 one_written (Some x) more (κ ∷ others) h = (h.0, top_written x more (κ ∷ others) h.1)
 
 -- another command opens no connection of the client
-pub none_opened : (c : Client) (command : Command) (mark : Mark) → (names_client c command → ⊥) → accepts command mark c ≡ None
-none_opened c (commands.Packet x packet) mark other = refl
-none_opened c (commands.Lost x) mark other = refl
-none_opened c (commands.Start b) mark other = refl
-none_opened c (commands.Expel d) mark other = refl
-none_opened c (commands.Connect x d clean) mark other = not_accepted x d c clean mark (by (cases_Bool (same_client d c)))
+pub none_opened : (past : Past) (c : Client) (command : Command) (mark : Mark) → (names_client past c command → ⊥) → accepts command mark c ≡ None
+none_opened past c (commands.Packet x packet) mark other = refl
+none_opened past c (commands.Lost x) mark other = refl
+none_opened past c (commands.Start b) mark other = refl
+none_opened past c (commands.Expel d) mark other = refl
+none_opened past c (commands.Connect x d clean) mark other = not_accepted x d c clean mark (by (cases_Bool (same_client d c)))
   where
     by : (same_client d c ≡ true) ⊎ (same_client d c ≡ false) → same_client d c ≡ false
     by (inl e) = absurd (other (same_is d c e))

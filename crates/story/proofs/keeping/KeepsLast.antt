@@ -27,7 +27,7 @@ keeps_top limits s t shape h = by h (top_one (current_connection s.past s.keeper
     by (takes i κ w stands next) g = one_taken limits s shape g i κ w stands next
     by (others_take command other none) g =
         top_stays (current_connection s.past s.keeper.client) (current_connection (place_of limits s.past command ∷ s.past) s.keeper.client) s.connections g
-        (stays_or_none (place_of limits s.past command) s.past s.keeper.client (none_opened s.keeper.client command (mark_of limits s.past command) other))
+        (stays_or_none (place_of limits s.past command) s.past s.keeper.client (none_opened s.past s.keeper.client command (mark_of limits s.past command) other))
     by (receives κ others packet are opened next) g =
         let side : Side = record { keeper = s.keeper; connection = κ } in
         let st = stays_handled packet side in

@@ -24,7 +24,7 @@ use Rattle.client_base.specs.Written.{writes_first}
 use Rattle.client_base.specs.Called.{written_for}
 use Rattle.story.specs.Story.Happens.{takes, others_take, receives, opens_anew, loses, disconnects, publishes_one, subscribes, unsubscribes}
 use Rattle.story.specs.Inside.Shape.{is_connack, IsMeant, IsWelcomed, AreWelcomed, ConnectionInShape, IsSoundStory}
-use Rattle.story.proofs.places.After.{IsKeptSession, session_stays, session_opens}
+use Rattle.story.proofs.places.After.{IsKeptSession, IsSpared, session_spared, session_opens}
 use Rattle.story.proofs.publishing.kept.KeepsNames.{events_keep_session}
 use Rattle.story.proofs.publishing.Last.{each_there}
 use Rattle.story.proofs.subscribing.Given.{stays_handled}
@@ -35,13 +35,13 @@ use Rattle.story.proofs.places.Spared.{taken_spares, other_spares}
 -- ---- places
 
 -- a session that is there and not clean stays where none ends
-pub still_there : (place : Place) (past : Past) (c : Client) → expels place.command c ≡ false → session_of past c ≡ Some false → IsKeptSession (session_of (place ∷ past) c) → session_of (place ∷ past) c ≡ Some false
+pub still_there : (place : Place) (past : Past) (c : Client) → IsSpared place.command past c → session_of past c ≡ Some false → IsKeptSession (session_of (place ∷ past) c) → session_of (place ∷ past) c ≡ Some false
 still_there place past c spared there (inr e) = e
 still_there place past c spared there (inl none) = by (accepts place.command place.mark c) refl
   where
     by : (o : Option (ConnectionName × Bool)) → accepts place.command place.mark c ≡ o → session_of (place ∷ past) c ≡ Some false
     by (Some opened) e = absurd (let f : None ≡ Some opened.1 = sym none ∙ session_opens place past c opened e in cc)
-    by None e = session_stays place past c e spared (inr there) ∙ there
+    by None e = session_spared place past c e spared (inr there) ∙ there
 
 -- a packet that is no CONNACK 0
 pub asks_meant : (c : Client) (past : Past) → IsAsked (λ (place : Place) (packet : Packet). IsMeant c (place ∷ past) packet)
@@ -57,7 +57,7 @@ opened_there past x c mark e =
     session_opens (at_connect x c false mark) past c (x, false) (ap (λ (m : Mark). accepts (commands.Connect x c false) m c) e ∙ ap (λ b. only_if b (Some (x, false))) (same_self c))
 
 -- what was sent before
-meant_before : (limits : Limits) (place : Place) (past : Past) (c : Client) (x : ConnectionName) → expels place.command c ≡ false → IsKeptSession (session_of (place ∷ past) c) → IsWelcomed limits past c x
+meant_before : (limits : Limits) (place : Place) (past : Past) (c : Client) (x : ConnectionName) → IsSpared place.command past c → IsKeptSession (session_of (place ∷ past) c) → IsWelcomed limits past c x
     → Each (IsMeant c (place ∷ past)) (put_to limits past x)
 meant_before limits place past c x spared kept = each_then (IsMeant c past) (IsMeant c (place ∷ past)) (put_to limits past x) (λ packet h b e. still_there place past c spared (h b e) kept)
 
@@ -75,7 +75,7 @@ welcomed_written limits past c more [] h = tt
 welcomed_written limits past c more (κ ∷ others) h = (h.0, h.1)
 
 -- a command of none of them is taken
-welcomed_other : (limits : Limits) (place : Place) (past : Past) (c : Client) (connections : List Connection) → expels place.command c ≡ false → IsKeptSession (session_of (place ∷ past) c)
+welcomed_other : (limits : Limits) (place : Place) (past : Past) (c : Client) (connections : List Connection) → IsSpared place.command past c → IsKeptSession (session_of (place ∷ past) c)
     → any_named (is_packet_of place.command) connections ≡ false → ((y : ConnectionName) → is_packet_of place.command y ≡ false → Each (IsMeant c (place ∷ past)) (sends_to y (answers_at limits place past)))
     → AreWelcomed limits past c connections → AreWelcomed limits (place ∷ past) c connections
 welcomed_other limits place past c [] spared kept none sends h = tt
@@ -97,13 +97,13 @@ events_keep_welcomed limits s t sound h (takes i κ w stands next) =
     let kept = events_keep_session limits s t sound (takes i κ w stands next) in
     welcomed_counted limits (place ∷ s.past) c i s.connections
     (each_then (λ (μ : Connection). IsWelcomed limits s.past c μ.name) (λ (μ : Connection). IsWelcomed limits (place ∷ s.past) c μ.name) s.connections
-    (λ μ g. put_each (IsMeant c (place ∷ s.past)) limits place s.past μ.name (meant_before limits place s.past c μ.name (taken_spares κ.name κ.taken w.packet c) kept g)
+    (λ μ g. put_each (IsMeant c (place ∷ s.past)) limits place s.past μ.name (meant_before limits place s.past c μ.name (inl (taken_spares κ.name κ.taken w.packet c)) kept g)
     (own_sends (λ (place : Place) (packet : Packet). IsMeant c (place ∷ s.past) packet) (asks_meant c s.past) limits s.past c κ w μ.name this next
     (λ mark e b f. opened_there s.past κ.name c mark e))) h)
 events_keep_welcomed limits s t sound h (others_take command other none) =
     let c = s.keeper.client in
     let place = place_of limits s.past command in
-    welcomed_other limits place s.past c s.connections (other_spares c command other) (events_keep_session limits s t sound (others_take command other none)) none
+    welcomed_other limits place s.past c s.connections (other_spares s.past c command other) (events_keep_session limits s t sound (others_take command other none)) none
     (other_sends (λ (place : Place) (packet : Packet). IsMeant c (place ∷ s.past) packet) (asks_meant c s.past) limits s.past command) h
 events_keep_welcomed limits s t sound h (receives κ others packet are opened next) =
     let side : Side = record { keeper = s.keeper; connection = κ } in

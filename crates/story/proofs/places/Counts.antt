@@ -31,7 +31,7 @@ only_there true o a e = (refl, e)
 only_there false o a e = cc
 
 -- an accepted Connect is a packet of the connection that it opens
-accepted_counts : (command : Command) (mark : Mark) (c : Client) (opened : ConnectionName × Bool) → accepts command mark c ≡ Some opened → is_packet_of command opened.0 ≡ true
+pub accepted_counts : (command : Command) (mark : Mark) (c : Client) (opened : ConnectionName × Bool) → accepts command mark c ≡ Some opened → is_packet_of command opened.0 ≡ true
 accepted_counts (commands.Connect x d clean) Mark.Accepted c opened e =
     let found : Some (x, clean) ≡ Some opened = (only_there (same_client d c) (Some (x, clean)) opened e).1 in
     let same : (x, clean) ≡ opened = cc in

@@ -72,7 +72,7 @@ pub begins_awaiting : (limits : Limits) (list : List Command) (c : Client) (keep
     → has_begun (past_of limits list) c ≡ true → mark_of limits (past_of limits list) (commands.Connect κ.name c false) ≡ Mark.Accepted → IsDistinct (ids_in_use (unserved c []))
     → AreUntouched limits (past_of limits list) c (κ ∷ others) → NamesApart (κ ∷ others) → κ.taken ≡ 0
     → keeper.client ≡ c → keeper.is_online ≡ false → keeper.was_served ≡ true → keeper.requests ≡ []
-    → HasAwaiting limits c (with_connections (accepted_at κ.name c ∷ past_of limits list) keeper (record κ { taken = suc κ.taken } ∷ others))
+    → HasAwaiting limits c (true ∷ flags_of others) (with_connections (accepted_at κ.name c ∷ past_of limits list) keeper (record κ { taken = suc κ.taken } ∷ others))
 begins_awaiting limits list c keeper κ others none before mark apart fresh names new client offline served unasked =
     let past = past_of limits list in
     let u : IsUntouched limits past c κ = fresh.0 new in
@@ -95,7 +95,7 @@ begins_awaiting limits list c keeper κ others none before mark apart fresh name
         unhandled = ap (λ (z : Connection). z.handled) u.is;
         more = told.0;
         first = told.1;
-        flags = flags_of others;
+        head = tt;
         gone = all_gone others;
         told = subst (λ (p : Place). Told limits c (with_connections (p ∷ past) (waiting c [] keeper.is_open) (record κ { taken = suc κ.taken } ∷ kept_of (flags_of others) others))) place
             (goes_on (opens_again limits list c [] κ others keeper.is_open none tt apart fresh names new) (takes 0 κ (opens c) refl next));

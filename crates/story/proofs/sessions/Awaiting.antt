@@ -22,14 +22,14 @@ use Rattle.story.specs.Story.Happens.{takes, others_take, receives, opens_anew, 
 use Rattle.story.specs.InStep.{began_again, IsInStep, WasWelcome}
 use Rattle.story.specs.Inside.Shape.{NamesApart}
 use Rattle.story.proofs.sessions.StepsBefore.{began_stays}
-use Rattle.story.proofs.sessions.Beside.{kept_of, AreGone, HasBeside, IsKept, IsLeft, with_connections, none_kept, gone_counted, find, other_name, later_other, later_named}
+use Rattle.story.proofs.sessions.Beside.{kept_of, IsHeadKept, AreGone, HasBeside, IsKept, IsLeft, flags_after, with_connections, none_kept, gone_counted, goes_received, find, later_other, later_named}
 use Rattle.story.proofs.sessions.Anew.{waiting, session_lost, settles}
 use Rattle.std.proofs.lemmas.List.{append-nil}
 use Rattle.lists.specs.Lists.{Each}
 use Rattle.session_base.specs.Identifiers.{least_free}
 
 -- what goes with a client that awaits the CONNACK of its newest connection
-pub record Awaits (limits : Limits) (c : Client) (past : Past) (keeper : Keeper) (κ : Connection) (others : List Connection) : Type 0 where
+pub record Awaits (limits : Limits) (c : Client) (flags : List Bool) (past : Past) (keeper : Keeper) (κ : Connection) (others : List Connection) : Type 0 where
   pub client : keeper.client ≡ c
   pub offline : keeper.is_online ≡ false
   pub served : keeper.was_served ≡ true
@@ -39,15 +39,15 @@ pub record Awaits (limits : Limits) (c : Client) (past : Past) (keeper : Keeper)
   pub unhandled : κ.handled ≡ 0
   pub more : List Packet
   pub first : put_to limits past κ.name ≡ session_lost ∷ more
-  pub flags : List Bool
-  pub gone : AreGone flags others
-  pub told : Told limits c (with_connections past (waiting c [] keeper.is_open) (κ ∷ kept_of flags others))
+  pub head : IsHeadKept flags
+  pub gone : AreGone flags (κ ∷ others)
+  pub told : Told limits c (with_connections past (waiting c [] keeper.is_open) (kept_of flags (κ ∷ others)))
 
-pub record HasAwaiting (limits : Limits) (c : Client) (s : Story) : Type 0 where
+pub record HasAwaiting (limits : Limits) (c : Client) (flags : List Bool) (s : Story) : Type 0 where
   pub newest : Connection
   pub others : List Connection
   pub are : s.connections ≡ newest ∷ others
-  pub awaits : Awaits limits c s.past s.keeper newest others
+  pub awaits : Awaits limits c flags s.past s.keeper newest others
 
 -- ---- a place
 
@@ -58,10 +58,10 @@ unfolding put_to
 first_more limits place past x more e = ap (λ xs. xs ++ sends_to x (answers_at limits place past)) e
 
 -- a place, with the story behind it
-placed : (limits : Limits) (c : Client) (past : Past) (keeper : Keeper) (κ κ' : Connection) (others later : List Connection) (place : Place) → (a : Awaits limits c past keeper κ others)
-    → κ'.name ≡ κ.name → κ'.confirmed ≡ κ.confirmed → κ'.handled ≡ κ.handled → AreGone a.flags later
-    → Told limits c (with_connections (place ∷ past) (waiting c [] keeper.is_open) (κ' ∷ kept_of a.flags later)) → Awaits limits c (place ∷ past) keeper κ' later
-placed limits c past keeper κ κ' others later place a name confirmed handled gone told =
+placed : (limits : Limits) (c : Client) (flags : List Bool) (past : Past) (keeper : Keeper) (κ κ' : Connection) (others later : List Connection) (place : Place) → (a : Awaits limits c flags past keeper κ others)
+    → κ'.name ≡ κ.name → κ'.confirmed ≡ κ.confirmed → κ'.handled ≡ κ.handled → AreGone flags (κ' ∷ later)
+    → Told limits c (with_connections (place ∷ past) (waiting c [] keeper.is_open) (kept_of flags (κ' ∷ later))) → Awaits limits c flags (place ∷ past) keeper κ' later
+placed limits c flags past keeper κ κ' others later place a name confirmed handled gone told =
     record {
       client = a.client;
       offline = a.offline;
@@ -72,41 +72,44 @@ placed limits c past keeper κ κ' others later place a name confirmed handled g
       unhandled = handled ∙ a.unhandled;
       more = a.more ++ sends_to κ'.name (answers_at limits place past);
       first = first_more limits place past κ'.name a.more (ap (put_to limits past) name ∙ a.first);
-      flags = a.flags;
+      head = a.head;
       gone = gone;
       told = told;
     }
 
-taken_next : (limits : Limits) (c : Client) (past : Past) (keeper : Keeper) (κ : Connection) (others : List Connection) (i : ℕ) (μ : Connection) (w : Written) → NamesApart (κ ∷ others)
-    → (a : Awaits limits c past keeper κ others) → slice_get (κ ∷ others) i ≡ Some μ → slice_get μ.written μ.taken ≡ Some w
-    → HasAwaiting limits c (with_connections (place_of limits past (command_of μ.name μ.taken w.packet) ∷ past) keeper (counted_at i (κ ∷ others)))
-taken_next limits c past keeper κ others zero μ w apart a stands next =
+-- a packet of one that is kept, or of one that is left out
+told_taken : (limits : Limits) (c : Client) (flags : List Bool) (past : Past) (keeper : Keeper) (connections : List Connection) (i : ℕ) (μ : Connection) (w : Written) → keeper.client ≡ c
+    → slice_get μ.written μ.taken ≡ Some w → Told limits c (with_connections past keeper (kept_of flags connections)) → IsKept flags connections i μ ⊎ IsLeft flags connections i μ
+    → Told limits c (with_connections (place_of limits past (command_of μ.name μ.taken w.packet) ∷ past) keeper (kept_of flags (counted_at i connections)))
+told_taken limits c flags past keeper connections i μ w client next told (inl k) =
+    subst (λ (l : List Connection). Told limits c (with_connections (place_of limits past (command_of μ.name μ.taken w.packet) ∷ past) keeper l)) (sym k.counted) (goes_on told (takes k.j μ w k.stands next))
+told_taken limits c flags past keeper connections i μ w client next told (inr l) =
+    subst (λ (l : List Connection). Told limits c (with_connections (place_of limits past (command_of μ.name μ.taken w.packet) ∷ past) keeper l)) (sym l.counted)
+    (goes_on told
+    (others_take (command_of μ.name μ.taken w.packet) (later_other past keeper.client μ.name μ.taken w.packet l.taken)
+    (later_named μ.name μ.taken w.packet (kept_of flags connections) l.taken l.none)))
+
+taken_next : (limits : Limits) (c : Client) (flags : List Bool) (past : Past) (keeper : Keeper) (κ : Connection) (others : List Connection) (i : ℕ) (μ : Connection) (w : Written) → NamesApart (κ ∷ others)
+    → (a : Awaits limits c flags past keeper κ others) → slice_get (κ ∷ others) i ≡ Some μ → slice_get μ.written μ.taken ≡ Some w
+    → HasAwaiting limits c flags (with_connections (place_of limits past (command_of μ.name μ.taken w.packet) ∷ past) keeper (counted_at i (κ ∷ others)))
+taken_next limits c flags past keeper κ others zero μ w apart a stands next =
     record {
       newest = record κ { taken = suc κ.taken };
       others = others;
       are = refl;
-      awaits = placed limits c past keeper κ (record κ { taken = suc κ.taken }) others others (place_of limits past (command_of μ.name μ.taken w.packet)) a refl refl refl a.gone
-          (goes_on a.told (takes 0 μ w stands next));
+      awaits = placed limits c flags past keeper κ (record κ { taken = suc κ.taken }) others others (place_of limits past (command_of μ.name μ.taken w.packet)) a refl refl refl
+          (gone_counted 0 flags (κ ∷ others) a.gone)
+          (told_taken limits c flags past (waiting c [] keeper.is_open) (κ ∷ others) 0 μ w refl next a.told (find flags (κ ∷ others) 0 μ apart a.gone stands));
     }
-taken_next limits c past keeper κ others (suc i) μ w apart a stands next =
+taken_next limits c flags past keeper κ others (suc i) μ w apart a stands next =
     record {
       newest = κ;
       others = counted_at i others;
       are = refl;
-      awaits = placed limits c past keeper κ κ others (counted_at i others) (place_of limits past (command_of μ.name μ.taken w.packet)) a refl refl refl (gone_counted i a.flags others a.gone)
-          (by (find a.flags others i μ apart.1 a.gone stands));
+      awaits = placed limits c flags past keeper κ κ others (counted_at i others) (place_of limits past (command_of μ.name μ.taken w.packet)) a refl refl refl
+          (gone_counted (suc i) flags (κ ∷ others) a.gone)
+          (told_taken limits c flags past (waiting c [] keeper.is_open) (κ ∷ others) (suc i) μ w refl next a.told (find flags (κ ∷ others) (suc i) μ apart a.gone stands));
     }
-  where
-    P : List Connection → Type 0
-    P l = Told limits c (with_connections (place_of limits past (command_of μ.name μ.taken w.packet) ∷ past) (waiting c [] keeper.is_open) (κ ∷ l))
-
-    by : IsKept a.flags others i μ ⊎ IsLeft a.flags others i μ → P (kept_of a.flags (counted_at i others))
-    by (inl k) = subst P (sym k.counted) (goes_on a.told (takes (suc k.j) μ w k.stands next))
-    by (inr l) =
-        subst P (sym l.counted)
-        (goes_on a.told
-        (others_take (command_of μ.name μ.taken w.packet) (later_other c μ.name μ.taken w.packet l.taken)
-        (later_named μ.name μ.taken w.packet (κ ∷ kept_of a.flags others) l.taken (ap₂ (λ x y. x || y) (other_name κ.name others i μ apart.0 stands) l.none))))
 
 -- ---- the CONNACK
 
@@ -115,38 +118,40 @@ first_is : (limits : Limits) (past : Past) (κ : Connection) (more : List Packet
 first_is limits past κ more packet first unhandled next =
     let e : Some session_lost ≡ Some packet = sym (ap₂ slice_get first unhandled) ∙ next in cc
 
-settled : (limits : Limits) (c : Client) (past : Past) (keeper : Keeper) (κ : Connection) (others : List Connection) (a : Awaits limits c past keeper κ others) (packet : Packet) → keeper.is_open ≡ true
+-- what a new client makes of it, the client makes of it
+heard_same : (limits : Limits) (c : Client) (flags : List Bool) (past : Past) (keeper : Keeper) (κ : Connection) (others : List Connection) (a : Awaits limits c flags past keeper κ others) (packet : Packet) → keeper.is_open ≡ true
     → slice_get (put_to limits past κ.name) κ.handled ≡ Some packet
-    → HasBeside limits c (with_side (with_connections past keeper (κ ∷ others)) others (handled packet (let side : Side = record { keeper = keeper; connection = κ } in side)))
-settled limits c past keeper κ others a packet opened next =
-    record { flags = true ∷ a.flags; head = tt; gone = a.gone; told = subst P same heard }
+    → handled packet (let side : Side = record { keeper = waiting c [] true; connection = κ } in side) ≡ handled packet (let side : Side = record { keeper = keeper; connection = κ } in side)
+heard_same limits c flags past keeper κ others a packet opened next =
+    ap (λ p. handled p (let side : Side = record { keeper = waiting c [] true; connection = κ } in side)) (sym is)
+    ∙ ap (λ d. handled session_lost (let side : Side = record { keeper = waiting d [] true; connection = κ } in side)) (sym a.client)
+    ∙ sym (settles keeper κ a.offline a.served a.unasked opened)
+    ∙ ap (λ p. handled p (let side : Side = record { keeper = keeper; connection = κ } in side)) is
   where
-    P : Side → Type 0
-    P side = Told limits c (with_connections past side.keeper (side.connection ∷ kept_of a.flags others))
-
     is : session_lost ≡ packet
     is = first_is limits past κ a.more packet a.first a.unhandled next
 
-    now : Told limits c (with_connections past (waiting c [] true) (κ ∷ kept_of a.flags others))
-    now = subst (λ (b : Bool). Told limits c (with_connections past (waiting c [] b) (κ ∷ kept_of a.flags others))) opened a.told
+settled : (limits : Limits) (c : Client) (flags : List Bool) (past : Past) (keeper : Keeper) (κ : Connection) (others : List Connection) (a : Awaits limits c flags past keeper κ others) (packet : Packet) → keeper.is_open ≡ true
+    → slice_get (put_to limits past κ.name) κ.handled ≡ Some packet
+    → HasBeside limits c flags (with_side (with_connections past keeper (κ ∷ others)) others (handled packet (let side : Side = record { keeper = keeper; connection = κ } in side)))
+settled limits c flags past keeper κ others a packet opened next = subst P (heard_same limits c flags past keeper κ others a packet opened next) heard
+  where
+    P : Side → Type 0
+    P side = HasBeside limits c flags (with_side (with_connections past keeper (κ ∷ others)) others side)
+
+    now : Told limits c (with_connections past (waiting c [] true) (kept_of flags (κ ∷ others)))
+    now = subst (λ (b : Bool). Told limits c (with_connections past (waiting c [] b) (kept_of flags (κ ∷ others)))) opened a.told
 
     heard : P (handled packet (let side : Side = record { keeper = waiting c [] true; connection = κ } in side))
-    heard = goes_on now (receives κ (kept_of a.flags others) packet refl refl next)
-
-    same : handled packet (let side : Side = record { keeper = waiting c [] true; connection = κ } in side) ≡ handled packet (let side : Side = record { keeper = keeper; connection = κ } in side)
-    same =
-        ap (λ p. handled p (let side : Side = record { keeper = waiting c [] true; connection = κ } in side)) (sym is)
-        ∙ ap (λ d. handled session_lost (let side : Side = record { keeper = waiting d [] true; connection = κ } in side)) (sym a.client)
-        ∙ sym (settles keeper κ a.offline a.served a.unasked opened)
-        ∙ ap (λ p. handled p (let side : Side = record { keeper = keeper; connection = κ } in side)) is
+    heard = goes_received limits c (with_connections past (waiting c [] true) (κ ∷ others)) flags κ others packet a.head a.gone now refl refl next
 
 -- ---- the events
 
 -- with the same connections, which are not told of it
-abbrev kept_awaiting : (limits : Limits) (c : Client) (past : Past) (keeper : Keeper) (later : Keeper) (κ : Connection) (others : List Connection) → (a : Awaits limits c past keeper κ others)
-    → later.client ≡ keeper.client → later.is_online ≡ false → later.was_served ≡ keeper.was_served → later.requests ≡ []
-    → Told limits c (with_connections past (waiting c [] later.is_open) (κ ∷ kept_of a.flags others)) → Awaits limits c past later κ others
-kept_awaiting limits c past keeper later κ others a client offline served unasked told =
+abbrev pub kept_awaiting : (limits : Limits) (c : Client) (flags : List Bool) (past : Past) (keeper : Keeper) (later : Keeper) (κ : Connection) (others : List Connection)
+    → (a : Awaits limits c flags past keeper κ others) → later.client ≡ keeper.client → later.is_online ≡ false → later.was_served ≡ keeper.was_served → later.requests ≡ []
+    → Told limits c (with_connections past (waiting c [] later.is_open) (kept_of flags (κ ∷ others))) → Awaits limits c flags past later κ others
+kept_awaiting limits c flags past keeper later κ others a client offline served unasked told =
     record {
       client = client ∙ a.client;
       offline = offline;
@@ -157,7 +162,7 @@ kept_awaiting limits c past keeper later κ others a client offline served unask
       unhandled = a.unhandled;
       more = a.more;
       first = a.first;
-      flags = a.flags;
+      head = a.head;
       gone = a.gone;
       told = told;
     }
@@ -169,50 +174,51 @@ not_both : (b : Bool) → b ≡ false → b ≡ true → ⊥
 not_both b e f = let g : true ≡ false = sym f ∙ e in cc
 
 -- a client that awaits that CONNACK goes on awaiting it, or takes it in; as long as it is in step it opens no further connection
-pub awaiting_goes : (limits : Limits) (c : Client) (s t : Story) → NamesApart s.connections → HasAwaiting limits c s → Happens limits s t → IsInStep t → HasAwaiting limits c t ⊎ HasBeside limits c t
-awaiting_goes limits c s t apart b (takes i κ w stands next) step =
-    inl (subst (λ (l : List Connection). HasAwaiting limits c (with_connections (place_of limits s.past (command_of κ.name κ.taken w.packet) ∷ s.past) s.keeper (counted_at i l))) (sym b.are)
-    (taken_next limits c s.past s.keeper b.newest b.others i κ w (subst NamesApart b.are apart) b.awaits (sym (ap (λ (l : List Connection). slice_get l i) b.are) ∙ stands) next))
-awaiting_goes limits c s t apart b (others_take command other none) step =
+pub awaiting_goes : (limits : Limits) (c : Client) (flags : List Bool) (s t : Story) → NamesApart s.connections → HasAwaiting limits c flags s → (h : Happens limits s t) → IsInStep t
+    → HasAwaiting limits c (flags_after flags h) t ⊎ HasBeside limits c (flags_after flags h) t
+awaiting_goes limits c flags s t apart b (takes i κ w stands next) step =
+    inl (subst (λ (l : List Connection). HasAwaiting limits c flags (with_connections (place_of limits s.past (command_of κ.name κ.taken w.packet) ∷ s.past) s.keeper (counted_at i l))) (sym b.are)
+    (taken_next limits c flags s.past s.keeper b.newest b.others i κ w (subst NamesApart b.are apart) b.awaits (sym (ap (λ (l : List Connection). slice_get l i) b.are) ∙ stands) next))
+awaiting_goes limits c flags s t apart b (others_take command other none) step =
     inl (record {
       newest = b.newest;
       others = b.others;
       are = b.are;
-      awaits = placed limits c s.past s.keeper b.newest b.newest b.others b.others (place_of limits s.past command) b.awaits refl refl refl b.awaits.gone
+      awaits = placed limits c flags s.past s.keeper b.newest b.newest b.others b.others (place_of limits s.past command) b.awaits refl refl refl b.awaits.gone
           (goes_on b.awaits.told
-          (others_take command (λ h. other (subst (λ (d : Client). names_client d command) (sym b.awaits.client) h))
-          (none_kept (is_packet_of command) (true ∷ b.awaits.flags) (b.newest ∷ b.others) (sym (ap (any_named (is_packet_of command)) b.are) ∙ none))));
+          (others_take command (λ h. other (subst (λ (d : Client). names_client s.past d command) (sym b.awaits.client) h))
+          (none_kept (is_packet_of command) flags (b.newest ∷ b.others) (sym (ap (any_named (is_packet_of command)) b.are) ∙ none))));
     })
-awaiting_goes limits c s t apart b (receives κ others packet are opened next) step =
+awaiting_goes limits c flags s t apart b (receives κ others packet are opened next) step =
     let both : b.newest ∷ b.others ≡ κ ∷ others = sym b.are ∙ are in
     let one : b.newest ≡ κ = cc in
     let rest : b.others ≡ others = cc in
-    let a = subst (λ (z : Connection). Awaits limits c s.past s.keeper z others) one (subst (λ (l : List Connection). Awaits limits c s.past s.keeper b.newest l) rest b.awaits) in
-    inr (settled limits c s.past s.keeper κ others a packet opened next)
-awaiting_goes limits c s t apart b (opens_anew x fresh none uncounted) step =
+    let a = subst (λ (z : Connection). Awaits limits c flags s.past s.keeper z others) one (subst (λ (l : List Connection). Awaits limits c flags s.past s.keeper b.newest l) rest b.awaits) in
+    inr (settled limits c flags s.past s.keeper κ others a packet opened next)
+awaiting_goes limits c flags s t apart b (opens_anew x fresh none uncounted) step =
     let welcome = (subst (Each (WasWelcome s.past s.keeper.client)) b.are step).0 in
     absurd (not_both b.newest.confirmed b.awaits.unconfirmed (welcome (ap (λ (d : Client). began_again s.past d b.newest.name) b.awaits.client ∙ b.awaits.again)))
-awaiting_goes limits c s t apart b loses step =
+awaiting_goes limits c flags s t apart b loses step =
     inl (record {
       newest = b.newest;
       others = b.others;
       are = b.are;
-      awaits = kept_awaiting limits c s.past s.keeper (lost s.keeper) b.newest b.others b.awaits refl refl refl refl (goes_on b.awaits.told loses);
+      awaits = kept_awaiting limits c flags s.past s.keeper (lost s.keeper) b.newest b.others b.awaits refl refl refl refl (goes_on b.awaits.told loses);
     })
-awaiting_goes limits c s t apart b disconnects step =
+awaiting_goes limits c flags s t apart b disconnects step =
     inl (record {
       newest = b.newest;
       others = b.others;
       are = ap (λ (o : Bool). if o then writes_first (plain packets.Disconnect ∷ []) s.connections else s.connections) b.awaits.offline ∙ b.are;
-      awaits = kept_awaiting limits c s.past s.keeper (lost s.keeper) b.newest b.others b.awaits refl refl refl refl (goes_on b.awaits.told loses);
+      awaits = kept_awaiting limits c flags s.past s.keeper (lost s.keeper) b.newest b.others b.awaits refl refl refl refl (goes_on b.awaits.told loses);
     })
-awaiting_goes limits c s t apart b (publishes_one p needs) step =
+awaiting_goes limits c flags s t apart b (publishes_one p needs) step =
     inl (record {
       newest = b.newest;
       others = b.others;
       are = ap (λ (o : Bool). writes_first (if o then publishes false (length s.keeper.own) (least_free (ids_in_use s.keeper)) p ∷ [] else []) s.connections) b.awaits.offline
           ∙ ap (writes_first []) b.are ∙ written_none b.newest b.others;
-      awaits = kept_awaiting limits c s.past s.keeper t.keeper b.newest b.others b.awaits refl b.awaits.offline refl b.awaits.unasked b.awaits.told;
+      awaits = kept_awaiting limits c flags s.past s.keeper t.keeper b.newest b.others b.awaits refl b.awaits.offline refl b.awaits.unasked b.awaits.told;
     })
-awaiting_goes limits c s t apart b (subscribes p on id) step = absurd (not_both s.keeper.is_online b.awaits.offline on)
-awaiting_goes limits c s t apart b (unsubscribes p on id) step = absurd (not_both s.keeper.is_online b.awaits.offline on)
+awaiting_goes limits c flags s t apart b (subscribes p on id) step = absurd (not_both s.keeper.is_online b.awaits.offline on)
+awaiting_goes limits c flags s t apart b (unsubscribes p on id) step = absurd (not_both s.keeper.is_online b.awaits.offline on)

@@ -47,11 +47,15 @@ AreGone (b ∷ flags) [] = Unit {0}
 abbrev pub beside : List Bool → Story → Story
 beside flags s = record { past = s.past; connections = kept_of flags s.connections; keeper = s.keeper }
 
-pub record HasBeside (limits : Limits) (c : Client) (s : Story) : Type 0 where
-  pub flags : List Bool
+pub record HasBeside (limits : Limits) (c : Client) (flags : List Bool) (s : Story) : Type 0 where
   pub head : IsHeadKept flags
   pub gone : AreGone flags s.connections
   pub told : Told limits c (beside flags s)
+
+-- behind an event: a connection that it opens is kept
+abbrev pub flags_after : {limits : Limits} {s t : Story} → List Bool → Happens limits s t → List Bool
+flags_after flags (opens_anew x fresh none uncounted) = true ∷ flags
+flags_after flags _ = flags
 
 -- ---- what is kept
 
@@ -127,9 +131,9 @@ find (false ∷ flags) (μ ∷ connections) (suc i) κ apart gone at = by (find 
     by (inr l) = inr (record { taken = l.taken; none = l.none; counted = l.counted })
 
 -- a packet behind the CONNECT
-pub later_other : (c : Client) (x : ConnectionName) (n : ℕ) (packet : Packet) → 1 ≤ n → names_client c (command_of x n packet) → ⊥
-later_other c x zero packet less h = omega (arith, less)
-later_other c x (suc n) packet less h = h
+pub later_other : (past : Past) (c : Client) (x : ConnectionName) (n : ℕ) (packet : Packet) → 1 ≤ n → names_client past c (command_of x n packet) → ⊥
+later_other past c x zero packet less h = omega (arith, less)
+later_other past c x (suc n) packet less h = h
 
 pub later_named : (x : ConnectionName) (n : ℕ) (packet : Packet) (connections : List Connection) → 1 ≤ n → any_named (same_connection x) connections ≡ false
     → any_named (is_packet_of (command_of x n packet)) connections ≡ false
@@ -141,28 +145,27 @@ later_named x (suc n) packet connections less e = e
 abbrev pub with_connections : Past → Keeper → List Connection → Story
 with_connections past keeper connections = record { past = past; connections = connections; keeper = keeper }
 
-goes_taken : (limits : Limits) (c : Client) (s : Story) (b : HasBeside limits c s) (i : ℕ) (κ : Connection) (w : Written) → slice_get κ.written κ.taken ≡ Some w
-    → IsKept b.flags s.connections i κ ⊎ IsLeft b.flags s.connections i κ
-    → Told limits c (with_connections (place_of limits s.past (command_of κ.name κ.taken w.packet) ∷ s.past) s.keeper (kept_of b.flags (counted_at i s.connections)))
-goes_taken limits c s b i κ w next (inl k) =
+goes_taken : (limits : Limits) (c : Client) (flags : List Bool) (s : Story) (b : HasBeside limits c flags s) (i : ℕ) (κ : Connection) (w : Written) → slice_get κ.written κ.taken ≡ Some w
+    → IsKept flags s.connections i κ ⊎ IsLeft flags s.connections i κ
+    → Told limits c (with_connections (place_of limits s.past (command_of κ.name κ.taken w.packet) ∷ s.past) s.keeper (kept_of flags (counted_at i s.connections)))
+goes_taken limits c flags s b i κ w next (inl k) =
     subst (λ (l : List Connection). Told limits c (with_connections (place_of limits s.past (command_of κ.name κ.taken w.packet) ∷ s.past) s.keeper l)) (sym k.counted)
     (goes_on b.told (takes k.j κ w k.stands next))
-goes_taken limits c s b i κ w next (inr l) =
+goes_taken limits c flags s b i κ w next (inr l) =
     subst (λ (l : List Connection). Told limits c (with_connections (place_of limits s.past (command_of κ.name κ.taken w.packet) ∷ s.past) s.keeper l)) (sym l.counted)
-    (goes_on b.told (others_take (command_of κ.name κ.taken w.packet) (later_other s.keeper.client κ.name κ.taken w.packet l.taken) (later_named κ.name κ.taken w.packet (kept_of b.flags s.connections) l.taken l.none)))
+    (goes_on b.told (others_take (command_of κ.name κ.taken w.packet) (later_other s.past s.keeper.client κ.name κ.taken w.packet l.taken) (later_named κ.name κ.taken w.packet (kept_of flags s.connections) l.taken l.none)))
 
 goes_written : (limits : Limits) (c : Client) (past : Past) (keeper : Keeper) (flags : List Bool) (more : List Written) (connections : List Connection) → IsHeadKept flags
     → Told limits c (with_connections past keeper (writes_first more (kept_of flags connections))) → Told limits c (with_connections past keeper (kept_of flags (writes_first more connections)))
 goes_written limits c past keeper flags more connections h = subst (λ (l : List Connection). Told limits c (with_connections past keeper l)) (sym (kept_writes more flags connections h))
 
 -- a packet is handled on the newest one
-goes_received : (limits : Limits) (c : Client) (s : Story) (flags : List Bool) (κ : Connection) (others : List Connection) (packet : Packet) → IsHeadKept flags → AreGone flags s.connections
+pub goes_received : (limits : Limits) (c : Client) (s : Story) (flags : List Bool) (κ : Connection) (others : List Connection) (packet : Packet) → IsHeadKept flags → AreGone flags s.connections
     → Told limits c (beside flags s) → s.connections ≡ κ ∷ others → s.keeper.is_open ≡ true → slice_get (put_to limits s.past κ.name) κ.handled ≡ Some packet
-    → HasBeside limits c (with_side s others (handled packet (record { keeper = s.keeper; connection = κ })))
-goes_received limits c s [] κ others packet h gone told are opened next = record { flags = []; head = tt; gone = tt; told = goes_on told (receives κ others packet are opened next) }
+    → HasBeside limits c flags (with_side s others (handled packet (record { keeper = s.keeper; connection = κ })))
+goes_received limits c s [] κ others packet h gone told are opened next = record { head = tt; gone = tt; told = goes_on told (receives κ others packet are opened next) }
 goes_received limits c s (true ∷ flags) κ others packet h gone told are opened next =
     record {
-      flags = true ∷ flags;
       head = tt;
       gone = subst (AreGone (true ∷ flags)) are gone;
       told = goes_on told (receives κ (kept_of flags others) packet (ap (kept_of (true ∷ flags)) are) opened next);
@@ -181,51 +184,45 @@ gone_either more flags connections h g true = gone_writes more flags connections
 gone_either more flags connections h g false = g
 
 -- while the session lasts, and before the first one begins
-pub goes_beside : (limits : Limits) (c : Client) (s t : Story) → NamesApart s.connections → HasBeside limits c s → Happens limits s t → HasBeside limits c t
-goes_beside limits c s t apart b (takes i κ w stands next) =
+pub goes_beside : (limits : Limits) (c : Client) (flags : List Bool) (s t : Story) → NamesApart s.connections → HasBeside limits c flags s → (h : Happens limits s t) → HasBeside limits c (flags_after flags h) t
+goes_beside limits c flags s t apart b (takes i κ w stands next) =
     record {
-      flags = b.flags;
       head = b.head;
-      gone = gone_counted i b.flags s.connections b.gone;
-      told = goes_taken limits c s b i κ w next (find b.flags s.connections i κ apart b.gone stands);
+      gone = gone_counted i flags s.connections b.gone;
+      told = goes_taken limits c flags s b i κ w next (find flags s.connections i κ apart b.gone stands);
     }
-goes_beside limits c s t apart b (others_take command other none) =
-    record { flags = b.flags; head = b.head; gone = b.gone; told = goes_on b.told (others_take command other (none_kept (is_packet_of command) b.flags s.connections none)) }
-goes_beside limits c s t apart b (receives κ others packet are opened next) = goes_received limits c s b.flags κ others packet b.head b.gone b.told are opened next
-goes_beside limits c s t apart b (opens_anew x fresh none uncounted) =
+goes_beside limits c flags s t apart b (others_take command other none) =
+    record { head = b.head; gone = b.gone; told = goes_on b.told (others_take command other (none_kept (is_packet_of command) flags s.connections none)) }
+goes_beside limits c flags s t apart b (receives κ others packet are opened next) = goes_received limits c s flags κ others packet b.head b.gone b.told are opened next
+goes_beside limits c flags s t apart b (opens_anew x fresh none uncounted) =
     record {
-      flags = true ∷ b.flags;
       head = tt;
       gone = b.gone;
-      told = goes_on b.told (opens_anew x (none_kept (same_connection x) b.flags s.connections fresh) none uncounted);
+      told = goes_on b.told (opens_anew x (none_kept (same_connection x) flags s.connections fresh) none uncounted);
     }
-goes_beside limits c s t apart b loses = record { flags = b.flags; head = b.head; gone = b.gone; told = goes_on b.told loses }
-goes_beside limits c s t apart b disconnects =
+goes_beside limits c flags s t apart b loses = record { head = b.head; gone = b.gone; told = goes_on b.told loses }
+goes_beside limits c flags s t apart b disconnects =
     record {
-      flags = b.flags;
       head = b.head;
-      gone = gone_either (plain packets.Disconnect ∷ []) b.flags s.connections b.head b.gone s.keeper.is_online;
-      told = subst (λ (l : List Connection). Told limits c (with_connections s.past (lost s.keeper) l)) (sym (kept_either (plain packets.Disconnect ∷ []) b.flags s.connections b.head s.keeper.is_online))
+      gone = gone_either (plain packets.Disconnect ∷ []) flags s.connections b.head b.gone s.keeper.is_online;
+      told = subst (λ (l : List Connection). Told limits c (with_connections s.past (lost s.keeper) l)) (sym (kept_either (plain packets.Disconnect ∷ []) flags s.connections b.head s.keeper.is_online))
           (goes_on b.told disconnects);
     }
-goes_beside limits c s t apart b (publishes_one p needs) =
+goes_beside limits c flags s t apart b (publishes_one p needs) =
     record {
-      flags = b.flags;
       head = b.head;
-      gone = gone_writes (written_for p s.keeper) b.flags s.connections b.head b.gone;
-      told = goes_written limits c s.past t.keeper b.flags (written_for p s.keeper) s.connections b.head (goes_on b.told (publishes_one p needs));
+      gone = gone_writes (written_for p s.keeper) flags s.connections b.head b.gone;
+      told = goes_written limits c s.past t.keeper flags (written_for p s.keeper) s.connections b.head (goes_on b.told (publishes_one p needs));
     }
-goes_beside limits c s t apart b (subscribes p on id) =
+goes_beside limits c flags s t apart b (subscribes p on id) =
     record {
-      flags = b.flags;
       head = b.head;
-      gone = gone_writes (plain (packets.Subscribe p) ∷ []) b.flags s.connections b.head b.gone;
-      told = goes_written limits c s.past t.keeper b.flags (plain (packets.Subscribe p) ∷ []) s.connections b.head (goes_on b.told (subscribes p on id));
+      gone = gone_writes (plain (packets.Subscribe p) ∷ []) flags s.connections b.head b.gone;
+      told = goes_written limits c s.past t.keeper flags (plain (packets.Subscribe p) ∷ []) s.connections b.head (goes_on b.told (subscribes p on id));
     }
-goes_beside limits c s t apart b (unsubscribes p on id) =
+goes_beside limits c flags s t apart b (unsubscribes p on id) =
     record {
-      flags = b.flags;
       head = b.head;
-      gone = gone_writes (plain (packets.Unsubscribe p) ∷ []) b.flags s.connections b.head b.gone;
-      told = goes_written limits c s.past t.keeper b.flags (plain (packets.Unsubscribe p) ∷ []) s.connections b.head (goes_on b.told (unsubscribes p on id));
+      gone = gone_writes (plain (packets.Unsubscribe p) ∷ []) flags s.connections b.head b.gone;
+      told = goes_written limits c s.past t.keeper flags (plain (packets.Unsubscribe p) ∷ []) s.connections b.head (goes_on b.told (unsubscribes p on id));
     }

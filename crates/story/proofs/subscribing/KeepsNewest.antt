@@ -35,7 +35,7 @@ abbrev pub IsServed : Story → Type 0
 IsServed s = NewestIsServed (current_connection s.past s.keeper.client) s.connections
 
 -- another command opens no connection of the client
-not_opened : (limits : Limits) (past : Past) (c : Client) (command : Command) → (names_client c command → ⊥) → accepts command (mark_of limits past command) c ≡ None
+not_opened : (limits : Limits) (past : Past) (c : Client) (command : Command) → (names_client past c command → ⊥) → accepts command (mark_of limits past command) c ≡ None
 not_opened limits past c (commands.Packet x packet) other = refl
 not_opened limits past c (commands.Lost x) other = refl
 not_opened limits past c (commands.Start b) other = refl

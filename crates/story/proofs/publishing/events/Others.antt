@@ -7,7 +7,7 @@ use Rattle.packet.specs.declared.packet.Packet.TheVariants as packets
 use Rattle.session_base.specs.Publication.{publication_of}
 use Rattle.broker_base.specs.Connection.{ConnectionName, same_connection}
 use Rattle.broker_base.specs.Place.{Client, Mark, Place, Past, Limits, same_client, only_if}
-use Rattle.broker_base.specs.Past.{accepts, ends_any, current_connection, expels}
+use Rattle.broker_base.specs.Past.{accepts, ends_any, current_connection}
 use Rattle.broker_base.specs.Owner.{owner_of}
 use Rattle.broker_base.specs.Received.{is_new, is_repeat, receives, received_by, received_of}
 use Rattle.session_base.specs.Identifiers.{without_id}
@@ -24,7 +24,8 @@ use Rattle.story.specs.Story.{any_named, is_packet_of, count_of, names_client}
 use Rattle.story.specs.Carried.{carries, connection_named, number_at, more_by, new_numbers}
 use Rattle.story.specs.Inside.Projections.{last_confirmed, as_publisher, GoesTo}
 use Rattle.story.specs.Inside.Shape.{HasShape, LastIsCurrent}
-use Rattle.story.proofs.places.After.{current_stays, current_ends, received_stays}
+use Rattle.story.proofs.places.After.{IsSpared, current_stays, current_ends, received_spared}
+use Rattle.story.proofs.places.Spared.{other_spares}
 use Rattle.story.proofs.places.Owned.{owner_is_other}
 use Rattle.story.proofs.publishing.Links.{current_last, forward_last}
 use Rattle.story.proofs.publishing.First.{story_by}
@@ -64,12 +65,12 @@ none_current None = refl
 none_current (Some κ) = refl
 
 goes_other : (limits : Limits) (place : Place) (past : Past) (keeper : Keeper) (connections : List Connection) → HasShape limits (story_by past connections keeper)
-    → accepts place.command place.mark keeper.client ≡ None → expels place.command keeper.client ≡ false → received_by place.command place.mark keeper.client (received_of past keeper.client) ≡ received_of past keeper.client
+    → accepts place.command place.mark keeper.client ≡ None → IsSpared place.command past keeper.client → received_by place.command place.mark keeper.client (received_of past keeper.client) ≡ received_of past keeper.client
     → any_named (is_packet_of place.command) connections ≡ false → NoneToLast limits place past connections
     → GoesTo (as_publisher limits (story_by past connections keeper)) (as_publisher limits (story_by (place ∷ past) connections keeper))
 goes_other limits place past keeper connections shape opens spared same none quiet =
     goes_place limits place past keeper connections connections (number_none connections place past (carries_none connections place.command past none))
-    (sym (received_stays place past keeper.client opens spared shape.session same)) (come_same limits place past keeper connections shape.connections quiet)
+    (sym (received_spared place past keeper.client opens spared shape.session same)) (come_same limits place past keeper connections shape.connections quiet)
     (by (cases_Bool (ends_any place keeper.client (current_connection past keeper.client))))
   where
     by : (ends_any place keeper.client (current_connection past keeper.client) ≡ true) ⊎ (ends_any place keeper.client (current_connection past keeper.client) ≡ false)
@@ -115,10 +116,10 @@ mine None connections lastly y e = cc
 mine (Some x) connections lastly y e = let same : x ≡ y = cc in subst (λ (z : ConnectionName). any_named (same_connection z) connections ≡ true) same lastly.0
 
 pub others_take_it : (limits : Limits) (past : Past) (keeper : Keeper) (connections : List Connection) (command : Command) → HasShape limits (story_by past connections keeper)
-    → (names_client keeper.client command → ⊥) → any_named (is_packet_of command) connections ≡ false
+    → (names_client past keeper.client command → ⊥) → any_named (is_packet_of command) connections ≡ false
     → GoesTo (as_publisher limits (story_by past connections keeper)) (as_publisher limits (story_by (place_of limits past command ∷ past) connections keeper))
 others_take_it limits past keeper connections (commands.Packet x packet) shape other none =
-    goes_other limits (place_of limits past (commands.Packet x packet)) past keeper connections shape refl refl (by (owner_of past x) refl) none
+    goes_other limits (place_of limits past (commands.Packet x packet)) past keeper connections shape refl (inl refl) (by (owner_of past x) refl) none
     (λ κ e. packet_none κ.name limits (place_of limits past (commands.Packet x packet)) past x packet (packet_mark_of limits past packet (owner_of past x))
     (λ h. same_turned κ.name x ∙ each_last (λ (μ : Connection). same_connection x μ.name ≡ false) connections κ (none_named (same_connection x) connections none) e))
   where
@@ -130,14 +131,14 @@ others_take_it limits past keeper connections (commands.Packet x packet) shape o
         (owner_is_other past keeper.client d connections x (mine (current_connection past keeper.client) connections shape.last_is_current) none e)
 others_take_it limits past keeper connections (commands.Connect x d clean) shape other none =
     let place = place_of limits past (commands.Connect x d clean) in
-    goes_other limits place past keeper connections shape (opens_other x keeper.client d clean place.mark (not_same keeper.client d other)) refl refl none
+    goes_other limits place past keeper connections shape (opens_other x keeper.client d clean place.mark (not_same keeper.client d other)) (inl refl) refl none
     (λ κ e. connect_none κ.name limits place past x d place.mark)
 others_take_it limits past keeper connections (commands.Lost x) shape other none =
-    goes_other limits (place_of limits past (commands.Lost x)) past keeper connections shape refl refl refl none (λ κ e. refl)
+    goes_other limits (place_of limits past (commands.Lost x)) past keeper connections shape refl (inl refl) refl none (λ κ e. refl)
 others_take_it limits past keeper connections (commands.Start b) shape other none =
-    goes_other limits (place_of limits past (commands.Start b)) past keeper connections shape refl refl refl none (λ κ e. refl)
+    goes_other limits (place_of limits past (commands.Start b)) past keeper connections shape refl (inl refl) refl none (λ κ e. refl)
 others_take_it limits past keeper connections (commands.Expel d) shape other none =
-    goes_other limits (place_of limits past (commands.Expel d)) past keeper connections shape refl (not_same keeper.client d other) refl none (λ κ e. closes κ.name (current_connection past d))
+    goes_other limits (place_of limits past (commands.Expel d)) past keeper connections shape refl (other_spares past keeper.client (commands.Expel d) other) refl none (λ κ e. closes κ.name (current_connection past d))
   where
     closes : (y : ConnectionName) (o : Option ConnectionName) → NoneSent y (closed o)
     closes y None = refl

@@ -1,5 +1,5 @@
 -- Each event keeps names of connections apart, and a session that is not clean.
-use Rattle.std.proofs.Common.{◌≡◌, ℕ, zero, suc, Bool, true, false, ◌||◌, if◌then◌else◌, List, [], ◌∷◌, Option, Some, None, refl, ap, sym, ◌∙◌, subst, inr}
+use Rattle.std.proofs.Common.{◌≡◌, ℕ, zero, suc, Bool, true, false, ◌||◌, if◌then◌else◌, List, [], ◌∷◌, Option, Some, None, refl, ap, sym, ◌∙◌, subst, inl, inr}
 use Rattle.std.specs.Prelude.{slice_get}
 use Rattle.packet.specs.declared.packet.Packet.{Packet}
 use Rattle.packet.specs.declared.packet.Packet.TheVariants as packets
@@ -20,7 +20,7 @@ use Rattle.client_base.specs.Written.{writes_first}
 use Rattle.story.specs.Story.Happens.{takes, others_take, receives, opens_anew, loses, disconnects, publishes_one, subscribes, unsubscribes}
 use Rattle.story.specs.Inside.Shape.{NamesApart, ConnectionInShape, IsSoundStory}
 use Rattle.story.proofs.places.Counts.{only_there}
-use Rattle.story.proofs.places.After.{IsKeptSession, session_stays, session_opens}
+use Rattle.story.proofs.places.After.{IsKeptSession, IsSpared, session_spared, session_opens}
 use Rattle.story.proofs.publishing.Grown.{handled_grows}
 use Rattle.story.proofs.publishing.Last.{each_there}
 use Rattle.story.proofs.places.Spared.{taken_spares, other_spares}
@@ -32,7 +32,7 @@ counted_named test i [] = refl
 counted_named test zero (κ ∷ connections) = refl
 counted_named test (suc i) (κ ∷ connections) = ap (λ b. test κ.name || b) (counted_named test i connections)
 
-counted_apart : (i : ℕ) (connections : List Connection) → NamesApart connections → NamesApart (counted_at i connections)
+pub counted_apart : (i : ℕ) (connections : List Connection) → NamesApart connections → NamesApart (counted_at i connections)
 counted_apart i [] a = a
 counted_apart zero (κ ∷ connections) a = a
 counted_apart (suc i) (κ ∷ connections) a = (counted_named (same_connection κ.name) i connections ∙ a.0, counted_apart i connections a.1)
@@ -64,14 +64,14 @@ events_keep_names limits s t a (unsubscribes p on id) = written_apart (plain (pa
 abbrev pub OpensKept : Client → Place → Type 0
 OpensKept c place = (opened : ConnectionName × Bool) → accepts place.command place.mark c ≡ Some opened → opened.1 ≡ false
 
-session_kept : (place : Place) (past : Past) (c : Client) → OpensKept c place → expels place.command c ≡ false → IsKeptSession (session_of past c) → IsKeptSession (session_of (place ∷ past) c)
+pub session_kept : (place : Place) (past : Past) (c : Client) → OpensKept c place → IsSpared place.command past c → IsKeptSession (session_of past c) → IsKeptSession (session_of (place ∷ past) c)
 session_kept place past c kept spared s = by (accepts place.command place.mark c) refl
   where
     by : (o : Option (ConnectionName × Bool)) → accepts place.command place.mark c ≡ o → IsKeptSession (session_of (place ∷ past) c)
     by (Some opened) e = inr (session_opens place past c opened e ∙ ap (λ b. Some b) (kept opened e))
-    by None e = subst IsKeptSession (sym (session_stays place past c e spared s)) s
+    by None e = subst IsKeptSession (sym (session_spared place past c e spared s)) s
 
-kept_connect : (x : ConnectionName) (c d : Client) (mark : Mark) → OpensKept c (record { command = commands.Connect x d false; mark = mark })
+pub kept_connect : (x : ConnectionName) (c d : Client) (mark : Mark) → OpensKept c (record { command = commands.Connect x d false; mark = mark })
 kept_connect x c d Mark.Accepted opened e =
     let found : Some (x, false) ≡ Some opened = (only_there (same_client d c) (Some (x, false)) opened e).1 in
     let same : (x, false) ≡ opened = cc in
@@ -90,22 +90,22 @@ kept_taken limits past c κ w zero mark shape next =
     subst (λ (v : Written). OpensKept c (record { command = command_of κ.name 0 v.packet; mark = mark })) same (kept_connect κ.name c c mark)
 kept_taken limits past c κ w (suc n) mark shape next = kept_packet κ.name n w.packet c mark
 
-kept_other : (c : Client) (command : Command) (mark : Mark) → (names_client c command → ⊥) → OpensKept c (record { command = command; mark = mark })
-kept_other c (commands.Connect x d clean) Mark.Accepted other opened e = absurd (other (same_is d c (only_there (same_client d c) (Some (x, clean)) opened e).0))
-kept_other c (commands.Connect x d clean) _ other opened e = cc
-kept_other c (commands.Packet x packet) mark other opened e = cc
-kept_other c (commands.Lost x) mark other opened e = cc
-kept_other c (commands.Start b) mark other opened e = cc
-kept_other c (commands.Expel d) mark other opened e = cc
+pub kept_other : (past : Past) (c : Client) (command : Command) (mark : Mark) → (names_client past c command → ⊥) → OpensKept c (record { command = command; mark = mark })
+kept_other past c (commands.Connect x d clean) Mark.Accepted other opened e = absurd (other (same_is d c (only_there (same_client d c) (Some (x, clean)) opened e).0))
+kept_other past c (commands.Connect x d clean) _ other opened e = cc
+kept_other past c (commands.Packet x packet) mark other opened e = cc
+kept_other past c (commands.Lost x) mark other opened e = cc
+kept_other past c (commands.Start b) mark other opened e = cc
+kept_other past c (commands.Expel d) mark other opened e = cc
 
 pub events_keep_session : (limits : Limits) (s t : Story) → IsSoundStory limits s → Happens limits s t → IsKeptSession (session_of t.past s.keeper.client)
 events_keep_session limits s t sound (takes i κ w stands next) =
     let this = each_there (ConnectionInShape limits s.past s.keeper.client) i s.connections κ stands sound.shape.connections in
     let command = command_of κ.name κ.taken w.packet in
     session_kept (place_of limits s.past command) s.past s.keeper.client (kept_taken limits s.past s.keeper.client κ w κ.taken (mark_of limits s.past command) this next)
-    (taken_spares κ.name κ.taken w.packet s.keeper.client) sound.shape.session
+    (inl (taken_spares κ.name κ.taken w.packet s.keeper.client)) sound.shape.session
 events_keep_session limits s t sound (others_take command other none) =
-    session_kept (place_of limits s.past command) s.past s.keeper.client (kept_other s.keeper.client command (mark_of limits s.past command) other) (other_spares s.keeper.client command other) sound.shape.session
+    session_kept (place_of limits s.past command) s.past s.keeper.client (kept_other s.past s.keeper.client command (mark_of limits s.past command) other) (other_spares s.past s.keeper.client command other) sound.shape.session
 events_keep_session limits s t sound (receives κ others packet are opened next) = sound.shape.session
 events_keep_session limits s t sound (opens_anew x fresh none uncounted) = sound.shape.session
 events_keep_session limits s t sound loses = sound.shape.session

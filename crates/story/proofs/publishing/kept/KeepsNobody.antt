@@ -34,7 +34,7 @@ abbrev pub OpensOwn : Client → List Connection → Place → Type 0
 OpensOwn c connections place =
     (d : Client) (opened : ConnectionName × Bool) → accepts place.command place.mark d ≡ Some opened → any_named (same_connection opened.0) connections ≡ true → same_client d c ≡ true
 
-nobody_placed : (place : Place) (past : Past) (c : Client) (connections : List Connection) → OpensOwn c connections place → NobodyElse past c connections → NobodyElse (place ∷ past) c connections
+pub nobody_placed : (place : Place) (past : Past) (c : Client) (connections : List Connection) → OpensOwn c connections place → NobodyElse past c connections → NobodyElse (place ∷ past) c connections
 unfolding current_connection
 nobody_placed place past c connections own nobody d x current named = by (accepts place.command place.mark d) refl current
   where
@@ -46,7 +46,7 @@ nobody_placed place past c connections own nobody d x current named = by (accept
     by None e f = nobody d x (only_there (not (ends_any place d (current_connection past d))) (current_connection past d) x f).1 named
 
 -- a Connect of the client
-own_connect : (x : ConnectionName) (c : Client) (connections : List Connection) (clean : Bool) (mark : Mark) → OpensOwn c connections (record { command = commands.Connect x c clean; mark = mark })
+pub own_connect : (x : ConnectionName) (c : Client) (connections : List Connection) (clean : Bool) (mark : Mark) → OpensOwn c connections (record { command = commands.Connect x c clean; mark = mark })
 own_connect x c connections clean Mark.Accepted d opened e named =
     let same = same_is c d (only_there (same_client c d) (Some (x, clean)) opened e).0 in
     subst (λ (k : Client). same_client k c ≡ true) same (same_self c)
@@ -66,7 +66,7 @@ own_taken limits past c connections κ w zero mark shape next =
 own_taken limits past c connections κ w (suc n) mark shape next = own_packet κ.name n w.packet c connections mark
 
 -- a command of none of them
-other_opens : (c : Client) (connections : List Connection) (command : Command) (mark : Mark) → any_named (is_packet_of command) connections ≡ false
+pub other_opens : (c : Client) (connections : List Connection) (command : Command) (mark : Mark) → any_named (is_packet_of command) connections ≡ false
     → OpensOwn c connections (record { command = command; mark = mark })
 other_opens c connections (commands.Connect x k clean) Mark.Accepted none d opened e named =
     let found : Some (x, clean) ≡ Some opened = (only_there (same_client k d) (Some (x, clean)) opened e).1 in
@@ -81,16 +81,16 @@ other_opens c connections (commands.Expel k) mark none d opened e named = cc
 -- ---- connections
 
 -- the same names
-nobody_named : (past : Past) (c : Client) (connections later : List Connection) → ((test : ConnectionName → Bool) → any_named test later ≡ any_named test connections)
+pub nobody_named : (past : Past) (c : Client) (connections later : List Connection) → ((test : ConnectionName → Bool) → any_named test later ≡ any_named test connections)
     → NobodyElse past c connections → NobodyElse past c later
 nobody_named past c connections later same nobody d x current named = nobody d x current (sym (same (same_connection x)) ∙ named)
 
-written_named : (more : List Written) (connections : List Connection) (test : ConnectionName → Bool) → any_named test (writes_first more connections) ≡ any_named test connections
+pub written_named : (more : List Written) (connections : List Connection) (test : ConnectionName → Bool) → any_named test (writes_first more connections) ≡ any_named test connections
 written_named more [] test = refl
 written_named more (κ ∷ connections) test = refl
 
 -- a new one is nobody's
-nobody_opened : (past : Past) (c : Client) (connections : List Connection) (κ : Connection) → count_of κ.name past ≡ 0 → NobodyElse past c connections → NobodyElse past c (κ ∷ connections)
+pub nobody_opened : (past : Past) (c : Client) (connections : List Connection) (κ : Connection) → count_of κ.name past ≡ 0 → NobodyElse past c connections → NobodyElse past c (κ ∷ connections)
 nobody_opened past c connections κ none nobody d x current named = by (cases_Bool (same_connection x κ.name))
   where
     by : (same_connection x κ.name ≡ true) ⊎ (same_connection x κ.name ≡ false) → same_client d c ≡ true

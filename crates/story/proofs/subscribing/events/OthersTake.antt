@@ -21,8 +21,10 @@ use Rattle.story.proofs.subscribing.events.Others.{other_packet}
 use Rattle.story.proofs.subscribing.events.OtherConnects.{other_connect}
 use Rattle.story.proofs.subscribing.places.Over.{entries_over}
 use Rattle.story.proofs.subscribing.places.Publishes.{none_handed}
-use Rattle.story.proofs.subscribing.places.Quiet.{current_same, current_over}
-use Rattle.story.proofs.places.Spared.{not_this}
+use Rattle.story.proofs.subscribing.places.Quiet.{current_same, current_over, no_entries}
+use Rattle.story.proofs.places.Spared.{other_spares}
+use Rattle.story.proofs.places.After.{IsSpared, none_opens}
+use Rattle.broker_base.proofs.QuietPasts.{no_connection}
 use Rattle.broker_base.specs.Answers.{closed}
 
 -- a connection's loss
@@ -70,31 +72,37 @@ goes_start limits s shape b =
     let over = start_over b s.past s.keeper.client in
     place_parts limits s (at_start b) s.connections shape over (entries_over limits (at_start b) s.past s.keeper.client shape.session refl refl over refl refl) (λ x h. refl) refl refl
 
--- another client is expelled
+-- another client is expelled, or one without a session
 abbrev pub at_expel : Client → Place
 at_expel d = record { command = commands.Expel d; mark = Mark.NoPart }
 
-goes_expel : (limits : Limits) (s : Story) → HasShape limits s → IsSteady limits → (d : Client) → (d ≡ s.keeper.client → ⊥) → GoesTo (as_subscriber limits s) (as_subscriber limits (placed s (at_expel d) s.connections))
-goes_expel limits s shape steady d other =
+closes_only : (x : ConnectionName) (o : Option ConnectionName) → sends_to x (closed o) ≡ []
+closes_only x None = refl
+closes_only x (Some y) = refl
+
+goes_expel : (limits : Limits) (s : Story) → HasShape limits s → IsSteady limits → (d : Client) → IsSpared (commands.Expel d) s.past s.keeper.client
+    → GoesTo (as_subscriber limits s) (as_subscriber limits (placed s (at_expel d) s.connections))
+goes_expel limits s shape steady d (inl spared) =
     stays_plain limits s (at_expel d) shape
     (record {
       opens = refl;
       goes = ends (current_connection s.past s.keeper.client);
       answers = refl;
       window = steady (at_expel d) s.past refl;
-      sends = λ x h. ap forward_of (closes x (current_connection s.past d)) ∙ sym (ap (λ l. forward_of (sends_to x l)) (none_handed limits (at_expel d) s.past s.keeper.client refl));
+      sends = λ x h. ap forward_of (closes_only x (current_connection s.past d)) ∙ sym (ap (λ l. forward_of (sends_to x l)) (none_handed limits (at_expel d) s.past s.keeper.client refl));
     })
   where
     ends : (o : Option ConnectionName) → ends_any (at_expel d) s.keeper.client o ≡ false
-    ends None = ap (λ b. b || false) (not_this s.keeper.client d other)
-    ends (Some x) = ap (λ b. b || false) (not_this s.keeper.client d other)
-
-    closes : (x : ConnectionName) (o : Option ConnectionName) → sends_to x (closed o) ≡ []
-    closes x None = refl
-    closes x (Some y) = refl
+    ends None = ap (λ b. b || false) spared
+    ends (Some x) = ap (λ b. b || false) spared
+goes_expel limits s shape steady d (inr none) =
+    let behind = none_opens (at_expel d) s.past s.keeper.client refl none in
+    place_parts limits s (at_expel d) s.connections shape (no_connection (at_expel d ∷ s.past) s.keeper.client behind)
+    (no_entries limits (at_expel d ∷ s.past) s.keeper.client behind ∙ sym (no_entries limits s.past s.keeper.client none))
+    (λ x h. ap forward_of (closes_only x (current_connection s.past d))) refl refl
 
 -- another command
-pub goes_others : (limits : Limits) (s : Story) → HasShape limits s → IsSteady limits → (command : Command) → (names_client s.keeper.client command → ⊥) → any_named (is_packet_of command) s.connections ≡ false
+pub goes_others : (limits : Limits) (s : Story) → HasShape limits s → IsSteady limits → (command : Command) → (names_client s.past s.keeper.client command → ⊥) → any_named (is_packet_of command) s.connections ≡ false
     → GoesTo (as_subscriber limits s) (as_subscriber limits (record s { past = place_of limits s.past command ∷ s.past }))
 goes_others limits s shape steady (commands.Packet y packet) other fresh =
     stays_plain limits s (place_of limits s.past (commands.Packet y packet)) shape (other_packet limits s shape steady y packet fresh (owner_of s.past y) refl)
@@ -102,4 +110,4 @@ goes_others limits s shape steady (commands.Connect y d clean) other fresh =
     stays_plain limits s (place_of limits s.past (commands.Connect y d clean)) shape (other_connect limits s shape steady y d clean (mark_of limits s.past (commands.Connect y d clean)) fresh other)
 goes_others limits s shape steady (commands.Lost y) other fresh = goes_loss limits s shape steady y
 goes_others limits s shape steady (commands.Start b) other fresh = goes_start limits s shape b
-goes_others limits s shape steady (commands.Expel d) other fresh = goes_expel limits s shape steady d other
+goes_others limits s shape steady (commands.Expel d) other fresh = goes_expel limits s shape steady d (other_spares s.past s.keeper.client (commands.Expel d) other)
