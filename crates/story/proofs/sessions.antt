@@ -4,3 +4,14 @@ pub mod Beside
 pub mod Anew
 pub mod Awaiting
 pub mod Again
+pub mod Openings
+pub mod Life
+pub mod Placed
+pub mod EachPlaced
+pub mod KeepsKeeper
+pub mod OfflineUnasked
+pub mod LifePlaces
+pub mod LifeExpelled
+pub mod LifeWritten
+pub mod LifeReceived
+pub mod LifeGoes

@@ -24,7 +24,7 @@ IsSettled side = IsServedOn side ⊎ ((side.keeper.is_open ≡ false) × (side.k
 -- ---- online
 
 -- what a packet leaves of it
-record Leaves (before after : Side) : Type 0 where
+pub record Leaves (before after : Side) : Type 0 where
   pub settled : IsServedOn before → IsSettled after
   pub served : after.keeper.was_served ≡ before.keeper.was_served
 
@@ -48,7 +48,7 @@ leaves_releasing id side = by (cases_Bool (is_sent_with id side.keeper.own)) (ca
     by (inr e) (inr f) = rw (e, f) (record { settled = λ h. inl h; served = refl })
 
 -- any packet
-leaves_online : (packet : Packet) (side : Side) → Leaves side (handled_online packet side)
+pub leaves_online : (packet : Packet) (side : Side) → Leaves side (handled_online packet side)
 leaves_online (packets.Publish p) side = leaves_taking p.delivery (publication_of p) side
 leaves_online (packets.Pubrec id) side = leaves_releasing id side
 leaves_online (packets.Puback id) side = record { settled = λ h. inl h; served = refl }
@@ -62,7 +62,7 @@ leaves_online _ side = record { settled = λ h. inr (refl, refl); served = refl 
 -- ---- the first packet
 
 -- it makes the client online, or ends the connection
-settled_first : (packet : Packet) (side : Side) → side.keeper.is_open ≡ true → IsSettled (handled_first packet side)
+pub settled_first : (packet : Packet) (side : Side) → side.keeper.is_open ≡ true → IsSettled (handled_first packet side)
 settled_first (packets.Connack (connacks.Accepted present)) side opened = by (cases_Bool (not present && side.keeper.was_served))
   where
     by : ((not present && side.keeper.was_served) ≡ true) ⊎ ((not present && side.keeper.was_served) ≡ false) → IsSettled (handled_first (packets.Connack (connacks.Accepted present)) side)

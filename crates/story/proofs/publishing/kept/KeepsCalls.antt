@@ -40,23 +40,23 @@ pub record IsNext (keeper : Keeper) (o : Own) : Type 0 where
   pub unreleased : (j : ℕ) → has_released j (items_of_own (o ∷ [])) ≡ false
   pub online_sent : keeper.is_online ≡ true → none_unsent (o ∷ []) ≡ true
 
-ids_next : (keeper : Keeper) (o : Own) → OwnInShape keeper → (ids_of_own (o ∷ []) ≡ least_free (ids_in_use keeper) ∷ []) ⊎ (ids_of_own (o ∷ []) ≡ [])
+pub ids_next : (keeper : Keeper) (o : Own) → IsDistinct (ids_in_use keeper) → (ids_of_own (o ∷ []) ≡ least_free (ids_in_use keeper) ∷ []) ⊎ (ids_of_own (o ∷ []) ≡ [])
     → IsDistinct (ids_of_own (keeper.own ++ o ∷ []) ++ map id_of_request keeper.requests)
-ids_next keeper o s (inl e) =
+ids_next keeper o apart (inl e) =
     let own = ids_of_own keeper.own in
     let requests = map id_of_request keeper.requests in
     let id = least_free (ids_in_use keeper) in
     let free = has_split id own requests (least-is-free (ids_in_use keeper)) in
     subst (λ (ids : List ℕ). IsDistinct (ids ++ requests)) (sym (ids_more keeper.own (o ∷ []) ∙ ap (λ l. own ++ l) e))
-    (subst IsDistinct (sym (append_assoc own (id ∷ []) requests)) (distinct_insert own id requests s.ids_apart free.0 free.1))
-ids_next keeper o s (inr e) =
+    (subst IsDistinct (sym (append_assoc own (id ∷ []) requests)) (distinct_insert own id requests apart free.0 free.1))
+ids_next keeper o apart (inr e) =
     subst (λ (ids : List ℕ). IsDistinct (ids ++ map id_of_request keeper.requests))
-    (sym (ids_more keeper.own (o ∷ []) ∙ ap (λ l. ids_of_own keeper.own ++ l) e ∙ append-nil (ids_of_own keeper.own))) s.ids_apart
+    (sym (ids_more keeper.own (o ∷ []) ∙ ap (λ l. ids_of_own keeper.own ++ l) e ∙ append-nil (ids_of_own keeper.own))) apart
 
 next_keeps : (keeper : Keeper) (o : Own) → OwnInShape keeper → IsNext keeper o → OwnInShape (record keeper { own = keeper.own ++ o ∷ [] })
 next_keeps keeper o s next =
     record {
-      ids_apart = ids_next keeper o s next.ids;
+      ids_apart = ids_next keeper o s.ids_apart next.ids;
       numbered = numbered_more 0 keeper.own (o ∷ []) s.numbered next.numbered;
       releases_apart = s.releases_apart;
       releases_are = λ j. s.releases_are j ∙ sym (ap (has_released j) (items_more keeper.own (o ∷ [])) ∙ released_front j (items_of_own keeper.own) (items_of_own (o ∷ [])) (next.unreleased j));

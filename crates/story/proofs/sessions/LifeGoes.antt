@@ -1,0 +1,114 @@
+-- Every event keeps what holds of a client's life.
+use Rattle.std.proofs.Common.{◌≡◌, ◌≤◌, ℕ, zero, suc, Bool, true, false, ◌||◌, if◌then◌else◌, List, [], ◌∷◌, ◌++◌, length, Option, Some, None, refl, sym, ◌∙◌, ap, ap₂, subst, arith, inl, inr, ◌⊎◌}
+use Rattle.std.specs.Prelude.{slice_get}
+use Rattle.std.proofs.lemmas.Bool.{both_ways}
+use Rattle.std.proofs.lemmas.List.{append-nil}
+use Rattle.packet.specs.declared.packet.Packet.{Packet}
+use Rattle.packet.specs.declared.packet.Packet.TheVariants as packets
+use Rattle.session_base.specs.Identifiers.{least_free}
+use Rattle.lists.specs.Lists.{Each}
+use Rattle.broker_base.specs.Connection.{ConnectionName, same_connection}
+use Rattle.broker_base.specs.Place.{Client, Past, Limits}
+use Rattle.client_base.specs.Keeper.{Written, Keeper, ids_in_use}
+use Rattle.client_base.specs.Called.{new_connection, adds_own, written_for}
+use Rattle.client_base.specs.Written.{plain, publishes, writes_first}
+use Rattle.client_base.specs.Handled.{handled, lost}
+use Rattle.story.specs.Sides.{Connection, Side}
+use Rattle.story.specs.Sends.{put_to}
+use Rattle.story.specs.Story.{Story, Happens, any_named, names_client}
+use Rattle.story.specs.Story.Happens.{takes, others_take, receives, opens_anew, loses, disconnects, publishes_one, subscribes, unsubscribes}
+use Rattle.story.specs.InStep.{has_begun, opened_in}
+use Rattle.story.specs.Inside.Shape.{NamesApart}
+use Rattle.story.proofs.publishing.kept.KeepsNames.{events_keep_names}
+use Rattle.story.proofs.publishing.kept.KeepsNobody.{nobody_named, written_named, nobody_opened}
+use Rattle.story.proofs.subscribing.Given.{Stays, one_handled, stays_handled}
+use Rattle.story.proofs.keeping.Settled.{IsSettled, settled_handled, IsWelcome, served_handled}
+use Rattle.story.proofs.keeping.KeepsServed.{packet_at}
+use Rattle.story.proofs.sessions.Anew.{IsUntouched, AreUntouched}
+use Rattle.story.proofs.sessions.Openings.{opened_begun}
+use Rattle.story.proofs.sessions.KeepsKeeper.{unwelcome_ends, unserved_lost, unserved_opened, unserved_handled, unserved_publishes}
+use Rattle.story.proofs.sessions.OfflineUnasked.{unasked_handled}
+use Rattle.story.proofs.sessions.LifePlaces.{life_taken, life_other}
+use Rattle.story.proofs.sessions.Life.{is_welcome, NoneWelcome, IsShut, IsShutUnopened, AreShutUnopened, IsHeld, HasConnections, HasKeeper, IsLife}
+use Rattle.story.proofs.sessions.LifeWritten.{connections_written, connections_either, connections_maybe, held_written, keeper_lost}
+use Rattle.story.proofs.sessions.LifeReceived.{life_received}
+
+pub life_goes : (limits : Limits) (c : Client) (s t : Story) → IsLife limits c s → Happens limits s t → IsLife limits c t
+life_goes limits c s t life (takes i κ w stands next) = life_taken limits c s i κ w life stands next
+life_goes limits c s t life (others_take command other none) =
+    life_other limits c s command life (λ h. other (subst (λ (d : Client). names_client s.past d command) (sym life.keeper.client) h)) none
+life_goes limits c s t life (receives κ others packet are opened next) =
+    let two = life_received limits c s.past s.keeper κ others packet opened next (subst (HasConnections limits c s.past) are life.connections) (subst (HasKeeper c s.past s.keeper) are life.keeper)
+    (record { keeper = s.keeper; connection = κ }) refl in
+    record { list = life.list; past_is = life.past_is; session = life.session; connections = two.0; keeper = two.1 }
+life_goes limits c s t life (opens_anew x fresh none uncounted) =
+    record {
+      list = life.list;
+      past_is = life.past_is;
+      session = life.session;
+      connections = record {
+        names = (fresh, life.connections.names);
+        untouched = (λ new. record { is = ap (λ d. new_connection d x) life.keeper.client; unsent = none; uncounted = uncounted }, life.connections.untouched);
+        shut = (λ e. record { unconfirmed = refl; nothing = refl; unwelcome = subst NoneWelcome (sym none) tt }, life.connections.shut);
+        nobody = nobody_opened s.past c s.connections (new_connection s.keeper.client x) uncounted life.connections.nobody;
+      };
+      keeper = record {
+        client = life.keeper.client;
+        held = (λ e. refl, λ e. absurd (both_ways false refl e));
+        unserved = unserved_opened c s.keeper life.keeper.unserved;
+        unasked = λ e. refl;
+        begun = life.keeper.begun;
+      };
+    }
+life_goes limits c s t life loses =
+    record { list = life.list; past_is = life.past_is; session = life.session; connections = life.connections; keeper = keeper_lost c s.past s.keeper s.connections s.connections life.keeper }
+life_goes limits c s t life disconnects =
+    record {
+      list = life.list;
+      past_is = life.past_is;
+      session = life.session;
+      connections = connections_maybe limits s.past c s.keeper s.keeper.is_online (plain packets.Disconnect ∷ []) s.connections refl life.keeper.held life.connections;
+      keeper = keeper_lost c s.past s.keeper s.connections t.connections life.keeper;
+    }
+life_goes limits c s t life (publishes_one p needs) =
+    record {
+      list = life.list;
+      past_is = life.past_is;
+      session = life.session;
+      connections = connections_either limits s.past c s.keeper s.keeper.is_online (publishes false (length s.keeper.own) (least_free (ids_in_use s.keeper)) p ∷ []) s.connections refl life.keeper.held life.connections;
+      keeper = record {
+        client = life.keeper.client;
+        held = held_written s.keeper (adds_own p s.keeper) (written_for p s.keeper) s.connections refl refl life.keeper.held;
+        unserved = unserved_publishes c s.keeper p needs life.keeper.unserved;
+        unasked = life.keeper.unasked;
+        begun = life.keeper.begun;
+      };
+    }
+life_goes limits c s t life (subscribes p on id) =
+    record {
+      list = life.list;
+      past_is = life.past_is;
+      session = life.session;
+      connections = connections_written limits s.past c s.keeper (plain (packets.Subscribe p) ∷ []) s.connections on life.keeper.held life.connections;
+      keeper = record {
+        client = life.keeper.client;
+        held = held_written s.keeper t.keeper (plain (packets.Subscribe p) ∷ []) s.connections refl refl life.keeper.held;
+        unserved = λ e. absurd (both_ways s.keeper.is_online (ap (λ (k : Keeper). k.is_online) (life.keeper.unserved e).is) on);
+        unasked = λ off. absurd (both_ways s.keeper.is_online off on);
+        begun = life.keeper.begun;
+      };
+    }
+life_goes limits c s t life (unsubscribes p on id) =
+    record {
+      list = life.list;
+      past_is = life.past_is;
+      session = life.session;
+      connections = connections_written limits s.past c s.keeper (plain (packets.Unsubscribe p) ∷ []) s.connections on life.keeper.held life.connections;
+      keeper = record {
+        client = life.keeper.client;
+        held = held_written s.keeper t.keeper (plain (packets.Unsubscribe p) ∷ []) s.connections refl refl life.keeper.held;
+        unserved = λ e. absurd (both_ways s.keeper.is_online (ap (λ (k : Keeper). k.is_online) (life.keeper.unserved e).is) on);
+        unasked = λ off. absurd (both_ways s.keeper.is_online off on);
+        begun = life.keeper.begun;
+      };
+    }

@@ -1,0 +1,95 @@
+-- A packet that the client handles keeps what holds of its life.
+use Rattle.std.proofs.Common.{◌≡◌, ◌≤◌, ℕ, zero, suc, Bool, true, false, ◌||◌, if◌then◌else◌, List, [], ◌∷◌, ◌++◌, length, Option, Some, None, refl, sym, ◌∙◌, ap, ap₂, subst, arith, inl, inr, ◌⊎◌}
+use Rattle.std.specs.Prelude.{slice_get}
+use Rattle.std.proofs.lemmas.Bool.{both_ways}
+use Rattle.std.proofs.lemmas.List.{append-nil}
+use Rattle.packet.specs.declared.packet.Packet.{Packet}
+use Rattle.packet.specs.declared.packet.Packet.TheVariants as packets
+use Rattle.session_base.specs.Identifiers.{least_free}
+use Rattle.lists.specs.Lists.{Each}
+use Rattle.broker_base.specs.Connection.{ConnectionName, same_connection}
+use Rattle.broker_base.specs.Place.{Client, Past, Limits}
+use Rattle.client_base.specs.Keeper.{Written, Keeper, ids_in_use}
+use Rattle.client_base.specs.Called.{new_connection, adds_own, written_for}
+use Rattle.client_base.specs.Written.{plain, publishes, writes_first}
+use Rattle.client_base.specs.Handled.{handled, lost}
+use Rattle.story.specs.Sides.{Connection, Side}
+use Rattle.story.specs.Sends.{put_to}
+use Rattle.story.specs.Story.{Story, Happens, any_named, names_client}
+use Rattle.story.specs.Story.Happens.{takes, others_take, receives, opens_anew, loses, disconnects, publishes_one, subscribes, unsubscribes}
+use Rattle.story.specs.InStep.{has_begun, opened_in}
+use Rattle.story.specs.Inside.Shape.{NamesApart}
+use Rattle.story.proofs.publishing.kept.KeepsNames.{events_keep_names}
+use Rattle.story.proofs.publishing.kept.KeepsNobody.{nobody_named, written_named, nobody_opened}
+use Rattle.story.proofs.subscribing.Given.{Stays, one_handled, stays_handled}
+use Rattle.story.proofs.keeping.Settled.{IsSettled, settled_handled, IsWelcome, served_handled}
+use Rattle.story.proofs.keeping.KeepsServed.{packet_at}
+use Rattle.story.proofs.sessions.Anew.{IsUntouched, AreUntouched}
+use Rattle.story.proofs.sessions.Openings.{opened_begun}
+use Rattle.story.proofs.sessions.KeepsKeeper.{unwelcome_ends, unserved_lost, unserved_opened, unserved_handled, unserved_publishes}
+use Rattle.story.proofs.sessions.OfflineUnasked.{unasked_handled}
+use Rattle.story.proofs.sessions.LifePlaces.{life_taken, life_other}
+use Rattle.story.proofs.sessions.Life.{is_welcome, NoneWelcome, IsShut, IsShutUnopened, AreShutUnopened, IsHeld, HasConnections, HasKeeper, IsLife}
+
+held_settled : (side : Side) (others : List Connection) → IsSettled side → IsHeld side.keeper (side.connection ∷ others)
+held_settled side others (inl h) = (λ e. h.2 ∙ sym h.1, λ e. h.0)
+held_settled side others (inr h) = (λ e. absurd (both_ways side.keeper.is_open h.0 e), λ e. absurd (both_ways side.keeper.is_online h.1 e))
+
+-- it was sent, so a packet of the connection was taken
+was_taken : (limits : Limits) (past : Past) (c : Client) (κ : Connection) (packet : Packet) → (κ.taken ≡ 0 → IsUntouched limits past c κ) → slice_get (put_to limits past κ.name) κ.handled ≡ Some packet → κ.taken ≡ 0 → ⊥
+was_taken limits past c κ packet h next new = let e : slice_get [] κ.handled ≡ Some packet = sym (ap (λ (l : List Packet). slice_get l κ.handled) (h new).unsent) ∙ next in cc
+
+shut_handled : (limits : Limits) (past : Past) (c : Client) (keeper : Keeper) (κ : Connection) (packet : Packet) → keeper.is_open ≡ true → (keeper.is_open ≡ true → κ.confirmed ≡ keeper.is_online)
+    → slice_get (put_to limits past κ.name) κ.handled ≡ Some packet → IsShutUnopened limits past c κ → IsShutUnopened limits past c (handled packet (let side : Side = record { keeper = keeper; connection = κ } in side)).connection
+shut_handled limits past c keeper κ packet opened held next h e =
+    let side : Side = record { keeper = keeper; connection = κ } in
+    let s = h (ap (opened_in past c) (sym (stays_handled packet side).name) ∙ e) in
+    let unwelcome = packet_at (λ (p : Packet). is_welcome p ≡ false) (put_to limits past κ.name) κ.handled packet s.unwelcome next in
+    subst (λ (z : Side). IsShut limits past z.connection) (sym (unwelcome_ends packet side (sym (held opened) ∙ s.unconfirmed) unwelcome))
+    (record { unconfirmed = s.unconfirmed; nothing = s.nothing; unwelcome = s.unwelcome })
+
+begun_handled : (limits : Limits) (past : Past) (c : Client) (keeper : Keeper) (κ : Connection) (packet : Packet) → slice_get (put_to limits past κ.name) κ.handled ≡ Some packet → IsShutUnopened limits past c κ
+    → (keeper.was_served ≡ true → has_begun past c ≡ true) → (handled packet (let side : Side = record { keeper = keeper; connection = κ } in side)).keeper.was_served ≡ true → has_begun past c ≡ true
+begun_handled limits past c keeper κ packet next h begun e = by (served_handled packet (record { keeper = keeper; connection = κ }) e)
+  where
+    two : (o : Option ℕ) → opened_in past c κ.name ≡ o → IsWelcome packet → has_begun past c ≡ true
+    two (Some n) f w = opened_begun past c κ.name n f
+    two None f w =
+        absurd (both_ways (is_welcome packet) (packet_at (λ (p : Packet). is_welcome p ≡ false) (put_to limits past κ.name) κ.handled packet (h f).unwelcome next) (ap is_welcome w.1))
+
+    by : (keeper.was_served ≡ true) ⊎ IsWelcome packet → has_begun past c ≡ true
+    by (inl f) = begun f
+    by (inr w) = two (opened_in past c κ.name) refl w
+
+pub life_received : (limits : Limits) (c : Client) (past : Past) (keeper : Keeper) (κ : Connection) (others : List Connection) (packet : Packet) → keeper.is_open ≡ true
+    → slice_get (put_to limits past κ.name) κ.handled ≡ Some packet → HasConnections limits c past (κ ∷ others) → HasKeeper c past keeper (κ ∷ others) → (side : Side) → side ≡ record { keeper = keeper; connection = κ }
+    → HasConnections limits c past ((handled packet side).connection ∷ others) × HasKeeper c past (handled packet side).keeper ((handled packet side).connection ∷ others)
+life_received limits c past keeper κ others packet opened next h k side is = subst P (sym is) (connections, client)
+  where
+    P : Side → Type 0
+    P side = HasConnections limits c past ((handled packet side).connection ∷ others) × HasKeeper c past (handled packet side).keeper ((handled packet side).connection ∷ others)
+
+    before : Side
+    before = record { keeper = keeper; connection = κ }
+
+    st : Stays (one_handled before) (handled packet before)
+    st = stays_handled packet before
+
+    connections : HasConnections limits c past ((handled packet before).connection ∷ others)
+    connections =
+        record {
+          names = (ap (λ x. any_named (same_connection x) others) st.name ∙ h.names.0, h.names.1);
+          untouched = (λ new. absurd (was_taken limits past c κ packet h.untouched.0 next (sym st.taken ∙ new)), h.untouched.1);
+          shut = (shut_handled limits past c keeper κ packet opened k.held.0 next h.shut.0, h.shut.1);
+          nobody = nobody_named past c (κ ∷ others) ((handled packet before).connection ∷ others) (λ test. ap (λ x. test x || any_named test others) st.name) h.nobody;
+        }
+
+    client : HasKeeper c past (handled packet before).keeper ((handled packet before).connection ∷ others)
+    client =
+        record {
+          client = st.client ∙ k.client;
+          held = held_settled (handled packet before) others (settled_handled packet before opened (k.held.0 opened));
+          unserved = unserved_handled c packet before k.unserved;
+          unasked = unasked_handled packet before;
+          begun = begun_handled limits past c keeper κ packet next h.shut.0 k.begun;
+        }

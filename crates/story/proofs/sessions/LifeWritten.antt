@@ -1,0 +1,85 @@
+-- What a client writes, and that it leaves, keeps what holds of its life.
+use Rattle.std.proofs.Common.{◌≡◌, ◌≤◌, ℕ, zero, suc, Bool, true, false, ◌||◌, if◌then◌else◌, List, [], ◌∷◌, ◌++◌, length, Option, Some, None, refl, sym, ◌∙◌, ap, ap₂, subst, arith, inl, inr, ◌⊎◌}
+use Rattle.std.specs.Prelude.{slice_get}
+use Rattle.std.proofs.lemmas.Bool.{both_ways}
+use Rattle.std.proofs.lemmas.List.{append-nil}
+use Rattle.packet.specs.declared.packet.Packet.{Packet}
+use Rattle.packet.specs.declared.packet.Packet.TheVariants as packets
+use Rattle.session_base.specs.Identifiers.{least_free}
+use Rattle.lists.specs.Lists.{Each}
+use Rattle.broker_base.specs.Connection.{ConnectionName, same_connection}
+use Rattle.broker_base.specs.Place.{Client, Past, Limits}
+use Rattle.client_base.specs.Keeper.{Written, Keeper, ids_in_use}
+use Rattle.client_base.specs.Called.{new_connection, adds_own, written_for}
+use Rattle.client_base.specs.Written.{plain, publishes, writes_first}
+use Rattle.client_base.specs.Handled.{handled, lost}
+use Rattle.story.specs.Sides.{Connection, Side}
+use Rattle.story.specs.Sends.{put_to}
+use Rattle.story.specs.Story.{Story, Happens, any_named, names_client}
+use Rattle.story.specs.Story.Happens.{takes, others_take, receives, opens_anew, loses, disconnects, publishes_one, subscribes, unsubscribes}
+use Rattle.story.specs.InStep.{has_begun, opened_in}
+use Rattle.story.specs.Inside.Shape.{NamesApart}
+use Rattle.story.proofs.publishing.kept.KeepsNames.{events_keep_names}
+use Rattle.story.proofs.publishing.kept.KeepsNobody.{nobody_named, written_named, nobody_opened}
+use Rattle.story.proofs.subscribing.Given.{Stays, one_handled, stays_handled}
+use Rattle.story.proofs.keeping.Settled.{IsSettled, settled_handled, IsWelcome, served_handled}
+use Rattle.story.proofs.keeping.KeepsServed.{packet_at}
+use Rattle.story.proofs.sessions.Anew.{IsUntouched, AreUntouched}
+use Rattle.story.proofs.sessions.Openings.{opened_begun}
+use Rattle.story.proofs.sessions.KeepsKeeper.{unwelcome_ends, unserved_lost, unserved_opened, unserved_handled, unserved_publishes}
+use Rattle.story.proofs.sessions.OfflineUnasked.{unasked_handled}
+use Rattle.story.proofs.sessions.LifePlaces.{life_taken, life_other}
+use Rattle.story.proofs.sessions.Life.{is_welcome, NoneWelcome, IsShut, IsShutUnopened, AreShutUnopened, IsHeld, HasConnections, HasKeeper, IsLife}
+
+-- while it is online
+untouched_written : (limits : Limits) (past : Past) (c : Client) (keeper : Keeper) (more : List Written) (connections : List Connection) → keeper.is_online ≡ true → IsHeld keeper connections
+    → AreUntouched limits past c connections → AreUntouched limits past c (writes_first more connections)
+untouched_written limits past c keeper more [] on held h = tt
+untouched_written limits past c keeper more (κ ∷ connections) on held h =
+    (λ new. absurd (both_ways κ.confirmed (ap (λ (z : Connection). z.confirmed) (h.0 new).is) (held.0 (held.1 on) ∙ on)), h.1)
+
+shut_written : (limits : Limits) (past : Past) (c : Client) (more : List Written) (connections : List Connection) → AreShutUnopened limits past c connections → AreShutUnopened limits past c (writes_first more connections)
+shut_written limits past c more [] h = tt
+shut_written limits past c more (κ ∷ connections) h = (λ e. let s = h.0 e in record { unconfirmed = s.unconfirmed; nothing = s.nothing; unwelcome = s.unwelcome }, h.1)
+
+names_written : (more : List Written) (connections : List Connection) → NamesApart connections → NamesApart (writes_first more connections)
+names_written more [] h = h
+names_written more (κ ∷ connections) h = h
+
+pub connections_written : (limits : Limits) (past : Past) (c : Client) (keeper : Keeper) (more : List Written) (connections : List Connection) → keeper.is_online ≡ true → IsHeld keeper connections
+    → HasConnections limits c past connections → HasConnections limits c past (writes_first more connections)
+connections_written limits past c keeper more connections on held h =
+    record {
+      names = names_written more connections h.names;
+      untouched = untouched_written limits past c keeper more connections on held h.untouched;
+      shut = shut_written limits past c more connections h.shut;
+      nobody = nobody_named past c connections (writes_first more connections) (written_named more connections) h.nobody;
+    }
+
+none_written : (connections : List Connection) → writes_first [] connections ≡ connections
+none_written [] = refl
+none_written (κ ∷ connections) = ap (λ (ws : List Written). record κ { written = ws } ∷ connections) (append-nil κ.written)
+
+-- or nothing
+pub connections_either : (limits : Limits) (past : Past) (c : Client) (keeper : Keeper) (b : Bool) (more : List Written) (connections : List Connection) → keeper.is_online ≡ b → IsHeld keeper connections
+    → HasConnections limits c past connections → HasConnections limits c past (writes_first (if b then more else []) connections)
+connections_either limits past c keeper true more connections on held h = connections_written limits past c keeper more connections on held h
+connections_either limits past c keeper false more connections off held h = subst (HasConnections limits c past) (sym (none_written connections)) h
+
+pub connections_maybe : (limits : Limits) (past : Past) (c : Client) (keeper : Keeper) (b : Bool) (more : List Written) (connections : List Connection) → keeper.is_online ≡ b → IsHeld keeper connections
+    → HasConnections limits c past connections → HasConnections limits c past (if b then writes_first more connections else connections)
+connections_maybe limits past c keeper true more connections on held h = connections_written limits past c keeper more connections on held h
+connections_maybe limits past c keeper false more connections off held h = h
+
+pub held_written : (keeper later : Keeper) (more : List Written) (connections : List Connection) → later.is_open ≡ keeper.is_open → later.is_online ≡ keeper.is_online → IsHeld keeper connections
+    → IsHeld later (writes_first more connections)
+held_written keeper later more [] opened online h = (opened ∙ h.0, online ∙ h.1)
+held_written keeper later more (κ ∷ connections) opened online h = (λ e. h.0 (sym opened ∙ e) ∙ sym online, λ e. opened ∙ h.1 (sym online ∙ e))
+
+held_lost : (keeper : Keeper) (connections : List Connection) → IsHeld (lost keeper) connections
+held_lost keeper [] = (refl, refl)
+held_lost keeper (κ ∷ connections) = (λ e. absurd (both_ways false refl e), λ e. absurd (both_ways false refl e))
+
+pub keeper_lost : (c : Client) (past : Past) (keeper : Keeper) (connections later : List Connection) → HasKeeper c past keeper connections → HasKeeper c past (lost keeper) later
+keeper_lost c past keeper connections later k =
+    record { client = k.client; held = held_lost keeper later; unserved = unserved_lost c keeper k.unserved; unasked = λ e. refl; begun = k.begun }
