@@ -15,3 +15,10 @@ pub mod LifeExpelled
 pub mod LifeWritten
 pub mod LifeReceived
 pub mod LifeGoes
+pub mod AcceptedShares
+pub mod StartKeeps
+pub mod Lasting
+pub mod LastingGoes
+pub mod LastingAccepts
+pub mod BeginsAgain
+pub mod Parted

@@ -36,7 +36,7 @@ abbrev pub accepted_at : ConnectionName → Client → Place
 accepted_at x c = record { command = commands.Connect x c false; mark = Mark.Accepted }
 
 -- it begins a session where there is none
-begins_there : (past : Past) (c : Client) (x : ConnectionName) → session_of past c ≡ None → begins (accepted_at x c) past c ≡ true
+pub begins_there : (past : Past) (c : Client) (x : ConnectionName) → session_of past c ≡ None → begins (accepted_at x c) past c ≡ true
 begins_there past c x none = ap₂ is_beginning (opened x c) none
 
 -- and is told so
@@ -53,13 +53,13 @@ told_so limits past c x none nothing =
     )
 
 -- it began again
-again_there : (past : Past) (c : Client) (x : ConnectionName) → session_of past c ≡ None → has_begun past c ≡ true → began_again (accepted_at x c ∷ past) c x ≡ true
+pub again_there : (past : Past) (c : Client) (x : ConnectionName) → session_of past c ≡ None → has_begun past c ≡ true → began_again (accepted_at x c ∷ past) c x ≡ true
 again_there past c x none before =
     ap (λ b. b || began_again past c x)
     (ap₂ (λ a b. a && b) (ap (opens_on x) (opened x c) ∙ same_name_self x) (ap₂ (λ a b. a && b) (begins_there past c x none) before))
 
 -- the connections that are kept: of none that is left out nothing was taken
-all_gone : (connections : List Connection) → AreGone (flags_of connections) connections
+pub all_gone : (connections : List Connection) → AreGone (flags_of connections) connections
 all_gone [] = tt
 all_gone (κ ∷ connections) = by κ.taken refl (all_gone connections)
   where

@@ -1,0 +1,76 @@
+-- While a session of a client lasts, the client accepted a beginning in each of its sessions.
+use Rattle.std.proofs.Common.{◌≡◌, ℕ, zero, suc, Bool, true, false, ◌||◌, if◌then◌else◌, List, [], ◌∷◌, ◌++◌, length, Option, Some, None, refl, sym, ◌∙◌, ap, ap₂, subst, inl, inr, ◌⊎◌}
+use Rattle.std.specs.Prelude.{◌==◌}
+use Rattle.std.proofs.lemmas.Bool.{both_ways}
+use Rattle.lists.proofs.Tests.{eq_same, eq_is}
+use Rattle.packet.specs.declared.packet.Packet.{Packet}
+use Rattle.packet.specs.declared.packet.Packet.TheVariants as packets
+use Rattle.broker_base.specs.Place.{Client, Place, Past, Limits}
+use Rattle.broker_base.specs.Past.{accepts, session_start}
+use Rattle.broker_base.specs.QuietLaws.{IsSteady}
+use Rattle.broker_base.specs.Commands.{place_of}
+use Rattle.broker_base.specs.Times.{entries_of}
+use Rattle.client_base.specs.Keeper.{Written, Keeper}
+use Rattle.client_base.specs.Called.{new_connection, written_for}
+use Rattle.client_base.specs.Handled.{handled}
+use Rattle.client_base.specs.Written.{plain, writes_first}
+use Rattle.story.specs.Sides.{Connection, Side}
+use Rattle.story.specs.Story.{Story, Told, Happens, command_of, names_client}
+use Rattle.story.specs.Story.Happens.{takes, others_take, receives, opens_anew, loses, disconnects, publishes_one, subscribes, unsubscribes}
+use Rattle.story.specs.Headline.{two_entries, accepted_on}
+use Rattle.story.specs.InStep.{IsInStep, opens_on, is_at, opened_in, entries_in, accepted_in}
+use Rattle.story.proofs.keeping.CurrentOnes.{none_opened}
+use Rattle.story.proofs.keeping.Told.{told_stories_accept}
+use Rattle.story.proofs.places.Spared.{other_spares}
+use Rattle.story.proofs.publishing.Last.{each_there}
+use Rattle.story.proofs.publishing.kept.KeepsNames.{kept_other}
+use Rattle.story.proofs.subscribing.Given.{stays_handled}
+use Rattle.story.proofs.sessions.Beside.{kept_of, IsHeadKept, HasBeside, flags_after, with_connections, goes_beside}
+use Rattle.story.proofs.sessions.Anew.{IsUntouched, waiting}
+use Rattle.story.proofs.sessions.Awaiting.{HasAwaiting, awaiting_goes}
+use Rattle.story.proofs.sessions.EachPlaced.{IsFresh, own_fresh, counted_none}
+use Rattle.story.proofs.sessions.Openings.{opens_packet, unopened}
+use Rattle.story.proofs.sessions.AcceptedShares.{Accepts, accepts_same, share_nothing, accepted_head, accepted_written, accepted_new}
+use Rattle.story.proofs.sessions.Life.{AreShutUnopened, IsLife}
+use Rattle.story.proofs.sessions.LifePlaces.{life_command, own_opens, own_spares}
+use Rattle.story.proofs.sessions.Lasting.{IsHeadOpened, behind_first, IsTailKept, Lasts, lasts_placed}
+use Rattle.lists.specs.Lists.{Each}
+use Rattle.story.proofs.sessions.LastingGoes.{all_kept, Stands}
+
+-- in this one
+entries_now : (limits : Limits) (past : Past) (c : Client) (start : ℕ) → session_start past c ≡ Some start → entries_in limits past c start ≡ entries_of limits past c
+unfolding session_start
+entries_now limits [] c start e = absurd (cc)
+entries_now limits (place ∷ past) c start e = ap (λ b. if b then entries_of limits (place ∷ past) c else entries_in limits past c start) (ap (is_at start) e ∙ eq_same start)
+
+accepts_now : (limits : Limits) → IsSteady limits → (c : Client) (flags : List Bool) (past : Past) (keeper : Keeper) (connections : List Connection) (start : ℕ) → keeper.client ≡ c → IsHeadKept flags
+    → AreShutUnopened limits past c connections → Lasts limits c flags past connections → Told limits c (with_connections past keeper (kept_of flags connections)) → session_start past c ≡ Some start
+    → Accepts limits c past connections start
+accepts_now limits steady c flags past keeper connections start client head shut h told e =
+    let a = told_stories_accept limits steady c (with_connections past keeper (kept_of flags connections)) told in
+    record {
+      old = a.old;
+      new = a.new;
+      is = ap two_entries (entries_now limits past c start e) ∙ ap (λ d. two_entries (entries_of limits past d)) (sym client) ∙ a.is;
+      accepted = all_kept limits c flags past connections start head shut h e ∙ a.accepted;
+      rest = a.rest;
+    }
+
+pub lasting_accepts : (limits : Limits) → IsSteady limits → (c : Client) (flags : List Bool) (s : Story) → IsLife limits c s → Stands limits c flags s → Lasts limits c flags s.past s.connections → (start : ℕ)
+    → Accepts limits c s.past s.connections start
+lasting_accepts limits steady c flags s life stands h start = by (session_start s.past c) refl
+  where
+    now : Stands limits c flags s → session_start s.past c ≡ Some start → Accepts limits c s.past s.connections start
+    now (inr b) e = accepts_now limits steady c flags s.past s.keeper s.connections start life.keeper.client b.head life.connections.shut h b.told e
+    now (inl a) e =
+        subst (λ (l : List Connection). Accepts limits c s.past l start) (sym a.are)
+        (accepts_now limits steady c flags s.past (waiting c [] s.keeper.is_open) (a.newest ∷ a.others) start refl a.awaits.head (subst (AreShutUnopened limits s.past c) a.are life.connections.shut)
+        (subst (Lasts limits c flags s.past) a.are h) a.awaits.told e)
+
+    two : (n : ℕ) → session_start s.past c ≡ Some n → (b : Bool) → (n == start) ≡ b → Accepts limits c s.past s.connections start
+    two n e true f = now stands (e ∙ ap (λ m. Some m) (eq_is n start f))
+    two n e false f = h.elsewhere start (ap (is_at start) e ∙ f)
+
+    by : (o : Option ℕ) → session_start s.past c ≡ o → Accepts limits c s.past s.connections start
+    by None e = h.elsewhere start (ap (is_at start) e)
+    by (Some n) e = two n e (n == start) refl
