@@ -22,3 +22,9 @@ pub mod LastingGoes
 pub mod LastingAccepts
 pub mod BeginsAgain
 pub mod Parted
+pub mod HandledCounted
+pub mod Lingering
+pub mod LingersPlaced
+pub mod LingersOn
+pub mod Expelled
+pub mod EachSession

@@ -15,6 +15,7 @@ use Rattle.broker_base.specs.Subscriptions.{effective_qos}
 use Rattle.broker_base.specs.Times.{entries_of}
 use Rattle.broker_base.specs.QuietLaws.{IsSteady}
 use Rattle.story.specs.Headline.{AcceptedInOrder, PublishedOnce, StoriesAreExact}
+use Rattle.story.specs.Lives.{AcceptsInEachSession}
 use Rattle.story.specs.Story.{Story, Told}
 
 -- the client's publications: those at QoS 2 become new in the list in the order of its calls, each at most once; those that
@@ -57,3 +58,10 @@ UsualStoriesAreExact = StoriesAreExact usual_limits
 
 abbrev pub SteadyStoriesAreExact : Type 0
 SteadyStoriesAreExact = (limits : Limits) → IsSteady limits → StoriesAreExact limits
+
+-- what a client with several sessions accepts in each of them, as long as it is in step
+abbrev pub UsualLivesAccept : Type 0
+UsualLivesAccept = AcceptsInEachSession usual_limits
+
+abbrev pub SteadyLivesAccept : Type 0
+SteadyLivesAccept = (limits : Limits) → IsSteady limits → AcceptsInEachSession limits

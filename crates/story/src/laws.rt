@@ -1,6 +1,6 @@
 // Laws of every story of a client. The calls do nothing; their contracts are the laws.
 
-ghost use Rattle.story.specs.Laws.{SteadyStoriesAcceptInOrder, SteadyStoriesAreExact, SteadyStoriesPublishOnce, StoriesAcceptInOrder, StoriesEnter, StoriesPublishOnce, UsualStoriesAreExact};
+ghost use Rattle.story.specs.Laws.{SteadyLivesAccept, SteadyStoriesAcceptInOrder, SteadyStoriesAreExact, SteadyStoriesPublishOnce, StoriesAcceptInOrder, StoriesEnter, StoriesPublishOnce, UsualLivesAccept, UsualStoriesAreExact};
 
 /// Whatever happens to its connections and to the nodes, a client's QoS 2 publications become new in the list of
 /// commands in the order of its calls, each at most once, and each that was answered with PUBREC is there; over all its
@@ -27,4 +27,11 @@ pub fn stories_enter()
 pub fn stories_are_exact()
     ensures usual { UsualStoriesAreExact }
     ensures steady { SteadyStoriesAreExact }
+{}
+
+/// A client whose sessions an Expel ends, and that is in step, accepts in each of them a beginning of that session's QoS 2
+/// entries, in order, each once, and every one that was released (MQTT 4.3.3, 4.4, 4.6).
+pub fn lives_accept_in_each_session()
+    ensures usual { UsualLivesAccept }
+    ensures steady { SteadyLivesAccept }
 {}

@@ -97,8 +97,9 @@ no_connack_sent command past y other (Send z packet ∷ answers) h = by (cases_B
     by (inl e) ih = subst (λ (b : Bool). no_connacks (if b then packet ∷ sends_to y answers else sends_to y answers)) (sym e) (plain e h.0.1, ih)
     by (inr e) ih = subst (λ (b : Bool). no_connacks (if b then packet ∷ sends_to y answers else sends_to y answers)) (sym e) ih
 
--- nothing where the command is not its own, and none of its packets was taken
-nothing_sent : (command : Command) (past : Past) (y : ConnectionName) → is_packet_of command y ≡ false → count_of y past ≡ 0 → (answers : List Output) → Each (GoesRight command past) answers → sends_to y answers ≡ []
+-- nothing where the command is not its own, and it is nobody's
+nothing_sent : (command : Command) (past : Past) (y : ConnectionName) → is_packet_of command y ≡ false → ((d : Client) → current_connection past d ≡ Some y → ⊥) → (answers : List Output)
+    → Each (GoesRight command past) answers → sends_to y answers ≡ []
 nothing_sent command past y other none [] h = refl
 nothing_sent command past y other none (Close z ∷ answers) h = nothing_sent command past y other none answers h.1
 nothing_sent command past y other none (Send z packet ∷ answers) h =
@@ -107,10 +108,11 @@ nothing_sent command past y other none (Send z packet ∷ answers) h =
     by : (same_connection y z ≡ true) ⊎ (same_connection y z ≡ false) → (is_packet_of command z ≡ true) ⊎ ((d : Client) × (current_connection past d ≡ Some z)) → same_connection y z ≡ false
     by (inr e) g = e
     by (inl e) (inl f) = absurd (both_ways (is_packet_of command y) other (ap (is_packet_of command) (same_name y z e) ∙ f))
-    by (inl e) (inr f) =
-        let some = current_counted past f.0 z f.1 in
-        let same : count_of y past ≡ count_of z past = ap (λ x. count_of x past) (same_name y z e) in
-        absurd (omega (arith, some, same, none))
+    by (inl e) (inr f) = absurd (none f.0 (f.1 ∙ ap (λ x. Some x) (sym (same_name y z e))))
+
+-- where none of its packets was taken it is nobody's
+uncounted_nobody : (past : Past) (y : ConnectionName) → count_of y past ≡ 0 → (d : Client) → current_connection past d ≡ Some y → ⊥
+uncounted_nobody past y none d e = let some = current_counted past d y e in absurd (omega (arith, some, none))
 
 -- a command that is none of its own is no Connect of it
 pub not_its_connect : (command : Command) (y : ConnectionName) → is_packet_of command y ≡ false → is_connect_of command y ≡ false
@@ -124,6 +126,11 @@ not_its_connect (commands.Expel d) y e = refl
 pub place_no_connack : (limits : Limits) (place : Place) (past : Past) (y : ConnectionName) → is_connect_of place.command y ≡ false → no_connacks (sends_to y (answers_at limits place past))
 place_no_connack limits place past y other = no_connack_sent place.command past y other (answers_at limits place past) (all_right limits place past)
 
--- and nothing before a packet of it is taken, where the place is of another
+-- and nothing where the place is of another, and it is nobody's
+pub place_to_nobody : (limits : Limits) (place : Place) (past : Past) (y : ConnectionName) → is_packet_of place.command y ≡ false → ((d : Client) → current_connection past d ≡ Some y → ⊥)
+    → sends_to y (answers_at limits place past) ≡ []
+place_to_nobody limits place past y other none = nothing_sent place.command past y other none (answers_at limits place past) (all_right limits place past)
+
+-- as before a packet of it is taken
 pub place_nothing : (limits : Limits) (place : Place) (past : Past) (y : ConnectionName) → is_packet_of place.command y ≡ false → count_of y past ≡ 0 → sends_to y (answers_at limits place past) ≡ []
-place_nothing limits place past y other none = nothing_sent place.command past y other none (answers_at limits place past) (all_right limits place past)
+place_nothing limits place past y other none = place_to_nobody limits place past y other (uncounted_nobody past y none)

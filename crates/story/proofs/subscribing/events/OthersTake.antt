@@ -76,7 +76,7 @@ goes_start limits s shape b =
 abbrev pub at_expel : Client → Place
 at_expel d = record { command = commands.Expel d; mark = Mark.NoPart }
 
-closes_only : (x : ConnectionName) (o : Option ConnectionName) → sends_to x (closed o) ≡ []
+pub closes_only : (x : ConnectionName) (o : Option ConnectionName) → sends_to x (closed o) ≡ []
 closes_only x None = refl
 closes_only x (Some y) = refl
 
