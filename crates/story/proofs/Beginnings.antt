@@ -5,9 +5,7 @@ use Rattle.lists.specs.Lists.{has_id, IsDistinct, Each}
 use Rattle.broker_base.specs.Connection.{ConnectionName}
 use Rattle.broker_base.specs.Place.{Client, Past, Limits}
 use Rattle.broker_base.specs.Past.{current_connection, session_of}
-use Rattle.broker_base.specs.Commands.{past_of}
-use Rattle.broker_base.specs.Received.{is_new, received_of}
-use Rattle.broker_base.specs.Times.{entries_of}
+use Rattle.broker_base.specs.Received.{is_new}
 use Rattle.broker_base.specs.Command.{Command}
 use Rattle.broker_base.specs.Command.TheVariants as commands
 use Rattle.broker_base.proofs.QuietPasts.{no_connection}
@@ -18,7 +16,7 @@ use Rattle.client_base.specs.Keeper.{Own, ids_in_use}
 use Rattle.story.specs.Story.{Story, AreUnsent, unserved}
 use Rattle.story.specs.Carried.{carries, new_numbers, more_by, is_two}
 use Rattle.story.specs.Inside.Projections.{items_of, items_of_own, as_publisher, as_subscriber, left_behind}
-use Rattle.story.specs.Inside.Shape.{AreNumbered, none_unsent, HasShape, IsSoundStory, LastIsCurrent, NewestIsServed}
+use Rattle.story.specs.Inside.Shape.{AreNumbered, HasShape, IsSoundStory, LastIsCurrent, NewestIsServed}
 use Rattle.story.proofs.places.Sessions.{received_outside}
 use Rattle.story.proofs.subscribing.places.Quiet.{no_entries}
 use Rattle.session_base.specs.declared.publication.Publication.{Publication}

@@ -22,6 +22,7 @@ pub mod LastingGoes
 pub mod LastingAccepts
 pub mod BeginsAgain
 pub mod Parted
+pub mod PartedGoes
 pub mod HandledCounted
 pub mod Lingering
 pub mod LingersPlaced

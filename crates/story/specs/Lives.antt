@@ -1,7 +1,6 @@
 -- A client's life: its story over several sessions, which an Expel ends.
-use Rattle.std.specs.Prelude.{◌≡◌, ◌≤◌, ◌<◌, ℕ, false, List, [], ◌∷◌, ◌++◌, map, slice_get}
+use Rattle.std.specs.Prelude.{◌≡◌, ◌<◌, ℕ, false, List, [], ◌∷◌, ◌++◌, map}
 use Rattle.lists.specs.Lists.{Each}
-use Rattle.session_base.specs.declared.publication.Publication.{Publication}
 use Rattle.broker_base.specs.Place.{Client, Limits}
 use Rattle.broker_base.specs.Commands.{place_of}
 use Rattle.broker_base.specs.Entries.{Entry}

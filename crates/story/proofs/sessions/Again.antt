@@ -1,18 +1,17 @@
 -- Where a session of a client that was served begins again: what its newest connection is sent begins with CONNACK 0 without
 -- session present, and the client awaits it.
-use Rattle.std.proofs.Common.{◌≡◌, ℕ, zero, suc, Bool, true, false, not, ◌&&◌, ◌||◌, if◌then◌else◌, List, [], ◌∷◌, ◌++◌, Option, Some, None, refl, sym, ◌∙◌, ap, ap₂, subst, length, arith}
+use Rattle.std.proofs.Common.{◌≡◌, ℕ, zero, suc, true, false, not, ◌&&◌, ◌||◌, if◌then◌else◌, List, [], ◌∷◌, ◌++◌, Some, None, refl, ◌∙◌, ap, ap₂, subst, length, arith}
 use Rattle.std.specs.Prelude.{slice_get}
 use Rattle.lists.specs.Lists.{IsDistinct}
 use Rattle.packet.specs.declared.packet.Packet.{Packet}
-use Rattle.broker_base.specs.Connection.{ConnectionName, same_connection}
+use Rattle.broker_base.specs.Connection.{ConnectionName}
 use Rattle.broker_base.specs.Place.{Client, Mark, Place, Past, Limits}
-use Rattle.broker_base.specs.Past.{accepts, begins, is_beginning, current_connection, session_of}
+use Rattle.broker_base.specs.Past.{begins, is_beginning, current_connection, session_of}
 use Rattle.broker_base.specs.Marks.{mark_of}
 use Rattle.broker_base.specs.Commands.{place_of, past_of}
-use Rattle.broker_base.specs.Answers.{closed, welcome, answers_at, answers_by}
+use Rattle.broker_base.specs.Answers.{welcome, answers_at}
 use Rattle.broker_base.specs.Sends.{resent}
 use Rattle.broker_base.specs.Times.{entries_of}
-use Rattle.broker_base.specs.Output.{Output}
 use Rattle.broker_base.specs.Command.{Command}
 use Rattle.broker_base.specs.Command.TheVariants as commands
 use Rattle.client_base.specs.Keeper.{Keeper, ids_in_use}
@@ -29,7 +28,7 @@ use Rattle.story.proofs.subscribing.places.Accepted.{opened}
 use Rattle.story.proofs.subscribing.events.OtherConnects.{closed_none}
 use Rattle.story.proofs.sessions.Beside.{kept_of, AreGone, with_connections}
 use Rattle.story.proofs.sessions.Anew.{flags_of, IsUntouched, AreUntouched, waiting, session_lost, opens_again, is_zero}
-use Rattle.story.proofs.sessions.Awaiting.{Awaits, HasAwaiting}
+use Rattle.story.proofs.sessions.Awaiting.{HasAwaiting}
 
 -- the place of an accepted Connect of the client
 abbrev pub accepted_at : ConnectionName → Client → Place

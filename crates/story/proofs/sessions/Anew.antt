@@ -1,20 +1,20 @@
 -- A session that begins again: its story opens the connections of which nothing was taken, and begins there.
-use Rattle.std.proofs.Common.{◌≡◌, ℕ, zero, suc, Bool, true, false, List, [], ◌∷◌, ◌++◌, Some, None, refl, sym, ◌∙◌, ap, subst}
+use Rattle.std.proofs.Common.{◌≡◌, ℕ, zero, suc, Bool, true, false, List, [], ◌∷◌, None, refl, sym, subst}
 use Rattle.lists.specs.Lists.{Each, IsDistinct}
 use Rattle.packet.specs.declared.connack.Connack.TheVariants as connacks
 use Rattle.packet.specs.declared.packet.Packet.{Packet}
 use Rattle.packet.specs.declared.packet.Packet.TheVariants as packets
-use Rattle.broker_base.specs.Connection.{ConnectionName, same_connection}
+use Rattle.broker_base.specs.Connection.{same_connection}
 use Rattle.broker_base.specs.Place.{Client, Past, Limits}
 use Rattle.broker_base.specs.Past.{session_of}
 use Rattle.broker_base.specs.Commands.{past_of}
 use Rattle.broker_base.specs.Command.{Command}
-use Rattle.client_base.specs.Keeper.{Own, Keeper, new_keeper, ids_in_use}
+use Rattle.client_base.specs.Keeper.{Own, Keeper, ids_in_use}
 use Rattle.client_base.specs.Called.{new_connection}
 use Rattle.client_base.specs.Handled.{handled}
 use Rattle.story.specs.Sides.{Connection, Side}
 use Rattle.story.specs.Sends.{put_to}
-use Rattle.story.specs.Story.{Story, Told, AreUnsent, unserved, count_of, any_named}
+use Rattle.story.specs.Story.{Told, AreUnsent, unserved, count_of, any_named}
 use Rattle.story.specs.Story.Told.{begins_at, goes_on}
 use Rattle.story.specs.Story.Happens.{opens_anew, loses}
 use Rattle.story.specs.Inside.Shape.{NamesApart}

@@ -1,6 +1,6 @@
 -- Where the newest connection's Connect is accepted, and no session is there: the story of the session that begins stands beside the
 -- life, whether its client was served before or not, and what was accepted in earlier sessions stays.
-use Rattle.std.proofs.Common.{◌≡◌, ◌<◌, ℕ, zero, suc, Bool, true, false, ◌||◌, if◌then◌else◌, List, [], ◌∷◌, ◌++◌, length, Option, Some, None, refl, sym, ◌∙◌, ap, ap₂, subst, arith, inl, inr, ◌⊎◌}
+use Rattle.std.proofs.Common.{◌≡◌, ◌<◌, ℕ, zero, suc, Bool, true, false, if◌then◌else◌, List, [], ◌∷◌, ◌++◌, length, Option, Some, None, refl, sym, ◌∙◌, ap, ap₂, subst, arith, inl, inr}
 use Rattle.std.specs.Prelude.{slice_get, ◌==◌}
 use Rattle.std.proofs.lemmas.Bool.{both_ways}
 use Rattle.lists.specs.Lists.{Each}
@@ -16,16 +16,16 @@ use Rattle.broker_base.proofs.ConnectionsOfSessions.{same_turned}
 use Rattle.client_base.specs.Keeper.{Keeper}
 use Rattle.client_base.specs.Called.{opens}
 use Rattle.story.specs.Sides.{Connection}
-use Rattle.story.specs.Story.{Told, any_named, command_of, count_of}
+use Rattle.story.specs.Story.{Told, any_named, command_of}
 use Rattle.story.specs.Story.Told.{goes_on}
 use Rattle.story.specs.Story.Happens.{takes}
 use Rattle.story.specs.Headline.{accepted_on}
-use Rattle.story.specs.InStep.{has_begun, opens_on, is_at, opened_in, entries_in, accepted_in}
+use Rattle.story.specs.InStep.{has_begun, opens_on, is_at, opened_in, accepted_in}
 use Rattle.story.specs.Inside.Shape.{NamesApart}
 use Rattle.story.proofs.Takes.{same_name_self}
 use Rattle.story.proofs.subscribing.places.Accepted.{opened}
 use Rattle.story.proofs.sessions.Beside.{kept_of, with_connections}
-use Rattle.story.proofs.sessions.Anew.{flags_of, IsUntouched, AreUntouched, is_zero, waiting, opens_again}
+use Rattle.story.proofs.sessions.Anew.{flags_of, AreUntouched, is_zero, waiting, opens_again}
 use Rattle.story.proofs.sessions.Again.{accepted_at, begins_there, all_gone, begins_awaiting}
 use Rattle.story.proofs.sessions.EachPlaced.{IsFresh}
 use Rattle.story.proofs.sessions.Openings.{start_here, opened_same, opened_here, opened_below}

@@ -1,6 +1,6 @@
 -- Beside a client's life stands the story of its session, in which the connections of earlier sessions are left out: while the
 -- session lasts, each event of the life is one of that story.
-use Rattle.std.proofs.Common.{◌≡◌, ◌≤◌, ℕ, zero, suc, Bool, true, false, ◌||◌, if◌then◌else◌, List, [], ◌∷◌, ◌++◌, Option, Some, None, refl, sym, ◌∙◌, ap, ap₂, subst, arith, inl, inr, ◌⊎◌}
+use Rattle.std.proofs.Common.{◌≡◌, ◌≤◌, ℕ, zero, suc, Bool, true, false, ◌||◌, if◌then◌else◌, List, [], ◌∷◌, Some, refl, sym, ◌∙◌, ap, ap₂, subst, arith, inl, inr, ◌⊎◌}
 use Rattle.std.specs.Prelude.{slice_get}
 use Rattle.packet.specs.declared.packet.Packet.{Packet}
 use Rattle.packet.specs.declared.packet.Packet.TheVariants as packets
@@ -8,8 +8,6 @@ use Rattle.lists.proofs.Tests.{or_none}
 use Rattle.broker_base.specs.Connection.{ConnectionName, same_connection}
 use Rattle.broker_base.specs.Place.{Client, Past, Limits}
 use Rattle.broker_base.specs.Commands.{place_of}
-use Rattle.broker_base.specs.Command.{Command}
-use Rattle.broker_base.specs.Command.TheVariants as commands
 use Rattle.broker_base.proofs.ConnectionsOfSessions.{same_turned}
 use Rattle.client_base.specs.Keeper.{Written, Keeper}
 use Rattle.client_base.specs.Called.{written_for}

@@ -1,12 +1,11 @@
 -- What holds of each connection behind a place: of the one whose packet is taken, and of all others.
-use Rattle.std.proofs.Common.{◌≡◌, ◌≤◌, ℕ, zero, suc, Bool, true, false, ◌||◌, List, [], ◌∷◌, length, Some, refl, sym, ◌∙◌, ap, subst, arith, inl, inr, ◌⊎◌}
+use Rattle.std.proofs.Common.{◌≡◌, ◌≤◌, ℕ, zero, suc, Bool, false, List, [], ◌∷◌, length, Some, refl, sym, ◌∙◌, ap, subst, arith, inl, inr, ◌⊎◌}
 use Rattle.std.specs.Prelude.{slice_get}
 use Rattle.packet.specs.declared.packet.Packet.{Packet}
-use Rattle.packet.specs.declared.packet.Packet.TheVariants as packets
 use Rattle.lists.specs.Lists.{Each}
 use Rattle.lists.proofs.Tests.{or_none}
 use Rattle.broker_base.specs.Connection.{ConnectionName, same_connection}
-use Rattle.broker_base.specs.Place.{Client, Mark, Place, Past, Limits}
+use Rattle.broker_base.specs.Place.{Client, Place, Past, Limits}
 use Rattle.broker_base.specs.Past.{accepts}
 use Rattle.broker_base.specs.Marks.{mark_of}
 use Rattle.broker_base.specs.Commands.{place_of}
@@ -21,7 +20,7 @@ use Rattle.story.specs.Inside.Shape.{NamesApart}
 use Rattle.story.proofs.sessions.Beside.{other_name}
 use Rattle.story.proofs.sessions.Anew.{IsUntouched, AreUntouched}
 use Rattle.story.proofs.sessions.Openings.{opens_packet}
-use Rattle.story.proofs.sessions.Life.{IsShut, IsShutUnopened, AreShutUnopened}
+use Rattle.story.proofs.sessions.Life.{IsShutUnopened, AreShutUnopened}
 use Rattle.story.proofs.sessions.Placed.{untouched_other, shut_still, shut_other, shut_connect}
 
 -- ---- each of them
@@ -121,7 +120,7 @@ own_fresh limits past c zero κ packet command (μ ∷ connections) kind untouch
     let place = place_of limits past command in (
       subst (IsFresh place c) (sym same) (fresh_own limits past c κ packet command kind untouched),
       each_other (λ μ. Unit {0}) (IsFresh place c) (same_connection κ.name) connections (ap (λ (z : Connection). any_named (same_connection z.name) connections) (sym same) ∙ apart.0)
-      (λ ξ other h. inl (opens_packet command place.mark c ξ.name (own_alone c κ packet command ξ.name kind other))) (all_units connections),
+          (λ ξ other h. inl (opens_packet command place.mark c ξ.name (own_alone c κ packet command ξ.name kind other))) (all_units connections),
     )
   where
     all_units : (l : List Connection) → Each (λ μ. Unit {0}) l

@@ -1,27 +1,25 @@
 -- In each of its sessions a client that is in step accepts a beginning of the QoS 2 entries, in order, and each that is released.
-use Rattle.std.proofs.Common.{◌≡◌, ℕ, List, [], ◌∷◌, length, Some, refl, sym, ◌∙◌, ap, subst, inl, inr, ◌⊎◌}
-use Rattle.std.proofs.lemmas.Bool.{both_ways}
-use Rattle.broker_base.specs.Place.{Client, Past, Limits}
+use Rattle.std.proofs.Common.{ℕ, [], ◌∷◌, length, refl, ◌∙◌, ap, subst, inl, inr, ◌⊎◌}
+use Rattle.broker_base.specs.Place.{Client, Limits}
 use Rattle.broker_base.specs.Past.{current_connection, session_of, session_start}
 use Rattle.broker_base.specs.QuietLaws.{IsSteady}
 use Rattle.broker_base.specs.Commands.{place_of, past_from}
 use Rattle.broker_base.specs.Command.TheVariants as commands
-use Rattle.client_base.specs.Keeper.{new_keeper}
 use Rattle.story.specs.Story.{Story, Happens, no_story}
 use Rattle.story.specs.Story.Told.{begins}
 use Rattle.story.specs.InStep.{IsInStep, entries_in, accepted_in}
 use Rattle.story.specs.Headline.{two_entries}
-use Rattle.story.specs.Lives.{Lived, AcceptedInSession, AcceptsInEachSession}
+use Rattle.story.specs.Lives.{Lived, AcceptsInEachSession}
 use Rattle.story.specs.Lives.Lived.{opens, goes_on, is_expelled}
 use Rattle.story.proofs.sessions.StepsBefore.{in_step_before, in_step_expelled}
 use Rattle.story.proofs.sessions.AcceptedShares.{Accepts}
 use Rattle.story.proofs.sessions.Life.{IsLife}
 use Rattle.story.proofs.sessions.LifeExpelled.{life_expelled}
 use Rattle.story.proofs.sessions.LifeGoes.{life_goes}
-use Rattle.story.proofs.sessions.Lasting.{Lasts}
-use Rattle.story.proofs.sessions.LastingGoes.{Stands, stands_head, stands_goes, lasts_goes}
+use Rattle.story.proofs.sessions.LastingGoes.{stands_head, stands_goes, lasts_goes}
 use Rattle.story.proofs.sessions.LastingAccepts.{lasting_accepts}
-use Rattle.story.proofs.sessions.Parted.{Parts, Begins, parts_placed, parted_goes}
+use Rattle.story.proofs.sessions.Parted.{Parts, parts_placed}
+use Rattle.story.proofs.sessions.PartedGoes.{Begins, parted_goes}
 use Rattle.story.proofs.sessions.Lingering.{Lingers, lingers_accepts}
 use Rattle.story.proofs.sessions.LingersPlaced.{lingers_expelled}
 use Rattle.story.proofs.sessions.LingersOn.{lingers_goes}

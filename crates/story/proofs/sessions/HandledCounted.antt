@@ -27,9 +27,9 @@ taking_counted n (deliveries.ExactlyOnce dup id) p side = by (has_id id side.kee
       connection = record side.connection { taken = n; accepted = side.connection.accepted ++ p ∷ [] };
     })
         ≡ counting n (writing (plain (packets.Pubrec id) ∷ []) (if b then side else record {
-      keeper = record side.keeper { received = id ∷ side.keeper.received };
-      connection = record side.connection { accepted = side.connection.accepted ++ p ∷ [] };
-    }))
+          keeper = record side.keeper { received = id ∷ side.keeper.received };
+          connection = record side.connection { accepted = side.connection.accepted ++ p ∷ [] };
+        }))
     by true = refl
     by false = refl
 

@@ -1,10 +1,9 @@
 -- While a session of a client lasts: what the client accepted in it, and in those before it, behind each place.
-use Rattle.std.proofs.Common.{◌≡◌, ◌<◌, ℕ, zero, suc, Bool, true, false, ◌||◌, if◌then◌else◌, List, [], ◌∷◌, ◌++◌, length, Option, Some, None, refl, sym, ◌∙◌, ap, ap₂, subst, arith, inl, inr, ◌⊎◌}
-use Rattle.std.specs.Prelude.{◌==◌}
+use Rattle.std.proofs.Common.{◌≡◌, ℕ, zero, suc, Bool, true, false, if◌then◌else◌, List, [], ◌∷◌, length, Option, Some, None, refl, sym, ◌∙◌, ap, inl, inr, ◌⊎◌}
 use Rattle.std.proofs.lemmas.Bool.{both_ways}
 use Rattle.lists.specs.Lists.{Each}
 use Rattle.lists.proofs.OfEach.{each_then}
-use Rattle.lists.proofs.Tests.{eq_same, none_or}
+use Rattle.lists.proofs.Tests.{none_or}
 use Rattle.broker_base.specs.Connection.{ConnectionName}
 use Rattle.broker_base.specs.Place.{Client, Place, Past, Limits}
 use Rattle.broker_base.specs.Past.{accepts, session_of, session_start, begins}
@@ -15,12 +14,12 @@ use Rattle.story.specs.Headline.{accepted_on}
 use Rattle.story.specs.InStep.{has_begun, opens_on, is_at, opened_in, entries_in, accepted_in}
 use Rattle.story.proofs.places.After.{IsKeptSession, IsSpared}
 use Rattle.story.proofs.publishing.kept.KeepsNames.{OpensKept}
-use Rattle.story.proofs.sessions.Beside.{kept_of, IsHeadKept}
+use Rattle.story.proofs.sessions.Beside.{kept_of}
 use Rattle.story.proofs.sessions.Openings.{start_here, opened_same, opened_here, opened_begun}
 use Rattle.story.proofs.sessions.StartKeeps.{start_keeps}
 use Rattle.story.proofs.sessions.EachPlaced.{IsFresh}
 use Rattle.story.proofs.sessions.AcceptedShares.{share, Accepts, accepts_same, share_nothing, none_in, none_on, accepted_placed, accepted_counted, kept_counted}
-use Rattle.story.proofs.sessions.Life.{IsShut, IsShutUnopened, AreShutUnopened}
+use Rattle.story.proofs.sessions.Life.{IsShutUnopened, AreShutUnopened}
 
 -- ---- the rows
 

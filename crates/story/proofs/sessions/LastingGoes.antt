@@ -1,39 +1,33 @@
 -- While a session of a client lasts each event keeps what the client accepted in it and before it.
-use Rattle.std.proofs.Common.{◌≡◌, ℕ, zero, suc, Bool, true, false, ◌||◌, if◌then◌else◌, List, [], ◌∷◌, ◌++◌, length, Option, Some, None, refl, sym, ◌∙◌, ap, ap₂, subst, inl, inr, ◌⊎◌}
-use Rattle.std.specs.Prelude.{◌==◌}
-use Rattle.std.proofs.lemmas.Bool.{both_ways}
-use Rattle.lists.proofs.Tests.{eq_same, eq_is}
-use Rattle.packet.specs.declared.packet.Packet.{Packet}
+use Rattle.std.proofs.Common.{◌≡◌, ℕ, Bool, true, false, if◌then◌else◌, List, [], ◌∷◌, ◌++◌, length, Some, None, refl, sym, ◌∙◌, ap, ap₂, subst, inl, inr, ◌⊎◌}
+use Rattle.lists.proofs.Tests.{eq_same}
 use Rattle.packet.specs.declared.packet.Packet.TheVariants as packets
 use Rattle.broker_base.specs.Place.{Client, Place, Past, Limits}
 use Rattle.broker_base.specs.Past.{accepts, session_start}
-use Rattle.broker_base.specs.QuietLaws.{IsSteady}
 use Rattle.broker_base.specs.Commands.{place_of}
-use Rattle.broker_base.specs.Times.{entries_of}
-use Rattle.client_base.specs.Keeper.{Written, Keeper}
+use Rattle.client_base.specs.Keeper.{Written}
 use Rattle.client_base.specs.Called.{new_connection, written_for}
 use Rattle.client_base.specs.Handled.{handled}
 use Rattle.client_base.specs.Written.{plain, writes_first}
 use Rattle.story.specs.Sides.{Connection, Side}
-use Rattle.story.specs.Story.{Story, Told, Happens, command_of, names_client}
+use Rattle.story.specs.Story.{Story, Happens, command_of, names_client}
 use Rattle.story.specs.Story.Happens.{takes, others_take, receives, opens_anew, loses, disconnects, publishes_one, subscribes, unsubscribes}
-use Rattle.story.specs.Headline.{two_entries, accepted_on}
-use Rattle.story.specs.InStep.{IsInStep, opens_on, is_at, opened_in, entries_in, accepted_in}
+use Rattle.story.specs.Headline.{accepted_on}
+use Rattle.story.specs.InStep.{IsInStep, opens_on, is_at, opened_in, accepted_in}
 use Rattle.story.proofs.keeping.CurrentOnes.{none_opened}
-use Rattle.story.proofs.keeping.Told.{told_stories_accept}
 use Rattle.story.proofs.places.Spared.{other_spares}
 use Rattle.story.proofs.publishing.Last.{each_there}
 use Rattle.story.proofs.publishing.kept.KeepsNames.{kept_other}
 use Rattle.story.proofs.subscribing.Given.{stays_handled}
-use Rattle.story.proofs.sessions.Beside.{kept_of, IsHeadKept, HasBeside, flags_after, with_connections, goes_beside}
-use Rattle.story.proofs.sessions.Anew.{IsUntouched, waiting}
+use Rattle.story.proofs.sessions.Beside.{kept_of, IsHeadKept, HasBeside, flags_after, goes_beside}
+use Rattle.story.proofs.sessions.Anew.{IsUntouched}
 use Rattle.story.proofs.sessions.Awaiting.{HasAwaiting, awaiting_goes}
 use Rattle.story.proofs.sessions.EachPlaced.{IsFresh, own_fresh, counted_none}
-use Rattle.story.proofs.sessions.Openings.{opens_packet, unopened}
-use Rattle.story.proofs.sessions.AcceptedShares.{Accepts, accepts_same, share_nothing, accepted_head, accepted_written, accepted_new}
+use Rattle.story.proofs.sessions.Openings.{unopened}
+use Rattle.story.proofs.sessions.AcceptedShares.{accepts_same, accepted_head, accepted_new}
 use Rattle.story.proofs.sessions.Life.{AreShutUnopened, IsLife}
 use Rattle.story.proofs.sessions.LifePlaces.{life_command, own_opens, own_spares}
-use Rattle.story.proofs.sessions.Lasting.{IsHeadOpened, behind_first, IsTailKept, Lasts, lasts_placed}
+use Rattle.story.proofs.sessions.Lasting.{IsHeadOpened, behind_first, Lasts, lasts_placed}
 use Rattle.lists.specs.Lists.{Each}
 
 -- ---- the whole of this session

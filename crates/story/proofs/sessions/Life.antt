@@ -1,12 +1,11 @@
 -- What holds of a client's life at any time, whichever of its sessions lasts.
-use Rattle.std.proofs.Common.{◌≡◌, ◌⊎◌, ℕ, suc, Bool, true, false, List, [], ◌∷◌, ◌++◌, Option, Some, None}
-use Rattle.packet.specs.declared.connack.Connack.{Connack}
+use Rattle.std.proofs.Common.{◌≡◌, Bool, true, false, List, [], ◌∷◌, None}
 use Rattle.packet.specs.declared.connack.Connack.TheVariants as connacks
 use Rattle.packet.specs.declared.packet.Packet.{Packet}
 use Rattle.packet.specs.declared.packet.Packet.TheVariants as packets
 use Rattle.lists.specs.Lists.{Each, IsDistinct}
 use Rattle.broker_base.specs.Place.{Client, Past, Limits}
-use Rattle.broker_base.specs.Past.{current_connection, session_of}
+use Rattle.broker_base.specs.Past.{session_of}
 use Rattle.broker_base.specs.Commands.{past_of}
 use Rattle.broker_base.specs.Command.{Command}
 use Rattle.client_base.specs.Keeper.{Keeper, ids_in_use}

@@ -1,7 +1,6 @@
 -- An Expel of a client keeps what holds of its life, and leaves no session.
-use Rattle.std.proofs.Common.{◌≡◌, Bool, true, false, not, ◌||◌, ◌&&◌, List, [], ◌∷◌, ◌++◌, Option, Some, None, refl, ◌∙◌, ap, inl}
-use Rattle.broker_base.specs.Connection.{ConnectionName}
-use Rattle.broker_base.specs.Place.{Client, Place, Past, Limits, only_if}
+use Rattle.std.proofs.Common.{◌≡◌, Bool, true, false, List, [], ◌∷◌, ◌++◌, Option, Some, None, refl, ◌∙◌, ap, inl}
+use Rattle.broker_base.specs.Place.{Client, Past, Limits}
 use Rattle.broker_base.specs.Past.{ends_any, newest_session, current_connection, session_of}
 use Rattle.broker_base.specs.Commands.{place_of}
 use Rattle.broker_base.specs.Command.TheVariants as commands

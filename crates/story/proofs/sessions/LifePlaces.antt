@@ -1,11 +1,10 @@
 -- A place keeps what holds of a client's life: of a packet that it wrote, and of another command.
-use Rattle.std.proofs.Common.{◌≡◌, ℕ, zero, suc, Bool, true, false, ◌||◌, List, [], ◌∷◌, ◌++◌, Option, Some, None, refl, sym, ◌∙◌, ap, ap₂, subst, inl, inr, ◌⊎◌}
+use Rattle.std.proofs.Common.{◌≡◌, ℕ, zero, suc, false, List, [], ◌∷◌, ◌++◌, Some, refl, sym, ◌∙◌, ap, subst, inl, inr}
 use Rattle.std.specs.Prelude.{slice_get}
 use Rattle.packet.specs.declared.packet.Packet.{Packet}
 use Rattle.lists.proofs.Tests.{or_right}
-use Rattle.broker_base.specs.Connection.{ConnectionName}
 use Rattle.broker_base.specs.Place.{Client, Place, Past, Limits}
-use Rattle.broker_base.specs.Past.{expels, session_of, begins}
+use Rattle.broker_base.specs.Past.{expels, begins}
 use Rattle.broker_base.specs.Marks.{mark_of}
 use Rattle.broker_base.specs.Commands.{place_of, past_from, past_of}
 use Rattle.broker_base.specs.Command.{Command}
@@ -14,8 +13,7 @@ use Rattle.client_base.specs.Keeper.{Written, Keeper}
 use Rattle.story.specs.Sides.{Connection}
 use Rattle.story.specs.Story.{Story, any_named, counted_at, command_of, is_packet_of, names_client}
 use Rattle.story.specs.InStep.{has_begun}
-use Rattle.story.specs.Inside.Shape.{NamesApart}
-use Rattle.story.proofs.places.After.{IsKeptSession, IsSpared}
+use Rattle.story.proofs.places.After.{IsSpared}
 use Rattle.story.proofs.places.Spared.{other_spares}
 use Rattle.story.proofs.publishing.Last.{each_there}
 use Rattle.story.proofs.publishing.kept.KeepsNames.{OpensKept, counted_named, counted_apart, session_kept, kept_connect, kept_other}

@@ -1,35 +1,25 @@
 -- A packet that the client handles keeps what holds of its life.
-use Rattle.std.proofs.Common.{◌≡◌, ◌≤◌, ℕ, zero, suc, Bool, true, false, ◌||◌, if◌then◌else◌, List, [], ◌∷◌, ◌++◌, length, Option, Some, None, refl, sym, ◌∙◌, ap, ap₂, subst, arith, inl, inr, ◌⊎◌}
+use Rattle.std.proofs.Common.{◌≡◌, ℕ, true, false, ◌||◌, List, [], ◌∷◌, Option, Some, None, refl, sym, ◌∙◌, ap, subst, inl, inr, ◌⊎◌}
 use Rattle.std.specs.Prelude.{slice_get}
 use Rattle.std.proofs.lemmas.Bool.{both_ways}
-use Rattle.std.proofs.lemmas.List.{append-nil}
 use Rattle.packet.specs.declared.packet.Packet.{Packet}
-use Rattle.packet.specs.declared.packet.Packet.TheVariants as packets
-use Rattle.session_base.specs.Identifiers.{least_free}
-use Rattle.lists.specs.Lists.{Each}
-use Rattle.broker_base.specs.Connection.{ConnectionName, same_connection}
+use Rattle.broker_base.specs.Connection.{same_connection}
 use Rattle.broker_base.specs.Place.{Client, Past, Limits}
-use Rattle.client_base.specs.Keeper.{Written, Keeper, ids_in_use}
-use Rattle.client_base.specs.Called.{new_connection, adds_own, written_for}
-use Rattle.client_base.specs.Written.{plain, publishes, writes_first}
-use Rattle.client_base.specs.Handled.{handled, lost}
+use Rattle.client_base.specs.Keeper.{Keeper}
+use Rattle.client_base.specs.Handled.{handled}
 use Rattle.story.specs.Sides.{Connection, Side}
 use Rattle.story.specs.Sends.{put_to}
-use Rattle.story.specs.Story.{Story, Happens, any_named, names_client}
-use Rattle.story.specs.Story.Happens.{takes, others_take, receives, opens_anew, loses, disconnects, publishes_one, subscribes, unsubscribes}
+use Rattle.story.specs.Story.{any_named}
 use Rattle.story.specs.InStep.{has_begun, opened_in}
-use Rattle.story.specs.Inside.Shape.{NamesApart}
-use Rattle.story.proofs.publishing.kept.KeepsNames.{events_keep_names}
-use Rattle.story.proofs.publishing.kept.KeepsNobody.{nobody_named, written_named, nobody_opened}
+use Rattle.story.proofs.publishing.kept.KeepsNobody.{nobody_named}
 use Rattle.story.proofs.subscribing.Given.{Stays, one_handled, stays_handled}
 use Rattle.story.proofs.keeping.Settled.{IsSettled, settled_handled, IsWelcome, served_handled}
 use Rattle.story.proofs.keeping.KeepsServed.{packet_at}
-use Rattle.story.proofs.sessions.Anew.{IsUntouched, AreUntouched}
+use Rattle.story.proofs.sessions.Anew.{IsUntouched}
 use Rattle.story.proofs.sessions.Openings.{opened_begun}
-use Rattle.story.proofs.sessions.KeepsKeeper.{unwelcome_ends, unserved_lost, unserved_opened, unserved_handled, unserved_publishes}
+use Rattle.story.proofs.sessions.KeepsKeeper.{unwelcome_ends, unserved_handled}
 use Rattle.story.proofs.sessions.OfflineUnasked.{unasked_handled}
-use Rattle.story.proofs.sessions.LifePlaces.{life_taken, life_other}
-use Rattle.story.proofs.sessions.Life.{is_welcome, NoneWelcome, IsShut, IsShutUnopened, AreShutUnopened, IsHeld, HasConnections, HasKeeper, IsLife}
+use Rattle.story.proofs.sessions.Life.{is_welcome, IsShut, IsShutUnopened, IsHeld, HasConnections, HasKeeper}
 
 held_settled : (side : Side) (others : List Connection) → IsSettled side → IsHeld side.keeper (side.connection ∷ others)
 held_settled side others (inl h) = (λ e. h.2 ∙ sym h.1, λ e. h.0)

@@ -1,62 +1,30 @@
 -- A session that is over, of which the client still hears: each event goes on in it, or the client opens a further connection.
-use Rattle.std.proofs.Common.{◌≡◌, ◌≤◌, ℕ, zero, suc, Bool, true, false, ◌||◌, if◌then◌else◌, List, [], ◌∷◌, ◌++◌, length, Option, Some, None, refl, sym, ◌∙◌, ap, ap₂, subst, arith, inl, inr, ◌⊎◌}
-use Rattle.std.specs.Prelude.{slice_get, is_some}
-use Rattle.std.proofs.lemmas.Bool.{both_ways}
-use Rattle.std.proofs.lemmas.List.{append-nil}
+use Rattle.std.proofs.Common.{◌≡◌, Bool, true, false, if◌then◌else◌, List, [], ◌∷◌, ◌++◌, Some, refl, sym, ◌∙◌, ap, subst, inl, inr, ◌⊎◌}
+use Rattle.std.specs.Prelude.{slice_get}
 use Rattle.packet.specs.declared.packet.Packet.{Packet}
 use Rattle.packet.specs.declared.packet.Packet.TheVariants as packets
-use Rattle.lists.specs.Lists.{Each}
-use Rattle.lists.proofs.Tests.{or_right, or_none}
-use Rattle.broker_base.specs.Connection.{ConnectionName, same_connection}
-use Rattle.broker_base.specs.Place.{Client, Mark, Place, Past, Limits}
-use Rattle.broker_base.specs.Past.{accepts, session_of, session_start, current_connection, begins}
+use Rattle.broker_base.specs.Place.{Client, Limits}
 use Rattle.broker_base.specs.QuietLaws.{IsSteady}
-use Rattle.broker_base.specs.Answers.{answers_at}
 use Rattle.broker_base.specs.Marks.{mark_of}
 use Rattle.broker_base.specs.Commands.{place_of}
-use Rattle.broker_base.specs.Command.{Command}
-use Rattle.broker_base.specs.Command.TheVariants as commands
 use Rattle.client_base.specs.Keeper.{Written, Keeper}
 use Rattle.client_base.specs.Called.{new_connection, written_for}
 use Rattle.client_base.specs.Handled.{handled, lost}
 use Rattle.client_base.specs.Written.{plain, writes_first}
 use Rattle.story.specs.Sides.{Connection, Side}
-use Rattle.story.specs.Sends.{sends_to, put_to}
-use Rattle.story.specs.Story.{Story, Happens, any_named, command_of, counted_at, names_client, is_packet_of, with_side}
-use Rattle.story.specs.Story.Told.{goes_on}
+use Rattle.story.specs.Sends.{put_to}
+use Rattle.story.specs.Story.{Story, Happens, command_of, counted_at, names_client, is_packet_of, with_side}
 use Rattle.story.specs.Story.Happens.{takes, others_take, receives, opens_anew, loses, disconnects, publishes_one, subscribes, unsubscribes}
-use Rattle.story.specs.InStep.{has_begun, began_again, WasWelcome, AreWelcome, IsInStep, opens_on, is_at, opened_in, entries_in, accepted_in}
-use Rattle.story.proofs.connections.GoRight.{place_to_nobody}
+use Rattle.story.specs.InStep.{AreWelcome, IsInStep}
 use Rattle.story.proofs.keeping.CurrentOnes.{none_opened}
-use Rattle.story.proofs.places.After.{none_opens}
-use Rattle.story.proofs.places.Sessions.{current_has_session}
-use Rattle.story.proofs.places.Owned.{NobodyElse}
-use Rattle.story.proofs.places.Kinds.{nobodys_mark}
-use Rattle.story.proofs.Packets.{at_packet}
-use Rattle.story.proofs.publishing.AtPlaces.{put_more}
-use Rattle.story.proofs.publishing.Last.{each_there}
 use Rattle.story.proofs.subscribing.Given.{stays_handled}
-use Rattle.story.proofs.sessions.StepsBefore.{in_step_expelled}
-use Rattle.story.proofs.sessions.Beside.{with_connections, other_name}
-use Rattle.broker_base.proofs.ClientsInOrder.{same_is}
-use Rattle.broker_base.proofs.ConnectionNames.{same_name, same_itself}
-use Rattle.story.specs.Inside.Shape.{NamesApart}
-use Rattle.story.proofs.sessions.Anew.{IsUntouched}
-use Rattle.story.proofs.sessions.Awaiting.{HasAwaiting}
-use Rattle.story.proofs.sessions.Again.{accepted_at}
-use Rattle.story.proofs.sessions.EachPlaced.{IsOwnCommand, counted_none, own_alone}
-use Rattle.story.proofs.sessions.Openings.{no_start, opened_same, unopened}
-use Rattle.story.proofs.sessions.AcceptedShares.{share, Accepts, accepts_same, accepted_placed, accepted_counted, accepted_new}
-use Rattle.story.proofs.sessions.Life.{HasConnections, HasKeeper, IsLife}
-use Rattle.story.proofs.sessions.LifePlaces.{life_command}
-use Rattle.story.proofs.sessions.LifeExpelled.{none_expelled, expelled_session}
-use Rattle.story.proofs.sessions.LifeGoes.{life_goes}
-use Rattle.story.proofs.sessions.Lasting.{IsHeadOpened, Lasts, lasts_placed}
-use Rattle.story.proofs.sessions.LastingGoes.{Stands, stands_head, stands_goes, lasts_goes, all_fresh}
-use Rattle.story.proofs.sessions.LastingAccepts.{lasting_accepts}
-use Rattle.story.proofs.sessions.Parted.{Parts, parts_placed, entries_parted, accepted_or_not, none_older, at_accepted}
+use Rattle.story.proofs.sessions.Beside.{with_connections}
+use Rattle.story.proofs.sessions.Openings.{unopened}
+use Rattle.story.proofs.sessions.AcceptedShares.{accepts_same, accepted_new}
+use Rattle.story.proofs.sessions.Life.{IsLife}
+use Rattle.story.proofs.sessions.Parted.{Parts}
 use Rattle.story.proofs.sessions.HandledCounted.{counting, handled_counted}
-use Rattle.story.proofs.sessions.Lingering.{IsFrozen, IsSince, Lingers, lingers_accepts, frozen_goes, lingers_placed}
+use Rattle.story.proofs.sessions.Lingering.{IsFrozen, IsSince, Lingers, lingers_accepts, frozen_goes}
 use Rattle.story.proofs.sessions.LingersPlaced.{lingers_takes, lingers_other, none_of_head}
 
 -- with the same connections

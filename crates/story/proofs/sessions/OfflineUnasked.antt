@@ -10,7 +10,7 @@ use Rattle.session_base.specs.Publication.{publication_of}
 use Rattle.lists.specs.Lists.{has_id}
 use Rattle.client_base.specs.Keeper.{Keeper}
 use Rattle.client_base.specs.Written.{plain, writing}
-use Rattle.client_base.specs.Handled.{at_pubrec, is_sent_with, takes_in, releasing, handled, handled_online, handled_first}
+use Rattle.client_base.specs.Handled.{at_pubrec, is_sent_with, takes_in, handled, handled_online, handled_first}
 use Rattle.story.specs.Sides.{Side}
 use Rattle.story.proofs.subscribing.Given.{one_handled}
 

@@ -1,24 +1,20 @@
 -- What one more place leaves of a connection of a client's life: one of which nothing was taken, and one that was not opened.
-use Rattle.std.proofs.Common.{◌≡◌, ℕ, zero, suc, Bool, true, false, ◌||◌, if◌then◌else◌, List, [], ◌∷◌, ◌++◌, length, Option, Some, None, refl, sym, ◌∙◌, ap, ap₂, subst, arith, inl, inr, ◌⊎◌}
-use Rattle.std.specs.Prelude.{slice_get, is_some}
+use Rattle.std.proofs.Common.{◌≡◌, ℕ, suc, true, false, if◌then◌else◌, List, [], ◌∷◌, ◌++◌, None, refl, sym, ◌∙◌, ap, ap₂, subst}
+use Rattle.std.specs.Prelude.{is_some}
 use Rattle.std.proofs.lemmas.Bool.{both_ways}
-use Rattle.packet.specs.declared.connack.Connack.TheVariants as connacks
 use Rattle.packet.specs.declared.packet.Packet.{Packet}
 use Rattle.packet.specs.declared.packet.Packet.TheVariants as packets
-use Rattle.lists.specs.Lists.{Each}
 use Rattle.lists.proofs.OfEach.{each_append}
-use Rattle.broker_base.specs.Connection.{ConnectionName, same_connection}
+use Rattle.broker_base.specs.Connection.{ConnectionName}
 use Rattle.broker_base.specs.Place.{Client, Mark, Place, Past, Limits}
-use Rattle.broker_base.specs.Past.{accepts, session_of, session_start}
+use Rattle.broker_base.specs.Past.{accepts, session_start}
 use Rattle.broker_base.specs.Answers.{answers_at}
-use Rattle.broker_base.specs.Command.{Command}
-use Rattle.broker_base.specs.Command.TheVariants as commands
 use Rattle.broker_base.proofs.ConnectionNames.{same_itself}
 use Rattle.story.specs.Sides.{Connection}
 use Rattle.story.specs.Sends.{sends_to, put_to}
-use Rattle.story.specs.Story.{any_named, count_of, counted_at, is_packet_of}
+use Rattle.story.specs.Story.{count_of, is_packet_of}
 use Rattle.story.specs.InStep.{opens_on, opened_in}
-use Rattle.story.specs.Inside.Shape.{is_connack, no_connacks, NamesApart}
+use Rattle.story.specs.Inside.Shape.{no_connacks}
 use Rattle.story.proofs.places.After.{session_opens}
 use Rattle.story.proofs.connections.Answers.{is_connect_of}
 use Rattle.story.proofs.connections.GoRight.{not_its_connect, place_no_connack, place_nothing}

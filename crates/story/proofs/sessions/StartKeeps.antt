@@ -1,9 +1,9 @@
 -- A place that is no Expel of the client keeps the session that is there.
-use Rattle.std.proofs.Common.{◌≡◌, ℕ, Bool, true, false, ◌||◌, ◌∷◌, Option, Some, None, refl, sym, ◌∙◌, ap, ap₂, inl, inr, ◌⊎◌}
+use Rattle.std.proofs.Common.{◌≡◌, ℕ, Bool, false, ◌∷◌, Option, Some, None, refl, sym, ◌∙◌, ap, ap₂, inl, inr}
 use Rattle.std.specs.Prelude.{is_some}
 use Rattle.broker_base.specs.Connection.{ConnectionName}
 use Rattle.broker_base.specs.Place.{Client, Place, Past}
-use Rattle.broker_base.specs.Past.{accepts, session_of, session_start, begins, begins_session, is_beginning}
+use Rattle.broker_base.specs.Past.{accepts, session_of, session_start, begins_session, is_beginning}
 use Rattle.story.proofs.places.After.{IsKeptSession, IsSpared, session_spared, session_opens}
 use Rattle.story.proofs.publishing.kept.KeepsNames.{OpensKept}
 use Rattle.story.proofs.sessions.Openings.{no_start, start_stays}

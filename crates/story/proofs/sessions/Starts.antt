@@ -1,5 +1,5 @@
 -- Where a session began: a later place never brings back one that is over.
-use Rattle.std.proofs.Common.{◌≡◌, ◌<◌, ◌≤◌, ℕ, suc, Bool, true, false, if◌then◌else◌, List, [], ◌∷◌, length, Option, Some, None, refl, sym, ◌∙◌, ap, subst, arith, inl, inr, ◌⊎◌}
+use Rattle.std.proofs.Common.{◌≡◌, ◌<◌, ℕ, suc, Bool, true, false, if◌then◌else◌, [], ◌∷◌, length, Option, Some, None, refl, sym, ◌∙◌, ap, arith, inl, inr, ◌⊎◌}
 use Rattle.std.specs.Prelude.{is_some, ◌==◌}
 use Rattle.broker_base.specs.Place.{Client, Place, Past, Limits, only_if}
 use Rattle.broker_base.specs.Past.{session_of, session_start, begins}

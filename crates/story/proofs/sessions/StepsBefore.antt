@@ -1,5 +1,5 @@
 -- A client that is in step at the end was in step all along.
-use Rattle.std.proofs.Common.{◌≡◌, ℕ, zero, suc, Bool, true, false, ◌&&◌, ◌||◌, if◌then◌else◌, List, [], ◌∷◌, ◌++◌, Some, refl, sym, ◌∙◌, ap, subst}
+use Rattle.std.proofs.Common.{◌≡◌, ℕ, zero, suc, Bool, true, false, ◌&&◌, ◌||◌, if◌then◌else◌, List, [], ◌∷◌, refl, sym, subst}
 use Rattle.lists.specs.Lists.{Each}
 use Rattle.packet.specs.declared.packet.Packet.TheVariants as packets
 use Rattle.broker_base.specs.Connection.{ConnectionName}
@@ -7,15 +7,13 @@ use Rattle.broker_base.specs.Place.{Client, Place, Past, Limits}
 use Rattle.broker_base.specs.Past.{accepts, begins}
 use Rattle.broker_base.specs.Commands.{place_of}
 use Rattle.broker_base.specs.Command.TheVariants as commands
-use Rattle.client_base.specs.Keeper.{Written, Keeper}
-use Rattle.client_base.specs.Handled.{handled}
+use Rattle.client_base.specs.Keeper.{Written}
 use Rattle.client_base.specs.Called.{written_for}
 use Rattle.client_base.specs.Written.{plain, writes_first}
 use Rattle.story.specs.Sides.{Connection, Side}
 use Rattle.story.specs.Story.{Story, Happens, command_of, counted_at}
 use Rattle.story.specs.Story.Happens.{takes, others_take, receives, opens_anew, loses, disconnects, publishes_one, subscribes, unsubscribes}
 use Rattle.story.specs.InStep.{opens_on, has_begun, began_again, WasWelcome, AreWelcome, IsInStep}
-use Rattle.story.proofs.keeping.KeepsShape.{same_story}
 use Rattle.story.proofs.subscribing.Given.{stays_handled}
 
 or_there : (a b : Bool) → b ≡ true → (a || b) ≡ true
