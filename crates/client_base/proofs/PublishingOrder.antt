@@ -44,7 +44,7 @@ rises n (Own.Released k p id ∷ own) numbered first = lower n (numbers_of (sent
 rises n (Own.Done k p ∷ own) numbered first = lower n (numbers_of (sent_again own ++ sent_first own)) (rises (suc n) own numbered.1 first)
 
 pub goes_out : GoesOutInOrder
-goes_out own numbered first = rises 0 own numbered first
+goes_out n own numbered first = rises n own numbered first
 
 -- ---- numbers stay
 

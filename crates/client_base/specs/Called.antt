@@ -1,5 +1,5 @@
 -- What a call makes of a client with its history (MQTT 3.1, 3.3, 3.8, 3.10, 3.14).
-use Rattle.std.specs.Prelude.{ℕ, true, false, if◌then◌else◌, List, [], ◌∷◌, ◌++◌, length}
+use Rattle.std.specs.Prelude.{ℕ, true, false, if◌then◌else◌, List, [], ◌∷◌, ◌++◌}
 use Rattle.packet.specs.declared.qos.QoS.{QoS}
 use Rattle.packet.specs.declared.packet.Packet.{Packet}
 use Rattle.packet.specs.declared.packet.Packet.TheVariants as packets
@@ -8,7 +8,7 @@ use Rattle.session_base.specs.Publication.{is_answered}
 use Rattle.session_base.specs.Identifiers.{least_free}
 use Rattle.client_base.specs.declared.request.Request.{Request}
 use Rattle.client_base.specs.declared.request.Request.TheVariants as requests
-use Rattle.client_base.specs.Keeper.{Own, Written, Connection, Keeper, Side, ids_in_use}
+use Rattle.client_base.specs.Keeper.{Own, Written, Connection, Keeper, Side, ids_in_use, next_number}
 use Rattle.client_base.specs.Written.{plain, publishes, writes}
 use Rattle.client_base.specs.Handled.{lost, handled}
 use Rattle.client_base.specs.Steps.{Call}
@@ -55,15 +55,15 @@ adds_own p keeper =
       own = keeper.own
           ++ (if is_answered p.qos
           then (if keeper.is_online
-          then Own.Sent (length keeper.own) p (least_free (ids_in_use keeper))
-          else Own.Unsent (length keeper.own) p (least_free (ids_in_use keeper)))
-          else Own.Done (length keeper.own) p) ∷ [];
+          then Own.Sent (next_number keeper) p (least_free (ids_in_use keeper))
+          else Own.Unsent (next_number keeper) p (least_free (ids_in_use keeper)))
+          else Own.Done (next_number keeper) p) ∷ [];
     }
 
 abbrev pub written_for : Publication → Keeper → List Written
 written_for p keeper =
     if keeper.is_online
-    then publishes false (length keeper.own) (least_free (ids_in_use keeper)) p ∷ []
+    then publishes false (next_number keeper) (least_free (ids_in_use keeper)) p ∷ []
     else []
 
 abbrev pub asks : Request → Keeper → Keeper

@@ -11,7 +11,7 @@ use Rattle.lists.specs.Lists.{has_id}
 use Rattle.client_base.specs.declared.request.Request.{Request}
 use Rattle.client_base.specs.Answered.{is_subscribe, is_unsubscribe}
 use Rattle.session_base.specs.Identifiers.{without_id}
-use Rattle.client_base.specs.Keeper.{Own, Keeper, Side}
+use Rattle.client_base.specs.Keeper.{Own, Keeper, Side, all_own}
 use Rattle.client_base.specs.Written.{plain, resent, sent_all, writing}
 
 -- ---- its own publications
@@ -64,8 +64,10 @@ takes_in (deliveries.ExactlyOnce dup id) p side =
 
 -- ---- CONNACK 0, and the end of a connection
 
+-- what it published stays in its history
 abbrev pub discarded : Keeper → Keeper
-discarded keeper = record keeper { own = []; releases = []; received = [] }
+discarded keeper =
+    record keeper { earlier = all_own keeper; own = []; releases = []; received = [] }
 
 -- a session that is gone takes what was kept with it
 abbrev pub confirmed : {Name : Type 0} → Bool → Side Name → Side Name

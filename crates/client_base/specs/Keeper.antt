@@ -1,6 +1,6 @@
 -- A client with its history: all that it published, and what it wrote on which connection (MQTT
 -- 4.3, 4.4).
-use Rattle.std.specs.Prelude.{ℕ, Bool, false, List, [], ◌∷◌, ◌++◌, map, Option}
+use Rattle.std.specs.Prelude.{ℕ, ◌+◌, Bool, false, List, [], ◌∷◌, ◌++◌, length, map, Option}
 use Rattle.packet.specs.declared.packet.Packet.{Packet}
 use Rattle.session_base.specs.declared.publication.Publication.{Publication}
 use Rattle.client_base.specs.declared.request.Request.{Request}
@@ -33,7 +33,10 @@ pub record Connection (Name : Type 0) : Type 0 where
 -- The client: of its publications all, and of the rest what it keeps.
 pub record Keeper : Type 0 where
   pub client : List ℕ
-  -- all that it published in the session that it knows, in order
+  -- all that it published in sessions that it lost, in order
+  -- history: no field keeps it
+  pub earlier : List Own
+  -- and in the session that it knows
   -- history: the done ones
   pub own : List Own
   pub releases : List ℕ  -- identifiers of the released ones, in the order of their PUBREC
@@ -47,6 +50,7 @@ abbrev pub new_keeper : List ℕ → Keeper
 new_keeper c =
     record {
       client = c;
+      earlier = [];
       own = [];
       releases = [];
       requests = [];
@@ -62,6 +66,14 @@ ids_of_own (Own.Sent k p id ∷ own) = id ∷ ids_of_own own
 ids_of_own (Own.Released k p id ∷ own) = id ∷ ids_of_own own
 ids_of_own (Own.Done k p ∷ own) = ids_of_own own
 ids_of_own [] = []
+
+-- all that it published, in the order of its calls
+abbrev pub all_own : Keeper → List Own
+all_own keeper = keeper.earlier ++ keeper.own
+
+-- the number of the next one
+abbrev pub next_number : Keeper → ℕ
+next_number keeper = length keeper.earlier + length keeper.own
 
 -- the identifiers that it uses
 abbrev pub ids_in_use : Keeper → List ℕ

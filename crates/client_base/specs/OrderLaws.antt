@@ -1,6 +1,6 @@
 -- What is kept goes out in the order in which it was published (MQTT 4.6).
 use Rattle.std.specs.Prelude.{◌≡◌, ℕ, ◌<◌, suc, List, [], ◌∷◌, ◌++◌, Option, Some, None}
-use Rattle.client_base.specs.Keeper.{Own, Written, Side}
+use Rattle.client_base.specs.Keeper.{Own, Written, Side, all_own}
 use Rattle.client_base.specs.Written.{sent_again, sent_first}
 use Rattle.client_base.specs.Steps.{Call}
 use Rattle.client_base.specs.Called.{keeper_goes}
@@ -31,15 +31,16 @@ abbrev pub RisesFrom : ℕ → List ℕ → Type 0
 RisesFrom n (k ∷ ks) = (n < suc k) × RisesFrom (suc k) ks
 RisesFrom n [] = Unit {0}
 
--- numbers stay with their places, whatever is called or comes
+-- numbers stay with their places, whatever is called or comes, and go on over sessions
 abbrev pub NumbersStay : Type 0
 NumbersStay =
     (call : Call) (fresh : ℕ) (side : Side ℕ) →
-    AreNumbered 0 side.keeper.own → AreNumbered 0 (keeper_goes fresh call side).keeper.own
+    AreNumbered 0 (all_own side.keeper)
+    → AreNumbered 0 (all_own (keeper_goes fresh call side).keeper)
 
 -- what a CONNACK 0 makes go out of it, again or for the first time, goes out in the order of the
 -- calls
 abbrev pub GoesOutInOrder : Type 0
 GoesOutInOrder =
-    (own : List Own) → AreNumbered 0 own → IsSentFirst own
-    → RisesFrom 0 (numbers_of (sent_again own ++ sent_first own))
+    (n : ℕ) (own : List Own) → AreNumbered n own → IsSentFirst own
+    → RisesFrom n (numbers_of (sent_again own ++ sent_first own))
