@@ -9,14 +9,14 @@ use Rattle.lists.specs.Lists.{has_id}
 use Rattle.session_base.specs.declared.publication.Publication.{Publication}
 use Rattle.session_base.specs.Publication.{is_answered, publication_of}
 use Rattle.client_base.specs.Keeper.{Own, Keeper, Side, next_number}
-use Rattle.client_base.specs.Handled.{at_puback, at_pubrec, at_pubcomp, is_sent_with, releasing, takes_in, discarded, handled_online, handled_first}
+use Rattle.client_base.specs.Handled.{at_puback, at_pubrec, at_pubcomp, is_sent_with, releasing, takes_in, discarded, handled, handled_online, handled_first}
 use Rattle.client_base.specs.Steps.{Call}
-use Rattle.client_base.specs.Called.{keeper_goes}
+use Rattle.client_base.specs.Called.{adds_own, keeper_goes}
 use Rattle.client_base.specs.OrderLaws.{AreNumbered, number_in, NumbersStay}
 use Rattle.client_base.proofs.PublishingOrder.{changed, puback_same, pubrec_same, pubcomp_same, all_numbered, one_more}
 
 -- the earlier ones from 0 on, and the others behind them
-abbrev AreAllNumbered : Keeper → Type 0
+abbrev pub AreAllNumbered : Keeper → Type 0
 AreAllNumbered keeper = AreNumbered 0 keeper.earlier × AreNumbered (length keeper.earlier) keeper.own
 
 joined : (n : ℕ) (xs ys : List Own) → AreNumbered n xs → AreNumbered (n + length xs) ys → AreNumbered n (xs ++ ys)
@@ -39,7 +39,7 @@ parted_numbers earlier own h =
     let same : 0 + length earlier ≡ length earlier = omega arith in
     (two.0, subst (λ (m : ℕ). AreNumbered m own) same two.1)
 
-either : (b : Bool) (x y : Side ℕ) → AreAllNumbered x.keeper → AreAllNumbered y.keeper → AreAllNumbered (if b then x else y).keeper
+either : {Name : Type 0} (b : Bool) (x y : Side Name) → AreAllNumbered x.keeper → AreAllNumbered y.keeper → AreAllNumbered (if b then x else y).keeper
 either true x y e f = e
 either false x y e f = f
 
@@ -47,24 +47,24 @@ either_keeper : (b : Bool) (x y : Keeper) → AreAllNumbered x → AreAllNumbere
 either_keeper true x y e f = e
 either_keeper false x y e f = f
 
-taken_in : (delivery : Delivery) (p : Publication) (side : Side ℕ) → AreAllNumbered side.keeper → AreAllNumbered (takes_in delivery p side).keeper
+taken_in : {Name : Type 0} (delivery : Delivery) (p : Publication) (side : Side Name) → AreAllNumbered side.keeper → AreAllNumbered (takes_in delivery p side).keeper
 taken_in deliveries.AtMostOnce p side numbered = numbered
 taken_in (deliveries.AtLeastOnce dup id) p side numbered = numbered
 taken_in (deliveries.ExactlyOnce dup id) p side numbered = either (has_id id side.keeper.received) side _ numbered numbered
 
-released : (i : ℕ) (side : Side ℕ) → AreAllNumbered side.keeper → AreAllNumbered (releasing i side).keeper
+released : {Name : Type 0} (i : ℕ) (side : Side Name) → AreAllNumbered side.keeper → AreAllNumbered (releasing i side).keeper
 released i side numbered =
     either (is_sent_with i side.keeper.own) _ _ (numbered.0, changed (at_pubrec i) (pubrec_same i) (length side.keeper.earlier) side.keeper.own numbered.1)
     (either (has_id i side.keeper.releases) _ side numbered numbered)
 
-online : (packet : Packet) (side : Side ℕ) → AreAllNumbered side.keeper → AreAllNumbered (handled_online packet side).keeper
+online : {Name : Type 0} (packet : Packet) (side : Side Name) → AreAllNumbered side.keeper → AreAllNumbered (handled_online packet side).keeper
 online (packets.Publish p) side numbered = taken_in p.delivery (publication_of p) side numbered
 online (packets.Puback i) side numbered = (numbered.0, changed (at_puback i) (puback_same i) (length side.keeper.earlier) side.keeper.own numbered.1)
 online (packets.Pubrec i) side numbered = released i side numbered
 online (packets.Pubcomp i) side numbered = (numbered.0, changed (at_pubcomp i) (pubcomp_same i) (length side.keeper.earlier) side.keeper.own numbered.1)
 online _ side numbered = numbered
 
-first : (packet : Packet) (side : Side ℕ) → AreAllNumbered side.keeper → AreAllNumbered (handled_first packet side).keeper
+first : {Name : Type 0} (packet : Packet) (side : Side Name) → AreAllNumbered side.keeper → AreAllNumbered (handled_first packet side).keeper
 first (packets.Connack (connacks.Accepted present)) side numbered =
     let kept = if not present && side.keeper.was_served then discarded side.keeper else side.keeper in
     let all : AreAllNumbered kept =
@@ -78,13 +78,21 @@ published p id n true true = refl
 published p id n true false = refl
 published p id n false up = refl
 
+-- one more is published
+pub publishes_numbers : (p : Publication) (keeper : Keeper) → AreAllNumbered keeper → AreAllNumbered (adds_own p keeper)
+publishes_numbers p keeper numbered =
+    (numbered.0, one_more (length keeper.earlier) keeper.own _ (published p _ (next_number keeper) (is_answered p.qos) keeper.is_online) numbered.1)
+
+-- a packet comes
+pub handled_numbers : {Name : Type 0} (packet : Packet) (side : Side Name) → AreAllNumbered side.keeper → AreAllNumbered (handled packet side).keeper
+handled_numbers packet side numbered = either side.keeper.is_online _ _ (online packet _ numbered) (first packet _ numbered)
+
 goes : (call : Call) (fresh : ℕ) (side : Side ℕ) → AreAllNumbered side.keeper → AreAllNumbered (keeper_goes fresh call side).keeper
 goes Call.Opens fresh side numbered = numbered
-goes (Call.Publishes p) fresh side numbered =
-    (numbered.0, one_more (length side.keeper.earlier) side.keeper.own _ (published p _ (next_number side.keeper) (is_answered p.qos) side.keeper.is_online) numbered.1)
+goes (Call.Publishes p) fresh side numbered = publishes_numbers p side.keeper numbered
 goes (Call.Subscribes filter qos) fresh side numbered = numbered
 goes (Call.Unsubscribes filter) fresh side numbered = numbered
-goes (Call.Receives packet) fresh side numbered = either side.keeper.is_online _ _ (online packet _ numbered) (first packet _ numbered)
+goes (Call.Receives packet) fresh side numbered = handled_numbers packet side numbered
 goes Call.Loses fresh side numbered = numbered
 goes Call.Disconnects fresh side numbered = numbered
 

@@ -1,5 +1,5 @@
 -- A story that begins in the midst of a list, where the client has no session, is sound.
-use Rattle.std.proofs.Common.{◌≡◌, ℕ, suc, Bool, true, false, if◌then◌else◌, List, [], ◌∷◌, ◌++◌, Option, Some, None, refl, sym, ◌∙◌, ap, ap₂, subst, inl}
+use Rattle.std.proofs.Common.{◌≡◌, ℕ, suc, Bool, true, false, if◌then◌else◌, List, [], ◌∷◌, ◌++◌, Option, Some, None, refl, sym, ◌∙◌, ap, ap₂, subst, inl, length}
 use Rattle.packet.specs.declared.packet.Packet.TheVariants as packets
 use Rattle.lists.specs.Lists.{has_id, IsDistinct, Each}
 use Rattle.broker_base.specs.Connection.{ConnectionName}
@@ -22,12 +22,12 @@ use Rattle.story.proofs.subscribing.places.Quiet.{no_entries}
 use Rattle.session_base.specs.declared.publication.Publication.{Publication}
 
 -- the story
-abbrev pub begun : Past → Client → List Own → Story
-begun past c own = record { past = past; connections = []; keeper = unserved c own }
+abbrev pub begun : Past → Client → List Own → List Own → Story
+begun past c earlier own = record { past = past; connections = []; keeper = unserved c earlier own }
 
 -- ---- what was published and never sent
 
-numbered : (n : ℕ) (own : List Own) → AreUnsent n own → AreNumbered n own
+pub numbered : (n : ℕ) (own : List Own) → AreUnsent n own → AreNumbered n own
 numbered n [] h = tt
 numbered n (Own.Unsent k p id ∷ own) h = (h.0, numbered (suc n) own h.1)
 numbered n (Own.Sent k p id ∷ own) h = absurd h
@@ -101,10 +101,10 @@ nothing_new (place ∷ past) =
 
 -- ---- the story
 
-begun_shape : (limits : Limits) (past : Past) (c : Client) (own : List Own) → session_of past c ≡ None → AreUnsent 0 own → IsDistinct (ids_in_use (unserved c own)) → HasShape limits (begun past c own)
-begun_shape limits past c own none unsent apart =
+begun_shape : (limits : Limits) (past : Past) (c : Client) (earlier own : List Own) → session_of past c ≡ None → AreUnsent (length earlier) own → IsDistinct (ids_in_use (unserved c earlier own)) → HasShape limits (begun past c earlier own)
+begun_shape limits past c earlier own none unsent apart =
     record {
-      own = record { ids_apart = apart; numbered = numbered 0 own unsent; releases_apart = tt; releases_are = λ id. none_released id 0 own unsent; online_sent = λ e. absurd (not_true e) };
+      own = record { ids_apart = apart; numbered = numbered (length earlier) own unsent; releases_apart = tt; releases_are = λ id. none_released id (length earlier) own unsent; online_sent = λ e. absurd (not_true e) };
       connections = tt;
       names_apart = tt;
       last_is_current = subst (λ (o : Option ConnectionName). LastIsCurrent o []) (sym (no_connection past c none)) tt;
@@ -119,9 +119,9 @@ begun_shape limits past c own none unsent apart =
     not_true : false ≡ true → ⊥
     not_true e = cc
 
-begun_publisher : (limits : Limits) (past : Past) (c : Client) (own : List Own) → session_of past c ≡ None → AreUnsent 0 own → IsGood (as_publisher limits (begun past c own))
-begun_publisher limits past c own none unsent =
-    let wait = all_wait 0 own unsent in
+begun_publisher : (limits : Limits) (past : Past) (c : Client) (earlier own : List Own) → session_of past c ≡ None → AreUnsent (length earlier) own → IsGood (as_publisher limits (begun past c earlier own))
+begun_publisher limits past c earlier own none unsent =
+    let wait = all_wait (length earlier) own unsent in
     record {
       old = [];
       new = items_of_own own;
@@ -140,8 +140,8 @@ begun_publisher limits past c own none unsent =
     no_id : (id : ℕ) → has_id id [] ≡ true → ⊥
     no_id id e = cc
 
-begun_subscriber : (limits : Limits) (past : Past) (c : Client) (own : List Own) → session_of past c ≡ None → IsGood (as_subscriber limits (begun past c own))
-begun_subscriber limits past c own none =
+begun_subscriber : (limits : Limits) (past : Past) (c : Client) (earlier own : List Own) → session_of past c ≡ None → IsGood (as_subscriber limits (begun past c earlier own))
+begun_subscriber limits past c earlier own none =
     record {
       old = [];
       new = [];
@@ -161,10 +161,10 @@ begun_subscriber limits past c own none =
     nothing_left None = refl
     nothing_left (Some x) = refl
 
-pub begun_is_sound : (limits : Limits) (past : Past) (c : Client) (own : List Own) → session_of past c ≡ None → AreUnsent 0 own → IsDistinct (ids_in_use (unserved c own)) → IsSoundStory limits (begun past c own)
-begun_is_sound limits past c own none unsent apart =
+pub begun_is_sound : (limits : Limits) (past : Past) (c : Client) (earlier own : List Own) → session_of past c ≡ None → AreUnsent (length earlier) own → IsDistinct (ids_in_use (unserved c earlier own)) → IsSoundStory limits (begun past c earlier own)
+begun_is_sound limits past c earlier own none unsent apart =
     record {
-      shape = begun_shape limits past c own none unsent apart;
-      publisher = begun_publisher limits past c own none unsent;
-      subscriber = begun_subscriber limits past c own none;
+      shape = begun_shape limits past c earlier own none unsent apart;
+      publisher = begun_publisher limits past c earlier own none unsent;
+      subscriber = begun_subscriber limits past c earlier own none;
     }

@@ -1,4 +1,5 @@
 -- Every story keeps its promises: what is shown of its two handshakes and of the places of its list, in one.
+use Rattle.std.proofs.Common.{length, subst}
 use Rattle.broker_base.specs.Place.{Client, Limits}
 use Rattle.broker_base.specs.QuietLaws.{IsSteady}
 use Rattle.story.specs.Story.{Story, Told}
@@ -9,6 +10,10 @@ use Rattle.story.proofs.keeping.Told.{told_stories_are_sound, told_stories_accep
 use Rattle.story.proofs.carrying.KeepsPlaces.{told_carried}
 use Rattle.story.proofs.carrying.Answered.{answered_is_new, acknowledged_is_taken, new_taken, carried_is_own}
 use Rattle.story.proofs.carrying.EntersOnce.{publication_enters_once}
+use Rattle.story.proofs.carrying.Distinct.{published_apart}
+use Rattle.story.specs.Carried.{new_numbers}
+use Rattle.lists.specs.Lists.{IsDistinct}
+use Rattle.lists.proofs.Identifiers.{distinct_front}
 
 pub told_stories_publish_once : (limits : Limits) → IsSteady limits → (c : Client) (s : Story) → Told limits c s → PublishedOnce limits s
 told_stories_publish_once limits steady c s told =
@@ -20,7 +25,9 @@ told_stories_publish_once limits steady c s told =
       in_order = in_order;
       taken = new_taken limits s carried;
       answered = answered_is_new limits s carried;
-      enters_once = publication_enters_once limits s sound carried in_order;
+      enters_once = publication_enters_once limits s carried
+          (distinct_front (new_numbers s.connections s.past) in_order.rest
+          (subst IsDistinct in_order.is (published_apart (length s.keeper.earlier) s.keeper.own carried.numbers.1)));
       enters = entering limits s;
       enters_as = λ place below x p d stands. entering_as limits s.keeper.client place below x p d;
       acknowledged = acknowledged_is_taken limits s carried;

@@ -9,3 +9,4 @@ pub mod Acknowledging
 pub mod Answered
 pub mod Distinct
 pub mod EntersOnce
+pub mod NumbersGoOn

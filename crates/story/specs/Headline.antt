@@ -1,4 +1,5 @@
 -- What holds of one client's story, whatever happens: publications once and in order, and what it accepts.
+use Rattle.client_base.specs.Keeper.{all_own}
 use Rattle.std.specs.Prelude.{◌≡◌, ◌≤◌, ℕ, ◌+◌, Bool, true, false, ◌==◌, if◌then◌else◌, List, [], ◌∷◌, ◌++◌, length, map, filter, Option, Some, None, slice_get}
 use Rattle.packet.specs.declared.publish.Publish.{Publish}
 use Rattle.packet.specs.declared.packet.Packet.{Packet}
@@ -52,7 +53,7 @@ pub record PublishedOnce (limits : Limits) (s : Story) : Type 0 where
   -- a place that carries one has its PUBLISH
   pub carried : (place : Place) (below : Past) (x : ConnectionName) (p : Publish) (k : ℕ) → StandsAt s.past place below →
       carries s.connections place.command below ≡ Some k → place.command ≡ commands.Packet x (packets.Publish p) →
-      slice_get (publications_of s.keeper.own) k ≡ Some (publication_of p)
+      slice_get (publications_of (all_own s.keeper)) k ≡ Some (publication_of p)
   -- those at QoS 2 are new in the list in the order of the calls, each at most once
   pub in_order : IsPrefixOf (new_numbers s.connections s.past) (published s.keeper.own)
   -- each that is new is taken at a place
@@ -64,7 +65,7 @@ pub record PublishedOnce (limits : Limits) (s : Story) : Type 0 where
       In k (new_numbers s.connections s.past)
   -- each enters each session at most once: at whatever time a session is looked at, it has at most one entry of all
   -- the places that carry the publication
-  pub enters_once : (later earlier : Past) (d : Client) (k : ℕ) → s.past ≡ later ++ earlier → In k (published s.keeper.own) →
+  pub enters_once : (later earlier : Past) (d : Client) (k : ℕ) → s.past ≡ later ++ earlier → In k (published (all_own s.keeper)) →
       made_by s.connections k s.past (entries_of limits earlier d) ≤ 1
   -- and where a publication is taken, at whatever QoS, it enters exactly the sessions with an effective QoS over 0, once
   pub enters : (place : Place) (below : Past) (x : ConnectionName) (p : Publish) (d : Client) → StandsAt s.past place below →

@@ -1,5 +1,5 @@
 -- One client's story: the list of commands, its connections as packets, what it keeps; and what may happen.
-use Rattle.std.specs.Prelude.{◌≡◌, ℕ, zero, suc, Bool, true, false, ◌||◌, if◌then◌else◌, List, [], ◌∷◌, ◌++◌, Some, slice_get, Option, None, is_some}
+use Rattle.std.specs.Prelude.{◌≡◌, ℕ, zero, suc, Bool, true, false, ◌||◌, if◌then◌else◌, List, [], ◌∷◌, ◌++◌, Some, slice_get, Option, None, is_some, length}
 use Rattle.packet.specs.declared.subscribe.Subscribe.{Subscribe}
 use Rattle.packet.specs.declared.unsubscribe.Unsubscribe.{Unsubscribe}
 use Rattle.packet.specs.declared.packet.Packet.{Packet}
@@ -22,6 +22,7 @@ use Rattle.client_base.specs.Called.{new_connection, adds_own, written_for}
 use Rattle.client_base.specs.Written.{writes_first}
 use Rattle.broker_base.specs.Past.{session_of}
 use Rattle.lists.specs.Lists.{IsDistinct}
+use Rattle.client_base.specs.OrderLaws.{AreNumbered}
 
 -- the connections, the newest first: the client holds the first one while it is open
 pub record Story : Type 0 where
@@ -123,13 +124,14 @@ AreUnsent n (Own.Unsent k p id ∷ own) = (k ≡ n) × AreUnsent (suc n) own
 AreUnsent n [] = Unit {0}
 AreUnsent n _ = ⊥
 
--- a client that was never served, with what it published so far
-abbrev pub unserved : Client → List Own → Keeper
-unserved c own = record (new_keeper c) { own = own }
+-- a client that was never served in this session, with what it published before it, and what it keeps
+abbrev pub unserved : Client → List Own → List Own → Keeper
+unserved c earlier own = record (new_keeper c) { earlier = earlier; own = own }
 
 -- A story of one session begins with the list, or where the client has no session: then nothing is left of what it had.
 pub data Told (limits : Limits) (c : Client) : Story → Type 0 where
   begins : Told limits c (no_story c)
-  begins_at : (list : List Command) (own : List Own) → session_of (past_of limits list) c ≡ None → AreUnsent 0 own → IsDistinct (ids_in_use (unserved c own)) →
-      Told limits c (record { past = past_of limits list; connections = []; keeper = unserved c own })
+  begins_at : (list : List Command) (earlier own : List Own) → session_of (past_of limits list) c ≡ None →
+      AreNumbered 0 earlier → AreUnsent (length earlier) own → IsDistinct (ids_in_use (unserved c earlier own)) →
+      Told limits c (record { past = past_of limits list; connections = []; keeper = unserved c earlier own })
   goes_on : {s t : Story} → Told limits c s → Happens limits s t → Told limits c t

@@ -31,6 +31,8 @@ use Rattle.story.proofs.carrying.PlacesSay.{Says}
 use Rattle.story.proofs.carrying.KeepsPlaces.{IsCarried}
 use Rattle.story.proofs.carrying.Acknowledging.{carried_publish, says_at}
 use Rattle.story.proofs.carrying.Distinct.{IsTwo, two_is, published_apart, count_id, count_more, count_apart}
+use Rattle.client_base.specs.Keeper.{all_own}
+use Rattle.client_base.proofs.NumbersStay.{joined_numbers}
 
 -- ---- entries from places behind
 
@@ -90,14 +92,14 @@ some_same : {A : Type 0} (a b : A) → Some a ≡ Some b → a ≡ b
 some_same a b e = cc
 
 -- what enters from a place that carries it is new there
-pub one_place : (limits : Limits) (s : Story) → IsCarried limits s → (later front earlier below : Past) (place : Place) (d : Client) (k : ℕ) → IsTwo (publications_of s.keeper.own) k
+pub one_place : (limits : Limits) (s : Story) → IsCarried limits s → (later front earlier below : Past) (place : Place) (d : Client) (k : ℕ) → IsTwo (publications_of (all_own s.keeper)) k
     → s.past ≡ later ++ earlier → s.past ≡ front ++ place ∷ below
     → (if is_this k (carries s.connections place.command below) then entered limits earlier d (length below) else 0)
     ≤ count_id k (more_by (is_new place.command place.mark) (carries s.connections place.command below))
 one_place limits s c later front earlier below place d k two cut stands = by (carries s.connections place.command below) refl
   where
-    says : Says s.keeper.client (publications_of s.keeper.own) s.connections place below
-    says = says_at s.keeper.client (publications_of s.keeper.own) s.connections s.past place below c.places (record { later = front; is = stands })
+    says : Says s.keeper.client (publications_of (all_own s.keeper)) s.connections place below
+    says = says_at s.keeper.client (publications_of (all_own s.keeper)) s.connections s.past place below c.places (record { later = front; is = stands })
 
     n : ℕ
     n = entered limits earlier d (length below)
@@ -142,7 +144,7 @@ one_place limits s c later front earlier below place d k two cut stands = by (ca
 
 -- ---- all places
 
-all_places : (limits : Limits) (s : Story) → IsCarried limits s → (later earlier : Past) (d : Client) (k : ℕ) → IsTwo (publications_of s.keeper.own) k → s.past ≡ later ++ earlier
+all_places : (limits : Limits) (s : Story) → IsCarried limits s → (later earlier : Past) (d : Client) (k : ℕ) → IsTwo (publications_of (all_own s.keeper)) k → s.past ≡ later ++ earlier
     → (front past : Past) → s.past ≡ front ++ past → made_by s.connections k past (entries_of limits earlier d) ≤ count_id k (new_numbers s.connections past)
 all_places limits s c later earlier d k two cut front [] e = omega arith
 all_places limits s c later earlier d k two cut front (place ∷ below) e =
@@ -151,11 +153,9 @@ all_places limits s c later earlier d k two cut front (place ∷ below) e =
     let sum = count_more k (new_numbers s.connections below) (more_by (is_new place.command place.mark) (carries s.connections place.command below)) in
     omega (arith, ih, here, sum)
 
-pub publication_enters_once : (limits : Limits) (s : Story) → IsSoundStory limits s → IsCarried limits s → IsPrefixOf (new_numbers s.connections s.past) (published s.keeper.own)
-    → (later earlier : Past) (d : Client) (k : ℕ) → s.past ≡ later ++ earlier → In k (published s.keeper.own) → made_by s.connections k s.past (entries_of limits earlier d) ≤ 1
-publication_enters_once limits s sound c front later earlier d k cut i =
-    let numbered = sound.shape.own.numbered in
-    let apart = distinct_front (new_numbers s.connections s.past) front.rest (subst IsDistinct front.is (published_apart 0 s.keeper.own numbered)) in
+pub publication_enters_once : (limits : Limits) (s : Story) → IsCarried limits s → IsDistinct (new_numbers s.connections s.past)
+    → (later earlier : Past) (d : Client) (k : ℕ) → s.past ≡ later ++ earlier → In k (published (all_own s.keeper)) → made_by s.connections k s.past (entries_of limits earlier d) ≤ 1
+publication_enters_once limits s c apart later earlier d k cut i =
     let few = count_apart k (new_numbers s.connections s.past) apart in
-    let all = all_places limits s c later earlier d k (two_is k s.keeper.own numbered i) cut [] s.past refl in
+    let all = all_places limits s c later earlier d k (two_is k (all_own s.keeper) (joined_numbers s.keeper.earlier s.keeper.own c.numbers.0 c.numbers.1) i) cut [] s.past refl in
     omega (arith, few, all)

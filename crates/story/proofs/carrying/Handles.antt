@@ -1,5 +1,5 @@
 -- What the client handles keeps what it published, and all that it writes then is of it.
-use Rattle.std.proofs.Common.{◌≡◌, ℕ, suc, Bool, true, false, not, ◌&&◌, if◌then◌else◌, [], ◌∷◌, ◌++◌, map, refl, ap, sym, subst, inl, inr, ◌⊎◌}
+use Rattle.std.proofs.Common.{◌≡◌, ℕ, suc, Bool, true, false, not, ◌&&◌, if◌then◌else◌, [], ◌∷◌, ◌++◌, map, refl, ap, sym, subst, inl, inr, ◌⊎◌, length, List}
 use Rattle.std.proofs.lemmas.Bool.{cases_Bool}
 use Rattle.packet.specs.declared.connack.Connack.TheVariants as connacks
 use Rattle.packet.specs.declared.delivery.Delivery.{Delivery}
@@ -10,23 +10,24 @@ use Rattle.session_base.specs.declared.publication.Publication.{Publication}
 use Rattle.session_base.specs.Publication.{publication_of}
 use Rattle.lists.specs.Lists.{has_id, Each}
 use Rattle.lists.proofs.OfEach.{each_append}
-use Rattle.client_base.specs.Keeper.{Keeper}
+use Rattle.client_base.specs.Keeper.{Keeper, all_own}
 use Rattle.client_base.specs.Written.{plain, writing, resent, sent_all}
-use Rattle.client_base.specs.Handled.{at_pubrec, is_sent_with, takes_in, releasing, discarded, confirmed, handled, handled_online, handled_first}
+use Rattle.client_base.specs.Handled.{at_pubrec, is_sent_with, takes_in, releasing, discarded, confirmed, handled, handled_online, handled_first, at_puback, at_pubcomp}
 use Rattle.story.specs.Sides.{Connection, Side}
 use Rattle.story.specs.Carried.{publications_of}
-use Rattle.story.specs.Inside.Shape.{AreNumbered}
+use Rattle.client_base.specs.OrderLaws.{AreNumbered}
+use Rattle.std.proofs.lemmas.List.{append-nil}
 use Rattle.story.proofs.publishing.Answered.{counted_side}
-use Rattle.story.proofs.carrying.Publications.{IsOfOwn, plain_of, said_puback, said_pubrec, said_pubcomp, said_sent, resent_of}
+use Rattle.story.proofs.carrying.Publications.{IsOfOwn, plain_of, said_puback, said_pubrec, said_pubcomp, said_sent, resent_of, said_behind}
 
 pub record Handles (keeper : Keeper) (κ : Connection) (side : Side) : Type 0 where
-  pub said : publications_of side.keeper.own ≡ publications_of keeper.own
-  pub of : Each (IsOfOwn (publications_of keeper.own)) κ.written → Each (IsOfOwn (publications_of keeper.own)) side.connection.written
+  pub said : publications_of (all_own side.keeper) ≡ publications_of (all_own keeper)
+  pub of : Each (IsOfOwn (publications_of (all_own keeper))) κ.written → Each (IsOfOwn (publications_of (all_own keeper))) side.connection.written
 
 -- one packet more is written
-one_more : (keeper : Keeper) (κ : Connection) (packet : Packet) → Each (IsOfOwn (publications_of keeper.own)) κ.written
-    → Each (IsOfOwn (publications_of keeper.own)) (κ.written ++ plain packet ∷ [])
-one_more keeper κ packet all = each_append (IsOfOwn (publications_of keeper.own)) κ.written (plain packet ∷ []) all (plain_of (publications_of keeper.own) packet, tt)
+one_more : (keeper : Keeper) (κ : Connection) (packet : Packet) → Each (IsOfOwn (publications_of (all_own keeper))) κ.written
+    → Each (IsOfOwn (publications_of (all_own keeper))) (κ.written ++ plain packet ∷ [])
+one_more keeper κ packet all = each_append (IsOfOwn (publications_of (all_own keeper))) κ.written (plain packet ∷ []) all (plain_of (publications_of (all_own keeper)) packet, tt)
 
 -- behind a PUBLISH
 publish_handles : (keeper : Keeper) (κ : Connection) (d : Delivery) (p : Publication) → Handles keeper κ (takes_in d p (counted_side keeper κ))
@@ -48,51 +49,45 @@ pubrec_handles keeper κ i = by (is_sent_with i keeper.own) (has_id i keeper.rel
     by : (b r : Bool) → Handles keeper κ (if b then writing (plain (packets.Pubrel i) ∷ [])
         (counted_side (record keeper { own = map (at_pubrec i) keeper.own; releases = keeper.releases ++ i ∷ [] }) κ)
         else if r then writing (plain (packets.Pubrel i) ∷ []) (counted_side keeper κ) else counted_side keeper κ)
-    by true r = record { said = said_pubrec i keeper.own; of = one_more keeper κ (packets.Pubrel i) }
+    by true r = record { said = said_behind keeper.earlier keeper.own (map (at_pubrec i) keeper.own) (said_pubrec i keeper.own); of = one_more keeper κ (packets.Pubrel i) }
     by false true = record { said = refl; of = one_more keeper κ (packets.Pubrel i) }
     by false false = record { said = refl; of = λ all. all }
 
 online_handles : (keeper : Keeper) (κ : Connection) (packet : Packet) → Handles keeper κ (handled_online packet (counted_side keeper κ))
 online_handles keeper κ (packets.Publish p) = publish_handles keeper κ p.delivery (publication_of p)
-online_handles keeper κ (packets.Puback i) = record { said = said_puback i keeper.own; of = λ all. all }
+online_handles keeper κ (packets.Puback i) = record { said = said_behind keeper.earlier keeper.own (map (at_puback i) keeper.own) (said_puback i keeper.own); of = λ all. all }
 online_handles keeper κ (packets.Pubrec i) = pubrec_handles keeper κ i
-online_handles keeper κ (packets.Pubcomp i) = record { said = said_pubcomp i keeper.own; of = λ all. all }
+online_handles keeper κ (packets.Pubcomp i) = record { said = said_behind keeper.earlier keeper.own (map (at_pubcomp i) keeper.own) (said_pubcomp i keeper.own); of = λ all. all }
 online_handles keeper κ (packets.Pubrel i) = record { said = refl; of = one_more keeper κ (packets.Pubcomp i) }
 online_handles keeper κ _ = record { said = refl; of = λ all. all }
 
--- behind a CONNACK 0, where nothing is discarded
-confirmed_handles : (keeper : Keeper) (κ : Connection) (present : Bool) → AreNumbered 0 keeper.own → (present ≡ false → keeper.was_served ≡ false) → Handles keeper κ (confirmed present (counted_side keeper κ))
-confirmed_handles keeper κ present numbered served =
-    subst (λ (kept : Keeper). Handles keeper κ (record {
+-- behind a CONNACK 0, whether it discards what was kept or not
+confirmed_handles : (keeper : Keeper) (κ : Connection) (present : Bool) → AreNumbered (length keeper.earlier) keeper.own → Handles keeper κ (confirmed present (counted_side keeper κ))
+confirmed_handles keeper κ present numbered = by (not present && keeper.was_served)
+  where
+    by : (gone : Bool) → Handles keeper κ (let kept = if gone then discarded keeper else keeper in record {
       keeper = record kept { own = sent_all kept.own; is_online = true; was_served = true };
       connection = record κ { written = κ.written ++ resent kept; handled = suc κ.handled; confirmed = true };
-    })) (sym (kept present served)) (record {
-      said = said_sent keeper.own;
-      of = λ all. each_append (IsOfOwn (publications_of keeper.own)) κ.written (resent keeper) all (resent_of keeper numbered);
     })
-  where
-    kept : (b : Bool) → (b ≡ false → keeper.was_served ≡ false) → (if not b && keeper.was_served then discarded keeper else keeper) ≡ keeper
-    kept true s = refl
-    kept false s = ap (λ b. if b then discarded keeper else keeper) (s refl)
+    by true =
+        record {
+          said = ap publications_of (append-nil (all_own keeper));
+          of = λ all. each_append (IsOfOwn (publications_of (all_own keeper))) κ.written [] all tt;
+        }
+    by false =
+        record {
+          said = said_behind keeper.earlier keeper.own (sent_all keeper.own) (said_sent keeper.own);
+          of = λ all. each_append (IsOfOwn (publications_of (all_own keeper))) κ.written (resent keeper) all (resent_of keeper numbered);
+        }
 
-first_handles : (keeper : Keeper) (κ : Connection) (packet : Packet) → AreNumbered 0 keeper.own → (keeper.was_served ≡ true → (packet ≡ packets.Connack (connacks.Accepted false)) → ⊥)
-    → Handles keeper κ (handled_first packet (counted_side keeper κ))
-first_handles keeper κ (packets.Connack (connacks.Accepted present)) numbered fresh = confirmed_handles keeper κ present numbered (by (cases_Bool keeper.was_served))
-  where
-    by : (keeper.was_served ≡ true) ⊎ (keeper.was_served ≡ false) → present ≡ false → keeper.was_served ≡ false
-    by (inl w) e = absurd (fresh w (ap (λ b. packets.Connack (connacks.Accepted b)) e))
-    by (inr w) e = w
-first_handles keeper κ (packets.Connack (connacks.Refused code)) numbered fresh = record { said = refl; of = λ all. all }
-first_handles keeper κ _ numbered fresh = record { said = refl; of = λ all. all }
+first_handles : (keeper : Keeper) (κ : Connection) (packet : Packet) → AreNumbered (length keeper.earlier) keeper.own → Handles keeper κ (handled_first packet (counted_side keeper κ))
+first_handles keeper κ (packets.Connack (connacks.Accepted present)) numbered = confirmed_handles keeper κ present numbered
+first_handles keeper κ (packets.Connack (connacks.Refused code)) numbered = record { said = refl; of = λ all. all }
+first_handles keeper κ _ numbered = record { said = refl; of = λ all. all }
 
-pub handles : (keeper : Keeper) (κ : Connection) (packet : Packet) → AreNumbered 0 keeper.own
-    → (keeper.is_online ≡ false → keeper.was_served ≡ true → (packet ≡ packets.Connack (connacks.Accepted false)) → ⊥)
-    → Handles keeper κ (handled packet (record { keeper = keeper; connection = κ }))
-handles keeper κ packet numbered fresh = by (cases_Bool keeper.is_online)
+pub handles : (keeper : Keeper) (κ : Connection) (packet : Packet) → AreNumbered (length keeper.earlier) keeper.own → Handles keeper κ (handled packet (record { keeper = keeper; connection = κ }))
+handles keeper κ packet numbered = by keeper.is_online
   where
-    after : Bool → Side
-    after b = if b then handled_online packet (counted_side keeper κ) else handled_first packet (counted_side keeper κ)
-
-    by : (keeper.is_online ≡ true) ⊎ (keeper.is_online ≡ false) → Handles keeper κ (after keeper.is_online)
-    by (inl on) = subst (λ (b : Bool). Handles keeper κ (after b)) (sym on) (online_handles keeper κ packet)
-    by (inr off) = subst (λ (b : Bool). Handles keeper κ (after b)) (sym off) (first_handles keeper κ packet numbered (fresh off))
+    by : (b : Bool) → Handles keeper κ (if b then handled_online packet (counted_side keeper κ) else handled_first packet (counted_side keeper κ))
+    by true = online_handles keeper κ packet
+    by false = first_handles keeper κ packet numbered

@@ -1,5 +1,5 @@
 -- In every story each place says what it carries, and each PUBLISH that is written is of the client's.
-use Rattle.std.proofs.Common.{◌≡◌, false, if◌then◌else◌, List, [], ◌∷◌, Some, None, refl, sym, ◌∙◌, ap, subst}
+use Rattle.std.proofs.Common.{◌≡◌, false, if◌then◌else◌, List, [], ◌∷◌, Some, None, refl, sym, ◌∙◌, ap, subst, ◌++◌, length}
 use Rattle.packet.specs.declared.packet.Packet.TheVariants as packets
 use Rattle.broker_base.specs.Connection.{ConnectionName, same_connection}
 use Rattle.broker_base.specs.Place.{Client, Past, Limits}
@@ -26,12 +26,18 @@ use Rattle.story.proofs.carrying.KeepsNumbers.{events_keep_numbers}
 use Rattle.story.proofs.carrying.PlacesSay.{PlacesSay, says_nothing, places_later}
 use Rattle.story.proofs.carrying.SaysTaken.{taken_says}
 use Rattle.session_base.specs.declared.publication.Publication.{Publication}
+use Rattle.client_base.specs.Keeper.{all_own}
+use Rattle.client_base.proofs.NumbersStay.{AreAllNumbered}
+use Rattle.story.proofs.carrying.NumbersGoOn.{numbers_go_on}
+use Rattle.story.proofs.carrying.Distinct.{numbers_alone}
+use Rattle.story.proofs.Beginnings.{numbered}
 
 -- what this page keeps
 pub record IsCarried (limits : Limits) (s : Story) : Type 0 where
-  pub written : AreOfOwn (publications_of s.keeper.own) s.connections
-  pub places : PlacesSay s.keeper.client (publications_of s.keeper.own) s.connections s.past
+  pub written : AreOfOwn (publications_of (all_own s.keeper)) s.connections
+  pub places : PlacesSay s.keeper.client (publications_of (all_own s.keeper)) s.connections s.past
   pub marked : AreMarked limits s.past
+  pub numbers : AreAllNumbered s.keeper
 
 -- ---- a command of none of them
 
@@ -55,34 +61,37 @@ none_carried connections (commands.Expel d) past e = refl
 stays_carried : (limits : Limits) (s t : Story) → IsSoundStory limits s → Happens limits s t → t.past ≡ s.past → IsCarried limits s → IsCarried limits t
 stays_carried limits s t sound h same c =
     record {
-      written = events_keep_of limits s t sound h c.written;
-      places = subst (λ (z : Past). PlacesSay t.keeper.client (publications_of t.keeper.own) t.connections z) (sym same)
-          (subst (λ (d : Client). PlacesSay d (publications_of t.keeper.own) t.connections s.past) (sym (same_story limits s t h))
-          (places_later s.keeper.client (publications_of s.keeper.own) (publications_of t.keeper.own) s.connections t.connections s.past (events_say limits s t sound h)
+      written = events_keep_of limits s t c.numbers.1 h c.written;
+      places = subst (λ (z : Past). PlacesSay t.keeper.client (publications_of (all_own t.keeper)) t.connections z) (sym same)
+          (subst (λ (d : Client). PlacesSay d (publications_of (all_own t.keeper)) t.connections s.past) (sym (same_story limits s t h))
+          (places_later s.keeper.client (publications_of (all_own s.keeper)) (publications_of (all_own t.keeper)) s.connections t.connections s.past (events_say limits s t c.numbers.1 h)
           (events_keep_numbers limits s t sound.shape h) c.places));
       marked = subst (AreMarked limits) (sym same) c.marked;
+      numbers = numbers_go_on limits s t h c.numbers;
     }
 
 events_keep_carried : (limits : Limits) (s t : Story) → IsSoundStory limits s → Happens limits s t → IsCarried limits s → IsCarried limits t
 events_keep_carried limits s t sound (takes i κ w stands next) c =
-    let ps = publications_of s.keeper.own in
+    let ps = publications_of (all_own s.keeper) in
     let of = each_at (IsOfOwn ps) κ.taken κ.written w next (each_there (λ (μ : Connection). Each (IsOfOwn ps) μ.written) i s.connections κ stands c.written) in
     record {
-      written = events_keep_of limits s t sound (takes i κ w stands next) c.written;
+      written = events_keep_of limits s t c.numbers.1 (takes i κ w stands next) c.written;
       places = (
         taken_says limits s.past s.keeper s.connections ps i κ w.packet w.number κ.taken sound.shape sound.publisher stands next refl of,
-        places_later s.keeper.client ps ps s.connections t.connections s.past (events_say limits s t sound (takes i κ w stands next)) (events_keep_numbers limits s t sound.shape (takes i κ w stands next)) c.places,
+        places_later s.keeper.client ps ps s.connections t.connections s.past (events_say limits s t c.numbers.1 (takes i κ w stands next)) (events_keep_numbers limits s t sound.shape (takes i κ w stands next)) c.places,
       );
       marked = (refl, c.marked);
+      numbers = c.numbers;
     }
 events_keep_carried limits s t sound (others_take command other none) c =
     record {
       written = c.written;
       places = (
-        says_nothing s.keeper.client (publications_of s.keeper.own) s.connections (place_of limits s.past command) s.past (none_carried s.connections command s.past none),
+        says_nothing s.keeper.client (publications_of (all_own s.keeper)) s.connections (place_of limits s.past command) s.past (none_carried s.connections command s.past none),
         c.places,
       );
       marked = (refl, c.marked);
+      numbers = c.numbers;
     }
 events_keep_carried limits s t sound (receives κ others packet are opened next) c = stays_carried limits s t sound (receives κ others packet are opened next) refl c
 events_keep_carried limits s t sound (opens_anew x fresh none uncounted) c = stays_carried limits s t sound (opens_anew x fresh none uncounted) refl c
@@ -99,8 +108,13 @@ nothing_said c ps (place ∷ past) = (says_nothing c ps [] place past (none_carr
 
 -- every story
 pub told_carried : (limits : Limits) → IsSteady limits → (c : Client) (s : Story) → Told limits c s → IsCarried limits s
-told_carried limits steady c s begins = record { written = tt; places = tt; marked = tt }
-told_carried limits steady c s (begins_at list own none unsent apart) =
-    record { written = tt; places = nothing_said c (publications_of own) (past_of limits list); marked = past_is_marked limits list }
+told_carried limits steady c s begins = record { written = tt; places = tt; marked = tt; numbers = (tt, tt) }
+told_carried limits steady c s (begins_at list earlier own none numbers unsent apart) =
+    record {
+      written = tt;
+      places = nothing_said c (publications_of (earlier ++ own)) (past_of limits list);
+      marked = past_is_marked limits list;
+      numbers = (numbers, numbers_alone (length earlier) own (numbered (length earlier) own unsent));
+    }
 told_carried limits steady c s (goes_on {s = r} told happens) =
     events_keep_carried limits r s (told_stories_are_sound limits steady c r told) happens (told_carried limits steady c r told)

@@ -1,7 +1,7 @@
 -- Each event keeps it so that every PUBLISH that is written is of a publication of the client, and none of these is lost.
-use Rattle.std.proofs.Common.{◌≡◌, ℕ, zero, suc, Bool, true, false, if◌then◌else◌, List, [], ◌∷◌, ◌++◌, length, Some, refl, ap, sym, ◌∙◌, subst}
+use Rattle.std.proofs.Common.{◌≡◌, ℕ, zero, suc, Bool, true, false, if◌then◌else◌, List, [], ◌∷◌, ◌++◌, length, Some, refl, ap, sym, ◌∙◌, subst, append_assoc}
 use Rattle.std.specs.Prelude.{slice_get}
-use Rattle.std.proofs.lemmas.List.{map-append, length-map}
+use Rattle.std.proofs.lemmas.List.{map-append, length-map, length-append}
 use Rattle.packet.specs.declared.connack.Connack.TheVariants as connacks
 use Rattle.packet.specs.declared.packet.Packet.{Packet}
 use Rattle.packet.specs.declared.packet.Packet.TheVariants as packets
@@ -13,7 +13,7 @@ use Rattle.lists.specs.Lists.{Each, IsPrefixOf}
 use Rattle.lists.proofs.Beginnings.{prefix_same}
 use Rattle.lists.proofs.OfEach.{each_append, each_then}
 use Rattle.lists.proofs.Places.{get_pushed}
-use Rattle.client_base.specs.Keeper.{Own, Written, Keeper, ids_in_use}
+use Rattle.client_base.specs.Keeper.{Own, Written, Keeper, ids_in_use, all_own, next_number}
 use Rattle.client_base.specs.Written.{plain, publishes, writes_first}
 use Rattle.client_base.specs.Called.{adds_own, written_for}
 use Rattle.client_base.specs.Handled.{handled}
@@ -22,49 +22,47 @@ use Rattle.story.specs.Sides.{Connection}
 use Rattle.story.specs.Carried.{publication_in, publications_of}
 use Rattle.story.specs.Story.{Story, Happens, counted_at}
 use Rattle.story.specs.Story.Happens.{takes, others_take, receives, opens_anew, loses, disconnects, publishes_one, subscribes, unsubscribes}
-use Rattle.story.specs.Inside.Shape.{HasShape, HeldInShape, IsSoundStory}
+use Rattle.client_base.specs.OrderLaws.{AreNumbered}
 use Rattle.story.proofs.publishing.events.Receives.{each_at}
 use Rattle.story.proofs.carrying.Publications.{IsOfOwn, AreOfOwn, of_more, carried_is}
 use Rattle.story.proofs.carrying.Handles.{Handles, handles}
 
 -- ---- what is published
 
-said_more : (keeper : Keeper) (p : Publication) → publications_of (adds_own p keeper).own ≡ publications_of keeper.own ++ p ∷ []
-said_more keeper p = map-append publication_in keeper.own (new (is_answered p.qos) keeper.is_online ∷ []) ∙ ap (λ q. publications_of keeper.own ++ q ∷ []) (same (is_answered p.qos) keeper.is_online)
+said_more : (keeper : Keeper) (p : Publication) → publications_of (all_own (adds_own p keeper)) ≡ publications_of (all_own keeper) ++ p ∷ []
+said_more keeper p =
+    ap publications_of (sym (append_assoc keeper.earlier keeper.own (new (is_answered p.qos) keeper.is_online ∷ [])))
+    ∙ map-append publication_in (all_own keeper) (new (is_answered p.qos) keeper.is_online ∷ []) ∙ ap (λ q. publications_of (all_own keeper) ++ q ∷ []) (same (is_answered p.qos) keeper.is_online)
   where
     new : Bool → Bool → Own
     new a on =
-        if a then (if on then Own.Sent (length keeper.own) p (least_free (ids_in_use keeper)) else Own.Unsent (length keeper.own) p (least_free (ids_in_use keeper)))
-        else Own.Done (length keeper.own) p
+        if a then (if on then Own.Sent (next_number keeper) p (least_free (ids_in_use keeper)) else Own.Unsent (next_number keeper) p (least_free (ids_in_use keeper)))
+        else Own.Done (next_number keeper) p
 
     same : (a on : Bool) → publication_in (new a on) ≡ p
     same true true = refl
     same true false = refl
     same false on = refl
 
--- what the client handles, where the connection is its newest one
-handled_by : (limits : Limits) (s : Story) (κ : Connection) (others : List Connection) (packet : Packet) → HasShape limits s → s.connections ≡ κ ∷ others → s.keeper.is_open ≡ true
-    → slice_get (put_to limits s.past κ.name) κ.handled ≡ Some packet → Handles s.keeper κ (handled packet (record { keeper = s.keeper; connection = κ }))
-handled_by limits s κ others packet shape are opened next =
-    let held = subst (HeldInShape limits s.past s.keeper) are shape.held in
-    handles s.keeper κ packet shape.own.numbered
-    (λ off served. each_at (λ (q : Packet). (q ≡ packets.Connack (connacks.Accepted false)) → ⊥) κ.handled (put_to limits s.past κ.name) packet next (held.2 opened off served))
+-- the number of each publication that it keeps
+abbrev pub IsNumbered : Keeper → Type 0
+IsNumbered keeper = AreNumbered (length keeper.earlier) keeper.own
 
 same_said : (ps qs : List Publication) → qs ≡ ps → IsPrefixOf ps qs
 same_said ps qs e = subst (λ (rs : List Publication). IsPrefixOf ps rs) (sym e) (prefix_same ps)
 
 -- no event loses what was published
-pub events_say : (limits : Limits) (s t : Story) → IsSoundStory limits s → Happens limits s t → IsPrefixOf (publications_of s.keeper.own) (publications_of t.keeper.own)
-events_say limits s t sound (takes i κ w stands next) = prefix_same (publications_of s.keeper.own)
-events_say limits s t sound (others_take command other none) = prefix_same (publications_of s.keeper.own)
-events_say limits s t sound (receives κ others packet are opened next) =
-    same_said (publications_of s.keeper.own) (publications_of t.keeper.own) (handled_by limits s κ others packet sound.shape are opened next).said
-events_say limits s t sound (opens_anew x fresh none uncounted) = prefix_same (publications_of s.keeper.own)
-events_say limits s t sound loses = prefix_same (publications_of s.keeper.own)
-events_say limits s t sound disconnects = prefix_same (publications_of s.keeper.own)
-events_say limits s t sound (publishes_one p needs) = record { rest = p ∷ []; is = said_more s.keeper p }
-events_say limits s t sound (subscribes p on id) = prefix_same (publications_of s.keeper.own)
-events_say limits s t sound (unsubscribes p on id) = prefix_same (publications_of s.keeper.own)
+pub events_say : (limits : Limits) (s t : Story) → IsNumbered s.keeper → Happens limits s t → IsPrefixOf (publications_of (all_own s.keeper)) (publications_of (all_own t.keeper))
+events_say limits s t numbered (takes i κ w stands next) = prefix_same (publications_of (all_own s.keeper))
+events_say limits s t numbered (others_take command other none) = prefix_same (publications_of (all_own s.keeper))
+events_say limits s t numbered (receives κ others packet are opened next) =
+    same_said (publications_of (all_own s.keeper)) (publications_of (all_own t.keeper)) (handles s.keeper κ packet numbered).said
+events_say limits s t numbered (opens_anew x fresh none uncounted) = prefix_same (publications_of (all_own s.keeper))
+events_say limits s t numbered loses = prefix_same (publications_of (all_own s.keeper))
+events_say limits s t numbered disconnects = prefix_same (publications_of (all_own s.keeper))
+events_say limits s t numbered (publishes_one p needs) = record { rest = p ∷ []; is = said_more s.keeper p }
+events_say limits s t numbered (subscribes p on id) = prefix_same (publications_of (all_own s.keeper))
+events_say limits s t numbered (unsubscribes p on id) = prefix_same (publications_of (all_own s.keeper))
 
 -- ---- what is written
 
@@ -85,38 +83,38 @@ counted_of ps i [] all = tt
 counted_of ps zero (κ ∷ connections) all = all
 counted_of ps (suc i) (κ ∷ connections) all = (all.0, counted_of ps i connections all.1)
 
-published_of : (keeper : Keeper) (p : Publication) → Each (IsOfOwn (publications_of (adds_own p keeper).own)) (written_for p keeper)
+published_of : (keeper : Keeper) (p : Publication) → Each (IsOfOwn (publications_of (all_own (adds_own p keeper)))) (written_for p keeper)
 published_of keeper p = by keeper.is_online
   where
     id : ℕ
     id = least_free (ids_in_use keeper)
 
-    there' : slice_get (publications_of (adds_own p keeper).own) (length keeper.own) ≡ Some (publication_of (publish_of false (least_free (ids_in_use keeper)) p))
+    there' : slice_get (publications_of (all_own (adds_own p keeper))) (next_number keeper) ≡ Some (publication_of (publish_of false (least_free (ids_in_use keeper)) p))
     there' =
-        ap (λ ps. slice_get ps (length keeper.own)) (said_more keeper p)
-        ∙ ap (λ n. slice_get (publications_of keeper.own ++ p ∷ []) n) (sym (length-map keeper.own publication_in))
-        ∙ get_pushed (publications_of keeper.own) p ∙ ap (λ q. Some q) (sym (carried_is false id p))
+        ap (λ ps. slice_get ps (next_number keeper)) (said_more keeper p)
+        ∙ ap (λ n. slice_get (publications_of (all_own keeper) ++ p ∷ []) n) (sym (length-map (all_own keeper) publication_in ∙ length-append keeper.earlier keeper.own))
+        ∙ get_pushed (publications_of (all_own keeper)) p ∙ ap (λ q. Some q) (sym (carried_is false id p))
 
-    by : (b : Bool) → Each (IsOfOwn (publications_of (adds_own p keeper).own)) (if b then publishes false (length keeper.own) (least_free (ids_in_use keeper)) p ∷ [] else [])
+    by : (b : Bool) → Each (IsOfOwn (publications_of (all_own (adds_own p keeper)))) (if b then publishes false (next_number keeper) (least_free (ids_in_use keeper)) p ∷ [] else [])
     by true = (there', tt)
     by false = tt
 
-pub events_keep_of : (limits : Limits) (s t : Story) → IsSoundStory limits s → Happens limits s t → AreOfOwn (publications_of s.keeper.own) s.connections → AreOfOwn (publications_of t.keeper.own) t.connections
-events_keep_of limits s t sound (takes i κ w stands next) all = counted_of (publications_of s.keeper.own) i s.connections all
-events_keep_of limits s t sound (others_take command other none) all = all
-events_keep_of limits s t sound (receives κ others packet are opened next) all =
-    let mine = subst (AreOfOwn (publications_of s.keeper.own)) are all in
-    let h = handled_by limits s κ others packet sound.shape are opened next in
+pub events_keep_of : (limits : Limits) (s t : Story) → IsNumbered s.keeper → Happens limits s t → AreOfOwn (publications_of (all_own s.keeper)) s.connections → AreOfOwn (publications_of (all_own t.keeper)) t.connections
+events_keep_of limits s t numbered (takes i κ w stands next) all = counted_of (publications_of (all_own s.keeper)) i s.connections all
+events_keep_of limits s t numbered (others_take command other none) all = all
+events_keep_of limits s t numbered (receives κ others packet are opened next) all =
+    let mine = subst (AreOfOwn (publications_of (all_own s.keeper))) are all in
+    let h = handles s.keeper κ packet numbered in
     subst (λ (ps : List Publication). AreOfOwn ps t.connections) (sym h.said) (h.of mine.0, mine.1)
-events_keep_of limits s t sound (opens_anew x fresh none uncounted) all = ((tt, tt), all)
-events_keep_of limits s t sound loses all = all
-events_keep_of limits s t sound disconnects all = by s.keeper.is_online
+events_keep_of limits s t numbered (opens_anew x fresh none uncounted) all = ((tt, tt), all)
+events_keep_of limits s t numbered loses all = all
+events_keep_of limits s t numbered disconnects all = by s.keeper.is_online
   where
-    by : (b : Bool) → AreOfOwn (publications_of s.keeper.own) (if b then writes_first (plain packets.Disconnect ∷ []) s.connections else s.connections)
-    by true = more_written (publications_of s.keeper.own) (plain packets.Disconnect ∷ []) s.connections (tt, tt) all
+    by : (b : Bool) → AreOfOwn (publications_of (all_own s.keeper)) (if b then writes_first (plain packets.Disconnect ∷ []) s.connections else s.connections)
+    by true = more_written (publications_of (all_own s.keeper)) (plain packets.Disconnect ∷ []) s.connections (tt, tt) all
     by false = all
-events_keep_of limits s t sound (publishes_one p needs) all =
-    more_written (publications_of t.keeper.own) (written_for p s.keeper) s.connections (published_of s.keeper p)
-    (more_published (publications_of s.keeper.own) (publications_of t.keeper.own) s.connections (events_say limits s t sound (publishes_one p needs)) all)
-events_keep_of limits s t sound (subscribes p on id) all = more_written (publications_of s.keeper.own) (plain (packets.Subscribe p) ∷ []) s.connections (tt, tt) all
-events_keep_of limits s t sound (unsubscribes p on id) all = more_written (publications_of s.keeper.own) (plain (packets.Unsubscribe p) ∷ []) s.connections (tt, tt) all
+events_keep_of limits s t numbered (publishes_one p needs) all =
+    more_written (publications_of (all_own t.keeper)) (written_for p s.keeper) s.connections (published_of s.keeper p)
+    (more_published (publications_of (all_own s.keeper)) (publications_of (all_own t.keeper)) s.connections (events_say limits s t numbered (publishes_one p needs)) all)
+events_keep_of limits s t numbered (subscribes p on id) all = more_written (publications_of (all_own s.keeper)) (plain (packets.Subscribe p) ∷ []) s.connections (tt, tt) all
+events_keep_of limits s t numbered (unsubscribes p on id) all = more_written (publications_of (all_own s.keeper)) (plain (packets.Unsubscribe p) ∷ []) s.connections (tt, tt) all

@@ -1,5 +1,5 @@
 -- What a client published, by number, and the packets that it wrote of it.
-use Rattle.std.proofs.Common.{◌≡◌, ◌+◌, ℕ, suc, Bool, true, false, not, ◌&&◌, ◌==◌, if◌then◌else◌, List, [], ◌∷◌, ◌++◌, map, Option, Some, None, refl, ap, ap₂, sym, ◌∙◌, subst, arith}
+use Rattle.std.proofs.Common.{◌≡◌, ◌+◌, ℕ, suc, Bool, true, false, not, ◌&&◌, ◌==◌, if◌then◌else◌, List, [], ◌∷◌, ◌++◌, map, Option, Some, None, refl, ap, ap₂, sym, ◌∙◌, subst, arith, length}
 use Rattle.std.specs.Prelude.{slice_get}
 use Rattle.packet.specs.declared.qos.QoS.{QoS}
 use Rattle.packet.specs.declared.qos.QoS.TheVariants as levels
@@ -11,12 +11,13 @@ use Rattle.session_base.specs.Publication.{publication_of, publish_of, delivery_
 use Rattle.lists.specs.Lists.{Each, IsPrefixOf}
 use Rattle.lists.proofs.Beginnings.{prefix_get}
 use Rattle.lists.proofs.OfEach.{each_append}
-use Rattle.client_base.specs.Keeper.{Own, Written, Keeper}
+use Rattle.client_base.specs.Keeper.{Own, Written, Keeper, all_own}
 use Rattle.client_base.specs.Written.{plain, sent_again, sent_first, sent_all, resent}
 use Rattle.client_base.specs.Handled.{at_puback, at_pubrec, at_pubcomp}
 use Rattle.story.specs.Sides.{Connection}
 use Rattle.story.specs.Carried.{publication_in, publications_of}
-use Rattle.story.specs.Inside.Shape.{AreNumbered}
+use Rattle.client_base.specs.OrderLaws.{AreNumbered}
+use Rattle.std.proofs.lemmas.List.{map-append, length-map}
 
 -- ---- packets
 
@@ -115,7 +116,7 @@ again_of ps n [] h stand = tt
 again_of ps n (Own.Unsent k p id ∷ own) h stand = again_of ps (suc n) own h.1 (behind ps n p (publications_of own) stand)
 again_of ps n (Own.Sent k p id ∷ own) h stand =
     (first_of ps n k p (publications_of own) true id h.0 stand, again_of ps (suc n) own h.1 (behind ps n p (publications_of own) stand))
-again_of ps n (Own.Released k p id ∷ own) h stand = again_of ps (suc n) own h.2 (behind ps n p (publications_of own) stand)
+again_of ps n (Own.Released k p id ∷ own) h stand = again_of ps (suc n) own h.1 (behind ps n p (publications_of own) stand)
 again_of ps n (Own.Done k p ∷ own) h stand = again_of ps (suc n) own h.1 (behind ps n p (publications_of own) stand)
 
 unsent_of : (ps : List Publication) (n : ℕ) (own : List Own) → AreNumbered n own → StandFrom ps n (publications_of own) → Each (IsOfOwn ps) (sent_first own)
@@ -123,18 +124,30 @@ unsent_of ps n [] h stand = tt
 unsent_of ps n (Own.Unsent k p id ∷ own) h stand =
     (first_of ps n k p (publications_of own) false id h.0 stand, unsent_of ps (suc n) own h.1 (behind ps n p (publications_of own) stand))
 unsent_of ps n (Own.Sent k p id ∷ own) h stand = unsent_of ps (suc n) own h.1 (behind ps n p (publications_of own) stand)
-unsent_of ps n (Own.Released k p id ∷ own) h stand = unsent_of ps (suc n) own h.2 (behind ps n p (publications_of own) stand)
+unsent_of ps n (Own.Released k p id ∷ own) h stand = unsent_of ps (suc n) own h.1 (behind ps n p (publications_of own) stand)
 unsent_of ps n (Own.Done k p ∷ own) h stand = unsent_of ps (suc n) own h.1 (behind ps n p (publications_of own) stand)
 
 releases_of : (ps : List Publication) (ids : List ℕ) → Each (IsOfOwn ps) (map (λ id. plain (packets.Pubrel id)) ids)
 releases_of ps [] = tt
 releases_of ps (id ∷ ids) = (tt, releases_of ps ids)
 
-pub resent_of : (keeper : Keeper) → AreNumbered 0 keeper.own → Each (IsOfOwn (publications_of keeper.own)) (resent keeper)
+-- behind these stand the others
+get_behind : (xs ys : List Publication) (j : ℕ) → slice_get (xs ++ ys) (length xs + j) ≡ slice_get ys j
+get_behind [] ys j = let same : 0 + j ≡ j = omega arith in ap (slice_get ys) same
+get_behind (x ∷ xs) ys j = let same : suc (length xs) + j ≡ suc (length xs + j) = omega arith in ap (slice_get (x ∷ xs ++ ys)) same ∙ get_behind xs ys j
+
+pub said_behind : (earlier own later : List Own) → publications_of later ≡ publications_of own → publications_of (earlier ++ later) ≡ publications_of (earlier ++ own)
+said_behind earlier own later e = map-append publication_in earlier later ∙ ap (λ l. publications_of earlier ++ l) e ∙ sym (map-append publication_in earlier own)
+
+pub resent_of : (keeper : Keeper) → AreNumbered (length keeper.earlier) keeper.own → Each (IsOfOwn (publications_of (all_own keeper))) (resent keeper)
 resent_of keeper numbered =
-    let ps = publications_of keeper.own in
-    let stand : StandFrom ps 0 ps = λ j q e. let same : 0 + j ≡ j = omega arith in subst (λ (m : ℕ). slice_get ps m ≡ Some q) (sym same) e in
+    let ps = publications_of (all_own keeper) in
+    let n = length keeper.earlier in
+    let stand : StandFrom ps n (publications_of keeper.own) = λ j q e.
+    ap (λ l. slice_get l (n + j)) (map-append publication_in keeper.earlier keeper.own)
+    ∙ ap (λ m. slice_get (publications_of keeper.earlier ++ publications_of keeper.own) (m + j)) (sym (length-map keeper.earlier publication_in))
+    ∙ get_behind (publications_of keeper.earlier) (publications_of keeper.own) j ∙ e in
     each_append (IsOfOwn ps) (map (λ id. plain (packets.Pubrel id)) keeper.releases ++ sent_again keeper.own) (sent_first keeper.own)
     (each_append (IsOfOwn ps) (map (λ id. plain (packets.Pubrel id)) keeper.releases) (sent_again keeper.own) (releases_of ps keeper.releases)
-    (again_of ps 0 keeper.own numbered stand))
-    (unsent_of ps 0 keeper.own numbered stand)
+    (again_of ps n keeper.own numbered stand))
+    (unsent_of ps n keeper.own numbered stand)

@@ -7,7 +7,7 @@ use Rattle.session_base.specs.Identifiers.{least_free}
 use Rattle.broker_base.specs.Place.{Client, Past, Limits}
 use Rattle.lists.specs.Lists.{Each}
 use Rattle.lists.proofs.OfEach.{each_append, each_then}
-use Rattle.client_base.specs.Keeper.{Written, Keeper, ids_in_use}
+use Rattle.client_base.specs.Keeper.{Written, Keeper, ids_in_use, next_number}
 use Rattle.story.specs.Sides.{Connection}
 use Rattle.client_base.specs.Written.{plain, publishes, writes}
 use Rattle.client_base.specs.Handled.{handled}
@@ -108,8 +108,8 @@ events_keep_written limits s t shape disconnects = writes_online limits s s.keep
 events_keep_written limits s t shape (publishes_one p needs) = by s.keeper.is_online refl
   where
     by : (b : Bool) → s.keeper.is_online ≡ b
-        → Each (WritesOf s.keeper.client) (writes_first (if b then publishes false (length s.keeper.own) (least_free (ids_in_use s.keeper)) p ∷ [] else []) s.connections)
-    by true on = writes_online limits s true shape on (publishes false (length s.keeper.own) (least_free (ids_in_use s.keeper)) p ∷ []) ((refl, refl), tt)
+        → Each (WritesOf s.keeper.client) (writes_first (if b then publishes false (next_number s.keeper) (least_free (ids_in_use s.keeper)) p ∷ [] else []) s.connections)
+    by true on = writes_online limits s true shape on (publishes false (next_number s.keeper) (least_free (ids_in_use s.keeper)) p ∷ []) ((refl, refl), tt)
     by false on = writes_none s.keeper.client s.connections (writes_of limits s shape)
 events_keep_written limits s t shape (subscribes p on id) = writes_online limits s true shape on (plain (packets.Subscribe p) ∷ []) ((refl, refl), tt)
 events_keep_written limits s t shape (unsubscribes p on id) = writes_online limits s true shape on (plain (packets.Unsubscribe p) ∷ []) ((refl, refl), tt)

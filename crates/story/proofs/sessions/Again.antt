@@ -68,7 +68,7 @@ all_gone (κ ∷ connections) = by κ.taken refl (all_gone connections)
 
 -- the Connect of the newest connection is taken and accepted, and no session is there
 pub begins_awaiting : (limits : Limits) (list : List Command) (c : Client) (keeper : Keeper) (κ : Connection) (others : List Connection) → session_of (past_of limits list) c ≡ None
-    → has_begun (past_of limits list) c ≡ true → mark_of limits (past_of limits list) (commands.Connect κ.name c false) ≡ Mark.Accepted → IsDistinct (ids_in_use (unserved c []))
+    → has_begun (past_of limits list) c ≡ true → mark_of limits (past_of limits list) (commands.Connect κ.name c false) ≡ Mark.Accepted → IsDistinct (ids_in_use (unserved c [] []))
     → AreUntouched limits (past_of limits list) c (κ ∷ others) → NamesApart (κ ∷ others) → κ.taken ≡ 0
     → keeper.client ≡ c → keeper.is_online ≡ false → keeper.was_served ≡ true → keeper.requests ≡ []
     → HasAwaiting limits c (true ∷ flags_of others) (with_connections (accepted_at κ.name c ∷ past_of limits list) keeper (record κ { taken = suc κ.taken } ∷ others))
@@ -96,7 +96,7 @@ begins_awaiting limits list c keeper κ others none before mark apart fresh name
         first = told.1;
         head = tt;
         gone = all_gone others;
-        told = subst (λ (p : Place). Told limits c (with_connections (p ∷ past) (waiting c [] keeper.is_open) (record κ { taken = suc κ.taken } ∷ kept_of (flags_of others) others))) place
-            (goes_on (opens_again limits list c [] κ others keeper.is_open none tt apart fresh names new) (takes 0 κ (opens c) refl next));
+        told = λ earlier numbers. subst (λ (p : Place). Told limits c (with_connections (p ∷ past) (waiting c earlier [] keeper.is_open) (record κ { taken = suc κ.taken } ∷ kept_of (flags_of others) others))) place
+            (goes_on (opens_again limits list c earlier [] κ others keeper.is_open none numbers tt apart fresh names new) (takes 0 κ (opens c) refl next));
       };
     }

@@ -8,7 +8,7 @@ use Rattle.broker_base.specs.Connection.{ConnectionName}
 use Rattle.broker_base.specs.Place.{Client, Place, Past, Limits}
 use Rattle.broker_base.specs.Answers.{answers_at}
 use Rattle.broker_base.specs.Commands.{place_of}
-use Rattle.client_base.specs.Keeper.{Written, Keeper, ids_in_use}
+use Rattle.client_base.specs.Keeper.{Written, Keeper, ids_in_use, next_number, Own, all_own}
 use Rattle.client_base.specs.Handled.{handled, lost}
 use Rattle.client_base.specs.Written.{plain, writes_first, publishes}
 use Rattle.story.specs.Sides.{Connection, Side}
@@ -24,6 +24,8 @@ use Rattle.story.proofs.sessions.Anew.{waiting, session_lost, settles}
 use Rattle.std.proofs.lemmas.List.{append-nil}
 use Rattle.lists.specs.Lists.{Each}
 use Rattle.session_base.specs.Identifiers.{least_free}
+use Rattle.client_base.specs.OrderLaws.{AreNumbered}
+use Rattle.client_base.proofs.NumbersStay.{AreAllNumbered, joined_numbers}
 
 -- what goes with a client that awaits the CONNACK of its newest connection
 pub record Awaits (limits : Limits) (c : Client) (flags : List Bool) (past : Past) (keeper : Keeper) (κ : Connection) (others : List Connection) : Type 0 where
@@ -38,7 +40,8 @@ pub record Awaits (limits : Limits) (c : Client) (flags : List Bool) (past : Pas
   pub first : put_to limits past κ.name ≡ session_lost ∷ more
   pub head : IsHeadKept flags
   pub gone : AreGone flags (κ ∷ others)
-  pub told : Told limits c (with_connections past (waiting c [] keeper.is_open) (kept_of flags (κ ∷ others)))
+  -- whatever it published before
+  pub told : (earlier : List Own) → AreNumbered 0 earlier → Told limits c (with_connections past (waiting c earlier [] keeper.is_open) (kept_of flags (κ ∷ others)))
 
 pub record HasAwaiting (limits : Limits) (c : Client) (flags : List Bool) (s : Story) : Type 0 where
   pub newest : Connection
@@ -57,7 +60,7 @@ first_more limits place past x more e = ap (λ xs. xs ++ sends_to x (answers_at 
 -- a place, with the story behind it
 placed : (limits : Limits) (c : Client) (flags : List Bool) (past : Past) (keeper : Keeper) (κ κ' : Connection) (others later : List Connection) (place : Place) → (a : Awaits limits c flags past keeper κ others)
     → κ'.name ≡ κ.name → κ'.confirmed ≡ κ.confirmed → κ'.handled ≡ κ.handled → AreGone flags (κ' ∷ later)
-    → Told limits c (with_connections (place ∷ past) (waiting c [] keeper.is_open) (kept_of flags (κ' ∷ later))) → Awaits limits c flags (place ∷ past) keeper κ' later
+    → ((earlier : List Own) → AreNumbered 0 earlier → Told limits c (with_connections (place ∷ past) (waiting c earlier [] keeper.is_open) (kept_of flags (κ' ∷ later)))) → Awaits limits c flags (place ∷ past) keeper κ' later
 placed limits c flags past keeper κ κ' others later place a name confirmed handled gone told =
     record {
       client = a.client;
@@ -96,7 +99,7 @@ taken_next limits c flags past keeper κ others zero μ w apart a stands next =
       are = refl;
       awaits = placed limits c flags past keeper κ (record κ { taken = suc κ.taken }) others others (place_of limits past (command_of μ.name μ.taken w.packet)) a refl refl refl
           (gone_counted 0 flags (κ ∷ others) a.gone)
-          (told_taken limits c flags past (waiting c [] keeper.is_open) (κ ∷ others) 0 μ w refl next a.told (find flags (κ ∷ others) 0 μ apart a.gone stands));
+          (λ earlier numbers. told_taken limits c flags past (waiting c earlier [] keeper.is_open) (κ ∷ others) 0 μ w refl next (a.told earlier numbers) (find flags (κ ∷ others) 0 μ apart a.gone stands));
     }
 taken_next limits c flags past keeper κ others (suc i) μ w apart a stands next =
     record {
@@ -105,7 +108,7 @@ taken_next limits c flags past keeper κ others (suc i) μ w apart a stands next
       are = refl;
       awaits = placed limits c flags past keeper κ κ others (counted_at i others) (place_of limits past (command_of μ.name μ.taken w.packet)) a refl refl refl
           (gone_counted (suc i) flags (κ ∷ others) a.gone)
-          (told_taken limits c flags past (waiting c [] keeper.is_open) (κ ∷ others) (suc i) μ w refl next a.told (find flags (κ ∷ others) (suc i) μ apart a.gone stands));
+          (λ earlier numbers. told_taken limits c flags past (waiting c earlier [] keeper.is_open) (κ ∷ others) (suc i) μ w refl next (a.told earlier numbers) (find flags (κ ∷ others) (suc i) μ apart a.gone stands));
     }
 
 -- ---- the CONNACK
@@ -118,36 +121,36 @@ first_is limits past κ more packet first unhandled next =
 -- what a new client makes of it, the client makes of it
 heard_same : (limits : Limits) (c : Client) (flags : List Bool) (past : Past) (keeper : Keeper) (κ : Connection) (others : List Connection) (a : Awaits limits c flags past keeper κ others) (packet : Packet) → keeper.is_open ≡ true
     → slice_get (put_to limits past κ.name) κ.handled ≡ Some packet
-    → handled packet (let side : Side = record { keeper = waiting c [] true; connection = κ } in side) ≡ handled packet (let side : Side = record { keeper = keeper; connection = κ } in side)
+    → handled packet (let side : Side = record { keeper = waiting c (all_own keeper) [] true; connection = κ } in side) ≡ handled packet (let side : Side = record { keeper = keeper; connection = κ } in side)
 heard_same limits c flags past keeper κ others a packet opened next =
-    ap (λ p. handled p (let side : Side = record { keeper = waiting c [] true; connection = κ } in side)) (sym is)
-    ∙ ap (λ d. handled session_lost (let side : Side = record { keeper = waiting d [] true; connection = κ } in side)) (sym a.client)
+    ap (λ p. handled p (let side : Side = record { keeper = waiting c (all_own keeper) [] true; connection = κ } in side)) (sym is)
+    ∙ ap (λ d. handled session_lost (let side : Side = record { keeper = waiting d (all_own keeper) [] true; connection = κ } in side)) (sym a.client)
     ∙ sym (settles keeper κ a.offline a.served a.unasked opened)
     ∙ ap (λ p. handled p (let side : Side = record { keeper = keeper; connection = κ } in side)) is
   where
     is : session_lost ≡ packet
     is = first_is limits past κ a.more packet a.first a.unhandled next
 
-settled : (limits : Limits) (c : Client) (flags : List Bool) (past : Past) (keeper : Keeper) (κ : Connection) (others : List Connection) (a : Awaits limits c flags past keeper κ others) (packet : Packet) → keeper.is_open ≡ true
+settled : (limits : Limits) (c : Client) (flags : List Bool) (past : Past) (keeper : Keeper) (κ : Connection) (others : List Connection) (a : Awaits limits c flags past keeper κ others) (packet : Packet) → AreNumbered 0 (all_own keeper) → keeper.is_open ≡ true
     → slice_get (put_to limits past κ.name) κ.handled ≡ Some packet
     → HasBeside limits c flags (with_side (with_connections past keeper (κ ∷ others)) others (handled packet (let side : Side = record { keeper = keeper; connection = κ } in side)))
-settled limits c flags past keeper κ others a packet opened next = subst P (heard_same limits c flags past keeper κ others a packet opened next) heard
+settled limits c flags past keeper κ others a packet numbers opened next = subst P (heard_same limits c flags past keeper κ others a packet opened next) heard
   where
     P : Side → Type 0
     P side = HasBeside limits c flags (with_side (with_connections past keeper (κ ∷ others)) others side)
 
-    now : Told limits c (with_connections past (waiting c [] true) (kept_of flags (κ ∷ others)))
-    now = subst (λ (b : Bool). Told limits c (with_connections past (waiting c [] b) (kept_of flags (κ ∷ others)))) opened a.told
+    now : Told limits c (with_connections past (waiting c (all_own keeper) [] true) (kept_of flags (κ ∷ others)))
+    now = subst (λ (b : Bool). Told limits c (with_connections past (waiting c (all_own keeper) [] b) (kept_of flags (κ ∷ others)))) opened (a.told (all_own keeper) numbers)
 
-    heard : P (handled packet (let side : Side = record { keeper = waiting c [] true; connection = κ } in side))
-    heard = goes_received limits c (with_connections past (waiting c [] true) (κ ∷ others)) flags κ others packet a.head a.gone now refl refl next
+    heard : P (handled packet (let side : Side = record { keeper = waiting c (all_own keeper) [] true; connection = κ } in side))
+    heard = goes_received limits c (with_connections past (waiting c (all_own keeper) [] true) (κ ∷ others)) flags κ others packet a.head a.gone now refl refl next
 
 -- ---- the events
 
 -- with the same connections, which are not told of it
 abbrev pub kept_awaiting : (limits : Limits) (c : Client) (flags : List Bool) (past : Past) (keeper : Keeper) (later : Keeper) (κ : Connection) (others : List Connection)
     → (a : Awaits limits c flags past keeper κ others) → later.client ≡ keeper.client → later.is_online ≡ false → later.was_served ≡ keeper.was_served → later.requests ≡ []
-    → Told limits c (with_connections past (waiting c [] later.is_open) (kept_of flags (κ ∷ others))) → Awaits limits c flags past later κ others
+    → ((earlier : List Own) → AreNumbered 0 earlier → Told limits c (with_connections past (waiting c earlier [] later.is_open) (kept_of flags (κ ∷ others)))) → Awaits limits c flags past later κ others
 kept_awaiting limits c flags past keeper later κ others a client offline served unasked told =
     record {
       client = client ∙ a.client;
@@ -171,51 +174,51 @@ not_both : (b : Bool) → b ≡ false → b ≡ true → ⊥
 not_both b e f = let g : true ≡ false = sym f ∙ e in cc
 
 -- a client that awaits that CONNACK goes on awaiting it, or takes it in; as long as it is in step it opens no further connection
-pub awaiting_goes : (limits : Limits) (c : Client) (flags : List Bool) (s t : Story) → NamesApart s.connections → HasAwaiting limits c flags s → (h : Happens limits s t) → IsInStep t
+pub awaiting_goes : (limits : Limits) (c : Client) (flags : List Bool) (s t : Story) → NamesApart s.connections → HasAwaiting limits c flags s → (h : Happens limits s t) → AreAllNumbered s.keeper → IsInStep t
     → HasAwaiting limits c (flags_after flags h) t ⊎ HasBeside limits c (flags_after flags h) t
-awaiting_goes limits c flags s t apart b (takes i κ w stands next) step =
+awaiting_goes limits c flags s t apart b (takes i κ w stands next) numbers step =
     inl (subst (λ (l : List Connection). HasAwaiting limits c flags (with_connections (place_of limits s.past (command_of κ.name κ.taken w.packet) ∷ s.past) s.keeper (counted_at i l))) (sym b.are)
     (taken_next limits c flags s.past s.keeper b.newest b.others i κ w (subst NamesApart b.are apart) b.awaits (sym (ap (λ (l : List Connection). slice_get l i) b.are) ∙ stands) next))
-awaiting_goes limits c flags s t apart b (others_take command other none) step =
+awaiting_goes limits c flags s t apart b (others_take command other none) numbers step =
     inl (record {
       newest = b.newest;
       others = b.others;
       are = b.are;
       awaits = placed limits c flags s.past s.keeper b.newest b.newest b.others b.others (place_of limits s.past command) b.awaits refl refl refl b.awaits.gone
-          (goes_on b.awaits.told
+          (λ earlier numbers. goes_on (b.awaits.told earlier numbers)
           (others_take command (λ h. other (subst (λ (d : Client). names_client s.past d command) (sym b.awaits.client) h))
           (none_kept (is_packet_of command) flags (b.newest ∷ b.others) (sym (ap (any_named (is_packet_of command)) b.are) ∙ none))));
     })
-awaiting_goes limits c flags s t apart b (receives κ others packet are opened next) step =
+awaiting_goes limits c flags s t apart b (receives κ others packet are opened next) numbers step =
     let both : b.newest ∷ b.others ≡ κ ∷ others = sym b.are ∙ are in
     let one : b.newest ≡ κ = cc in
     let rest : b.others ≡ others = cc in
     let a = subst (λ (z : Connection). Awaits limits c flags s.past s.keeper z others) one (subst (λ (l : List Connection). Awaits limits c flags s.past s.keeper b.newest l) rest b.awaits) in
-    inr (settled limits c flags s.past s.keeper κ others a packet opened next)
-awaiting_goes limits c flags s t apart b (opens_anew x fresh none uncounted) step =
+    inr (settled limits c flags s.past s.keeper κ others a packet (joined_numbers s.keeper.earlier s.keeper.own numbers.0 numbers.1) opened next)
+awaiting_goes limits c flags s t apart b (opens_anew x fresh none uncounted) numbers step =
     let welcome = (subst (Each (WasWelcome s.past s.keeper.client)) b.are step).0 in
     absurd (not_both b.newest.confirmed b.awaits.unconfirmed (welcome (ap (λ (d : Client). began_again s.past d b.newest.name) b.awaits.client ∙ b.awaits.again)))
-awaiting_goes limits c flags s t apart b loses step =
+awaiting_goes limits c flags s t apart b loses numbers step =
     inl (record {
       newest = b.newest;
       others = b.others;
       are = b.are;
-      awaits = kept_awaiting limits c flags s.past s.keeper (lost s.keeper) b.newest b.others b.awaits refl refl refl refl (goes_on b.awaits.told loses);
+      awaits = kept_awaiting limits c flags s.past s.keeper (lost s.keeper) b.newest b.others b.awaits refl refl refl refl (λ earlier all. goes_on (b.awaits.told earlier all) loses);
     })
-awaiting_goes limits c flags s t apart b disconnects step =
+awaiting_goes limits c flags s t apart b disconnects numbers step =
     inl (record {
       newest = b.newest;
       others = b.others;
       are = ap (λ (o : Bool). if o then writes_first (plain packets.Disconnect ∷ []) s.connections else s.connections) b.awaits.offline ∙ b.are;
-      awaits = kept_awaiting limits c flags s.past s.keeper (lost s.keeper) b.newest b.others b.awaits refl refl refl refl (goes_on b.awaits.told loses);
+      awaits = kept_awaiting limits c flags s.past s.keeper (lost s.keeper) b.newest b.others b.awaits refl refl refl refl (λ earlier all. goes_on (b.awaits.told earlier all) loses);
     })
-awaiting_goes limits c flags s t apart b (publishes_one p needs) step =
+awaiting_goes limits c flags s t apart b (publishes_one p needs) numbers step =
     inl (record {
       newest = b.newest;
       others = b.others;
-      are = ap (λ (o : Bool). writes_first (if o then publishes false (length s.keeper.own) (least_free (ids_in_use s.keeper)) p ∷ [] else []) s.connections) b.awaits.offline
+      are = ap (λ (o : Bool). writes_first (if o then publishes false (next_number s.keeper) (least_free (ids_in_use s.keeper)) p ∷ [] else []) s.connections) b.awaits.offline
           ∙ ap (writes_first []) b.are ∙ written_none b.newest b.others;
       awaits = kept_awaiting limits c flags s.past s.keeper t.keeper b.newest b.others b.awaits refl b.awaits.offline refl b.awaits.unasked b.awaits.told;
     })
-awaiting_goes limits c flags s t apart b (subscribes p on id) step = absurd (not_both s.keeper.is_online b.awaits.offline on)
-awaiting_goes limits c flags s t apart b (unsubscribes p on id) step = absurd (not_both s.keeper.is_online b.awaits.offline on)
+awaiting_goes limits c flags s t apart b (subscribes p on id) numbers step = absurd (not_both s.keeper.is_online b.awaits.offline on)
+awaiting_goes limits c flags s t apart b (unsubscribes p on id) numbers step = absurd (not_both s.keeper.is_online b.awaits.offline on)

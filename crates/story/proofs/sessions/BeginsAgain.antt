@@ -47,8 +47,8 @@ begins_unserved limits list c keeper κ others none mark fresh names new u =
     let place : place_of limits past (command_of κ.name κ.taken (opens c).packet) ≡ accepted_at κ.name c =
     ap (place_of limits past) command ∙ ap (λ m. let p : Place = record { command = commands.Connect κ.name c false; mark = m } in p) mark in
     subst (λ (k : Keeper). Told limits c (with_connections (accepted_at κ.name c ∷ past) k (record κ { taken = suc κ.taken } ∷ kept_of (flags_of others) others))) (sym u.is)
-    (subst (λ (p : Place). Told limits c (with_connections (p ∷ past) (waiting c keeper.own keeper.is_open) (record κ { taken = suc κ.taken } ∷ kept_of (flags_of others) others))) place
-    (goes_on (opens_again limits list c keeper.own κ others keeper.is_open none u.unsent u.apart fresh names new) (takes 0 κ (opens c) refl next)))
+    (subst (λ (p : Place). Told limits c (with_connections (p ∷ past) (waiting c [] keeper.own keeper.is_open) (record κ { taken = suc κ.taken } ∷ kept_of (flags_of others) others))) place
+    (goes_on (opens_again limits list c [] keeper.own κ others keeper.is_open none tt u.unsent u.apart fresh names new) (takes 0 κ (opens c) refl next)))
 
 -- the client is offline, since the newest connection is not confirmed
 offline : (b : Bool) (κ : Connection) (keeper : Keeper) → keeper.is_online ≡ b → κ.confirmed ≡ false → (keeper.is_open ≡ true → κ.confirmed ≡ keeper.is_online) → (keeper.is_online ≡ true → keeper.is_open ≡ true)

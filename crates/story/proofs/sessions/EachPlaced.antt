@@ -1,5 +1,5 @@
 -- What holds of each connection behind a place: of the one whose packet is taken, and of all others.
-use Rattle.std.proofs.Common.{◌≡◌, ◌≤◌, ℕ, zero, suc, Bool, false, List, [], ◌∷◌, length, Some, refl, sym, ◌∙◌, ap, subst, arith, inl, inr, ◌⊎◌}
+use Rattle.std.proofs.Common.{◌≡◌, ◌≤◌, ℕ, zero, suc, Bool, false, List, [], ◌∷◌, length, Some, refl, sym, ◌∙◌, ap, subst, arith, inl, inr, ◌⊎◌, if◌then◌else◌, true}
 use Rattle.std.specs.Prelude.{slice_get}
 use Rattle.packet.specs.declared.packet.Packet.{Packet}
 use Rattle.lists.specs.Lists.{Each}
@@ -14,13 +14,14 @@ use Rattle.broker_base.specs.Command.TheVariants as commands
 use Rattle.client_base.specs.Keeper.{Written}
 use Rattle.client_base.specs.Called.{opens}
 use Rattle.story.specs.Sides.{Connection}
-use Rattle.story.specs.Story.{any_named, counted_at, command_of, is_packet_of}
+use Rattle.story.specs.Story.{any_named, counted_at, command_of, count_of, is_packet_of}
+use Rattle.broker_base.proofs.ConnectionNames.{same_itself}
 use Rattle.story.specs.InStep.{opens_on}
 use Rattle.story.specs.Inside.Shape.{NamesApart}
 use Rattle.story.proofs.sessions.Beside.{other_name}
 use Rattle.story.proofs.sessions.Anew.{IsUntouched, AreUntouched}
 use Rattle.story.proofs.sessions.Openings.{opens_packet}
-use Rattle.story.proofs.sessions.Life.{IsShutUnopened, AreShutUnopened}
+use Rattle.story.proofs.sessions.Life.{IsShutUnopened, AreShutUnopened, IsCounted}
 use Rattle.story.proofs.sessions.Placed.{untouched_other, shut_still, shut_other, shut_connect}
 
 -- ---- each of them
@@ -131,3 +132,28 @@ own_fresh limits past c (suc i) κ packet command (μ ∷ connections) kind unto
       inl (opens_packet command place.mark c μ.name (own_alone c κ packet command μ.name kind (other_name μ.name connections i κ apart.0 at))),
       own_fresh limits past c i κ packet command connections kind untouched at apart.1,
     )
+
+-- ---- how many were taken
+
+is_within : (xs : List Written) (n : ℕ) (w : Written) → slice_get xs n ≡ Some w → suc n ≤ length xs
+is_within [] n w e = absurd (cc)
+is_within (x ∷ xs) zero w e = omega arith
+is_within (x ∷ xs) (suc n) w e = let h = is_within xs n w e in omega (arith, h)
+
+own_itself : (c : Client) (κ : Connection) (packet : Packet) (command : Command) → IsOwnCommand c κ packet command → is_packet_of command κ.name ≡ true
+own_itself c κ packet command (inl k) = ap (λ d. is_packet_of d κ.name) k.1 ∙ same_itself κ.name
+own_itself c κ packet command (inr k) = ap (λ d. is_packet_of d κ.name) k.1 ∙ same_itself κ.name
+
+pub counted_other : (place : Place) (past : Past) (κ : Connection) → is_packet_of place.command κ.name ≡ false → IsCounted past κ → IsCounted (place ∷ past) κ
+counted_other place past κ other h = record { counted = ap (λ b. if b then suc (count_of κ.name past) else count_of κ.name past) other ∙ h.counted; within = h.within }
+
+pub own_counted : (limits : Limits) (past : Past) (c : Client) (i : ℕ) (κ : Connection) (w : Written) (command : Command) (connections : List Connection) → IsOwnCommand c κ w.packet command
+    → slice_get κ.written κ.taken ≡ Some w → slice_get connections i ≡ Some κ → NamesApart connections → Each (IsCounted past) connections
+    → Each (IsCounted (place_of limits past command ∷ past)) (counted_at i connections)
+own_counted limits past c i κ w command connections kind next at apart =
+    let place = place_of limits past command in
+    each_own (IsCounted past) (IsCounted (place ∷ past)) i κ connections at apart (λ μ other h. counted_other place past μ (own_alone c κ w.packet command μ.name kind other) h)
+    (λ h. record {
+      counted = ap (λ b. if b then suc (count_of κ.name past) else count_of κ.name past) (own_itself c κ w.packet command kind) ∙ ap (λ n. suc n) h.counted;
+      within = is_within κ.written κ.taken w next;
+    })

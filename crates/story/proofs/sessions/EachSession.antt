@@ -41,11 +41,13 @@ life_opens limits c =
       list = [];
       past_is = refl;
       session = inl refl;
-      connections = record { names = tt; untouched = tt; shut = tt; nobody = λ d x e f. cc };
+      connections = record { names = tt; untouched = tt; shut = tt; nobody = λ d x e f. cc; counted = tt };
       keeper = record {
         client = refl;
         held = (refl, refl);
         unserved = λ e. record { is = refl; unsent = tt; apart = tt };
+        silent = λ e. tt;
+        numbers = (tt, tt);
         unasked = λ e. refl;
         begun = λ e. cc;
       };

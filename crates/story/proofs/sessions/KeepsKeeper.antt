@@ -73,22 +73,27 @@ unserved_lost c keeper h e = lost_unserved c keeper (h e)
 pub unserved_opened : (c : Client) (keeper : Keeper) → (keeper.was_served ≡ false → IsUnserved c keeper) → keeper.was_served ≡ false → IsUnserved c (record (lost keeper) { is_open = true })
 unserved_opened c keeper h e = let u = h e in record { is = ap (λ (k : Keeper). record (lost k) { is_open = true }) u.is; unsent = u.unsent; apart = u.apart }
 
-pub unserved_handled : (c : Client) (packet : Packet) (side : Side) → (side.keeper.was_served ≡ false → IsUnserved c side.keeper) → (handled packet side).keeper.was_served ≡ false
-    → IsUnserved c (handled packet side).keeper
-unserved_handled c packet side h e = by side.keeper.was_served refl
+-- who is not served behind a packet was not before, and the packet ended the connection
+pub unserved_ends : (c : Client) (packet : Packet) (side : Side) → (side.keeper.was_served ≡ false → IsUnserved c side.keeper) → (handled packet side).keeper.was_served ≡ false
+    → (side.keeper.was_served ≡ false) × (handled packet side ≡ record (one_handled side) { keeper = lost side.keeper })
+unserved_ends c packet side h e = by side.keeper.was_served refl
   where
-    two : (b : Bool) → is_welcome packet ≡ b → IsUnserved c side.keeper → IsUnserved c (handled packet side).keeper
+    two : (b : Bool) → is_welcome packet ≡ b → IsUnserved c side.keeper → handled packet side ≡ record (one_handled side) { keeper = lost side.keeper }
     two true w u =
         let off : side.keeper.is_online ≡ false = ap (λ (k : Keeper). k.is_online) u.is in
         absurd (both_ways (handled packet side).keeper.was_served e
         (ap (λ b. (if b then handled_online packet (one_handled side) else handled_first packet (one_handled side)).keeper.was_served) off ∙ welcome_serves packet (one_handled side) w))
-    two false w u =
-        let off : side.keeper.is_online ≡ false = ap (λ (k : Keeper). k.is_online) u.is in
-        subst (λ (z : Side). IsUnserved c z.keeper) (sym (unwelcome_ends packet side off w)) (lost_unserved c side.keeper u)
+    two false w u = unwelcome_ends packet side (ap (λ (k : Keeper). k.is_online) u.is) w
 
-    by : (b : Bool) → side.keeper.was_served ≡ b → IsUnserved c (handled packet side).keeper
+    by : (b : Bool) → side.keeper.was_served ≡ b → (side.keeper.was_served ≡ false) × (handled packet side ≡ record (one_handled side) { keeper = lost side.keeper })
     by true f = absurd (both_ways (handled packet side).keeper.was_served e (stays_served packet side f))
-    by false f = two (is_welcome packet) refl (h f)
+    by false f = (f, two (is_welcome packet) refl (h f))
+
+pub unserved_handled : (c : Client) (packet : Packet) (side : Side) → (side.keeper.was_served ≡ false → IsUnserved c side.keeper) → (handled packet side).keeper.was_served ≡ false
+    → IsUnserved c (handled packet side).keeper
+unserved_handled c packet side h e =
+    let ends = unserved_ends c packet side h e in
+    subst (λ (z : Side). IsUnserved c z.keeper) (sym ends.1) (lost_unserved c side.keeper (h ends.0))
 
 -- one more publication
 unsent_more : (n : ℕ) (own : List Own) (p : Publication) (id : ℕ) → AreUnsent n own → AreUnsent n (own ++ Own.Unsent (n + length own) p id ∷ [])
@@ -100,17 +105,13 @@ unsent_more n (Own.Sent k q j ∷ own) p id h = absurd h
 unsent_more n (Own.Released k q j ∷ own) p id h = absurd h
 unsent_more n (Own.Done k q ∷ own) p id h = absurd h
 
-one_unsent : (c : Client) (own : List Own) (opened : Bool) (p : Publication) → AreUnsent 0 own → IsDistinct (ids_in_use (unserved c own)) → is_answered p.qos ≡ true → IsUnserved c (adds_own p (waiting c own opened))
+one_unsent : (c : Client) (own : List Own) (opened : Bool) (p : Publication) → AreUnsent 0 own → IsDistinct (ids_in_use (unserved c [] own)) → is_answered p.qos ≡ true → IsUnserved c (adds_own p (waiting c [] own opened))
 one_unsent c own opened p unsent apart answered =
-    subst (λ (b : Bool). IsUnserved c (record (waiting c own opened) { own = own ++ (if b then Own.Unsent (length own) p id else Own.Done (length own) p) ∷ [] })) (sym answered)
-    (record {
-      is = refl;
-      unsent = let same : 0 + length own ≡ length own = omega arith in subst (λ (m : ℕ). AreUnsent 0 (own ++ Own.Unsent m p id ∷ [])) same (unsent_more 0 own p id unsent);
-      apart = ids_next (unserved c own) (Own.Unsent (length own) p id) apart (inl refl);
-    })
+    subst (λ (b : Bool). IsUnserved c (record (waiting c [] own opened) { own = own ++ (if b then Own.Unsent (0 + length own) p id else Own.Done (0 + length own) p) ∷ [] })) (sym answered)
+    (record { is = refl; unsent = unsent_more 0 own p id unsent; apart = ids_next (unserved c [] own) (Own.Unsent (0 + length own) p id) apart (inl refl) })
   where
     id : ℕ
-    id = least_free (ids_in_use (unserved c own))
+    id = least_free (ids_in_use (unserved c [] own))
 
 pub unserved_publishes : (c : Client) (keeper : Keeper) (p : Publication) → (is_answered p.qos ≡ false → keeper.is_online ≡ true) → (keeper.was_served ≡ false → IsUnserved c keeper) → keeper.was_served ≡ false
     → IsUnserved c (adds_own p keeper)

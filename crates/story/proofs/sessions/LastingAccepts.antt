@@ -46,8 +46,8 @@ lasting_accepts limits steady c flags s life stands h start = by (session_start 
     now (inr b) e = accepts_now limits steady c flags s.past s.keeper s.connections start life.keeper.client b.head life.connections.shut h b.told e
     now (inl a) e =
         subst (λ (l : List Connection). Accepts limits c s.past l start) (sym a.are)
-        (accepts_now limits steady c flags s.past (waiting c [] s.keeper.is_open) (a.newest ∷ a.others) start refl a.awaits.head (subst (AreShutUnopened limits s.past c) a.are life.connections.shut)
-        (subst (Lasts limits c flags s.past) a.are h) a.awaits.told e)
+        (accepts_now limits steady c flags s.past (waiting c [] [] s.keeper.is_open) (a.newest ∷ a.others) start refl a.awaits.head (subst (AreShutUnopened limits s.past c) a.are life.connections.shut)
+        (subst (Lasts limits c flags s.past) a.are h) (a.awaits.told [] tt) e)
 
     two : (n : ℕ) → session_start s.past c ≡ Some n → (b : Bool) → (n == start) ≡ b → Accepts limits c s.past s.connections start
     two n e true f = now stands (e ∙ ap (λ m. Some m) (eq_is n start f))

@@ -105,7 +105,7 @@ stands_head limits c flags s (inl a) = a.awaits.head
 stands_head limits c flags s (inr b) = b.head
 
 pub stands_goes : (limits : Limits) (c : Client) (flags : List Bool) (s t : Story) → IsLife limits c s → Stands limits c flags s → (h : Happens limits s t) → IsInStep t → Stands limits c (flags_after flags h) t
-stands_goes limits c flags s t life (inl a) h step = awaiting_goes limits c flags s t life.connections.names a h step
+stands_goes limits c flags s t life (inl a) h step = awaiting_goes limits c flags s t life.connections.names a h life.keeper.numbers step
 stands_goes limits c flags s t life (inr b) h step = inr (goes_beside limits c flags s t life.connections.names b h)
 
 pub lasts_goes : (limits : Limits) (c : Client) (flags : List Bool) (s t : Story) → IsLife limits c s → IsHeadKept flags → Lasts limits c flags s.past s.connections → (h : Happens limits s t)

@@ -1,5 +1,5 @@
 -- What holds of a client's life at any time, whichever of its sessions lasts.
-use Rattle.std.proofs.Common.{◌≡◌, Bool, true, false, List, [], ◌∷◌, None}
+use Rattle.std.proofs.Common.{◌≡◌, Bool, true, false, List, [], ◌∷◌, None, ◌≤◌, length}
 use Rattle.packet.specs.declared.connack.Connack.TheVariants as connacks
 use Rattle.packet.specs.declared.packet.Packet.{Packet}
 use Rattle.packet.specs.declared.packet.Packet.TheVariants as packets
@@ -11,7 +11,9 @@ use Rattle.broker_base.specs.Command.{Command}
 use Rattle.client_base.specs.Keeper.{Keeper, ids_in_use}
 use Rattle.story.specs.Sides.{Connection}
 use Rattle.story.specs.Sends.{put_to}
-use Rattle.story.specs.Story.{Story, AreUnsent, unserved}
+use Rattle.story.specs.Story.{Story, AreUnsent, unserved, count_of}
+use Rattle.client_base.specs.Called.{opens}
+use Rattle.client_base.proofs.NumbersStay.{AreAllNumbered}
 use Rattle.story.specs.InStep.{has_begun, opened_in}
 use Rattle.story.specs.Inside.Shape.{NamesApart}
 use Rattle.story.proofs.places.After.{IsKeptSession}
@@ -42,6 +44,11 @@ IsShutUnopened limits past c κ = opened_in past c κ.name ≡ None → IsShut l
 abbrev pub AreShutUnopened : Limits → Past → Client → List Connection → Type 0
 AreShutUnopened limits past c = Each (IsShutUnopened limits past c)
 
+-- as many of its packets stand in the list as were taken of those that it wrote
+pub record IsCounted (past : Past) (κ : Connection) : Type 0 where
+  pub counted : count_of κ.name past ≡ κ.taken
+  pub within : κ.taken ≤ length κ.written
+
 -- the first one is open where the client holds one, and confirmed where it is online
 abbrev pub IsHeld : Keeper → List Connection → Type 0
 IsHeld keeper [] = (keeper.is_open ≡ false) × (keeper.is_online ≡ false)
@@ -51,9 +58,9 @@ IsHeld keeper (κ ∷ connections) = (keeper.is_open ≡ true → κ.confirmed �
 
 -- one that was never served has only what it did not send
 pub record IsUnserved (c : Client) (keeper : Keeper) : Type 0 where
-  pub is : keeper ≡ waiting c keeper.own keeper.is_open
+  pub is : keeper ≡ waiting c [] keeper.own keeper.is_open
   pub unsent : AreUnsent 0 keeper.own
-  pub apart : IsDistinct (ids_in_use (unserved c keeper.own))
+  pub apart : IsDistinct (ids_in_use (unserved c [] keeper.own))
 
 -- of its connections
 pub record HasConnections (limits : Limits) (c : Client) (past : Past) (connections : List Connection) : Type 0 where
@@ -61,12 +68,15 @@ pub record HasConnections (limits : Limits) (c : Client) (past : Past) (connecti
   pub untouched : AreUntouched limits past c connections
   pub shut : AreShutUnopened limits past c connections
   pub nobody : NobodyElse past c connections
+  pub counted : Each (IsCounted past) connections
 
 -- of the client itself
 pub record HasKeeper (c : Client) (past : Past) (keeper : Keeper) (connections : List Connection) : Type 0 where
   pub client : keeper.client ≡ c
   pub held : IsHeld keeper connections
   pub unserved : keeper.was_served ≡ false → IsUnserved c keeper
+  pub silent : keeper.was_served ≡ false → Each (λ (κ : Connection). κ.written ≡ opens c ∷ []) connections
+  pub numbers : AreAllNumbered keeper
   pub unasked : keeper.is_online ≡ false → keeper.requests ≡ []
   pub begun : keeper.was_served ≡ true → has_begun past c ≡ true
 

@@ -19,9 +19,11 @@ use Rattle.story.proofs.publishing.Last.{each_there}
 use Rattle.story.proofs.publishing.kept.KeepsNames.{OpensKept, counted_named, counted_apart, session_kept, kept_connect, kept_other}
 use Rattle.story.proofs.publishing.kept.KeepsNobody.{OpensOwn, nobody_placed, own_connect, other_opens, nobody_named}
 use Rattle.story.proofs.sessions.Anew.{IsUntouched}
-use Rattle.story.proofs.sessions.EachPlaced.{each_other, IsOwnCommand, own_command, own_untouched, own_shut}
+use Rattle.story.proofs.sessions.EachPlaced.{each_other, IsOwnCommand, own_command, own_untouched, own_shut, own_counted, counted_other}
 use Rattle.story.proofs.sessions.Placed.{untouched_other, shut_other}
-use Rattle.story.proofs.sessions.Life.{IsShutUnopened, IsHeld, HasConnections, HasKeeper, IsLife}
+use Rattle.story.proofs.sessions.Life.{IsShutUnopened, IsHeld, HasConnections, HasKeeper, IsLife, IsCounted}
+use Rattle.client_base.specs.Called.{opens}
+use Rattle.lists.specs.Lists.{Each}
 
 -- ---- the list
 
@@ -40,12 +42,19 @@ held_counted keeper i [] h = h
 held_counted keeper zero (κ ∷ connections) h = h
 held_counted keeper (suc i) (κ ∷ connections) h = h
 
+silent_counted : (c : Client) (i : ℕ) (connections : List Connection) → Each (λ (κ : Connection). κ.written ≡ opens c ∷ []) connections → Each (λ (κ : Connection). κ.written ≡ opens c ∷ []) (counted_at i connections)
+silent_counted c i [] h = tt
+silent_counted c zero (κ ∷ connections) h = (h.0, h.1)
+silent_counted c (suc i) (κ ∷ connections) h = (h.0, silent_counted c i connections h.1)
+
 pub keeper_placed : (c : Client) (place : Place) (past : Past) (keeper : Keeper) (i : ℕ) (connections : List Connection) → HasKeeper c past keeper connections → HasKeeper c (place ∷ past) keeper (counted_at i connections)
 keeper_placed c place past keeper i connections k =
     record {
       client = k.client;
       held = held_counted keeper i connections k.held;
       unserved = k.unserved;
+      silent = λ e. silent_counted c i connections (k.silent e);
+      numbers = k.numbers;
       unasked = k.unasked;
       begun = λ e. or_right (begins place past c) (has_begun past c) (k.begun e);
     }
@@ -68,9 +77,10 @@ own_alone_opens limits past c connections κ packet command (inl k) =
     subst (λ (d : Command). OpensOwn c connections (place_of limits past d)) (sym k.1) (own_connect κ.name c connections false (mark_of limits past (commands.Connect κ.name c false)))
 own_alone_opens limits past c connections κ packet command (inr k) = subst (λ (d : Command). OpensOwn c connections (place_of limits past d)) (sym k.1) (λ d opened e named. cc)
 
-own_connections : (limits : Limits) (past : Past) (c : Client) (i : ℕ) (κ : Connection) (packet : Packet) (command : Command) (connections : List Connection) → IsOwnCommand c κ packet command
+own_connections : (limits : Limits) (past : Past) (c : Client) (i : ℕ) (κ : Connection) (w : Written) (command : Command) (connections : List Connection) → IsOwnCommand c κ w.packet command → slice_get κ.written κ.taken ≡ Some w
     → slice_get connections i ≡ Some κ → HasConnections limits c past connections → HasConnections limits c (place_of limits past command ∷ past) (counted_at i connections)
-own_connections limits past c i κ packet command connections kind at h =
+own_connections limits past c i κ w command connections kind next at h =
+    let packet = w.packet in
     let untouched = each_there (λ (μ : Connection). μ.taken ≡ 0 → IsUntouched limits past c μ) i connections κ at h.untouched in
     record {
       names = counted_apart i connections h.names;
@@ -78,6 +88,7 @@ own_connections limits past c i κ packet command connections kind at h =
       shut = own_shut limits past c i κ packet command connections kind untouched at h.names h.shut;
       nobody = nobody_named (place_of limits past command ∷ past) c connections (counted_at i connections) (λ test. counted_named test i connections)
           (nobody_placed (place_of limits past command) past c connections (own_alone_opens limits past c connections κ packet command kind) h.nobody);
+      counted = own_counted limits past c i κ w command connections kind next at h.names h.counted;
     }
 
 -- its kind
@@ -95,7 +106,7 @@ life_taken limits c s i κ w life at next =
       list = life.list ++ command ∷ [];
       past_is = one_more limits s.past life.list command life.past_is;
       session = session_kept (place_of limits s.past command) s.past c (own_opens limits s.past c κ w.packet command kind) (own_spares s.past c κ w.packet command kind) life.session;
-      connections = own_connections limits s.past c i κ w.packet command s.connections kind at life.connections;
+      connections = own_connections limits s.past c i κ w command s.connections kind next at life.connections;
       keeper = keeper_placed c (place_of limits s.past command) s.past s.keeper i s.connections life.keeper;
     }
 
@@ -103,7 +114,7 @@ life_taken limits c s i κ w life at next =
 
 pub keeper_stays : (c : Client) (place : Place) (past : Past) (keeper : Keeper) (connections : List Connection) → HasKeeper c past keeper connections → HasKeeper c (place ∷ past) keeper connections
 keeper_stays c place past keeper connections k =
-    record { client = k.client; held = k.held; unserved = k.unserved; unasked = k.unasked; begun = λ e. or_right (begins place past c) (has_begun past c) (k.begun e) }
+    record { client = k.client; held = k.held; unserved = k.unserved; silent = k.silent; numbers = k.numbers; unasked = k.unasked; begun = λ e. or_right (begins place past c) (has_begun past c) (k.begun e) }
 
 pub other_connections : (limits : Limits) (past : Past) (c : Client) (command : Command) (connections : List Connection) → any_named (is_packet_of command) connections ≡ false → HasConnections limits c past connections
     → HasConnections limits c (place_of limits past command ∷ past) connections
@@ -115,6 +126,7 @@ other_connections limits past c command connections none h =
           (λ μ other g new. untouched_other limits place past c μ other (g new)) h.untouched;
       shut = each_other (IsShutUnopened limits past c) (IsShutUnopened limits (place ∷ past) c) (is_packet_of command) connections none (λ μ other g. shut_other limits place past c μ other g) h.shut;
       nobody = nobody_placed place past c connections (other_opens c connections command place.mark none) h.nobody;
+      counted = each_other (IsCounted past) (IsCounted (place ∷ past)) (is_packet_of command) connections none (λ μ other g. counted_other place past μ other g) h.counted;
     }
 
 pub life_other : (limits : Limits) (c : Client) (s : Story) (command : Command) → IsLife limits c s → (names_client s.past c command → ⊥) → any_named (is_packet_of command) s.connections ≡ false

@@ -1,15 +1,15 @@
 -- A packet that the client handles keeps what holds of its life.
-use Rattle.std.proofs.Common.{◌≡◌, ℕ, true, false, ◌||◌, List, [], ◌∷◌, Option, Some, None, refl, sym, ◌∙◌, ap, subst, inl, inr, ◌⊎◌}
+use Rattle.std.proofs.Common.{◌≡◌, ℕ, true, false, ◌||◌, List, [], ◌∷◌, Option, Some, None, refl, sym, ◌∙◌, ap, subst, inl, inr, ◌⊎◌, length, arith}
 use Rattle.std.specs.Prelude.{slice_get}
 use Rattle.std.proofs.lemmas.Bool.{both_ways}
 use Rattle.packet.specs.declared.packet.Packet.{Packet}
 use Rattle.broker_base.specs.Connection.{same_connection}
 use Rattle.broker_base.specs.Place.{Client, Past, Limits}
-use Rattle.client_base.specs.Keeper.{Keeper}
+use Rattle.client_base.specs.Keeper.{Keeper, Written}
 use Rattle.client_base.specs.Handled.{handled}
 use Rattle.story.specs.Sides.{Connection, Side}
 use Rattle.story.specs.Sends.{put_to}
-use Rattle.story.specs.Story.{any_named}
+use Rattle.story.specs.Story.{any_named, count_of}
 use Rattle.story.specs.InStep.{has_begun, opened_in}
 use Rattle.story.proofs.publishing.kept.KeepsNobody.{nobody_named}
 use Rattle.story.proofs.subscribing.Given.{Stays, one_handled, stays_handled}
@@ -17,9 +17,12 @@ use Rattle.story.proofs.keeping.Settled.{IsSettled, settled_handled, IsWelcome, 
 use Rattle.story.proofs.keeping.KeepsServed.{packet_at}
 use Rattle.story.proofs.sessions.Anew.{IsUntouched}
 use Rattle.story.proofs.sessions.Openings.{opened_begun}
-use Rattle.story.proofs.sessions.KeepsKeeper.{unwelcome_ends, unserved_handled}
+use Rattle.story.proofs.sessions.KeepsKeeper.{unwelcome_ends, unserved_handled, unserved_ends}
 use Rattle.story.proofs.sessions.OfflineUnasked.{unasked_handled}
-use Rattle.story.proofs.sessions.Life.{is_welcome, IsShut, IsShutUnopened, IsHeld, HasConnections, HasKeeper}
+use Rattle.story.proofs.sessions.Life.{is_welcome, IsShut, IsShutUnopened, IsHeld, HasConnections, HasKeeper, IsCounted}
+use Rattle.client_base.proofs.NumbersStay.{handled_numbers}
+use Rattle.story.proofs.publishing.Grown.{handled_grows}
+use Rattle.std.proofs.lemmas.List.{length-append}
 
 held_settled : (side : Side) (others : List Connection) → IsSettled side → IsHeld side.keeper (side.connection ∷ others)
 held_settled side others (inl h) = (λ e. h.2 ∙ sym h.1, λ e. h.0)
@@ -51,6 +54,14 @@ begun_handled limits past c keeper κ packet next h begun e = by (served_handled
     by (inl f) = begun f
     by (inr w) = two (opened_in past c κ.name) refl w
 
+counted_handled : (past : Past) (keeper : Keeper) (κ : Connection) (packet : Packet) → IsCounted past κ → IsCounted past (handled packet (let side : Side = record { keeper = keeper; connection = κ } in side)).connection
+counted_handled past keeper κ packet h =
+    let grown = handled_grows κ keeper packet in
+    record {
+      counted = ap (λ x. count_of x past) grown.name ∙ h.counted ∙ sym grown.taken;
+      within = let w = h.within in let l = length-append κ.written grown.more in let m = ap (λ (ws : List Written). length ws) grown.written in let t = grown.taken in omega (arith, w, l, m, t);
+    }
+
 pub life_received : (limits : Limits) (c : Client) (past : Past) (keeper : Keeper) (κ : Connection) (others : List Connection) (packet : Packet) → keeper.is_open ≡ true
     → slice_get (put_to limits past κ.name) κ.handled ≡ Some packet → HasConnections limits c past (κ ∷ others) → HasKeeper c past keeper (κ ∷ others) → (side : Side) → side ≡ record { keeper = keeper; connection = κ }
     → HasConnections limits c past ((handled packet side).connection ∷ others) × HasKeeper c past (handled packet side).keeper ((handled packet side).connection ∷ others)
@@ -72,6 +83,7 @@ life_received limits c past keeper κ others packet opened next h k side is = su
           untouched = (λ new. absurd (was_taken limits past c κ packet h.untouched.0 next (sym st.taken ∙ new)), h.untouched.1);
           shut = (shut_handled limits past c keeper κ packet opened k.held.0 next h.shut.0, h.shut.1);
           nobody = nobody_named past c (κ ∷ others) ((handled packet before).connection ∷ others) (λ test. ap (λ x. test x || any_named test others) st.name) h.nobody;
+          counted = (counted_handled past keeper κ packet h.counted.0, h.counted.1);
         }
 
     client : HasKeeper c past (handled packet before).keeper ((handled packet before).connection ∷ others)
@@ -80,6 +92,11 @@ life_received limits c past keeper κ others packet opened next h k side is = su
           client = st.client ∙ k.client;
           held = held_settled (handled packet before) others (settled_handled packet before opened (k.held.0 opened));
           unserved = unserved_handled c packet before k.unserved;
+          silent = λ e.
+              let ends = unserved_ends c packet before k.unserved e in
+              let all = k.silent ends.0 in
+              (ap (λ (z : Side). z.connection.written) ends.1 ∙ all.0, all.1);
+          numbers = handled_numbers packet before k.numbers;
           unasked = unasked_handled packet before;
           begun = begun_handled limits past c keeper κ packet next h.shut.0 k.begun;
         }

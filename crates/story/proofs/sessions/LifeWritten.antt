@@ -1,7 +1,7 @@
 -- What a client writes, and that it leaves, keeps what holds of its life.
-use Rattle.std.proofs.Common.{◌≡◌, Bool, true, false, if◌then◌else◌, List, [], ◌∷◌, refl, sym, ◌∙◌, ap, subst}
+use Rattle.std.proofs.Common.{◌≡◌, Bool, true, false, if◌then◌else◌, List, [], ◌∷◌, refl, sym, ◌∙◌, ap, subst, ◌≤◌, length, arith, ◌++◌}
 use Rattle.std.proofs.lemmas.Bool.{both_ways}
-use Rattle.std.proofs.lemmas.List.{append-nil}
+use Rattle.std.proofs.lemmas.List.{append-nil, length-append}
 use Rattle.broker_base.specs.Place.{Client, Past, Limits}
 use Rattle.client_base.specs.Keeper.{Written, Keeper}
 use Rattle.client_base.specs.Written.{writes_first}
@@ -11,7 +11,9 @@ use Rattle.story.specs.Inside.Shape.{NamesApart}
 use Rattle.story.proofs.publishing.kept.KeepsNobody.{nobody_named, written_named}
 use Rattle.story.proofs.sessions.Anew.{AreUntouched}
 use Rattle.story.proofs.sessions.KeepsKeeper.{unserved_lost}
-use Rattle.story.proofs.sessions.Life.{AreShutUnopened, IsHeld, HasConnections, HasKeeper}
+use Rattle.story.proofs.sessions.Life.{AreShutUnopened, IsHeld, HasConnections, HasKeeper, IsCounted, IsUnserved}
+use Rattle.client_base.specs.Called.{opens}
+use Rattle.lists.specs.Lists.{Each}
 
 -- while it is online
 untouched_written : (limits : Limits) (past : Past) (c : Client) (keeper : Keeper) (more : List Written) (connections : List Connection) → keeper.is_online ≡ true → IsHeld keeper connections
@@ -28,6 +30,14 @@ names_written : (more : List Written) (connections : List Connection) → NamesA
 names_written more [] h = h
 names_written more (κ ∷ connections) h = h
 
+longer : (xs ys : List Written) → length xs ≤ length (xs ++ ys)
+longer xs ys = let l = length-append xs ys in omega (arith, l)
+
+counted_written : (past : Past) (more : List Written) (connections : List Connection) → Each (IsCounted past) connections → Each (IsCounted past) (writes_first more connections)
+counted_written past more [] h = tt
+counted_written past more (κ ∷ connections) h =
+    (record { counted = h.0.counted; within = let l = longer κ.written more in let w = h.0.within in omega (arith, l, w) }, h.1)
+
 pub connections_written : (limits : Limits) (past : Past) (c : Client) (keeper : Keeper) (more : List Written) (connections : List Connection) → keeper.is_online ≡ true → IsHeld keeper connections
     → HasConnections limits c past connections → HasConnections limits c past (writes_first more connections)
 connections_written limits past c keeper more connections on held h =
@@ -36,6 +46,7 @@ connections_written limits past c keeper more connections on held h =
       untouched = untouched_written limits past c keeper more connections on held h.untouched;
       shut = shut_written limits past c more connections h.shut;
       nobody = nobody_named past c connections (writes_first more connections) (written_named more connections) h.nobody;
+      counted = counted_written past more connections h.counted;
     }
 
 none_written : (connections : List Connection) → writes_first [] connections ≡ connections
@@ -62,6 +73,21 @@ held_lost : (keeper : Keeper) (connections : List Connection) → IsHeld (lost k
 held_lost keeper [] = (refl, refl)
 held_lost keeper (κ ∷ connections) = (λ e. absurd (both_ways false refl e), λ e. absurd (both_ways false refl e))
 
-pub keeper_lost : (c : Client) (past : Past) (keeper : Keeper) (connections later : List Connection) → HasKeeper c past keeper connections → HasKeeper c past (lost keeper) later
-keeper_lost c past keeper connections later k =
-    record { client = k.client; held = held_lost keeper later; unserved = unserved_lost c keeper k.unserved; unasked = λ e. refl; begun = k.begun }
+-- nothing, where it was never served
+abbrev pub AreSilent : Client → List Connection → Type 0
+AreSilent c = Each (λ (κ : Connection). κ.written ≡ opens c ∷ [])
+
+pub silent_either : (c : Client) (keeper : Keeper) (b : Bool) (more : List Written) (connections : List Connection) → keeper.is_online ≡ b → (keeper.was_served ≡ false → IsUnserved c keeper)
+    → (keeper.was_served ≡ false → AreSilent c connections) → keeper.was_served ≡ false → AreSilent c (writes_first (if b then more else []) connections)
+silent_either c keeper true more connections on u h e = absurd (both_ways keeper.is_online (ap (λ (k : Keeper). k.is_online) (u e).is) on)
+silent_either c keeper false more connections off u h e = subst (AreSilent c) (sym (none_written connections)) (h e)
+
+pub silent_maybe : (c : Client) (keeper : Keeper) (b : Bool) (more : List Written) (connections : List Connection) → keeper.is_online ≡ b → (keeper.was_served ≡ false → IsUnserved c keeper)
+    → (keeper.was_served ≡ false → AreSilent c connections) → keeper.was_served ≡ false → AreSilent c (if b then writes_first more connections else connections)
+silent_maybe c keeper true more connections on u h e = absurd (both_ways keeper.is_online (ap (λ (k : Keeper). k.is_online) (u e).is) on)
+silent_maybe c keeper false more connections off u h e = h e
+
+pub keeper_lost : (c : Client) (past : Past) (keeper : Keeper) (connections later : List Connection) → HasKeeper c past keeper connections → (keeper.was_served ≡ false → AreSilent c later)
+    → HasKeeper c past (lost keeper) later
+keeper_lost c past keeper connections later k silent =
+    record { client = k.client; held = held_lost keeper later; unserved = unserved_lost c keeper k.unserved; silent = silent; numbers = k.numbers; unasked = λ e. refl; begun = k.begun }

@@ -11,7 +11,7 @@ use Rattle.broker_base.specs.Past.{current_connection}
 use Rattle.lists.specs.Lists.{Each}
 use Rattle.handshake.specs.Handshake.{Backward, Link}
 use Rattle.handshake.specs.Handshake.Run.{stays}
-use Rattle.client_base.specs.Keeper.{Own, Written, Keeper, ids_in_use}
+use Rattle.client_base.specs.Keeper.{Own, Written, Keeper, ids_in_use, next_number}
 use Rattle.client_base.specs.declared.request.Request.{Request}
 use Rattle.client_base.specs.declared.request.Request.TheVariants as requests
 use Rattle.story.specs.Sides.{Connection}
@@ -59,7 +59,7 @@ writes_what limits s shape more e own requests =
 publish_none : (p : Publication) (keeper : Keeper) → backward_of (written_for p keeper) ≡ []
 publish_none p keeper = by keeper.is_online
   where
-    by : (b : Bool) → backward_of (if b then publishes false (length keeper.own) (least_free (ids_in_use keeper)) p ∷ [] else []) ≡ []
+    by : (b : Bool) → backward_of (if b then publishes false (next_number keeper) (least_free (ids_in_use keeper)) p ∷ [] else []) ≡ []
     by true = refl
     by false = refl
 

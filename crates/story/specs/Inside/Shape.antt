@@ -36,7 +36,7 @@ none_unsent [] = true
 
 pub record OwnInShape (keeper : Keeper) : Type 0 where
   pub ids_apart : IsDistinct (ids_in_use keeper)
-  pub numbered : AreNumbered 0 keeper.own
+  pub numbered : AreNumbered (length keeper.earlier) keeper.own
   pub releases_apart : IsDistinct keeper.releases
   pub releases_are : (id : ℕ) → has_id id keeper.releases ≡ has_released id (items_of_own keeper.own)
   pub online_sent : keeper.is_online ≡ true → none_unsent keeper.own ≡ true

@@ -13,7 +13,7 @@ use Rattle.lists.specs.Lists.{Each}
 use Rattle.handshake.specs.Items.{Item}
 use Rattle.handshake.specs.Handshake.{Forward, Backward, Handshake}
 use Rattle.handshake.specs.Handshake.Moves.{adds}
-use Rattle.client_base.specs.Keeper.{Own, Keeper, ids_in_use}
+use Rattle.client_base.specs.Keeper.{Own, Keeper, ids_in_use, next_number}
 use Rattle.story.specs.Sides.{Connection}
 use Rattle.client_base.specs.Written.{publishes}
 use Rattle.client_base.specs.Written.{writes_first}
@@ -79,20 +79,20 @@ with_own o keeper = record keeper { own = keeper.own ++ o ∷ [] }
 
 online_one : (limits : Limits) (past : Past) (keeper : Keeper) (connections : List Connection) (p : Publication) (o : Own) → OwnInShape keeper
     → Each (ConnectionInShape limits past keeper.client) connections → HeldInShape limits past keeper connections → keeper.is_online ≡ true
-    → items_of_own (o ∷ []) ≡ (if is_two p.qos then Item.Sent (length keeper.own) (least_free (ids_in_use keeper)) ∷ [] else [])
+    → items_of_own (o ∷ []) ≡ (if is_two p.qos then Item.Sent (next_number keeper) (least_free (ids_in_use keeper)) ∷ [] else [])
     → GoesTo (as_publisher limits (story_by past connections keeper))
-    (as_publisher limits (story_by past (writes_first (publishes false (length keeper.own) (least_free (ids_in_use keeper)) p ∷ []) connections) (with_own o keeper)))
+    (as_publisher limits (story_by past (writes_first (publishes false (next_number keeper) (least_free (ids_in_use keeper)) p ∷ []) connections) (with_own o keeper)))
 online_one limits past keeper [] p o own each held on item =
     let h = as_publisher limits (story_by past [] keeper) in
     let id = least_free (ids_in_use keeper) in
-    let n = length keeper.own in
+    let n = next_number keeper in
     goes_of h (as_publisher limits (story_by past [] (with_own o keeper))) (h.items ++ (if is_two p.qos then Item.Sent n id ∷ [] else [])) h.link
     (runs_online h false (is_two p.qos) [] [] keeper n refl (own.online_sent on) refl)
     (ap (λ l. items_of_own keeper.own ++ l) (sym item) ∙ sym (items_more keeper.own (o ∷ []))) refl (λ j. refl) refl
 online_one limits past keeper (κ ∷ others) p o own each held on item =
     let h = as_publisher limits (story_by past (κ ∷ others) keeper) in
     let id = least_free (ids_in_use keeper) in
-    let n = length keeper.own in
+    let n = next_number keeper in
     let ws = publishes false n id p ∷ [] in
     let holds = holds_of limits past keeper κ others each held in
     let cur = is_current (current_connection past keeper.client) κ.name in
@@ -106,11 +106,11 @@ online_one limits past keeper (κ ∷ others) p o own each held on item =
     (ap (λ l. items_of_own keeper.own ++ l) (sym item) ∙ sym (items_more keeper.own (o ∷ []))) (ap (λ l. f ++ l) (sym (forward_one n id p))) refl
 
 offline_one : (limits : Limits) (past : Past) (keeper : Keeper) (connections : List Connection) (p : Publication) (o : Own)
-    → items_of_own (o ∷ []) ≡ (if is_two p.qos then Item.Waits (length keeper.own) ∷ [] else [])
+    → items_of_own (o ∷ []) ≡ (if is_two p.qos then Item.Waits (next_number keeper) ∷ [] else [])
     → GoesTo (as_publisher limits (story_by past connections keeper)) (as_publisher limits (story_by past (writes_first [] connections) (with_own o keeper)))
 offline_one limits past keeper connections p o item =
     let h = as_publisher limits (story_by past connections keeper) in
-    let n = length keeper.own in
+    let n = next_number keeper in
     subst (λ (later : List Connection). GoesTo h (as_publisher limits (story_by past later (with_own o keeper)))) (sym (writes_none connections))
     (goes_of h (as_publisher limits (story_by past connections (with_own o keeper))) (h.items ++ (if is_two p.qos then Item.Waits n ∷ [] else [])) h.link (runs_offline h (is_two p.qos) n)
     (ap (λ l. items_of_own keeper.own ++ l) (sym item) ∙ sym (items_more keeper.own (o ∷ []))) refl (λ j. refl) refl)
@@ -124,7 +124,7 @@ publishes_it limits past keeper connections p own each held needs = by (cases_Bo
     id = least_free (ids_in_use keeper)
 
     n : ℕ
-    n = length keeper.own
+    n = next_number keeper
 
     h : Handshake ℕ
     h = as_publisher limits (story_by past connections keeper)

@@ -1,5 +1,5 @@
 -- PUBACK, PUBREC and PUBCOMP keep the shape of a client's publications.
-use Rattle.std.proofs.Common.{◌≡◌, ℕ, Bool, true, false, not, ◌&&◌, ◌||◌, ◌==◌, if◌then◌else◌, List, [], ◌∷◌, ◌++◌, map, refl, ap, sym, ◌∙◌, inl}
+use Rattle.std.proofs.Common.{◌≡◌, ℕ, Bool, true, false, not, ◌&&◌, ◌||◌, ◌==◌, if◌then◌else◌, List, [], ◌∷◌, ◌++◌, map, refl, ap, sym, ◌∙◌, inl, length}
 use Rattle.std.proofs.lemmas.Bool.{both_ways}
 use Rattle.session_base.specs.Publication.{is_acknowledged}
 use Rattle.lists.specs.Lists.{IsDistinct}
@@ -74,7 +74,7 @@ pub puback_keeps : (keeper : Keeper) (i : ℕ) → OwnInShape keeper → OwnInSh
 puback_keeps keeper i s =
     record {
       ids_apart = fewer_own keeper (map (at_puback i) keeper.own) (fewer_puback i keeper.own) s;
-      numbered = numbered_puback i 0 keeper.own s.numbered;
+      numbered = numbered_puback i (length keeper.earlier) keeper.own s.numbered;
       releases_apart = s.releases_apart;
       releases_are = λ j. s.releases_are j ∙ ap (has_released j) (sym (items_acknowledged i keeper.own));
       online_sent = λ on. unsent_by (at_puback i) keeper.own (puback_sent i) (s.online_sent on);
@@ -84,7 +84,7 @@ pub pubcomp_keeps : (keeper : Keeper) (i : ℕ) → OwnInShape keeper → OwnInS
 pubcomp_keeps keeper i s =
     record {
       ids_apart = fewer_own keeper (map (at_pubcomp i) keeper.own) (fewer_pubcomp i keeper.own) s;
-      numbered = numbered_pubcomp i 0 keeper.own s.numbered;
+      numbered = numbered_pubcomp i (length keeper.earlier) keeper.own s.numbered;
       releases_apart = fewer_distinct (without_id i keeper.releases) keeper.releases (fewer_filtered (λ other. not (i == other)) keeper.releases) s.releases_apart;
       releases_are = λ j. has_without j i keeper.releases ∙ ap (λ b. not (j == i) && b) (s.releases_are j) ∙ sym (released_finished j i (items_of_own keeper.own))
           ∙ ap (has_released j) (sym (items_finished i keeper.own));
@@ -98,7 +98,7 @@ pubrec_keeps keeper i s has apart =
     let ids = distinct_front (ids_of_own keeper.own) (map id_of_request keeper.requests) (s.ids_apart) in
     record {
       ids_apart = fewer_own keeper (map (at_pubrec i) keeper.own) (fewer_pubrec i keeper.own) s;
-      numbered = numbered_pubrec i 0 keeper.own s.numbered ids (inl has);
+      numbered = numbered_pubrec i (length keeper.earlier) keeper.own s.numbered ids (inl has);
       releases_apart = (distinct_push keeper.releases i (s.releases_apart) (s.releases_are i ∙ sent_not_released i items apart has));
       releases_are = λ j. has_append j keeper.releases (i ∷ [])
           ∙ ap (λ b. b || ((j == i) || false)) (s.releases_are j) ∙ released_more j i items has ∙ ap (has_released j) (sym (items_released i keeper.own));

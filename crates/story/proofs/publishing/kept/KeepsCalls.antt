@@ -14,7 +14,7 @@ use Rattle.handshake.specs.Items.{Item, has_released}
 use Rattle.handshake.specs.Sides.{IsGood}
 use Rattle.lists.proofs.Identifiers.{has_split, distinct_insert, distinct_push}
 use Rattle.story.specs.Sends.{put_to}
-use Rattle.client_base.specs.Keeper.{Own, Keeper, ids_of_own, ids_in_use}
+use Rattle.client_base.specs.Keeper.{Own, Keeper, ids_of_own, ids_in_use, next_number}
 use Rattle.client_base.specs.declared.request.Request.{Request}
 use Rattle.client_base.specs.declared.request.Request.TheVariants as requests
 use Rattle.story.specs.Sides.{Connection}
@@ -36,7 +36,7 @@ use Rattle.story.proofs.publishing.kept.KeepsPackets.{receives_keeps}
 -- a publication with the next number, whose identifiers are the free one or none, and that is not released
 pub record IsNext (keeper : Keeper) (o : Own) : Type 0 where
   pub ids : (ids_of_own (o ∷ []) ≡ least_free (ids_in_use keeper) ∷ []) ⊎ (ids_of_own (o ∷ []) ≡ [])
-  pub numbered : AreNumbered (0 + length keeper.own) (o ∷ [])
+  pub numbered : AreNumbered (next_number keeper) (o ∷ [])
   pub unreleased : (j : ℕ) → has_released j (items_of_own (o ∷ [])) ≡ false
   pub online_sent : keeper.is_online ≡ true → none_unsent (o ∷ []) ≡ true
 
@@ -57,7 +57,7 @@ next_keeps : (keeper : Keeper) (o : Own) → OwnInShape keeper → IsNext keeper
 next_keeps keeper o s next =
     record {
       ids_apart = ids_next keeper o s.ids_apart next.ids;
-      numbered = numbered_more 0 keeper.own (o ∷ []) s.numbered next.numbered;
+      numbered = numbered_more (length keeper.earlier) keeper.own (o ∷ []) s.numbered next.numbered;
       releases_apart = s.releases_apart;
       releases_are = λ j. s.releases_are j ∙ sym (ap (has_released j) (items_more keeper.own (o ∷ [])) ∙ released_front j (items_of_own keeper.own) (items_of_own (o ∷ [])) (next.unreleased j));
       online_sent = λ on. unsent_more keeper.own (o ∷ []) (s.online_sent on) (next.online_sent on);
@@ -75,10 +75,10 @@ publishes_keeps keeper p s = by keeper.is_online refl (is_answered p.qos)
     id = least_free (ids_in_use keeper)
 
     n : ℕ
-    n = length keeper.own
+    n = next_number keeper
 
-    same : n ≡ 0 + n
-    same = omega arith
+    same : n ≡ n
+    same = refl
 
     by : (on : Bool) → keeper.is_online ≡ on → (a : Bool)
         → OwnInShape (record keeper { own = keeper.own ++ (if a then (if on then Own.Sent n p id else Own.Unsent n p id) else Own.Done n p) ∷ [] })

@@ -1,5 +1,5 @@
 -- Losses, requests and a CONNACK 0 keep the shape of a client's publications.
-use Rattle.std.proofs.Common.{ℕ, Bool, true, false, if◌then◌else◌, List, [], ◌∷◌, ◌++◌, map, filter, refl, ◌∙◌, subst}
+use Rattle.std.proofs.Common.{ℕ, Bool, true, false, if◌then◌else◌, List, [], ◌∷◌, ◌++◌, map, filter, refl, ◌∙◌, subst, length}
 use Rattle.std.proofs.lemmas.Bool.{both_ways}
 use Rattle.lists.specs.Lists.{IsDistinct}
 use Rattle.lists.proofs.Identifiers.{distinct_behind}
@@ -51,7 +51,7 @@ pub confirmed_keeps : (kept : Keeper) → OwnInShape kept → OwnInShape (record
 confirmed_keeps kept s =
     record {
       ids_apart = subst (λ (ids : List ℕ). IsDistinct (ids ++ map id_of_request kept.requests)) (ids_sent kept.own) s.ids_apart;
-      numbered = numbered_sent 0 kept.own s.numbered;
+      numbered = numbered_sent (length kept.earlier) kept.own s.numbered;
       releases_apart = s.releases_apart;
       releases_are = λ j. s.releases_are j ∙ released_sent j kept.own;
       online_sent = λ e. unsent_sent kept.own;

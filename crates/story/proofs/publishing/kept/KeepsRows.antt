@@ -10,7 +10,7 @@ use Rattle.broker_base.specs.Answers.{answers_at}
 use Rattle.lists.specs.Lists.{Each}
 use Rattle.lists.proofs.OfEach.{each_append, each_then}
 use Rattle.story.specs.Sends.{sends_to, put_to}
-use Rattle.client_base.specs.Keeper.{Written, ids_in_use}
+use Rattle.client_base.specs.Keeper.{Written, ids_in_use, next_number}
 use Rattle.story.specs.Sides.{Connection}
 use Rattle.client_base.specs.Written.{plain, publishes, writes}
 use Rattle.client_base.specs.Handled.{handled}
@@ -90,7 +90,7 @@ events_keep_rows limits s t rows disconnects = by s.keeper.is_online
     by false = rows
 events_keep_rows limits s t rows (publishes_one p needs) = rows_written limits s.past s.connections (written_for p s.keeper) (by s.keeper.is_online) rows
   where
-    by : (b : Bool) → Each IsLater (if b then publishes false (length s.keeper.own) (least_free (ids_in_use s.keeper)) p ∷ [] else [])
+    by : (b : Bool) → Each IsLater (if b then publishes false (next_number s.keeper) (least_free (ids_in_use s.keeper)) p ∷ [] else [])
     by true = ((refl, refl), tt)
     by false = tt
 events_keep_rows limits s t rows (subscribes p on id) = rows_written limits s.past s.connections (plain (packets.Subscribe p) ∷ []) ((refl, refl), tt) rows
