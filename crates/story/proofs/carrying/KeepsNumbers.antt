@@ -25,7 +25,7 @@ abbrev pub AreWithin : Past → List Connection → Type 0
 AreWithin past = Each (λ (κ : Connection). count_of κ.name past ≤ length κ.written)
 
 -- more is written on the newest one
-first_written : (past : Past) (connections : List Connection) (more : List Written) → AreWithin past connections → SameNumbers connections (writes_first more connections) past
+pub first_written : (past : Past) (connections : List Connection) (more : List Written) → AreWithin past connections → SameNumbers connections (writes_first more connections) past
 first_written past [] more within = same_itself past []
 first_written past (κ ∷ others) more within = same_written past κ (writes more κ) others more refl refl within.0
 
@@ -49,7 +49,9 @@ numbers_keep limits s t within (subscribes p on id) = first_written s.past s.con
 numbers_keep limits s t within (unsubscribes p on id) = first_written s.past s.connections (plain (packets.Unsubscribe p) ∷ []) within
 
 -- so in every story
+pub shape_within : (limits : Limits) (s : Story) → HasShape limits s → AreWithin s.past s.connections
+shape_within limits s shape =
+    each_then (ConnectionInShape limits s.past s.keeper.client) (λ (κ : Connection). count_of κ.name s.past ≤ length κ.written) s.connections (λ κ. counted_within limits s.past s.keeper κ) shape.connections
+
 pub events_keep_numbers : (limits : Limits) (s t : Story) → HasShape limits s → Happens limits s t → SameNumbers s.connections t.connections s.past
-events_keep_numbers limits s t shape =
-    numbers_keep limits s t
-    (each_then (ConnectionInShape limits s.past s.keeper.client) (λ (κ : Connection). count_of κ.name s.past ≤ length κ.written) s.connections (λ κ. counted_within limits s.past s.keeper κ) shape.connections)
+events_keep_numbers limits s t shape = numbers_keep limits s t (shape_within limits s shape)

@@ -173,9 +173,17 @@ written_none κ others = ap (λ (ws : List Written). record κ { written = ws } 
 not_both : (b : Bool) → b ≡ false → b ≡ true → ⊥
 not_both b e f = let g : true ≡ false = sym f ∙ e in cc
 
+-- it takes it in: what it kept is earlier from then on
+pub record IsSettled (limits : Limits) (c : Client) (flags : List Bool) (s t : Story) : Type 0 where
+  pub beside : HasBeside limits c flags t
+  pub moved : t.keeper.earlier ≡ all_own s.keeper
+
+moves : (keeper : Keeper) (κ : Connection) → keeper.is_online ≡ false → keeper.was_served ≡ true → (handled session_lost (let side : Side = record { keeper = keeper; connection = κ } in side)).keeper.earlier ≡ all_own keeper
+moves keeper κ offline served = rw (offline, served) refl
+
 -- a client that awaits that CONNACK goes on awaiting it, or takes it in; as long as it is in step it opens no further connection
 pub awaiting_goes : (limits : Limits) (c : Client) (flags : List Bool) (s t : Story) → NamesApart s.connections → HasAwaiting limits c flags s → (h : Happens limits s t) → AreAllNumbered s.keeper → IsInStep t
-    → HasAwaiting limits c (flags_after flags h) t ⊎ HasBeside limits c (flags_after flags h) t
+    → HasAwaiting limits c (flags_after flags h) t ⊎ IsSettled limits c (flags_after flags h) s t
 awaiting_goes limits c flags s t apart b (takes i κ w stands next) numbers step =
     inl (subst (λ (l : List Connection). HasAwaiting limits c flags (with_connections (place_of limits s.past (command_of κ.name κ.taken w.packet) ∷ s.past) s.keeper (counted_at i l))) (sym b.are)
     (taken_next limits c flags s.past s.keeper b.newest b.others i κ w (subst NamesApart b.are apart) b.awaits (sym (ap (λ (l : List Connection). slice_get l i) b.are) ∙ stands) next))
@@ -194,7 +202,11 @@ awaiting_goes limits c flags s t apart b (receives κ others packet are opened n
     let one : b.newest ≡ κ = cc in
     let rest : b.others ≡ others = cc in
     let a = subst (λ (z : Connection). Awaits limits c flags s.past s.keeper z others) one (subst (λ (l : List Connection). Awaits limits c flags s.past s.keeper b.newest l) rest b.awaits) in
-    inr (settled limits c flags s.past s.keeper κ others a packet (joined_numbers s.keeper.earlier s.keeper.own numbers.0 numbers.1) opened next)
+    inr (record {
+      beside = settled limits c flags s.past s.keeper κ others a packet (joined_numbers s.keeper.earlier s.keeper.own numbers.0 numbers.1) opened next;
+      moved = ap (λ p. (handled p (let side : Side = record { keeper = s.keeper; connection = κ } in side)).keeper.earlier) (sym (first_is limits s.past κ a.more packet a.first a.unhandled next))
+          ∙ moves s.keeper κ a.offline a.served;
+    })
 awaiting_goes limits c flags s t apart b (opens_anew x fresh none uncounted) numbers step =
     let welcome = (subst (Each (WasWelcome s.past s.keeper.client)) b.are step).0 in
     absurd (not_both b.newest.confirmed b.awaits.unconfirmed (welcome (ap (λ (d : Client). began_again s.past d b.newest.name) b.awaits.client ∙ b.awaits.again)))

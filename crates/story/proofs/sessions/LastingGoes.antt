@@ -21,7 +21,7 @@ use Rattle.story.proofs.publishing.kept.KeepsNames.{kept_other}
 use Rattle.story.proofs.subscribing.Given.{stays_handled}
 use Rattle.story.proofs.sessions.Beside.{kept_of, IsHeadKept, HasBeside, flags_after, goes_beside}
 use Rattle.story.proofs.sessions.Anew.{IsUntouched}
-use Rattle.story.proofs.sessions.Awaiting.{HasAwaiting, awaiting_goes}
+use Rattle.story.proofs.sessions.Awaiting.{HasAwaiting, IsSettled, awaiting_goes}
 use Rattle.story.proofs.sessions.EachPlaced.{IsFresh, own_fresh, counted_none}
 use Rattle.story.proofs.sessions.Openings.{unopened}
 use Rattle.story.proofs.sessions.AcceptedShares.{accepts_same, accepted_head, accepted_new}
@@ -105,7 +105,11 @@ stands_head limits c flags s (inl a) = a.awaits.head
 stands_head limits c flags s (inr b) = b.head
 
 pub stands_goes : (limits : Limits) (c : Client) (flags : List Bool) (s t : Story) → IsLife limits c s → Stands limits c flags s → (h : Happens limits s t) → IsInStep t → Stands limits c (flags_after flags h) t
-stands_goes limits c flags s t life (inl a) h step = awaiting_goes limits c flags s t life.connections.names a h life.keeper.numbers step
+stands_goes limits c flags s t life (inl a) h step = by (awaiting_goes limits c flags s t life.connections.names a h life.keeper.numbers step)
+  where
+    by : HasAwaiting limits c (flags_after flags h) t ⊎ IsSettled limits c (flags_after flags h) s t → Stands limits c (flags_after flags h) t
+    by (inl later) = inl later
+    by (inr settled) = inr settled.beside
 stands_goes limits c flags s t life (inr b) h step = inr (goes_beside limits c flags s t life.connections.names b h)
 
 pub lasts_goes : (limits : Limits) (c : Client) (flags : List Bool) (s t : Story) → IsLife limits c s → IsHeadKept flags → Lasts limits c flags s.past s.connections → (h : Happens limits s t)
