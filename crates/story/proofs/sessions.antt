@@ -29,3 +29,7 @@ pub mod LingersPlaced
 pub mod LingersOn
 pub mod Expelled
 pub mod EachSession
+pub mod Rising
+pub mod CarriedAlike
+pub mod PublishedGrows
+pub mod Numbered

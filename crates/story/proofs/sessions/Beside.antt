@@ -66,7 +66,7 @@ none_kept test (false ∷ flags) (κ ∷ connections) e =
 none_kept test (true ∷ flags) [] e = refl
 none_kept test (false ∷ flags) [] e = refl
 
-kept_writes : (more : List Written) (flags : List Bool) (connections : List Connection) → IsHeadKept flags → kept_of flags (writes_first more connections) ≡ writes_first more (kept_of flags connections)
+pub kept_writes : (more : List Written) (flags : List Bool) (connections : List Connection) → IsHeadKept flags → kept_of flags (writes_first more connections) ≡ writes_first more (kept_of flags connections)
 kept_writes more [] connections h = refl
 kept_writes more (true ∷ flags) (κ ∷ connections) h = refl
 kept_writes more (true ∷ flags) [] h = refl
