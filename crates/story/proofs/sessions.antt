@@ -33,3 +33,5 @@ pub mod Rising
 pub mod CarriedAlike
 pub mod PublishedGrows
 pub mod Numbered
+pub mod SaysLasting
+pub mod NumberedGoes
