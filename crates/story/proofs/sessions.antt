@@ -35,3 +35,6 @@ pub mod PublishedGrows
 pub mod Numbered
 pub mod SaysLasting
 pub mod NumberedGoes
+pub mod NothingNew
+pub mod NumbersOver
+pub mod LivesExact

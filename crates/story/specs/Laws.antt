@@ -15,7 +15,7 @@ use Rattle.broker_base.specs.Subscriptions.{effective_qos}
 use Rattle.broker_base.specs.Times.{entries_of}
 use Rattle.broker_base.specs.QuietLaws.{IsSteady}
 use Rattle.story.specs.Headline.{AcceptedInOrder, PublishedOnce, StoriesAreExact}
-use Rattle.story.specs.Lives.{AcceptsInEachSession}
+use Rattle.story.specs.Lives.{AcceptsInEachSession, LivesAreExact}
 use Rattle.story.specs.Story.{Story, Told}
 
 -- the client's publications: those at QoS 2 become new in the list in the order of its calls, each at most once; those that
@@ -65,3 +65,10 @@ UsualLivesAccept = AcceptsInEachSession usual_limits
 
 abbrev pub SteadyLivesAccept : Type 0
 SteadyLivesAccept = (limits : Limits) → IsSteady limits → AcceptsInEachSession limits
+
+-- all that such a client is promised
+abbrev pub UsualLivesAreExact : Type 0
+UsualLivesAreExact = LivesAreExact usual_limits
+
+abbrev pub SteadyLivesAreExact : Type 0
+SteadyLivesAreExact = (limits : Limits) → IsSteady limits → LivesAreExact limits

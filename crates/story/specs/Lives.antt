@@ -1,14 +1,26 @@
 -- A client's life: its story over several sessions, which an Expel ends.
-use Rattle.std.specs.Prelude.{◌≡◌, ◌<◌, ℕ, false, List, [], ◌∷◌, ◌++◌, map}
-use Rattle.lists.specs.Lists.{Each}
-use Rattle.broker_base.specs.Place.{Client, Limits}
+use Rattle.std.specs.Prelude.{◌≡◌, ◌≤◌, ◌<◌, ℕ, false, if◌then◌else◌, List, [], ◌∷◌, ◌++◌, length, map, filter, Some, slice_get}
+use Rattle.packet.specs.declared.publish.Publish.{Publish}
+use Rattle.packet.specs.declared.packet.Packet.TheVariants as packets
+use Rattle.session_base.specs.Publication.{publication_of}
+use Rattle.lists.specs.Lists.{In, IsPrefixOf, Each}
+use Rattle.broker_base.specs.Connection.{ConnectionName}
+use Rattle.broker_base.specs.Place.{Client, Place, Past, Limits, Mark}
+use Rattle.broker_base.specs.Subscriptions.{effective_qos}
+use Rattle.broker_base.specs.Marks.{is_queued_at}
 use Rattle.broker_base.specs.Commands.{place_of}
 use Rattle.broker_base.specs.Entries.{Entry}
 use Rattle.broker_base.specs.Readings.{publication_in}
+use Rattle.broker_base.specs.Times.{entries_of}
+use Rattle.broker_base.specs.OriginLaws.{is_from_publish}
+use Rattle.broker_base.specs.EndingLaws.{StandsAt}
+use Rattle.broker_base.specs.TakenLaws.{queued_at}
 use Rattle.broker_base.specs.Command.TheVariants as commands
+use Rattle.client_base.specs.Keeper.{all_own}
 use Rattle.story.specs.Story.{Story, Happens, no_story}
-use Rattle.story.specs.Headline.{two_entries, is_released}
-use Rattle.story.specs.InStep.{IsInStep, entries_in, accepted_in}
+use Rattle.story.specs.Carried.{carries, new_numbers, publications_of, published}
+use Rattle.story.specs.Headline.{two_entries, is_released, IsAnsweredBy, made_by, IsTakenAt}
+use Rattle.story.specs.InStep.{IsInStep, sessions_begun, entries_in, accepted_in}
 
 -- what may happen in a story of one session, and an Expel of the client at any time
 pub data Lived (limits : Limits) (c : Client) : Story → Type 0 where
@@ -30,6 +42,54 @@ abbrev pub IsRising : List ℕ → Type 0
 IsRising (n ∷ numbers) = Each (λ m. n < m) numbers × IsRising numbers
 IsRising [] = Unit {0}
 
--- the subscribers' part of the promise, of a client with several sessions that is in step
+-- the publisher's publications, over all its sessions
+pub record PublishedOverSessions (limits : Limits) (s : Story) : Type 0 where
+  -- a place that carries one has its PUBLISH
+  pub carried : (place : Place) (below : Past) (x : ConnectionName) (p : Publish) (k : ℕ) → StandsAt s.past place below →
+      carries s.connections place.command below ≡ Some k → place.command ≡ commands.Packet x (packets.Publish p) →
+      slice_get (publications_of (all_own s.keeper)) k ≡ Some (publication_of p)
+  -- those at QoS 2 are new in the list in the order of the calls, each at most once
+  pub rises : IsRising (new_numbers s.connections s.past)
+  -- none is passed over while the client has had one session
+  pub in_order : sessions_begun s.past s.keeper.client ≤ 1 →
+      IsPrefixOf (new_numbers s.connections s.past) (published (all_own s.keeper))
+  -- each that is new is taken at a place
+  pub taken : (k : ℕ) → In k (new_numbers s.connections s.past) →
+      (place : Place) × (below : Past) × IsTakenAt s k place below
+  -- one that was answered is new
+  pub answered : (place : Place) (below : Past) (x : ConnectionName) (id k : ℕ) → StandsAt s.past place below →
+      carries s.connections place.command below ≡ Some k → IsAnsweredBy limits place below x (packets.Pubrec id) →
+      In k (new_numbers s.connections s.past)
+  -- each enters each session at most once: at whatever time a session is looked at, it has at most one entry of all
+  -- the places that carry the publication
+  pub enters_once : (later earlier : Past) (d : Client) (k : ℕ) → s.past ≡ later ++ earlier →
+      In k (published (all_own s.keeper)) → made_by s.connections k s.past (entries_of limits earlier d) ≤ 1
+  -- and where a publication is taken, at whatever QoS, it enters exactly the sessions with an effective QoS over 0, once
+  pub enters : (place : Place) (below : Past) (x : ConnectionName) (p : Publish) (d : Client) → StandsAt s.past place below →
+      place.command ≡ commands.Packet x (packets.Publish p) → place.mark ≡ Mark.Taken s.keeper.client →
+      length (filter (is_from_publish (length below)) (entries_of limits (place ∷ below) d))
+      ≡ (if is_queued_at (effective_qos below d (publication_of p)) then 1 else 0)
+  -- as it was published, at the effective QoS
+  pub enters_as : (place : Place) (below : Past) (x : ConnectionName) (p : Publish) (d : Client) → StandsAt s.past place below →
+      place.command ≡ commands.Packet x (packets.Publish p) → place.mark ≡ Mark.Taken s.keeper.client →
+      map publication_in (filter (is_from_publish (length below)) (entries_of limits (place ∷ below) d))
+      ≡ queued_at (publication_of p) (effective_qos below d (publication_of p))
+  -- one at QoS 1 that was answered is taken at the place that is answered
+  pub acknowledged : (place : Place) (below : Past) (x : ConnectionName) (id k : ℕ) → StandsAt s.past place below →
+      carries s.connections place.command below ≡ Some k → IsAnsweredBy limits place below x (packets.Puback id) →
+      IsTakenAt s k place below
+
+-- ---- the whole
+
+-- what a client with several sessions is promised: as publisher, and in each session as subscriber
+pub record ExactlyOnceOverSessions (limits : Limits) (s : Story) : Type 0 where
+  pub publishers : PublishedOverSessions limits s
+  pub subscribers : (start : ℕ) → AcceptedInSession limits s start
+
+-- as long as it is in step
+abbrev pub LivesAreExact : Limits → Type 0
+LivesAreExact limits = (c : Client) (s : Story) → Lived limits c s → IsInStep s → ExactlyOnceOverSessions limits s
+
+-- the subscribers' part alone
 abbrev pub AcceptsInEachSession : Limits → Type 0
 AcceptsInEachSession limits = (c : Client) (s : Story) → Lived limits c s → IsInStep s → (start : ℕ) → AcceptedInSession limits s start

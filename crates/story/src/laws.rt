@@ -1,6 +1,6 @@
 // Laws of every story of a client. The calls do nothing; their contracts are the laws.
 
-ghost use Rattle.story.specs.Laws.{SteadyLivesAccept, SteadyStoriesAcceptInOrder, SteadyStoriesAreExact, SteadyStoriesPublishOnce, StoriesAcceptInOrder, StoriesEnter, StoriesPublishOnce, UsualLivesAccept, UsualStoriesAreExact};
+ghost use Rattle.story.specs.Laws.{SteadyLivesAccept, SteadyLivesAreExact, SteadyStoriesAcceptInOrder, SteadyStoriesAreExact, SteadyStoriesPublishOnce, StoriesAcceptInOrder, StoriesEnter, StoriesPublishOnce, UsualLivesAccept, UsualLivesAreExact, UsualStoriesAreExact};
 
 /// Whatever happens to its connections and to the nodes, a client's QoS 2 publications become new in the list of
 /// commands in the order of its calls, each at most once, and each that was answered with PUBREC is there; over all its
@@ -34,4 +34,12 @@ pub fn stories_are_exact()
 pub fn lives_accept_in_each_session()
     ensures usual { UsualLivesAccept }
     ensures steady { SteadyLivesAccept }
+{}
+
+/// A client whose sessions an Expel ends, and that is in step, has its QoS 2 publications new in the list in the order of its
+/// calls, each at most once; each that was answered is there, and each enters each session at most once. In each of its own
+/// sessions it accepts a beginning of the entries (MQTT 4.3.2, 4.3.3, 4.6).
+pub fn lives_are_exact()
+    ensures usual { UsualLivesAreExact }
+    ensures steady { SteadyLivesAreExact }
 {}

@@ -1,6 +1,6 @@
 -- Where the newest connection's Connect is accepted, and no session is there: the story of the session that begins stands beside the
 -- life, whether its client was served before or not, and what was accepted in earlier sessions stays.
-use Rattle.std.proofs.Common.{◌≡◌, ◌<◌, ℕ, zero, suc, Bool, true, false, if◌then◌else◌, List, [], ◌∷◌, ◌++◌, length, Option, Some, None, refl, sym, ◌∙◌, ap, ap₂, subst, arith, inl, inr}
+use Rattle.std.proofs.Common.{◌≡◌, ◌<◌, ℕ, zero, suc, Bool, true, false, if◌then◌else◌, List, [], ◌∷◌, ◌++◌, length, Option, Some, None, refl, sym, ◌∙◌, ap, ap₂, subst, arith, inl, inr, ◌⊎◌}
 use Rattle.std.specs.Prelude.{slice_get, ◌==◌}
 use Rattle.std.proofs.lemmas.Bool.{both_ways}
 use Rattle.lists.specs.Lists.{Each}
@@ -16,7 +16,7 @@ use Rattle.broker_base.proofs.ConnectionsOfSessions.{same_turned}
 use Rattle.client_base.specs.Keeper.{Keeper}
 use Rattle.client_base.specs.Called.{opens}
 use Rattle.story.specs.Sides.{Connection}
-use Rattle.story.specs.Story.{Told, any_named, command_of}
+use Rattle.story.specs.Story.{Told, any_named, command_of, Story}
 use Rattle.story.specs.Story.Told.{goes_on}
 use Rattle.story.specs.Story.Happens.{takes}
 use Rattle.story.specs.Headline.{accepted_on}
@@ -24,7 +24,7 @@ use Rattle.story.specs.InStep.{has_begun, opens_on, is_at, opened_in, accepted_i
 use Rattle.story.specs.Inside.Shape.{NamesApart}
 use Rattle.story.proofs.Takes.{same_name_self}
 use Rattle.story.proofs.subscribing.places.Accepted.{opened}
-use Rattle.story.proofs.sessions.Beside.{kept_of, with_connections}
+use Rattle.story.proofs.sessions.Beside.{kept_of, with_connections, HasBeside}
 use Rattle.story.proofs.sessions.Anew.{flags_of, AreUntouched, is_zero, waiting, opens_again}
 use Rattle.story.proofs.sessions.Again.{accepted_at, begins_there, all_gone, begins_awaiting}
 use Rattle.story.proofs.sessions.EachPlaced.{IsFresh}
@@ -33,6 +33,7 @@ use Rattle.story.proofs.sessions.AcceptedShares.{share, Accepts, accepts_same, n
 use Rattle.story.proofs.sessions.Life.{IsUnserved, HasConnections, HasKeeper}
 use Rattle.story.proofs.sessions.Lasting.{Lasts, entries_over}
 use Rattle.story.proofs.sessions.LastingGoes.{Stands}
+use Rattle.story.proofs.sessions.Awaiting.{HasAwaiting}
 
 -- ---- the story of the session
 
@@ -56,14 +57,26 @@ offline : (b : Bool) (κ : Connection) (keeper : Keeper) → keeper.is_online �
 offline false κ keeper e unconfirmed held opened = e
 offline true κ keeper e unconfirmed held opened = absurd (both_ways κ.confirmed unconfirmed (held (opened e) ∙ e))
 
+-- it was never served, and its story stands beside its life
+pub record IsUnservedBeside (limits : Limits) (c : Client) (flags : List Bool) (s : Story) : Type 0 where
+  pub beside : HasBeside limits c flags s
+  pub unserved : s.keeper.was_served ≡ false
+
+abbrev pub StandsAnew : Limits → Client → List Bool → Story → Type 0
+StandsAnew limits c flags s = HasAwaiting limits c flags s ⊎ IsUnservedBeside limits c flags s
+
+pub anew_stands : (limits : Limits) (c : Client) (flags : List Bool) (s : Story) → StandsAnew limits c flags s → Stands limits c flags s
+anew_stands limits c flags s (inl a) = inl a
+anew_stands limits c flags s (inr u) = inr u.beside
+
 pub stands_anew : (limits : Limits) (list : List Command) (past : Past) (c : Client) (keeper : Keeper) (κ : Connection) (others : List Connection) → past ≡ past_of limits list → session_of past c ≡ None
     → has_begun past c ≡ true → mark_of limits past (commands.Connect κ.name c false) ≡ Mark.Accepted → HasConnections limits c past (κ ∷ others) → κ.taken ≡ 0 → HasKeeper c past keeper (κ ∷ others)
-    → Stands limits c (true ∷ flags_of others) (with_connections (accepted_at κ.name c ∷ past) keeper (record κ { taken = suc κ.taken } ∷ others))
+    → StandsAnew limits c (true ∷ flags_of others) (with_connections (accepted_at κ.name c ∷ past) keeper (record κ { taken = suc κ.taken } ∷ others))
 stands_anew limits list past c keeper κ others is none begun mark h new k = subst Q (sym is) at none begun mark h.untouched
   where
     Q : Past → Type 0
     Q p = session_of p c ≡ None → has_begun p c ≡ true → mark_of limits p (commands.Connect κ.name c false) ≡ Mark.Accepted → AreUntouched limits p c (κ ∷ others)
-        → Stands limits c (true ∷ flags_of others) (with_connections (accepted_at κ.name c ∷ p) keeper (record κ { taken = suc κ.taken } ∷ others))
+        → StandsAnew limits c (true ∷ flags_of others) (with_connections (accepted_at κ.name c ∷ p) keeper (record κ { taken = suc κ.taken } ∷ others))
 
     off : keeper.is_online ≡ false
     off = offline keeper.is_online κ keeper refl (ap (λ (z : Connection). z.confirmed) (h.untouched.0 new).is) k.held.0 k.held.1
@@ -71,9 +84,9 @@ stands_anew limits list past c keeper κ others is none begun mark h new k = sub
     at : Q (past_of limits list)
     at none begun mark fresh = by keeper.was_served refl
       where
-        by : (b : Bool) → keeper.was_served ≡ b → Stands limits c (true ∷ flags_of others) (with_connections (accepted_at κ.name c ∷ past_of limits list) keeper (record κ { taken = suc κ.taken } ∷ others))
+        by : (b : Bool) → keeper.was_served ≡ b → StandsAnew limits c (true ∷ flags_of others) (with_connections (accepted_at κ.name c ∷ past_of limits list) keeper (record κ { taken = suc κ.taken } ∷ others))
         by true served = inl (begins_awaiting limits list c keeper κ others none begun mark tt fresh h.names new k.client off served (k.unasked off))
-        by false served = inr (record { head = tt; gone = all_gone others; told = begins_unserved limits list c keeper κ others none mark fresh h.names new (k.unserved served) })
+        by false served = inr (record { beside = record { head = tt; gone = all_gone others; told = begins_unserved limits list c keeper κ others none mark fresh h.names new (k.unserved served) }; unserved = served })
 
 -- ---- what was accepted
 

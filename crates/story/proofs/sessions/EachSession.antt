@@ -26,6 +26,7 @@ use Rattle.story.proofs.sessions.LingersOn.{lingers_goes}
 use Rattle.story.proofs.sessions.Expelled.{IsOver, LastsStill, lasting_expelled}
 use Rattle.story.proofs.sessions.Expelled.IsOver.{lingers, parts}
 use Rattle.story.proofs.sessions.EachPlaced.{counted_none}
+use Rattle.story.proofs.sessions.BeginsAgain.{anew_stands}
 
 -- how it stands with a client's sessions: one lasts, or none has begun; or it is over, and the client still hears of it, or not
 data IsAt (limits : Limits) (c : Client) (s : Story) : Type 0 where
@@ -34,7 +35,7 @@ data IsAt (limits : Limits) (c : Client) (s : Story) : Type 0 where
 
 -- ---- the beginning
 
-life_opens : (limits : Limits) (c : Client) → IsLife limits c (no_story c)
+pub life_opens : (limits : Limits) (c : Client) → IsLife limits c (no_story c)
 unfolding session_of current_connection past_from
 life_opens limits c =
     record {
@@ -70,7 +71,7 @@ lasts_opens limits c =
 -- ---- the events
 
 from_begins : (limits : Limits) (c : Client) (t : Story) → Begins limits c t → LastsStill limits c t
-from_begins limits c t b = record { flags = b.flags; stands = b.stands; lasts = b.lasts }
+from_begins limits c t b = record { flags = b.flags; stands = anew_stands limits c b.flags t b.stands; lasts = b.lasts }
 
 after_parting : (limits : Limits) (c : Client) (t : Story) → Parts limits c t.past t.connections ⊎ Begins limits c t → IsAt limits c t
 after_parting limits c t (inl p) = over (parts p)

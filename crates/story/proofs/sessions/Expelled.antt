@@ -78,7 +78,7 @@ pub data IsOver (limits : Limits) (c : Client) (t : Story) : Type 0 where
   lingers : Lingers limits c t → IsOver limits c t
   parts : Parts limits c t.past t.connections → IsOver limits c t
 
-expelled_there : (limits : Limits) → IsSteady limits → (c : Client) (flags : List Bool) (past : Past) (keeper : Keeper) (connections : List Connection) (n : ℕ) → session_start past c ≡ Some n
+pub expelled_there : (limits : Limits) → IsSteady limits → (c : Client) (flags : List Bool) (past : Past) (keeper : Keeper) (connections : List Connection) (n : ℕ) → session_start past c ≡ Some n
     → IsLife limits c (with_connections past keeper connections) → Stands limits c flags (with_connections past keeper connections) → Lasts limits c flags past connections
     → AreWelcome past c connections → IsOver limits c (with_connections (place_of limits past (commands.Expel c) ∷ past) keeper connections)
 expelled_there limits steady c flags past keeper [] n e life stands l step =

@@ -1,5 +1,5 @@
 -- A client without a session, which hears nothing of an earlier one any more: each event keeps what it accepted, until a session begins.
-use Rattle.std.proofs.Common.{◌≡◌, ℕ, zero, suc, Bool, true, false, if◌then◌else◌, List, [], ◌∷◌, ◌++◌, length, Some, None, refl, sym, ◌∙◌, ap, subst, inl, inr, ◌⊎◌}
+use Rattle.std.proofs.Common.{◌≡◌, ℕ, zero, suc, Bool, true, false, if◌then◌else◌, List, [], ◌∷◌, ◌++◌, length, Some, None, refl, sym, ◌∙◌, ap, subst, inl, inr, ◌⊎◌, ◌≤◌}
 use Rattle.std.specs.Prelude.{slice_get}
 use Rattle.packet.specs.declared.packet.Packet.TheVariants as packets
 use Rattle.lists.specs.Lists.{Each}
@@ -16,11 +16,11 @@ use Rattle.client_base.specs.Written.{plain, writes_first}
 use Rattle.story.specs.Sides.{Connection, Side}
 use Rattle.story.specs.Story.{Story, Happens, command_of, counted_at, names_client}
 use Rattle.story.specs.Story.Happens.{takes, others_take, receives, opens_anew, loses, disconnects, publishes_one, subscribes, unsubscribes}
-use Rattle.story.specs.InStep.{AreWelcome, IsInStep, is_at, opened_in}
+use Rattle.story.specs.InStep.{AreWelcome, IsInStep, is_at, opened_in, sessions_begun}
 use Rattle.story.proofs.keeping.CurrentOnes.{none_opened}
 use Rattle.story.proofs.publishing.Last.{each_there}
 use Rattle.story.proofs.subscribing.Given.{stays_handled}
-use Rattle.story.proofs.sessions.Beside.{with_connections}
+use Rattle.story.proofs.sessions.Beside.{with_connections, kept_of}
 use Rattle.story.proofs.sessions.Anew.{flags_of, IsUntouched}
 use Rattle.story.proofs.sessions.Again.{accepted_at}
 use Rattle.story.proofs.sessions.EachPlaced.{IsFresh, IsOwnCommand, own_fresh, counted_none}
@@ -30,15 +30,19 @@ use Rattle.story.proofs.sessions.Life.{HasConnections, HasKeeper, IsLife}
 use Rattle.story.proofs.sessions.LifePlaces.{life_command}
 use Rattle.story.proofs.sessions.Lasting.{Lasts}
 use Rattle.story.proofs.sessions.LastingGoes.{Stands}
-use Rattle.story.proofs.sessions.BeginsAgain.{stands_anew, lasts_anew}
+use Rattle.story.proofs.sessions.BeginsAgain.{stands_anew, lasts_anew, StandsAnew}
 use Rattle.story.proofs.sessions.Parted.{Parts, parts_placed, accepted_or_not, none_older, at_accepted}
+use Rattle.story.proofs.sessions.NothingNew.{nothing_new_yet, again_begun}
+use Rattle.story.specs.Carried.{new_numbers}
 
 -- ---- what is left to show of each event: it stays so, or a session begins
 
 pub record Begins (limits : Limits) (c : Client) (t : Story) : Type 0 where
   pub flags : List Bool
-  pub stands : Stands limits c flags t
+  pub stands : StandsAnew limits c flags t
   pub lasts : Lasts limits c flags t.past t.connections
+  pub nothing : new_numbers (kept_of flags t.connections) t.past ≡ []
+  pub again : sessions_begun t.past c ≤ 1 → ⊥
 
 begins_first : (limits : Limits) (c : Client) (list : List Command) (past : Past) (keeper : Keeper) (κ : Connection) (others : List Connection) (place : Place) → past ≡ past_of limits list → place ≡ accepted_at κ.name c
     → mark_of limits past (commands.Connect κ.name c false) ≡ Mark.Accepted → κ.taken ≡ 0 → HasConnections limits c past (κ ∷ others) → HasKeeper c past keeper (κ ∷ others) → Each (IsFresh place c) (κ ∷ others)
@@ -48,6 +52,8 @@ begins_first limits c list past keeper κ others place is at mark new h k fresh 
     (record {
       flags = true ∷ flags_of others;
       stands = stands_anew limits list past c keeper κ others is p.none p.begun mark h new k;
+      nothing = nothing_new_yet limits past c κ others h.untouched new;
+      again = again_begun past c κ.name p.none p.begun;
       lasts = lasts_anew limits past c κ others p.none h (subst (λ (q : Place). Each (IsFresh q c) (κ ∷ others)) at fresh) p.all;
     })
 

@@ -76,7 +76,7 @@ not_current limits c flags s i κ h l =
     left_not_current κ.name (current_connection s.past c) (kept_of flags s.connections)
     (subst (λ (d : Client). LastIsCurrent (current_connection s.past d) (kept_of flags s.connections)) h.client h.sound.shape.last_is_current) l.none
 
-more_none : (b : Bool) (o : Option ℕ) → b ≡ false → more_by b o ≡ []
+pub more_none : (b : Bool) (o : Option ℕ) → b ≡ false → more_by b o ≡ []
 more_none true o e = cc
 more_none false (Some k) e = refl
 more_none false None e = refl
