@@ -21,16 +21,14 @@ use Rattle.broker_base.specs.Command.{Command}
 use Rattle.broker_base.specs.Command.TheVariants as commands
 use Rattle.broker_base.proofs.EntersOnce.{one_if, MadeBelow, none-yet, made-below, count, enters_once}
 use Rattle.broker_base.proofs.EntersWhereTaken.{enters_where_taken}
-use Rattle.lists.specs.Lists.{In, IsPrefixOf, IsDistinct}
-use Rattle.lists.proofs.Identifiers.{distinct_front}
+use Rattle.lists.specs.Lists.{In, IsDistinct}
 use Rattle.story.specs.Story.{Story}
 use Rattle.story.specs.Carried.{carries, is_two, more_by, new_numbers, published, publications_of}
 use Rattle.story.specs.Headline.{is_this, made_by}
-use Rattle.story.specs.Inside.Shape.{IsSoundStory}
 use Rattle.story.proofs.carrying.PlacesSay.{Says}
 use Rattle.story.proofs.carrying.KeepsPlaces.{IsCarried}
 use Rattle.story.proofs.carrying.Acknowledging.{carried_publish, says_at}
-use Rattle.story.proofs.carrying.Distinct.{IsTwo, two_is, published_apart, count_id, count_more, count_apart}
+use Rattle.story.proofs.carrying.Distinct.{IsTwo, two_is, count_id, count_more, count_apart}
 use Rattle.client_base.specs.Keeper.{all_own}
 use Rattle.client_base.proofs.NumbersStay.{joined_numbers}
 

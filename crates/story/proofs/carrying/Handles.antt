@@ -1,6 +1,5 @@
 -- What the client handles keeps what it published, and all that it writes then is of it.
-use Rattle.std.proofs.Common.{◌≡◌, ℕ, suc, Bool, true, false, not, ◌&&◌, if◌then◌else◌, [], ◌∷◌, ◌++◌, map, refl, ap, sym, subst, inl, inr, ◌⊎◌, length, List}
-use Rattle.std.proofs.lemmas.Bool.{cases_Bool}
+use Rattle.std.proofs.Common.{◌≡◌, ℕ, suc, Bool, true, false, not, ◌&&◌, if◌then◌else◌, [], ◌∷◌, ◌++◌, map, refl, ap, length}
 use Rattle.packet.specs.declared.connack.Connack.TheVariants as connacks
 use Rattle.packet.specs.declared.delivery.Delivery.{Delivery}
 use Rattle.packet.specs.declared.delivery.Delivery.TheVariants as deliveries

@@ -22,7 +22,7 @@ use Rattle.story.proofs.publishing.Last.{each_there}
 use Rattle.story.proofs.publishing.events.Receives.{each_at}
 use Rattle.story.proofs.carrying.Publications.{IsOfOwn, AreOfOwn}
 use Rattle.story.proofs.carrying.KeepsWritten.{events_say, events_keep_of}
-use Rattle.story.proofs.carrying.KeepsNumbers.{events_keep_numbers, AreWithin, numbers_keep, shape_within}
+use Rattle.story.proofs.carrying.KeepsNumbers.{AreWithin, numbers_keep, shape_within}
 use Rattle.story.proofs.carrying.PlacesSay.{PlacesSay, says_nothing, places_later, Says}
 use Rattle.story.proofs.carrying.SaysTaken.{taken_says}
 use Rattle.session_base.specs.declared.publication.Publication.{Publication}

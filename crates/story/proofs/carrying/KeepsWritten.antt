@@ -2,8 +2,6 @@
 use Rattle.std.proofs.Common.{◌≡◌, ℕ, zero, suc, Bool, true, false, if◌then◌else◌, List, [], ◌∷◌, ◌++◌, length, Some, refl, ap, sym, ◌∙◌, subst, append_assoc}
 use Rattle.std.specs.Prelude.{slice_get}
 use Rattle.std.proofs.lemmas.List.{map-append, length-map, length-append}
-use Rattle.packet.specs.declared.connack.Connack.TheVariants as connacks
-use Rattle.packet.specs.declared.packet.Packet.{Packet}
 use Rattle.packet.specs.declared.packet.Packet.TheVariants as packets
 use Rattle.session_base.specs.declared.publication.Publication.{Publication}
 use Rattle.session_base.specs.Publication.{is_answered, publication_of, publish_of}
@@ -16,16 +14,13 @@ use Rattle.lists.proofs.Places.{get_pushed}
 use Rattle.client_base.specs.Keeper.{Own, Written, Keeper, ids_in_use, all_own, next_number}
 use Rattle.client_base.specs.Written.{plain, publishes, writes_first}
 use Rattle.client_base.specs.Called.{adds_own, written_for}
-use Rattle.client_base.specs.Handled.{handled}
-use Rattle.story.specs.Sends.{put_to}
 use Rattle.story.specs.Sides.{Connection}
 use Rattle.story.specs.Carried.{publication_in, publications_of}
 use Rattle.story.specs.Story.{Story, Happens, counted_at}
 use Rattle.story.specs.Story.Happens.{takes, others_take, receives, opens_anew, loses, disconnects, publishes_one, subscribes, unsubscribes}
 use Rattle.client_base.specs.OrderLaws.{AreNumbered}
-use Rattle.story.proofs.publishing.events.Receives.{each_at}
 use Rattle.story.proofs.carrying.Publications.{IsOfOwn, AreOfOwn, of_more, carried_is}
-use Rattle.story.proofs.carrying.Handles.{Handles, handles}
+use Rattle.story.proofs.carrying.Handles.{handles}
 
 -- ---- what is published
 

@@ -1,6 +1,6 @@
 -- A place carries the same in a life and in the story of its session, or it brings nothing new: what is kept of the connections, and what
 -- is left out of it.
-use Rattle.std.proofs.Common.{◌≡◌, ◌≤◌, ℕ, zero, suc, Bool, true, false, ◌||◌, if◌then◌else◌, List, [], ◌∷◌, ◌++◌, length, Option, Some, None, refl, sym, ◌∙◌, ap, ap₂, subst, arith, inl, inr, ◌⊎◌}
+use Rattle.std.proofs.Common.{◌≡◌, ◌≤◌, ℕ, Bool, true, false, if◌then◌else◌, List, [], ◌∷◌, ◌++◌, length, Option, Some, None, refl, sym, ◌∙◌, ap, subst, inl, inr, ◌⊎◌}
 use Rattle.std.specs.Prelude.{slice_get}
 use Rattle.std.proofs.lemmas.Bool.{both_ways}
 use Rattle.packet.specs.declared.packet.Packet.{Packet}
@@ -17,14 +17,14 @@ use Rattle.broker_base.specs.Command.{Command}
 use Rattle.broker_base.specs.Command.TheVariants as commands
 use Rattle.session_base.specs.declared.publication.Publication.{Publication}
 use Rattle.session_base.specs.Publication.{publication_of}
-use Rattle.client_base.specs.Keeper.{Written, Keeper}
+use Rattle.client_base.specs.Keeper.{Written}
 use Rattle.client_base.specs.Called.{new_connection, written_for}
-use Rattle.client_base.specs.Written.{plain, writes, writes_first}
+use Rattle.client_base.specs.Written.{plain, writes_first}
 use Rattle.client_base.specs.Handled.{handled}
 use Rattle.story.specs.Sides.{Connection}
-use Rattle.story.specs.Story.{Story, Happens, any_named, counted_at, count_of, is_packet_of}
+use Rattle.story.specs.Story.{Story, Happens, any_named, counted_at, count_of}
 use Rattle.story.specs.Story.Happens.{takes, others_take, receives, opens_anew, loses, disconnects, publishes_one, subscribes, unsubscribes}
-use Rattle.story.specs.Carried.{carries, connection_named, number_at, more_by, new_numbers}
+use Rattle.story.specs.Carried.{carries, connection_named, number_at, more_by}
 use Rattle.story.specs.Inside.Shape.{NamesApart, LastIsCurrent}
 use Rattle.story.proofs.Packets.{at_packet}
 use Rattle.story.proofs.places.Kinds.{nobodys_mark}
@@ -34,8 +34,7 @@ use Rattle.story.proofs.publishing.Last.{is_named}
 use Rattle.story.proofs.publishing.events.TakesTwo.{carries_it}
 use Rattle.story.proofs.publishing.kept.Numbers.{SameNumbers, same_counted, same_opened, same_written}
 use Rattle.story.proofs.carrying.KeepsNumbers.{same_itself, AreWithin, first_written}
-use Rattle.story.proofs.carrying.KeepsPlaces.{none_there, none_carried}
-use Rattle.story.proofs.carrying.PlacesSay.{Says, is_again, says_nothing}
+use Rattle.story.proofs.carrying.PlacesSay.{Says, says_nothing}
 use Rattle.story.proofs.carrying.Publications.{IsOf}
 use Rattle.story.proofs.sessions.Beside.{kept_of, IsHeadKept, AreGone, flags_after, find, IsKept, IsLeft, kept_writes}
 use Rattle.story.proofs.sessions.EachPlaced.{IsOwnCommand}

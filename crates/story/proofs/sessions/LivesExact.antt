@@ -8,7 +8,7 @@ use Rattle.broker_base.specs.Commands.{place_of}
 use Rattle.broker_base.specs.Command.TheVariants as commands
 use Rattle.client_base.specs.Keeper.{all_own}
 use Rattle.story.specs.Sides.{Connection}
-use Rattle.story.specs.Story.{Story, Happens, no_story, is_packet_of, counted_at, command_of}
+use Rattle.story.specs.Story.{Story, Happens, no_story, counted_at, command_of}
 use Rattle.story.specs.Story.Happens.{takes, others_take, receives, opens_anew, loses, disconnects, publishes_one, subscribes, unsubscribes}
 use Rattle.story.specs.Story.Told.{begins}
 use Rattle.story.specs.Carried.{publications_of, new_numbers}
@@ -38,12 +38,11 @@ use Rattle.story.proofs.sessions.Expelled.IsOver.{lingers, parts}
 use Rattle.story.proofs.sessions.EachPlaced.{counted_none}
 use Rattle.story.proofs.sessions.EachSession.{life_opens, lives_accept}
 use Rattle.story.proofs.sessions.Rising.{rising_apart}
-use Rattle.story.proofs.sessions.Numbered.{RisesSoFar, HasOlds, Numbered, stands_numbered, numbered_rises}
+use Rattle.story.proofs.sessions.Numbered.{RisesSoFar, Numbered, stands_numbered, numbered_rises}
 use Rattle.story.proofs.sessions.Numbered.Numbered.{lasts, awaits}
 use Rattle.story.proofs.sessions.NumberedGoes.{counted_all_within, numbered_goes}
 use Rattle.story.proofs.sessions.NumbersOver.{rises_over, rises_placed, says_over, numbered_anew}
 use Rattle.story.proofs.sessions.SaysLasting.{stands_sound, says_lasting}
-use Rattle.broker_base.specs.Connection.{ConnectionName}
 use Rattle.story.proofs.sessions.Beside.{flags_after, kept_of}
 use Rattle.story.proofs.places.After.{IsKeptSession}
 use Rattle.story.proofs.sessions.Openings.{session_began}

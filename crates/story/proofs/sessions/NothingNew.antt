@@ -1,7 +1,6 @@
 -- Connections of which nothing was taken, or on which only a CONNECT was written, bring nothing new.
-use Rattle.std.proofs.Common.{◌≡◌, ◌≤◌, ◌+◌, ℕ, zero, suc, Bool, true, false, ◌||◌, if◌then◌else◌, List, [], ◌∷◌, ◌++◌, Option, Some, None, refl, sym, ◌∙◌, ap, ap₂, subst, arith}
+use Rattle.std.proofs.Common.{◌≡◌, ◌≤◌, ◌+◌, ℕ, zero, suc, Bool, true, false, ◌||◌, if◌then◌else◌, List, [], ◌∷◌, ◌++◌, Some, None, refl, ◌∙◌, ap, ap₂, arith}
 use Rattle.std.specs.Prelude.{slice_get}
-use Rattle.std.proofs.lemmas.Bool.{both_ways}
 use Rattle.packet.specs.declared.packet.Packet.TheVariants as packets
 use Rattle.lists.specs.Lists.{Each}
 use Rattle.broker_base.specs.Connection.{ConnectionName, same_connection}
@@ -17,7 +16,7 @@ use Rattle.story.specs.Carried.{carries, connection_named, number_of, number_at,
 use Rattle.story.specs.InStep.{has_begun, sessions_begun}
 use Rattle.story.proofs.carrying.KeepsPlaces.{none_carried}
 use Rattle.story.proofs.sessions.Beside.{kept_of}
-use Rattle.story.proofs.sessions.Anew.{flags_of, is_zero, IsUntouched, AreUntouched}
+use Rattle.story.proofs.sessions.Anew.{flags_of, is_zero, AreUntouched}
 use Rattle.story.proofs.sessions.Again.{accepted_at, begins_there}
 use Rattle.story.proofs.sessions.CarriedAlike.{none_more}
 

@@ -1,5 +1,5 @@
 -- While a session lasts each event keeps which of a client's publications are new in it and before it.
-use Rattle.std.proofs.Common.{◌≡◌, ◌<◌, ◌≤◌, ◌+◌, ℕ, suc, Bool, true, false, if◌then◌else◌, List, [], ◌∷◌, ◌++◌, length, Some, refl, sym, ◌∙◌, ap, ap₂, subst, arith, append_assoc, inl, inr, ◌⊎◌}
+use Rattle.std.proofs.Common.{◌≡◌, ◌<◌, ◌≤◌, ◌+◌, ℕ, Bool, true, false, if◌then◌else◌, List, [], ◌∷◌, ◌++◌, length, Some, refl, sym, ◌∙◌, ap, ap₂, subst, arith, append_assoc, inl, inr, ◌⊎◌}
 use Rattle.std.proofs.lemmas.List.{length-append}
 use Rattle.packet.specs.declared.connack.Connack.TheVariants as connacks
 use Rattle.packet.specs.declared.packet.Packet.{Packet}
@@ -11,23 +11,22 @@ use Rattle.broker_base.specs.Past.{begins}
 use Rattle.broker_base.specs.QuietLaws.{IsSteady}
 use Rattle.broker_base.specs.Received.{is_new}
 use Rattle.broker_base.specs.Commands.{place_of}
-use Rattle.client_base.specs.Keeper.{Keeper, all_own, next_number}
+use Rattle.client_base.specs.Keeper.{Keeper, next_number}
 use Rattle.broker_base.specs.Command.{Command}
 use Rattle.std.specs.Prelude.{slice_get}
 use Rattle.story.proofs.keeping.Told.{told_stories_are_sound}
 use Rattle.story.specs.Sends.{put_to}
 use Rattle.story.specs.Sides.{Connection}
-use Rattle.story.specs.Story.{Story, Happens, command_of, count_of, counted_at, is_packet_of}
+use Rattle.story.specs.Story.{Story, Happens, command_of, count_of, is_packet_of}
 use Rattle.story.specs.Story.Happens.{takes, others_take, receives, opens_anew, loses, disconnects, publishes_one, subscribes, unsubscribes}
 use Rattle.story.specs.Carried.{carries, more_by, new_numbers}
 use Rattle.story.specs.InStep.{sessions_begun, IsInStep}
-use Rattle.story.specs.Lives.{IsRising}
 use Rattle.story.specs.Inside.Shape.{HeldInShape}
 use Rattle.story.proofs.keeping.KeepsServed.{packet_at}
 use Rattle.story.proofs.publishing.kept.Numbers.{same_numbers}
 use Rattle.story.proofs.carrying.KeepsNumbers.{AreWithin, numbers_keep}
 use Rattle.story.proofs.carrying.KeepsPlaces.{none_carried}
-use Rattle.story.proofs.sessions.Beside.{kept_of, IsHeadKept, HasBeside, flags_after, none_kept, goes_beside, with_connections}
+use Rattle.story.proofs.sessions.Beside.{kept_of, IsHeadKept, flags_after, none_kept, goes_beside, with_connections}
 use Rattle.story.proofs.sessions.Awaiting.{HasAwaiting, IsSettled, awaiting_goes}
 use Rattle.story.proofs.sessions.CarriedAlike.{kept_numbers}
 use Rattle.story.proofs.sessions.Life.{IsCounted, IsLife}

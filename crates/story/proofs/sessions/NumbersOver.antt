@@ -1,35 +1,33 @@
 -- Without a session no event brings a new publication of the client, so their numbers rise still; and where a session begins.
-use Rattle.std.proofs.Common.{◌≡◌, ◌<◌, ◌≤◌, ℕ, Bool, true, false, List, [], ◌∷◌, ◌++◌, length, Option, Some, None, refl, sym, ◌∙◌, ap, ap₂, subst, arith, inl, inr, ◌⊎◌}
+use Rattle.std.proofs.Common.{◌≡◌, ◌<◌, ℕ, List, [], ◌∷◌, ◌++◌, Some, None, sym, ◌∙◌, ap, ap₂, subst, arith, inl, inr}
 use Rattle.std.specs.Prelude.{slice_get}
 use Rattle.std.proofs.lemmas.List.{append-nil}
 use Rattle.lists.specs.Lists.{Each, IsPrefixOf}
 use Rattle.lists.proofs.Beginnings.{prefix_then}
 use Rattle.lists.proofs.OfEach.{each_then}
 use Rattle.broker_base.specs.Connection.{ConnectionName}
-use Rattle.broker_base.specs.Place.{Client, Mark, Place, Past, Limits}
+use Rattle.broker_base.specs.Place.{Client, Past, Limits}
 use Rattle.broker_base.specs.Past.{current_connection, session_of}
 use Rattle.broker_base.specs.Received.{is_new}
 use Rattle.broker_base.specs.Marks.{mark_of}
 use Rattle.broker_base.specs.Commands.{place_of}
 use Rattle.broker_base.specs.Command.{Command}
-use Rattle.broker_base.specs.Command.TheVariants as commands
 use Rattle.broker_base.proofs.QuietPasts.{no_connection}
 use Rattle.session_base.specs.declared.publication.Publication.{Publication}
-use Rattle.client_base.specs.Keeper.{Written, Keeper, all_own, next_number}
+use Rattle.client_base.specs.Keeper.{Written, all_own, next_number}
 use Rattle.story.specs.Sides.{Connection}
-use Rattle.story.specs.Story.{Story, Happens, command_of, count_of, counted_at, is_packet_of}
+use Rattle.story.specs.Story.{Story, Happens, command_of, counted_at}
 use Rattle.story.specs.Story.Happens.{takes, others_take, receives, opens_anew, loses, disconnects, publishes_one, subscribes, unsubscribes}
 use Rattle.story.specs.Carried.{carries, more_by, new_numbers, published, publications_of}
-use Rattle.story.specs.InStep.{sessions_begun}
 use Rattle.story.specs.Lives.{IsRising}
 use Rattle.story.proofs.publishing.Last.{each_there}
 use Rattle.story.proofs.publishing.events.Receives.{each_at}
-use Rattle.story.proofs.publishing.kept.Numbers.{same_counted, same_numbers}
+use Rattle.story.proofs.publishing.kept.Numbers.{same_numbers}
 use Rattle.story.proofs.carrying.KeepsNumbers.{numbers_keep}
 use Rattle.story.proofs.carrying.KeepsPlaces.{IsCarried, SaysNext, none_carried}
 use Rattle.story.proofs.carrying.PlacesSay.{Says, says_nothing}
 use Rattle.story.proofs.carrying.Publications.{IsOfOwn}
-use Rattle.story.proofs.sessions.Beside.{kept_of, HasBeside}
+use Rattle.story.proofs.sessions.Beside.{kept_of}
 use Rattle.story.proofs.sessions.EachPlaced.{IsOwnCommand}
 use Rattle.story.proofs.sessions.Life.{IsCounted, IsLife}
 use Rattle.story.proofs.sessions.LifePlaces.{life_command}
@@ -39,7 +37,7 @@ use Rattle.story.proofs.sessions.NothingNew.{silent_nothing}
 use Rattle.story.proofs.sessions.CarriedAlike.{nobodys_says, nobodys_new, none_more}
 use Rattle.story.proofs.sessions.SaysLasting.{more_none}
 use Rattle.story.proofs.sessions.PublishedGrows.{published_grows, next_grows}
-use Rattle.story.proofs.sessions.Numbered.{RisesSoFar, HasOlds, Numbered}
+use Rattle.story.proofs.sessions.Numbered.{RisesSoFar, Numbered}
 use Rattle.story.proofs.sessions.Numbered.Numbered.{lasts, awaits}
 use Rattle.story.proofs.sessions.NumberedGoes.{counted_all_within, one_below, one_before}
 

@@ -29,7 +29,6 @@ use Rattle.story.proofs.sessions.AcceptedShares.{accepts_same, accepted_head, ac
 use Rattle.story.proofs.sessions.Life.{HasConnections, HasKeeper, IsLife}
 use Rattle.story.proofs.sessions.LifePlaces.{life_command}
 use Rattle.story.proofs.sessions.Lasting.{Lasts}
-use Rattle.story.proofs.sessions.LastingGoes.{Stands}
 use Rattle.story.proofs.sessions.BeginsAgain.{stands_anew, lasts_anew, StandsAnew}
 use Rattle.story.proofs.sessions.Parted.{Parts, parts_placed, accepted_or_not, none_older, at_accepted}
 use Rattle.story.proofs.sessions.NothingNew.{nothing_new_yet, again_begun}

@@ -1,6 +1,5 @@
 -- No event loses a number of what a client published, nor the next number.
-use Rattle.std.proofs.Common.{◌≡◌, ◌≤◌, ◌+◌, ℕ, zero, suc, Bool, true, false, not, ◌&&◌, if◌then◌else◌, List, [], ◌∷◌, ◌++◌, length, map, refl, sym, ◌∙◌, ap, ap₂, subst, arith}
-use Rattle.std.proofs.lemmas.Bool.{both_ways}
+use Rattle.std.proofs.Common.{◌≡◌, ◌≤◌, ◌+◌, ℕ, suc, Bool, true, false, if◌then◌else◌, List, [], ◌∷◌, ◌++◌, length, map, refl, sym, ◌∙◌, ap, ap₂, arith}
 use Rattle.std.proofs.lemmas.List.{length-map, length-append}
 use Rattle.packet.specs.declared.connack.Connack.TheVariants as connacks
 use Rattle.packet.specs.declared.delivery.Delivery.{Delivery}
@@ -19,7 +18,7 @@ use Rattle.client_base.specs.Handled.{at_pubrec, is_sent_with, takes_in, releasi
 use Rattle.client_base.proofs.NumbersStay.{AreAllNumbered, joined_numbers}
 use Rattle.story.specs.Sides.{Side}
 use Rattle.story.specs.Story.{Story, Happens}
-use Rattle.story.specs.Carried.{is_two, published, publications_of, publication_in, number_in}
+use Rattle.story.specs.Carried.{is_two, published, publications_of, publication_in}
 use Rattle.story.proofs.carrying.Distinct.{number_first}
 use Rattle.story.proofs.carrying.KeepsWritten.{events_say}
 use Rattle.story.proofs.subscribing.Given.{one_handled}

@@ -1,5 +1,5 @@
 -- Numbers that rise: of publications by their places, of a beginning of these, of some below a bound and others from it on.
-use Rattle.std.proofs.Common.{◌≡◌, ◌<◌, ◌≤◌, ◌+◌, ℕ, suc, Bool, true, false, ◌==◌, if◌then◌else◌, List, [], ◌∷◌, ◌++◌, length, refl, ap, subst, arith}
+use Rattle.std.proofs.Common.{◌≡◌, ◌<◌, ◌≤◌, ◌+◌, ℕ, suc, Bool, true, false, ◌==◌, if◌then◌else◌, List, [], ◌∷◌, ◌++◌, length, refl, subst, arith}
 use Rattle.lists.specs.Lists.{has_id, IsDistinct, IsPrefixOf, Each}
 use Rattle.lists.proofs.OfEach.{each_then, each_left}
 use Rattle.lists.proofs.Tests.{none_or}

@@ -1,23 +1,21 @@
 -- While a session lasts, a place where the client's next packet is taken says what it carries, and brings what is new to the story of the
 -- session as well.
-use Rattle.std.proofs.Common.{◌≡◌, ◌≤◌, ℕ, Bool, true, false, List, [], ◌∷◌, ◌++◌, length, Option, Some, None, refl, sym, ◌∙◌, ap, subst, arith, inl, inr, ◌⊎◌}
+use Rattle.std.proofs.Common.{◌≡◌, ℕ, Bool, true, false, List, [], ◌∷◌, ◌++◌, Option, Some, None, refl, sym, ◌∙◌, ap, subst, arith, inl, inr, ◌⊎◌}
 use Rattle.std.specs.Prelude.{slice_get}
-use Rattle.packet.specs.declared.packet.Packet.{Packet}
-use Rattle.lists.specs.Lists.{Each, In}
+use Rattle.lists.specs.Lists.{In}
 use Rattle.lists.proofs.Members.{in_right}
-use Rattle.broker_base.specs.Connection.{ConnectionName, same_connection}
-use Rattle.broker_base.specs.Place.{Client, Mark, Place, Past, Limits}
+use Rattle.broker_base.specs.Connection.{same_connection}
+use Rattle.broker_base.specs.Place.{Client, Limits}
 use Rattle.broker_base.specs.Past.{current_connection}
 use Rattle.broker_base.specs.Received.{is_new}
 use Rattle.broker_base.specs.Marks.{mark_of}
 use Rattle.broker_base.specs.Commands.{place_of}
 use Rattle.broker_base.specs.QuietLaws.{IsSteady}
 use Rattle.broker_base.specs.Command.{Command}
-use Rattle.broker_base.specs.Command.TheVariants as commands
 use Rattle.session_base.specs.declared.publication.Publication.{Publication}
 use Rattle.client_base.specs.Keeper.{Written, Keeper}
 use Rattle.story.specs.Sides.{Connection}
-use Rattle.story.specs.Story.{Story, any_named, count_of, counted_at, command_of}
+use Rattle.story.specs.Story.{Story, count_of, counted_at, command_of}
 use Rattle.story.specs.Carried.{carries, more_by, new_numbers}
 use Rattle.story.specs.Inside.Shape.{NamesApart, LastIsCurrent, IsSoundStory}
 use Rattle.story.proofs.keeping.Told.{told_stories_are_sound}
@@ -26,9 +24,8 @@ use Rattle.story.proofs.publishing.kept.Numbers.{same_counted, same_numbers}
 use Rattle.story.proofs.carrying.PlacesSay.{Says}
 use Rattle.story.proofs.carrying.Publications.{IsOf}
 use Rattle.story.proofs.carrying.SaysTaken.{taken_says}
-use Rattle.story.proofs.sessions.Beside.{kept_of, IsHeadKept, AreGone, HasBeside, IsKept, IsLeft, find, with_connections, none_kept}
+use Rattle.story.proofs.sessions.Beside.{kept_of, IsHeadKept, AreGone, IsKept, IsLeft, find, with_connections, none_kept}
 use Rattle.story.proofs.sessions.Anew.{waiting}
-use Rattle.story.proofs.sessions.Awaiting.{HasAwaiting}
 use Rattle.story.proofs.sessions.EachPlaced.{IsOwnCommand}
 use Rattle.story.proofs.sessions.Life.{IsCounted, IsLife}
 use Rattle.story.proofs.sessions.LifePlaces.{life_command}
