@@ -1,6 +1,7 @@
 pub mod CommandOfNobody
 pub mod CommandOfOwner
 pub mod ConnectSteps
+pub mod ExpelSteps
 pub mod FindsEach
 pub mod LeavingSteps
 pub mod NewConnection

@@ -2,6 +2,7 @@
 pub mod ContentAfter
 pub mod ContentOfStart
 pub mod ContentOfSteps
+pub mod ExpelledMaps
 pub mod FiltersHeld
 pub mod MadeAnew
 pub mod OwnersConnect

@@ -6,6 +6,7 @@ pub mod Served
 pub mod CommandLaws
 pub mod PacketLaws
 pub mod LeavingLaws
+pub mod ExpelLaws
 pub mod ConnectLaws
 pub mod PublishLaws
 pub mod CopyLaws

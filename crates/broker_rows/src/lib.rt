@@ -4,6 +4,7 @@
 
 mod connect_laws;
 mod copy_laws;
+mod expel_laws;
 mod laws;
 mod map_laws;
 mod packet_laws;
@@ -12,6 +13,7 @@ mod rows;
 
 pub use connect_laws::{connect_steps, full_connect_steps, insertion_writes, start_steps};
 pub use copy_laws::{copies_in_parts, subscribes_in_turn};
+pub use expel_laws::expel_steps;
 pub use laws::{
     answers_are_of_granted_rows, granted_rows_match, nobody_changes_nothing, one_row_is_written,
     owner_is_found_by_map, room_is_of_granted_rows,

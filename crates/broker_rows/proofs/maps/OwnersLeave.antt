@@ -44,7 +44,7 @@ away_owns_none c (Some kept) rows y away =
     owners_row y (c, kept) rows ∙ ap (λ connection. if any_connection (same_connection y) connection then Some c else owners_in rows y) away
 
 -- of the owner's own row
-here_leaves : (x y : ConnectionName) (row : Client × ClientSession) (rows : Sessions) → row.1.connection ≡ Some x → IsNobodys x rows →
+pub here_leaves : (x y : ConnectionName) (row : Client × ClientSession) (rows : Sessions) → row.1.connection ≡ Some x → IsNobodys x rows →
     owners_in rows y ≡ without_owner (Some x) (owners_in (row ∷ rows)) y
 here_leaves x y row rows on nobodys =
     by (same_connection x y) refl ∙ ap (λ o. if same_connection x y then None else o)
@@ -56,7 +56,7 @@ here_leaves x y row rows on nobodys =
     by false e = refl
 
 -- of a row before it
-behind_leaves : (x y : ConnectionName) (row : Client × ClientSession) (rows rest : Sessions) → any_connection (same_connection x) row.1.connection ≡ false →
+pub behind_leaves : (x y : ConnectionName) (row : Client × ClientSession) (rows rest : Sessions) → any_connection (same_connection x) row.1.connection ≡ false →
     owners_in rest y ≡ without_owner (Some x) (owners_in rows) y → owners_in (row ∷ rest) y ≡ without_owner (Some x) (owners_in (row ∷ rows)) y
 behind_leaves x y row rows rest off more =
     owners_row y row rest ∙ ap (λ o. if any_connection (same_connection y) row.1.connection then Some row.0 else o) more

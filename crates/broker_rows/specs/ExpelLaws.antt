@@ -1,0 +1,43 @@
+-- An Expel: the client's session goes, whatever it is, and its connection is closed.
+use Rattle.std.specs.Prelude.{◌≡◌, ℕ, [], Some, None}
+use Rattle.subs.specs.Content.{without_client}
+use Rattle.broker_base.specs.Connection.{ConnectionName}
+use Rattle.broker_base.specs.Place.{Client, Limits}
+use Rattle.broker_base.specs.Answers.{closed}
+use Rattle.broker_base.specs.ClientSession.{ClientSession}
+use Rattle.broker_base.specs.State.{Sessions, State, session_in}
+use Rattle.broker_base.specs.StateLaws.{AreByClient, IsSound}
+use Rattle.broker_base.specs.Step.{step}
+use Rattle.broker_base.specs.Command.TheVariants as commands
+use Rattle.broker_rows.specs.Touched.{written}
+use Rattle.broker_rows.specs.Served.{with_session}
+use Rattle.broker_rows.specs.Owners.{owners_in, without_owner}
+use Rattle.broker_rows.specs.Indexed.{content_in}
+
+-- the session with all that it kept is gone, and its connection, if it has one, is closed
+abbrev pub ExpelStep : Type 0
+ExpelStep =
+    (limits : Limits) → (later : ℕ) → (state : State) → (c : Client) → (kept : ClientSession) →
+    IsSound state → session_in c state.sessions ≡ Some kept →
+    step limits later state (commands.Expel c) ≡ (with_session c None state, closed kept.connection)
+
+-- without a session nothing changes, and nothing is answered
+abbrev pub NobodysExpelStep : Type 0
+NobodysExpelStep =
+    (limits : Limits) → (later : ℕ) → (state : State) → (c : Client) →
+    session_in c state.sessions ≡ None → step limits later state (commands.Expel c) ≡ (state, [])
+
+-- in the map of connections its connection, if it has one, is removed
+abbrev pub ExpelRemovesTheOwner : Type 0
+ExpelRemovesTheOwner =
+    (state : State) → (c : Client) → (kept : ClientSession) → IsSound state →
+    session_in c state.sessions ≡ Some kept → (y : ConnectionName) →
+    owners_in (written c None state.sessions) y
+    ≡ without_owner kept.connection (owners_in state.sessions) y
+
+-- the index drops the client
+abbrev pub ExpelDropsTheClient : Type 0
+ExpelDropsTheClient =
+    (c : Client) → (kept : ClientSession) → (rows : Sessions) → AreByClient rows →
+    session_in c rows ≡ Some kept →
+    content_in (written c None rows) ≡ without_client (content_in rows) c
