@@ -3,6 +3,7 @@ pub mod TiesOfRows
 pub mod Handshakes
 pub mod Connections
 pub mod Losses
+pub mod Expulsions
 pub mod Publications
 pub mod RoomForCopies
 pub mod Unsubscriptions

@@ -29,6 +29,7 @@ impl Tables {
                 self.start(*ballot);
                 Ok(())
             }
+            Command::Expel(client) => self.expel(client, out),
         }
     }
 }

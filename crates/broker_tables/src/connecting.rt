@@ -56,7 +56,7 @@ impl Tables {
         ensures tied { OnOk result (IsTied self.new) }
     {
         if self.owners.contains_key(&connection) {
-            self.expel(connection, out)?;
+            self.close(connection, out)?;
             return Ok(());
         }
         match self.admission(client, clean) {

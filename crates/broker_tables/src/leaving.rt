@@ -31,7 +31,7 @@ impl Tables {
     }
 
     /// Closes a connection, which is over then.
-    pub(crate) fn expel(
+    pub(crate) fn close(
         &mut self,
         connection: ConnectionId,
         out: &mut Vec<Output>,

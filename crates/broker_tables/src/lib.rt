@@ -6,6 +6,7 @@ mod applying;
 mod client_row;
 mod connecting;
 mod delivering;
+mod expelling;
 mod leaving;
 mod limits;
 mod publishing;

@@ -56,7 +56,7 @@ impl Tables {
         let publication = publication_of(publish)?;
         let granted = self.granted(&publish.topic)?;
         if self.refuses(&publication, &granted) {
-            self.expel(connection, out)?;
+            self.close(connection, out)?;
             return Ok(());
         }
         acknowledge(connection, publish.delivery, out)?;

@@ -56,7 +56,7 @@ impl Tables {
             return self.handshake(connection, client, packet, out);
         }
         if is_violation(packet) {
-            self.expel(connection, out)?;
+            self.close(connection, out)?;
             return Ok(());
         }
         match packet {

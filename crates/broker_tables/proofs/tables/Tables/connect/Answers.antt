@@ -5,13 +5,13 @@ use Rattle.broker_tables.proofs.tables.Tables.connect.Goals as goal
 
 pub returns-then-contains_key-clause-state : goal.returns-then-contains_key-clause-state
 returns-then-contains_key-clause-state c =
-    c.in_ok-expel.ensures.state
+    c.in_ok-close.ensures.state
     ∙ sym (ap (λ p. p.0)
     (further_by c.args.self.now c.args.connection c.args.client.now c.args.clean c.requires (sym c.contains_key.ensures ∙ c.if-contains_key.true)))
 
 pub returns-then-contains_key-clause-outputs : goal.returns-then-contains_key-clause-outputs
 returns-then-contains_key-clause-outputs c =
-    c.in_ok-expel.ensures.outputs
+    c.in_ok-close.ensures.outputs
     ∙ ap (λ given. c.args.out.now.items ++ given)
     (sym (ap (λ p. p.1)
     (further_by c.args.self.now c.args.connection c.args.client.now c.args.clean c.requires (sym c.contains_key.ensures ∙ c.if-contains_key.true))))

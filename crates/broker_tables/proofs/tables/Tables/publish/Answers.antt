@@ -42,7 +42,7 @@ returns-then-refuses-clause-state c =
     let served = is_served t c.args.connection c.args.client.now kept c.requires.in_step c.requires.served c.index.ensures in
     let refused : is_refused_in usual_limits (state_in t) (publication_of c.args.publish.now) ≡ true
     = ap (is_refused_in usual_limits (state_in t)) (sym c.in_ok-publication.ensures) ∙ sym c.refuses.ensures ∙ c.if-refuses.true in
-    c.in_ok-expel.ensures.state
+    c.in_ok-close.ensures.state
     ∙ sym (ap (λ p. p.0)
     (refused_of t c.args.connection c.args.client.now kept served c.args.publish.now (sym c.is_again.ensures ∙ c.if-is_again.false) refused))
 
@@ -53,7 +53,7 @@ returns-then-refuses-clause-outputs c =
     let served = is_served t c.args.connection c.args.client.now kept c.requires.in_step c.requires.served c.index.ensures in
     let refused : is_refused_in usual_limits (state_in t) (publication_of c.args.publish.now) ≡ true
     = ap (is_refused_in usual_limits (state_in t)) (sym c.in_ok-publication.ensures) ∙ sym c.refuses.ensures ∙ c.if-refuses.true in
-    c.in_ok-expel.ensures.outputs
+    c.in_ok-close.ensures.outputs
     ∙ ap (λ given. c.args.out.now.items ++ given)
     (sym (ap (λ p. p.1)
     (refused_of t c.args.connection c.args.client.now kept served c.args.publish.now (sym c.is_again.ensures ∙ c.if-is_again.false) refused)))

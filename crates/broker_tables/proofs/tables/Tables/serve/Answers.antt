@@ -8,14 +8,14 @@ use Rattle.broker_tables.proofs.tables.Tables.serve.Goals as goal
 
 pub returns-then-is_violation-clause-state : goal.returns-then-is_violation-clause-state
 returns-then-is_violation-clause-state c =
-    c.in_ok-expel.ensures.state
+    c.in_ok-close.ensures.state
     ∙ sym (ap (λ p. p.0)
     (violation_of c.args.self.now c.args.connection c.args.client.now c.args.packet.now c.requires.in_step c.requires.served
     (sym c.is_violation.ensures ∙ c.if-is_violation.true)))
 
 pub returns-then-is_violation-clause-outputs : goal.returns-then-is_violation-clause-outputs
 returns-then-is_violation-clause-outputs c =
-    c.in_ok-expel.ensures.outputs
+    c.in_ok-close.ensures.outputs
     ∙ ap (λ given. c.args.out.now.items ++ given)
     (sym (ap (λ p. p.1)
     (violation_of c.args.self.now c.args.connection c.args.client.now c.args.packet.now c.requires.in_step c.requires.served
