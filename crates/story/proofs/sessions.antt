@@ -38,3 +38,4 @@ pub mod NumberedGoes
 pub mod NothingNew
 pub mod NumbersOver
 pub mod LivesExact
+pub mod LivedIsLife
