@@ -14,11 +14,15 @@ use Rattle.broker_base.proofs.PacketOfNobody.{window_is_steady}
 use Rattle.client_base.specs.Keeper.{Written}
 use Rattle.client_base.specs.Called.{opens}
 use Rattle.story.specs.Sides.{Connection}
-use Rattle.story.specs.Story.{Story, Told, any_named, is_packet_of, counted_at, command_of, names_client}
-use Rattle.story.specs.Story.Told.{goes_on}
+use Rattle.story.specs.Story.{Story, any_named, is_packet_of, counted_at, command_of, names_client}
+use Rattle.story.specs.Lives.{Lived}
+use Rattle.story.specs.Lives.Lived.{goes_on, is_expelled}
 use Rattle.story.specs.Story.Happens.{takes, others_take}
-use Rattle.story.specs.Inside.Shape.{ConnectionInShape, HasShape}
-use Rattle.story.proofs.keeping.Told.{told_stories_are_sound}
+use Rattle.story.proofs.sessions.Anew.{IsUntouched}
+use Rattle.story.proofs.sessions.Life.{IsCounted, IsLife}
+use Rattle.story.proofs.sessions.LivedIsLife.{lived_is_life}
+use Rattle.broker_base.specs.Place.{same_client}
+use Rattle.broker_base.proofs.ClientsInOrder.{same_is, same_self}
 use Rattle.story.proofs.publishing.Last.{none_named, each_there, is_named}
 use Rattle.story.proofs.publishing.kept.KeepsNames.{counted_named}
 use Rattle.model.specs.World.{End, ClientEnds, World, story_of, IsFresh}
@@ -32,14 +36,14 @@ use Rattle.model.proofs.OneConnect.{none_more, once_other, once_own, once_longer
 
 -- a story that went on by one place is the story of the longer list
 pub told_longer : (agreed : List Command) (command : Command) (c : ClientEnds) (d : Client)
-    → Told usual_limits d (let s : Story = record { past = place_of usual_limits (past_of usual_limits agreed) command ∷ past_of usual_limits agreed; connections = c.connections; keeper = c.keeper } in s)
-    → Told usual_limits d (story_of (agreed ++ command ∷ []) c)
+    → Lived usual_limits d (let s : Story = record { past = place_of usual_limits (past_of usual_limits agreed) command ∷ past_of usual_limits agreed; connections = c.connections; keeper = c.keeper } in s)
+    → Lived usual_limits d (story_of (agreed ++ command ∷ []) c)
 told_longer agreed command c d told =
-    subst (λ (past : Past). Told usual_limits d (let s : Story = record { past = past; connections = c.connections; keeper = c.keeper } in s)) (sym (past_push usual_limits agreed command)) told
+    subst (λ (past : Past). Lived usual_limits d (let s : Story = record { past = past; connections = c.connections; keeper = c.keeper } in s)) (sym (past_push usual_limits agreed command)) told
 
 -- ---- the story of a client whose command it is not
 
-pub others_told : (agreed : List Command) (command : Command) (c : ClientEnds) → IsTold agreed c → (names_client c.keeper.client command → ⊥) → any_named (is_packet_of command) c.connections ≡ false
+pub others_told : (agreed : List Command) (command : Command) (c : ClientEnds) → IsTold agreed c → (names_client (past_of usual_limits agreed) c.keeper.client command → ⊥) → any_named (is_packet_of command) c.connections ≡ false
     → IsTold (agreed ++ command ∷ []) c
 others_told agreed command c told not none = told_longer agreed command c c.keeper.client (goes_on told (others_take command not none))
 
@@ -53,22 +57,33 @@ else_of (commands.Connect y c clean) x e = absurd (both_ways true e refl)
 else_of (commands.Packet y packet) x e = absurd (both_ways true e refl)
 else_of (commands.Lost y) x e = refl
 else_of (commands.Start b) x e = refl
-
-else_names : (command : Command) (c : Client) → is_of_connection command ≡ false → names_client c command → ⊥
-else_names (commands.Connect y d clean) c e n = both_ways true e refl
-else_names (commands.Packet y packet) c e n = n
-else_names (commands.Lost y) c e n = n
-else_names (commands.Start b) c e n = n
+else_of (commands.Expel d) x e = refl
 
 else_named : (command : Command) (connections : List Connection) → is_of_connection command ≡ false → any_named (is_packet_of command) connections ≡ false
 else_named command [] e = refl
 else_named command (κ ∷ connections) e = ap₂ (λ a b. a || b) (else_of command κ.name e) (else_named command connections e)
 
+-- an Expel of the client itself is of its life, and any other command is none of its own
+else_told : (agreed : List Command) (command : Command) (c : ClientEnds) → IsTold agreed c → is_of_connection command ≡ false → any_named (is_packet_of command) c.connections ≡ false → IsTold (agreed ++ command ∷ []) c
+else_told agreed (commands.Connect y d clean) c told e none = absurd (both_ways true e refl)
+else_told agreed (commands.Packet y packet) c told e none = absurd (both_ways true e refl)
+else_told agreed (commands.Lost y) c told e none = others_told agreed (commands.Lost y) c told (λ n. n) none
+else_told agreed (commands.Start b) c told e none = others_told agreed (commands.Start b) c told (λ n. n) none
+else_told agreed (commands.Expel d) c told e none = by (cases_Bool (same_client d c.keeper.client))
+  where
+    by : (same_client d c.keeper.client ≡ true) ⊎ (same_client d c.keeper.client ≡ false) → IsTold (agreed ++ commands.Expel d ∷ []) c
+    by (inl same) =
+        subst (λ (k : Client). IsTold (agreed ++ commands.Expel k ∷ []) c) (sym (same_is d c.keeper.client same))
+        (told_longer agreed (commands.Expel c.keeper.client) c c.keeper.client (is_expelled told))
+    by (inr other) =
+        others_told agreed (commands.Expel d) c told
+        (λ n. both_ways (same_client d c.keeper.client) other (ap (λ k. same_client k c.keeper.client) n.0 ∙ same_self c.keeper.client)) none
+
 pub keeps_else : (w : World) (command : Command) → Holds w → is_of_connection command ≡ false → Holds (record w { agreed = w.agreed ++ command ∷ [] })
 keeps_else w command h e =
     record {
-      told = each_by (IsTold (w.agreed ++ command ∷ [])) w.clients (λ k c there'. others_told w.agreed command c (each_get (IsTold w.agreed) w.clients k c h.told there')
-          (else_names command c.keeper.client e) (else_named command c.connections e));
+      told = each_by (IsTold (w.agreed ++ command ∷ [])) w.clients (λ k c there'. else_told w.agreed command c (each_get (IsTold w.agreed) w.clients k c h.told there') e
+          (else_named command c.connections e));
       pipes = each_by (HasPipes (w.agreed ++ command ∷ [])) w.clients (λ k c there'. others_hold w.agreed command c (each_get (HasPipes w.agreed) w.clients k c h.pipes there')
           (else_named command c.connections e));
       apart = h.apart;
@@ -78,18 +93,21 @@ keeps_else w command h e =
 
 -- ---- the next packet of a connection
 
-no_client : (c : Client) (x : ConnectionName) (n : ℕ) (packet : Packet) → names_client c (command_of x (suc n) packet) → ⊥
-no_client c x n (packets.Connect q) h = h
-no_client c x n _ h = h
+no_client : (past : Past) (c : Client) (x : ConnectionName) (n : ℕ) (packet : Packet) → names_client past c (command_of x (suc n) packet) → ⊥
+no_client past c x n (packets.Connect q) h = h
+no_client past c x n _ h = h
 
 -- it is no Connect of another client
-not_theirs : (c d : Client) (κ : Connection) (v : Written) (n : ℕ) (limits : Limits) (past : Past) → ConnectionInShape limits past c κ → slice_get κ.written n ≡ Some v → (c ≡ d → ⊥)
-    → names_client d (command_of κ.name n v.packet) → ⊥
-not_theirs c d κ v zero limits past shape next other =
-    let first : Some (opens c) ≡ Some v = sym (ap (λ ws. slice_get ws 0) shape.written) ∙ next in
-    let same : opens c ≡ v = cc in
-    subst (λ (z : Written). names_client d (command_of κ.name 0 z.packet) → ⊥) same other
-not_theirs c d κ v (suc n) limits past shape next other = no_client d κ.name n v.packet
+not_theirs : (c d : Client) (κ : Connection) (v : Written) (limits : Limits) (past : Past) → (κ.taken ≡ 0 → IsUntouched limits past c κ) → slice_get κ.written κ.taken ≡ Some v → (c ≡ d → ⊥)
+    → names_client past d (command_of κ.name κ.taken v.packet) → ⊥
+not_theirs c d κ v limits past untouched next other = by κ.taken refl
+  where
+    by : (n : ℕ) → κ.taken ≡ n → names_client past d (command_of κ.name n v.packet) → ⊥
+    by zero e =
+        let first : Some (opens c) ≡ Some v = sym (ap (λ (z : Connection). slice_get z.written z.taken) (untouched e).is) ∙ next in
+        let same : opens c ≡ v = cc in
+        subst (λ (z : Written). names_client past d (command_of κ.name 0 z.packet) → ⊥) same other
+    by (suc n) e = no_client past d κ.name n v.packet
 
 pub keeps_agreed : (w : World) (i j : ℕ) (c : ClientEnds) (κ : Connection) (e : End) (v : Written) → Holds w → HasPipe w i c j κ e → κ.taken < e.read → slice_get κ.written κ.taken ≡ Some v
     → Holds (record {
@@ -117,11 +135,14 @@ keeps_agreed w i j c κ e v h pipe less next =
     told : IsTold w.agreed c
     told = each_get (IsTold w.agreed) w.clients i c h.told pipe.client
 
-    shape : HasShape usual_limits (story_of w.agreed c)
-    shape = (told_stories_are_sound usual_limits window_is_steady.0 c.keeper.client (story_of w.agreed c) told).shape
+    life : IsLife usual_limits c.keeper.client (story_of w.agreed c)
+    life = lived_is_life usual_limits c.keeper.client (story_of w.agreed c) told
 
-    this : ConnectionInShape usual_limits past c.keeper.client κ
-    this = each_there (ConnectionInShape usual_limits past c.keeper.client) j c.connections κ pipe.connection shape.connections
+    untouched : κ.taken ≡ 0 → IsUntouched usual_limits past c.keeper.client κ
+    untouched = each_there (λ (μ : Connection). μ.taken ≡ 0 → IsUntouched usual_limits past c.keeper.client μ) j c.connections κ pipe.connection life.connections.untouched
+
+    counted : IsCounted past κ
+    counted = each_there (IsCounted past) j c.connections κ pipe.connection life.connections.counted
 
     same : IsSameParty c later
     same = record { client = refl; names = λ test. counted_named test j c.connections }
@@ -156,14 +177,14 @@ keeps_agreed w i j c κ e v h pipe less next =
         (told_longer w.agreed command later c.keeper.client (goes_on told (takes j κ v pipe.connection next)))
     by_told k d (inr (other, at)) =
         others_told w.agreed command d (each_get (IsTold w.agreed) w.clients k d h.told at)
-        (not_theirs c.keeper.client d.keeper.client κ v κ.taken usual_limits past this next (theirs k d other at).ids) (unnamed k d other at)
+        (not_theirs c.keeper.client d.keeper.client κ v usual_limits past untouched next (theirs k d other at).ids) (unnamed k d other at)
 
     by_pipes : (k : ℕ) (d : ClientEnds) → ((k ≡ i) × (later ≡ d)) ⊎ ((k ≡ i → ⊥) × (slice_get w.clients k ≡ Some d)) → HasPipes (w.agreed ++ command ∷ []) d
     by_pipes k d (inl (s, is)) =
         subst (HasPipes (w.agreed ++ command ∷ [])) is
-        (one_agreed w.agreed c.connections c.ends j κ e v shape.names_apart (each_get (HasPipes w.agreed) w.clients i c h.pipes pipe.client) pipe.connection pipe.end less next)
+        (one_agreed w.agreed c.connections c.ends j κ e v life.connections.names (each_get (HasPipes w.agreed) w.clients i c h.pipes pipe.client) pipe.connection pipe.end less next)
     by_pipes k d (inr (other, at)) = others_hold w.agreed command d (each_get (HasPipes w.agreed) w.clients k d h.pipes at) (unnamed k d other at)
 
     by_once : (x : ConnectionName) → (same_connection κ.name x ≡ true) ⊎ (same_connection κ.name x ≡ false) → IsOnce (place_of usual_limits past command ∷ past) x
     by_once x (inr n) = once_other past command x (command_is_of κ.name x κ.taken v.packet ∙ n) (h.once x)
-    by_once x (inl s) = subst (λ (z : ConnectionName). IsOnce (place_of usual_limits past command ∷ past) z) (same_name κ.name x s) (once_own past κ.name κ.taken v.packet this.counted (h.once κ.name))
+    by_once x (inl s) = subst (λ (z : ConnectionName). IsOnce (place_of usual_limits past command ∷ past) z) (same_name κ.name x s) (once_own past κ.name κ.taken v.packet counted.counted (h.once κ.name))

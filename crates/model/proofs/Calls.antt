@@ -11,8 +11,9 @@ use Rattle.client_base.specs.Keeper.{Written}
 use Rattle.client_base.specs.Written.{plain, writes_first}
 use Rattle.client_base.specs.Called.{written_for}
 use Rattle.story.specs.Sides.{Connection}
-use Rattle.story.specs.Story.{Story, Told, Happens, any_named}
-use Rattle.story.specs.Story.Told.{goes_on}
+use Rattle.story.specs.Story.{Story, Happens, any_named}
+use Rattle.story.specs.Lives.{Lived}
+use Rattle.story.specs.Lives.Lived.{goes_on}
 use Rattle.story.specs.Story.Happens.{takes, others_take, receives, opens_anew, loses, disconnects, publishes_one, subscribes, unsubscribes}
 use Rattle.story.proofs.keeping.KeepsShape.{same_story}
 use Rattle.model.specs.World.{End, ClientEnds, World, story_of, with_client}
@@ -72,10 +73,10 @@ keeps_call w i c t h holds there' call =
     let later : ClientEnds = record c { keeper = t.keeper; connections = t.connections } in
     let s = story_of w.agreed c in
     let same = same_story usual_limits s t h in
-    let told : Told usual_limits c.keeper.client t = goes_on (each_get (IsTold w.agreed) w.clients i c holds.told there') h in
+    let told : Lived usual_limits c.keeper.client t = goes_on (each_get (IsTold w.agreed) w.clients i c holds.told there') h in
     let past : t.past ≡ past_of usual_limits w.agreed = call_past h call in
     keeps_party w i c later holds there'
-    (subst (λ (d : Client). Told usual_limits d (story_of w.agreed later)) (sym same)
-    (subst (λ (p : Past). Told usual_limits c.keeper.client (let z : Story = record t { past = p } in z)) past told))
+    (subst (λ (d : Client). Lived usual_limits d (story_of w.agreed later)) (sym same)
+    (subst (λ (p : Past). Lived usual_limits c.keeper.client (let z : Story = record t { past = p } in z)) past told))
     (call_pipes w.agreed c.ends h call (each_get (HasPipes w.agreed) w.clients i c holds.pipes there'))
     (record { client = same; names = call_named h call })

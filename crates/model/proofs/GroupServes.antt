@@ -25,18 +25,20 @@ use Rattle.model.specs.Groups.{GroupsServe, ReadsAt}
 use Rattle.model.proofs.AgreedInOrder.{agreed_in_order}
 use Rattle.model.proofs.Answers.{of_name}
 
--- a start is the packet of no connection, and each command of a connection has its name
+-- a start and an Expel are the packets of no connection, and each command of a connection has its name
 no_packet : (command : Command) (x : ConnectionName) → is_of_connection command ≡ false → is_packet_of command x ≡ false
 no_packet (commands.Connect y c clean) x e = cc
 no_packet (commands.Packet y packet) x e = cc
 no_packet (commands.Lost y) x e = refl
 no_packet (commands.Start ballot) x e = refl
+no_packet (commands.Expel c) x e = refl
 
 name_of : (command : Command) → is_of_connection command ≡ true → (x : ConnectionName) × (is_packet_of command x ≡ true)
 name_of (commands.Connect y c clean) e = (y, same_itself y)
 name_of (commands.Packet y packet) e = (y, same_itself y)
 name_of (commands.Lost y) e = cc
 name_of (commands.Start ballot) e = cc
+name_of (commands.Expel c) e = cc
 
 -- ---- members of lists that are filtered
 

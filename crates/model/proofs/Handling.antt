@@ -12,8 +12,9 @@ use Rattle.client_base.specs.Called.{new_connection}
 use Rattle.client_base.specs.Handled.{handled}
 use Rattle.story.specs.Sends.{put_to}
 use Rattle.story.specs.Sides.{Connection}
-use Rattle.story.specs.Story.{Told, Happens, any_named, count_of}
-use Rattle.story.specs.Story.Told.{goes_on}
+use Rattle.story.specs.Story.{Happens, any_named, count_of}
+use Rattle.story.specs.Lives.{Lived}
+use Rattle.story.specs.Lives.Lived.{goes_on}
 use Rattle.story.specs.Story.Happens.{receives, opens_anew}
 use Rattle.story.proofs.keeping.KeepsShape.{same_story}
 use Rattle.story.proofs.publishing.Grown.{handled_grows}
@@ -41,7 +42,7 @@ keeps_handled w i c κ e others ends packet h there' are ends_are opened next =
     let happens : Happens usual_limits (story_of w.agreed c) (story_of w.agreed (after_packet others (e ∷ ends) side)) = receives κ others packet are opened (prefix_get κ.handled packet put next) in
     let same = same_story usual_limits (story_of w.agreed c) (story_of w.agreed (after_packet others (e ∷ ends) side)) happens in
     keeps_party w i c (after_packet others (e ∷ ends) side) h there'
-    (subst (λ (d : Client). Told usual_limits d (story_of w.agreed (after_packet others (e ∷ ends) side))) (sym same) (goes_on (each_get (IsTold w.agreed) w.clients i c h.told there') happens))
+    (subst (λ (d : Client). Lived usual_limits d (story_of w.agreed (after_packet others (e ∷ ends) side))) (sym same) (goes_on (each_get (IsTold w.agreed) w.clients i c h.told there') happens))
     (more_written w.agreed κ side.connection e (suc κ.handled) grown.more grown.name grown.taken grown.handled grown.written (stands_within e.put κ.handled packet next) pipes.0, pipes.1)
     (record { client = same; names = λ test. ap (λ x. test x || any_named test others) grown.name ∙ sym (ap (any_named test) are) })
 

@@ -7,17 +7,18 @@ use Rattle.broker_base.specs.Commands.{past_from, past_of, usual_limits}
 use Rattle.broker_base.specs.EndingLaws.{connects_of}
 use Rattle.broker_base.specs.Command.{Command}
 use Rattle.lists.specs.Lists.{Each}
-use Rattle.story.specs.Story.{Story, Told, count_of, no_story}
-use Rattle.story.specs.Story.Told.{begins}
+use Rattle.story.specs.Story.{Story, count_of, no_story}
+use Rattle.story.specs.Lives.{Lived}
+use Rattle.story.specs.Lives.Lived.{opens}
 use Rattle.model.specs.World.{ClientEnds, World, new_client, opening, story_of, AreApart, IsFresh, with_client}
 use Rattle.model.proofs.Lists.{each_set}
 use Rattle.model.proofs.Answers.{of_name}
 use Rattle.model.proofs.Ends.{PipesHold}
 use Rattle.model.proofs.Parted.{AllParted, IsSameParty, is_named_by, opening_parted, same_parted, fresh_before}
 
--- its story is told
+-- its life is told, over all its sessions
 abbrev pub IsTold : List Command → ClientEnds → Type 0
-IsTold agreed c = Told usual_limits c.keeper.client (story_of agreed c)
+IsTold agreed c = Lived usual_limits c.keeper.client (story_of agreed c)
 
 abbrev pub HasPipes : List Command → ClientEnds → Type 0
 HasPipes agreed c = PipesHold agreed c.connections c.ends
@@ -40,7 +41,7 @@ unfolding past_from
 empty_past = refl
 
 new_told : (c : Client) → IsTold [] (new_client c)
-new_told c = subst (λ (past : Past). Told usual_limits c (let s : Story = record (no_story c) { past = past } in s)) (sym empty_past) begins
+new_told c = subst (λ (past : Past). Lived usual_limits c (let s : Story = record (no_story c) { past = past } in s)) (sym empty_past) opens
 
 all_new : (P : ClientEnds → Type 0) (cs : List Client) → ((c : Client) → P (new_client c)) → Each P (map new_client cs)
 all_new P [] h = tt

@@ -25,6 +25,7 @@ no_connect x (commands.Connect y c clean) none e =
 no_connect x (commands.Packet y packet) none e = both_ways false refl e
 no_connect x (commands.Lost y) none e = both_ways false refl e
 no_connect x (commands.Start b) none e = both_ways false refl e
+no_connect x (commands.Expel d) none e = both_ways false refl e
 
 -- a name whose command it is not
 pub once_other : (past : Past) (command : Command) (x : ConnectionName) → is_packet_of command x ≡ false → IsOnce past x → IsOnce (place_of usual_limits past command ∷ past) x

@@ -48,6 +48,7 @@ abbrev lost_one : Keeper
 lost_one =
     record {
       client = writer;
+      earlier = [];
       own = Own.Sent 0 news 1 ∷ [];
       releases = [];
       requests = [];

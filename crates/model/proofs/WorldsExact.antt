@@ -6,13 +6,12 @@ use Rattle.broker_base.proofs.NothingAfterTheEnd.{nothing_after_the_end}
 use Rattle.broker_base.proofs.PacketOfNobody.{window_is_steady}
 use Rattle.lists.proofs.OfEach.{each_then}
 use Rattle.story.specs.Sides.{Connection}
-use Rattle.story.specs.Headline.{ExactlyOnce}
-use Rattle.story.proofs.StoriesExact.{told_stories_are_exact}
+use Rattle.story.proofs.sessions.LivesExact.{lives_exact}
 use Rattle.model.specs.World.{End, ClientEnds, World, AreApart, story_of, with_client}
 use Rattle.model.specs.Goes.{Goes, Reached, HasPipe}
 use Rattle.model.specs.Goes.Goes.{calls, opens, handles, reads, answers, closes, agrees, agrees_else}
 use Rattle.model.specs.Goes.Reached.{begins, goes_on}
-use Rattle.model.specs.Exact.{PipesInOrder, WorldsAreExact}
+use Rattle.model.specs.Exact.{PipesInOrder, WorldsAreExact, IsExactInStep}
 use Rattle.model.proofs.Lists.{each_get}
 use Rattle.model.proofs.Ends.{PipeHolds, pipe_at, pipes_in_order, end_set, more_read, more_shown, end_closed}
 use Rattle.model.proofs.Parted.{opened_parted}
@@ -49,8 +48,7 @@ worlds_are_exact cs w apart reached =
     let h = reached_holds cs w apart reached in
     record {
       pipes = each_then (HasPipes w.agreed) (λ (c : ClientEnds). PipesInOrder w.agreed c.connections c.ends) w.clients (λ c p. pipes_in_order w.agreed c.connections c.ends p) h.pipes;
-      clients = each_then (IsTold w.agreed) (λ (c : ClientEnds). ExactlyOnce usual_limits (story_of w.agreed c)) w.clients
-          (λ c told. told_stories_are_exact usual_limits window_is_steady.0 c.keeper.client (story_of w.agreed c) told) h.told;
+      clients = each_then (IsTold w.agreed) (IsExactInStep w.agreed) w.clients (λ c lived. lives_exact usual_limits window_is_steady.0 c.keeper.client (story_of w.agreed c) lived) h.told;
       names = λ x. (h.once x).1;
       sessions = nothing_after_the_end usual_limits w.agreed;
     }

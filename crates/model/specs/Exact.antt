@@ -10,7 +10,8 @@ use Rattle.client_base.specs.Keeper.{Written}
 use Rattle.story.specs.Sends.{put_to}
 use Rattle.story.specs.Sides.{Connection}
 use Rattle.story.specs.Story.{command_of, is_packet_of}
-use Rattle.story.specs.Headline.{ExactlyOnce}
+use Rattle.story.specs.InStep.{IsInStep}
+use Rattle.story.specs.Lives.{ExactlyOnceOverSessions}
 use Rattle.model.specs.World.{End, ClientEnds, World, story_of, AreApart}
 use Rattle.model.specs.Goes.{Reached}
 
@@ -32,11 +33,15 @@ PipesInOrder agreed (κ ∷ connections) (e ∷ ends) = PipeInOrder agreed κ e 
 PipesInOrder agreed [] [] = Unit {0}
 PipesInOrder agreed _ _ = ⊥
 
+-- what a client is promised over its sessions, as long as it is in step
+abbrev pub IsExactInStep : List Command → ClientEnds → Type 0
+IsExactInStep agreed c = IsInStep (story_of agreed c) → ExactlyOnceOverSessions usual_limits (story_of agreed c)
+
 pub record WorldIsExact (w : World) : Type 0 where
   -- connections carry packets in order, both ways
   pub pipes : Each (λ (c : ClientEnds). PipesInOrder w.agreed c.connections c.ends) w.clients
-  -- each client's publications are published once, and each client accepts in order
-  pub clients : Each (λ (c : ClientEnds). ExactlyOnce usual_limits (story_of w.agreed c)) w.clients
+  -- the publications of each client that is in step are published once, and it accepts in order in each of its sessions
+  pub clients : Each (IsExactInStep w.agreed) w.clients
   -- an ended session gets nothing more, since each connection has a name of its own
   pub names : (x : ConnectionName) → connects_of x (past_of usual_limits w.agreed) ≤ 1
   pub sessions : EndsWithTheSession usual_limits (past_of usual_limits w.agreed)

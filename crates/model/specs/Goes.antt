@@ -28,7 +28,7 @@ is_call (publishes_one p needs) = true
 is_call (subscribes p on id) = true
 is_call (unsubscribes p on id) = true
 
--- whether a command is a packet of some connection; else it is the loss of one, or the start of a ballot
+-- whether a command is a packet of some connection; else it is the loss of one, the start of a ballot, or an Expel
 abbrev pub is_of_connection : Command → Bool
 is_of_connection (commands.Connect x c clean) = true
 is_of_connection (commands.Packet x packet) = true
@@ -90,7 +90,7 @@ pub data Goes (w : World) : World → Type 0 where
         agreed = w.agreed ++ command_of κ.name κ.taken v.packet ∷ [];
         clients = set w.clients i (record c { connections = counted_at j c.connections });
       })
-  -- the loss of a connection, or the start of a ballot, comes next in the agreed list
+  -- the loss of a connection, the start of a ballot, or an Expel comes next in the agreed list
   agrees_else : (command : Command) → is_of_connection command ≡ false → Goes w (record w { agreed = w.agreed ++ command ∷ [] })
 
 -- the worlds that are reached with these clients

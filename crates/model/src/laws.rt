@@ -8,9 +8,10 @@ ghost use Rattle.model.specs.Served.{WorldsAreServed};
 
 use machine::Machine;
 
-/// Whatever clients, nodes and the network between them do, connections carry packets in order, each client's
-/// publications are published once and what it accepts is in order, and an ended session gets nothing more, as long as
-/// the nodes agree on one list of commands that only grows, in which each connection's commands stand in their order.
+/// Whatever clients, nodes and the network between them do, connections carry packets in order, the publications of each
+/// client that is in step are published once and what it accepts in each of its sessions is in order, and an ended session
+/// gets nothing more, as long as the nodes agree on one list of commands that only grows, in which each connection's
+/// commands stand in their order.
 pub fn worlds_are_exact()
     ensures { WorldsAreExact }
 {}
