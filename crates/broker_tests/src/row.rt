@@ -17,6 +17,8 @@ pub(crate) enum Event<'a> {
     Lost(u64),
     /// A ballot begins.
     Start(u64),
+    /// An administrator ends the session of a client.
+    Expel(&'a str),
 }
 
 /// The bytes that go out on a connection; none where it is closed.
@@ -93,6 +95,7 @@ pub(crate) fn command_of(alloc: Global, event: Event<'_>) -> Option<Command> {
         }
         Event::Lost(count) => Some(Command::Lost(ConnectionId::new(1, count)?)),
         Event::Start(ballot) => Some(Command::Start(ballot)),
+        Event::Expel(client) => Some(Command::Expel(ClientId::new(alloc, client).ok()?)),
     }
 }
 

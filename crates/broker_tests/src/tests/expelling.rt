@@ -1,0 +1,101 @@
+// A client is expelled: its session is gone, and its connection is closed (MQTT 3.1.2.4, 4.1).
+
+use crate::row::{CLOSED, Event, NOTHING, Row};
+use crate::story::{Start, Story, first_fault};
+use crate::tests::handshakes::{AGAIN, BEGINS, PUBLISH, SUBSCRIBE};
+use std::test::*;
+
+// The connection is closed once; what is published then is for nobody; and the client comes back to a session that
+// begins, in which its answer to what it was sent before names nothing.
+const EXPELLED_WHILE_CONNECTED: &[Row<'static>] = &[
+    (Event::Connect(1, "a", false), &[(1, BEGINS)]),
+    (Event::Connect(2, "b", false), &[(2, BEGINS)]),
+    (Event::Bytes(2, SUBSCRIBE), &[(2, &[0x90, 3, 0, 1, 2])]),
+    (
+        Event::Bytes(1, PUBLISH),
+        &[(1, &[0x50, 2, 0, 1]), (2, PUBLISH)],
+    ),
+    (Event::Expel("b"), &[(2, CLOSED)]),
+    (Event::Expel("b"), NOTHING),
+    (Event::Bytes(2, &[0x50, 2, 0, 1]), NOTHING),
+    (Event::Bytes(1, &[0x62, 2, 0, 1]), &[(1, &[0x70, 2, 0, 1])]),
+    (Event::Bytes(1, PUBLISH), &[(1, &[0x50, 2, 0, 1])]),
+    (Event::Connect(3, "b", false), &[(3, BEGINS)]),
+    (Event::Bytes(3, &[0x50, 2, 0, 1]), NOTHING),
+    (Event::Bytes(3, &[0xC0, 0]), &[(3, &[0xD0, 0])]),
+];
+
+#[test]
+fn expelled_while_connected(rt: HostRuntime) {
+    assert_eq!(rt;
+        first_fault(
+            rt.alloc(),
+            Start::Fresh,
+            Story::Rows(EXPELLED_WHILE_CONNECTED)
+        ),
+        None
+    );
+}
+
+// What waits for a client that is away is gone with its session, and the queue of a client whose identifier begins with
+// that of the first stays.
+const EXPELLED_WHILE_AWAY: &[Row<'static>] = &[
+    (Event::Connect(1, "a", false), &[(1, BEGINS)]),
+    (Event::Connect(2, "b", false), &[(2, BEGINS)]),
+    (Event::Bytes(2, SUBSCRIBE), &[(2, &[0x90, 3, 0, 1, 2])]),
+    (Event::Lost(2), NOTHING),
+    (Event::Connect(3, "bc", false), &[(3, BEGINS)]),
+    (Event::Bytes(3, SUBSCRIBE), &[(3, &[0x90, 3, 0, 1, 2])]),
+    (Event::Lost(3), NOTHING),
+    (Event::Bytes(1, PUBLISH), &[(1, &[0x50, 2, 0, 1])]),
+    (Event::Expel("b"), NOTHING),
+    (Event::Connect(4, "b", false), &[(4, BEGINS)]),
+    (
+        Event::Connect(5, "bc", false),
+        &[(5, &[0x20, 2, 1, 0]), (5, PUBLISH)],
+    ),
+];
+
+#[test]
+fn expelled_while_away(rt: HostRuntime) {
+    assert_eq!(rt;
+        first_fault(
+            rt.alloc(),
+            Start::Fresh,
+            Story::Rows(EXPELLED_WHILE_AWAY)
+        ),
+        None
+    );
+}
+
+// The identifiers that were received are gone, so the same publication is taken once more.
+const WHAT_WAS_RECEIVED_IS_FORGOTTEN: &[Row<'static>] = &[
+    (Event::Connect(1, "a", false), &[(1, BEGINS)]),
+    (Event::Connect(2, "b", false), &[(2, BEGINS)]),
+    (Event::Bytes(2, SUBSCRIBE), &[(2, &[0x90, 3, 0, 1, 2])]),
+    (
+        Event::Bytes(1, PUBLISH),
+        &[(1, &[0x50, 2, 0, 1]), (2, PUBLISH)],
+    ),
+    (Event::Expel("a"), &[(1, CLOSED)]),
+    (Event::Connect(3, "a", false), &[(3, BEGINS)]),
+    (
+        Event::Bytes(3, AGAIN),
+        &[
+            (3, &[0x50, 2, 0, 1]),
+            (2, &[0x34, 8, 0, 3, 0x74, 0x2F, 0x31, 0, 2, 0x78]),
+        ],
+    ),
+];
+
+#[test]
+fn what_was_received_is_forgotten(rt: HostRuntime) {
+    assert_eq!(rt;
+        first_fault(
+            rt.alloc(),
+            Start::Fresh,
+            Story::Rows(WHAT_WAS_RECEIVED_IS_FORGOTTEN)
+        ),
+        None
+    );
+}
