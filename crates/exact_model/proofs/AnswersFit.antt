@@ -1,10 +1,10 @@
 -- All that a connection is sent of the answers to a list of commands can be spelled.
-use Rattle.std.proofs.Common.{Bool, true, false, if◌then◌else◌, List, [], ◌∷◌, sym, subst, arith}
+use Rattle.std.proofs.Common.{Bool, true, false, if◌then◌else◌, List, [], ◌∷◌, Option, Some, None, sym, subst, arith}
 use Rattle.std.specs.List.{AllByRecursion}
 use Rattle.lists.specs.Lists.{Each}
 use Rattle.lists.proofs.OfEach.{each_append}
 use Rattle.packet.specs.Spelling.{IsPacket}
-use Rattle.broker_base.specs.Answers.{answers_from, answers_of}
+use Rattle.broker_base.specs.Answers.{answers_from, answers_of, closed}
 use Rattle.broker_base.specs.Command.{Command}
 use Rattle.broker_base.specs.Command.TheVariants as commands
 use Rattle.broker_base.specs.Commands.{past_from, past_of, place_of, usual_limits}
@@ -12,8 +12,9 @@ use Rattle.broker_base.specs.Connection.{ConnectionName, same_connection}
 use Rattle.broker_base.specs.Output.{Output}
 use Rattle.broker_base.specs.Output.TheVariants.{Send, Close}
 use Rattle.broker_base.specs.Place.{Past}
-use Rattle.broker_base.specs.State.{State, empty_state}
+use Rattle.broker_base.specs.State.{State, empty_state, session_in}
 use Rattle.broker_base.specs.Step.{step, steps_from}
+use Rattle.broker_base.specs.StepAnswers.{connection_of}
 use Rattle.broker_base.proofs.StepByStep.{usual_lists_stand}
 use Rattle.broker_form.specs.InRange.{IsBrokerState}
 use Rattle.broker_form.specs.RangeLaws.{CanBeSpelled}
@@ -23,6 +24,7 @@ use Rattle.story.specs.Sends.{put_to, sends_to}
 use Rattle.model.proofs.Answers.{put_place}
 use Rattle.exact_model.proofs.Fitting.{IsFitting}
 use Rattle.exact_model.proofs.LostNowhere.{loss_in_range}
+use Rattle.exact_model.proofs.ExpelledNobody.{expel_in_range}
 
 -- ---- command by command
 
@@ -39,6 +41,11 @@ goes_in_range state (commands.Packet x packet) fits h = (
 )
 goes_in_range state (commands.Lost x) fits h = (loss_in_range state x h, tt)
 goes_in_range state (commands.Start ballot) fits h = (stays_in_range usual_limits 64 state (commands.Start ballot) (omega arith) tt h, tt)
+goes_in_range state (commands.Expel c) fits h = (expel_in_range state c h, by (connection_of (session_in c state.sessions)))
+  where
+    by : (o : Option ConnectionName) → AllByRecursion CanBeSpelled (closed o)
+    by (Some x) = (tt, tt)
+    by None = tt
 
 all_spelled : (state : State) (commands : List Command) → Each IsFitting commands → IsBrokerState usual_limits state
     → AllByRecursion (AllByRecursion CanBeSpelled) (steps_from usual_limits 64 state commands)

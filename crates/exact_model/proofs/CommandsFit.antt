@@ -65,3 +65,4 @@ list_fits agreed written = each_among IsFitting agreed by
     by (commands.Packet x packet) among = fits_so agreed (commands.Packet x packet) among (written (commands.Packet x packet) among refl)
     by (commands.Lost x) among = tt
     by (commands.Start ballot) among = tt
+    by (commands.Expel c) among = tt

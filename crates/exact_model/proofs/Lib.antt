@@ -11,6 +11,7 @@ pub mod WorldsWrite
 pub mod GoesBeside
 pub mod Fitting
 pub mod LostNowhere
+pub mod ExpelledNobody
 pub mod AnswersFit
 pub mod CommandsFit
 pub mod NextAnswer

@@ -77,6 +77,7 @@ module _ (limits : Limits) (c : Client) (ps : List Publication) (connections : L
   one_new (commands.Connect x d clean) mark below says own marked = refl
   one_new (commands.Lost x) mark below says own marked = refl
   one_new (commands.Start ballot) mark below says own marked = refl
+  one_new (commands.Expel d) mark below says own marked = refl
 
   -- ---- all places
 

@@ -49,6 +49,7 @@ named_in (commands.Connect x c clean) own = (x, same_name_self x)
 named_in (commands.Packet x packet) own = (x, same_name_self x)
 named_in (commands.Lost x) own = absurd (both_ways false refl own)
 named_in (commands.Start ballot) own = absurd (both_ways false refl own)
+named_in (commands.Expel c) own = absurd (both_ways false refl own)
 
 -- what passes a test is among those that do
 passing : {X : Type 0} (test : X → Bool) (xs : List X) (x : X) → In x xs → test x ≡ true → In x (filter test xs)
