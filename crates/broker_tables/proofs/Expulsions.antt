@@ -1,8 +1,6 @@
 -- Expulsions.antt: the step at an Expel, by the tables.
-use Rattle.std.proofs.Common.{◌≡◌, Bool, true, false, [], ◌∷◌, Option, Some, None, ap, ap₂, ◌∙◌, sym, refl, cond}
-use Rattle.std.specs.BTreeMap.{is_at}
-use Rattle.std.specs.Map.{lookup}
-use Rattle.broker_model.specs.Connection.{ConnectionName}
+use Rattle.std.proofs.Common.{◌≡◌, if◌then◌else◌, [], Option, Some, None, ap, ◌∙◌, sym}
+use Rattle.broker_model.specs.Connection.{ConnectionName, same_connection}
 use Rattle.broker_model.specs.Place.{Client}
 use Rattle.broker_model.specs.Commands.{usual_limits}
 use Rattle.broker_model.specs.Answers.{closed}
@@ -13,13 +11,11 @@ use Rattle.subs_base.specs.Content.{Content, without_client}
 use Rattle.subs_base.specs.ListIndex.{content_of}
 use Rattle.broker_rows.specs.Touched.{written}
 use Rattle.broker_rows.specs.Served.{with_session}
-use Rattle.broker_rows.specs.Owners.{owners_in, without_owner}
+use Rattle.broker_rows.specs.Owners.{Owners, owners_in, without_owner}
 use Rattle.broker_rows.proofs.ExpelSteps.{expel_step, nobodys_expel_step}
 use Rattle.broker_rows.proofs.maps.ExpelledMaps.{expel_removes_the_owner, expel_drops_the_client}
 use Rattle.broker_tables.specs.declared.tables.Tables.{Tables}
-use Rattle.broker_tables.specs.Tables.{by_connection, state_in, stepped, IsTied, IsInStep}
-use Rattle.broker_tables.proofs.Connections.{at_is_same}
-use Rattle.broker_tables.proofs.Losses.{IsWithout}
+use Rattle.broker_tables.specs.Tables.{owners_at, state_in, stepped, IsTied, IsInStep}
 use Rattle.broker_tables.proofs.TiesOfRows.{tied_to}
 
 -- of a client with a session
@@ -33,24 +29,23 @@ pub nobody_expelled : (tables : Tables) (c : Client) → session_in c tables.ses
 unfolding stepped
 nobody_expelled tables c none = nobodys_expel_step usual_limits 64 (state_in tables) c none
 
--- the ties behind it: where it had no connection, and where that one is removed
-pub ties_without : (tables after : Tables) (c : Client) (kept : ClientSession) → IsInStep tables → session_in c tables.sessions.entries ≡ Some kept → kept.connection ≡ None →
-    after.owners.entries ≡ tables.owners.entries → after.sessions.entries ≡ written c None tables.sessions.entries →
-    content_of after.index ≡ without_client (content_of tables.index) c → IsTied after
-ties_without tables after c kept step held off owners is index =
-    tied_to after (written c None tables.sessions.entries) is
-    (λ q.
-    ap (lookup (is_at (by_connection q))) owners ∙ step.tied.owners q
-    ∙ sym (expel_removes_the_owner (state_in tables) c kept step.sound held q ∙ ap (λ o. without_owner o (owners_in tables.sessions.entries) q) off))
-    (index ∙ ap (λ (content : Content). without_client content c) step.tied.index ∙ sym (expel_drops_the_client c kept tables.sessions.entries step.sound.by_client held))
+-- the map of connections without one that there may be
+abbrev pub IsWithoutAny : Tables → Option ConnectionName → Tables → Type 0
+IsWithoutAny tables left after = (q : ConnectionName) → owners_at after.owners.entries q ≡ without_owner left (owners_at tables.owners.entries) q
 
-pub ties_removed : (tables after : Tables) (c : Client) (kept : ClientSession) (x : ConnectionName) → IsInStep tables → session_in c tables.sessions.entries ≡ Some kept → kept.connection ≡ Some x →
-    IsWithout tables x after → after.sessions.entries ≡ written c None tables.sessions.entries →
+without_same : (left : Option ConnectionName) (a b : Owners) (q : ConnectionName) → a q ≡ b q → without_owner left a q ≡ without_owner left b q
+without_same None a b q e = e
+without_same (Some x) a b q e = ap (λ (o : Option Client). if same_connection x q then None else o) e
+
+-- the ties after it
+pub ties_expelled : (tables after : Tables) (c : Client) (kept : ClientSession) (left : Option ConnectionName) → IsInStep tables → session_in c tables.sessions.entries ≡ Some kept →
+    left ≡ kept.connection → IsWithoutAny tables left after → after.sessions.entries ≡ written c None tables.sessions.entries →
     content_of after.index ≡ without_client (content_of tables.index) c → IsTied after
-ties_removed tables after c kept x step held on without is index =
+ties_expelled tables after c kept left step held same without is index =
     tied_to after (written c None tables.sessions.entries) is
     (λ q.
     without q
-    ∙ ap₂ (λ (b : Bool) (o : Option Client). cond b None o) (at_is_same x q) (step.tied.owners q)
-    ∙ sym (expel_removes_the_owner (state_in tables) c kept step.sound held q ∙ ap (λ o. without_owner o (owners_in tables.sessions.entries) q) on))
+    ∙ without_same left (owners_at tables.owners.entries) (owners_in tables.sessions.entries) q (step.tied.owners q)
+    ∙ ap (λ o. without_owner o (owners_in tables.sessions.entries) q) same
+    ∙ sym (expel_removes_the_owner (state_in tables) c kept step.sound held q))
     (index ∙ ap (λ (content : Content). without_client content c) step.tied.index ∙ sym (expel_drops_the_client c kept tables.sessions.entries step.sound.by_client held))

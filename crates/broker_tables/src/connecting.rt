@@ -142,8 +142,8 @@ impl Tables {
         take_over(&mut self.owners, left, connection, client)
     }
 
-    // The connection on which a client is served, if it is.
-    fn connection_of(&self, client: &ClientId) -> Option<ConnectionId>
+    /// The connection on which a client is served, if it is.
+    pub(crate) fn connection_of(&self, client: &ClientId) -> Option<ConnectionId>
         ensures { result ≡ connection_of (session_in client.now self.now.sessions.entries) }
     {
         match self.sessions.get(client) {
@@ -242,8 +242,8 @@ fn take_over(
     Ok(())
 }
 
-// A connection that there may be is nobody's.
-fn release(owners: &mut BTreeMap<ConnectionId, ClientId>, left: Option<ConnectionId>)
+/// A connection that there may be is nobody's.
+pub(crate) fn release(owners: &mut BTreeMap<ConnectionId, ClientId>, left: Option<ConnectionId>)
     ensures { (q : ConnectionName) →
         owners_at owners.new.entries q ≡ without_owner left (owners_at owners.old.entries) q }
 {

@@ -1,33 +1,48 @@
 // An Expel: an administrator ends a client's session.
 
-ghost use Rattle.std.specs.Prelude.{◌≡◌, ◌++◌, OnOk};
+ghost use Rattle.std.specs.Prelude.{◌≡◌, ◌++◌, OnOk, OnErr};
+ghost use Rattle.broker_model.specs.Answers.{closed};
 ghost use Rattle.broker_model.specs.declared.command.Command.TheVariants as commands;
 ghost use Rattle.broker_tables.specs.Tables.{IsInStep, IsTied, state_in, stepped};
 
+use crate::connecting::release;
 use crate::tables::Tables;
-use broker_model::Output;
+use broker_model::{ConnectionId, Output};
 use machine::Halted;
 use packet::ClientId;
 use subs::SubIndex;
 
 impl Tables {
-    /// A client's session is gone, with its subscriptions, its received identifiers and its entries,
-    /// and its connection is closed. A client without a session changes nothing.
+    /// Ends a client's session, with its subscriptions, its received identifiers and its entries,
+    /// and closes its connection. A client without a session changes nothing. Only the Close takes
+    /// memory: where there is none for it, all stays as it was.
     pub(crate) fn expel(&mut self, client: &ClientId, out: &mut Vec<Output>) -> Result<(), Halted>
         requires { IsInStep self.old }
         ensures state { OnOk result (state_in self.new ≡ (stepped self.old (commands.Expel client.now)).0) }
         ensures outputs { OnOk result (out.new.items ≡ out.old.items ++ (stepped self.old (commands.Expel client.now)).1) }
         ensures tied { OnOk result (IsTied self.new) }
+        ensures stays { OnErr result (self.new ≡ self.old) }
+        ensures unsent { OnErr result (out.new.items ≡ out.old.items) }
     {
-        let Some(row) = self.sessions.remove(client) else {
+        let Some(_row) = self.sessions.get(client) else {
             return Ok(());
         };
+        shut(self.connection_of(client), out)?;
+        let left = self.connection_of(client);
+        release(&mut self.owners, left);
+        self.sessions.remove(client);
         self.index.drop_client(client);
-        let Some(connection) = row.connection else {
-            return Ok(());
-        };
-        out.push(Output::Close(connection))?;
-        self.owners.remove(&connection);
         Ok(())
     }
+}
+
+// Closes a connection that there may be.
+fn shut(left: Option<ConnectionId>, out: &mut Vec<Output>) -> Result<(), Halted>
+    ensures closes { OnOk result (out.new.items ≡ out.old.items ++ closed left) }
+    ensures unsent { OnErr result (out.new.items ≡ out.old.items) }
+{
+    if let Some(left) = left {
+        out.push(Output::Close(left))?;
+    }
+    Ok(())
 }
