@@ -24,10 +24,13 @@ pub mod BeginsAgain
 pub mod Parted
 pub mod PartedGoes
 pub mod HandledCounted
+pub mod Turns
 pub mod Lingering
 pub mod LingersPlaced
 pub mod LingersOn
 pub mod Expelled
+pub mod InTurn
+pub mod InTurnGoes
 pub mod EachSession
 pub mod Rising
 pub mod CarriedAlike
@@ -37,5 +40,6 @@ pub mod SaysLasting
 pub mod NumberedGoes
 pub mod NothingNew
 pub mod NumbersOver
+pub mod FirstSession
 pub mod LivesExact
 pub mod LivedIsLife

@@ -1,5 +1,5 @@
 -- A client with several sessions: which place and which connection belongs to which of them, and who is in step.
-use Rattle.std.specs.Prelude.{◌≡◌, ℕ, Bool, true, false, ◌&&◌, ◌||◌, ◌==◌, ◌+◌, if◌then◌else◌, List, [], ◌∷◌, ◌++◌, Option, Some, None}
+use Rattle.std.specs.Prelude.{◌≡◌, ℕ, Bool, true, false, ◌&&◌, ◌||◌, ◌==◌, ◌+◌, if◌then◌else◌, List, [], ◌∷◌, ◌++◌, length, Option, Some, None, ◌⊎◌}
 use Rattle.session_base.specs.declared.publication.Publication.{Publication}
 use Rattle.lists.specs.Lists.{Each}
 use Rattle.broker_base.specs.Connection.{ConnectionName, same_connection}
@@ -16,6 +16,15 @@ use Rattle.story.specs.Story.{Story}
 abbrev pub sessions_begun : Past → Client → ℕ
 sessions_begun (place ∷ past) c = (if begins place past c then 1 else 0) + sessions_begun past c
 sessions_begun [] c = 0
+
+-- the places at which they began, the oldest first
+abbrev pub starts_of : Past → Client → List ℕ
+starts_of (place ∷ past) c = starts_of past c ++ (if begins place past c then length past ∷ [] else [])
+starts_of [] c = []
+
+-- it has had one session at most, and where one began it lasts
+abbrev pub IsFirstSession : Past → Client → Type 0
+IsFirstSession past c = (starts_of past c ≡ []) ⊎ ((start : ℕ) × (starts_of past c ≡ start ∷ []) × (session_start past c ≡ Some start))
 
 -- whether one began
 abbrev pub has_begun : Past → Client → Bool

@@ -1,11 +1,13 @@
 -- A client's life: its story over several sessions, which an Expel ends.
 use Rattle.std.specs.Prelude.{◌≡◌, ◌≤◌, ◌<◌, ℕ, false, if◌then◌else◌, List, [], ◌∷◌, ◌++◌, length, map, filter, Some, slice_get}
+use Rattle.std.specs.List.{flat_map}
 use Rattle.packet.specs.declared.publish.Publish.{Publish}
 use Rattle.packet.specs.declared.packet.Packet.TheVariants as packets
 use Rattle.session_base.specs.Publication.{publication_of}
 use Rattle.lists.specs.Lists.{In, IsPrefixOf, Each}
 use Rattle.broker_base.specs.Connection.{ConnectionName}
 use Rattle.broker_base.specs.Place.{Client, Place, Past, Limits, Mark}
+use Rattle.broker_base.specs.Past.{expels}
 use Rattle.broker_base.specs.Subscriptions.{effective_qos}
 use Rattle.broker_base.specs.Marks.{is_queued_at}
 use Rattle.broker_base.specs.Commands.{place_of}
@@ -19,8 +21,8 @@ use Rattle.broker_base.specs.Command.TheVariants as commands
 use Rattle.client_base.specs.Keeper.{all_own}
 use Rattle.story.specs.Story.{Story, Happens, no_story}
 use Rattle.story.specs.Carried.{carries, new_numbers, publications_of, published}
-use Rattle.story.specs.Headline.{two_entries, is_released, IsAnsweredBy, made_by, IsTakenAt}
-use Rattle.story.specs.InStep.{IsInStep, sessions_begun, entries_in, accepted_in}
+use Rattle.story.specs.Headline.{accepted_on, two_entries, is_released, IsAnsweredBy, made_by, IsTakenAt}
+use Rattle.story.specs.InStep.{IsInStep, sessions_begun, starts_of, IsFirstSession, entries_in, accepted_in}
 
 -- what may happen in a story of one session, and an Expel of the client at any time
 pub data Lived (limits : Limits) (c : Client) : Story → Type 0 where
@@ -85,6 +87,9 @@ pub record PublishedOverSessions (limits : Limits) (s : Story) : Type 0 where
 pub record ExactlyOnceOverSessions (limits : Limits) (s : Story) : Type 0 where
   pub publishers : PublishedOverSessions limits s
   pub subscribers : (start : ℕ) → AcceptedInSession limits s start
+  -- what it accepted it accepted in its sessions, one after the other
+  pub in_turn : accepted_on s.connections
+      ≡ flat_map (λ start. accepted_in s.past s.keeper.client start s.connections) (starts_of s.past s.keeper.client)
 
 -- as long as it is in step
 abbrev pub LivesAreExact : Limits → Type 0
@@ -93,3 +98,17 @@ LivesAreExact limits = (c : Client) (s : Story) → Lived limits c s → IsInSte
 -- the subscribers' part alone
 abbrev pub AcceptsInEachSession : Limits → Type 0
 AcceptsInEachSession limits = (c : Client) (s : Story) → Lived limits c s → IsInStep s → (start : ℕ) → AcceptedInSession limits s start
+
+-- ---- a client that was never expelled
+
+-- no command of the list expels the client
+abbrev pub IsUnexpelled : Client → Past → Type 0
+IsUnexpelled c = Each (λ (place : Place). expels place.command c ≡ false)
+
+-- then it has one session at most, and so it is in step
+pub record HasOneSession (s : Story) : Type 0 where
+  pub first : IsFirstSession s.past s.keeper.client
+  pub in_step : IsInStep s
+
+abbrev pub UnexpelledLivesAreInStep : Type 0
+UnexpelledLivesAreInStep = (limits : Limits) (c : Client) (s : Story) → Lived limits c s → IsUnexpelled c s.past → HasOneSession s

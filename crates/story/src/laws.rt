@@ -1,5 +1,6 @@
 // Laws of every story of a client. The calls do nothing; their contracts are the laws.
 
+ghost use Rattle.story.specs.Lives.{UnexpelledLivesAreInStep};
 ghost use Rattle.story.specs.Laws.{SteadyLivesAccept, SteadyLivesAreExact, SteadyStoriesAcceptInOrder, SteadyStoriesAreExact, SteadyStoriesPublishOnce, StoriesAcceptInOrder, StoriesEnter, StoriesPublishOnce, UsualLivesAccept, UsualLivesAreExact, UsualStoriesAreExact};
 
 /// Whatever happens to its connections and to the nodes, a client's QoS 2 publications become new in the list of
@@ -42,4 +43,10 @@ pub fn lives_accept_in_each_session()
 pub fn lives_are_exact()
     ensures usual { UsualLivesAreExact }
     ensures steady { SteadyLivesAreExact }
+{}
+
+/// A client that no Expel of the list names has one session at most, which lasts where it began, and is in step: so all that
+/// is promised of clients in step holds of it (MQTT 3.1.2.4).
+pub fn unexpelled_lives_are_in_step()
+    ensures { UnexpelledLivesAreInStep }
 {}

@@ -4,4 +4,7 @@
 
 mod laws;
 
-pub use laws::{stories_accept_in_order, stories_are_exact, stories_enter, stories_publish_once};
+pub use laws::{
+    lives_accept_in_each_session, lives_are_exact, stories_accept_in_order, stories_are_exact,
+    stories_enter, stories_publish_once, unexpelled_lives_are_in_step,
+};

@@ -19,6 +19,7 @@ use Rattle.story.specs.Story.Happens.{others_take}
 use Rattle.story.specs.InStep.{has_begun, began_again, AreWelcome, IsInStep, opens_on, opened_in}
 use Rattle.story.proofs.places.After.{IsKeptSession}
 use Rattle.story.proofs.publishing.AtPlaces.{put_more}
+use Rattle.story.proofs.sessions.Turns.{starts_stay}
 use Rattle.story.proofs.sessions.Beside.{kept_of, with_connections}
 use Rattle.story.proofs.sessions.EachPlaced.{counted_none}
 use Rattle.story.proofs.sessions.Openings.{no_start, session_began, started_begun, opened_same, unopened}
@@ -127,6 +128,7 @@ expelled_there limits steady c flags past keeper (κ ∷ others) n e life stands
             some = some κ.taken refl (f ∙ e);
             put = put_more limits place past κ.name ∙ ap (λ put. put_to limits past κ.name ++ put) (closes_only κ.name (current_connection past c)) ∙ append-nil (put_to limits past κ.name);
             opened = same;
+            starts = starts_stay place past c refl;
             entries = λ start. entries_parted limits place past c start (expelled_session limits past c);
             rest = λ start. accepted_placed place past c start others (all_fresh place c others refl);
           };

@@ -20,7 +20,7 @@ use Rattle.story.proofs.sessions.Lasting.{Lasts}
 use Rattle.story.proofs.sessions.LastingGoes.{all_kept, Stands}
 
 -- in this one
-entries_now : (limits : Limits) (past : Past) (c : Client) (start : ℕ) → session_start past c ≡ Some start → entries_in limits past c start ≡ entries_of limits past c
+pub entries_now : (limits : Limits) (past : Past) (c : Client) (start : ℕ) → session_start past c ≡ Some start → entries_in limits past c start ≡ entries_of limits past c
 unfolding session_start
 entries_now limits [] c start e = absurd (cc)
 entries_now limits (place ∷ past) c start e = ap (λ b. if b then entries_of limits (place ∷ past) c else entries_in limits past c start) (ap (is_at start) e ∙ eq_same start)

@@ -13,7 +13,7 @@ use Rattle.client_base.specs.Keeper.{Keeper}
 use Rattle.story.specs.Sides.{Connection}
 use Rattle.story.specs.Sends.{sends_to, put_to}
 use Rattle.story.specs.Story.{Story, Happens, counted_at}
-use Rattle.story.specs.InStep.{has_begun, WasWelcome, AreWelcome, IsInStep, opens_on, is_at, opened_in, entries_in, accepted_in}
+use Rattle.story.specs.InStep.{has_begun, WasWelcome, AreWelcome, IsInStep, opens_on, is_at, opened_in, entries_in, accepted_in, starts_of}
 use Rattle.story.proofs.places.After.{none_opens}
 use Rattle.story.proofs.publishing.AtPlaces.{put_more}
 use Rattle.story.proofs.sessions.Beside.{with_connections, flags_after}
@@ -24,6 +24,7 @@ use Rattle.story.proofs.sessions.LifeGoes.{life_goes}
 use Rattle.story.proofs.sessions.Lasting.{Lasts}
 use Rattle.story.proofs.sessions.LastingGoes.{Stands, stands_head, stands_goes, lasts_goes, all_fresh}
 use Rattle.story.proofs.sessions.LastingAccepts.{lasting_accepts}
+use Rattle.story.proofs.sessions.Turns.{starts_stay}
 use Rattle.story.proofs.sessions.Parted.{entries_parted}
 
 -- the life at the Expel, with what the client did since
@@ -40,6 +41,7 @@ pub record IsSince (limits : Limits) (c : Client) (past earlier : Past) (x : Con
   pub some : 1 ≤ count
   pub put : put_to limits past x ≡ put_to limits earlier x
   pub opened : opened_in past c x ≡ opened_in earlier c x
+  pub starts : starts_of past c ≡ starts_of earlier c
   pub entries : (start : ℕ) → entries_in limits past c start ≡ entries_in limits earlier c start
   pub rest : (start : ℕ) → accepted_in past c start others ≡ accepted_in earlier c start before
 
@@ -93,6 +95,7 @@ rest_placed limits c place past earlier x count others before closed silent i =
       some = i.some;
       put = put_more limits place past x ∙ ap₂ (λ a b. a ++ b) i.put silent ∙ append-nil (put_to limits earlier x);
       opened = opened_same place past c x (ap (opens_on x) closed) ∙ i.opened;
+      starts = starts_stay place past c closed ∙ i.starts;
       entries = λ start. entries_parted limits place past c start none ∙ i.entries start;
       rest = λ start. accepted_placed place past c start others (all_fresh place c others closed) ∙ i.rest start;
     }
@@ -101,12 +104,12 @@ rest_placed limits c place past earlier x count others before closed silent i =
 since_counted : (limits : Limits) (c : Client) (past earlier : Past) (x : ConnectionName) (count : ℕ) (others before : List Connection) → IsSince limits c past earlier x count others before
     → IsSince limits c past earlier x (suc count) others before
 since_counted limits c past earlier x count others before i =
-    record { none = i.none; begun = i.begun; some = let h = i.some in omega (arith, h); put = i.put; opened = i.opened; entries = i.entries; rest = i.rest }
+    record { none = i.none; begun = i.begun; some = let h = i.some in omega (arith, h); put = i.put; opened = i.opened; starts = i.starts; entries = i.entries; rest = i.rest }
 
 rest_counted : (limits : Limits) (c : Client) (past earlier : Past) (x : ConnectionName) (count j : ℕ) (others before : List Connection) → IsSince limits c past earlier x count others before
     → IsSince limits c past earlier x count (counted_at j others) before
 rest_counted limits c past earlier x count j others before i =
-    record { none = i.none; begun = i.begun; some = i.some; put = i.put; opened = i.opened; entries = i.entries; rest = λ start. accepted_counted past c start j others ∙ i.rest start }
+    record { none = i.none; begun = i.begun; some = i.some; put = i.put; opened = i.opened; starts = i.starts; entries = i.entries; rest = λ start. accepted_counted past c start j others ∙ i.rest start }
 
 pub lingers_placed : (limits : Limits) (c : Client) (place : Place) (past : Past) (keeper : Keeper) (i : ℕ) (connections : List Connection) → accepts place.command place.mark c ≡ None
     → (l : Lingers limits c (with_connections past keeper connections)) → sends_to l.newest.name (answers_at limits place past) ≡ [] → Lingers limits c (with_connections (place ∷ past) keeper (counted_at i connections))

@@ -1,5 +1,5 @@
 -- A client that is in step is promised all, over all its sessions.
-use Rattle.std.proofs.Common.{◌≡◌, ◌≤◌, ℕ, List, [], ◌∷◌, length, Option, Some, None, refl, sym, ◌∙◌, ap, subst, inl, inr, ◌⊎◌, Bool, ◌++◌}
+use Rattle.std.proofs.Common.{◌≡◌, ◌≤◌, ℕ, true, List, [], ◌∷◌, length, Option, Some, None, refl, sym, ◌∙◌, ap, subst, inl, inr, ◌⊎◌, Bool, ◌++◌}
 use Rattle.lists.specs.Lists.{Each}
 use Rattle.broker_base.specs.Place.{Client, Past, Limits}
 use Rattle.broker_base.specs.Past.{session_of, session_start}
@@ -10,9 +10,10 @@ use Rattle.client_base.specs.Keeper.{all_own}
 use Rattle.story.specs.Sides.{Connection}
 use Rattle.story.specs.Story.{Story, Happens, no_story, counted_at, command_of}
 use Rattle.story.specs.Story.Happens.{takes, others_take, receives, opens_anew, loses, disconnects, publishes_one, subscribes, unsubscribes}
+use Rattle.story.specs.Story.{Told}
 use Rattle.story.specs.Story.Told.{begins}
 use Rattle.story.specs.Carried.{publications_of, new_numbers}
-use Rattle.story.specs.InStep.{IsInStep, AreWelcome, sessions_begun}
+use Rattle.story.specs.InStep.{IsInStep, AreWelcome, IsFirstSession, has_begun, sessions_begun}
 use Rattle.story.specs.Lives.{Lived, PublishedOverSessions, LivesAreExact}
 use Rattle.story.specs.Lives.Lived.{opens, goes_on, is_expelled}
 use Rattle.story.proofs.Entering.{entering, entering_as}
@@ -43,15 +44,18 @@ use Rattle.story.proofs.sessions.Numbered.Numbered.{lasts, awaits}
 use Rattle.story.proofs.sessions.NumberedGoes.{counted_all_within, numbered_goes}
 use Rattle.story.proofs.sessions.NumbersOver.{rises_over, rises_placed, says_over, numbered_anew}
 use Rattle.story.proofs.sessions.SaysLasting.{stands_sound, says_lasting}
-use Rattle.story.proofs.sessions.Beside.{flags_after, kept_of}
+use Rattle.story.proofs.sessions.Beside.{beside, flags_after, kept_of}
+use Rattle.story.proofs.sessions.FirstSession.{first_once, none_begun, starts_counted}
+use Rattle.story.proofs.sessions.InTurn.{IsHeadOfLast, IsInTurn, IsTailInTurn, all_in_turn}
+use Rattle.story.proofs.sessions.InTurnGoes.{head_lasting, head_over, turn_expelled, turn_goes}
 use Rattle.story.proofs.places.After.{IsKeptSession}
-use Rattle.story.proofs.sessions.Openings.{session_began}
+use Rattle.story.proofs.sessions.Openings.{no_start, session_began}
 use Rattle.std.proofs.lemmas.Bool.{both_ways}
 use Rattle.std.specs.Prelude.{is_some}
 use Rattle.story.proofs.carrying.PlacesSay.{Says}
 
 -- how it stands with a client's sessions, and which of its publications are new
-data Stage (limits : Limits) (c : Client) (s : Story) : Type 0 where
+pub data Stage (limits : Limits) (c : Client) (s : Story) : Type 0 where
   lasting : (flags : List Bool) → Numbered limits c flags s → Lasts limits c flags s.past s.connections → Stage limits c s
   over : IsOver limits c s → RisesSoFar c s.past s.keeper s.connections → Stage limits c s
 
@@ -137,12 +141,19 @@ stage_says limits steady c s t life (lasting flags (lasts b o alone) l) carried 
 stage_says limits steady c s t life (lasting flags (awaits a o again) l) carried h = lasting_says limits steady c flags s t life (awaits a o again) o.olds o.is carried h
 stage_says limits steady c s t life (over o r) carried h = says_over limits c s t life (none_over limits c s o) carried h
 
+-- ---- what it accepts on its newest connection
+
+stage_head : (limits : Limits) (c : Client) (s : Story) → IsLife limits c s → Stage limits c s → IsHeadOfLast s.past c s.connections
+stage_head limits c s life (lasting flags n l) = head_lasting limits s.past c s.connections l.head life.connections.shut
+stage_head limits c s life (over o r) = head_over limits c s life o
+
 -- ---- every life
 
-record IsWell (limits : Limits) (c : Client) (s : Story) : Type 0 where
+pub record IsWell (limits : Limits) (c : Client) (s : Story) : Type 0 where
   pub life : IsLife limits c s
   pub stage : Stage limits c s
   pub carried : IsCarried limits s
+  pub turn : IsTailInTurn s.past c s.connections
 
 well_opens : (limits : Limits) (c : Client) → IsWell limits c (no_story c)
 unfolding session_start
@@ -157,9 +168,10 @@ well_opens limits c =
             elsewhere = λ start e. record { old = []; new = []; is = refl; accepted = refl; rest = tt };
           });
       carried = record { written = tt; places = tt; marked = tt; numbers = (tt, tt) };
+      turn = tt;
     }
 
-all_well : (limits : Limits) → IsSteady limits → (c : Client) (s : Story) → Lived limits c s → IsInStep s → IsWell limits c s
+pub all_well : (limits : Limits) → IsSteady limits → (c : Client) (s : Story) → Lived limits c s → IsInStep s → IsWell limits c s
 all_well limits steady c s opens step = well_opens limits c
 all_well limits steady c t (goes_on {s = s} lived h) step =
     let w = all_well limits steady c s lived (in_step_before limits s t h step) in
@@ -168,11 +180,17 @@ all_well limits steady c t (goes_on {s = s} lived h) step =
       life = later;
       stage = stage_goes limits steady c s t w.life later w.stage h step;
       carried = keeps_carried limits s t (counted_all_within s.past s.connections w.life.connections.counted) h (stage_says limits steady c s t w.life w.stage w.carried h) w.carried;
+      turn = turn_goes limits c s t w.life (stage_head limits c s w.life w.stage) w.turn h;
     }
 all_well limits steady c t (is_expelled {s = s} lived) step =
     let w = all_well limits steady c s lived (in_step_expelled limits c s step) in
     let later = life_expelled limits c s w.life in
-    record { life = later; stage = stage_expelled limits steady c s w.life later w.stage step; carried = place_carried limits s (commands.Expel c) refl w.carried }
+    record {
+      life = later;
+      stage = stage_expelled limits steady c s w.life later w.stage step;
+      carried = place_carried limits s (commands.Expel c) refl w.carried;
+      turn = turn_expelled limits c s w.turn;
+    }
 
 pub lives_publish : (limits : Limits) → IsSteady limits → (c : Client) (s : Story) → Lived limits c s → IsInStep s → PublishedOverSessions limits s
 lives_publish limits steady c s lived step =
@@ -190,5 +208,44 @@ lives_publish limits steady c s lived step =
       acknowledged = acknowledged_is_taken limits s w.carried;
     }
 
+lives_in_turn : (limits : Limits) → IsSteady limits → (c : Client) (s : Story) → Lived limits c s → IsInStep s → IsInTurn s.past s.keeper.client s.connections
+lives_in_turn limits steady c s lived step =
+    let w = all_well limits steady c s lived step in
+    subst (λ (d : Client). IsInTurn s.past d s.connections) (sym w.life.keeper.client)
+    (all_in_turn s.past c s.connections (stage_head limits c s w.life w.stage) w.turn)
+
+-- ---- while its first session lasts
+
+-- beside the life stands the story of that session, with the same client and the same new publications
+pub record HasOneStory (limits : Limits) (c : Client) (s : Story) : Type 0 where
+  pub flags : List Bool
+  pub told : Told limits c (beside flags s)
+  pub alone : s.keeper.earlier ≡ []
+  pub same : new_numbers s.connections s.past ≡ new_numbers (kept_of flags s.connections) s.past
+
+begun_over : (limits : Limits) (c : Client) (s : Story) → IsOver limits c s → has_begun s.past c ≡ true
+begun_over limits c s (lingers l) = l.since.begun
+begun_over limits c s (parts p) = p.begun
+
+not_over : (limits : Limits) (c : Client) (s : Story) → IsOver limits c s → IsFirstSession s.past c → ⊥
+not_over limits c s o (inl none) =
+    both_ways (has_begun s.past c) (none_begun s.past c (starts_counted s.past c ∙ ap length none)) (begun_over limits c s o)
+not_over limits c s o (inr (start, are, e)) = let f : None ≡ Some start = sym (no_start s.past c (none_over limits c s o)) ∙ e in cc
+
+stage_one : (limits : Limits) (c : Client) (s : Story) → Stage limits c s → IsFirstSession s.past c → HasOneStory limits c s
+stage_one limits c s (lasting flags (lasts b o alone) l) first =
+    let one = first_once s.past c first in
+    record { flags = flags; told = b.told; alone = alone one; same = o.is ∙ ap (λ olds. olds ++ new_numbers (kept_of flags s.connections) s.past) (o.alone one) }
+stage_one limits c s (lasting flags (awaits a o again) l) first = absurd (again (first_once s.past c first))
+stage_one limits c s (over o r) first = absurd (not_over limits c s o first)
+
+pub first_has_story : (limits : Limits) → IsSteady limits → (c : Client) (s : Story) → Lived limits c s → IsInStep s → IsFirstSession s.past c → HasOneStory limits c s
+first_has_story limits steady c s lived step first = stage_one limits c s (all_well limits steady c s lived step).stage first
+
 pub lives_exact : (limits : Limits) → IsSteady limits → LivesAreExact limits
-lives_exact limits steady c s lived step = record { publishers = lives_publish limits steady c s lived step; subscribers = lives_accept limits steady c s lived step }
+lives_exact limits steady c s lived step =
+    record {
+      publishers = lives_publish limits steady c s lived step;
+      subscribers = lives_accept limits steady c s lived step;
+      in_turn = lives_in_turn limits steady c s lived step;
+    }
