@@ -7,9 +7,7 @@ use Rattle.broker_base.specs.Commands.{past_of, usual_limits}
 use Rattle.broker_base.specs.EndingLaws.{EndsWithTheSession, connects_of}
 use Rattle.broker_base.specs.Place.{Client}
 use Rattle.lists.specs.Lists.{Each}
-use Rattle.story.specs.Headline.{ExactlyOnce}
 use Rattle.agreement.specs.World.{can_open}
-use Rattle.world_model.proofs.of_group_model.of_snapshots.PastsAgree.{has_agreed}
 use Rattle.model.specs.World.{AreApart, ClientEnds, opening as opening_beside, story_of as story_beside}
 use Rattle.model.specs.World as model
 use Rattle.model.specs.Goes.Reached.{begins as begins_beside}
@@ -27,11 +25,9 @@ use Rattle.world_model.specs.Goes.WorldStep.{goes_on as group_goes, calls, conne
 use Rattle.world_model.specs.World.{ClientPipes, World, new_client, opening}
 use Rattle.world_model.proofs.PipesInOrder.{in_order, opens_hold, step_holds}
 use Rattle.world_model.proofs.WorldsHold.{Holds}
-use Rattle.exact_model.specs.Exact.{IsExactBy, WorldsAreExact, story_of}
 use Rattle.exact_model.proofs.AllPutOut.{IsFull}
 use Rattle.exact_model.proofs.Beside.{Alone, Beside, ends_alone, grows_beside}
 use Rattle.exact_model.proofs.ClientsGo.{calls_so, connects_so, handles_so}
-use Rattle.exact_model.proofs.ExactUntaken.{exactly_once_untaken}
 use Rattle.exact_model.proofs.GoesBeside.{GoesBeside, group_beside, pipe_beside, pipe_rests}
 use Rattle.world_model.proofs.of_connection_model.CarriedInOrder.{IsAgreedSo, carried_at_first}
 use Rattle.exact_model.proofs.Places.{each_of_made, map_back, map_twice}

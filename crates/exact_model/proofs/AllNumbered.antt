@@ -1,5 +1,5 @@
 -- Every PUBLISH that a client writes has the number of its publication.
-use Rattle.std.proofs.Common.{◌≡◌, ℕ, zero, suc, Bool, true, false, not, ◌&&◌, if◌then◌else◌, List, [], ◌∷◌, ◌++◌, map, length, Option, Some, None, refl, subst}
+use Rattle.std.proofs.Common.{◌≡◌, ℕ, zero, suc, Bool, true, false, not, ◌&&◌, if◌then◌else◌, List, [], ◌∷◌, ◌++◌, map, Option, Some, None, refl, subst}
 use Rattle.packet.specs.declared.connack.Connack.TheVariants as connacks
 use Rattle.packet.specs.declared.delivery.Delivery.{Delivery}
 use Rattle.packet.specs.declared.delivery.Delivery.TheVariants as deliveries
@@ -8,16 +8,15 @@ use Rattle.packet.specs.declared.packet.Packet.TheVariants as packets
 use Rattle.session_base.specs.Identifiers.{least_free}
 use Rattle.session_base.specs.Publication.{publication_of}
 use Rattle.session_base.specs.declared.publication.Publication.{Publication}
-use Rattle.broker_base.specs.Place.{Client, Limits}
+use Rattle.broker_base.specs.Place.{Limits}
 use Rattle.client_base.specs.Called.{written_for}
 use Rattle.client_base.specs.Handled.{at_pubrec, confirmed, discarded, handled, handled_first, handled_online, is_sent_with, releasing, takes_in}
-use Rattle.client_base.specs.Keeper.{Keeper, Own, Written, ids_in_use}
+use Rattle.client_base.specs.Keeper.{Keeper, Own, Written, ids_in_use, next_number}
 use Rattle.client_base.specs.Written.{plain, publishes, resent, sent_again, sent_first, writes_first, writing}
 use Rattle.lists.specs.Lists.{Each, has_id}
 use Rattle.lists.proofs.OfEach.{each_append}
 use Rattle.story.specs.Sides.{Connection, Side}
-use Rattle.story.specs.Story.{Happens, Story, Told, counted_at}
-use Rattle.story.specs.Story.Told.{begins, goes_on}
+use Rattle.story.specs.Story.{Happens, Story, counted_at}
 use Rattle.story.specs.Story.Happens.{takes, others_take, receives, opens_anew, loses, disconnects, publishes_one, subscribes, unsubscribes}
 use Rattle.story.proofs.publishing.Answered.{counted_side}
 
@@ -111,7 +110,7 @@ handled_numbered κ keeper packet all = by keeper.is_online
     by true = online_numbered κ keeper packet all
     by false = first packet
 
--- ---- every story
+-- ---- every event
 
 counted_numbered : (i : ℕ) (connections : List Connection) → AreNumbered connections → AreNumbered (counted_at i connections)
 counted_numbered i [] all = tt
@@ -122,7 +121,7 @@ more_numbered : (more : List Written) (connections : List Connection) → Each I
 more_numbered more [] of all = tt
 more_numbered more (κ ∷ connections) of all = (each_append IsNumbered κ.written more all.0 of, all.1)
 
-happens_numbered : (limits : Limits) (s t : Story) → Happens limits s t → AreNumbered s.connections → AreNumbered t.connections
+pub happens_numbered : (limits : Limits) (s t : Story) → Happens limits s t → AreNumbered s.connections → AreNumbered t.connections
 happens_numbered limits s t (takes i κ w stands next) all = counted_numbered i s.connections all
 happens_numbered limits s t (others_take command other none) all = all
 happens_numbered limits s t (receives κ others packet are opened next) all =
@@ -136,12 +135,8 @@ happens_numbered limits s t disconnects all = by s.keeper.is_online
     by false = all
 happens_numbered limits s t (publishes_one p needs) all = more_numbered (written_for p s.keeper) s.connections (by s.keeper.is_online) all
   where
-    by : (b : Bool) → Each IsNumbered (if b then publishes false (length s.keeper.own) (least_free (ids_in_use s.keeper)) p ∷ [] else [])
+    by : (b : Bool) → Each IsNumbered (if b then publishes false (next_number s.keeper) (least_free (ids_in_use s.keeper)) p ∷ [] else [])
     by true = (refl, tt)
     by false = tt
 happens_numbered limits s t (subscribes p on id) all = more_numbered (plain (packets.Subscribe p) ∷ []) s.connections (refl, tt) all
 happens_numbered limits s t (unsubscribes p on id) all = more_numbered (plain (packets.Unsubscribe p) ∷ []) s.connections (refl, tt) all
-
-pub told_numbered : (limits : Limits) (c : Client) (s : Story) → Told limits c s → AreNumbered s.connections
-told_numbered limits c s begins = tt
-told_numbered limits c s (goes_on {s = r} told happens) = happens_numbered limits r s happens (told_numbered limits c r told)

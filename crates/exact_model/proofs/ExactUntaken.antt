@@ -1,20 +1,23 @@
 -- What is promised of a client does not depend on how much of what it wrote is counted as taken.
 use Rattle.std.proofs.Common.{◌≡◌, ◌≤◌, ℕ, ◌+◌, Bool, true, false, if◌then◌else◌, List, [], ◌∷◌, ◌++◌, length, map, filter, Some, refl, ap, ap₂, sym, ◌∙◌, subst}
-use Rattle.lists.specs.Lists.{In, IsPrefixOf}
+use Rattle.lists.specs.Lists.{Each, In, IsPrefixOf}
 use Rattle.packet.specs.declared.packet.Packet.TheVariants as packets
 use Rattle.broker_base.specs.Command.{Command}
 use Rattle.broker_base.specs.Command.TheVariants as commands
 use Rattle.broker_base.specs.Connection.{ConnectionName, same_connection}
 use Rattle.broker_base.specs.Entries.{Entry}
 use Rattle.broker_base.specs.OriginLaws.{is_from_publish}
-use Rattle.broker_base.specs.Place.{Limits, Past, Place}
+use Rattle.broker_base.specs.Place.{Client, Limits, Past, Place}
 use Rattle.broker_base.specs.Received.{is_new}
 use Rattle.broker_base.specs.Times.{entries_of}
-use Rattle.client_base.specs.Keeper.{Keeper}
+use Rattle.client_base.specs.Keeper.{Keeper, all_own}
 use Rattle.story.specs.Carried.{carries, connection_named, more_by, new_numbers, number_at, published}
-use Rattle.story.specs.Headline.{AcceptedInOrder, ExactlyOnce, IsTakenAt, PublishedOnce, accepted_on, is_this, made_by}
+use Rattle.story.specs.Headline.{IsTakenAt, accepted_on, is_this, made_by}
+use Rattle.story.specs.InStep.{AreWelcome, IsFirstSession, IsInStep, WasWelcome, accepted_in, is_at, opened_in, starts_of}
+use Rattle.story.specs.Lives.{AcceptedInSession, ExactlyOnceOverSessions, HasOneSession, IsRising, PublishedOverSessions}
 use Rattle.story.specs.Sides.{Connection}
 use Rattle.story.specs.Story.{Story, count_of}
+use Rattle.story.proofs.sessions.InTurn.{flat_map_same}
 use Rattle.exact_model.proofs.Untaken.{AreSameUntaken, untaken_connection}
 
 -- ---- what is read of connections
@@ -49,10 +52,40 @@ accepted_untaken : (connections : List Connection) → accepted_on (map untaken_
 accepted_untaken [] = refl
 accepted_untaken (κ ∷ connections) = ap (λ l. l ++ κ.accepted) (accepted_untaken connections)
 
+accepted_in_untaken : (past : Past) (c : Client) (start : ℕ) (connections : List Connection) → accepted_in past c start (map untaken_connection connections) ≡ accepted_in past c start connections
+accepted_in_untaken past c start [] = refl
+accepted_in_untaken past c start (κ ∷ connections) =
+    ap (λ l. l ++ (if is_at start (opened_in past c κ.name) then κ.accepted else [])) (accepted_in_untaken past c start connections)
+
 -- so it is the same of other connections
 same_by : {X : Type 0} (f : List Connection → X) → ((connections : List Connection) → f (map untaken_connection connections) ≡ f connections)
     → (connections others : List Connection) → AreSameUntaken connections others → f connections ≡ f others
 same_by f untaken connections others same = sym (untaken connections) ∙ ap f same ∙ untaken others
+
+pub same_accepted_on : (connections others : List Connection) → AreSameUntaken connections others → accepted_on connections ≡ accepted_on others
+same_accepted_on = same_by accepted_on accepted_untaken
+
+-- ---- who is in step
+
+untaken_each : (past : Past) (c : Client) (connections : List Connection) → Each (WasWelcome past c) connections → Each (WasWelcome past c) (map untaken_connection connections)
+untaken_each past c [] h = tt
+untaken_each past c (κ ∷ connections) h = (h.0, untaken_each past c connections h.1)
+
+each_untaken : (past : Past) (c : Client) (connections : List Connection) → Each (WasWelcome past c) (map untaken_connection connections) → Each (WasWelcome past c) connections
+each_untaken past c [] h = tt
+each_untaken past c (κ ∷ connections) h = (h.0, each_untaken past c connections h.1)
+
+untaken_welcome : (past : Past) (c : Client) (connections : List Connection) → AreWelcome past c connections → AreWelcome past c (map untaken_connection connections)
+untaken_welcome past c [] h = tt
+untaken_welcome past c (κ ∷ connections) h = untaken_each past c connections h
+
+welcome_untaken : (past : Past) (c : Client) (connections : List Connection) → AreWelcome past c (map untaken_connection connections) → AreWelcome past c connections
+welcome_untaken past c [] h = tt
+welcome_untaken past c (κ ∷ connections) h = each_untaken past c connections h
+
+pub same_welcome : (past : Past) (c : Client) (connections others : List Connection) → AreSameUntaken connections others → AreWelcome past c connections → AreWelcome past c others
+same_welcome past c connections others same h =
+    welcome_untaken past c others (subst (AreWelcome past c) same (untaken_welcome past c connections h))
 
 -- ---- what is promised
 
@@ -76,11 +109,12 @@ module _ (limits : Limits) (past : Past) (keeper : Keeper) (connections others :
   same_taken {place = place} {below = below} at =
       record { stands = at.stands; carried = sym (same_carries place.command below) ∙ at.carried; taken = at.taken }
 
-  publishers : PublishedOnce limits before → PublishedOnce limits after
+  publishers : PublishedOverSessions limits before → PublishedOverSessions limits after
   publishers once =
       record {
         carried = λ place below x p k stands is command. once.carried place below x p k stands (same_carries place.command below ∙ is) command;
-        in_order = subst (λ (l : List ℕ). IsPrefixOf l (published keeper.own)) same_numbers once.in_order;
+        rises = subst IsRising same_numbers once.rises;
+        in_order = λ one. subst (λ (l : List ℕ). IsPrefixOf l (published (all_own keeper))) same_numbers (once.in_order one);
         taken = λ k new.
             let at = once.taken k (subst (λ (l : List ℕ). In k l) (sym same_numbers) new) in
             (at.0, at.1, same_taken at.2);
@@ -93,23 +127,38 @@ module _ (limits : Limits) (past : Past) (keeper : Keeper) (connections others :
         acknowledged = λ place below x id k stands is by. same_taken (once.acknowledged place below x id k stands (same_carries place.command below ∙ is) by);
       }
 
-  subscribers : AcceptedInOrder limits before → AcceptedInOrder limits after
-  subscribers ordered =
+  same_accepted : (start : ℕ) → accepted_in past keeper.client start connections ≡ accepted_in past keeper.client start others
+  same_accepted start = same_by (accepted_in past keeper.client start) (accepted_in_untaken past keeper.client start) connections others same
+
+  subscribers : (start : ℕ) → AcceptedInSession limits before start → AcceptedInSession limits after start
+  subscribers start ordered =
+      record { old = ordered.old; new = ordered.new; is = ordered.is; accepted = sym (same_accepted start) ∙ ordered.accepted; rest = ordered.rest }
+
+  exact : ExactlyOnceOverSessions limits before → ExactlyOnceOverSessions limits after
+  exact once =
       record {
-        old = ordered.old;
-        new = ordered.new;
-        is = ordered.is;
-        accepted = sym (same_by accepted_on accepted_untaken connections others same) ∙ ordered.accepted;
-        rest = ordered.rest;
+        publishers = publishers once.publishers;
+        subscribers = λ start. subscribers start (once.subscribers start);
+        in_turn = sym (same_accepted_on connections others same) ∙ once.in_turn
+            ∙ flat_map_same (λ start. accepted_in past keeper.client start connections) (λ start. accepted_in past keeper.client start others) same_accepted (starts_of past keeper.client);
       }
 
-  exact : ExactlyOnce limits before → ExactlyOnce limits after
-  exact once = record { publishers = publishers once.publishers; subscribers = subscribers once.subscribers }
-
 -- two stories of one past and one keeper
-pub exactly_once_untaken : (limits : Limits) (s t : Story) → s.past ≡ t.past → s.keeper ≡ t.keeper → AreSameUntaken s.connections t.connections → ExactlyOnce limits s
-    → ExactlyOnce limits t
+pub exactly_once_untaken : (limits : Limits) (s t : Story) → s.past ≡ t.past → s.keeper ≡ t.keeper → AreSameUntaken s.connections t.connections
+    → ExactlyOnceOverSessions limits s → ExactlyOnceOverSessions limits t
 exactly_once_untaken limits s t past keeper same once =
-    subst (λ (p : Past). ExactlyOnce limits (record { past = p; connections = t.connections; keeper = t.keeper })) past
-    (subst (λ (k : Keeper). ExactlyOnce limits (record { past = s.past; connections = t.connections; keeper = k })) keeper
+    subst (λ (p : Past). ExactlyOnceOverSessions limits (record { past = p; connections = t.connections; keeper = t.keeper })) past
+    (subst (λ (k : Keeper). ExactlyOnceOverSessions limits (record { past = s.past; connections = t.connections; keeper = k })) keeper
     (exact limits s.past s.keeper s.connections t.connections same once))
+
+pub in_step_untaken : (s t : Story) → s.past ≡ t.past → s.keeper ≡ t.keeper → AreSameUntaken s.connections t.connections → IsInStep s → IsInStep t
+in_step_untaken s t past keeper same step =
+    subst (λ (p : Past). AreWelcome p t.keeper.client t.connections) past
+    (subst (λ (k : Keeper). AreWelcome s.past k.client t.connections) keeper (same_welcome s.past s.keeper.client s.connections t.connections same step))
+
+pub one_session_untaken : (s t : Story) → s.past ≡ t.past → s.keeper ≡ t.keeper → AreSameUntaken s.connections t.connections → HasOneSession s → HasOneSession t
+one_session_untaken s t past keeper same h =
+    record {
+      first = subst (λ (p : Past). IsFirstSession p t.keeper.client) past (subst (λ (k : Keeper). IsFirstSession s.past k.client) keeper h.first);
+      in_step = in_step_untaken s t past keeper same h.in_step;
+    }

@@ -1,11 +1,12 @@
--- To each client of a world, and to each list on which its nodes agree, there is a story that was told of it.
+-- To each client of a world, and to each list on which its nodes agree, there is a life that it lived.
 use Rattle.std.proofs.Common.{◌≡◌, ℕ, List, Some, refl, sym, ap, ◌∙◌, subst}
 use Rattle.std.specs.Prelude.{slice_get}
 use Rattle.ballot.specs.Config.{Config}
 use Rattle.broker_base.specs.Command.{Command}
 use Rattle.broker_base.specs.Commands.{past_of, usual_limits}
 use Rattle.broker_base.specs.Place.{Client}
-use Rattle.story.specs.Story.{Story, Told}
+use Rattle.story.specs.Lives.{Lived}
+use Rattle.story.specs.Story.{Story}
 use Rattle.model.specs.World.{AreApart, ClientEnds, story_of}
 use Rattle.model.proofs.Holds.{IsTold}
 use Rattle.model.proofs.Lists.{each_get}
@@ -20,25 +21,25 @@ use Rattle.exact_model.proofs.Places.{map_back}
 use Rattle.exact_model.proofs.Untaken.{AreSameUntaken}
 use Rattle.exact_model.proofs.WorldsWrite.{clients_alone, pipes_alone}
 
-pub record HasStory (agreed : List Command) (c : ClientPipes) : Type 0 where
+pub record HasLife (agreed : List Command) (c : ClientPipes) : Type 0 where
   pub story : Story
-  pub told : Told usual_limits story.keeper.client story
+  pub lived : Lived usual_limits story.keeper.client story
   pub past : story.past ≡ past_of usual_limits agreed
   pub keeper : story.keeper ≡ c.keeper
   pub connections : AreSameUntaken story.connections c.connections
 
-pub told_beside : {nodes : ℕ} {config : Config} {cs : List Client} → AreApart cs → (w : World) (went : Went nodes config w.group) (s : GoesBeside nodes config cs w went)
-    (agreed : List Command) → IsAgreedSo s.so agreed → (i : ℕ) (c : ClientPipes) → slice_get w.clients i ≡ Some c → HasStory agreed c
-told_beside {cs = cs} apart w went s agreed is i c at = by (map_back ends_alone b.world.clients i (pipes_alone c) (ap (λ l. slice_get l i) b.same ∙ get_mapped pipes_alone w.clients i c at))
+pub lived_beside : {nodes : ℕ} {config : Config} {cs : List Client} → AreApart cs → (w : World) (went : Went nodes config w.group) (s : GoesBeside nodes config cs w went)
+    (agreed : List Command) → IsAgreedSo s.so agreed → (i : ℕ) (c : ClientPipes) → slice_get w.clients i ≡ Some c → HasLife agreed c
+lived_beside {cs = cs} apart w went s agreed is i c at = by (map_back ends_alone b.world.clients i (pipes_alone c) (ap (λ l. slice_get l i) b.same ∙ get_mapped pipes_alone w.clients i c at))
   where
     b : Beside cs agreed (clients_alone w)
     b = s.beside agreed is
 
-    by : (d : ClientEnds) × (slice_get b.world.clients i ≡ Some d) × (ends_alone d ≡ pipes_alone c) → HasStory agreed c
+    by : (d : ClientEnds) × (slice_get b.world.clients i ≡ Some d) × (ends_alone d ≡ pipes_alone c) → HasLife agreed c
     by (d, there, same) =
         record {
           story = story_of b.world.agreed d;
-          told = each_get (IsTold b.world.agreed) b.world.clients i d (reached_holds cs b.world apart b.reached).told there;
+          lived = each_get (IsTold b.world.agreed) b.world.clients i d (reached_holds cs b.world apart b.reached).told there;
           past = ap (past_of usual_limits) b.is;
           keeper = ap (λ (a : Alone). a.keeper) same;
           connections = ap (λ (a : Alone). a.connections) same;

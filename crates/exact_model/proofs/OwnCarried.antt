@@ -1,5 +1,5 @@
 -- Each PUBLISH on a client's current connection carries one of its publications.
-use Rattle.std.proofs.Common.{◌≡◌, ℕ, zero, suc, Bool, true, false, List, [], ◌∷◌, ◌++◌, Option, Some, None, refl, sym, ap, ◌∙◌, subst}
+use Rattle.std.proofs.Common.{◌≡◌, ℕ, zero, suc, Bool, true, false, ◌||◌, if◌then◌else◌, List, [], ◌∷◌, ◌++◌, Option, Some, None, refl, sym, ap, ◌∙◌, subst, inl, inr, ◌⊎◌}
 use Rattle.std.specs.Prelude.{slice_get}
 use Rattle.std.proofs.lemmas.Bool.{both_ways}
 use Rattle.packet.specs.declared.packet.Packet.{Packet}
@@ -13,26 +13,35 @@ use Rattle.broker_base.specs.EndingLaws.{StandsAt}
 use Rattle.broker_base.specs.Owner.{owner_of}
 use Rattle.broker_base.specs.Past.{current_connection}
 use Rattle.broker_base.specs.Place.{Client, Limits, Mark, Past, Place, same_client}
-use Rattle.broker_base.specs.QuietLaws.{IsSteady}
 use Rattle.broker_base.proofs.ClientsInOrder.{same_self}
+use Rattle.client_base.specs.Called.{written_for}
 use Rattle.client_base.specs.Keeper.{Written}
+use Rattle.client_base.specs.Written.{plain, writes_first}
 use Rattle.lists.specs.Lists.{Each}
 use Rattle.story.specs.Carried.{carries, connection_named, number_at}
 use Rattle.story.specs.Sides.{Connection}
-use Rattle.story.specs.Story.{Happens, Story, Told, any_named, command_of, counted_at, count_of, is_packet_of}
-use Rattle.story.specs.Story.Told.{begins, goes_on}
+use Rattle.story.specs.Story.{Happens, Story, any_named, command_of, counted_at, count_of, is_packet_of, names_client}
+use Rattle.story.specs.Lives.{Lived}
+use Rattle.story.specs.Lives.Lived.{opens, goes_on, is_expelled}
 use Rattle.story.specs.Story.Happens.{takes, others_take, receives, opens_anew, loses, disconnects, publishes_one, subscribes, unsubscribes}
-use Rattle.story.specs.Inside.Shape.{ConnectionInShape, HasShape, IsSoundStory, LastIsCurrent}
-use Rattle.story.proofs.carrying.KeepsNumbers.{events_keep_numbers}
+use Rattle.story.proofs.carrying.KeepsNumbers.{numbers_keep}
+use Rattle.story.proofs.keeping.CurrentOnes.{none_opened}
 use Rattle.story.proofs.keeping.KeepsShape.{same_story}
-use Rattle.story.proofs.keeping.Told.{told_stories_are_sound}
+use Rattle.story.proofs.publishing.Grown.{handled_grows}
 use Rattle.story.proofs.places.Owned.{owner_is_other}
 use Rattle.story.proofs.publishing.Last.{each_there}
 use Rattle.story.proofs.publishing.events.Receives.{each_at}
 use Rattle.story.proofs.publishing.events.TakesTwo.{carries_it}
 use Rattle.story.proofs.publishing.kept.Numbers.{SameNumbers, same_carries}
 use Rattle.story.proofs.carrying.PlacesSay.{numbers_below}
-use Rattle.exact_model.proofs.AllNumbered.{AreNumbered, IsNumbered, is_unnumbered, told_numbered}
+use Rattle.story.proofs.sessions.EachSession.{life_opens}
+use Rattle.story.proofs.sessions.Life.{IsCounted, IsLife}
+use Rattle.story.proofs.sessions.LifeExpelled.{life_expelled}
+use Rattle.story.proofs.sessions.LifeGoes.{life_goes}
+use Rattle.story.proofs.sessions.LifePlaces.{life_command}
+use Rattle.story.proofs.sessions.NumberedGoes.{counted_all_within}
+use Rattle.exact_model.proofs.CurrentNamed.{IsCurrentNamed, stays_named, taken_named}
+use Rattle.exact_model.proofs.AllNumbered.{AreNumbered, IsNumbered, happens_numbered, is_unnumbered}
 
 -- where it is the client's
 abbrev pub CarriesOwn : Client → List Connection → Command → Past → Type 0
@@ -64,15 +73,15 @@ has_number : (p : Publish) (o : Option ℕ) → is_unnumbered (packets.Publish p
 has_number p (Some k) e = (k, refl)
 has_number p None e = absurd (both_ways true e refl)
 
-taken_carries : (i : ℕ) (s : Story) (κ : Connection) (w : Written) (limits : Limits) → HasShape limits s → slice_get s.connections i ≡ Some κ
-    → slice_get κ.written κ.taken ≡ Some w → IsNumbered w → (n : ℕ) → CarriesOwn s.keeper.client (counted_at i s.connections) (command_of κ.name n w.packet) s.past
-taken_carries i s κ w limits shape stands next numbered n x p is own = by n w.packet refl is
+taken_carries : (i : ℕ) (limits : Limits) (c : Client) (s : Story) (κ : Connection) (w : Written) → IsLife limits c s → slice_get s.connections i ≡ Some κ
+    → slice_get κ.written κ.taken ≡ Some w → IsNumbered w → (n : ℕ) → CarriesOwn c (counted_at i s.connections) (command_of κ.name n w.packet) s.past
+taken_carries i limits c s κ w life stands next numbered n x p is own = by n w.packet refl is
   where
-    this : ConnectionInShape limits s.past s.keeper.client κ
-    this = each_there (ConnectionInShape limits s.past s.keeper.client) i s.connections κ stands shape.connections
+    this : IsCounted s.past κ
+    this = each_there (IsCounted s.past) i s.connections κ stands life.connections.counted
 
     carried : number_at (count_of κ.name s.past) (connection_named κ.name (counted_at i s.connections)) ≡ w.number
-    carried = carries_it s.past i s.connections κ w Mark.NoPart shape.names_apart stands next this.counted
+    carried = carries_it s.past i s.connections κ w Mark.NoPart life.connections.names stands next this.counted
 
     found : (q : Publish) → w.packet ≡ packets.Publish q → (k : ℕ) × (carries (counted_at i s.connections) (commands.Packet κ.name (packets.Publish q)) s.past ≡ Some k)
     found q e =
@@ -90,42 +99,99 @@ taken_carries i s κ w limits shape stands next numbered n x p is own = by n w.p
 
 -- ---- a command of others is
 
-current_there : (past : Past) (c : Client) (connections : List Connection) → LastIsCurrent (current_connection past c) connections → (y : ConnectionName) → current_connection past c ≡ Some y
-    → any_named (same_connection y) connections ≡ true
-current_there past c connections last y is = (subst (λ (o : Option ConnectionName). LastIsCurrent o connections) is last).0
+others_carry : (past : Past) (c : Client) (connections : List Connection) (command : Command) → IsCurrentNamed c connections past → any_named (is_packet_of command) connections ≡ false
+    → CarriesOwn c connections command past
+others_carry past c connections command current none x p is own =
+    let unnamed : any_named (same_connection x) connections ≡ false = subst (λ (k : Command). any_named (is_packet_of k) connections ≡ false) is none in
+    absurd (both_ways (same_client c c) (owner_is_other past c c connections x current unnamed own) (same_self c))
 
-others_carry : (limits : Limits) (s : Story) (command : Command) → HasShape limits s → any_named (is_packet_of command) s.connections ≡ false → CarriesOwn s.keeper.client s.connections command s.past
-others_carry limits s command shape none x p is own =
-    let unnamed : any_named (same_connection x) s.connections ≡ false = subst (λ (k : Command). any_named (is_packet_of k) s.connections ≡ false) is none in
-    let c = s.keeper.client in
-    absurd (both_ways (same_client c c) (owner_is_other s.past c c s.connections x (current_there s.past c s.connections shape.last_is_current) unnamed own) (same_self c))
+-- ---- every life
 
--- ---- every story
+record AllOwn (c : Client) (connections : List Connection) (past : Past) : Type 0 where
+  pub current : IsCurrentNamed c connections past
+  pub carried : OwnAreCarried c connections past
 
-stays_own : (limits : Limits) (s t : Story) → IsSoundStory limits s → Happens limits s t → t.past ≡ s.past → OwnAreCarried s.keeper.client s.connections s.past
-    → OwnAreCarried t.keeper.client t.connections t.past
-stays_own limits s t sound h same all =
-    subst (λ (z : Past). OwnAreCarried t.keeper.client t.connections z) (sym same)
-    (subst (λ (d : Client). OwnAreCarried d t.connections s.past) (sym (same_story limits s t h))
-    (own_later s.keeper.client s.connections t.connections s.past (events_keep_numbers limits s t sound.shape h) all))
+-- the client has the same connections by name, or one more
+stays_own : (limits : Limits) (c : Client) (s t : Story) → IsLife limits c s → Happens limits s t → t.past ≡ s.past
+    → ((y : ConnectionName) → any_named (same_connection y) s.connections ≡ true → any_named (same_connection y) t.connections ≡ true) → AllOwn c s.connections s.past → AllOwn c t.connections t.past
+stays_own limits c s t life h same more all =
+    subst (AllOwn c t.connections) (sym same)
+    (record {
+      current = λ y is. more y (all.current y is);
+      carried = own_later c s.connections t.connections s.past (numbers_keep limits s t (counted_all_within s.past s.connections life.connections.counted) h) all.carried;
+    })
 
-happens_own : (limits : Limits) (s t : Story) → IsSoundStory limits s → Happens limits s t → AreNumbered s.connections → OwnAreCarried s.keeper.client s.connections s.past
-    → OwnAreCarried t.keeper.client t.connections t.past
-happens_own limits s t sound (takes i κ w stands next) numbered all =
-    let one = each_at IsNumbered κ.taken κ.written w next (each_there (λ (μ : Connection). Each IsNumbered μ.written) i s.connections κ stands numbered) in (
-      taken_carries i s κ w limits sound.shape stands next one κ.taken,
-      own_later s.keeper.client s.connections t.connections s.past (events_keep_numbers limits s t sound.shape (takes i κ w stands next)) all,
-    )
-happens_own limits s t sound (others_take command other none) numbered all = (others_carry limits s command sound.shape none, all)
-happens_own limits s t sound (receives κ others packet are opened next) numbered all = stays_own limits s t sound (receives κ others packet are opened next) refl all
-happens_own limits s t sound (opens_anew x fresh none uncounted) numbered all = stays_own limits s t sound (opens_anew x fresh none uncounted) refl all
-happens_own limits s t sound loses numbered all = stays_own limits s t sound loses refl all
-happens_own limits s t sound disconnects numbered all = stays_own limits s t sound disconnects refl all
-happens_own limits s t sound (publishes_one p needs) numbered all = stays_own limits s t sound (publishes_one p needs) refl all
-happens_own limits s t sound (subscribes p on id) numbered all = stays_own limits s t sound (subscribes p on id) refl all
-happens_own limits s t sound (unsubscribes p on id) numbered all = stays_own limits s t sound (unsubscribes p on id) refl all
+-- what is written keeps the names
+written_more : (y : ConnectionName) (more : List Written) (connections : List Connection) → any_named (same_connection y) connections ≡ true → any_named (same_connection y) (writes_first more connections) ≡ true
+written_more y more [] e = e
+written_more y more (κ ∷ others) e = e
 
-pub told_own : (limits : Limits) → IsSteady limits → (c : Client) (s : Story) → Told limits c s → OwnAreCarried s.keeper.client s.connections s.past
-told_own limits steady c s begins = tt
-told_own limits steady c s (goes_on {s = r} told happens) =
-    happens_own limits r s (told_stories_are_sound limits steady c r told) happens (told_numbered limits c r told) (told_own limits steady c r told)
+maybe_more : (y : ConnectionName) (b : Bool) (more : List Written) (connections : List Connection) → any_named (same_connection y) connections ≡ true
+    → any_named (same_connection y) (if b then writes_first more connections else connections) ≡ true
+maybe_more y true more connections e = written_more y more connections e
+maybe_more y false more connections e = e
+
+first_more : (y x : ConnectionName) (connections : List Connection) → any_named (same_connection y) connections ≡ true → (same_connection y x || any_named (same_connection y) connections) ≡ true
+first_more y x connections e = by (same_connection y x)
+  where
+    by : (b : Bool) → (b || any_named (same_connection y) connections) ≡ true
+    by true = refl
+    by false = e
+
+happens_own : (limits : Limits) (c : Client) (s t : Story) → IsLife limits c s → Happens limits s t → AreNumbered s.connections → AllOwn c s.connections s.past → AllOwn c t.connections t.past
+happens_own limits c s t life (takes i κ w stands next) numbered all =
+    let one = each_at IsNumbered κ.taken κ.written w next (each_there (λ (μ : Connection). Each IsNumbered μ.written) i s.connections κ stands numbered) in
+    let within = counted_all_within s.past s.connections life.connections.counted in
+    record {
+      current = taken_named limits s.past c i κ w.packet (command_of κ.name κ.taken w.packet) s.connections (life_command limits c s i κ w life stands next) stands all.current;
+      carried = (
+        taken_carries i limits c s κ w life stands next one κ.taken,
+        own_later c s.connections t.connections s.past (numbers_keep limits s t within (takes i κ w stands next)) all.carried,
+      );
+    }
+happens_own limits c s t life (others_take command other none) numbered all =
+    let place = place_of limits s.past command in
+    let mine = subst (λ (d : Client). names_client s.past d command → ⊥) life.keeper.client other in
+    record {
+      current = stays_named place s.past c s.connections (none_opened s.past c command place.mark mine) all.current;
+      carried = (others_carry s.past c s.connections command all.current none, all.carried);
+    }
+happens_own limits c s t life (receives κ others packet are opened next) numbered all =
+    stays_own limits c s t life (receives κ others packet are opened next) refl
+    (λ y e. ap (λ x. same_connection y x || any_named (same_connection y) others) (handled_grows κ s.keeper packet).name ∙ sym (ap (any_named (same_connection y)) are) ∙ e) all
+happens_own limits c s t life (opens_anew x fresh none uncounted) numbered all =
+    stays_own limits c s t life (opens_anew x fresh none uncounted) refl (λ y e. first_more y x s.connections e) all
+happens_own limits c s t life loses numbered all = stays_own limits c s t life loses refl (λ y e. e) all
+happens_own limits c s t life disconnects numbered all =
+    stays_own limits c s t life disconnects refl (λ y e. maybe_more y s.keeper.is_online (plain packets.Disconnect ∷ []) s.connections e) all
+happens_own limits c s t life (publishes_one p needs) numbered all =
+    stays_own limits c s t life (publishes_one p needs) refl (λ y e. written_more y (written_for p s.keeper) s.connections e) all
+happens_own limits c s t life (subscribes p on id) numbered all =
+    stays_own limits c s t life (subscribes p on id) refl (λ y e. written_more y (plain (packets.Subscribe p) ∷ []) s.connections e) all
+happens_own limits c s t life (unsubscribes p on id) numbered all =
+    stays_own limits c s t life (unsubscribes p on id) refl (λ y e. written_more y (plain (packets.Unsubscribe p) ∷ []) s.connections e) all
+
+record HasOwn (limits : Limits) (c : Client) (s : Story) : Type 0 where
+  pub life : IsLife limits c s
+  pub numbered : AreNumbered s.connections
+  pub own : AllOwn c s.connections s.past
+
+lived_own : (limits : Limits) (c : Client) (s : Story) → Lived limits c s → HasOwn limits c s
+unfolding current_connection
+lived_own limits c s opens = record { life = life_opens limits c; numbered = tt; own = record { current = λ y is. cc; carried = tt } }
+lived_own limits c t (goes_on {s = s} lived h) =
+    let o = lived_own limits c s lived in
+    record { life = life_goes limits c s t o.life h; numbered = happens_numbered limits s t h o.numbered; own = happens_own limits c s t o.life h o.numbered o.own }
+lived_own limits c t (is_expelled {s = s} lived) =
+    let o = lived_own limits c s lived in
+    let place = place_of limits s.past (commands.Expel c) in
+    record {
+      life = life_expelled limits c s o.life;
+      numbered = o.numbered;
+      own = record { current = stays_named place s.past c s.connections refl o.own.current; carried = (λ x p is own. absurd (cc), o.own.carried) };
+    }
+
+pub own_are_carried : (limits : Limits) (c : Client) (s : Story) → Lived limits c s → OwnAreCarried s.keeper.client s.connections s.past
+own_are_carried limits c s lived =
+    let o = lived_own limits c s lived in
+    subst (λ (d : Client). OwnAreCarried d s.connections s.past) (sym o.life.keeper.client) o.own.carried

@@ -1,36 +1,25 @@
--- What the steps of a world publish is what its clients published: no session is lost.
-use Rattle.std.proofs.Common.{◌≡◌, ◌==◌, ℕ, zero, suc, Bool, true, false, if◌then◌else◌, List, [], ◌∷◌, ◌++◌, length, map, Ok, Option, Some, set, refl, sym, ap, ap₂, ◌∙◌, subst, inl, inr, ◌⊎◌, arith}
+-- What the steps of a world publish is what its clients published, over all their sessions.
+use Rattle.std.proofs.Common.{◌≡◌, ◌==◌, ℕ, zero, suc, Bool, true, false, if◌then◌else◌, List, [], ◌∷◌, ◌++◌, length, map, Some, set, refl, sym, ap, ap₂, ◌∙◌, subst, inl, inr, ◌⊎◌, arith}
 use Rattle.std.specs.Prelude.{slice_get}
 use Rattle.std.proofs.lemmas.Bool.{both_ways}
-use Rattle.std.proofs.lemmas.List.{append-nil, map-append}
-use Rattle.std.proofs.lemmas.Option.{none-some}
-use Rattle.packet.specs.declared.connack.Connack.TheVariants as connacks
+use Rattle.std.proofs.lemmas.List.{append_assoc, append-nil, map-append}
 use Rattle.packet.specs.declared.packet.Packet.{Packet}
-use Rattle.packet.specs.declared.packet.Packet.TheVariants as packets
 use Rattle.session_base.specs.Identifiers.{least_free}
 use Rattle.session_base.specs.Publication.{is_answered}
 use Rattle.session_base.specs.declared.publication.Publication.{Publication}
-use Rattle.cutter.specs.Stream.{Stream, Takes}
 use Rattle.ballot.specs.Config.{Config}
 use Rattle.world_model.proofs.of_group_model.of_snapshots.PastsAgree.{has_agreed}
-use Rattle.broker_base.specs.Command.{Command}
-use Rattle.broker_base.specs.Commands.{past_of, usual_limits}
-use Rattle.broker_base.specs.Connection.{ConnectionName}
-use Rattle.broker_base.specs.Place.{Client, Past}
-use Rattle.broker_base.proofs.PacketOfNobody.{window_is_steady}
+use Rattle.broker_base.specs.Commands.{usual_limits}
+use Rattle.broker_base.specs.Place.{Client}
 use Rattle.client_base.specs.Called.{adds_own}
 use Rattle.client_base.specs.Handled.{handled}
-use Rattle.client_base.specs.Keeper.{Keeper, Own, ids_in_use}
-use Rattle.lists.specs.Lists.{Each}
+use Rattle.client_base.specs.Keeper.{Keeper, Own, all_own, ids_in_use, next_number}
+use Rattle.client_base.specs.OrderLaws.{AreNumbered}
 use Rattle.story.specs.Carried.{publication_in, publications_of}
-use Rattle.story.specs.Inside.Shape.{AreNumbered, HeldInShape, IsSoundStory}
-use Rattle.story.specs.Sends.{put_to}
 use Rattle.story.specs.Sides.{Connection, Side}
 use Rattle.story.specs.Story.{Happens, Story}
 use Rattle.story.specs.Story.Happens.{takes, others_take, receives, opens_anew, loses, disconnects, publishes_one, subscribes, unsubscribes}
 use Rattle.story.proofs.carrying.Handles.{handles as handles_kept}
-use Rattle.story.proofs.keeping.Told.{told_stories_are_sound}
-use Rattle.story.proofs.publishing.events.Receives.{each_at}
 use Rattle.model.specs.World.{AreApart}
 use Rattle.model.specs.Goes.{is_call}
 use Rattle.model.proofs.Lists.{each_by, each_get, set_get}
@@ -42,12 +31,10 @@ use Rattle.world_model.specs.Goes.{Reached, WorldStep, story_alone}
 use Rattle.world_model.specs.Goes.Reached.{begins, goes_on}
 use Rattle.world_model.specs.Goes.WorldStep.{goes_on as group_goes, calls, connects, is_turned_away, comes_up, goes_down, arrives, handles}
 use Rattle.world_model.specs.Published.{from_client, published_by, published_in, published_of, published_on}
-use Rattle.world_model.specs.World.{ClientPipes, Pipe, World, new_client, with_client}
-use Rattle.world_model.proofs.of_connection_model.CarriedInOrder.{IsAgreedSo}
-use Rattle.exact_model.proofs.ClientsGo.{next_there}
+use Rattle.world_model.specs.World.{ClientPipes, World, new_client}
 use Rattle.exact_model.proofs.GoesBeside.{GoesBeside}
-use Rattle.exact_model.proofs.ToldBeside.{HasStory, told_beside}
-use Rattle.exact_model.proofs.Untaken.{untaken_connection}
+use Rattle.exact_model.proofs.LivedBeside.{lived_beside}
+use Rattle.story.proofs.sessions.LivedIsLife.{lived_is_life}
 use Rattle.exact_model.proofs.AllBeside.{goes_beside}
 use Rattle.exact_model.proofs.Places.{each_of_made}
 
@@ -78,76 +65,49 @@ of_another i j (p ∷ ps) other = by (j == i) refl (of_another i j ps other)
 
 -- ---- a call
 
-said_more : (keeper : Keeper) (p : Publication) → publications_of (adds_own p keeper).own ≡ publications_of keeper.own ++ p ∷ []
-said_more keeper p = map-append publication_in keeper.own (new (is_answered p.qos) keeper.is_online ∷ []) ∙ ap (λ q. publications_of keeper.own ++ q ∷ []) (same (is_answered p.qos) keeper.is_online)
+said_more : (keeper : Keeper) (p : Publication) → publications_of (all_own (adds_own p keeper)) ≡ publications_of (all_own keeper) ++ p ∷ []
+said_more keeper p =
+    ap publications_of (sym (append_assoc keeper.earlier keeper.own (new (is_answered p.qos) keeper.is_online ∷ [])))
+    ∙ map-append publication_in (all_own keeper) (new (is_answered p.qos) keeper.is_online ∷ [])
+    ∙ ap (λ q. publications_of (all_own keeper) ++ q ∷ []) (same (is_answered p.qos) keeper.is_online)
   where
     new : Bool → Bool → Own
     new a on =
-        if a then (if on then Own.Sent (length keeper.own) p (least_free (ids_in_use keeper)) else Own.Unsent (length keeper.own) p (least_free (ids_in_use keeper)))
-        else Own.Done (length keeper.own) p
+        if a then (if on then Own.Sent (next_number keeper) p (least_free (ids_in_use keeper)) else Own.Unsent (next_number keeper) p (least_free (ids_in_use keeper)))
+        else Own.Done (next_number keeper) p
 
     same : (a on : Bool) → publication_in (new a on) ≡ p
     same true true = refl
     same true false = refl
     same false on = refl
 
-call_says : {s t : Story} (h : Happens usual_limits s t) → is_call h ≡ true → publications_of t.keeper.own ≡ publications_of s.keeper.own ++ published_by h
+call_says : {s t : Story} (h : Happens usual_limits s t) → is_call h ≡ true → publications_of (all_own t.keeper) ≡ publications_of (all_own s.keeper) ++ published_by h
 call_says (takes i κ w stands next) call = absurd (both_ways false refl call)
 call_says (others_take command other none) call = absurd (both_ways false refl call)
 call_says (receives κ others packet are opened next) call = absurd (both_ways false refl call)
 call_says (opens_anew x fresh none uncounted) call = absurd (both_ways false refl call)
-call_says {s = s} loses call = sym (append-nil (publications_of s.keeper.own))
-call_says {s = s} disconnects call = sym (append-nil (publications_of s.keeper.own))
+call_says {s = s} loses call = sym (append-nil (publications_of (all_own s.keeper)))
+call_says {s = s} disconnects call = sym (append-nil (publications_of (all_own s.keeper)))
 call_says {s = s} (publishes_one p needs) call = said_more s.keeper p
-call_says {s = s} (subscribes p on id) call = sym (append-nil (publications_of s.keeper.own))
-call_says {s = s} (unsubscribes p on id) call = sym (append-nil (publications_of s.keeper.own))
+call_says {s = s} (subscribes p on id) call = sym (append-nil (publications_of (all_own s.keeper)))
+call_says {s = s} (unsubscribes p on id) call = sym (append-nil (publications_of (all_own s.keeper)))
 
 -- ---- a packet
 
--- the newest connection of a story that has this one first
-newest_held : (past : Past) (keeper : Keeper) (connections others : List Connection) (κ : Connection) → map untaken_connection connections ≡ map untaken_connection (κ ∷ others)
-    → HeldInShape usual_limits past keeper connections → keeper.is_open ≡ true → keeper.is_online ≡ false → keeper.was_served ≡ true
-    → Each (λ packet. (packet ≡ packets.Connack (connacks.Accepted false)) → ⊥) (put_to usual_limits past κ.name)
-newest_held past keeper [] others κ same held opened off served = cc
-newest_held past keeper (μ ∷ rest) others κ same held opened off served =
-    let one : untaken_connection μ ≡ untaken_connection κ = cc in
-    subst (λ (x : ConnectionName). Each (λ packet. (packet ≡ packets.Connack (connacks.Accepted false)) → ⊥) (put_to usual_limits past x))
-    (ap (λ (ν : Connection). ν.name) one) (held.2 opened off served)
-
 packet_says : {nodes : ℕ} {config : Config} {cs : List Client} → AreApart cs → (v : World) (went : Went nodes config v.group) (s : GoesBeside nodes config cs v went) (i : ℕ)
-    (c : ClientPipes) (κ : Connection) (others : List Connection) (p : Pipe) (pipes : List Pipe) (packet : Packet) (left : Stream) → slice_get v.clients i ≡ Some c
-    → c.connections ≡ κ ∷ others → c.pipes ≡ p ∷ pipes → c.keeper.is_open ≡ true → Takes p.came (Ok (Some packet)) left
-    → publications_of (handled packet (record { keeper = c.keeper; connection = κ })).keeper.own ≡ publications_of c.keeper.own
-packet_says {config = config} apart v went s i c κ others p pipes packet left at are piped opened cut =
-    (handles_kept c.keeper κ packet (subst (λ (k : Keeper). AreNumbered 0 k.own) h.keeper sound.shape.own.numbered)
-    (λ off served. each_at (λ q. (q ≡ packets.Connack (connacks.Accepted false)) → ⊥) κ.handled (put_to usual_limits (past_of usual_limits list.0) κ.name) packet next (fresh off served))).said
-  where
-    list : (agreed : List Command) × IsAgreedSo s.so agreed
-    list = has_agreed rules config (moment_of v.group) s.so.of.earlier s.so.of.past
-
-    h : HasStory list.0 c
-    h = told_beside apart v went s list.0 list.1 i c at
-
-    sound : IsSoundStory usual_limits h.story
-    sound = told_stories_are_sound usual_limits window_is_steady.0 h.story.keeper.client h.story h.told
-
-    next : slice_get (put_to usual_limits (past_of usual_limits list.0) κ.name) κ.handled ≡ Some packet
-    next = next_there v went s list.0 list.1 i c 0 κ p packet left (record { client = at; connection = ap (λ l. slice_get l 0) are; pipe = ap (λ l. slice_get l 0) piped }) cut
-
-    held : HeldInShape usual_limits (past_of usual_limits list.0) c.keeper h.story.connections
-    held =
-        subst (λ (k : Keeper). HeldInShape usual_limits (past_of usual_limits list.0) k h.story.connections) h.keeper
-        (subst (λ (z : Past). HeldInShape usual_limits z h.story.keeper h.story.connections) h.past sound.shape.held)
-
-    fresh : c.keeper.is_online ≡ false → c.keeper.was_served ≡ true
-        → Each (λ q. (q ≡ packets.Connack (connacks.Accepted false)) → ⊥) (put_to usual_limits (past_of usual_limits list.0) κ.name)
-    fresh = newest_held (past_of usual_limits list.0) c.keeper h.story.connections others κ (h.connections ∙ ap (map untaken_connection) are) held opened
+    (c : ClientPipes) (κ : Connection) (packet : Packet) → slice_get v.clients i ≡ Some c
+    → publications_of (all_own (handled packet (let side : Side = record { keeper = c.keeper; connection = κ } in side)).keeper) ≡ publications_of (all_own c.keeper)
+packet_says {config = config} apart v went s i c κ packet at =
+    let list = has_agreed rules config (moment_of v.group) s.so.of.earlier s.so.of.past in
+    let h = lived_beside apart v went s list.0 list.1 i c at in
+    let life = lived_is_life usual_limits h.story.keeper.client h.story h.lived in
+    (handles_kept c.keeper κ packet (subst (λ (k : Keeper). AreNumbered (length k.earlier) k.own) h.keeper life.keeper.numbers.1)).said
 
 -- ---- on the way to a world
 
 -- of each client
 abbrev AllPublished : World → List (ℕ × Publication) → Type 0
-AllPublished w asked = (i : ℕ) (c : ClientPipes) → slice_get w.clients i ≡ Some c → publications_of c.keeper.own ≡ published_of i asked
+AllPublished w asked = (i : ℕ) (c : ClientPipes) → slice_get w.clients i ≡ Some c → publications_of (all_own c.keeper) ≡ published_of i asked
 
 -- nothing is published, and what was is kept
 still : (w : World) (asked : List (ℕ × Publication)) → AllPublished w asked → AllPublished w (asked ++ [])
@@ -155,13 +115,13 @@ still w asked all i c at = all i c at ∙ ap (published_of i) (sym (append-nil a
 
 -- one client becomes another, which published this
 becomes : (v : World) (clients : List ClientPipes) (asked : List (ℕ × Publication)) (j : ℕ) (c later : ClientPipes) (more : List Publication) → clients ≡ set v.clients j later
-    → slice_get v.clients j ≡ Some c → publications_of later.keeper.own ≡ publications_of c.keeper.own ++ more → AllPublished v asked
-    → (i : ℕ) (d : ClientPipes) → slice_get clients i ≡ Some d → publications_of d.keeper.own ≡ published_of i (asked ++ from_client j more)
+    → slice_get v.clients j ≡ Some c → publications_of (all_own later.keeper) ≡ publications_of (all_own c.keeper) ++ more → AllPublished v asked
+    → (i : ℕ) (d : ClientPipes) → slice_get clients i ≡ Some d → publications_of (all_own d.keeper) ≡ published_of i (asked ++ from_client j more)
 becomes v clients asked j c later more are at says all i d there = by (set_get v.clients j i c later d at (ap (λ l. slice_get l i) (sym are) ∙ there))
   where
-    by : ((i ≡ j) × (later ≡ d)) ⊎ ((i ≡ j → ⊥) × (slice_get v.clients i ≡ Some d)) → publications_of d.keeper.own ≡ published_of i (asked ++ from_client j more)
+    by : ((i ≡ j) × (later ≡ d)) ⊎ ((i ≡ j → ⊥) × (slice_get v.clients i ≡ Some d)) → publications_of (all_own d.keeper) ≡ published_of i (asked ++ from_client j more)
     by (inl (same, is)) =
-        ap (λ (z : ClientPipes). publications_of z.keeper.own) (sym is) ∙ says
+        ap (λ (z : ClientPipes). publications_of (all_own z.keeper)) (sym is) ∙ says
         ∙ ap₂ (λ (a b : List Publication). a ++ b) (all j c at) (sym (of_itself j more))
         ∙ sym (of_both j asked (from_client j more)) ∙ ap (λ (k : ℕ). published_of k (asked ++ from_client j more)) (sym same)
     by (inr (other, stood)) =
@@ -173,22 +133,22 @@ step_says : {nodes : ℕ} {config : Config} {cs : List Client} → AreApart cs �
 step_says apart v w went s asked all (group_goes deed d is_apart) = still w asked all
 step_says apart v w went s asked all (calls j c t h at call spelled) = becomes v w.clients asked j c _ (published_by h) refl at (call_says h call) all
 step_says apart v w went s asked all (connects j n c port now d core end at unused behind there_so spelled) =
-    becomes v w.clients asked j c _ [] refl at (sym (append-nil (publications_of c.keeper.own))) all
+    becomes v w.clients asked j c _ [] refl at (sym (append-nil (publications_of (all_own c.keeper)))) all
 step_says apart v w went s asked all (is_turned_away n port now d core unused behind none) = still w asked all
-step_says apart v w went s asked all (comes_up j k c κ p piece rest now d has is) = becomes v w.clients asked j c _ [] refl has.client (sym (append-nil (publications_of c.keeper.own))) all
-step_says apart v w went s asked all (goes_down j k c κ p d has) = becomes v w.clients asked j c _ [] refl has.client (sym (append-nil (publications_of c.keeper.own))) all
-step_says apart v w went s asked all (arrives j k c κ p piece rest has is) = becomes v w.clients asked j c _ [] refl has.client (sym (append-nil (publications_of c.keeper.own))) all
+step_says apart v w went s asked all (comes_up j k c κ p piece rest now d has is) = becomes v w.clients asked j c _ [] refl has.client (sym (append-nil (publications_of (all_own c.keeper)))) all
+step_says apart v w went s asked all (goes_down j k c κ p d has) = becomes v w.clients asked j c _ [] refl has.client (sym (append-nil (publications_of (all_own c.keeper)))) all
+step_says apart v w went s asked all (arrives j k c κ p piece rest has is) = becomes v w.clients asked j c _ [] refl has.client (sym (append-nil (publications_of (all_own c.keeper)))) all
 step_says apart v w went s asked all (handles j c κ others p pipes packet left at are piped opened cut spelled) =
-    becomes v w.clients asked j c _ [] refl at (packet_says apart v went s j c κ others p pipes packet left at are piped opened cut ∙ sym (append-nil (publications_of c.keeper.own))) all
+    becomes v w.clients asked j c _ [] refl at (packet_says apart v went s j c κ packet at ∙ sym (append-nil (publications_of (all_own c.keeper)))) all
 
-none_published : (cs : List Client) (i : ℕ) (c : ClientPipes) → slice_get (map new_client cs) i ≡ Some c → publications_of c.keeper.own ≡ []
+none_published : (cs : List Client) (i : ℕ) (c : ClientPipes) → slice_get (map new_client cs) i ≡ Some c → publications_of (all_own c.keeper) ≡ []
 none_published cs i c at =
-    each_get (λ (d : ClientPipes). publications_of d.keeper.own ≡ []) (map new_client cs) i c
-    (each_of_made new_client (λ (d : ClientPipes). publications_of d.keeper.own ≡ []) cs (each_by (λ (d : Client). publications_of (new_client d).keeper.own ≡ []) cs (λ k d there. refl))) at
+    each_get (λ (d : ClientPipes). publications_of (all_own d.keeper) ≡ []) (map new_client cs) i c
+    (each_of_made new_client (λ (d : ClientPipes). publications_of (all_own d.keeper) ≡ []) cs (each_by (λ (d : Client). publications_of (all_own (new_client d).keeper) ≡ []) cs (λ k d there. refl))) at
 
 -- what a client published is what the steps on the way say of it
 pub own_published : {nodes : ℕ} {config : Config} {cs : List Client} → AreApart cs → (w : World) (trail : Reached nodes config cs w) (i : ℕ) (c : ClientPipes)
-    → slice_get w.clients i ≡ Some c → publications_of c.keeper.own ≡ published_of i (published_on trail)
+    → slice_get w.clients i ≡ Some c → publications_of (all_own c.keeper) ≡ published_of i (published_on trail)
 own_published {cs = cs} apart w (begins can) i c at = none_published cs i c at
 own_published apart w (goes_on {v = v} before step) i c at =
     step_says apart v w (went_of before) (goes_beside apart v before) (published_on before) (own_published apart v before) step i c at

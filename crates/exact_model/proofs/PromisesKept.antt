@@ -1,4 +1,4 @@
--- What is promised of a client holds in each of its stories.
+-- What is promised of a client that is in step holds in each of its lives.
 use Rattle.std.proofs.Common.{◌≡◌, ◌≤◌, ℕ, Bool, true, false, if◌then◌else◌, List, [], ◌∷◌, ◌++◌, filter, length, map, Option, Some, None, refl, sym, ap, ap₂, ◌∙◌, subst, inl, inr, ◌⊎◌, arith}
 use Rattle.std.specs.Prelude.{slice_get}
 use Rattle.std.proofs.lemmas.Bool.{both_ways, cases_Bool}
@@ -21,6 +21,7 @@ use Rattle.broker_base.specs.EndingLaws.{EndsWithTheSession, StandsAt, connects_
 use Rattle.broker_base.specs.OriginLaws.{is_from_publish}
 use Rattle.broker_base.specs.Output.TheVariants.{Send}
 use Rattle.broker_base.specs.Place.{Client, Mark, Past, Place}
+use Rattle.broker_base.specs.Readings.{publication_in}
 use Rattle.broker_base.specs.Received.{is_exactly_once, is_new}
 use Rattle.broker_base.specs.TakenLaws.{takes_publication}
 use Rattle.broker_base.specs.Times.{entries_of}
@@ -29,41 +30,34 @@ use Rattle.broker_base.proofs.EntersWhereTaken.{enters_where_taken}
 use Rattle.broker_base.proofs.MarksOfPlaces.{AreMarked}
 use Rattle.broker_base.proofs.PacketOfNobody.{window_is_steady}
 use Rattle.client_base.specs.History as history
+use Rattle.client_base.specs.Keeper.{Own, all_own}
 use Rattle.client_base.specs.State.{ClientState}
-use Rattle.handshake.specs.Items.{Item, value_of}
-use Rattle.handshake.specs.Sides.{IsGood}
 use Rattle.story.specs.Carried.{carries, more_by, new_numbers, publications_of}
-use Rattle.story.specs.Inside.Projections.{as_publisher, items_of_own}
-use Rattle.story.specs.Inside.Shape.{IsSoundStory}
+use Rattle.story.specs.InStep.{IsInStep, accepted_in, starts_of}
+use Rattle.story.specs.Lives.{ExactlyOnceOverSessions, Lived}
+use Rattle.story.specs.Headline.{accepted_on}
 use Rattle.story.specs.Sides.{Connection}
-use Rattle.story.specs.Story.{Story, Told}
-use Rattle.story.proofs.Ends.{Split, split_map}
+use Rattle.story.specs.Story.{Story}
 use Rattle.story.proofs.Entering.{entering_as}
 use Rattle.story.proofs.Packets.{at_packet}
 use Rattle.story.proofs.carrying.Acknowledging.{Acknowledges, acknowledges, pubrec_two, says_at}
 use Rattle.story.proofs.carrying.Answered.{acknowledged_is_taken}
-use Rattle.story.proofs.carrying.KeepsPlaces.{IsCarried, told_carried}
+use Rattle.story.proofs.carrying.KeepsPlaces.{IsCarried}
 use Rattle.story.proofs.carrying.PlacesSay.{PlacesSay, Says, is_again}
-use Rattle.story.proofs.keeping.Told.{told_stories_are_sound}
-use Rattle.exact_model.specs.Promise.{PromiseBy}
-use Rattle.exact_model.specs.Shown.{AcceptsInOrder, IsAnswered, at_two, kept_of, new_of}
+use Rattle.story.proofs.sessions.InTurn.{flat_map_same}
+use Rattle.story.proofs.sessions.LivesExact.{all_well, lives_exact}
+use Rattle.exact_model.specs.Promise.{PromiseBy, PromiseInStep}
+use Rattle.exact_model.specs.Shown.{AcceptsInOrder, AreNewInOrder, IsAnswered, accepted_once, new_of}
 use Rattle.exact_model.proofs.NewByPlace.{all_new}
-use Rattle.exact_model.proofs.OwnCarried.{OwnAreCarried, own_at, told_own}
-use Rattle.exact_model.proofs.StillKept.{kept_both, kept_values, new_kept, some_of, two_kept, two_published}
+use Rattle.exact_model.proofs.FirstKept.{first_kept}
+use Rattle.exact_model.proofs.NewNumbered.{new_in_order}
+use Rattle.exact_model.proofs.OwnCarried.{OwnAreCarried, own_are_carried, own_at}
+use Rattle.exact_model.proofs.StillKept.{some_of}
 
 -- ---- lists
 
 some_same : (a b : Publication) → Some a ≡ Some b → a ≡ b
 some_same a b e = cc
-
-same_some : (xs ys : List Publication) → some_of xs ≡ some_of ys → xs ≡ ys
-same_some [] [] e = refl
-same_some [] (y ∷ ys) e = cc
-same_some (x ∷ xs) [] e = cc
-same_some (x ∷ xs) (y ∷ ys) e =
-    let first : Some x ≡ Some y = cc in
-    let rest : some_of xs ≡ some_of ys = cc in
-    ap₂ (λ (z : Publication) l. z ∷ l) (some_same x y first) (same_some xs ys rest)
 
 -- what one of the numbers leads to is there
 in_got : (get : ℕ → Option Publication) (ns : List ℕ) (qs : List Publication) (k : ℕ) (q : Publication) → map get ns ≡ some_of qs → In k ns → get k ≡ Some q → In q qs
@@ -92,7 +86,7 @@ marked_below (place ∷ later) rest all = marked_below later rest all.1
 
 answered_new : (s : Story) (place : Place) (below : Past) (x : ConnectionName) (p : Publish) (id k : ℕ) → place.command ≡ commands.Packet x (packets.Publish p)
     → carries s.connections place.command below ≡ Some k → In (Send x (packets.Pubrec id)) (answers_at usual_limits place below)
-    → Says s.keeper.client (publications_of s.keeper.own) s.connections place below → In k (new_numbers s.connections (place ∷ below))
+    → Says s.keeper.client (publications_of (all_own s.keeper)) s.connections place below → In k (new_numbers s.connections (place ∷ below))
 answered_new s place below x p id k is e i says =
     let same : place ≡ at_packet x (packets.Publish p) place.mark = ap (λ (command : Command). let z : Place = record { command = command; mark = place.mark } in z) is in
     let a = acknowledges usual_limits below x p place.mark x (packets.Pubrec id) refl (subst (λ (z : Place). In (Send x (packets.Pubrec id)) (answers_at usual_limits z below)) same i) in
@@ -109,23 +103,20 @@ once_at_most : (earlier : Past) (place : Place) (below : Past) (d : Client) → 
 once_at_most earlier place below d stands true e = enters_once usual_limits earlier d (length below)
 once_at_most earlier place below d stands false e = let none = enters_where_taken usual_limits earlier place below d stands e in omega (arith, none)
 
--- ---- a story
+-- ---- a life that is in step
 
-module _ (s : Story) (told : Told usual_limits s.keeper.client s) where
+module _ (s : Story) (lived : Lived usual_limits s.keeper.client s) (step : IsInStep s) where
   abbrev c : Client
   c = s.keeper.client
 
   abbrev ps : List Publication
-  ps = publications_of s.keeper.own
-
-  sound : IsSoundStory usual_limits s
-  sound = told_stories_are_sound usual_limits window_is_steady.0 c s told
+  ps = publications_of (all_own s.keeper)
 
   carried : IsCarried usual_limits s
-  carried = told_carried usual_limits window_is_steady.0 c s told
+  carried = (all_well usual_limits window_is_steady.0 c s lived step).carried
 
   own : OwnAreCarried c s.connections s.past
-  own = told_own usual_limits window_is_steady.0 c s told
+  own = own_are_carried usual_limits c s lived
 
   -- which of its publications a place of it carries
   carries_one : (place : Place) (below : Past) (p : Publish) (packet : Packet) → IsAnswered s.past c packet place below p → (k : ℕ) × (carries s.connections place.command below ≡ Some k)
@@ -157,44 +148,41 @@ module _ (s : Story) (told : Told usual_limits s.keeper.client s) where
         (acknowledged_is_taken usual_limits s carried place below a.on id k.0 a.stands k.1 a.answer).taken,
       )
 
-  -- the two sides of its handshake
-  good : IsGood (as_publisher usual_limits s)
-  good = sound.publisher
+  new_all : map (slice_get ps) (new_numbers s.connections s.past) ≡ some_of (new_of c s.past)
+  new_all = all_new usual_limits c ps s.connections s.past carried.places own carried.marked
 
-  abbrev rest : List (Option Publication)
-  rest = map (slice_get ps) (map value_of good.new)
+  -- what it accepted, session after session
+  accepted : (state : ClientState) → accepted_once state.accepted ≡ accepted_on s.connections → ExactlyOnceOverSessions usual_limits s → AcceptsInOrder c s.past state
+  accepted state shown exact =
+      record {
+        session = λ start. let a = exact.subscribers start in record { old = a.old; new = a.new; entries = a.is; rest = a.rest };
+        accepted = shown ∙ exact.in_turn
+            ∙ flat_map_same (λ start. accepted_in s.past c start s.connections) (λ start. map publication_in (exact.subscribers start).old) (λ start. (exact.subscribers start).accepted) (starts_of s.past c);
+      }
 
-  new_all : map (slice_get ps) (map value_of good.old) ≡ some_of (new_of c s.past)
-  new_all = ap (map (slice_get ps)) (sym good.sides.accepted_is) ∙ all_new usual_limits c ps s.connections s.past carried.places own carried.marked
-
-  published_parts : some_of (at_two ps) ≡ some_of (new_of c s.past) ++ rest
-  published_parts =
-      sym (two_published s.keeper.own sound.shape.own.numbered) ∙ ap (λ (l : List (Item ℕ)). map (slice_get ps) (map value_of l)) good.sides.is
-      ∙ ap (map (slice_get ps)) (map-append value_of good.old good.new) ∙ map-append (slice_get ps) (map value_of good.old) (map value_of good.new)
-      ∙ ap (λ (l : List (Option Publication)). l ++ rest) new_all
-
-  kept_parts : (state : ClientState) → history.StandsFor s.keeper state → some_of (at_two (kept_of state)) ≡ map (slice_get ps) (kept_values good.old) ++ rest
-  kept_parts state stands =
-      sym (two_kept s.keeper state stands sound.shape.own.numbered) ∙ ap (λ (l : List (Item ℕ)). map (slice_get ps) (kept_values l)) good.sides.is
-      ∙ ap (map (slice_get ps)) (kept_both good.old good.new ∙ ap (λ (l : List ℕ). kept_values good.old ++ l) (new_kept _ good.new good.sides.news))
-      ∙ map-append (slice_get ps) (kept_values good.old) (map value_of good.new)
-
-  pub promise_kept : (published : List Publication) (state : ClientState) → ps ≡ published → history.StandsFor s.keeper state → AcceptsInOrder c s.past state
-      → ((x : ConnectionName) → connects_of x s.past ≤ 1) → EndsWithTheSession usual_limits s.past → PromiseBy c published s.past state
-  promise_kept published state same stands accepts names ended =
-      let cut = split_map (λ (p : Publication). Some p) (at_two ps) (some_of (new_of c s.past)) rest published_parts in
-      let kept = split_map (λ (p : Publication). Some p) (at_two (kept_of state)) (map (slice_get ps) (kept_values good.old)) rest (kept_parts state stands) in
-      subst (λ (l : List Publication). PromiseBy c l s.past state) same
+  pub kept_in_step : (published : List Publication) (state : ClientState) → ps ≡ published → history.StandsFor s.keeper state
+      → accepted_once state.accepted ≡ accepted_on s.connections → ExactlyOnceOverSessions usual_limits s → PromiseInStep c published s.past state
+  kept_in_step published state same stands shown exact =
+      subst (λ (l : List Publication). PromiseInStep c l s.past state) same
       (record {
-        waiting = cut.behind;
-        in_order = cut.is ∙ ap (λ (l : List Publication). l ++ cut.behind) (same_some cut.front (new_of c s.past) cut.front_is);
-        again = kept.front;
-        kept = kept.is ∙ ap (λ (l : List Publication). kept.front ++ l) (same_some kept.behind cut.behind (kept.behind_is ∙ sym cut.behind_is));
+        rises = record { numbers = new_numbers s.connections s.past; rise = exact.publishers.rises; are = new_all };
+        in_order = λ one. new_in_order s carried.numbers (new_of c s.past) (exact.publishers.in_order one) new_all;
+        kept = λ first. first_kept s state lived step first stands (new_of c s.past) new_all;
         answered = is_answered;
         acknowledged = is_acknowledged;
-        enters = λ place below x p d at. entering_as usual_limits c place below x p d;
-        once = λ later earlier place below d is at. once_at_most earlier place below d at (takes_publication place.command place.mark) refl;
-        accepts = accepts;
-        names = names;
-        ended = ended;
+        accepts = accepted state shown exact;
       })
+
+-- ---- every life
+
+pub promise_kept : (s : Story) → Lived usual_limits s.keeper.client s → (published : List Publication) (state : ClientState) → publications_of (all_own s.keeper) ≡ published
+    → history.StandsFor s.keeper state → accepted_once state.accepted ≡ accepted_on s.connections → ((x : ConnectionName) → connects_of x s.past ≤ 1)
+    → EndsWithTheSession usual_limits s.past → PromiseBy s.keeper.client s.connections published s.past state
+promise_kept s lived published state same stands shown names ended =
+    record {
+      in_step = λ step. kept_in_step s lived step published state same stands shown (lives_exact usual_limits window_is_steady.0 s.keeper.client s lived step);
+      enters = λ place below x p d at. entering_as usual_limits s.keeper.client place below x p d;
+      once = λ later earlier place below d is at. once_at_most earlier place below d at (takes_publication place.command place.mark) refl;
+      names = names;
+      ended = ended;
+    }

@@ -76,15 +76,15 @@ kept_is keeper state s = ap₂ (λ (a b : List KeptPublication). map publication
 -- ---- by number
 
 -- these stand in the whole from number n on
-abbrev StandFrom : List Publication → ℕ → List Own → Type 0
+abbrev pub StandFrom : List Publication → ℕ → List Own → Type 0
 StandFrom ps n own = (j : ℕ) → slice_get ps (n + j) ≡ slice_get (publications_of own) j
 
-behind : (ps : List Publication) (n : ℕ) (o : Own) (own : List Own) → StandFrom ps n (o ∷ own) → StandFrom ps (suc n) own
+pub behind : (ps : List Publication) (n : ℕ) (o : Own) (own : List Own) → StandFrom ps n (o ∷ own) → StandFrom ps (suc n) own
 behind ps n o own stand j =
     let same : n + suc j ≡ suc n + j = omega arith in
     subst (λ (m : ℕ). slice_get ps m ≡ slice_get (publications_of own) j) same (stand (suc j))
 
-first_is : (ps : List Publication) (n k : ℕ) (o : Own) (own : List Own) → k ≡ n → StandFrom ps n (o ∷ own) → slice_get ps k ≡ Some (publication_in o)
+pub first_is : (ps : List Publication) (n k : ℕ) (o : Own) (own : List Own) → k ≡ n → StandFrom ps n (o ∷ own) → slice_get ps k ≡ Some (publication_in o)
 first_is ps n k o own e stand =
     let same : n + 0 ≡ k = omega (arith, e) in
     subst (λ (m : ℕ). slice_get ps m ≡ Some (publication_in o)) same (stand 0)
@@ -144,7 +144,7 @@ kept_numbered ps n (Own.Done k p ∷ own) h stand =
 
 -- ---- both
 
-whole_stands : (own : List Own) → StandFrom (publications_of own) 0 own
+pub whole_stands : (own : List Own) → StandFrom (publications_of own) 0 own
 whole_stands own j = let same : 0 + j ≡ j = omega arith in ap (slice_get (publications_of own)) same
 
 pub two_published : (own : List Own) → AreNumbered 0 own → map (slice_get (publications_of own)) (map value_of (items_of_own own)) ≡ some_of (at_two (publications_of own))

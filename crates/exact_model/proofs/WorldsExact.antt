@@ -8,11 +8,15 @@ use Rattle.broker_base.specs.Commands.{past_of, usual_limits}
 use Rattle.broker_base.specs.EndingLaws.{EndsWithTheSession, connects_of}
 use Rattle.broker_base.specs.Place.{Client, Past}
 use Rattle.client_base.specs.History as history
-use Rattle.client_base.specs.Keeper.{Keeper}
+use Rattle.client_base.specs.Keeper.{Keeper, all_own}
 use Rattle.client_base.specs.State.{ClientState}
 use Rattle.story.specs.Carried.{publications_of}
-use Rattle.story.specs.Headline.{ExactlyOnce}
+use Rattle.story.specs.InStep.{AreWelcome, IsInStep}
+use Rattle.story.specs.Lives.{ExactlyOnceOverSessions, HasOneSession, IsUnexpelled}
+use Rattle.story.specs.Story.{Story}
+use Rattle.story.proofs.sessions.FirstSession.{unexpelled_in_step}
 use Rattle.world_model.proofs.of_group_model.of_snapshots.PastsAgree.{has_agreed}
+use Rattle.model.specs.Exact.{IsExactInStep as IsExactBeside}
 use Rattle.model.specs.World.{AreApart, ClientEnds, story_of as story_beside}
 use Rattle.model.proofs.Lists.{each_by, each_get}
 use Rattle.model.proofs.WorldsExact.{worlds_are_exact as worlds_beside_are_exact}
@@ -24,26 +28,29 @@ use Rattle.world_model.specs.Carried.{went_of}
 use Rattle.world_model.specs.Published.{published_of, published_on}
 use Rattle.world_model.specs.World.{ClientPipes, World}
 use Rattle.world_model.proofs.PipesInOrder.{in_order}
-use Rattle.exact_model.specs.Exact.{IsExactBy, IsShownBy, WorldsAreExact, story_of}
+use Rattle.exact_model.specs.Exact.{IsExactBy, IsExactInStep, IsInOneSession, IsShownBy, WorldsAreExact, story_of}
 use Rattle.exact_model.specs.Promise.{Promise, PromiseBy}
-use Rattle.exact_model.specs.Shown.{AcceptsInOrder}
+use Rattle.exact_model.specs.Shown.{accepted_once}
 use Rattle.exact_model.proofs.AllBeside.{goes_beside}
 use Rattle.exact_model.proofs.Beside.{Alone, Beside, ends_alone}
-use Rattle.exact_model.proofs.ExactUntaken.{exactly_once_untaken}
+use Rattle.exact_model.proofs.ExactUntaken.{exactly_once_untaken, in_step_untaken, one_session_untaken, same_accepted_on, same_welcome}
 use Rattle.exact_model.proofs.GoesBeside.{GoesBeside}
 use Rattle.world_model.proofs.of_connection_model.CarriedInOrder.{IsAgreedSo}
 use Rattle.exact_model.proofs.OwnPublished.{own_published}
 use Rattle.exact_model.proofs.Places.{map_back}
 use Rattle.exact_model.proofs.PromisesKept.{promise_kept}
-use Rattle.exact_model.proofs.ToldBeside.{told_beside}
+use Rattle.exact_model.proofs.LivedBeside.{HasLife, lived_beside}
+use Rattle.exact_model.proofs.Untaken.{AreSameUntaken}
 use Rattle.exact_model.proofs.WorldsWrite.{clients_alone, pipes_alone}
+use Rattle.story.specs.Sides.{Connection}
 
 exact_by : {nodes : ℕ} {config : Config} {cs : List Client} → AreApart cs → (w : World) (went : Went nodes config w.group) (s : GoesBeside nodes config cs w went) (agreed : List Command) → IsAgreedSo s.so agreed
     → IsExactBy agreed w
 exact_by {cs = cs} apart w went s agreed is =
     let exact = worlds_beside_are_exact cs b.world apart b.reached in
     record {
-      clients = each_by (λ c. ExactlyOnce usual_limits (story_of agreed c)) w.clients (λ i c at. client i c at (λ d there. each_get _ b.world.clients i d exact.clients there));
+      clients = each_by (IsExactInStep agreed) w.clients (λ i c at. client i c at (λ d there. each_get (IsExactBeside b.world.agreed) b.world.clients i d exact.clients there));
+      unexpelled = each_by (IsInOneSession agreed) w.clients (λ i c at. unexpelled i c at);
       names = λ x. subst (λ (l : List Command). connects_of x (past_of usual_limits l) ≤ 1) b.is (exact.names x);
       sessions = subst (λ (l : List Command). EndsWithTheSession usual_limits (past_of usual_limits l)) b.is exact.sessions;
       pipes = in_order w went s.holds s.so agreed is;
@@ -52,29 +59,47 @@ exact_by {cs = cs} apart w went s agreed is =
     b : Beside cs agreed (clients_alone w)
     b = s.beside agreed is
 
-    client : (i : ℕ) (c : ClientPipes) → slice_get w.clients i ≡ Some c
-        → ((d : ClientEnds) → slice_get b.world.clients i ≡ Some d → ExactlyOnce usual_limits (story_beside b.world.agreed d)) → ExactlyOnce usual_limits (story_of agreed c)
-    client i c at each =
+    client : (i : ℕ) (c : ClientPipes) → slice_get w.clients i ≡ Some c → ((d : ClientEnds) → slice_get b.world.clients i ≡ Some d → IsExactBeside b.world.agreed d) → IsExactInStep agreed c
+    client i c at each step =
         let z = map_back ends_alone b.world.clients i (pipes_alone c) (ap (λ l. slice_get l i) b.same ∙ get_mapped pipes_alone w.clients i c at) in
-        exactly_once_untaken usual_limits (story_beside b.world.agreed z.0) (story_of agreed c) (ap (past_of usual_limits) b.is) (ap (λ (a : Alone). a.keeper) z.2)
-        (ap (λ (a : Alone). a.connections) z.2) (each z.0 z.1)
+        let past = ap (past_of usual_limits) b.is in
+        let keeper = ap (λ (a : Alone). a.keeper) z.2 in
+        let connections = ap (λ (a : Alone). a.connections) z.2 in
+        exactly_once_untaken usual_limits (story_beside b.world.agreed z.0) (story_of agreed c) past keeper connections
+        (each z.0 z.1 (in_step_untaken (story_of agreed c) (story_beside b.world.agreed z.0) (sym past) (sym keeper) (sym connections) step))
+
+    unexpelled : (i : ℕ) (c : ClientPipes) → slice_get w.clients i ≡ Some c → IsInOneSession agreed c
+    unexpelled i c at none =
+        let h = lived_beside apart w went s agreed is i c at in
+        one_session_untaken h.story (story_of agreed c) h.past h.keeper h.connections
+        (unexpelled_in_step usual_limits h.story.keeper.client h.story h.lived
+        (subst (λ (p : Past). IsUnexpelled h.story.keeper.client p) (sym h.past) (subst (λ (k : Keeper). IsUnexpelled k.client (past_of usual_limits agreed)) (sym h.keeper) none)))
+
+-- a promise does not depend on how much is counted as taken
+promise_untaken : (c : Client) (connections others : List Connection) (published : List Publication) (past : Past) (state : ClientState) → AreSameUntaken connections others
+    → PromiseBy c connections published past state → PromiseBy c others published past state
+promise_untaken c connections others published past state same p =
+    record {
+      in_step = λ step. p.in_step (same_welcome past c others connections (sym same) step);
+      enters = p.enters;
+      once = p.once;
+      names = p.names;
+      ended = p.ended;
+    }
 
 -- what is promised of a client by what it shows
 promised : {nodes : ℕ} {config : Config} {cs : List Client} → AreApart cs → (w : World) (went : Went nodes config w.group) (s : GoesBeside nodes config cs w went) (agreed : List Command) → IsAgreedSo s.so agreed
-    → (published : List Publication) (i : ℕ) (c : ClientPipes) (state : ClientState) → slice_get w.clients i ≡ Some c → publications_of c.keeper.own ≡ published → IsShownBy c state
-    → Promise published agreed state
+    → (published : List Publication) (i : ℕ) (c : ClientPipes) (state : ClientState) → slice_get w.clients i ≡ Some c → publications_of (all_own c.keeper) ≡ published → IsShownBy c state
+    → Promise c.connections published agreed state
 promised apart w went s agreed is published i c state at said shown =
-    let h = told_beside apart w went s agreed is i c at in
+    let h = lived_beside apart w went s agreed is i c at in
     let exact = exact_by apart w went s agreed is in
-    let mine = (each_get (λ c. ExactlyOnce usual_limits (story_of agreed c)) w.clients i c exact.clients at).subscribers in
-    let accepts : AcceptsInOrder c.keeper.client (past_of usual_limits agreed) state =
-    record { old = mine.old; new = mine.new; entries = mine.is; accepted = shown.accepted ∙ mine.accepted; rest = mine.rest } in
-    subst (λ (d : Client). PromiseBy d published (past_of usual_limits agreed) state) (ap (λ (k : Keeper). k.client) h.keeper ∙ sym shown.keeper.client)
-    (subst (λ (past : Past). PromiseBy h.story.keeper.client published past state) h.past
-    (promise_kept h.story h.told published state (ap (λ (k : Keeper). publications_of k.own) h.keeper ∙ said) (subst (λ (k : Keeper). history.StandsFor k state) (sym h.keeper) shown.keeper)
-    (subst (λ (past : Past). AcceptsInOrder h.story.keeper.client past state) (sym h.past)
-    (subst (λ (k : Keeper). AcceptsInOrder k.client (past_of usual_limits agreed) state) (sym h.keeper) accepts))
-    (λ x. subst (λ (past : Past). connects_of x past ≤ 1) (sym h.past) (exact.names x)) (subst (EndsWithTheSession usual_limits) (sym h.past) exact.sessions)))
+    subst (λ (d : Client). PromiseBy d c.connections published (past_of usual_limits agreed) state) (ap (λ (k : Keeper). k.client) h.keeper ∙ sym shown.keeper.client)
+    (subst (λ (past : Past). PromiseBy h.story.keeper.client c.connections published past state) h.past
+    (promise_untaken h.story.keeper.client h.story.connections c.connections published h.story.past state h.connections
+    (promise_kept h.story h.lived published state (ap (λ (k : Keeper). publications_of (all_own k)) h.keeper ∙ said) (subst (λ (k : Keeper). history.StandsFor k state) (sym h.keeper) shown.keeper)
+    (shown.accepted ∙ sym (same_accepted_on h.story.connections c.connections h.connections))
+    (λ x. subst (λ (past : Past). connects_of x past ≤ 1) (sym h.past) (exact.names x)) (subst (EndsWithTheSession usual_limits) (sym h.past) exact.sessions))))
 
 pub worlds_are_exact : WorldsAreExact
 worlds_are_exact nodes config cs w apart trail =

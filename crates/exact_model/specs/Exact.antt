@@ -9,7 +9,9 @@ use Rattle.broker_base.specs.EndingLaws.{EndsWithTheSession, connects_of}
 use Rattle.broker_base.specs.Place.{Client}
 use Rattle.client_base.specs.History as history
 use Rattle.client_base.specs.State.{ClientState}
-use Rattle.story.specs.Headline.{ExactlyOnce, accepted_on}
+use Rattle.story.specs.Headline.{accepted_on}
+use Rattle.story.specs.InStep.{IsInStep}
+use Rattle.story.specs.Lives.{ExactlyOnceOverSessions, HasOneSession, IsUnexpelled}
 use Rattle.story.specs.Sides.{Connection}
 use Rattle.story.specs.Story.{Story}
 use Rattle.world_model.specs.group_model.snapshots.Past.{IsAgreed}
@@ -29,6 +31,14 @@ use Rattle.exact_model.specs.Shown.{accepted_once}
 abbrev pub story_of : List Command → ClientPipes → Story
 story_of agreed c = record { past = past_of usual_limits agreed; connections = c.connections; keeper = c.keeper }
 
+-- what a client is promised over its sessions, as long as it is in step
+abbrev pub IsExactInStep : List Command → ClientPipes → Type 0
+IsExactInStep agreed c = IsInStep (story_of agreed c) → ExactlyOnceOverSessions usual_limits (story_of agreed c)
+
+-- one that no Expel names has one session at most, which lasts where it began, and so it is in step
+abbrev pub IsInOneSession : List Command → ClientPipes → Type 0
+IsInOneSession agreed c = IsUnexpelled c.keeper.client (past_of usual_limits agreed) → HasOneSession (story_of agreed c)
+
 -- what a client shows that keeps no history
 pub record IsShownBy (c : ClientPipes) (state : ClientState) : Type 0 where
   pub keeper : history.StandsFor c.keeper state
@@ -36,8 +46,9 @@ pub record IsShownBy (c : ClientPipes) (state : ClientState) : Type 0 where
 
 -- by this list
 pub record IsExactBy (agreed : List Command) (w : World) : Type 0 where
-  -- each client publishes once and accepts in order
-  pub clients : Each (λ (c : ClientPipes). ExactlyOnce usual_limits (story_of agreed c)) w.clients
+  -- each client that is in step publishes once, and accepts in order in each of its sessions
+  pub clients : Each (IsExactInStep agreed) w.clients
+  pub unexpelled : Each (IsInOneSession agreed) w.clients
   -- an ended session gets nothing more, since each connection has a name of its own
   pub names : (x : ConnectionName) → connects_of x (past_of usual_limits agreed) ≤ 1
   pub sessions : EndsWithTheSession usual_limits (past_of usual_limits agreed)
@@ -53,7 +64,7 @@ pub record IsExact {nodes : ℕ} {config : Config} {cs : List Client} {w : World
   pub exact : (list : List Command) → IsAgreed config (moment_of w.group ∷ of.earlier) list → IsExactBy list w
   -- and what a client shows, with what it was asked to publish on the way, is as promised
   pub promises : (list : List Command) → IsAgreed config (moment_of w.group ∷ of.earlier) list → (i : ℕ) (c : ClientPipes) (state : ClientState) →
-      slice_get w.clients i ≡ Some c → IsShownBy c state → Promise (published_of i (published_on trail)) list state
+      slice_get w.clients i ≡ Some c → IsShownBy c state → Promise c.connections (published_of i (published_on trail)) list state
 
 -- of clients with identifiers of their own, and on every way
 abbrev pub WorldsAreExact : Type 0

@@ -1,5 +1,6 @@
 pub mod Shown
 pub mod Promise
+pub mod OneSession
 pub mod Exact
 pub mod Rows
 pub use Rattle.world_model.specs as world_model

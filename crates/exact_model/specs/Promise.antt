@@ -1,6 +1,6 @@
 -- What is promised of one client, by the publications that it was asked for, the list on which the nodes agree, and what it shows.
 use Rattle.std.specs.Prelude.{◌≡◌, ◌≤◌, ℕ, if◌then◌else◌, List, ◌∷◌, ◌++◌, filter, length, map}
-use Rattle.lists.specs.Lists.{In}
+use Rattle.lists.specs.Lists.{In, IsPrefixOf}
 use Rattle.packet.specs.declared.packet.Packet.TheVariants as packets
 use Rattle.packet.specs.declared.publish.Publish.{Publish}
 use Rattle.session_base.specs.Publication.{publication_of}
@@ -17,22 +17,31 @@ use Rattle.broker_base.specs.Subscriptions.{effective_qos}
 use Rattle.broker_base.specs.TakenLaws.{queued_at, takes_publication}
 use Rattle.broker_base.specs.Times.{entries_of}
 use Rattle.client_base.specs.State.{ClientState}
-use Rattle.exact_model.specs.Shown.{AcceptsInOrder, IsAnswered, at_two, kept_of, new_of}
+use Rattle.story.specs.InStep.{AreWelcome, IsFirstSession, sessions_begun}
+use Rattle.story.specs.Sides.{Connection}
+use Rattle.exact_model.specs.Shown.{AcceptsInOrder, AreNewInOrder, AreStillKept, IsAnswered, at_two, kept_of, new_of}
 
--- of client c, by the places of the list
-pub record PromiseBy (c : Client) (published : List Publication) (past : Past) (state : ClientState) : Type 0 where
-  -- its QoS 2 publications are new in the order in which it was asked for them, each once; those that are not new yet it still keeps
-  pub waiting : List Publication
-  pub in_order : at_two published ≡ new_of c past ++ waiting
-  pub again : List Publication
-  pub kept : at_two (kept_of state) ≡ again ++ waiting
+-- of client c, as long as it is in step, by the places of the list
+pub record PromiseInStep (c : Client) (published : List Publication) (past : Past) (state : ClientState) : Type 0 where
+  -- its QoS 2 publications are new in the order in which it was asked for them, each once
+  pub rises : AreNewInOrder published (new_of c past)
+  -- none is passed over while it has had one session; and while that lasts, those that are not new yet it still keeps
+  pub in_order : sessions_begun past c ≤ 1 → IsPrefixOf (new_of c past) (at_two published)
+  pub kept : IsFirstSession past c → AreStillKept (at_two published) (new_of c past) (at_two (kept_of state))
   -- one that is answered with PUBREC is new at that place or at an earlier one
   pub answered : (place : Place) (below : Past) (p : Publish) (id : ℕ) → IsAnswered past c (packets.Pubrec id) place below p →
       In (publication_of p) (new_of c (place ∷ below))
   -- one that is answered with PUBACK is one of those that it was asked for, and is taken at that place
   pub acknowledged : (place : Place) (below : Past) (p : Publish) (id : ℕ) → IsAnswered past c (packets.Puback id) place below p →
       In (publication_of p) published × (place.mark ≡ Mark.Taken c)
-  -- where one is taken, it enters just the sessions with an effective QoS over 0, once, as it was published
+  -- in each of its sessions it accepted at QoS 2 a beginning of the QoS 2 entries, each once, with every one that is released
+  pub accepts : AcceptsInOrder c past state
+
+-- of each client, with its connections, the newest first
+pub record PromiseBy (c : Client) (connections : List Connection) (published : List Publication) (past : Past) (state : ClientState) : Type 0 where
+  -- in step: a connection that began a session after the first was confirmed before it opened another one
+  pub in_step : AreWelcome past c connections → PromiseInStep c published past state
+  -- where one of its publications is taken, it enters just the sessions with an effective QoS over 0, once, as it was published
   pub enters : (place : Place) (below : Past) (x : ConnectionName) (p : Publish) (d : Client) → StandsAt past place below →
       place.command ≡ commands.Packet x (packets.Publish p) → place.mark ≡ Mark.Taken c →
       map publication_in (filter (is_from_publish (length below)) (entries_of usual_limits (place ∷ below) d))
@@ -41,11 +50,9 @@ pub record PromiseBy (c : Client) (published : List Publication) (past : Past) (
   pub once : (later earlier : Past) (place : Place) (below : Past) (d : Client) → past ≡ later ++ earlier → StandsAt earlier place below →
       length (filter (is_from_publish (length below)) (entries_of usual_limits earlier d))
       ≤ (if takes_publication place.command place.mark then 1 else 0)
-  -- what it accepted at QoS 2 is a beginning of the QoS 2 entries of its session, each once, with every one that is released
-  pub accepts : AcceptsInOrder c past state
   -- an ended session gets nothing more, since each connection has a name of its own
   pub names : (x : ConnectionName) → connects_of x past ≤ 1
   pub ended : EndsWithTheSession usual_limits past
 
-abbrev pub Promise : List Publication → List Command → ClientState → Type 0
-Promise published agreed state = PromiseBy state.client published (past_of usual_limits agreed) state
+abbrev pub Promise : List Connection → List Publication → List Command → ClientState → Type 0
+Promise connections published agreed state = PromiseBy state.client connections published (past_of usual_limits agreed) state

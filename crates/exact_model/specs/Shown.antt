@@ -1,5 +1,6 @@
 -- What is seen of one client: what it keeps and what it accepted, and its places in the list on which the nodes agree.
-use Rattle.std.specs.Prelude.{◌≡◌, ◌&&◌, Bool, false, if◌then◌else◌, List, [], ◌∷◌, ◌++◌, Some, filter, map}
+use Rattle.std.specs.Prelude.{◌≡◌, ◌&&◌, ℕ, Bool, false, if◌then◌else◌, List, [], ◌∷◌, ◌++◌, Some, filter, map, slice_get}
+use Rattle.std.specs.List.{flat_map}
 use Rattle.lists.specs.Lists.{Each, In}
 use Rattle.packet.specs.declared.packet.Packet.{Packet}
 use Rattle.packet.specs.declared.packet.Packet.TheVariants as packets
@@ -18,12 +19,13 @@ use Rattle.broker_base.specs.Owner.{owner_of}
 use Rattle.broker_base.specs.Place.{Client, Mark, Past, Place, same_client}
 use Rattle.broker_base.specs.Readings.{publication_in}
 use Rattle.broker_base.specs.Received.{is_exactly_once}
-use Rattle.broker_base.specs.Times.{entries_of}
 use Rattle.client_base.specs.State.{ClientState}
 use Rattle.client_base.specs.declared.accepted.Accepted.{Accepted}
 use Rattle.client_base.specs.declared.kept_publication.KeptPublication.{KeptPublication}
 use Rattle.story.specs.Carried.{is_two}
 use Rattle.story.specs.Headline.{is_released, two_entries}
+use Rattle.story.specs.InStep.{entries_in, starts_of}
+use Rattle.story.specs.Lives.{IsRising}
 
 -- ---- of its publications
 
@@ -54,6 +56,19 @@ pub record IsAnswered (past : Past) (c : Client) (packet : Packet) (place : Plac
   pub command : place.command ≡ commands.Packet on (packets.Publish p)
   pub answer : In (Send on packet) (answers_at usual_limits place below)
 
+-- these are new in the order in which it published them, each once: their numbers rise
+pub record AreNewInOrder (published new : List Publication) : Type 0 where
+  pub numbers : List ℕ
+  pub rise : IsRising numbers
+  pub are : map (slice_get published) numbers ≡ map (λ (p : Publication). Some p) new
+
+-- none is passed over: those that are not new yet it still keeps, and beside them only some that are new
+pub record AreStillKept (published new kept : List Publication) : Type 0 where
+  pub waiting : List Publication
+  pub published_are : published ≡ new ++ waiting
+  pub again : List Publication
+  pub kept_are : kept ≡ again ++ waiting
+
 -- ---- of what it accepted
 
 -- at QoS 2, the oldest first
@@ -66,10 +81,14 @@ is_accepted_once a = is_two a.qos
 abbrev pub accepted_once : List Accepted → List Publication
 accepted_once accepted = map publication_accepted (filter is_accepted_once accepted)
 
--- At QoS 2 it is a beginning of its QoS 2 entries: `old`, in order, each once. No entry after it is released.
-pub record AcceptsInOrder (c : Client) (past : Past) (state : ClientState) : Type 0 where
+-- At QoS 2 a beginning of a session's QoS 2 entries: `old`, in order, each once. No entry after it is released.
+pub record HasBeginning (c : Client) (past : Past) (start : ℕ) : Type 0 where
   pub old : List Entry
   pub new : List Entry
-  pub entries : two_entries (entries_of usual_limits past c) ≡ old ++ new
-  pub accepted : accepted_once state.accepted ≡ map publication_in old
+  pub entries : two_entries (entries_in usual_limits past c start) ≡ old ++ new
   pub rest : Each (λ (entry : Entry). is_released entry ≡ false) new
+
+-- Such a beginning of each of its sessions, by the place at which it began; and these are all that it accepted, session after session.
+pub record AcceptsInOrder (c : Client) (past : Past) (state : ClientState) : Type 0 where
+  pub session : (start : ℕ) → HasBeginning c past start
+  pub accepted : accepted_once state.accepted ≡ flat_map (λ start. map publication_in (session start).old) (starts_of past c)

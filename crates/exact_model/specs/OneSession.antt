@@ -1,0 +1,33 @@
+-- What a client that has had one session is promised: no less than where no session is ever ended.
+use Rattle.std.specs.Prelude.{◌≡◌, false, List, ◌++◌, map}
+use Rattle.lists.specs.Lists.{Each}
+use Rattle.session_base.specs.declared.publication.Publication.{Publication}
+use Rattle.broker_base.specs.Commands.{usual_limits}
+use Rattle.broker_base.specs.Entries.{Entry}
+use Rattle.broker_base.specs.Place.{Client, Past}
+use Rattle.broker_base.specs.Readings.{publication_in}
+use Rattle.broker_base.specs.Times.{entries_of}
+use Rattle.client_base.specs.State.{ClientState}
+use Rattle.story.specs.Headline.{is_released, two_entries}
+use Rattle.story.specs.InStep.{IsFirstSession}
+use Rattle.exact_model.specs.Promise.{PromiseInStep}
+use Rattle.exact_model.specs.Shown.{accepted_once, at_two, kept_of, new_of}
+
+-- of client c, by the places of the list
+pub record PromiseOfOne (c : Client) (published : List Publication) (past : Past) (state : ClientState) : Type 0 where
+  -- its QoS 2 publications are new in the order in which it was asked for them, each once; those that are not new yet it still keeps
+  pub waiting : List Publication
+  pub in_order : at_two published ≡ new_of c past ++ waiting
+  pub again : List Publication
+  pub kept : at_two (kept_of state) ≡ again ++ waiting
+  -- what it accepted at QoS 2 is a beginning of the QoS 2 entries of its session, each once, with every one that is released
+  pub old : List Entry
+  pub new : List Entry
+  pub entries : two_entries (entries_of usual_limits past c) ≡ old ++ new
+  pub accepted : accepted_once state.accepted ≡ map publication_in old
+  pub rest : Each (λ (entry : Entry). is_released entry ≡ false) new
+
+-- while its first session lasts the promise of each client says all of it
+abbrev pub OneSessionIsPromised : Type 0
+OneSessionIsPromised =
+    (c : Client) (published : List Publication) (past : Past) (state : ClientState) → IsFirstSession past c → PromiseInStep c published past state → PromiseOfOne c published past state
