@@ -1,4 +1,5 @@
--- Which answer finishes which entry of a list of commands, by its QoS: no worked row of the broker reaches it (MQTT 4.3.2, 4.3.3).
+-- Guards of definitions that no worked row of the broker reaches: which answer finishes which entry, by its QoS (MQTT 4.3.2, 4.3.3), and whom
+-- an Expel names.
 use Rattle.std.specs.Prelude.{◌≡◌, true, false, [], ◌∷◌, ◌++◌, Some, None, codes}
 use Rattle.std.specs.List.{AllByRecursion}
 use Rattle.packet.specs.declared.delivery.Delivery.TheVariants as deliveries
@@ -10,6 +11,7 @@ use Rattle.broker_model.specs.Entries.{Entry}
 use Rattle.broker_model.specs.Place.{Client, Past, Limits}
 use Rattle.broker_model.specs.RowWords.{Gives, b, nth, connect, gets, sends, connack, publish, subscribed_at}
 use Rattle.broker_model.specs.Times.{entries_of}
+use Rattle.broker_model.specs.declared.command.Command.TheVariants as commands
 use Rattle.broker_model.specs.declared.command.Output.TheVariants.{Close}
 
 -- an entry is released at QoS 2 alone, and finished without a release at QoS 1 alone
@@ -34,3 +36,18 @@ AnswersOfAnotherQoSAreNothing =
     ([] ∷ [] ∷ (Close (nth 1) ∷ sends 3 (connack true)
     ∷ sends 3 (publish (deliveries.AtLeastOnce true 1) false (codes "x"))
     ∷ sends 3 (publish (deliveries.ExactlyOnce true 2) false (codes "y")) ∷ []) ∷ [])
+
+-- An Expel of a client that never came, of a text that is no identifier, or of one that begins with a client's own or is the beginning
+-- of it, is nothing: b goes on as it was.
+abbrev pub ExpelsOfNobodyAreNothing : Type 0
+ExpelsOfNobodyAreNothing =
+    Gives usual_limits (subscribed_at levels.ExactlyOnce ++ connect 4 (codes "bc") ∷ gets 2 (publish (deliveries.ExactlyOnce false 1) false (codes "x")) ∷ [])
+    (commands.Expel (codes "c") ∷ commands.Expel [] ∷ commands.Expel (0 ∷ []) ∷ commands.Expel (codes "ba")
+    ∷ gets 1 (packets.Pubrec 1) ∷ commands.Expel (codes "bc") ∷ gets 1 (packets.Pubcomp 1) ∷ gets 1 packets.Pingreq ∷ [])
+    ([] ∷ [] ∷ [] ∷ [] ∷ (sends 1 (packets.Pubrel 1) ∷ []) ∷ (Close (nth 4) ∷ []) ∷ [] ∷ (sends 1 packets.Pingresp ∷ []) ∷ [])
+
+-- of a client that is away too the session is gone: what waits for it is for nobody, and it comes back to a session that begins
+abbrev pub ExpelledWhileAway : Type 0
+ExpelledWhileAway =
+    Gives usual_limits (subscribed_at levels.ExactlyOnce ++ commands.Lost (nth 1) ∷ gets 2 (publish (deliveries.ExactlyOnce false 1) false (codes "x")) ∷ [])
+    (commands.Expel b ∷ commands.Expel b ∷ connect 3 b ∷ []) ([] ∷ [] ∷ (sends 3 (connack false) ∷ []) ∷ [])

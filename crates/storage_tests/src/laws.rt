@@ -18,6 +18,7 @@ fn laws_of_rows() {
     broker_rows::full_connect_steps();
     broker_rows::insertion_writes();
     broker_rows::start_steps();
+    broker_rows::expel_steps();
     broker_rows::refused_publication_steps();
     broker_rows::taken_publication_steps();
     broker_rows::room_lasts_to_its_turn();
@@ -61,4 +62,5 @@ fn laws_of_readings() {
     crate::readings::released_entries_are_read();
     crate::readings::removing_needs_no_room();
     crate::readings::answers_fit_the_qos();
+    crate::readings::expels_of_nobody_are_nothing();
 }

@@ -13,6 +13,8 @@ ghost use Rattle.session_base.specs.declared.publication.Publication.{Publicatio
 ghost use Rattle.storage_tests.specs.Guards.{
   EntriesFitTheirQoS,
   AnswersOfAnotherQoSAreNothing,
+  ExpelledWhileAway,
+  ExpelsOfNobodyAreNothing,
 };
 
 /// A released entry keeps the place at which it started, and is no longer one that is sent again (MQTT 4.3.3).
@@ -38,4 +40,10 @@ pub fn live_connections_are_current()
 pub fn answers_fit_the_qos()
     ensures entries { EntriesFitTheirQoS }
     ensures others { AnswersOfAnotherQoSAreNothing }
+{}
+
+/// Shows that an Expel of nobody's identifier is nothing, and that one ends the session of a client that is away.
+pub fn expels_of_nobody_are_nothing()
+    ensures nobody { ExpelsOfNobodyAreNothing }
+    ensures away { ExpelledWhileAway }
 {}

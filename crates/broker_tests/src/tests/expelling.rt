@@ -1,6 +1,6 @@
 // A client is expelled: its session is gone, and its connection is closed (MQTT 3.1.2.4, 4.1).
 
-use crate::row::{CLOSED, Event, NOTHING, Row};
+use crate::row::{CLOSED, Event, NOTHING, Row, command_of};
 use crate::story::{Start, Story, first_fault};
 use crate::tests::handshakes::{AGAIN, BEGINS, PUBLISH, SUBSCRIBE};
 use std::test::*;
@@ -59,11 +59,7 @@ const EXPELLED_WHILE_AWAY: &[Row<'static>] = &[
 #[test]
 fn expelled_while_away(rt: HostRuntime) {
     assert_eq!(rt;
-        first_fault(
-            rt.alloc(),
-            Start::Fresh,
-            Story::Rows(EXPELLED_WHILE_AWAY)
-        ),
+        first_fault(rt.alloc(), Start::Fresh, Story::Rows(EXPELLED_WHILE_AWAY)),
         None
     );
 }
@@ -98,4 +94,61 @@ fn what_was_received_is_forgotten(rt: HostRuntime) {
         ),
         None
     );
+}
+
+// An Expel of a client that never came, or whose identifier only begins as another's does, changes nothing and is
+// answered by nothing: b is sent what is published, and its handshake goes on.
+const EXPELLED_NOBODY: &[Row<'static>] = &[
+    (Event::Expel("b"), NOTHING),
+    (Event::Connect(1, "a", false), &[(1, BEGINS)]),
+    (Event::Connect(2, "b", false), &[(2, BEGINS)]),
+    (Event::Bytes(2, SUBSCRIBE), &[(2, &[0x90, 3, 0, 1, 2])]),
+    (Event::Expel("c"), NOTHING),
+    (Event::Expel("ba"), NOTHING),
+    (
+        Event::Bytes(1, PUBLISH),
+        &[(1, &[0x50, 2, 0, 1]), (2, PUBLISH)],
+    ),
+    (Event::Expel("B"), NOTHING),
+    (Event::Bytes(2, &[0x50, 2, 0, 1]), &[(2, &[0x62, 2, 0, 1])]),
+    (Event::Bytes(2, &[0x70, 2, 0, 1]), NOTHING),
+    (Event::Bytes(2, &[0xC0, 0]), &[(2, &[0xD0, 0])]),
+];
+
+#[test]
+fn expelled_nobody(rt: HostRuntime) {
+    assert_eq!(rt;
+        first_fault(rt.alloc(), Start::Fresh, Story::Rows(EXPELLED_NOBODY)),
+        None
+    );
+}
+
+// A clean session ends too, and its client may come again.
+const EXPELLED_CLEAN: &[Row<'static>] = &[
+    (Event::Connect(1, "b", true), &[(1, BEGINS)]),
+    (Event::Bytes(1, SUBSCRIBE), &[(1, &[0x90, 3, 0, 1, 2])]),
+    (Event::Expel("b"), &[(1, CLOSED)]),
+    (Event::Expel("b"), NOTHING),
+    (Event::Lost(1), NOTHING),
+    (Event::Connect(2, "b", true), &[(2, BEGINS)]),
+    (Event::Bytes(2, PUBLISH), &[(2, &[0x50, 2, 0, 1])]),
+];
+
+#[test]
+fn expelled_clean(rt: HostRuntime) {
+    assert_eq!(rt;
+        first_fault(rt.alloc(), Start::Fresh, Story::Rows(EXPELLED_CLEAN)),
+        None
+    );
+}
+
+// A text that is no Client Identifier makes no command: none at all, one with U+0000, one of 65 bytes.
+#[test]
+fn no_identifier_makes_no_expel(rt: HostRuntime) {
+    let long = "aaaaaaaaaaaaaaaaaaaaaaaaaaaaaaaaaaaaaaaaaaaaaaaaaaaaaaaaaaaaaaaaa";
+    assert_eq!(rt; long.len(), 65);
+    assert!(rt; command_of(rt.alloc(), Event::Expel("")).is_none());
+    assert!(rt; command_of(rt.alloc(), Event::Expel("a\u{0}")).is_none());
+    assert!(rt; command_of(rt.alloc(), Event::Expel(long)).is_none());
+    assert!(rt; command_of(rt.alloc(), Event::Expel("b")).is_some());
 }

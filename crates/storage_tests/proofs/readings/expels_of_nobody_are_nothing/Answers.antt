@@ -1,0 +1,14 @@
+use Rattle.std.proofs.Common.{refl}
+use Rattle.broker_model.specs.Past.{current_connection, session_of}
+use Rattle.broker_model.specs.Owner.{named}
+use Rattle.broker_model.specs.Subscriptions.{subscriptions_of}
+use Rattle.broker_model.specs.Received.{received_of}
+use Rattle.broker_model.specs.Retained.{retained_publications}
+use Rattle.broker_model.specs.Times.{entries_of}
+use Rattle.broker_model.specs.Commands.{past_from}
+use Rattle.broker_model.specs.Answers.{answers_from}
+use Rattle.storage_tests.proofs.readings.expels_of_nobody_are_nothing.Goals as goal
+
+pub returns : goal.returns
+unfolding answers_from past_from current_connection session_of named subscriptions_of received_of retained_publications entries_of
+returns c = record { nobody = refl; away = refl }
