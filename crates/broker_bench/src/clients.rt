@@ -46,6 +46,11 @@ impl Clients {
         self.put(Command::Lost(name_of(count)?))
     }
 
+    /// An administrator ends the session of a client.
+    pub fn expel(&mut self, client: &str) -> Result<()> {
+        self.put(Command::Expel(ClientId::new(self.alloc, client)?))
+    }
+
     /// A client makes these subscriptions in one packet.
     pub fn subscribe(&mut self, count: u64, wanted: Vec<Subscription>) -> Result<()> {
         let subscribe = Subscribe {

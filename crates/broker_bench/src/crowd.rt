@@ -24,19 +24,20 @@ fn visit(clients: &mut Clients, alloc: Global, session: u32) -> Result<()> {
     let count = FIRST.saturating_add(u64::from(session));
     let name = format!(in alloc; "beside-{session}")?;
     clients.connect(count, name.as_str())?;
-    clients.subscribe(count, wanted(alloc)?)?;
+    clients.subscribe(count, wanted(alloc, FILTERS)?)?;
     clients.lose(count)
 }
 
-fn wanted(alloc: Global) -> Result<Vec<Subscription>> {
+/// So many filters, which the sessions share.
+pub fn wanted(alloc: Global, filters: u32) -> Result<Vec<Subscription>> {
     let mut wanted = Vec::new(alloc);
-    put_all(alloc, &mut wanted)?;
+    put_all(alloc, filters, &mut wanted)?;
     Ok(wanted)
 }
 
 // The list is lent, so that no way out of the loop has to drop it.
-fn put_all(alloc: Global, wanted: &mut Vec<Subscription>) -> Result<()> {
-    for which in 0..FILTERS {
+fn put_all(alloc: Global, filters: u32, wanted: &mut Vec<Subscription>) -> Result<()> {
+    for which in 0..filters {
         wanted.push(subscription(alloc, which)?)?;
     }
     Ok(())

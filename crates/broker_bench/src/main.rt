@@ -4,6 +4,7 @@
 
 mod clients;
 mod crowd;
+mod expelling;
 mod freezing;
 mod node;
 mod publications;
@@ -16,7 +17,14 @@ use bench_base::list;
 use std::env;
 
 /// The benchmarks, each named like its file.
-const NAMES: [&str; 5] = ["freezing", "node", "publications", "queue", "retained"];
+const NAMES: [&str; 6] = [
+    "expelling",
+    "freezing",
+    "node",
+    "publications",
+    "queue",
+    "retained",
+];
 
 fn main(rt: HostRuntime) -> Result<()> {
     let mut words = env::args(&rt)?;
@@ -29,6 +37,7 @@ fn main(rt: HostRuntime) -> Result<()> {
 
 fn run(rt: &HostRuntime, name: &str) -> Result<()> {
     match name {
+        "expelling" => expelling::run(rt),
         "freezing" => freezing::run(rt),
         "node" => node::run(rt),
         "publications" => publications::run(rt),

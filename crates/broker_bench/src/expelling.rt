@@ -1,0 +1,52 @@
+// A session that has as much as it may have is expelled, beside as many others as there may be.
+
+use crate::clients::Clients;
+use crate::crowd;
+use anyhow::Result;
+use bench_base::nanos_each;
+use packet::QoS;
+use std::time::CpuClock;
+use topics::TopicName;
+
+/// How many sessions stand beside it. One more is its publisher's.
+const BESIDE: u32 = 4_094;
+
+/// How many publications wait in its queue.
+const WAITING: u32 = 4_096;
+
+/// Prints the time in which the session is gone.
+pub fn run(rt: &HostRuntime) -> Result<()> {
+    let mut clients = Clients::new(rt.alloc())?;
+    measure(rt, &mut clients)
+}
+
+fn measure(rt: &HostRuntime, clients: &mut Clients) -> Result<()> {
+    crowd::gather(clients, rt.alloc(), BESIDE)?;
+    clients.connect(1, "expelled")?;
+    clients.subscribe(1, crowd::wanted(rt.alloc(), crowd::FILTERS - 1)?)?;
+    clients.subscribe_one(1, "plant/#", QoS::AtLeastOnce)?;
+    clients.lose(1)?;
+    clients.connect(2, "publisher")?;
+    fill(rt, clients)?;
+    let start = rt.process_cpu_time()?;
+    clients.expel("expelled")?;
+    let took = nanos_each(rt, start, 1)? / 1_000;
+    println!(rt;
+        "a session of {} filters and {WAITING} entries is gone in {took} us",
+        crowd::FILTERS
+    )?;
+    Ok(())
+}
+
+fn fill(rt: &HostRuntime, clients: &mut Clients) -> Result<()> {
+    let topic = TopicName::new(rt.alloc(), "plant/1/pump/speed")?;
+    put_in(clients, &topic)
+}
+
+// The topic is lent, so that no way out of the loop has to drop it.
+fn put_in(clients: &mut Clients, topic: &TopicName) -> Result<()> {
+    for _ in 0..WAITING {
+        clients.publish(2, topic, QoS::AtLeastOnce, false)?;
+    }
+    Ok(())
+}
