@@ -3,7 +3,7 @@ use Rattle.std.proofs.Common.{◌≡◌, ℕ, ◌+◌, List, [], ◌∷◌, ◌+
 use Rattle.std.proofs.lemmas.List.Sums.{fold-append}
 use Rattle.mailbox.specs.Ends.{Taker}
 use Rattle.world_base.specs.declared.item.Item.{Item}
-use Rattle.world_base.specs.declared.item.Item.TheVariants.{Peer, Tick, Opened, Bytes, Ended, Cut, Crash}
+use Rattle.world_base.specs.declared.item.Item.TheVariants.{Peer, Tick, Opened, Bytes, Ended, Expel, Cut, Crash}
 use Rattle.node.specs.Growth.{bytes_since_cut, bytes_of_item, counted, grown}
 
 pub counted_more : (a b : ℕ) → counted (counted a + b) ≡ counted (a + b)
@@ -15,6 +15,7 @@ grown_counted n (Tick now) = counted_more n 0
 grown_counted n (Opened port now) = counted_more n 0
 grown_counted n (Bytes port piece now) = counted_more n (bytes_of_item (Bytes port piece now))
 grown_counted n (Ended port) = counted_more n 0
+grown_counted n (Expel client) = counted_more n 0
 grown_counted n Cut = refl
 grown_counted n Crash = counted_more n 0
 

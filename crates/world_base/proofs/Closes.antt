@@ -56,7 +56,7 @@ full_of core full = by_order (cases_lt (places core.replica.state.log) most_plac
     by_order (inl room) = let e = lt-ltb (places core.replica.state.log) most_places room in absurd cc
     by_order (inr over) = over
 
-proposes_nothing : (command : Command) (core : CoreState) → has_room core ≡ false → proposes command core ≡ quiet core
+pub proposes_nothing : (command : Command) (core : CoreState) → has_room core ≡ false → proposes command core ≡ quiet core
 unfolding proposes
 proposes_nothing command core e =
     by_parts (room_false (serves core) (nat_lt (places core.replica.state.log) most_places) e)

@@ -13,7 +13,7 @@ use Rattle.world_base.specs.Core.{CoreState}
 use Rattle.world_base.specs.Failing.{closes_failed}
 use Rattle.world_base.specs.Inside.{ProposedBy, Ran, Running, TellsLost}
 use Rattle.world_base.specs.KeepAlive.{lowest_silent}
-use Rattle.world_base.specs.Lossy.{Account, Declines, Then, quietly}
+use Rattle.world_base.specs.Lossy.{Account, Declines, Proposes, Then, quietly}
 use Rattle.world_base.specs.LossyStep.{Asks, Ends, EndsSilent, Holds, LosesFailed, Shuts}
 use Rattle.world_base.specs.LossyStep.Ends.{none_open, untold, told}
 use Rattle.world_base.specs.LossyStep.EndsSilent.{none_silent, ends_one}
@@ -49,6 +49,11 @@ pub ran_tells : (heard taken : Bool) (name : ConnectionName) (a b : CoreState) (
 ran_tells heard taken name a b x y is ran =
     subst (λ (t : Bool). Ran (TellsLost t name) a b x y) (sym is)
     (ran_as (ProposedBy taken (commands.Lost name)) (TellsLost true name) a a b x y (as_proposes taken (commands.Lost name) a) ran)
+
+-- whether a proposal was taken or not, it was put to the replica
+pub ran_proposes : (command : Command) (taken : Bool) (a b : CoreState) (x y : List (Effect Command Output)) → Ran (ProposedBy taken command) a b x y →
+    Ran (Proposes command) a b x y
+ran_proposes command taken a b x y ran = ran_as (ProposedBy taken command) (Proposes command) a a b x y (as_proposes taken command a) ran
 
 pub ran_tells_not : (heard : Bool) (name : ConnectionName) (a : CoreState) (x : List (Effect Command Output)) → heard ≡ false →
     Ran (TellsLost heard name) a a x x

@@ -14,7 +14,7 @@ use Rattle.ballot.specs.Protocol.Input.{Receives, Ticks}
 use Rattle.ballot.specs.Sending.{Outcome}
 use Rattle.node_connections.specs.declared.port.Port.{Port}
 use Rattle.world_base.specs.declared.item.Item.{Item}
-use Rattle.world_base.specs.declared.item.Item.TheVariants.{Peer, Tick, Opened, Bytes, Ended, Cut, Crash}
+use Rattle.world_base.specs.declared.item.Item.TheVariants.{Peer, Tick, Opened, Bytes, Ended, Expel, Cut, Crash}
 use Rattle.node_connections.specs.declared.connection.Connection.{Connection}
 use Rattle.node_connections.specs.Connections.{asked, closed, failing, fresh, has_failed, holding, is_at, is_open_at, is_over, left_with}
 use Rattle.world_base.specs.Core.{CoreState, serves}
@@ -261,6 +261,7 @@ a_gap_is_closed (Bytes port piece now) core did acts =
     (all_read_on now port) k d
     (record { one = t.one; two = t.two; first = t.first; next = t.next; is = t.is })) acts
 a_gap_is_closed (Ended port) core did acts = acts_by (Ended port) core did refl (ends_on port) acts
+a_gap_is_closed (Expel client) core did acts = acts_by (Expel client) core did refl (proposes_on (commands.Expel client)) acts
 a_gap_is_closed Cut core did acts = acts_by Cut core did refl (λ k d c. cut_on k d c) acts
 a_gap_is_closed Crash core did acts =
     acts_by Crash core did refl (λ k d is. quietly_on k _ d is (each_itself k.connections)) acts

@@ -3,6 +3,7 @@ use Rattle.std.proofs.Common.{◌≡◌, ◌⊎◌, inl, inr, ◌↔◌, ℕ, ze
 use Rattle.std.specs.List.{find, position}
 use Rattle.broker_base.specs.State.{State}
 use Rattle.broker_model.specs.declared.command.Command.{Command}
+use Rattle.broker_model.specs.declared.command.Command.TheVariants as commands
 use Rattle.broker_model.specs.declared.command.Output.{Output}
 use Rattle.ballot.specs.Effect.{Effect}
 use Rattle.ballot.specs.Protocol.{Input}
@@ -10,7 +11,7 @@ use Rattle.ballot.specs.Protocol.Input.{Receives, Ticks}
 use Rattle.ballot.specs.Sending.{Outcome}
 use Rattle.node_connections.specs.declared.port.Port.{Port}
 use Rattle.world_base.specs.declared.item.Item.{Item}
-use Rattle.world_base.specs.declared.item.Item.TheVariants.{Peer, Tick, Opened, Bytes, Ended, Cut, Crash}
+use Rattle.world_base.specs.declared.item.Item.TheVariants.{Peer, Tick, Opened, Bytes, Ended, Expel, Cut, Crash}
 use Rattle.node_connections.specs.declared.connection.Connection.{Connection}
 use Rattle.node_connections.specs.Connections.{changed, has_failed, holding, is_open_at}
 use Rattle.world_base.specs.Core.{CoreState, Turn}
@@ -22,6 +23,7 @@ use Rattle.world_base.specs.Lossy.{Account, Drives, Repeated, Then, quietly}
 use Rattle.world_base.specs.Lossy.Delivers.{nothing}
 use Rattle.world_base.specs.LossyStep.{ActsOn, EndsAllSilent, EndsSilent, Holds, LosesAllFailed, ReadsAll, ReadsNext, TakesIn}
 use Rattle.ballot.specs.Cutting.{can_cut}
+use Rattle.world_base.specs.Lossy.Declines.{no_room}
 use Rattle.world_base.specs.LossyStep.Cuts.{nothing_to_cut}
 use Rattle.world_base.specs.LossyStep.Ends.{none_open}
 use Rattle.world_base.specs.LossyStep.EndsSilent.{none_silent}
@@ -29,6 +31,7 @@ use Rattle.world_base.specs.Reading.{changes, ends, open_at, reads_all, reads_ne
 use Rattle.world_base.specs.Step.{accepts, acts_on, cuts, opens, takes_in}
 use Rattle.world_base.specs.Turns.{drives, moved, quiet, repeated, then_also}
 use Rattle.world_base.proofs.Accounts.{ran_quietly, ran_then}
+use Rattle.world_base.proofs.Closes.{proposes_nothing}
 use Rattle.world_base.proofs.Places.{none_found, none_placed}
 use Rattle.world_base.proofs.Silences.{silent_none}
 
@@ -114,6 +117,7 @@ takes_nothing (Bytes port piece now) core none =
     ap (λ (k : CoreState). then_also (quiet k) (reads_all now port)) (nothing_changes port (holding piece) core none)
     ∙ nothing_is_read now port core none
 takes_nothing (Ended port) core none = ends_nothing port core none
+takes_nothing (Expel client) core none = proposes_nothing (commands.Expel client) core none
 takes_nothing Cut core none = ap quiet (cuts_nothing core none)
 takes_nothing Crash core none = elim none [ ]
 
@@ -137,6 +141,7 @@ takes_idle (Bytes port piece now) core none =
       is = refl;
     }
 takes_idle (Ended port) core none = none_open none refl
+takes_idle (Expel client) core none = inr (no_room none refl)
 takes_idle Cut core none = nothing_to_cut none refl
 takes_idle Crash core none = elim none [ ]
 

@@ -10,7 +10,7 @@ use Rattle.ballot.specs.Protocol.{Input}
 use Rattle.ballot.specs.Protocol.Input.{Receives, Ticks}
 use Rattle.ballot.specs.Sending.{nothing_done}
 use Rattle.world_base.specs.declared.item.Item.{Item}
-use Rattle.world_base.specs.declared.item.Item.TheVariants.{Peer, Tick, Opened, Bytes, Ended, Cut, Crash}
+use Rattle.world_base.specs.declared.item.Item.TheVariants.{Peer, Tick, Opened, Bytes, Ended, Expel, Cut, Crash}
 use Rattle.node_connections.specs.Connections.{has_failed}
 use Rattle.ballot.specs.Message.{Message}
 use Rattle.ballot.specs.Unread.{is_unread}
@@ -19,7 +19,7 @@ use Rattle.world_base.specs.KeepAlive.{lowest_silent}
 use Rattle.world_base.specs.LossyStep.{RunsOn}
 use Rattle.world_base.specs.Reading.{open_at}
 use Rattle.world_base.specs.Step.{accepts, node_step}
-use Rattle.world_base.specs.Turns.{heard}
+use Rattle.world_base.specs.Turns.{has_room, heard}
 
 -- ---- what does nothing
 
@@ -33,13 +33,14 @@ ReadsNone message core =
     core.replica.state.stopped ≡ false → is_unread rules core.replica.state message.body ≡ false
 
 -- by the definitions an item does nothing: the replica ignores it, no connection is silent, none is accepted, none is
--- open by that port, or there is nothing to cut
+-- open by that port, no proposal is taken, or there is nothing to cut
 abbrev pub DoesNothing : Item → CoreState → Type 0
 DoesNothing (Peer message) core = IsIgnored (Receives message) core × ReadsNone message core
 DoesNothing (Tick now) core = IsIgnored Ticks core × (lowest_silent now core.connections ≡ None)
 DoesNothing (Opened port now) core = accepts port core ≡ false
 DoesNothing (Bytes port piece now) core = open_at port core ≡ None
 DoesNothing (Ended port) core = open_at port core ≡ None
+DoesNothing (Expel client) core = has_room core ≡ false
 DoesNothing Cut core = can_cut core.replica.state ≡ false
 DoesNothing Crash core = ⊥
 

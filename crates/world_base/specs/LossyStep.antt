@@ -15,7 +15,7 @@ use Rattle.ballot.specs.Effect.{Effect}
 use Rattle.ballot.specs.Protocol.Input.{Receives, Ticks}
 use Rattle.node_connections.specs.declared.port.Port.{Port}
 use Rattle.world_base.specs.declared.item.Item.{Item}
-use Rattle.world_base.specs.declared.item.Item.TheVariants.{Peer, Tick, Opened, Bytes, Ended, Cut, Crash}
+use Rattle.world_base.specs.declared.item.Item.TheVariants.{Peer, Tick, Opened, Bytes, Ended, Expel, Cut, Crash}
 use Rattle.node_connections.specs.declared.connection.Connection.{Connection}
 use Rattle.node_connections.specs.Connections.{asked, closed, failing, has_failed, holding, is_first, is_proposed, left_with}
 use Rattle.ballot.specs.Cutting.{can_cut}
@@ -128,6 +128,7 @@ TakesIn (Tick now) core did = Then (Drives Ticks) (EndsAllSilent now) core did
 TakesIn (Opened port now) core did = Opens port core did
 TakesIn (Bytes port piece now) core did = Then (Holds port piece) (ReadsAll now port) core did
 TakesIn (Ended port) core did = Ends port core did
+TakesIn (Expel client) core did = Proposes (commands.Expel client) core did
 TakesIn Cut core did = Cuts core did
 TakesIn Crash core did = did ≡ quietly (crashed core)
 

@@ -2,18 +2,19 @@
 use Rattle.std.specs.Prelude.{ℕ, ◌+◌, Bool, not, ◌&&◌, ◌==◌, if◌then◌else◌, [], ◌∷◌, ◌++◌, map, filter}
 use Rattle.std.specs.List.{list_any}
 use Rattle.broker_model.specs.Connection.{ConnectionName, is_connection_name}
+use Rattle.broker_model.specs.declared.command.Command.TheVariants as commands
 use Rattle.ballot.specs.Cutting.{can_cut, cut}
 use Rattle.ballot.specs.Losses.{halted}
 use Rattle.ballot.specs.Protocol.Input.{Receives, Ticks}
 use Rattle.node_connections.specs.declared.port.Port.{Port}
 use Rattle.world_base.specs.declared.item.Item.{Item}
-use Rattle.world_base.specs.declared.item.Item.TheVariants.{Peer, Tick, Opened, Bytes, Ended, Cut, Crash}
+use Rattle.world_base.specs.declared.item.Item.TheVariants.{Peer, Tick, Opened, Bytes, Ended, Expel, Cut, Crash}
 use Rattle.node_connections.specs.Connections.{is_at, is_listed, fresh, holding, closed}
 use Rattle.world_base.specs.Core.{CoreState, Turn, rules, serves}
 use Rattle.world_base.specs.Failing.{loses_all_failed}
 use Rattle.world_base.specs.KeepAlive.{ends_all_silent}
 use Rattle.world_base.specs.Reading.{changes, ends, reads_all}
-use Rattle.world_base.specs.Turns.{quiet, then_also, drives}
+use Rattle.world_base.specs.Turns.{quiet, then_also, drives, proposes}
 
 -- how many connections it accepted in the ballot that it joined
 abbrev pub accepted : CoreState → ℕ
@@ -70,6 +71,7 @@ takes_in (Opened port now) core = quiet (opens port core)
 takes_in (Bytes port piece now) core =
     then_also (quiet (changes port (holding piece) core)) (reads_all now port)
 takes_in (Ended port) core = ends port core
+takes_in (Expel client) core = proposes (commands.Expel client) core
 takes_in Cut core = quiet (cuts core)
 takes_in Crash core = quiet (crashed core)
 

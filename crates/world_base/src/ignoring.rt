@@ -20,6 +20,7 @@ impl Serving {
             Item::Opened(port, _) => self.name_for(*port).is_none(),
             Item::Bytes(port, _, _) => self.place_at(*port).is_none(),
             Item::Ended(port) => self.place_at(*port).is_none(),
+            Item::Expel(_) => !self.has_room(),
             Item::Cut => !self.replica.can_cut(),
             Item::Crash => false,
         }

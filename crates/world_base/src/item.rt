@@ -3,6 +3,7 @@
 use ballot::Message;
 use broker_model::Command;
 use node_connections::{Piece, Port};
+use packet::ClientId;
 
 /// What a node takes in at one step. Times are in milliseconds, from a moment that the node's
 /// caller chooses.
@@ -19,6 +20,8 @@ pub enum Item {
     Bytes(Port, Piece, u64),
     /// The stream ended, or failed.
     Ended(Port),
+    /// An administrator ends the session of this client: the node proposes an `Expel`.
+    Expel(ClientId),
     /// The replica cuts its log: a snapshot of its machine takes the place of the commands that it has
     /// applied.
     Cut,

@@ -11,6 +11,7 @@ ghost use Rattle.world_base.specs.Core.{opening_core};
 ghost use Rattle.lists.specs.Lists.{IsPrefixOf};
 ghost use Rattle.world_base.specs.Handing.{answer_of, bytes_of, hands_over, idle_ports, listed_at};
 ghost use Rattle.node_connections.specs.Stands.{standing_of};
+ghost use Rattle.world_base.specs.Turns.{has_room};
 ghost use Rattle.world_base.specs.Losses.{Stepped};
 
 use crate::item::Item;
@@ -77,6 +78,14 @@ impl NodeCore {
         ensures applied { result.0 ≤ self.now.core.replica.state.committed }
     {
         self.serving.snapshot()
+    }
+
+    /// Returns whether a proposal is taken, as that of an [`Item::Expel`]: the replica is the running primary of an
+    /// active ballot, and its log has room.
+    pub fn has_room(&self) -> bool
+        ensures { result ≡ has_room self.now.core }
+    {
+        self.serving.has_room()
     }
 
     /// Returns whether an [`Item::Cut`] has something to cut: the replica runs, and has applied commands since it last

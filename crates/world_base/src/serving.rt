@@ -14,9 +14,9 @@ ghost use Rattle.world_base.specs.KeepAlive.{lowest_silent};
 ghost use Rattle.packet.specs.Spelling.{spelling};
 ghost use Rattle.world_base.specs.Reading.{changes, open_at, refused, unread_of};
 ghost use Rattle.world_base.specs.Step.{accepted, accepts, next_name, opens, settled};
-ghost use Rattle.world_base.specs.Turns.{changes_named};
+ghost use Rattle.world_base.specs.Turns.{changes_named, has_room};
 
-use ballot::{Config, OpeningError, Replica, Status};
+use ballot::{Config, MOST_PLACES, OpeningError, Replica, Status};
 use broker::BrokerMachine;
 use broker_model::{Command, ConnectionId};
 use node_connections::{
@@ -138,6 +138,13 @@ impl Serving {
     {
         let status = self.replica.status();
         status.role.is_active() && !status.stopped
+    }
+
+    /// Whether a proposal is taken: by an active primary whose log has room.
+    pub fn has_room(&self) -> bool
+        ensures { result ≡ has_room self.now.core }
+    {
+        self.serves() && self.replica.status().held < MOST_PLACES
     }
 
     /// Where the open connection of a port stands in the list.

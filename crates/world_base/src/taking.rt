@@ -8,7 +8,7 @@ ghost use Rattle.node_connections.specs.Connections.{has_failed, holding, is_fir
 ghost use Rattle.world_base.specs.Inside.{BeginsOrSays, Ran, TellsLost, Turns};
 ghost use Rattle.world_base.specs.declared.item.Item.TheVariants as items;
 ghost use Rattle.world_base.specs.Losses.{DoesNothing};
-ghost use Rattle.world_base.specs.Lossy.{quietly};
+ghost use Rattle.world_base.specs.Lossy.{Proposes, quietly};
 ghost use Rattle.world_base.specs.LossyStep.{ActsOn, Connects, Ends, EndsAllSilent, Holds, LosesAllFailed, LosesFailed, ReadsAll, ReadsNext, Says, TakesIn};
 ghost use Rattle.world_base.specs.Failing.{loses_all_failed, loses_failed};
 ghost use Rattle.world_base.specs.KeepAlive.{ends_all_silent};
@@ -21,7 +21,7 @@ use crate::serving::Serving;
 use ballot::Effect;
 use broker_model::{Command, ConnectionId, Output, SizedPacket};
 use node_connections::{Front, Piece, Port, Stage};
-use packet::{Connect, Packet};
+use packet::{ClientId, Connect, Packet};
 
 impl Serving {
     /// Takes an item in, and has the broker hear of each connection that fails in it. Whether memory was
@@ -60,9 +60,20 @@ impl Serving {
                 self.read(port, now, effects);
             }
             Item::Ended(port) => self.end(port, effects),
+            Item::Expel(client) => self.expel(client, effects),
             Item::Cut => self.cut_log(),
             Item::Crash => self.replica.stop(),
         }
+    }
+
+    // Proposes that a client's session ends. Where the proposal is refused, nothing is done.
+    fn expel(&mut self, client: ClientId, effects: &mut Vec<Effect<Command, Output>>)
+        ensures turns { Turns self.old self.new effects.old.items effects.new.items
+            (proposes (commands.Expel client) self.old.core) }
+        ensures run { Ran (Proposes (commands.Expel client)) self.old.core self.new.core
+            effects.old.items effects.new.items }
+    {
+        self.propose(Command::Expel(client), effects);
     }
 
     // Closes the silent connections as lost, in rising order of ports.

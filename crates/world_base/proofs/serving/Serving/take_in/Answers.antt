@@ -1,5 +1,5 @@
 use Rattle.ballot.specs.Protocol.Input.{Ticks}
-use Rattle.world_base.specs.declared.item.Item.TheVariants.{Peer, Tick, Opened, Bytes, Ended, Cut}
+use Rattle.world_base.specs.declared.item.Item.TheVariants.{Peer, Tick, Opened, Bytes, Ended, Expel, Cut}
 use Rattle.world_base.specs.Lossy.{Drives}
 use Rattle.world_base.specs.LossyStep.{EndsAllSilent, Holds, ReadsAll}
 use Rattle.world_base.proofs.Accounts.{ran_then}
@@ -25,6 +25,9 @@ returns-in-Bytes-clause-run c =
 
 pub returns-in-Ended-clause-run : goal.returns-in-Ended-clause-run
 returns-in-Ended-clause-run c = ran_item c.args.item (Ended c.in-Ended.port) _ _ _ _ c.in-Ended.is c.end.ensures.run
+
+pub returns-in-Expel-clause-run : goal.returns-in-Expel-clause-run
+returns-in-Expel-clause-run c = ran_item c.args.item (Expel c.in-Expel.client) _ _ _ _ c.in-Expel.is c.expel.ensures.run
 
 pub returns-in-Cut-clause-run : goal.returns-in-Cut-clause-run
 returns-in-Cut-clause-run c = ran_item c.args.item Cut _ _ _ _ c.in-Cut.is (ran_cut _ _ _ c.cut_log.ensures.run)
