@@ -115,6 +115,7 @@ asked_counted (events.Assign config) old asked mid new before counted is counts 
 asked_counted (events.Deliver number) old asked mid new before counted is counts by = by
 asked_counted (events.Tick node) old asked mid new before counted is counts by = by
 asked_counted (events.Cut node) old asked mid new before counted is counts by = by
+asked_counted (events.Expel name node) old asked mid new before counted is counts by = by
 asked_counted (events.Crash node) old asked mid new before counted is counts by = by
 asked_counted (events.Open name node) old asked mid new before counted is counts by = by
 asked_counted (events.CarryUp number count) old asked mid new before counted is counts by = by

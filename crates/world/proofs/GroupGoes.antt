@@ -5,8 +5,9 @@ use Rattle.ballot.specs.Body.{Body}
 use Rattle.ballot.specs.Body.TheVariants.{NewBallot, Join, State, Install, Installed, Activate, Activated, Superseded, Append, Held, Commit}
 use Rattle.ballot.specs.Message.{Message}
 use Rattle.broker_base.specs.Command.{Command}
+use Rattle.broker_base.specs.Place.{Client}
 use Rattle.master.specs.declared.event.Idle.{Idle}
-use Rattle.world_base.specs.declared.item.Item.TheVariants.{Cut, Peer}
+use Rattle.world_base.specs.declared.item.Item.TheVariants.{Cut, Expel, Peer}
 use Rattle.exact_model.specs.node_model.Moves.{Deed}
 use Rattle.exact_model.specs.node_model.Moves.Deed.{takes}
 use Rattle.exact_model.specs.group_model.Group.{Group}
@@ -83,6 +84,11 @@ by_assign (Err e) old new does same = stays (nodes_stay old new same)
 pub by_cut : {X : Type 0} (r : Result X Idle) (old new : NodesState) (node : ℕ) → OnOk r (ActsOrRests (node - 1) (takes Cut) old new) → OnErr r (new ≡ old) → GoesApart old new
 by_cut (Ok x) old new node does same = acts_or_stays (Some (node - 1, takes Cut)) old new refl does
 by_cut (Err e) old new node does same = stays (nodes_stay old new same)
+
+pub by_expel : {X : Type 0} (r : Result X Idle) (old new : NodesState) (node : ℕ) (client : Client) → OnOk r (ActsOrRests (node - 1) (takes (Expel client)) old new) → OnErr r (new ≡ old)
+    → GoesApart old new
+by_expel (Ok x) old new node client does same = acts_or_stays (Some (node - 1, takes (Expel client))) old new refl does
+by_expel (Err e) old new node client does same = stays (nodes_stay old new same)
 
 -- ---- a message comes
 

@@ -1,6 +1,7 @@
 -- ItemsMet.antt: what an event asks of a node, of the master or of a connection is done, or it cannot happen.
-use Rattle.std.proofs.Common.{◌≡◌, ◌⊎◌, inl, inr, ◌↔◌, ◌<◌, ◌≤◌, ◌^◌, ◌-◌, ◌+◌, ℕ, suc, Bool, true, false, List, [], ◌∷◌, ◌++◌, Option, Some, None, Result, Ok, Err, IsErr, OnOk, OnErr, length, slice_get, take, refl, sym, ap, ◌∙◌, subst, arith}
+use Rattle.std.proofs.Common.{◌≡◌, ◌⊎◌, inl, inr, ◌↔◌, ◌<◌, ◌≤◌, ◌^◌, ◌-◌, ◌+◌, ℕ, suc, Bool, true, false, List, [], ◌∷◌, ◌++◌, Option, Some, None, Result, Ok, Err, IsErr, OnOk, OnErr, is_some, not, length, slice_get, take, refl, sym, ap, ◌∙◌, subst, arith}
 use Rattle.std.specs.Prelude.{◌&&◌, ◌==◌, if◌then◌else◌, get_or}
+use Rattle.std.specs.List.{position}
 use Rattle.std.proofs.lemmas.List.{take_more}
 use Rattle.std.proofs.lemmas.Bool.{both_ways}
 use Rattle.std.proofs.lemmas.Option.{same_Some}
@@ -9,17 +10,17 @@ use Rattle.ballot.specs.Config.{Config}
 use Rattle.ballot.specs.Losses.{one_more}
 use Rattle.master.specs.declared.event.Idle.{Idle}
 use Rattle.world_base.specs.declared.item.Item.{Item}
-use Rattle.world_base.specs.declared.item.Item.TheVariants.{Bytes, Crash, Ended, Tick}
-use Rattle.world_nodes.specs.Goes.{Comes, ComesToNobody, CutsExactly, cutting, running}
+use Rattle.world_base.specs.declared.item.Item.TheVariants.{Bytes, Crash, Ended, Expel, Tick}
+use Rattle.world_nodes.specs.Goes.{Comes, ComesToNobody, CutsExactly, TakesExactly, cutting, proposing, running}
 use Rattle.world_nodes.specs.Nodes.{NodesState}
-use Rattle.world_nodes.specs.Steps.{ComesIn, CutsIn, GivesIn, LosesNothing as NodesLoseNothing, TakesIn}
+use Rattle.world_nodes.specs.Steps.{ComesIn, CutsIn, ExpelsIn, GivesIn, LosesNothing as NodesLoseNothing, TakesIn}
 use Rattle.world_pipes.specs.declared.way.Way.{Way}
 use Rattle.world_pipes.specs.Piped.{Piped, is_holding}
 use Rattle.world.specs.declared.event.Event.{Event}
 use Rattle.world.specs.declared.event.Event.TheVariants as events
 use Rattle.world.specs.declared.place.Place.{Place}
 use Rattle.world.specs.declared.world.WorldClient.{WorldClient}
-use Rattle.world.specs.Found.{Connected, place_numbered, port_of, with_less, with_piped}
+use Rattle.world.specs.Found.{Connected, is_named, place_numbered, port_of, with_less, with_piped}
 use Rattle.world.specs.Gathering.{Gathers, TakesItem}
 use Rattle.world.specs.Cannot.{CannotHappen, IsClosed, IsNoPart, down_of, is_held, is_held_by, up_of}
 use Rattle.world.specs.Doing.{Does, HearsThem, receiver_of}
@@ -30,7 +31,7 @@ use Rattle.world.specs.Inside.Steps.{IsCounted, IsDone, Meets}
 use Rattle.world.specs.Inside.Calling.{forgetful}
 use Rattle.world.specs.World.{WorldState}
 use Rattle.world.proofs.GroupGoes.{with_nodes}
-use Rattle.world.proofs.NothingLost.{assigns_exactly, comes_rises, cuts_rises, gathers_exactly, gathers_rises, rises_split, takes_exactly}
+use Rattle.world.proofs.NothingLost.{assigns_exactly, comes_rises, cuts_rises, expels_rises, gathers_exactly, gathers_rises, rises_split, takes_exactly}
 use Rattle.world.proofs.StandsThere.{connected, numbered_at, way_found}
 
 -- ---- the master
@@ -90,6 +91,35 @@ cut_done node old between new can cuts exact gathers still =
           (between, exact s.0, gathers_exactly node (with_nodes between old) new gathers s.1);
       uncounted = still;
     }
+
+-- it proposes that the session of a client ends
+pub expelled : (name : List ℕ) (node : ℕ) (old : WorldState) (between : NodesState) (new : WorldState) → (CannotHappen (events.Expel name node) old → ⊥) → ExpelsIn name node old.nodes between
+    → (NodesLoseNothing old.nodes between → TakesExactly node (Expel name) old.nodes between) → Gathers false node (with_nodes between old) new → new.losses ≡ old.losses
+    → IsDone (events.Expel name node) old new
+expelled name node old between new can expels exact gathers still =
+    record {
+      can = can;
+      does = inr (between, expels, gathers);
+      exact = λ none.
+          let s = rises_split old.nodes between new.nodes (expels_rises name node old.nodes between expels) (gathers_rises node (with_nodes between old) new gathers) none in
+          (between, exact s.0, gathers_exactly node (with_nodes between old) new gathers s.1);
+      uncounted = still;
+    }
+
+-- nobody has this name
+pub no_client : (name : List ℕ) (clients : List WorldClient) (place : Option ℕ) (none : Bool) → place ≡ position (is_named name) clients → is_some place ≡ not none → none ≡ true
+    → position (is_named name) clients ≡ None
+no_client name clients None none at is e = sym at
+no_client name clients (Some i) true at is e = cc
+no_client name clients (Some i) false at is e = cc
+
+-- somebody has it, and the node takes a proposal
+pub may_expel : (name : List ℕ) (node : ℕ) (w : WorldState) (place : Option ℕ) (none : Bool) → place ≡ position (is_named name) w.clients → is_some place ≡ not none → none ≡ false
+    → (proposing w.nodes.nodes node ≡ None → ⊥) → CannotHappen (events.Expel name node) w → ⊥
+may_expel name node w None true at is e proposes cannot = cc
+may_expel name node w None false at is e proposes cannot = cc
+may_expel name node w (Some i) none at is e proposes (inl nobody) = let f : Some i ≡ None = at ∙ nobody in cc
+may_expel name node w (Some i) none at is e proposes (inr full) = proposes full
 
 -- ---- a connection's end at its node
 

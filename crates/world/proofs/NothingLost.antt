@@ -6,15 +6,16 @@ use Rattle.ballot.specs.Body.TheVariants.{NewBallot, Join, State, Install, Insta
 use Rattle.ballot.specs.Config.{Config}
 use Rattle.ballot.specs.Message.{Message}
 use Rattle.broker_base.specs.Command.{Command}
+use Rattle.broker_base.specs.Place.{Client}
 use Rattle.exact_model.specs.group_model.snapshots.World.{recorded}
 use Rattle.exact_model.specs.node_model.Moves.Deed.{takes}
 use Rattle.world_base.specs.Core.{CountedCore}
 use Rattle.world_base.specs.declared.item.Item.{Item}
-use Rattle.world_base.specs.declared.item.Item.TheVariants.{Cut, Peer}
+use Rattle.world_base.specs.declared.item.Item.TheVariants.{Cut, Expel, Peer}
 use Rattle.world_base.specs.declared.Port.{Port}
 use Rattle.world_nodes.specs.Goes.{behind_deed}
 use Rattle.world_nodes.specs.Nodes.{NodesState}
-use Rattle.world_nodes.specs.Steps.{ActsWithLosses, ComesIn, CutsIn, CutsWithLosses, HearsIn, LosesNothing as NodesLoseNothing, TakesIn, forgetful}
+use Rattle.world_nodes.specs.Steps.{ActsWithLosses, ComesIn, CutsIn, CutsWithLosses, ExpelsIn, HearsIn, LosesNothing as NodesLoseNothing, TakesIn, forgetful}
 use Rattle.world_nodes.proofs.Exactly.{exactly}
 use Rattle.world.specs.Found.{place_numbered, port_of}
 use Rattle.world.specs.Gathering.{AskedWhere, Gathers, GathersAmong, Gives, MayBeAsked, TakesItem, is_open_at}
@@ -57,6 +58,10 @@ cuts_rises node old new t = by t.way
     by (inl is) = let same = ap (λ (n : NodesState). n.losses) is in omega (arith, same)
     by (inr (inl loses)) = let more = ap (λ (n : NodesState). n.losses) loses.is in omega (arith, more)
     by (inr (inr lost)) = forgets_rises old new lost
+
+pub expels_rises : (client : Client) (node : ℕ) (old new : NodesState) → ExpelsIn client node old new → Rises old new
+expels_rises client node old new (inl took) = takes_rises node (Expel client) old new took
+expels_rises client node old new (inr lost) = forgets_rises old new lost
 
 gives_rises : (o : Option CountedCore) (node : ℕ) (port : Port) (old new : NodesState) → Gives o node port old new → Rises old new
 gives_rises None node port old new is = let same = ap (λ (n : NodesState). n.losses) is in omega (arith, same)

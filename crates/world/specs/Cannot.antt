@@ -1,18 +1,19 @@
 -- When an event cannot happen: then it is idle.
 use Rattle.std.specs.Prelude.{◌≡◌, ◌⊎◌, ◌<◌, ℕ, suc, ◌==◌, ◌&&◌, Bool, true, false, List, [], Option, Some, None, length, slice_get}
+use Rattle.std.specs.List.{position}
 use Rattle.agreement.specs.MasterState.{refusal}
 use Rattle.client.specs.Core.{Core}
 use Rattle.client_base.specs.State.{is_open}
 use Rattle.client_base.specs.Steps.{Call, keeper_step}
 use Rattle.world_base.specs.Core.{CountedCore, serves}
-use Rattle.world_nodes.specs.Goes.{ComesToNobody, cutting, node_of, running}
+use Rattle.world_nodes.specs.Goes.{ComesToNobody, cutting, node_of, proposing, running}
 use Rattle.world_pipes.specs.declared.way.Way.{Way}
 use Rattle.world_pipes.specs.Piped.{is_holding}
 use Rattle.world.specs.declared.event.Event.{Event}
 use Rattle.world.specs.declared.event.Event.TheVariants as events
 use Rattle.world.specs.declared.place.Place.{Place}
 use Rattle.world.specs.declared.world.WorldClient.{WorldClient}
-use Rattle.world.specs.Found.{core_named, place_numbered, way_of}
+use Rattle.world.specs.Found.{core_named, is_named, place_numbered, way_of}
 use Rattle.world.specs.World.{WorldState}
 
 -- there is no such client, or it holds no connection; or there is none, or it holds one
@@ -65,6 +66,7 @@ CannotHappen (events.Assign config) w = refusal w.nodes.master config ≡ None �
 CannotHappen (events.Deliver number) w = ComesToNobody (slice_get w.nodes.sent number) w.nodes
 CannotHappen (events.Tick node) w = running w.nodes.nodes node ≡ None
 CannotHappen (events.Cut node) w = cutting w.nodes.nodes node ≡ None
+CannotHappen (events.Expel name node) w = (position (is_named name) w.clients ≡ None) ⊎ (proposing w.nodes.nodes node ≡ None)
 CannotHappen (events.Crash node) w = running w.nodes.nodes node ≡ None
 CannotHappen (events.Open name node) w = IsTaken (core_named name w.clients) ⊎ (is_serving (node_of w.nodes.nodes node) ≡ false)
 CannotHappen (events.CarryUp number count) w =

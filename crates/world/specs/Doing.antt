@@ -9,9 +9,9 @@ use Rattle.client_base.specs.declared.error.ClientError.{ClientError}
 use Rattle.client_base.specs.declared.error.ClientError.TheVariants as errors
 use Rattle.world_base.specs.declared.item.Item.TheVariants as items
 use Rattle.world_base.specs.declared.Port.{Port}
-use Rattle.world_nodes.specs.Goes.{Comes, CutsExactly, behind_giving}
+use Rattle.world_nodes.specs.Goes.{Comes, CutsExactly, TakesExactly, behind_giving}
 use Rattle.world_nodes.specs.Nodes.{NodesState}
-use Rattle.world_nodes.specs.Steps.{ComesIn, CutsIn, GivesIn, TakesIn}
+use Rattle.world_nodes.specs.Steps.{ComesIn, CutsIn, ExpelsIn, GivesIn, TakesIn}
 use Rattle.world_pipes.specs.declared.sending.Sending.{Sending}
 use Rattle.world_pipes.specs.declared.sending.Sending.TheVariants as sendings
 use Rattle.world_pipes.specs.Piped.{Calls, Connects, Hears, Piped, TakesLeave, taken_back}
@@ -34,6 +34,11 @@ Delivers false message old new = ComesIn message old new
 abbrev pub CutsLog : Bool → ℕ → NodesState → NodesState → Type 0
 CutsLog true node old new = CutsExactly node old new
 CutsLog false node old new = CutsIn node old new
+
+-- a node proposes that the session of a client ends
+abbrev pub Proposes : Bool → List ℕ → ℕ → NodesState → NodesState → Type 0
+Proposes true name node old new = TakesExactly node (items.Expel name) old new
+Proposes false name node old new = ExpelsIn name node old new
 
 -- 0 is the master
 abbrev pub receiver_of : Option (ℕ × Message Command) → ℕ
@@ -109,6 +114,8 @@ Does whole (events.Deliver number) old new =
 Does whole (events.Tick node) old new = TakesItem whole node (items.Tick 0) old new
 Does whole (events.Cut node) old new =
     (between : NodesState) × CutsLog whole node old.nodes between × Gathers whole node (record old { nodes = between }) new
+Does whole (events.Expel name node) old new =
+    (between : NodesState) × Proposes whole name node old.nodes between × Gathers whole node (record old { nodes = between }) new
 Does whole (events.Crash node) old new = TakesItem whole node items.Crash old new
 Does whole (events.Open name node) old new = OpensWhere whole name node old new
 Does whole (events.CarryUp number count) old new =

@@ -1,9 +1,10 @@
 -- Which worlds of the model a world in code stands for, and how these go on.
-use Rattle.std.specs.Prelude.{◌≡◌, ℕ, List, [], ◌∷◌, ◌++◌, map}
+use Rattle.std.specs.Prelude.{◌≡◌, ℕ, List, [], ◌∷◌, ◌++◌, map, Option, Some, None, slice_get}
 use Rattle.ballot.specs.Config.{Config}
 use Rattle.broker_base.specs.Place.{Client}
 use Rattle.model.specs.World.{AreApart}
 use Rattle.session_base.specs.declared.publication.Publication.{Publication}
+use Rattle.story.specs.Sides.{Connection}
 use Rattle.exact_model.specs.Exact.{IsExact}
 use Rattle.exact_model.specs.world_model.World.{ClientPipes, World}
 use Rattle.exact_model.specs.world_model.Goes.{Reached, WorldStep}
@@ -67,6 +68,14 @@ pub record IsReached (nodes : ℕ) (config : Config) (cs : List Client) (w : Wor
 -- what its clients published on the way to it: with each publication the place of its client
 abbrev pub asked_on : {nodes : ℕ} {config : Config} {cs : List Client} {w : WorldState} → IsReached nodes config cs w → List (ℕ × Publication)
 asked_on reached = published_on reached.trail
+
+-- the connections of the client at a place, the newest first: history
+abbrev pub connections_in : Option ClientPipes → List Connection
+connections_in (Some c) = c.connections
+connections_in None = []
+
+abbrev pub connections_on : {nodes : ℕ} {config : Config} {cs : List Client} {w : WorldState} → ℕ → IsReached nodes config cs w → List Connection
+connections_on i reached = connections_in (slice_get reached.world.clients i)
 
 -- a world that is reached still is after it, and this was published since
 abbrev pub KeepsReached : List (ℕ × Publication) → WorldState → WorldState → Type 0

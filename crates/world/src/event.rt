@@ -20,6 +20,9 @@ pub enum Event {
     /// A node cuts its log: a snapshot takes the place of the commands that it has applied. Idle where the node is
     /// unknown or has stopped, or has applied none since its last cut.
     Cut(u8),
+    /// An administrator has a node propose that the session of a client ends. Idle where there is no such client, where
+    /// the node is no running active primary, and where its log is full.
+    Expel(ClientId, u8),
     /// A node stops for good, and closes its connections. Idle where it is unknown or has stopped.
     Crash(u8),
     /// A client opens a connection to a node. Idle where there is no such client, where it has a

@@ -7,6 +7,7 @@ ghost use Rattle.world.specs.Inside.Steps.{GoesOn, Meets};
 use crate::event::Event;
 use crate::place::Place;
 use crate::world::World;
+use packet::ClientId;
 use world_base::{Config, Port};
 use world_nodes::Idle;
 
@@ -48,6 +49,19 @@ impl World {
         ensures still { self.new.losses ≡ self.old.losses }
     {
         self.nodes.cut(node)?;
+        self.gather(node);
+        Ok(())
+    }
+
+    pub(crate) fn expel(&mut self, client: &ClientId, node: u8) -> Result<(), Idle>
+        ensures goes { GoesOn self.old self.new }
+        ensures meets { Meets (Event.Expel client.now node) self.old result self.new }
+        ensures still { self.new.losses ≡ self.old.losses }
+    {
+        if self.place_of(client).is_none() {
+            return Err(Idle);
+        }
+        self.nodes.expel(node, client)?;
         self.gather(node);
         Ok(())
     }

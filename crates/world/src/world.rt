@@ -205,6 +205,7 @@ impl World {
             Event::Deliver(number) => self.deliver(*number),
             Event::Tick(node) => self.tick(*node),
             Event::Cut(node) => self.cut(*node),
+            Event::Expel(client, node) => self.expel(client, *node),
             Event::Crash(node) => self.crash(*node),
             Event::Open(client, node) => self.open(client, *node),
             Event::CarryUp(connection, count) => self.carry_up(*connection, *count),

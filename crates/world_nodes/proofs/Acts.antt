@@ -11,7 +11,7 @@ use Rattle.master.specs.snapshots.World.{messages}
 use Rattle.broker_base.specs.Command.{Command}
 use Rattle.broker_base.specs.Output.{Output}
 use Rattle.world_base.specs.declared.item.Item.{Item}
-use Rattle.world_base.specs.declared.item.Item.TheVariants.{Peer, Tick, Opened, Bytes, Ended, Cut, Crash}
+use Rattle.world_base.specs.declared.item.Item.TheVariants.{Peer, Tick, Opened, Bytes, Ended, Expel, Cut, Crash}
 use Rattle.world_base.specs.Core.{CoreState, CountedCore}
 use Rattle.world_base.specs.Step.{node_step}
 use Rattle.world_model.specs.node_model.Moves.{Deed, done}
@@ -81,6 +81,7 @@ deed_sent old (suc n) at core (Tick now) place positive sent g s = tt
 deed_sent old (suc n) at core (Opened port now) place positive sent g s = tt
 deed_sent old (suc n) at core (Bytes port piece now) place positive sent g s = tt
 deed_sent old (suc n) at core (Ended port) place positive sent g s = tt
+deed_sent old (suc n) at core (Expel client) place positive sent g s = tt
 deed_sent old (suc n) at core Cut place positive sent g s = absurd sent
 deed_sent old (suc n) at core Crash place positive sent g s = tt
 

@@ -5,7 +5,7 @@ use Rattle.ballot.specs.Message.{Message}
 use Rattle.master.specs.snapshots.World.{messages}
 use Rattle.broker_base.specs.Command.{Command}
 use Rattle.world_base.specs.declared.item.Item.{Item}
-use Rattle.world_base.specs.declared.item.Item.TheVariants.{Peer, Tick, Opened, Bytes, Ended, Cut, Crash}
+use Rattle.world_base.specs.declared.item.Item.TheVariants.{Peer, Tick, Opened, Bytes, Ended, Expel, Cut, Crash}
 use Rattle.world_base.specs.Core.{CoreState, CountedCore, Turn}
 use Rattle.world_model.specs.node_model.LossyRuns.{IsRunOn, heard_with, is_cut}
 use Rattle.world_model.specs.node_model.Moves.Deed.{takes}
@@ -61,6 +61,7 @@ were_sent g at core (Tick now) sent = (tt, tt)
 were_sent g at core (Opened port now) sent = tt
 were_sent g at core (Bytes port piece now) sent = tt
 were_sent g at core (Ended port) sent = tt
+were_sent g at core (Expel client) sent = tt
 were_sent g at core Cut sent = tt
 were_sent g at core Crash sent = tt
 

@@ -3,6 +3,7 @@ mod ActsLosing
 mod AgreedCounted
 mod CountsGoOn
 mod Cutting
+mod Expelling
 mod HandsOver
 mod Opens
 mod KeepsAll

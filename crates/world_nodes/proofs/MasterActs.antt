@@ -152,7 +152,7 @@ answers_ballot old from ballot state body more told losses state_is body_is kept
     told_or_counted old _ state from body _ more told losses state_is body_is kept lost count
 
 -- what is counted is counted
-counts : (n old new : NodesState) → n.losses ≡ one_more old.losses → new ≡ n → LosesNothing old new → ⊥
+pub counts : (n old new : NodesState) → n.losses ≡ one_more old.losses → new ≡ n → LosesNothing old new → ⊥
 counts n old new more is none = not_one_more old.losses none.1 (sym more ∙ sym (ap (λ (n : NodesState). n.losses) is) ∙ none.0)
 
 pub gives_where : (config : Config) (old new : NodesState) → GivesIn config old new → LosesNothing old new → new ≡ behind_giving config old

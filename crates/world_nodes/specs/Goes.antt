@@ -15,6 +15,7 @@ use Rattle.world_base.specs.declared.item.Item.{Item}
 use Rattle.world_base.specs.declared.item.Item.TheVariants.{Cut, Peer}
 use Rattle.world_base.specs.declared.Port.{Port}
 use Rattle.world_base.specs.Handing.{answer_of, bytes_of, listed_at}
+use Rattle.world_base.specs.Turns.{has_room}
 use Rattle.world_model.specs.node_model.Moves.{Deed, done}
 use Rattle.world_model.specs.node_model.Moves.Deed.{takes, gives}
 use Rattle.world_model.specs.group_model.Group.{Group}
@@ -61,6 +62,14 @@ pub record TakesExactly (node : ℕ) (item : Item) (old new : NodesState) : Type
   pub core : CountedCore
   pub runs : running old.nodes node ≡ Some core
   pub is : new ≡ behind_deed (node - 1) core (takes item) old
+
+-- .. and if it serves clients and its log has room
+abbrev pub unless_full : Option CountedCore → Option CountedCore
+unless_full None = None
+unless_full (Some c) = if has_room c.core then Some c else None
+
+abbrev pub proposing : List CountedCore → ℕ → Option CountedCore
+proposing nodes node = unless_full (running nodes node)
 
 -- The node of this number had something to cut, and took just that item; what it had applied is in the record.
 pub record CutsExactly (node : ℕ) (old new : NodesState) : Type 0 where

@@ -12,7 +12,7 @@ use Rattle.broker_base.specs.Output.{Output}
 use Rattle.world_base.specs.declared.Handed.{Handed}
 use Rattle.world_base.specs.declared.Handed.TheVariants as answers
 use Rattle.world_base.specs.declared.item.Item.{Item}
-use Rattle.world_base.specs.declared.item.Item.TheVariants.{Cut, Peer}
+use Rattle.world_base.specs.declared.item.Item.TheVariants.{Cut, Expel, Peer}
 use Rattle.world_base.specs.declared.Port.{Port}
 use Rattle.world_base.specs.Core.{CountedCore}
 use Rattle.world_base.specs.LossyStep.{RunsOn}
@@ -70,6 +70,10 @@ pub record TakesIn (node : ℕ) (item : Item) (old new : NodesState) : Type 0 wh
   pub core : CountedCore
   pub runs : running old.nodes node ≡ Some core
   pub way : (new ≡ behind_deed (node - 1) core (takes item) old) ⊎ ActsWithLosses (node - 1) item core old new
+
+-- An Expel of a client is proposed by a node, exactly or with losses; or there is no memory for it, and that is counted.
+abbrev pub ExpelsIn : List ℕ → ℕ → NodesState → NodesState → Type 0
+ExpelsIn client node old new = TakesIn node (Expel client) old new ⊎ (new ≡ forgetful old)
 
 -- The node of this number, which had something to cut, took that item: exactly, or with losses that are counted. Or there was
 -- no memory for the record, and that is counted.

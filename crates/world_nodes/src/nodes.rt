@@ -7,13 +7,14 @@ ghost use Rattle.agreement.specs.World.{can_open};
 ghost use Rattle.world_model.specs.group_model.Group.{Group, opening_group};
 ghost use Rattle.world_model.specs.node_model.Moves.Deed.{takes};
 ghost use Rattle.world_nodes.specs.Nodes.{NodesState, StandsFor};
-ghost use Rattle.world_nodes.specs.Goes.{Acts, AnswersFor, Comes, ComesToNobody, CutsExactly, GivesExactly, HandsOver, TakesExactly, behind_giving, cutting, node_of, running};
-ghost use Rattle.world_nodes.specs.Steps.{ActsOrRests, ComesIn, ComesOrRests, CutsIn, GivesIn, HandsIn, LosesNothing, MasterGoesOrRests, TakesIn};
+ghost use Rattle.world_nodes.specs.Goes.{Acts, AnswersFor, Comes, ComesToNobody, CutsExactly, GivesExactly, HandsOver, TakesExactly, behind_giving, cutting, node_of, proposing, running};
+ghost use Rattle.world_nodes.specs.Steps.{ActsOrRests, ComesIn, ComesOrRests, CutsIn, ExpelsIn, GivesIn, HandsIn, LosesNothing, MasterGoesOrRests, TakesIn};
 
 use crate::counters::Counters;
 use crate::opening::can_open;
 use broker::BrokerMachine;
 use master::{Idle, Master, asks_for, copy_of};
+use packet::ClientId;
 use std::alloc::Global;
 use std::marker::Model;
 use world_base::{Command, Config, Handed, Item, Message, NodeCore, OpeningError, Piece, Port};
@@ -177,6 +178,32 @@ impl Nodes {
         }
         self.cut_at(at);
         Ok(())
+    }
+
+    /// A node proposes that the session of a client ends. Idle where the node is unknown or has stopped, where it does
+    /// not serve clients, and where its log is full.
+    pub fn expel(&mut self, node: u8, client: &ClientId) -> Result<(), Idle>
+        ensures step { OnOk result (ExpelsIn client.now node self.old self.new) }
+        ensures goes { LosesNothing self.old self.new →
+            OnOk result (TakesExactly node (Item.Expel client.now) self.old self.new) }
+        ensures acts { OnOk result (ActsOrRests (node - 1) (takes (Item.Expel client.now)) self.old self.new) }
+        ensures rises { self.old.losses ≤ self.new.losses }
+        ensures idle { IsErr result ↔ (proposing self.old.nodes node ≡ None) }
+        ensures same { OnErr result (self.new ≡ self.old) }
+    {
+        let Some(at) = self.running(node) else {
+            return Err(Idle);
+        };
+        if !self.nodes[at].has_room() {
+            return Err(Idle);
+        }
+        match client.clone() {
+            Ok(client) => self.act(node, Item::Expel(client)),
+            Err(_) => {
+                self.lose();
+                Ok(())
+            }
+        }
     }
 
     /// A node stops for good. Idle where it is unknown or has stopped.
