@@ -30,6 +30,7 @@ pub(crate) fn event_of(
         Order::Deliver(message) => Ok(Some(Event::Deliver(*message))),
         Order::Tick(node) => Ok(tick(*node)),
         Order::Cut(node) => Ok(cut(*node)),
+        Order::Expel(client, node) => expel(client, *node),
         Order::Crash(node) => Ok(crash(*node)),
         Order::Open(client, node) => open(client, *node),
         Order::CarryUp(connection, amount) => {
@@ -114,6 +115,17 @@ fn crash(node: u64) -> Option<Event>
     ensures { result ≡ option_map events.Crash (node_of node) }
 {
     Some(Event::Crash(node_of(node)?))
+}
+
+fn expel(client: &ClientId, node: u64) -> Result<Option<Event>, PlayError>
+    ensures event { IfOk result (λ event.
+        event ≡ option_map (events.Expel client.now) (node_of node)) }
+    ensures memory { OnErr result (IsErrOf result PlayError.Memory) }
+{
+    let Some(node) = node_of(node) else {
+        return Ok(None);
+    };
+    Ok(Some(Event::Expel(client.clone()?, node)))
 }
 
 fn open(client: &ClientId, node: u64) -> Result<Option<Event>, PlayError>

@@ -76,6 +76,10 @@ pub by_unsubscribe : (fields : List Text) → order_by (codes "unsubscribe") fie
 unfolding order_by
 by_unsubscribe fields = refl
 
+pub by_expel : (fields : List Text) → order_by (codes "expel") fields ≡ two orders.Expel client_of number_of fields
+unfolding order_by
+by_expel fields = refl
+
 -- another word
 other : (a b : Text) → (a ≡ b → ⊥) → bytes_eq a b ≡ false
 other a b differ = elim (cases_Bool (bytes_eq a b)) [
@@ -99,7 +103,8 @@ pub by_none : (word : Text) (fields : List Text)
     → (word ≡ codes "publish" → ⊥)
     → (word ≡ codes "subscribe" → ⊥)
     → (word ≡ codes "unsubscribe" → ⊥)
+    → (word ≡ codes "expel" → ⊥)
     → order_by word fields ≡ None
 unfolding order_by
-by_none word fields n0 n1 n2 n3 n4 n5 n6 n7 n8 n9 n10 n11 n12 n13 =
-    rw (other word (codes "assign") n0, other word (codes "deliver") n1, other word (codes "tick") n2, other word (codes "cut") n3, other word (codes "crash") n4, other word (codes "open") n5, other word (codes "up") n6, other word (codes "down") n7, other word (codes "abandon") n8, other word (codes "disconnect") n9, other word (codes "notice") n10, other word (codes "publish") n11, other word (codes "subscribe") n12, other word (codes "unsubscribe") n13) refl
+by_none word fields n0 n1 n2 n3 n4 n5 n6 n7 n8 n9 n10 n11 n12 n13 n14 =
+    rw (other word (codes "assign") n0, other word (codes "deliver") n1, other word (codes "tick") n2, other word (codes "cut") n3, other word (codes "crash") n4, other word (codes "open") n5, other word (codes "up") n6, other word (codes "down") n7, other word (codes "abandon") n8, other word (codes "disconnect") n9, other word (codes "notice") n10, other word (codes "publish") n11, other word (codes "subscribe") n12, other word (codes "unsubscribe") n13, other word (codes "expel") n14) refl

@@ -9,7 +9,7 @@ use Rattle.script.specs.Fields.{Text, amount_of, client_of, filter_of, number_of
 use Rattle.script.specs.Orders as lines
 use Rattle.script.specs.Orders.{IsOrder}
 use Rattle.script.specs.Inside.Ordering.{publication_order, one, order_by, order_of, publication, publication_of, publish_of, subscribe_of, subscription_order, two, with}
-use Rattle.script.proofs.ByWord.{by_assign, by_deliver, by_tick, by_cut, by_crash, by_open, by_up, by_down, by_abandon, by_disconnect, by_notice, by_publish, by_subscribe, by_unsubscribe, by_none}
+use Rattle.script.proofs.ByWord.{by_assign, by_deliver, by_tick, by_cut, by_crash, by_open, by_up, by_down, by_abandon, by_disconnect, by_notice, by_publish, by_subscribe, by_unsubscribe, by_expel, by_none}
 
 -- the parts of what was made
 pub record Made {X Y : Type 0} (make : Option (X → Y)) (value : Option X) (y : Y) : Type 0 where
@@ -106,7 +106,10 @@ disconnect_line fields o h = let p = has_one orders.Disconnect client_of fields 
 notice_line : (fields : List Text) (o : Order) → one orders.Notice number_of fields ≡ Some o → IsOrder (codes "notice" ∷ fields) o
 notice_line fields o h = let p = has_one orders.Notice number_of fields o h in moved _ _ _ _ _ p.are p.is (lines.notice p.a_is)
 
-unsubscribe_line : (fields : List Text) (o : Order) → two orders.Unsubscribe client_of filter_of fields ≡ Some o → IsOrder (codes "unsubscribe" ∷ fields) o
+unexpel_line : (fields : List Text) (o : Order) → two orders.Expel client_of number_of fields ≡ Some o → IsOrder (codes "expel" ∷ fields) o
+expel_line fields o h = let p = has_two orders.Expel client_of number_of fields o h in moved _ _ _ _ _ p.are p.is (lines.expel p.a_is p.b_is)
+
+subscribe_line : (fields : List Text) (o : Order) → two orders.Unsubscribe client_of filter_of fields ≡ Some o → IsOrder (codes "unsubscribe" ∷ fields) o
 unsubscribe_line fields o h = let p = has_two orders.Unsubscribe client_of filter_of fields o h in moved _ _ _ _ _ p.are p.is (lines.unsubscribe p.a_is p.b_is)
 
 subscribe_line : (fields : List Text) (o : Order) → subscribe_of fields ≡ Some o → IsOrder (codes "subscribe" ∷ fields) o
@@ -179,7 +182,8 @@ has_line word fields o h =
     decide word (codes "publish") (λ e. known word _ fields o _ e (by_publish fields) (publish_line fields o) h) (λ n11.
     decide word (codes "subscribe") (λ e. known word _ fields o _ e (by_subscribe fields) (subscribe_line fields o) h) (λ n12.
     decide word (codes "unsubscribe") (λ e. known word _ fields o _ e (by_unsubscribe fields) (unsubscribe_line fields o) h) (λ n13.
-    absurd (none_is_no_order word fields o (by_none word fields n0 n1 n2 n3 n4 n5 n6 n7 n8 n9 n10 n11 n12 n13) h)))))))))))))))
+    decide word (codes "expel") (λ e. known word _ fields o _ e (by_expel fields) (expel_line fields o) h) (λ n14.
+    absurd (none_is_no_order word fields o (by_none word fields n0 n1 n2 n3 n4 n5 n6 n7 n8 n9 n10 n11 n12 n13 n14) h))))))))))))))))
 
 -- what the fields order is said by them
 pub says : (fields : List Text) (o : Order) → order_of fields ≡ Some o → IsOrder fields o
@@ -210,3 +214,4 @@ is_read fields o (lines.notice a) = by_notice _ ∙ with_one _ _ _ a
 is_read fields o (lines.publish c t q r p) = by_publish _ ∙ rw (c, t, q, r, p) refl
 is_read fields o (lines.subscribe c f q) = by_subscribe _ ∙ rw (c, f, q) refl
 is_read fields o (lines.unsubscribe a b) = by_unsubscribe _ ∙ with_two _ _ _ _ _ a b
+is_read fields o (lines.expel a b) = by_expel _ ∙ with_two _ _ _ _ _ a b

@@ -21,6 +21,10 @@ pub data IsOrder : List Text → Order → Type 0 where
   -- `cut 1`
   cut : {n : Text} {node : ℕ} → number_of n ≡ Some node
       → IsOrder (codes "cut" ∷ n ∷ []) (orders.Cut node)
+  -- `expel b 1`
+  expel : {c n : Text} {client : Text} {node : ℕ}
+      → client_of c ≡ Some client → number_of n ≡ Some node
+      → IsOrder (codes "expel" ∷ c ∷ n ∷ []) (orders.Expel client node)
   -- `crash 1`
   crash : {n : Text} {node : ℕ} → number_of n ≡ Some node
       → IsOrder (codes "crash" ∷ n ∷ []) (orders.Crash node)

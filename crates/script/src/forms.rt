@@ -118,6 +118,20 @@ pub(crate) fn open_connection(alloc: Global, fields: &[&str]) -> Result<Order, L
     Ok(Order::Open(name, number(node)?))
 }
 
+/// `expel b 1`
+pub(crate) fn expel(alloc: Global, fields: &[&str]) -> Result<Order, LineFault>
+    ensures value { IfOk result (λ order.
+        two orders.Expel client_of number_of (texts fields.now) ≡ Some order) }
+    ensures form { IsErrOf result LineFault.Form
+        → two orders.Expel client_of number_of (texts fields.now) ≡ None }
+{
+    let [name, node] = fields else {
+        return Err(LineFault::Form);
+    };
+    let name = client(alloc, name)?;
+    Ok(Order::Expel(name, number(node)?))
+}
+
 /// `up 1 all`
 pub(crate) fn carry_up(fields: &[&str]) -> Result<Order, LineFault>
     ensures value { IfOk result (λ order.

@@ -26,6 +26,8 @@ pub enum Order {
     Tick(u64),
     /// This node cuts its log.
     Cut(u64),
+    /// This node proposes that the session of this client ends.
+    Expel(ClientId, u64),
     /// This node stops for good.
     Crash(u64),
     /// This client opens a connection to this node.

@@ -40,6 +40,7 @@ fn order_by(alloc: Global, word: &str, fields: &[&str]) -> Result<Order, LineFau
         "publish" => forms::publish(alloc, fields),
         "subscribe" => forms::subscribe(alloc, fields),
         "unsubscribe" => forms::unsubscribe(alloc, fields),
+        "expel" => forms::expel(alloc, fields),
         _ => Err(LineFault::Form),
     }
 }

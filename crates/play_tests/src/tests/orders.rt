@@ -18,6 +18,8 @@ const LINES: &[(&str, &str)] = &[
     ("tick 1", "tick 1"),
     ("cut 1", "cut 1"),
     ("crash 99", "crash 99"),
+    ("expel b 1", "expel b 1"),
+    ("expel z 01", "expel z 1"),
     ("open a 1", "open a 1"),
     ("open z 1", "open z 1"),
     ("up 1 15", "up 1 15"),

@@ -86,6 +86,7 @@ fn told(alloc: Global, order: &Order) -> Result<String, AllocError> {
         Order::Tick(node) => format!(in alloc; "tick {node}"),
         Order::Cut(node) => format!(in alloc; "cut {node}"),
         Order::Crash(node) => format!(in alloc; "crash {node}"),
+        Order::Expel(client, node) => format!(in alloc; "expel {client} {node}"),
         Order::Open(client, node) => format!(in alloc; "open {client} {node}"),
         Order::CarryUp(connection, amount) => carrying(alloc, "up", *connection, *amount),
         Order::CarryDown(connection, amount) => carrying(alloc, "down", *connection, *amount),

@@ -233,6 +233,53 @@ pub const BALLOT_IS_PUT_OUT: [&str; 2] = [
     end agreed=2 active=3\n",
 ];
 
+/// A client that is served is expelled, and comes back to a session that begins: what came meanwhile is not for it.
+pub const SESSION_IS_EXPELLED: [&str; 2] = [
+    "world 1 1 1 a,b\n\
+    open b 1\n\
+    up 1 all\n\
+    down 1 all\n\
+    subscribe b t/# 2\n\
+    up 1 all\n\
+    open a 1\n\
+    up 2 all\n\
+    down 2 all\n\
+    publish a t/1 2 0 78\n\
+    up 2 all\n\
+    expel b 1\n\
+    publish a t/1 2 0 79\n\
+    up 2 all\n\
+    down 1 all\n\
+    up 1 all\n\
+    expel b 1\n\
+    abandon b\n\
+    open b 1\n\
+    up 3 all\n\
+    down 3 all\n",
+    "0 ok msgs=0 agreed=0\n\
+    1 ok msgs=0 agreed=1\n\
+    2 ok msgs=0 agreed=1\n\
+    3 ok msgs=0 agreed=1\n\
+    4 ok msgs=0 agreed=2\n\
+    5 ok msgs=0 agreed=2\n\
+    6 ok msgs=0 agreed=3\n\
+    7 ok msgs=0 agreed=3\n\
+    8 ok msgs=0 agreed=3\n\
+    9 ok msgs=0 agreed=4\n\
+    10 ok msgs=0 agreed=5\n\
+    11 ok msgs=0 agreed=5\n\
+    12 ok msgs=0 agreed=6\n\
+    13 ok msgs=0 agreed=6\n\
+    accepted b 1 2 0 t/1 x\n\
+    14 idle\n\
+    15 ok msgs=0 agreed=7\n\
+    16 ok msgs=0 agreed=7\n\
+    17 ok msgs=0 agreed=7\n\
+    18 ok msgs=0 agreed=8\n\
+    19 ok msgs=0 agreed=8\n\
+    end agreed=8 active=1\n",
+];
+
 /// A sole member cuts its log, and its snapshot goes over to a new primary.
 pub const SNAPSHOT_TRAVELS: [&str; 2] = [
     "world 2 1 1 a\n\
@@ -295,6 +342,12 @@ fn scripts_give_their_transcripts(rt: HostRuntime) {
     for row in &SCRIPTS {
         assert!(rt; gives(rt.alloc(), row[0], row[1]), "{}", row[0]);
     }
+}
+
+// It is no script of `SCRIPTS`, since it has one node.
+#[test]
+fn session_is_expelled(rt: HostRuntime) {
+    assert!(rt; gives(rt.alloc(), SESSION_IS_EXPELLED[0], SESSION_IS_EXPELLED[1]));
 }
 
 // It is no script of `SCRIPTS`: a crash before its cuts makes them idle.

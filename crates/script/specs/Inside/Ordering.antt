@@ -82,6 +82,7 @@ order_by word fields =
     if bytes_eq word (codes "publish") then publish_of fields else
     if bytes_eq word (codes "subscribe") then subscribe_of fields else
     if bytes_eq word (codes "unsubscribe") then two orders.Unsubscribe client_of filter_of fields else
+    if bytes_eq word (codes "expel") then two orders.Expel client_of number_of fields else
     None
 
 -- what the fields of a line order

@@ -1,5 +1,5 @@
 use Rattle.script.specs.Fields.{texts}
-use Rattle.script.proofs.ByWord.{by_assign, by_deliver, by_tick, by_cut, by_crash, by_open, by_up, by_down, by_abandon, by_disconnect, by_none, by_notice, by_publish, by_subscribe, by_unsubscribe, form_by, value_by}
+use Rattle.script.proofs.ByWord.{by_assign, by_deliver, by_tick, by_cut, by_crash, by_open, by_up, by_down, by_abandon, by_disconnect, by_none, by_notice, by_publish, by_subscribe, by_unsubscribe, by_expel, form_by, value_by}
 use Rattle.script.proofs.ordering.order_by.Goals as goal
 
 pub returns-in-assign-clause-value : goal.returns-in-assign-clause-value
@@ -114,6 +114,14 @@ pub returns-in-unsubscribe-clause-form : goal.returns-in-unsubscribe-clause-form
 returns-in-unsubscribe-clause-form c form =
     form_by c.args.word.now _ (texts c.args.fields.now) _ c.in-unsubscribe.is (by_unsubscribe (texts c.args.fields.now)) (c.unsubscribe.ensures.form form)
 
+pub returns-in-expel-clause-value : goal.returns-in-expel-clause-value
+returns-in-expel-clause-value c =
+    value_by c.args.word.now _ (texts c.args.fields.now) _ _ c.in-expel.is (by_expel (texts c.args.fields.now)) c.expel.ensures.value
+
+pub returns-in-expel-clause-form : goal.returns-in-expel-clause-form
+returns-in-expel-clause-form c form =
+    form_by c.args.word.now _ (texts c.args.fields.now) _ c.in-expel.is (by_expel (texts c.args.fields.now)) (c.expel.ensures.form form)
+
 pub returns-in_default-clause-form : goal.returns-in_default-clause-form
 returns-in_default-clause-form c same =
-    by_none c.args.word.now (texts c.args.fields.now) c.in_default.not-assign c.in_default.not-deliver c.in_default.not-tick c.in_default.not-cut c.in_default.not-crash c.in_default.not-open c.in_default.not-up c.in_default.not-down c.in_default.not-abandon c.in_default.not-disconnect c.in_default.not-notice c.in_default.not-publish c.in_default.not-subscribe c.in_default.not-unsubscribe
+    by_none c.args.word.now (texts c.args.fields.now) c.in_default.not-assign c.in_default.not-deliver c.in_default.not-tick c.in_default.not-cut c.in_default.not-crash c.in_default.not-open c.in_default.not-up c.in_default.not-down c.in_default.not-abandon c.in_default.not-disconnect c.in_default.not-notice c.in_default.not-publish c.in_default.not-subscribe c.in_default.not-unsubscribe c.in_default.not-expel
