@@ -9,7 +9,7 @@ use Rattle.group_model.specs.world_base.Core.{CoreState, Turn, rules}
 use Rattle.group_model.specs.world_base.Lossy.{Account, Takes}
 use Rattle.group_model.specs.world_base.Reading.{changes}
 use Rattle.group_model.specs.node_model.LossyMoves.{LossyMoves, hears_in}
-use Rattle.group_model.specs.node_model.LossyMoves.LossyMoves.{exactly, hears_losing, first_losing, later_losing, tells_losing, forgets, halts, fails, unheard, drops}
+use Rattle.group_model.specs.node_model.LossyMoves.LossyMoves.{exactly, hears_losing, first_losing, later_losing, tells_losing, expels_losing, forgets, halts, fails, unheard, drops}
 use Rattle.group_model.proofs.of_node_model.LossyOutputs.{delivers_replica}
 use Rattle.group_model.proofs.of_node_model.MovesOfReplica.{move_same}
 use Rattle.group_model.proofs.of_node_model.ReplicaStays.{added_same}
@@ -34,6 +34,7 @@ calm_role core turn (first_losing now port c connect rest did at first is taken)
 calm_role core turn (later_losing now port c packet rest did at later is taken) calm =
     taken_role _ core (changes port (left_with now rest) core) did (changed_state port (left_with now rest) core) taken
 calm_role core turn (tells_losing name did taken) calm = taken_role (commands.Lost name) core core did refl taken
+calm_role core turn (expels_losing client did taken) calm = taken_role (commands.Expel client) core core did refl taken
 calm_role core turn forgets calm = refl
 calm_role core turn halts calm = refl
 calm_role core turn (fails port) calm = ap (λ (r : ReplicaState State Command). r.role) (changed_state port failing core)

@@ -22,7 +22,7 @@ use Rattle.group_model.specs.node_model.Ends.IsEnd.{not_yet, is_open, is_over}
 use Rattle.group_model.specs.node_model.LossyMoves.{LossyMoves, came_on, proposal_of, refusal_in}
 use Rattle.group_model.specs.node_model.LossyMoves.LossyMoves.{exactly, first_losing, later_losing, drops}
 use Rattle.group_model.specs.node_model.Moves.{Moves}
-use Rattle.group_model.specs.node_model.Moves.Moves.{holds, reads_first, reads_later, refuses, loses_one, loses_next}
+use Rattle.group_model.specs.node_model.Moves.Moves.{holds, reads_first, reads_later, refuses, loses_one, loses_next, expels_one}
 use Rattle.group_model.proofs.of_node_model.Kept.{named}
 use Rattle.group_model.proofs.of_node_model.NamesInOrder.{not_both}
 use Rattle.group_model.proofs.of_node_model.ReadsInOrder.{found_given, found_open}
@@ -88,9 +88,14 @@ lost_or_not : (x : ConnectionName) (name : ConnectionName) (b : Bool) → packet
 lost_or_not x name true = refl
 lost_or_not x name false = refl
 
+expelled_or_not : (x : ConnectionName) (client : List ℕ) (b : Bool) → packets_of x (if b then commands.Expel client ∷ [] else []) ≡ []
+expelled_or_not x client true = refl
+expelled_or_not x client false = refl
+
 exactly_packets : (x : ConnectionName) (core : CoreState) (turn : Turn) (m : Moves core turn) → packets_of x (exactly_put m) ≡ packets_of x (exactly_proposed m)
 exactly_packets x core turn (loses_one port c at asked) = lost_or_not x c.name (serves core)
 exactly_packets x core turn (loses_next c at) = lost_or_not x c.name (serves core)
+exactly_packets x core turn (expels_one client) = expelled_or_not x client (serves core)
 exactly_packets x core turn m = refl
 
 pub packets_put : (x : ConnectionName) (core : CoreState) (turn : Turn) (m : LossyMoves core turn) → packets_of x (commands_put m) ≡ packets_of x (proposal_of m)

@@ -15,9 +15,9 @@ use Rattle.group_model.specs.world_base.Step.{next_name, opens, settled}
 use Rattle.group_model.specs.node_model.Closed.{listed_named}
 use Rattle.group_model.specs.node_model.Ends.{IsOrderly}
 use Rattle.group_model.specs.node_model.LossyMoves.{LossyMoves}
-use Rattle.group_model.specs.node_model.LossyMoves.LossyMoves.{exactly, hears_losing, first_losing, later_losing, tells_losing, forgets, halts, fails, unheard, drops}
+use Rattle.group_model.specs.node_model.LossyMoves.LossyMoves.{exactly, hears_losing, first_losing, later_losing, tells_losing, expels_losing, forgets, halts, fails, unheard, drops}
 use Rattle.group_model.specs.node_model.Moves.{Moves}
-use Rattle.group_model.specs.node_model.Moves.Moves.{hears, opens_one, holds, reads_first, reads_later, closes, refuses, loses_one, loses_next, cuts_log, crashes, settles, hands}
+use Rattle.group_model.specs.node_model.Moves.Moves.{hears, opens_one, holds, reads_first, reads_later, closes, refuses, loses_one, loses_next, expels_one, cuts_log, crashes, settles, hands}
 use Rattle.group_model.proofs.of_node_model.Kept.{live, named, named_kept}
 use Rattle.group_model.proofs.of_node_model.LossyShuts.{lossy_shuts, sent_in}
 use Rattle.group_model.proofs.of_node_model.NothingOnClosed.{found_pushed, move_shuts}
@@ -170,6 +170,7 @@ exactly_flows x core turn (closes port) o = from_shuts (move_shuts core turn (cl
 exactly_flows x core turn (refuses port c code at first is) o = from_shuts (move_shuts core turn (refuses port c code at first is) o x tt)
 exactly_flows x core turn (loses_one port c at asked) o = from_shuts (move_shuts core turn (loses_one port c at asked) o x tt)
 exactly_flows x core turn (loses_next c at) o = from_shuts (move_shuts core turn (loses_next c at) o x tt)
+exactly_flows x core turn (expels_one client) o = from_shuts (move_shuts core turn (expels_one client) o x tt)
 exactly_flows x core turn (cuts_log can) o = from_shuts (move_shuts core turn (cuts_log can) o x tt)
 exactly_flows x core turn crashes o = from_shuts (move_shuts core turn crashes o x tt)
 
@@ -180,6 +181,7 @@ move_flows x core turn (hears_losing input did other drives) o = from_shuts (los
 move_flows x core turn (first_losing now port c connect rest did at first is taken) o = from_shuts (lossy_shuts core turn (first_losing now port c connect rest did at first is taken) o x tt)
 move_flows x core turn (later_losing now port c packet rest did at later is taken) o = from_shuts (lossy_shuts core turn (later_losing now port c packet rest did at later is taken) o x tt)
 move_flows x core turn (tells_losing name did taken) o = from_shuts (lossy_shuts core turn (tells_losing name did taken) o x tt)
+move_flows x core turn (expels_losing client did taken) o = from_shuts (lossy_shuts core turn (expels_losing client did taken) o x tt)
 move_flows x core turn forgets o = from_shuts (lossy_shuts core turn forgets o x tt)
 move_flows x core turn halts o = from_shuts (lossy_shuts core turn halts o x tt)
 move_flows x core turn (fails port) o = from_shuts (lossy_shuts core turn (fails port) o x tt)

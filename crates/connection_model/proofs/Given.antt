@@ -15,9 +15,9 @@ use Rattle.group_model.specs.world_base.Step.{next_name, opens}
 use Rattle.group_model.specs.world_base.Turns.{proposes}
 use Rattle.group_model.specs.node_model.Ends.{IsGiven, IsOrderly}
 use Rattle.group_model.specs.node_model.LossyMoves.{LossyMoves}
-use Rattle.group_model.specs.node_model.LossyMoves.LossyMoves.{exactly, hears_losing, first_losing, later_losing, tells_losing, forgets, halts, fails, unheard, drops}
+use Rattle.group_model.specs.node_model.LossyMoves.LossyMoves.{exactly, hears_losing, first_losing, later_losing, tells_losing, expels_losing, forgets, halts, fails, unheard, drops}
 use Rattle.group_model.specs.node_model.Moves.{Moves}
-use Rattle.group_model.specs.node_model.Moves.Moves.{hears, opens_one, holds, reads_first, reads_later, closes, refuses, loses_one, loses_next, cuts_log, crashes, settles, hands}
+use Rattle.group_model.specs.node_model.Moves.Moves.{hears, opens_one, holds, reads_first, reads_later, closes, refuses, loses_one, loses_next, expels_one, cuts_log, crashes, settles, hands}
 use Rattle.group_model.proofs.of_node_model.Kept.{stays_crashed, stays_cut, stays_driven, stays_failed, stays_handed, stays_proposed, stays_settled}
 use Rattle.group_model.proofs.of_node_model.LossyReads.{stays_drives, stays_takes}
 use Rattle.group_model.proofs.of_node_model.NamesInOrder.{given_later, next_precedes}
@@ -61,6 +61,7 @@ exactly_given x core turn (loses_one port c at asked_before) o given =
     by_same x core turn.core (behind (commands.Lost c.name) core (changes port closed core) (at_orderly port closed core o (λ d. refl)) (same_last port closed core)) given
 exactly_given x core turn (loses_next c at) o given =
     by_same x core turn.core (behind (commands.Lost c.name) core (closes_failed core) (stays_failed core o).orderly refl) given
+exactly_given x core turn (expels_one client) o given = by_same x core turn.core (behind (commands.Expel client) core core o refl) given
 exactly_given x core turn (cuts_log can) o given = by_same x core turn.core (stays_cut core o).last given
 exactly_given x core turn crashes o given = by_same x core turn.core (stays_crashed core o).last given
 exactly_given x core turn settles o given = by_same x core turn.core (stays_settled core o).last given
@@ -83,6 +84,7 @@ stays_given x core turn (later_losing now port c packet rest did at later is tak
     by_same x core turn.core
     (taken_last _ core (changes port (left_with now rest) core) did (at_orderly port (left_with now rest) core o (λ d. refl)) (same_last port (left_with now rest) core) taken) given
 stays_given x core turn (tells_losing name did taken) o given = by_same x core turn.core (taken_last _ core core did o refl taken) given
+stays_given x core turn (expels_losing client did taken) o given = by_same x core turn.core (taken_last _ core core did o refl taken) given
 stays_given x core turn forgets o given = given
 stays_given x core turn halts o given = given
 stays_given x core turn (fails port) o given = by_same x core turn.core (same_last port failing core) given

@@ -14,7 +14,7 @@ use Rattle.agreement.specs.MasterState.{refusal}
 use Rattle.model.proofs.Lists.{each_set}
 use Rattle.world_model.specs.world_base.declared.Connection.{Connection}
 use Rattle.world_model.specs.world_base.declared.item.Item.{Item}
-use Rattle.world_model.specs.world_base.declared.item.Item.TheVariants.{Peer, Tick, Opened, Bytes, Ended, Cut, Crash}
+use Rattle.world_model.specs.world_base.declared.item.Item.TheVariants.{Peer, Tick, Opened, Bytes, Ended, Expel, Cut, Crash}
 use Rattle.world_model.specs.world_base.declared.Port.{Port}
 use Rattle.world_model.specs.world_base.Connections.{fresh, is_at}
 use Rattle.world_model.specs.world_base.Core.{CoreState, Turn, serves}
@@ -67,6 +67,7 @@ done_named (takes (Peer message)) core all = each_done IsNamed later_named (take
 done_named (takes (Tick now)) core all = each_done IsNamed later_named (takes (Tick now)) core tt all
 done_named (takes (Bytes port piece now)) core all = each_done IsNamed later_named (takes (Bytes port piece now)) core tt all
 done_named (takes (Ended port)) core all = each_done IsNamed later_named (takes (Ended port)) core tt all
+done_named (takes (Expel client)) core all = each_done IsNamed later_named (takes (Expel client)) core tt all
 done_named (takes Cut) core all = each_done IsNamed later_named (takes Cut) core tt all
 done_named (takes Crash) core all = each_done IsNamed later_named (takes Crash) core tt all
 done_named (gives port) core all = each_done IsNamed later_named (gives port) core tt all
@@ -78,6 +79,7 @@ lost_named (Peer message) core new messages runs all = each_lost IsNamed later_n
 lost_named (Tick now) core new messages runs all = each_lost IsNamed later_named (Tick now) core new messages tt runs all
 lost_named (Bytes port piece now) core new messages runs all = each_lost IsNamed later_named (Bytes port piece now) core new messages tt runs all
 lost_named (Ended port) core new messages runs all = each_lost IsNamed later_named (Ended port) core new messages tt runs all
+lost_named (Expel client) core new messages runs all = each_lost IsNamed later_named (Expel client) core new messages tt runs all
 lost_named Cut core new messages runs all = each_lost IsNamed later_named Cut core new messages tt runs all
 lost_named Crash core new messages runs all = each_lost IsNamed later_named Crash core new messages tt runs all
 

@@ -23,7 +23,7 @@ use Rattle.node_model.specs.world_base.Reading.{changes}
 use Rattle.node_model.specs.world_base.Turns.{has_room, heard}
 use Rattle.node_model.specs.LossyMoves.{LossyMoves, given_in, inputs_in, turn_of}
 use Rattle.node_model.specs.LossyRuns.{Freezes}
-use Rattle.node_model.specs.LossyMoves.LossyMoves.{exactly, hears_losing, first_losing, later_losing, tells_losing, forgets, halts, fails, unheard, drops}
+use Rattle.node_model.specs.LossyMoves.LossyMoves.{exactly, hears_losing, first_losing, later_losing, tells_losing, expels_losing, forgets, halts, fails, unheard, drops}
 use Rattle.node_model.specs.Moves.{is_proposal}
 use Rattle.node_model.proofs.LossyOutputs.{delivers_replica}
 use Rattle.group_model.specs.Group.{Group, behind_turn, moment_of, replica_of, with_record}
@@ -142,6 +142,7 @@ losses_happen g n core turn (first_losing now port c connect rest did is_at firs
 losses_happen g n core turn (later_losing now port c packet rest did is_at later is taken) kept at sent frozen t =
     takes_happen g n core (changes port (left_with now rest) core) _ did kept at (changes_keep port (left_with now rest) core) taken t
 losses_happen g n core turn (tells_losing name did taken) kept at sent frozen t = takes_happen g n core core (commands.Lost name) did kept at refl taken t
+losses_happen g n core turn (expels_losing client did taken) kept at sent frozen t = takes_happen g n core core (commands.Expel client) did kept at refl taken t
 losses_happen g n core turn forgets kept at sent frozen t = quietly g n core turn.core kept at refl t
 losses_happen g n core turn halts kept at sent frozen t =
     λ config earlier came. one_stop g n core (keeping kept turn) [] config earlier came at refl (ap messages (nothing_kept kept t)) refl

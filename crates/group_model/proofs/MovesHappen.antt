@@ -55,7 +55,7 @@ use Rattle.node_model.specs.world_base.Handing.{hands_over}
 use Rattle.node_model.specs.world_base.Reading.{refused}
 use Rattle.node_model.specs.world_base.Step.{opens, settled, with_cut}
 use Rattle.node_model.specs.Moves.{Moves, is_proposal}
-use Rattle.node_model.specs.Moves.Moves.{hears, opens_one, holds, reads_first, reads_later, closes, refuses, loses_one, loses_next, cuts_log, crashes, settles, hands}
+use Rattle.node_model.specs.Moves.Moves.{hears, opens_one, holds, reads_first, reads_later, closes, refuses, loses_one, loses_next, expels_one, cuts_log, crashes, settles, hands}
 use Rattle.node_model.specs.Puts.{given_in}
 use Rattle.ballot.specs.Cutting.{can_cut, cut}
 use Rattle.snapshots.specs.World.{recorded}
@@ -390,6 +390,9 @@ room_is core room = right_true (serves core) (nat_lt (places (replica_of core).l
 lost_is_none : (core : CoreState) (name : ConnectionName) → HasRoomFor core (commands.Lost name)
 lost_is_none core name x is = let e : is_packet_of (commands.Lost name) x ≡ true = is in absurd cc
 
+expel_is_none : (core : CoreState) (client : List ℕ) → HasRoomFor core (commands.Expel client)
+expel_is_none core client x is = let e : is_packet_of (commands.Expel client) x ≡ true = is in absurd cc
+
 -- the log is cut
 cut_happens : (g : Group) (n : ℕ) (core : CoreState) (kept : Given) → slice_get g.nodes n ≡ Some core → can_cut (replica_of core) ≡ true
     → rules.thawed (rules.frozen (replica_of core).machine) ≡ Some (replica_of core).machine → Thinned kept []
@@ -417,6 +420,8 @@ moves_happen g n core turn (loses_one port c is_at was_asked) kept at sent t =
     lost_happens g n core (changes port closed core) (commands.Lost c.name) kept at (changes_keep port closed core) (lost_is_none core c.name) (serves core) refl t
 moves_happen g n core turn (loses_next c is_at) kept at sent t =
     lost_happens g n core (closes_failed core) (commands.Lost c.name) kept at refl (lost_is_none core c.name) (serves core) refl t
+moves_happen g n core turn (expels_one client) kept at sent t =
+    lost_happens g n core core (commands.Expel client) kept at refl (expel_is_none core client) (serves core) refl t
 moves_happen g n core turn (cuts_log can) kept at sent t = cut_happens g n core kept at can sent t
 moves_happen g n core turn crashes kept at sent t =
     λ config earlier came. one_stop g n core (keeping kept turn) [] config earlier came at refl (ap messages (nothing_kept kept t)) refl

@@ -1,5 +1,5 @@
 -- What a move puts to its replica is put in the ballot of its name, where the names of open connections are of the ballot.
-use Rattle.std.proofs.Common.{◌≡◌, Bool, true, false, nat_lt, if◌then◌else◌, [], ◌∷◌, map, refl, ◌∙◌, sym, subst}
+use Rattle.std.proofs.Common.{◌≡◌, Bool, true, false, nat_lt, if◌then◌else◌, ℕ, List, [], ◌∷◌, map, refl, ◌∙◌, sym, subst}
 use Rattle.std.proofs.lemmas.Bool.{both_ways}
 use Rattle.lists.specs.Lists.{Each, In}
 use Rattle.lists.specs.Lists.In.{here}
@@ -19,10 +19,10 @@ use Rattle.node_model.specs.Keeping.{AreOfTheBallot}
 use Rattle.node_model.specs.LossyLaws.{AreWhereItServes}
 use Rattle.node_model.specs.LossyMoves.{LossyMoves, proposal_of}
 use Rattle.node_model.specs.LossyRuns.{HearsAtFirst, IsCalm, LossyRuns}
-use Rattle.node_model.specs.LossyMoves.LossyMoves.{exactly, first_losing, later_losing, tells_losing}
+use Rattle.node_model.specs.LossyMoves.LossyMoves.{exactly, first_losing, later_losing, tells_losing, expels_losing}
 use Rattle.node_model.specs.LossyRuns.LossyRuns.{rests, goes_on}
 use Rattle.node_model.specs.Moves.{Moves}
-use Rattle.node_model.specs.Moves.Moves.{reads_first, reads_later, loses_one, loses_next}
+use Rattle.node_model.specs.Moves.Moves.{reads_first, reads_later, loses_one, loses_next, expels_one}
 use Rattle.node_model.proofs.LossyNames.{lossy_names_keep_their_ballot}
 use Rattle.node_model.proofs.LossyReads.{losses_read_in_order}
 use Rattle.group_model.specs.Ballots.{IsInItsBallot}
@@ -38,6 +38,11 @@ none_of_a_packet : (core : CoreState) (name : ConnectionName) (b : Bool)
     → Each IsInItsBallot (map (λ command. ((replica_of core).joined, command)) (if b then commands.Lost name ∷ [] else []))
 none_of_a_packet core name true = (λ x is. absurd (both_ways (is_packet_of (commands.Lost name) x) refl is), tt)
 none_of_a_packet core name false = tt
+
+none_of_an_expel : (core : CoreState) (client : List ℕ) (b : Bool)
+    → Each IsInItsBallot (map (λ command. ((replica_of core).joined, command)) (if b then commands.Expel client ∷ [] else []))
+none_of_an_expel core client true = (λ x is. absurd (both_ways (is_packet_of (commands.Expel client) x) refl is), tt)
+none_of_an_expel core client false = tt
 
 -- what is proposed is put by a node that serves
 proposed_in : (core : CoreState) (turn : Turn) (m : LossyMoves core turn) (command : Command) → IsOrderly core → AreWhereItServes core → serves core ≡ true → proposal_of m ≡ command ∷ []
@@ -63,6 +68,7 @@ exactly_in core turn (reads_later now port c packet rest at later is room) o of 
 )
 exactly_in core turn (loses_one port c at asked_before) o of = none_of_a_packet core c.name (serves core)
 exactly_in core turn (loses_next c at) o of = none_of_a_packet core c.name (serves core)
+exactly_in core turn (expels_one client) o of = none_of_an_expel core client (serves core)
 exactly_in core turn m o of = tt
 
 puts_in : (core : CoreState) (turn : Turn) (m : LossyMoves core turn) → IsOrderly core → AreWhereItServes core → Each IsInItsBallot (put_in_move m)
@@ -79,6 +85,7 @@ puts_in core turn (later_losing now port c packet rest did at later is taken) o 
   tt,
 )
 puts_in core turn (tells_losing name did taken) o of = none_of_a_packet core name true
+puts_in core turn (expels_losing client did taken) o of = none_of_an_expel core client true
 puts_in core turn m o of = tt
 
 -- ---- runs

@@ -11,7 +11,7 @@ use Rattle.node_model.specs.world_base.Core.{CoreState, Turn, rules, serves}
 use Rattle.snapshots.specs.World.{recorded}
 use Rattle.node_model.specs.Moves.{Moves, Runs}
 use Rattle.node_model.specs.Moves.Runs.{rests, goes_on}
-use Rattle.node_model.specs.Moves.Moves.{hears, cuts_log, reads_first, reads_later, loses_one, loses_next}
+use Rattle.node_model.specs.Moves.Moves.{hears, cuts_log, reads_first, reads_later, loses_one, loses_next, expels_one}
 use Rattle.node_model.specs.Puts.{given_in}
 use Rattle.group_model.specs.Group.{Group, replica_of}
 
@@ -52,6 +52,7 @@ commands_put (reads_first now port c connect rest at first is room) = commands.C
 commands_put (reads_later now port c packet rest at later is room) = commands.Packet c.name packet ∷ []
 commands_put {core = core} (loses_one port c at asked) = if serves core then commands.Lost c.name ∷ [] else []
 commands_put {core = core} (loses_next c at) = if serves core then commands.Lost c.name ∷ [] else []
+commands_put {core = core} (expels_one client) = if serves core then commands.Expel client ∷ [] else []
 commands_put _ = []
 
 -- .. each with the ballot that it has joined then

@@ -13,12 +13,12 @@ use Rattle.world_base.specs.Reading.{changes}
 use Rattle.world_base.specs.Step.{node_step}
 use Rattle.world_base.specs.declared.item.Item.TheVariants.{Cut}
 use Rattle.node_model.specs.LossyMoves.{LossyMoves, hears_in}
-use Rattle.node_model.specs.LossyMoves.LossyMoves.{exactly, hears_losing, first_losing, later_losing, tells_losing, forgets, halts, fails, unheard, drops}
+use Rattle.node_model.specs.LossyMoves.LossyMoves.{exactly, hears_losing, first_losing, later_losing, tells_losing, expels_losing, forgets, halts, fails, unheard, drops}
 use Rattle.node_model.specs.LossyRuns.{IsCalm, LossyRuns}
 use Rattle.node_model.specs.LossyRuns.LossyRuns.{rests, goes_on}
 use Rattle.node_model.specs.Moves.{Moves, Runs}
 use Rattle.node_model.specs.Moves.Deed.{takes}
-use Rattle.node_model.specs.Moves.Moves.{hears, opens_one, holds, reads_first, reads_later, closes, refuses, loses_one, loses_next, cuts_log, crashes, settles, hands}
+use Rattle.node_model.specs.Moves.Moves.{hears, opens_one, holds, reads_first, reads_later, closes, refuses, loses_one, loses_next, expels_one, cuts_log, crashes, settles, hands}
 use Rattle.node_model.specs.Moves.Runs.{rests as rests_exactly, goes_on as goes_exactly}
 use Rattle.node_model.proofs.LossyNames.{taken_behind, taken_same}
 use Rattle.node_model.proofs.MovesOfReplica.{move_same}
@@ -38,6 +38,7 @@ calm_base core turn (first_losing now port c connect rest did at first is taken)
 calm_base core turn (later_losing now port c packet rest did at later is taken) calm =
     (taken_behind _ core (changes port (left_with now rest) core) did (at_replica port (left_with now rest) core) taken).base
 calm_base core turn (tells_losing name did taken) calm = (taken_same (commands.Lost name) core did taken).base
+calm_base core turn (expels_losing client did taken) calm = (taken_same (commands.Expel client) core did taken).base
 calm_base core turn forgets calm = refl
 calm_base core turn halts calm = refl
 calm_base core turn (fails port) calm = base_of core turn.core (at_replica port failing core)
@@ -68,6 +69,7 @@ cut_moves (closes port) part = absurd cc
 cut_moves (refuses port c code at first is) part = absurd cc
 cut_moves (loses_one port c at proposed) part = absurd cc
 cut_moves (loses_next c at) part = absurd cc
+cut_moves (expels_one client) part = absurd cc
 cut_moves crashes part = absurd cc
 cut_moves settles part = absurd cc
 cut_moves (hands port) part = absurd cc

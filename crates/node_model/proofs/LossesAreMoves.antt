@@ -7,7 +7,7 @@ use Rattle.broker_base.specs.Command.{Command}
 use Rattle.broker_base.specs.Connection.{ConnectionName}
 use Rattle.world_base.specs.declared.Port.{Port}
 use Rattle.world_base.specs.declared.item.Item.{Item}
-use Rattle.world_base.specs.declared.item.Item.TheVariants.{Peer, Tick, Opened, Bytes, Ended, Cut, Crash}
+use Rattle.world_base.specs.declared.item.Item.TheVariants.{Peer, Tick, Opened, Bytes, Ended, Expel, Cut, Crash}
 use Rattle.world_base.specs.Connections.{closed, holding}
 use Rattle.world_base.specs.Core.{CoreState, Turn}
 use Rattle.world_base.specs.Lossy.{Account, joined, quietly}
@@ -22,7 +22,7 @@ use Rattle.node_model.specs.LossyRuns.{IsRunOn, LossesAreMoves, came_with, heard
 use Rattle.node_model.specs.LossyMoves.LossyMoves.{exactly, hears_losing, forgets, drops}
 use Rattle.node_model.specs.Moves.{and_then}
 use Rattle.node_model.specs.Moves.Moves.{holds, opens_one, cuts_log, crashes, settles}
-use Rattle.node_model.proofs.LossyRuns.{Calm, First, Given, Still, all_failed, calm_join, calm_move, first_calm, first_move, still_ends, still_lost, still_reads, still_repeated, still_silent}
+use Rattle.node_model.proofs.LossyRuns.{Calm, First, Given, Still, all_failed, calm_join, calm_move, first_calm, first_move, still_ends, still_expelled, still_lost, still_reads, still_repeated, still_silent}
 
 -- what was done is such a run, whatever calm one comes behind it
 abbrev Before : CoreState → Account → List (Input Command) → Bool → (ConnectionName → List ℕ) → Type 0
@@ -83,6 +83,7 @@ taken_in (Bytes port piece now) core did t =
     (before_then core t.one t.two [] false _ (held port piece now core t.one t.first)
     (still_repeated (unread_of (open_at port t.one.core)) (ReadsNext now port) (still_reads now port) t.one.core t.two t.next))
 taken_in (Ended port) core did runs = before_calm core did false (λ x. []) (λ x. refl) (still_ends port core did runs)
+taken_in (Expel client) core did runs = before_calm core did false (λ x. []) (λ x. refl) (still_expelled client core did runs)
 taken_in Cut core did c = cut core did c
 taken_in Crash core did is =
     before_is core (quietly (crashed core)) did [] false _ is (λ next tail. first_move (exactly crashes) false (λ x. []) refl (λ x. refl) (λ e. refl) tt tail)

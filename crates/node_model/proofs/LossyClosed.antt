@@ -12,7 +12,7 @@ use Rattle.node_model.specs.Ends.{IsOrderly}
 use Rattle.node_model.specs.LossyLaws.{IsClosedBy, LossesPutNothingOnClosed, LossyNamesAreOfTheBallot}
 use Rattle.node_model.specs.LossyLaws.IsClosedBy.{was_closed, closes_now}
 use Rattle.node_model.specs.LossyMoves.{LossyMoves}
-use Rattle.node_model.specs.LossyMoves.LossyMoves.{exactly, hears_losing, first_losing, later_losing, tells_losing, forgets, halts, fails, unheard, drops}
+use Rattle.node_model.specs.LossyMoves.LossyMoves.{exactly, hears_losing, first_losing, later_losing, tells_losing, expels_losing, forgets, halts, fails, unheard, drops}
 use Rattle.node_model.specs.Moves.{Moves}
 use Rattle.node_model.proofs.Kept.{live}
 use Rattle.node_model.proofs.LossyShuts.{Loses, lossy_shuts, sent_in}
@@ -54,6 +54,7 @@ losses_put_nothing_on_closed core turn (first_losing now port c connect rest did
 losses_put_nothing_on_closed core turn (later_losing now port c packet rest did at later is taken) o x d there over =
     lost_closed core turn (later_losing now port c packet rest did at later is taken) o tt x d there over
 losses_put_nothing_on_closed core turn (tells_losing name did taken) o x d there over = lost_closed core turn (tells_losing name did taken) o tt x d there over
+losses_put_nothing_on_closed core turn (expels_losing client did taken) o x d there over = lost_closed core turn (expels_losing client did taken) o tt x d there over
 losses_put_nothing_on_closed core turn forgets o x d there over = lost_closed core turn forgets o tt x d there over
 losses_put_nothing_on_closed core turn halts o x d there over = lost_closed core turn halts o tt x d there over
 losses_put_nothing_on_closed core turn (fails port) o x d there over = lost_closed core turn (fails port) o tt x d there over
@@ -76,6 +77,7 @@ lossy_names_are_of_the_ballot core turn (first_losing now port c connect rest di
 lossy_names_are_of_the_ballot core turn (later_losing now port c packet rest did at later is taken) o x d none there =
     absurd (none_comes core turn (later_losing now port c packet rest did at later is taken) o tt x d none there)
 lossy_names_are_of_the_ballot core turn (tells_losing name did taken) o x d none there = absurd (none_comes core turn (tells_losing name did taken) o tt x d none there)
+lossy_names_are_of_the_ballot core turn (expels_losing client did taken) o x d none there = absurd (none_comes core turn (expels_losing client did taken) o tt x d none there)
 lossy_names_are_of_the_ballot core turn forgets o x d none there = absurd (none_comes core turn forgets o tt x d none there)
 lossy_names_are_of_the_ballot core turn halts o x d none there = absurd (none_comes core turn halts o tt x d none there)
 lossy_names_are_of_the_ballot core turn (fails port) o x d none there = absurd (none_comes core turn (fails port) o tt x d none there)

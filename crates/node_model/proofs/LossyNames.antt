@@ -25,9 +25,9 @@ use Rattle.node_model.specs.Ends.{IsOrderly}
 use Rattle.node_model.specs.Keeping.{AreOfTheBallot, moves_replica}
 use Rattle.node_model.specs.LossyLaws.{AreWhereItServes, LossyNamesKeepTheirBallot}
 use Rattle.node_model.specs.LossyMoves.{LossyMoves, halting, hears_in, proposal_of}
-use Rattle.node_model.specs.LossyMoves.LossyMoves.{exactly, hears_losing, first_losing, later_losing, tells_losing, forgets, halts, fails, unheard, drops}
+use Rattle.node_model.specs.LossyMoves.LossyMoves.{exactly, hears_losing, first_losing, later_losing, tells_losing, expels_losing, forgets, halts, fails, unheard, drops}
 use Rattle.node_model.specs.Moves.{Moves, is_proposal}
-use Rattle.node_model.specs.Moves.Moves.{hears, opens_one, holds, reads_first, reads_later, closes, refuses, loses_one, loses_next, cuts_log, crashes, settles, hands}
+use Rattle.node_model.specs.Moves.Moves.{hears, opens_one, holds, reads_first, reads_later, closes, refuses, loses_one, loses_next, expels_one, cuts_log, crashes, settles, hands}
 use Rattle.node_model.proofs.Kept.{left_true}
 use Rattle.node_model.proofs.LossyOutputs.{delivers_replica}
 use Rattle.node_model.proofs.LossyShuts.{Loses, driven, lossy_shuts, sent_in}
@@ -97,6 +97,7 @@ calm_keeps core turn (later_losing now port c packet rest did at later is taken)
     by_same core turn (later_losing now port c packet rest did at later is taken) o tt
     (taken_behind _ core (changes port (left_with now rest) core) did (at_replica port (left_with now rest) core) taken) of
 calm_keeps core turn (tells_losing name did taken) o calm of = by_same core turn (tells_losing name did taken) o tt (taken_same (commands.Lost name) core did taken) of
+calm_keeps core turn (expels_losing client did taken) o calm of = by_same core turn (expels_losing client did taken) o tt (taken_same (commands.Expel client) core did taken) of
 calm_keeps core turn forgets o calm of = by_same core turn forgets o tt (record { role = refl; joined = refl; stopped = refl; base = refl }) of
 calm_keeps core turn halts o calm of = stopped_not core
 calm_keeps core turn (fails port) o calm of =
@@ -161,6 +162,7 @@ exact_keeps core turn (closes port) o of = exact_calm core turn (closes port) o 
 exact_keeps core turn (refuses port c code at first is) o of = exact_calm core turn (refuses port c code at first is) o refl (where_it_serves core of)
 exact_keeps core turn (loses_one port c at asked) o of = exact_calm core turn (loses_one port c at asked) o refl (where_it_serves core of)
 exact_keeps core turn (loses_next c at) o of = exact_calm core turn (loses_next c at) o refl (where_it_serves core of)
+exact_keeps core turn (expels_one client) o of = exact_calm core turn (expels_one client) o refl (where_it_serves core of)
 exact_keeps core turn settles o of = exact_calm core turn settles o refl (where_it_serves core of)
 exact_keeps core turn (hands port) o of = exact_calm core turn (hands port) o refl (where_it_serves core of)
 
@@ -172,6 +174,7 @@ first_keeps core turn (first_losing now port c connect rest did at first is take
 first_keeps core turn (later_losing now port c packet rest did at later is taken) o of =
     calm_keeps core turn (later_losing now port c packet rest did at later is taken) o refl (where_it_serves core of)
 first_keeps core turn (tells_losing name did taken) o of = calm_keeps core turn (tells_losing name did taken) o refl (where_it_serves core of)
+first_keeps core turn (expels_losing client did taken) o of = calm_keeps core turn (expels_losing client did taken) o refl (where_it_serves core of)
 first_keeps core turn forgets o of = calm_keeps core turn forgets o refl (where_it_serves core of)
 first_keeps core turn halts o of = stopped_not core
 first_keeps core turn (fails port) o of = calm_keeps core turn (fails port) o refl (where_it_serves core of)
@@ -188,6 +191,7 @@ proposes_of core turn (first_losing now port c connect rest did at first is take
 proposes_of core turn (later_losing now port c packet rest did at later is taken) o of x command i named' =
     proposed_of core port c x o of at (only_one x (commands.Packet c.name packet) command i named')
 proposes_of core turn (tells_losing name did taken) o of x command i named' = let z = only_one x (commands.Lost name) command i named' in absurd cc
+proposes_of core turn (expels_losing client did taken) o of x command i named' = let z = only_one x (commands.Expel client) command i named' in absurd cc
 proposes_of core turn (hears_losing input did other drives) o of x command i named' = elim i [ ]
 proposes_of core turn forgets o of x command i named' = elim i [ ]
 proposes_of core turn halts o of x command i named' = elim i [ ]

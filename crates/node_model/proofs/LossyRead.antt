@@ -19,7 +19,7 @@ use Rattle.node_model.specs.Ends.IsEnd.{not_yet}
 use Rattle.node_model.specs.LossyLaws.{LossesAreTaken, LossesProposeInOrder, ReadsOn}
 use Rattle.node_model.specs.LossyMoves.{LossyMoves, came_on, proposal_of}
 use Rattle.node_model.specs.LossyRuns.{LossyRuns, bytes_on, proposals_of}
-use Rattle.node_model.specs.LossyMoves.LossyMoves.{exactly, hears_losing, first_losing, later_losing, tells_losing, forgets, halts, fails, unheard, drops}
+use Rattle.node_model.specs.LossyMoves.LossyMoves.{exactly, hears_losing, first_losing, later_losing, tells_losing, expels_losing, forgets, halts, fails, unheard, drops}
 use Rattle.node_model.specs.LossyRuns.LossyRuns.{rests, goes_on}
 use Rattle.node_model.proofs.LossyOutputs.{delivers_replica}
 use Rattle.node_model.proofs.LossyReads.{losses_read_in_order}
@@ -82,6 +82,7 @@ losses_are_taken core turn (later_losing now port c packet rest did at later is 
     taken_log _ core (changes port (left_with now rest) core) did (at_replica port (left_with now rest) core) taken
 losses_are_taken core turn (hears_losing input did other drives) read = absurd cc
 losses_are_taken core turn (tells_losing name did taken) read = absurd cc
+losses_are_taken core turn (expels_losing client did taken) read = absurd cc
 losses_are_taken core turn forgets read = absurd cc
 losses_are_taken core turn halts read = absurd cc
 losses_are_taken core turn (fails port) read = absurd cc

@@ -26,7 +26,7 @@ use Rattle.node_model.specs.Ends.IsEnd.{is_over}
 use Rattle.node_model.specs.LossyLaws.{LossesReadInOrder, ReadsOn}
 use Rattle.node_model.specs.Moves.{Moves}
 use Rattle.node_model.specs.LossyMoves.{LossyMoves, came_on, proposal_of}
-use Rattle.node_model.specs.LossyMoves.LossyMoves.{exactly, hears_losing, first_losing, later_losing, tells_losing, forgets, halts, fails, unheard, drops}
+use Rattle.node_model.specs.LossyMoves.LossyMoves.{exactly, hears_losing, first_losing, later_losing, tells_losing, expels_losing, forgets, halts, fails, unheard, drops}
 use Rattle.node_model.proofs.Kept.{Stays, changed_orderly, closed_is_mild, heard_up, kept_same, left_true, live, named, named_kept, stays_at, stays_failed, stays_joined}
 use Rattle.node_model.proofs.LossyOutputs.{failing_is_mild, stays_delivers}
 use Rattle.node_model.proofs.NamesInOrder.{same_le}
@@ -220,6 +220,8 @@ losses_read_in_order core turn (first_losing now port c connect rest did at firs
 losses_read_in_order core turn (later_losing now port c packet rest did at later reads taken) o = later_reads now core port c packet rest did at later reads taken o
 losses_read_in_order core turn (tells_losing name did taken) o =
     stays_reads (tells_losing name did taken) (stays_takes (commands.Lost name) core did taken o) (λ x. refl) (λ x. refl)
+losses_read_in_order core turn (expels_losing client did taken) o =
+    stays_reads (expels_losing client did taken) (stays_takes (commands.Expel client) core did taken o) (λ x. refl) (λ x. refl)
 losses_read_in_order core turn forgets o =
     stays_reads forgets (stays_replica core (record core.replica { losses = one_more core.replica.losses }) (same_le core.replica.state.joined) o) (λ x. refl) (λ x. refl)
 losses_read_in_order core turn halts o =

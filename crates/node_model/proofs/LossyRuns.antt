@@ -27,11 +27,11 @@ use Rattle.world_base.specs.Reading.{changes, open_at, refused}
 use Rattle.world_base.specs.Turns.{quiet}
 use Rattle.node_model.specs.LossyMoves.{LossyMoves, came_on, forgetful, halting, hears_in, inputs_in, is_handing, turn_of}
 use Rattle.node_model.specs.LossyRuns.{AllFreeze, CutsNothing, Freezes, HandsNothing, HearsAtFirst, IsCalm, LossyRuns, all_inputs, bytes_on, cuts_in, exactly_cuts}
-use Rattle.node_model.specs.LossyMoves.LossyMoves.{exactly, hears_losing, first_losing, later_losing, tells_losing, forgets, halts, fails, unheard, drops}
+use Rattle.node_model.specs.LossyMoves.LossyMoves.{exactly, hears_losing, first_losing, later_losing, tells_losing, expels_losing, forgets, halts, fails, unheard, drops}
 use Rattle.node_model.specs.LossyRuns.LossyRuns.{rests, goes_on}
 use Rattle.node_model.specs.Keeping.{moves_replica}
 use Rattle.node_model.specs.Moves.{Moves, and_then}
-use Rattle.node_model.specs.Moves.Moves.{hears, opens_one, holds, reads_first, reads_later, closes, refuses, loses_one, loses_next, cuts_log, crashes, settles, hands}
+use Rattle.node_model.specs.Moves.Moves.{hears, opens_one, holds, reads_first, reads_later, closes, refuses, loses_one, loses_next, expels_one, cuts_log, crashes, settles, hands}
 use Rattle.node_model.proofs.StepsMove.{twice}
 
 abbrev pub Given : Type 0
@@ -98,6 +98,10 @@ still_declines core did (stops room is) = by_account core (halting core) did is 
 pub still_lost : (name : ConnectionName) (core : CoreState) (did : Account) → Proposes (commands.Lost name) core did → Still core did
 still_lost name core did (inl taken) = calm_move (tells_losing name did taken) (refl, refl, refl, λ x. refl)
 still_lost name core did (inr declines) = still_declines core did declines
+
+pub still_expelled : (client : List ℕ) (core : CoreState) (did : Account) → Proposes (commands.Expel client) core did → Still core did
+still_expelled client core did (inl taken) = calm_move (expels_losing client did taken) (refl, refl, refl, λ x. refl)
+still_expelled client core did (inr declines) = still_declines core did declines
 
 closing : (port : Port) (core : CoreState) → Calm core (quiet (changes port closed core))
 closing port core = calm_move (exactly (closes port)) (refl, refl, refl, λ x. refl)
@@ -255,6 +259,7 @@ still_freezes (exactly (closes port)) calm = tt
 still_freezes (exactly (refuses port c code at awaits is)) calm = tt
 still_freezes (exactly (loses_one port c at proposed)) calm = tt
 still_freezes (exactly (loses_next c at)) calm = tt
+still_freezes (exactly (expels_one client)) calm = tt
 still_freezes (exactly (cuts_log can)) calm = absurd cc
 still_freezes (exactly crashes) calm = tt
 still_freezes (exactly settles) calm = tt
@@ -263,6 +268,7 @@ still_freezes (hears_losing input did other drives) calm = tt
 still_freezes (first_losing now port c connect rest did at awaits is taken) calm = tt
 still_freezes (later_losing now port c packet rest did at proposed is taken) calm = tt
 still_freezes (tells_losing name did taken) calm = tt
+still_freezes (expels_losing client did taken) calm = tt
 still_freezes forgets calm = tt
 still_freezes halts calm = tt
 still_freezes (fails port) calm = tt

@@ -16,7 +16,7 @@ use Rattle.node_model.specs.Closed.{listed_named}
 use Rattle.node_model.specs.Ends.{IsOrderly, open_named}
 use Rattle.node_model.specs.LossyLaws.{LossesPutInOrder}
 use Rattle.node_model.specs.LossyMoves.{LossyMoves, given_in, refusal_in}
-use Rattle.node_model.specs.LossyMoves.LossyMoves.{exactly, hears_losing, first_losing, later_losing, tells_losing, forgets, halts, fails, unheard, drops}
+use Rattle.node_model.specs.LossyMoves.LossyMoves.{exactly, hears_losing, first_losing, later_losing, tells_losing, expels_losing, forgets, halts, fails, unheard, drops}
 use Rattle.node_model.specs.Puts.{outputs_of, spelled}
 use Rattle.node_model.proofs.Kept.{heard_up, left_true, live, named}
 use Rattle.node_model.proofs.LossyOutputs.{delivers_shuts, failing_shuts}
@@ -71,6 +71,7 @@ lossy_shuts core turn (later_losing now port c packet rest did at later is taken
     shuts_joined (at_shuts x port (left_with now rest) core o (λ z. refl) (left_shuts now rest))
     (taken_shuts x _ (changes port (left_with now rest) core) did taken (at_orderly port (left_with now rest) core o (λ z. refl)))
 lossy_shuts core turn (tells_losing name did taken) o x may = taken_shuts x (commands.Lost name) core did taken o
+lossy_shuts core turn (expels_losing client did taken) o x may = taken_shuts x (commands.Expel client) core did taken o
 lossy_shuts core turn forgets o x may = shuts_same (listed_named x core)
 lossy_shuts core turn halts o x may = shuts_same (listed_named x core)
 lossy_shuts core turn (fails port) o x may = at_shuts x port failing core o (λ z. refl) (failing_shuts [])
@@ -113,6 +114,7 @@ losses_put_in_order core turn (hears_losing input did other drives) o no_hand x 
 losses_put_in_order core turn (first_losing now port b connect rest did at first is taken) o no_hand x c d before after = lost_puts core turn (first_losing now port b connect rest did at first is taken) o tt x c d before after
 losses_put_in_order core turn (later_losing now port b packet rest did at later is taken) o no_hand x c d before after = lost_puts core turn (later_losing now port b packet rest did at later is taken) o tt x c d before after
 losses_put_in_order core turn (tells_losing name did taken) o no_hand x c d before after = lost_puts core turn (tells_losing name did taken) o tt x c d before after
+losses_put_in_order core turn (expels_losing client did taken) o no_hand x c d before after = lost_puts core turn (expels_losing client did taken) o tt x c d before after
 losses_put_in_order core turn forgets o no_hand x c d before after = lost_puts core turn forgets o tt x c d before after
 losses_put_in_order core turn halts o no_hand x c d before after = lost_puts core turn halts o tt x c d before after
 losses_put_in_order core turn (fails port) o no_hand x c d before after = lost_puts core turn (fails port) o tt x c d before after

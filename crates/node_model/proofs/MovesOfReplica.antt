@@ -23,7 +23,7 @@ use Rattle.world_base.specs.Step.{next_name, opens, settled}
 use Rattle.world_base.specs.Turns.{changes_named, moved, proposes, quiet, served}
 use Rattle.node_model.specs.Keeping.{moves_replica}
 use Rattle.node_model.specs.Moves.{Moves}
-use Rattle.node_model.specs.Moves.Moves.{hears, opens_one, holds, reads_first, reads_later, closes, refuses, loses_one, loses_next, cuts_log, crashes, settles, hands}
+use Rattle.node_model.specs.Moves.Moves.{hears, opens_one, holds, reads_first, reads_later, closes, refuses, loses_one, loses_next, expels_one, cuts_log, crashes, settles, hands}
 use Rattle.node_model.proofs.ReplicaStays.{Same, proposed_same}
 use Rattle.node_model.proofs.ShutByChanges.{at_replica}
 
@@ -103,6 +103,7 @@ move_same core turn (closes port) calm = same_replica core turn.core (at_replica
 move_same core turn (refuses port c code at first is) calm = same_replica core turn.core (at_replica port _ core)
 move_same core turn (loses_one port c at asked_before) calm = behind_same _ core (changes port closed core) (at_replica port closed core)
 move_same core turn (loses_next c at) calm = behind_same _ core (closes_failed core) refl
+move_same core turn (expels_one client) calm = behind_same _ core core refl
 move_same core turn settles calm = same_replica core (settled core) (settled_replica core)
 move_same core turn (hands port) calm = same_replica core (hands_over port core) (hands_replica port core)
 

@@ -11,7 +11,7 @@ use Rattle.node_model.specs.Closed.{listed_named}
 use Rattle.node_model.specs.Ends.{IsOrderly}
 use Rattle.node_model.specs.Keeping.{AreOfTheBallot, moves_replica}
 use Rattle.node_model.specs.Moves.{Moves}
-use Rattle.node_model.specs.Moves.Moves.{hears, opens_one, holds, reads_first, reads_later, closes, refuses, loses_one, loses_next, cuts_log, crashes, settles, hands}
+use Rattle.node_model.specs.Moves.Moves.{hears, opens_one, holds, reads_first, reads_later, closes, refuses, loses_one, loses_next, expels_one, cuts_log, crashes, settles, hands}
 use Rattle.node_model.proofs.Kept.{named}
 use Rattle.node_model.proofs.MovesOfReplica.{serves_same}
 use Rattle.node_model.proofs.OpenBehind.{found_front, handed_open, settled_open, shuts_open}
@@ -74,6 +74,7 @@ move_of core turn (reads_first now port c connect rest at first is room) o of sa
 move_of core turn (reads_later now port c packet rest at later is room) o of same calm x d e lives =
     by_shuts x core turn.core _ d of same (move_shuts core turn (reads_later now port c packet rest at later is room) o x tt) e lives
 move_of core turn (loses_next c at) o of same calm x d e lives = by_shuts x core turn.core _ d of same (move_shuts core turn (loses_next c at) o x tt) e lives
+move_of core turn (expels_one client) o of same calm x d e lives = by_shuts x core turn.core _ d of same (move_shuts core turn (expels_one client) o x tt) e lives
 move_of core turn (closes port) o of same calm x d e lives = by_shuts x core turn.core _ d of same (move_shuts core turn (closes port) o x tt) e lives
 move_of core turn (refuses port c code at first is) o of same calm x d e lives =
     by_shuts x core turn.core _ d of same (move_shuts core turn (refuses port c code at first is) o x tt) e lives

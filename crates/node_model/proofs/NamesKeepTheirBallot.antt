@@ -23,7 +23,7 @@ use Rattle.node_model.specs.Closed.{listed_named}
 use Rattle.node_model.specs.Ends.{IsOrderly, proposal_of}
 use Rattle.node_model.specs.Keeping.{AreOfTheBallot, NamesKeepTheirBallot}
 use Rattle.node_model.specs.Moves.{Moves}
-use Rattle.node_model.specs.Moves.Moves.{hears, opens_one, holds, reads_first, reads_later, closes, refuses, loses_one, loses_next, cuts_log, crashes, settles, hands}
+use Rattle.node_model.specs.Moves.Moves.{hears, opens_one, holds, reads_first, reads_later, closes, refuses, loses_one, loses_next, expels_one, cuts_log, crashes, settles, hands}
 use Rattle.node_model.proofs.Views.{found_passes, view_of_changed}
 use Rattle.node_model.proofs.Kept.{left_true, live, named, stays_cut, stays_driven}
 use Rattle.node_model.proofs.MovesOfReplica.{move_same, moved_replica, settled_replica}
@@ -118,6 +118,7 @@ proposes_of core turn (reads_later now port c packet rest at later is room) o of
     proposed_of core port c x o of at (only_one x (commands.Packet c.name packet) command i named')
 proposes_of core turn (loses_one port c at asked_before) o of x command i named' = let z = only_one x (commands.Lost c.name) command i named' in absurd cc
 proposes_of core turn (loses_next c at) o of x command i named' = let z = only_one x (commands.Lost c.name) command i named' in absurd cc
+proposes_of core turn (expels_one client) o of x command i named' = let z = only_one x (commands.Expel client) command i named' in absurd cc
 proposes_of core turn (hears input other) o of x command i named' = elim i [ ]
 proposes_of core turn (opens_one port) o of x command i named' = elim i [ ]
 proposes_of core turn (holds port piece) o of x command i named' = elim i [ ]

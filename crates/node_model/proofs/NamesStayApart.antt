@@ -18,7 +18,7 @@ use Rattle.broker_base.specs.Output.{Output}
 use Rattle.broker_base.specs.Output.TheVariants as outputs
 use Rattle.world_base.specs.declared.Port.{Port}
 use Rattle.world_base.specs.declared.item.Item.{Item}
-use Rattle.world_base.specs.declared.item.Item.TheVariants.{Peer, Tick, Opened, Bytes, Ended, Cut, Crash}
+use Rattle.world_base.specs.declared.item.Item.TheVariants.{Peer, Tick, Opened, Bytes, Ended, Expel, Cut, Crash}
 use Rattle.world_base.specs.declared.Connection.{Connection}
 use Rattle.world_base.specs.Connections.{asked, closed, failing, fresh, has_failed, holding, is_at, is_open_at, is_open_named, left_with, put_out, changed}
 use Rattle.world_base.specs.Core.{CoreState, rules, serves}
@@ -298,6 +298,7 @@ keep_item (Bytes port piece now) core did runs =
     held k d (inl is) = by_account k (changes port (holding piece) k) d is (keep_at port (holding piece) k (λ c. refl))
     held k d (inr ended) = keep_ended port k d ended
 keep_item (Ended port) core did runs = keep_ended port core did runs
+keep_item (Expel client) core did runs = keep_proposed (commands.Expel client) core did runs
 keep_item Cut core did (nothing_to_cut none is) = by_account core core did is (keep_same core)
 keep_item Cut core did (cuts_log can reads is) = by_account core (with_cut core) did is (keep_replica core _ (same_le core.replica.state.joined))
 keep_item Cut core did (forgets_cut can is) = by_account core _ did is (keep_replica core _ (same_le core.replica.state.joined))

@@ -11,7 +11,7 @@ use Rattle.world_base.specs.Handing.{hands_over, left_by}
 use Rattle.world_base.specs.Step.{next_name, opens, settled}
 use Rattle.node_model.specs.Closed.{listed_named}
 use Rattle.node_model.specs.Ends.{IsOrderly}
-use Rattle.node_model.specs.Moves.Moves.{hears, opens_one, holds, reads_first, reads_later, closes, refuses, loses_one, loses_next, cuts_log, crashes, settles, hands}
+use Rattle.node_model.specs.Moves.Moves.{hears, opens_one, holds, reads_first, reads_later, closes, refuses, loses_one, loses_next, expels_one, cuts_log, crashes, settles, hands}
 use Rattle.node_model.specs.Names.{IsNextName, NewNamesAreOfTheBallot}
 use Rattle.node_model.proofs.Views.{found_passes, one_changed, one_mapped, some_none, view, view_of_changed, view_of_others}
 use Rattle.node_model.proofs.Kept.{left_true, named, named_kept}
@@ -94,5 +94,6 @@ new_names_are_of_the_ballot core turn (refuses port c code at first is) o x d no
 new_names_are_of_the_ballot core turn (loses_one port c at asked_before) o x d none there =
     absurd (stays_away _ _ _ d (move_shuts core turn (loses_one port c at asked_before) o x tt) none there)
 new_names_are_of_the_ballot core turn (loses_next c at) o x d none there = absurd (stays_away _ _ _ d (move_shuts core turn (loses_next c at) o x tt) none there)
+new_names_are_of_the_ballot core turn (expels_one client) o x d none there = absurd (stays_away _ _ _ d (move_shuts core turn (expels_one client) o x tt) none there)
 new_names_are_of_the_ballot core turn (cuts_log can) o x d none there = absurd (stays_away _ _ _ d (move_shuts core turn (cuts_log can) o x tt) none there)
 new_names_are_of_the_ballot core turn crashes o x d none there = absurd (stays_away _ _ _ d (move_shuts core turn crashes o x tt) none there)

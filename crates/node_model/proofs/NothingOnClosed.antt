@@ -19,7 +19,7 @@ use Rattle.node_model.specs.Closed.{IsClosedBy, NothingOnClosed, listed_named, r
 use Rattle.node_model.specs.Closed.IsClosedBy.{was_closed, closes_now}
 use Rattle.node_model.specs.Ends.{IsOrderly}
 use Rattle.node_model.specs.Moves.{Moves}
-use Rattle.node_model.specs.Moves.Moves.{hears, opens_one, holds, reads_first, reads_later, closes, refuses, loses_one, loses_next, cuts_log, crashes, settles, hands}
+use Rattle.node_model.specs.Moves.Moves.{hears, opens_one, holds, reads_first, reads_later, closes, refuses, loses_one, loses_next, expels_one, cuts_log, crashes, settles, hands}
 use Rattle.node_model.specs.Puts.{given_in, outputs_of, spelled}
 use Rattle.node_model.proofs.Views.{one_changed, one_mapped, same_some, view, view_of_changed, view_of_others}
 use Rattle.node_model.proofs.Kept.{live, named, named_kept, stays_failed}
@@ -175,6 +175,7 @@ move_shuts core turn (loses_one port c at asked_before) o x may =
 move_shuts core turn (loses_next c at) o x may =
     behind_shuts x _ core (closes_failed core)
     (shuts_tested x has_failed closed core.connections (o.names x) (λ z. refl) (λ z failed. was_shut (failed_dead z failed) refl refl)) (stays_failed core o).orderly refl
+move_shuts core turn (expels_one client) o x may = behind_shuts x _ core core (shuts_same (listed_named x core)) o refl
 move_shuts core turn (cuts_log can) o x may = shuts_same (listed_named x core)
 move_shuts core turn crashes o x may = shuts_same (listed_named x core)
 move_shuts core turn (opens_one port) o x may = absurd may
@@ -201,5 +202,6 @@ nothing_on_closed core turn (refuses port c code at first is) o x d there over =
 nothing_on_closed core turn (loses_one port c at asked_before) o x d there over =
     changed_closed core turn (loses_one port c at asked_before) o x d tt there over
 nothing_on_closed core turn (loses_next c at) o x d there over = changed_closed core turn (loses_next c at) o x d tt there over
+nothing_on_closed core turn (expels_one client) o x d there over = changed_closed core turn (expels_one client) o x d tt there over
 nothing_on_closed core turn (cuts_log can) o x d there over = changed_closed core turn (cuts_log can) o x d tt there over
 nothing_on_closed core turn crashes o x d there over = changed_closed core turn crashes o x d tt there over

@@ -28,7 +28,7 @@ use Rattle.world_base.specs.Reading.{changes, refused}
 use Rattle.world_base.specs.Turns.{quiet, moved, served, proposes, changes_named, drives, heard, has_room}
 use Rattle.node_model.specs.Ends.{AtMostOne, IsOrderly, open_named}
 use Rattle.node_model.specs.Moves.{Moves}
-use Rattle.node_model.specs.Moves.Moves.{hears, opens_one, holds, reads_first, reads_later, closes, refuses, loses_one, loses_next, cuts_log, crashes, settles, hands}
+use Rattle.node_model.specs.Moves.Moves.{hears, opens_one, holds, reads_first, reads_later, closes, refuses, loses_one, loses_next, expels_one, cuts_log, crashes, settles, hands}
 use Rattle.node_model.specs.Puts.{PutsInOrder, given_in, is_handing, outputs_of, spelled}
 use Rattle.node_model.proofs.Opening.{open_stays}
 use Rattle.node_model.proofs.Views.{view, if_live, found_passes, same_some, some_none, none_changes, view_of_others, view_of_changed, view_filtered}
@@ -318,6 +318,7 @@ all_puts core turn (loses_one port k at proposed_before) o no_hand x c there =
 all_puts core turn (loses_next k at) o no_hand x c there =
     behind_puts x _ core (closes_failed core) (subst (Puts [] (open_named x core)) (sym (same_of_failed x core)) (puts_none (open_named x core)))
     (stays_failed core o).orderly refl
+all_puts core turn (expels_one client) o no_hand x c there = behind_puts x _ core core (puts_none (open_named x core)) o refl
 all_puts core turn (cuts_log can) o no_hand x c there = puts_none (open_named x core)
 all_puts core turn crashes o no_hand x c there = puts_none (open_named x core)
 all_puts core turn settles o no_hand x c there = settled_puts x core

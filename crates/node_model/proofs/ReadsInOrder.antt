@@ -21,7 +21,7 @@ use Rattle.world_base.specs.Failing.{closes_failed}
 use Rattle.world_base.specs.Step.{opens}
 use Rattle.world_base.specs.Turns.{quiet, proposes, has_room}
 use Rattle.node_model.specs.Moves.{Moves}
-use Rattle.node_model.specs.Moves.Moves.{hears, opens_one, holds, reads_first, reads_later, closes, refuses, loses_one, loses_next, cuts_log, crashes, settles, hands}
+use Rattle.node_model.specs.Moves.Moves.{hears, opens_one, holds, reads_first, reads_later, closes, refuses, loses_one, loses_next, expels_one, cuts_log, crashes, settles, hands}
 use Rattle.node_model.specs.Ends.{Precedes, IsGiven, IsOrderly, IsEnd, ReadsOn, NodesReadInOrder, open_named, proposal_of, came_on, piece_on, stream_of, is_nothing, commands_of}
 use Rattle.node_model.specs.Ends.IsEnd.{not_yet, is_open, is_over}
 use Rattle.node_model.proofs.StepsMove.{twice}
@@ -359,6 +359,8 @@ nodes_read_in_order core turn (loses_next c at) o =
     stays_reads (loses_next c at)
     (stays_joined core (closes_failed core) (proposes (commands.Lost c.name) (closes_failed core)).core s
     (stays_proposed (commands.Lost c.name) (closes_failed core) s.orderly)) (λ x. refl) (λ x. refl)
+nodes_read_in_order core turn (expels_one client) o =
+    stays_reads (expels_one client) (stays_proposed (commands.Expel client) core o) (λ x. refl) (λ x. refl)
 nodes_read_in_order core turn (cuts_log can) o = stays_reads (cuts_log can) (stays_cut core o) (λ x. refl) (λ x. refl)
 nodes_read_in_order core turn crashes o = stays_reads crashes (stays_crashed core o) (λ x. refl) (λ x. refl)
 nodes_read_in_order core turn settles o = stays_reads settles (stays_settled core o) (λ x. refl) (λ x. refl)

@@ -16,7 +16,7 @@ use Rattle.broker_base.specs.Command.TheVariants as commands
 use Rattle.broker_base.specs.Output.{Output}
 use Rattle.world_base.specs.declared.Port.{Port}
 use Rattle.world_base.specs.declared.item.Item.{Item}
-use Rattle.world_base.specs.declared.item.Item.TheVariants.{Peer, Tick, Opened, Bytes, Ended, Cut, Crash}
+use Rattle.world_base.specs.declared.item.Item.TheVariants.{Peer, Tick, Opened, Bytes, Ended, Expel, Cut, Crash}
 use Rattle.world_base.specs.declared.Connection.{Connection}
 use Rattle.world_base.specs.Connections.{is_over, is_first, is_proposed, has_failed, is_at, is_open_at, asked, holding, left_with, closed, changed}
 use Rattle.world_base.specs.Core.{CoreState, Turn}
@@ -29,7 +29,7 @@ use Rattle.world_base.specs.Turns.{quiet, proposes, drives, has_room, repeated}
 use Rattle.node_model.specs.Hearing.{DeedsHearAtFirst}
 use Rattle.node_model.specs.Moves.{Moves, Runs, Deed, and_then, done, DeedsAreMoves}
 use Rattle.node_model.specs.Moves.Deed.{takes, gives}
-use Rattle.node_model.specs.Moves.Moves.{hears, opens_one, holds, reads_first, reads_later, closes, refuses, loses_one, loses_next, cuts_log, crashes, settles, hands}
+use Rattle.node_model.specs.Moves.Moves.{hears, opens_one, holds, reads_first, reads_later, closes, refuses, loses_one, loses_next, expels_one, cuts_log, crashes, settles, hands}
 use Rattle.node_model.specs.Moves.Runs.{rests, goes_on}
 use Rattle.node_model.proofs.PartsOfMoves.{BeginsWith, IsBare, IsBareMove, Part, begins_hearing, part_in, part_of}
 
@@ -227,6 +227,11 @@ failed_run : (core : CoreState) → Calm core (loses_failed core)
 unfolding loses_failed
 failed_run core = failed_runs core (find has_failed core.connections) refl
 
+-- ---- an Expel
+
+expel_runs : (client : List ℕ) (core : CoreState) → Calm core (proposes (commands.Expel client) core)
+expel_runs client core = calm_move (expels_one client) (refl, refl)
+
 -- ---- a cut
 
 cut_run : (core : CoreState) → First (part_of (takes Cut) core) core (quiet (cuts core))
@@ -250,6 +255,7 @@ taken_in (Bytes port piece now) core =
     (repeated_runs (reads_next now port) (next_runs now port) (unread_of (open_at port (changes port (holding piece) core)))
     (changes port (holding piece) core))
 taken_in (Ended port) core = let r = ends_run port core in calm_first r.0 r.1
+taken_in (Expel client) core = let r = expel_runs client core in calm_first r.0 r.1
 taken_in Cut core = cut_run core
 taken_in Crash core = first_move crashes
 

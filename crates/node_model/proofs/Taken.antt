@@ -20,7 +20,7 @@ use Rattle.world_base.specs.Connections.{asked, left_with, closed, put_out}
 use Rattle.world_base.specs.Core.{CoreState, rules, serves}
 use Rattle.world_base.specs.Reading.{changes}
 use Rattle.world_base.specs.Turns.{moved, served, proposes, has_room, changes_named}
-use Rattle.node_model.specs.Moves.Moves.{hears, opens_one, holds, reads_first, reads_later, closes, refuses, loses_one, loses_next, cuts_log, crashes, settles, hands}
+use Rattle.node_model.specs.Moves.Moves.{hears, opens_one, holds, reads_first, reads_later, closes, refuses, loses_one, loses_next, expels_one, cuts_log, crashes, settles, hands}
 use Rattle.node_model.specs.Ends.{ReadsAreTaken}
 use Rattle.node_model.proofs.Kept.{left_true}
 
@@ -87,6 +87,7 @@ reads_are_taken core turn (closes port) read = absurd cc
 reads_are_taken core turn (refuses port c code at first is) read = absurd cc
 reads_are_taken core turn (loses_one port c at proposed) read = absurd cc
 reads_are_taken core turn (loses_next c at) read = absurd cc
+reads_are_taken core turn (expels_one client) read = absurd cc
 reads_are_taken core turn (cuts_log can) read = absurd cc
 reads_are_taken core turn crashes read = absurd cc
 reads_are_taken core turn settles read = absurd cc

@@ -14,7 +14,7 @@ use Rattle.world_base.specs.declared.Connection.{Connection}
 use Rattle.world_base.specs.Connections.{is_first, is_open_named}
 use Rattle.world_base.specs.Core.{CoreState, Turn, opening_core}
 use Rattle.world_base.specs.Reading.{open_at}
-use Rattle.node_model.specs.Moves.Moves.{hears, opens_one, holds, reads_first, reads_later, closes, refuses, loses_one, loses_next, cuts_log, crashes, settles, hands}
+use Rattle.node_model.specs.Moves.Moves.{hears, opens_one, holds, reads_first, reads_later, closes, refuses, loses_one, loses_next, expels_one, cuts_log, crashes, settles, hands}
 use Rattle.node_model.specs.Moves.{Moves, Runs}
 use Rattle.node_model.specs.Moves.Runs.{rests, goes_on}
 
@@ -56,6 +56,7 @@ proposal_of (closes port) = []
 proposal_of (refuses port c code at first is) = []
 proposal_of (loses_one port c at proposed) = commands.Lost c.name ∷ []
 proposal_of (loses_next c at) = commands.Lost c.name ∷ []
+proposal_of (expels_one client) = commands.Expel client ∷ []
 proposal_of (cuts_log can) = []
 proposal_of crashes = []
 proposal_of settles = []

@@ -56,6 +56,8 @@ pub data LossyMoves (core : CoreState) : Turn → Type 0 where
       Takes (commands.Packet c.name packet) (changes port (left_with now rest) core) did → LossyMoves core (turn_of did)
   -- .. or that a connection is lost
   tells_losing : (name : ConnectionName) (did : Account) → Takes (commands.Lost name) core did → LossyMoves core (turn_of did)
+  -- .. or an Expel
+  expels_losing : (client : List ℕ) (did : Account) → Takes (commands.Expel client) core did → LossyMoves core (turn_of did)
   -- the replica does not take what comes to it, and counts that; or it stops
   forgets : LossyMoves core (quiet (forgetful core))
   halts : LossyMoves core (quiet (halting core))
@@ -74,6 +76,7 @@ given_in (hears_losing input did other drives) = did.given
 given_in (first_losing now port c connect rest did at first is taken) = did.given
 given_in (later_losing now port c packet rest did at later is taken) = did.given
 given_in (tells_losing name did taken) = did.given
+given_in (expels_losing client did taken) = did.given
 given_in forgets = []
 given_in halts = []
 given_in (fails port) = []
@@ -87,6 +90,7 @@ proposal_of (hears_losing input did other drives) = []
 proposal_of (first_losing now port c connect rest did at first is taken) = commands.Connect c.name connect.client connect.clean ∷ []
 proposal_of (later_losing now port c packet rest did at later is taken) = commands.Packet c.name packet ∷ []
 proposal_of (tells_losing name did taken) = commands.Lost name ∷ []
+proposal_of (expels_losing client did taken) = commands.Expel client ∷ []
 proposal_of forgets = []
 proposal_of halts = []
 proposal_of (fails port) = []

@@ -55,6 +55,8 @@ pub data Moves (core : CoreState) : Turn → Type 0 where
   -- so it is to hear of one that was closed since there was no room for what was put out on it
   loses_next : (c : Connection) → find has_failed core.connections ≡ Some c →
       Moves core (proposes (commands.Lost c.name) (closes_failed core))
+  -- an Expel of a client is proposed
+  expels_one : (client : List ℕ) → Moves core (proposes (commands.Expel client) core)
   -- the replica cuts its log
   cuts_log : can_cut core.replica.state ≡ true → Moves core (quiet (with_cut core))
   -- the node crashes

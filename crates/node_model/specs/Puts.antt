@@ -14,7 +14,7 @@ use Rattle.world_base.specs.declared.Connection.{Connection}
 use Rattle.world_base.specs.Core.{CoreState, Turn, rules, serves}
 use Rattle.world_base.specs.Turns.{heard}
 use Rattle.node_model.specs.Moves.{Moves}
-use Rattle.node_model.specs.Moves.Moves.{hears, reads_first, reads_later, loses_one, loses_next, hands}
+use Rattle.node_model.specs.Moves.Moves.{hears, reads_first, reads_later, loses_one, loses_next, expels_one, hands}
 use Rattle.node_model.specs.Ends.{IsOrderly, open_named}
 
 -- what its replica gives in a move
@@ -25,6 +25,7 @@ given_in {core = core} (reads_first now port c connect rest at first is room) =
 given_in {core = core} (reads_later now port c packet rest at later is room) = (proposed rules core.replica.state (commands.Packet c.name packet)).effects
 given_in {core = core} (loses_one port c at asked) = if serves core then (proposed rules core.replica.state (commands.Lost c.name)).effects else []
 given_in {core = core} (loses_next c at) = if serves core then (proposed rules core.replica.state (commands.Lost c.name)).effects else []
+given_in {core = core} (expels_one client) = if serves core then (proposed rules core.replica.state (commands.Expel client)).effects else []
 given_in _ = []
 
 -- the broker's outputs among it

@@ -4,7 +4,7 @@ use Rattle.std.proofs.lemmas.List.{append-nil}
 use Rattle.lists.specs.Lists.{In}
 use Rattle.ballot.specs.Protocol.Input.{Receives, Proposes, Ticks}
 use Rattle.broker_base.specs.Connection.{ConnectionName}
-use Rattle.connection_model.specs.world_base.declared.item.Item.TheVariants.{Peer, Tick, Opened, Bytes, Ended, Cut, Crash}
+use Rattle.connection_model.specs.world_base.declared.item.Item.TheVariants.{Peer, Tick, Opened, Bytes, Ended, Expel, Cut, Crash}
 use Rattle.ballot.specs.Cutting.{can_cut}
 use Rattle.connection_model.specs.world_base.Core.{CoreState, Turn, rules}
 use Rattle.connection_model.specs.world_base.Handing.{listed_at}
@@ -12,7 +12,7 @@ use Rattle.connection_model.specs.world_base.Reading.{open_at}
 use Rattle.connection_model.specs.node_model.Ends.{bytes_on, came_on, piece_on}
 use Rattle.connection_model.specs.node_model.Moves.{Deed, Moves, Runs, done}
 use Rattle.connection_model.specs.node_model.Moves.Deed.{takes, gives}
-use Rattle.connection_model.specs.node_model.Moves.Moves.{hears, opens_one, holds, reads_first, reads_later, closes, refuses, loses_one, loses_next, cuts_log, crashes, settles, hands}
+use Rattle.connection_model.specs.node_model.Moves.Moves.{hears, opens_one, holds, reads_first, reads_later, closes, refuses, loses_one, loses_next, expels_one, cuts_log, crashes, settles, hands}
 use Rattle.connection_model.specs.node_model.Moves.Runs.{rests, goes_on}
 use Rattle.connection_model.proofs.of_node_model.PartsOfMoves.{BeginsWith, IsBare, Part, begins_hearing, part_in, part_of}
 use Rattle.connection_model.proofs.of_node_model.PartsOfMoves.Part.{heard, bytes_in, bytes_out}
@@ -49,6 +49,7 @@ deed_parts x (takes (Tick now)) core = (refl, refl)
 deed_parts x (takes (Opened port now)) core = (refl, refl)
 deed_parts x (takes (Bytes port piece now)) core = (refl, refl)
 deed_parts x (takes (Ended port)) core = (refl, refl)
+deed_parts x (takes (Expel client)) core = (refl, refl)
 deed_parts x (takes Cut) core = by (can_cut (replica_of core))
   where
     by : (b : Bool) → (comes_in x (if b then Part.cut else Part.nothing) core ≡ []) × (goes_out x (if b then Part.cut else Part.nothing) core ≡ [])
@@ -63,6 +64,7 @@ deed_sent g n core (takes (Tick now)) sent = tt
 deed_sent g n core (takes (Opened port now)) sent = tt
 deed_sent g n core (takes (Bytes port piece now)) sent = tt
 deed_sent g n core (takes (Ended port)) sent = tt
+deed_sent g n core (takes (Expel client)) sent = tt
 deed_sent g n core (takes Cut) sent = by (can_cut (replica_of core)) sent
   where
     by : (b : Bool) → (b ≡ true → rules.thawed (rules.frozen (replica_of core).machine) ≡ Some (replica_of core).machine) →
@@ -85,6 +87,7 @@ move_parts x (closes port) = (refl, refl)
 move_parts x (refuses port c code at first is) = (refl, refl)
 move_parts x (loses_one port c at proposed) = (refl, refl)
 move_parts x (loses_next c at) = (refl, refl)
+move_parts x (expels_one client) = (refl, refl)
 move_parts x (cuts_log can) = (refl, refl)
 move_parts x crashes = (refl, refl)
 move_parts x settles = (refl, refl)
@@ -102,6 +105,7 @@ move_sent g n (closes port) sent = tt
 move_sent g n (refuses port c code at first is) sent = tt
 move_sent g n (loses_one port c at proposed) sent = tt
 move_sent g n (loses_next c at) sent = tt
+move_sent g n (expels_one client) sent = tt
 move_sent g n (cuts_log can) sent = sent
 move_sent g n crashes sent = tt
 move_sent g n settles sent = tt
@@ -155,6 +159,7 @@ move_records archive (closes port) = refl
 move_records archive (refuses port c code at first is) = refl
 move_records archive (loses_one port c at proposed) = refl
 move_records archive (loses_next c at) = refl
+move_records archive (expels_one client) = refl
 move_records archive (cuts_log can) = refl
 move_records archive crashes = refl
 move_records archive settles = refl
@@ -177,6 +182,7 @@ deed_records archive core (takes (Tick now)) = refl
 deed_records archive core (takes (Opened port now)) = refl
 deed_records archive core (takes (Bytes port piece now)) = refl
 deed_records archive core (takes (Ended port)) = refl
+deed_records archive core (takes (Expel client)) = refl
 deed_records archive core (takes Cut) = by (can_cut (replica_of core))
   where
     by : (b : Bool) → recorded_part archive core (if b then Part.cut else Part.nothing) ≡ (if b then recorded archive (replica_of core) else archive)

@@ -12,7 +12,7 @@ use Rattle.agreement.specs.MasterState.{refusal}
 use Rattle.model.proofs.Lists.{same_or_other}
 use Rattle.connection_model.specs.world_base.declared.Connection.{Connection}
 use Rattle.connection_model.specs.world_base.declared.item.Item.{Item}
-use Rattle.connection_model.specs.world_base.declared.item.Item.TheVariants.{Peer, Tick, Opened, Bytes, Ended, Cut, Crash}
+use Rattle.connection_model.specs.world_base.declared.item.Item.TheVariants.{Peer, Tick, Opened, Bytes, Ended, Expel, Cut, Crash}
 use Rattle.connection_model.specs.world_base.declared.Port.{Port}
 use Rattle.connection_model.specs.world_base.Core.{CoreState, Turn}
 use Rattle.connection_model.specs.world_base.LossyStep.{RunsOn}
@@ -74,6 +74,7 @@ old_or_opened n (takes (Tick now)) core d i = inl (of_each _ (each_was (takes (T
 old_or_opened n (takes (Bytes port piece now)) core d i =
     inl (of_each _ (each_was (takes (Bytes port piece now)) core tt) i)
 old_or_opened n (takes (Ended port)) core d i = inl (of_each _ (each_was (takes (Ended port)) core tt) i)
+old_or_opened n (takes (Expel client)) core d i = inl (of_each _ (each_was (takes (Expel client)) core tt) i)
 old_or_opened n (takes Cut) core d i = inl (of_each _ (each_was (takes Cut) core tt) i)
 old_or_opened n (takes Crash) core d i = inl (of_each _ (each_was (takes Crash) core tt) i)
 old_or_opened n (gives port) core d i = inl (of_each _ (each_was (gives port) core tt) i)
@@ -96,6 +97,7 @@ old_or_new n (Peer message) core new messages runs d i = inl (of_each _ (each_wa
 old_or_new n (Tick now) core new messages runs d i = inl (of_each _ (each_was_losing (Tick now) core new messages tt runs) i)
 old_or_new n (Bytes port piece now) core new messages runs d i = inl (of_each _ (each_was_losing (Bytes port piece now) core new messages tt runs) i)
 old_or_new n (Ended port) core new messages runs d i = inl (of_each _ (each_was_losing (Ended port) core new messages tt runs) i)
+old_or_new n (Expel client) core new messages runs d i = inl (of_each _ (each_was_losing (Expel client) core new messages tt runs) i)
 old_or_new n Cut core new messages runs d i = inl (of_each _ (each_was_losing Cut core new messages tt runs) i)
 old_or_new n Crash core new messages runs d i = inl (of_each _ (each_was_losing Crash core new messages tt runs) i)
 
@@ -207,6 +209,7 @@ came_so x (Peer message) core = refl
 came_so x (Tick now) core = refl
 came_so x (Opened port now) core = refl
 came_so x (Ended port) core = refl
+came_so x (Expel client) core = refl
 came_so x Cut core = refl
 came_so x Crash core = refl
 
@@ -227,6 +230,7 @@ quiet_with : (n : ℕ) (deed : Deed) (core : CoreState) (x : ConnectionName) →
 quiet_with n (takes (Peer message)) core x e = (refl, refl)
 quiet_with n (takes (Tick now)) core x e = (refl, refl)
 quiet_with n (takes (Ended port)) core x e = (refl, refl)
+quiet_with n (takes (Expel client)) core x e = (refl, refl)
 quiet_with n (takes Cut) core x e = (refl, refl)
 quiet_with n (takes Crash) core x e = (refl, refl)
 quiet_with n (takes (Opened port now)) core x e = absurd (both_ways false refl e)

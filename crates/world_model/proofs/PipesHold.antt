@@ -15,7 +15,7 @@ use Rattle.pipes.specs.Pipe.{Joins}
 use Rattle.story.specs.Sides.{Connection}
 use Rattle.story.proofs.Takes.{same_name_self}
 use Rattle.connection_model.specs.world_base.declared.Connection.{Connection as NodesEnd}
-use Rattle.connection_model.specs.world_base.declared.item.Item.TheVariants.{Peer, Tick, Opened, Bytes, Ended, Cut, Crash}
+use Rattle.connection_model.specs.world_base.declared.item.Item.TheVariants.{Peer, Tick, Opened, Bytes, Ended, Expel, Cut, Crash}
 use Rattle.connection_model.specs.world_base.declared.Port.{Port}
 use Rattle.connection_model.specs.world_base.Connections.{is_at, is_open_at}
 use Rattle.connection_model.specs.world_base.Core.{CoreState}
@@ -72,6 +72,7 @@ opens_in (Some (n, takes (Peer message))) = false
 opens_in (Some (n, takes (Tick now))) = false
 opens_in (Some (n, takes (Bytes port piece now))) = false
 opens_in (Some (n, takes (Ended port))) = false
+opens_in (Some (n, takes (Expel client))) = false
 opens_in (Some (n, takes Cut)) = false
 opens_in (Some (n, takes Crash)) = false
 opens_in (Some (n, gives port)) = false

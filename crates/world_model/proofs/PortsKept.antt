@@ -24,7 +24,7 @@ use Rattle.lists.proofs.OfEach.{each_append, each_then}
 use Rattle.connection_model.specs.world_base.declared.Connection.{Connection}
 use Rattle.connection_model.specs.world_base.declared.item.Item.{Item}
 use Rattle.ballot.specs.Cutting.{can_cut}
-use Rattle.connection_model.specs.world_base.declared.item.Item.TheVariants.{Peer, Tick, Opened, Bytes, Ended, Cut, Crash}
+use Rattle.connection_model.specs.world_base.declared.item.Item.TheVariants.{Peer, Tick, Opened, Bytes, Ended, Expel, Cut, Crash}
 use Rattle.connection_model.specs.world_base.declared.Port.{Port}
 use Rattle.connection_model.specs.world_base.Connections.{asked, changed, closed, failing, fresh, handed, holding, is_at, is_first, is_listed, is_open_at, is_open_named, is_proposed, left_with, most_pending, put_out, putting}
 use Rattle.connection_model.specs.world_base.Core.{CoreState, Turn, serves}
@@ -220,6 +220,7 @@ module _ (P : Connection → Type 0) (follows : IsFollowed P) where
       each_time (reads_next now port) (each_read now port) (unread_of (open_at port (changes port (holding piece) core))) (changes port (holding piece) core)
       (each_at port (holding piece) core (λ d e. record { port = refl; name = refl; lives = λ f. f }) all)
   each_taken (Ended port) core new all = each_ended port core all
+  each_taken (Expel client) core new all = each_proposed P kept (commands.Expel client) core all
   each_taken Cut core new all = each_cut core all
   each_taken Crash core new all = all
 

@@ -17,7 +17,7 @@ use Rattle.lists.proofs.OfEach.{each_then}
 use Rattle.connection_model.specs.world_base.declared.Connection.{Connection}
 use Rattle.connection_model.specs.world_base.declared.item.Item.{Item}
 use Rattle.connection_model.specs.world_base.LossyStep.Cuts.{nothing_to_cut, cuts_log, forgets_cut}
-use Rattle.connection_model.specs.world_base.declared.item.Item.TheVariants.{Peer, Tick, Opened, Bytes, Ended, Cut, Crash}
+use Rattle.connection_model.specs.world_base.declared.item.Item.TheVariants.{Peer, Tick, Opened, Bytes, Ended, Expel, Cut, Crash}
 use Rattle.connection_model.specs.world_base.declared.Port.{Port}
 use Rattle.connection_model.specs.world_base.Connections.{asked, closed, failing, has_failed, holding, is_at, left_with, put_out}
 use Rattle.connection_model.specs.world_base.Core.{CoreState}
@@ -168,6 +168,7 @@ module _ (P : Connection → Type 0) (follows : IsFollowed P) where
   taken_kept (Bytes port piece now) core did new t all =
       subst (λ (d : Account). All d.core) (sym t.is) (all_read now port t.one.core t.two t.next (holds_kept port piece core t.one t.first all))
   taken_kept (Ended port) core did new runs all = ends_kept port core did runs all
+  taken_kept (Expel client) core did new runs all = proposes_kept (commands.Expel client) core did runs all
   taken_kept Cut core did new (nothing_to_cut none is) all = becomes core did is all
   taken_kept Cut core did new (cuts_log can reads is) all = subst (λ (d : Account). All d.core) (sym is) all
   taken_kept Cut core did new (forgets_cut can is) all = subst (λ (d : Account). All d.core) (sym is) all

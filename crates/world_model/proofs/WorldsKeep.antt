@@ -25,7 +25,7 @@ use Rattle.story.specs.Story.Happens.{takes as takes_next, others_take, receives
 use Rattle.story.proofs.Takes.{same_name_self}
 use Rattle.story.proofs.publishing.Grown.{handled_grows}
 use Rattle.connection_model.specs.world_base.declared.Connection.{Connection as NodesEnd}
-use Rattle.connection_model.specs.world_base.declared.item.Item.TheVariants.{Peer, Tick, Opened, Bytes, Ended, Cut, Crash}
+use Rattle.connection_model.specs.world_base.declared.item.Item.TheVariants.{Peer, Tick, Opened, Bytes, Ended, Expel, Cut, Crash}
 use Rattle.connection_model.specs.world_base.Core.{CoreState}
 use Rattle.connection_model.specs.node_model.Moves.{Deed}
 use Rattle.connection_model.specs.node_model.Moves.Deed.{takes, gives}
@@ -173,6 +173,7 @@ apart_opens_none None e = refl
 apart_opens_none (Some (n, takes (Peer message))) e = refl
 apart_opens_none (Some (n, takes (Tick now))) e = refl
 apart_opens_none (Some (n, takes (Ended port))) e = refl
+apart_opens_none (Some (n, takes (Expel client))) e = refl
 apart_opens_none (Some (n, takes Cut)) e = refl
 apart_opens_none (Some (n, takes Crash)) e = refl
 apart_opens_none (Some (n, takes (Opened port now))) e = absurd (both_ways false refl e)

@@ -1,7 +1,7 @@
 -- What a step of a group carries for connections: of a deed of a node just its bytes.
 use Rattle.std.specs.Prelude.{◌≡◌, ℕ, Bool, true, false, List, [], Option, Some, None}
 use Rattle.broker_base.specs.Connection.{ConnectionName}
-use Rattle.connection_model.specs.world_base.declared.item.Item.TheVariants.{Peer, Tick, Opened, Bytes, Ended, Cut, Crash}
+use Rattle.connection_model.specs.world_base.declared.item.Item.TheVariants.{Peer, Tick, Opened, Bytes, Ended, Expel, Cut, Crash}
 use Rattle.connection_model.specs.world_base.Core.{CoreState, Turn}
 use Rattle.connection_model.specs.world_base.Handing.{listed_at}
 use Rattle.connection_model.specs.world_base.Reading.{open_at}
@@ -50,6 +50,7 @@ is_apart None = true
 is_apart (Some (n, takes (Peer message))) = true
 is_apart (Some (n, takes (Tick now))) = true
 is_apart (Some (n, takes (Ended port))) = true
+is_apart (Some (n, takes (Expel client))) = true
 is_apart (Some (n, takes Cut)) = true
 is_apart (Some (n, takes Crash)) = true
 is_apart (Some (n, takes (Opened port now))) = false
