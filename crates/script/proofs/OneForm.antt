@@ -106,10 +106,10 @@ disconnect_line fields o h = let p = has_one orders.Disconnect client_of fields 
 notice_line : (fields : List Text) (o : Order) → one orders.Notice number_of fields ≡ Some o → IsOrder (codes "notice" ∷ fields) o
 notice_line fields o h = let p = has_one orders.Notice number_of fields o h in moved _ _ _ _ _ p.are p.is (lines.notice p.a_is)
 
-unexpel_line : (fields : List Text) (o : Order) → two orders.Expel client_of number_of fields ≡ Some o → IsOrder (codes "expel" ∷ fields) o
+expel_line : (fields : List Text) (o : Order) → two orders.Expel client_of number_of fields ≡ Some o → IsOrder (codes "expel" ∷ fields) o
 expel_line fields o h = let p = has_two orders.Expel client_of number_of fields o h in moved _ _ _ _ _ p.are p.is (lines.expel p.a_is p.b_is)
 
-subscribe_line : (fields : List Text) (o : Order) → two orders.Unsubscribe client_of filter_of fields ≡ Some o → IsOrder (codes "unsubscribe" ∷ fields) o
+unsubscribe_line : (fields : List Text) (o : Order) → two orders.Unsubscribe client_of filter_of fields ≡ Some o → IsOrder (codes "unsubscribe" ∷ fields) o
 unsubscribe_line fields o h = let p = has_two orders.Unsubscribe client_of filter_of fields o h in moved _ _ _ _ _ p.are p.is (lines.unsubscribe p.a_is p.b_is)
 
 subscribe_line : (fields : List Text) (o : Order) → subscribe_of fields ≡ Some o → IsOrder (codes "subscribe" ∷ fields) o
