@@ -37,6 +37,38 @@ fn expelled_while_connected(rt: HostRuntime) {
     );
 }
 
+// A publication with another payload, `y`, by the packet identifier 2.
+const SECOND: &[u8] = &[0x34, 8, 0, 3, 0x74, 0x2F, 0x31, 0, 2, 0x79];
+
+// Of two publications, the second after the Expel, the client gets the first alone; it comes back to CONNACK 0 without a
+// session, and nothing is sent to it.
+const WHAT_COMES_MEANWHILE_IS_FOR_NOBODY: &[Row<'static>] = &[
+    (Event::Connect(1, "b", false), &[(1, BEGINS)]),
+    (Event::Bytes(1, SUBSCRIBE), &[(1, &[0x90, 3, 0, 1, 2])]),
+    (Event::Connect(2, "a", false), &[(2, BEGINS)]),
+    (
+        Event::Bytes(2, PUBLISH),
+        &[(2, &[0x50, 2, 0, 1]), (1, PUBLISH)],
+    ),
+    (Event::Expel("b"), &[(1, CLOSED)]),
+    (Event::Bytes(2, SECOND), &[(2, &[0x50, 2, 0, 2])]),
+    (Event::Expel("b"), NOTHING),
+    (Event::Connect(3, "b", false), &[(3, &[0x20, 2, 0, 0])]),
+    (Event::Bytes(3, &[0xC0, 0]), &[(3, &[0xD0, 0])]),
+];
+
+#[test]
+fn what_comes_meanwhile_is_for_nobody(rt: HostRuntime) {
+    assert_eq!(rt;
+        first_fault(
+            rt.alloc(),
+            Start::Fresh,
+            Story::Rows(WHAT_COMES_MEANWHILE_IS_FOR_NOBODY)
+        ),
+        None
+    );
+}
+
 // What waits for a client that is away is gone with its session, and the queue of a client whose identifier begins with
 // that of the first stays.
 const EXPELLED_WHILE_AWAY: &[Row<'static>] = &[
