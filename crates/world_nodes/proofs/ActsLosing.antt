@@ -71,6 +71,7 @@ no_cut node (Tick now) sent was = refl
 no_cut node (Opened port now) sent was = refl
 no_cut node (Bytes port piece now) sent was = refl
 no_cut node (Ended port) sent was = refl
+no_cut node (Expel client) sent was = refl
 no_cut node Cut sent was = absurd was
 no_cut node Crash sent was = refl
 

@@ -1,5 +1,5 @@
 -- A node that runs and has room takes the item Expel, or there was no memory for it.
-use Rattle.std.proofs.Common.{◌≡◌, ◌⊎◌, inl, inr, ◌-◌, ℕ, refl, subst}
+use Rattle.std.proofs.Common.{◌≡◌, inl, inr, ◌-◌, ℕ, refl, subst}
 use Rattle.std.specs.Prelude.{OnOk, Result, Ok, Err}
 use Rattle.broker_base.specs.Place.{Client}
 use Rattle.master.specs.declared.event.Idle.{Idle}
