@@ -1,36 +1,28 @@
 -- Beside every world that is reached goes one of `model`.
-use Rattle.std.proofs.Common.{◌≡◌, ◌≤◌, ℕ, List, [], ◌++◌, true, map, Some, refl, sym, ap, ◌∙◌, subst}
-use Rattle.std.specs.Prelude.{slice_get}
+use Rattle.std.proofs.Common.{◌≡◌, ℕ, List, [], ◌++◌, true, map, refl, sym, ◌∙◌}
 use Rattle.ballot.specs.Config.{Config}
-use Rattle.broker_base.specs.Command.{Command}
-use Rattle.broker_base.specs.Commands.{past_of, usual_limits}
-use Rattle.broker_base.specs.EndingLaws.{EndsWithTheSession, connects_of}
 use Rattle.broker_base.specs.Place.{Client}
 use Rattle.lists.specs.Lists.{Each}
 use Rattle.agreement.specs.World.{can_open}
 use Rattle.model.specs.World.{AreApart, ClientEnds, opening as opening_beside, story_of as story_beside}
 use Rattle.model.specs.World as model
 use Rattle.model.specs.Goes.Reached.{begins as begins_beside}
-use Rattle.model.proofs.Lists.{each_by, each_get}
-use Rattle.model.proofs.WorldsExact.{worlds_are_exact as worlds_beside_are_exact}
-use Rattle.world_model.specs.world_base.Core.{rules}
-use Rattle.world_model.specs.group_model.Group.{moment_of}
+use Rattle.model.proofs.Lists.{each_by}
 use Rattle.world_model.specs.group_model.Goes.{Went}
 use Rattle.world_model.specs.group_model.Goes.Went.{opened}
-use Rattle.world_model.proofs.of_group_model.Placed.{get_mapped}
 use Rattle.world_model.specs.Carried.{went_of, went_on}
 use Rattle.world_model.specs.Goes.{Reached, WorldStep}
 use Rattle.world_model.specs.Goes.Reached.{begins, goes_on}
 use Rattle.world_model.specs.Goes.WorldStep.{goes_on as group_goes, calls, connects, is_turned_away, comes_up, goes_down, arrives, handles}
-use Rattle.world_model.specs.World.{ClientPipes, World, new_client, opening}
-use Rattle.world_model.proofs.PipesInOrder.{in_order, opens_hold, step_holds}
+use Rattle.world_model.specs.World.{World, new_client, opening}
+use Rattle.world_model.proofs.PipesInOrder.{opens_hold, step_holds}
 use Rattle.world_model.proofs.WorldsHold.{Holds}
 use Rattle.exact_model.proofs.AllPutOut.{IsFull}
-use Rattle.exact_model.proofs.Beside.{Alone, Beside, ends_alone, grows_beside}
+use Rattle.exact_model.proofs.Beside.{Beside, ends_alone, grows_beside}
 use Rattle.exact_model.proofs.ClientsGo.{calls_so, connects_so, handles_so}
 use Rattle.exact_model.proofs.GoesBeside.{GoesBeside, group_beside, pipe_beside, pipe_rests}
-use Rattle.world_model.proofs.of_connection_model.CarriedInOrder.{IsAgreedSo, carried_at_first}
-use Rattle.exact_model.proofs.Places.{each_of_made, map_back, map_twice}
+use Rattle.world_model.proofs.of_connection_model.CarriedInOrder.{carried_at_first}
+use Rattle.exact_model.proofs.Places.{each_of_made, map_twice}
 use Rattle.exact_model.proofs.WorldsWrite.{HasAllPipes, clients_alone, is_of_written, pipes_alone}
 
 -- ---- as it opens

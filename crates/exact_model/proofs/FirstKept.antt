@@ -1,10 +1,9 @@
 -- While the first session of a client lasts, it still keeps those of its QoS 2 publications that are not new yet.
-use Rattle.std.proofs.Common.{◌≡◌, ℕ, List, [], ◌++◌, length, map, Option, Some, sym, ap, ◌∙◌, subst}
+use Rattle.std.proofs.Common.{◌≡◌, ℕ, List, ◌++◌, length, map, Option, Some, sym, ap, ◌∙◌, subst}
 use Rattle.std.specs.Prelude.{slice_get}
 use Rattle.std.proofs.lemmas.List.{map-append}
 use Rattle.session_base.specs.declared.publication.Publication.{Publication}
 use Rattle.broker_base.specs.Commands.{usual_limits}
-use Rattle.broker_base.specs.Place.{Client}
 use Rattle.broker_base.proofs.PacketOfNobody.{window_is_steady}
 use Rattle.client_base.specs.History as history
 use Rattle.client_base.specs.Keeper.{Own, all_own}

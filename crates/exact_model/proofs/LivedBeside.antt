@@ -1,5 +1,5 @@
 -- To each client of a world, and to each list on which its nodes agree, there is a life that it lived.
-use Rattle.std.proofs.Common.{◌≡◌, ℕ, List, Some, refl, sym, ap, ◌∙◌, subst}
+use Rattle.std.proofs.Common.{◌≡◌, ℕ, List, Some, ap, ◌∙◌}
 use Rattle.std.specs.Prelude.{slice_get}
 use Rattle.ballot.specs.Config.{Config}
 use Rattle.broker_base.specs.Command.{Command}

@@ -1,20 +1,18 @@
 -- Which of a client's publications are new in a list is read of the list alone.
-use Rattle.std.proofs.Common.{◌≡◌, ◌+◌, ℕ, suc, Bool, true, false, ◌&&◌, if◌then◌else◌, List, [], ◌∷◌, ◌++◌, map, Option, Some, None, refl, sym, ap, ap₂, ◌∙◌, subst, arith}
+use Rattle.std.proofs.Common.{◌≡◌, ℕ, Bool, true, false, ◌&&◌, if◌then◌else◌, List, [], ◌∷◌, ◌++◌, map, Option, Some, None, refl, sym, ap, ap₂, ◌∙◌, subst}
 use Rattle.std.specs.Prelude.{slice_get}
 use Rattle.std.proofs.lemmas.Bool.{both_ways}
 use Rattle.std.proofs.lemmas.List.{map-append}
 use Rattle.std.proofs.lemmas.Option.{none-some}
-use Rattle.packet.specs.declared.packet.Packet.{Packet}
 use Rattle.packet.specs.declared.packet.Packet.TheVariants as packets
 use Rattle.packet.specs.declared.publish.Publish.{Publish}
 use Rattle.session_base.specs.Publication.{publication_of}
 use Rattle.session_base.specs.declared.publication.Publication.{Publication}
 use Rattle.broker_base.specs.Command.{Command}
 use Rattle.broker_base.specs.Command.TheVariants as commands
-use Rattle.broker_base.specs.Connection.{ConnectionName}
 use Rattle.broker_base.specs.Marks.{is_refused, mark_of, packet_mark_of}
 use Rattle.broker_base.specs.Owner.{owner_of}
-use Rattle.broker_base.specs.Place.{Client, Limits, Mark, Past, Place, same_client}
+use Rattle.broker_base.specs.Place.{Client, Limits, Mark, Past, same_client}
 use Rattle.broker_base.specs.Received.{is_exactly_once, is_new, is_repeat}
 use Rattle.broker_base.proofs.ClientsInOrder.{same_is, same_self}
 use Rattle.broker_base.proofs.MarksOfPlaces.{AreMarked}

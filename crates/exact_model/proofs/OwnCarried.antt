@@ -1,5 +1,5 @@
 -- Each PUBLISH on a client's current connection carries one of its publications.
-use Rattle.std.proofs.Common.{◌≡◌, ℕ, zero, suc, Bool, true, false, ◌||◌, if◌then◌else◌, List, [], ◌∷◌, ◌++◌, Option, Some, None, refl, sym, ap, ◌∙◌, subst, inl, inr, ◌⊎◌}
+use Rattle.std.proofs.Common.{◌≡◌, ℕ, zero, suc, Bool, true, false, ◌||◌, if◌then◌else◌, List, [], ◌∷◌, ◌++◌, Option, Some, None, refl, sym, ap, ◌∙◌, subst}
 use Rattle.std.specs.Prelude.{slice_get}
 use Rattle.std.proofs.lemmas.Bool.{both_ways}
 use Rattle.packet.specs.declared.packet.Packet.{Packet}
@@ -26,7 +26,6 @@ use Rattle.story.specs.Lives.Lived.{opens, goes_on, is_expelled}
 use Rattle.story.specs.Story.Happens.{takes, others_take, receives, opens_anew, loses, disconnects, publishes_one, subscribes, unsubscribes}
 use Rattle.story.proofs.carrying.KeepsNumbers.{numbers_keep}
 use Rattle.story.proofs.keeping.CurrentOnes.{none_opened}
-use Rattle.story.proofs.keeping.KeepsShape.{same_story}
 use Rattle.story.proofs.publishing.Grown.{handled_grows}
 use Rattle.story.proofs.places.Owned.{owner_is_other}
 use Rattle.story.proofs.publishing.Last.{each_there}

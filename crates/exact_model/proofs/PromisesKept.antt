@@ -1,8 +1,6 @@
 -- What is promised of a client that is in step holds in each of its lives.
-use Rattle.std.proofs.Common.{◌≡◌, ◌≤◌, ℕ, Bool, true, false, if◌then◌else◌, List, [], ◌∷◌, ◌++◌, filter, length, map, Option, Some, None, refl, sym, ap, ap₂, ◌∙◌, subst, inl, inr, ◌⊎◌, arith}
+use Rattle.std.proofs.Common.{◌≡◌, ◌≤◌, ℕ, Bool, true, false, if◌then◌else◌, List, [], ◌∷◌, ◌++◌, filter, length, map, Option, Some, refl, sym, ap, ap₂, ◌∙◌, subst, inl, inr, ◌⊎◌, arith}
 use Rattle.std.specs.Prelude.{slice_get}
-use Rattle.std.proofs.lemmas.Bool.{both_ways, cases_Bool}
-use Rattle.std.proofs.lemmas.List.{map-append}
 use Rattle.lists.specs.Lists.{In}
 use Rattle.lists.specs.Lists.In.{here, there}
 use Rattle.lists.proofs.Members.{in_at, in_left, in_right}
@@ -11,7 +9,6 @@ use Rattle.packet.specs.declared.packet.Packet.TheVariants as packets
 use Rattle.packet.specs.declared.publish.Publish.{Publish}
 use Rattle.session_base.specs.Publication.{publication_of}
 use Rattle.session_base.specs.declared.publication.Publication.{Publication}
-use Rattle.broker_base.specs.AnswerLaws.{is_unasked}
 use Rattle.broker_base.specs.Answers.{answers_at}
 use Rattle.broker_base.specs.Command.{Command}
 use Rattle.broker_base.specs.Command.TheVariants as commands
@@ -30,7 +27,7 @@ use Rattle.broker_base.proofs.EntersWhereTaken.{enters_where_taken}
 use Rattle.broker_base.proofs.MarksOfPlaces.{AreMarked}
 use Rattle.broker_base.proofs.PacketOfNobody.{window_is_steady}
 use Rattle.client_base.specs.History as history
-use Rattle.client_base.specs.Keeper.{Own, all_own}
+use Rattle.client_base.specs.Keeper.{all_own}
 use Rattle.client_base.specs.State.{ClientState}
 use Rattle.story.specs.Carried.{carries, more_by, new_numbers, publications_of}
 use Rattle.story.specs.InStep.{IsInStep, accepted_in, starts_of}
@@ -40,14 +37,14 @@ use Rattle.story.specs.Sides.{Connection}
 use Rattle.story.specs.Story.{Story}
 use Rattle.story.proofs.Entering.{entering_as}
 use Rattle.story.proofs.Packets.{at_packet}
-use Rattle.story.proofs.carrying.Acknowledging.{Acknowledges, acknowledges, pubrec_two, says_at}
+use Rattle.story.proofs.carrying.Acknowledging.{acknowledges, pubrec_two, says_at}
 use Rattle.story.proofs.carrying.Answered.{acknowledged_is_taken}
 use Rattle.story.proofs.carrying.KeepsPlaces.{IsCarried}
 use Rattle.story.proofs.carrying.PlacesSay.{PlacesSay, Says, is_again}
 use Rattle.story.proofs.sessions.InTurn.{flat_map_same}
 use Rattle.story.proofs.sessions.LivesExact.{all_well, lives_exact}
 use Rattle.exact_model.specs.Promise.{PromiseBy, PromiseInStep}
-use Rattle.exact_model.specs.Shown.{AcceptsInOrder, AreNewInOrder, IsAnswered, accepted_once, new_of}
+use Rattle.exact_model.specs.Shown.{AcceptsInOrder, IsAnswered, accepted_once, new_of}
 use Rattle.exact_model.proofs.NewByPlace.{all_new}
 use Rattle.exact_model.proofs.FirstKept.{first_kept}
 use Rattle.exact_model.proofs.NewNumbered.{new_in_order}

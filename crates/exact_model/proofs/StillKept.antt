@@ -1,7 +1,6 @@
 -- What of a client's QoS 2 publications is not new yet, it still keeps.
-use Rattle.std.proofs.Common.{◌≡◌, ◌+◌, ℕ, zero, suc, Bool, true, false, if◌then◌else◌, List, [], ◌∷◌, ◌++◌, filter, map, Option, Some, None, refl, sym, ap, ap₂, ◌∙◌, subst, arith}
+use Rattle.std.proofs.Common.{◌≡◌, ◌+◌, ℕ, suc, Bool, true, false, if◌then◌else◌, List, [], ◌∷◌, ◌++◌, map, Option, Some, refl, sym, ap, ap₂, ◌∙◌, subst, arith}
 use Rattle.std.specs.Prelude.{slice_get}
-use Rattle.std.proofs.lemmas.List.{append-nil, map-append}
 use Rattle.session_base.specs.declared.publication.Publication.{Publication}
 use Rattle.client_base.specs.History as history
 use Rattle.client_base.specs.History.{IsSentFirst, sent_of, unsent_of}
@@ -14,8 +13,7 @@ use Rattle.lists.specs.Lists.{Each}
 use Rattle.story.specs.Carried.{is_two, publication_in, publications_of}
 use Rattle.story.specs.Inside.Projections.{items_of_own}
 use Rattle.story.specs.Inside.Shape.{AreNumbered}
-use Rattle.story.proofs.carrying.Distinct.{number_first}
-use Rattle.exact_model.specs.Shown.{at_two, is_at_two, kept_of}
+use Rattle.exact_model.specs.Shown.{at_two, kept_of}
 
 -- ---- of a handshake
 

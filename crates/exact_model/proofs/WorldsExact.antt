@@ -11,9 +11,7 @@ use Rattle.client_base.specs.History as history
 use Rattle.client_base.specs.Keeper.{Keeper, all_own}
 use Rattle.client_base.specs.State.{ClientState}
 use Rattle.story.specs.Carried.{publications_of}
-use Rattle.story.specs.InStep.{AreWelcome, IsInStep}
-use Rattle.story.specs.Lives.{ExactlyOnceOverSessions, HasOneSession, IsUnexpelled}
-use Rattle.story.specs.Story.{Story}
+use Rattle.story.specs.Lives.{IsUnexpelled}
 use Rattle.story.proofs.sessions.FirstSession.{unexpelled_in_step}
 use Rattle.world_model.proofs.of_group_model.of_snapshots.PastsAgree.{has_agreed}
 use Rattle.model.specs.Exact.{IsExactInStep as IsExactBeside}
@@ -30,7 +28,6 @@ use Rattle.world_model.specs.World.{ClientPipes, World}
 use Rattle.world_model.proofs.PipesInOrder.{in_order}
 use Rattle.exact_model.specs.Exact.{IsExactBy, IsExactInStep, IsInOneSession, IsShownBy, WorldsAreExact, story_of}
 use Rattle.exact_model.specs.Promise.{Promise, PromiseBy}
-use Rattle.exact_model.specs.Shown.{accepted_once}
 use Rattle.exact_model.proofs.AllBeside.{goes_beside}
 use Rattle.exact_model.proofs.Beside.{Alone, Beside, ends_alone}
 use Rattle.exact_model.proofs.ExactUntaken.{exactly_once_untaken, in_step_untaken, one_session_untaken, same_accepted_on, same_welcome}
@@ -39,7 +36,7 @@ use Rattle.world_model.proofs.of_connection_model.CarriedInOrder.{IsAgreedSo}
 use Rattle.exact_model.proofs.OwnPublished.{own_published}
 use Rattle.exact_model.proofs.Places.{map_back}
 use Rattle.exact_model.proofs.PromisesKept.{promise_kept}
-use Rattle.exact_model.proofs.LivedBeside.{HasLife, lived_beside}
+use Rattle.exact_model.proofs.LivedBeside.{lived_beside}
 use Rattle.exact_model.proofs.Untaken.{AreSameUntaken}
 use Rattle.exact_model.proofs.WorldsWrite.{clients_alone, pipes_alone}
 use Rattle.story.specs.Sides.{Connection}
