@@ -114,7 +114,17 @@ const NO_ORDERS: &[&str] = &[
     "unsubscribe b",
     "unsubscribe b #/a",
     "unsubscribe b t/# 2",
-    "expel b 1",
+    "expel",
+    "expel b",
+    "expel  1",
+    "expel b ",
+    "expel b x",
+    "expel b +1",
+    "expel b 1 1",
+    "expel 1",
+    "expel b\u{0} 1",
+    "expel aaaaaaaaaaaaaaaaaaaaaaaaaaaaaaaaaaaaaaaaaaaaaaaaaaaaaaaaaaaaaaaaa 1",
+    "Expel b 1",
     "world 2 1,2 1 a",
 ];
 

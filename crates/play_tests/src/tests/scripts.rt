@@ -234,7 +234,7 @@ pub const BALLOT_IS_PUT_OUT: [&str; 2] = [
 ];
 
 /// A client that is served is expelled, and comes back to a session that begins: what came meanwhile is not for it.
-pub const SESSION_IS_EXPELLED: [&str; 2] = [
+pub const CLIENT_IS_EXPELLED: [&str; 2] = [
     "world 1 1 1 a,b\n\
     open b 1\n\
     up 1 all\n\
@@ -328,13 +328,14 @@ pub const SNAPSHOT_TRAVELS: [&str; 2] = [
     end agreed=3 active=2\n",
 ];
 
-/// All of them. They have two nodes, but for the last, which has three.
-pub const SCRIPTS: [&[&str; 2]; 5] = [
+/// All of them. They have two nodes, but for the last but one, which has three, and the last, which has one.
+pub const SCRIPTS: [&[&str; 2]; 6] = [
     &ANSWER_WAITS_FOR_THE_BACKUP,
     &CONFIGURATION_CHANGES,
     &PRIMARY_CRASHES,
     &STALE_PRIMARY,
     &BALLOT_IS_PUT_OUT,
+    &CLIENT_IS_EXPELLED,
 ];
 
 #[test]
@@ -344,10 +345,79 @@ fn scripts_give_their_transcripts(rt: HostRuntime) {
     }
 }
 
-// It is no script of `SCRIPTS`, since it has one node.
+// What a client that was expelled takes in afterwards is of its second session.
+const SECOND_SESSION: [&str; 2] = [
+    "world 1 1 1 a,b\n\
+    open b 1\n\
+    up 1 all\n\
+    down 1 all\n\
+    subscribe b t/# 2\n\
+    up 1 all\n\
+    expel b 1\n\
+    abandon b\n\
+    open b 1\n\
+    up 2 all\n\
+    down 2 all\n\
+    subscribe b t/# 2\n\
+    up 2 all\n\
+    down 2 all\n\
+    open a 1\n\
+    up 3 all\n\
+    down 3 all\n\
+    publish a t/1 2 0 7a\n\
+    up 3 all\n\
+    down 2 all\n",
+    "0 ok msgs=0 agreed=0\n\
+    1 ok msgs=0 agreed=1\n\
+    2 ok msgs=0 agreed=1\n\
+    3 ok msgs=0 agreed=1\n\
+    4 ok msgs=0 agreed=2\n\
+    5 ok msgs=0 agreed=3\n\
+    6 ok msgs=0 agreed=3\n\
+    7 ok msgs=0 agreed=3\n\
+    8 ok msgs=0 agreed=4\n\
+    9 ok msgs=0 agreed=4\n\
+    10 ok msgs=0 agreed=4\n\
+    11 ok msgs=0 agreed=5\n\
+    12 ok msgs=0 agreed=5\n\
+    13 ok msgs=0 agreed=5\n\
+    14 ok msgs=0 agreed=6\n\
+    15 ok msgs=0 agreed=6\n\
+    16 ok msgs=0 agreed=6\n\
+    17 ok msgs=0 agreed=7\n\
+    18 ok msgs=0 agreed=7\n\
+    accepted b 2 2 0 t/1 z\n\
+    end agreed=7 active=1\n",
+];
+
 #[test]
-fn session_is_expelled(rt: HostRuntime) {
-    assert!(rt; gives(rt.alloc(), SESSION_IS_EXPELLED[0], SESSION_IS_EXPELLED[1]));
+fn an_expelled_client_has_a_second_session(rt: HostRuntime) {
+    assert!(rt; gives(rt.alloc(), SECOND_SESSION[0], SECOND_SESSION[1]));
+}
+
+// Idle where the world has no such client, and where the node is none, no active primary, or has crashed.
+const IDLE: [&str; 2] = [
+    "world 2 1,2 1 a\n\
+    expel b 1\n\
+    expel a 2\n\
+    expel a 3\n\
+    expel a 0\n\
+    expel a 1\n\
+    crash 1\n\
+    expel a 1\n",
+    "0 idle\n\
+    1 idle\n\
+    2 idle\n\
+    3 idle\n\
+    4 ok msgs=1 agreed=0\n\
+    5 ok msgs=1 agreed=0\n\
+    6 idle\n\
+    end agreed=0 active=1\n",
+];
+
+#[test]
+fn an_expel_that_cannot_happen_is_idle(rt: HostRuntime) {
+    assert!(rt; gives(rt.alloc(), IDLE[0], IDLE[1]));
 }
 
 // It is no script of `SCRIPTS`: a crash before its cuts makes them idle.
