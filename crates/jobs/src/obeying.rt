@@ -1,7 +1,13 @@
 // Orders to the nodes of a server: lines of its input.
 
+ghost use Rattle.std.specs.Prelude.{◌≡◌, None, IfErr, IfOk, OnOk};
+ghost use Rattle.packet.specs.ClientId.{client_fault};
+ghost use Rattle.jobs.specs.Orders.{IsRefusedBy};
+ghost use Rattle.jobs.specs.declared.obeying.Order.TheVariants as orders;
+
 use crate::fault::Fault;
 use command_line::ListeningNode;
+use packet::ClientId;
 use server::{Config, Members, OrderError, Peers, Status};
 use std::alloc::Global;
 use std::io::{BufRead, ErrorKind, Write};
@@ -19,10 +25,15 @@ enum Order {
     Assign(Config),
     /// A node is to crash.
     Crash(u8),
+    /// The session of a client is to end.
+    Expel(ClientId),
 }
 
 /// The refusal of a line that is no order, and of a crash of no living node.
 const NO_ORDER: u8 = 24;
+
+/// The refusal of an order that only an active primary can obey, where no node is one.
+const NO_PRIMARY: u8 = 18;
 
 /// The refusal for want of memory.
 const NO_MEMORY: u8 = 12;
@@ -71,6 +82,9 @@ fn next_order<I: BufRead>(alloc: Global, input: &mut I) -> Result<Result<Order, 
 
 // What a line orders, or the number by which it is refused.
 fn order_of(alloc: Global, line: &str) -> Result<Order, u8> {
+    if let Some(client) = line.strip_prefix("expel ") {
+        return expel_of(alloc, client);
+    }
     let mut words = line.split(' ');
     match (words.next(), words.next(), words.next(), words.next()) {
         (Some("quit"), None, None, None) => Ok(Order::Quit),
@@ -81,6 +95,18 @@ fn order_of(alloc: Global, line: &str) -> Result<Order, u8> {
             primary: number_of(primary)?,
         })),
         _ => Err(NO_ORDER),
+    }
+}
+
+// The order to end the session of the client of this identifier, or the number by which the identifier is refused.
+fn expel_of(alloc: Global, client: &str) -> Result<Order, u8>
+    ensures order { IfOk result (λ order. order ≡ orders.Expel client.now) }
+    ensures sound { OnOk result (client_fault client.now ≡ None) }
+    ensures refused { IfErr result (IsRefusedBy client.now) }
+{
+    match ClientId::new(alloc, client) {
+        Ok(client) => Ok(Order::Expel(client)),
+        Err(fault) => Err(fault.number()),
     }
 }
 
@@ -133,6 +159,22 @@ where
             Ok(false) => refuse(output, NO_ORDER),
             Err(_) => refuse(output, NO_MEMORY),
         },
+        Order::Expel(client) => expel(rt, peers, &client, output),
+    }
+}
+
+// Has the session of a client ended, and says so or why not.
+fn expel<R, O>(rt: &R, peers: &Peers, client: &ClientId, output: &mut O)
+where
+    R: Wait + Clock,
+    O: Write,
+{
+    match peers.expel(rt, client) {
+        Ok(true) => {
+            let _ = writeln!(output, "expel {client}");
+        }
+        Ok(false) => refuse(output, NO_PRIMARY),
+        Err(_) => refuse(output, NO_MEMORY),
     }
 }
 

@@ -2,6 +2,7 @@
 // that clients find their sessions at the node that an order names.
 
 mod ends;
+mod expels;
 mod hand;
 mod inputs;
 mod lines;

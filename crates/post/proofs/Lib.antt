@@ -1,5 +1,6 @@
 mod CarriesJoin
 mod CountsStand
+mod HighestFound
 mod MasterIsReachable
 mod NoneAmong
 mod OpenBytes

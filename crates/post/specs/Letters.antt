@@ -1,10 +1,11 @@
--- What is left for a node: a message that a step of another gave, an answer of the master, or the order to crash.
-use Rattle.std.specs.Prelude.{ℕ}
+-- What is left for a node: a message that a step of another gave, an answer of the master, the order to crash, or the order to
+-- end the session of a client.
+use Rattle.std.specs.Prelude.{ℕ, List}
 use Rattle.node.specs.Command.{Command}
 use Rattle.node.specs.Effect.TheVariants.{To}
 use Rattle.node.specs.Message.{Message}
 use Rattle.node.specs.declared.Item.{Item}
-use Rattle.node.specs.declared.Item.TheVariants.{Peer, Crash}
+use Rattle.node.specs.declared.Item.TheVariants.{Peer, Expel, Crash}
 use Rattle.post.specs.Given.{WasGiven}
 use Rattle.post.specs.Mastering.{WasAnswered}
 pub use Rattle.post.specs.Given.{EachOpens, EachOpensAs, Opens, WasGiven}
@@ -14,6 +15,7 @@ pub use Rattle.post.specs.Mastering.{WasAnswered}
 pub data IsPosted (receiver : ℕ) : Item → Type 0 where
   of_node : (message : Message Command) → WasGiven (To receiver message) → IsPosted receiver (Peer message)
   order : IsPosted receiver Crash
+  expels : (client : List ℕ) → IsPosted receiver (Expel client)
 
 -- what may be left for it
 pub data IsLetter (receiver : ℕ) : Item → Type 0 where

@@ -6,6 +6,7 @@ pub mod Laws
 pub mod Letters
 pub mod Mastering
 pub mod Numbers
+pub mod Primaries
 pub mod Superseding
 pub mod Waiting
 pub mod Waking

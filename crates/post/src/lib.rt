@@ -4,6 +4,7 @@
 
 mod bell;
 mod carrier;
+mod choosing;
 mod intake;
 mod laws;
 mod messaging_master;

@@ -11,6 +11,7 @@ use crate::order_error::OrderError;
 use crate::tray::Tray;
 use crate::waking::is_urgent;
 use node::{Config, Item, Memory, Status};
+use packet::ClientId;
 use std::alloc::Global;
 use std::sync::{Mutex, Wait};
 use std::time::Duration;
@@ -67,6 +68,15 @@ impl Peer {
         }
         *is_ordered = true;
         Ok(true)
+    }
+
+    /// Leaves the order to end the session of a client. If memory runs out, it is not left.
+    pub(crate) fn leave_expel<R: Wait>(&self, rt: &R, client: &ClientId) -> Result<(), Memory> {
+        if self.leave(rt, Item::Expel(client.clone()?)) {
+            Ok(())
+        } else {
+            Err(Memory)
+        }
     }
 
     /// Has the master give the next ballot to a configuration of which this node is the primary, and tell the node.

@@ -9,11 +9,13 @@ ghost use Rattle.post.specs.Letters.{WasGiven};
 ghost use Rattle.post.specs.Numbers.{numbers_of};
 
 use crate::carrier::{Carrier, carry_all};
+use crate::choosing::{Shown, primary_of};
 use crate::messaging_master::{Answer, MASTER, MessagingMaster};
 use crate::order_error::OrderError;
 use crate::peer::Peer;
 use master::AssignError;
 use node::{Command, Config, Effect, Item, Members, Memory, Message, OpeningError, Output, Status};
+use packet::ClientId;
 use std::alloc::Global;
 use std::marker::Model;
 use std::sync::{Mutex, Wait};
@@ -98,6 +100,35 @@ impl Peers {
         }
         await_stop(rt, node);
         Ok(true)
+    }
+
+    /// Leaves the order to end the session of a client for the living active primary of the highest ballot, by what each node
+    /// showed after its last change: no node is asked. Returns whether there is such a node. If memory runs out, the order is
+    /// not left.
+    pub fn expel<R: Wait + Clock>(&self, rt: &R, client: &ClientId) -> Result<bool, Memory> {
+        let shown = self.shown(rt)?;
+        let Some(number) = primary_of(shown.as_slice()) else {
+            return Ok(false);
+        };
+        let Some(node) = self.node(number) else {
+            return Ok(false);
+        };
+        node.leave_expel(rt, client)?;
+        Ok(true)
+    }
+
+    // Returns how each node that is served stood after its last change.
+    fn shown<R: Wait + Clock>(&self, rt: &R) -> Result<Vec<Shown>, Memory> {
+        let mut shown = Vec::with_capacity(self.alloc, self.nodes.len())?;
+        for node in &self.nodes {
+            if let Some(status) = self.status(rt, node.number) {
+                shown.push(Shown {
+                    number: node.number,
+                    status,
+                })?;
+            }
+        }
+        Ok(shown)
     }
 
     /// Returns how a node stands since its last change. There is none if no node has this number, or if it is not served

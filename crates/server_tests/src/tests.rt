@@ -5,6 +5,7 @@ mod answers;
 mod client;
 mod crowds;
 mod cuts;
+mod expulsions;
 mod gates;
 mod heard;
 mod lagging;

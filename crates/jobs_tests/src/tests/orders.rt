@@ -32,16 +32,16 @@ const ANSWERS: &str = "refused 24\n\
 // What the subscriber prints of what the publisher publishes.
 const PRINTED: &str = "2 0 t/1 x\n";
 
-// A table of two nodes, of which the first serves on an address, and that address.
+/// A table of two nodes, of which the first serves on an address, and that address.
 #[derive(Drop)]
-struct Served {
-    table: String,
-    address: String,
+pub(super) struct Served {
+    pub(super) table: String,
+    pub(super) address: String,
 }
 
 impl Served {
-    // On this port of the loopback.
-    fn new(alloc: Global, port: u16) -> Result<Served, AllocError> {
+    /// On this port of the loopback.
+    pub(super) fn new(alloc: Global, port: u16) -> Result<Served, AllocError> {
         let table = format!(in alloc;
             "members = [1, 2]\nprimary = 1\n\
              [[node]]\nid = 1\nlisten = \"127.0.0.1:{port}\"\n\
@@ -52,27 +52,27 @@ impl Served {
     }
 }
 
-// A port on which nobody listens.
-fn free_port<R>(rt: &R) -> io::Result<u16>
+/// A port on which nobody listens.
+pub(super) fn free_port<R>(rt: &R) -> io::Result<u16>
 where
     R: Net<Listener = TcpListener, Stream = TcpStream>,
 {
     Ok(TcpListener::bind(rt, "127.0.0.1:0")?.local_addr()?.port())
 }
 
-// Whether the nodes of a table answer the orders that come by a pipe as they have to.
-fn serve<R>(rt: &R, table: &str, orders: PipeReader) -> bool
+/// Whether the nodes of a table give these answers to the orders that come by a pipe.
+pub(super) fn serve<R>(rt: &R, table: &str, orders: PipeReader, answers: &str) -> bool
 where
     R: Threads + Wait + Clock + Sync + AllocGlobal,
     R: Net<Listener = TcpListener, Stream = TcpStream>,
 {
     match BufReader::new(rt.alloc(), orders) {
-        Ok(mut input) => are_answered(rt, table, &mut input),
+        Ok(mut input) => are_answered(rt, table, &mut input, answers),
         Err(_) => false,
     }
 }
 
-fn are_answered<R>(rt: &R, table: &str, input: &mut BufReader<PipeReader>) -> bool
+fn are_answered<R>(rt: &R, table: &str, input: &mut BufReader<PipeReader>, answers: &str) -> bool
 where
     R: Threads + Wait + Clock + Sync + AllocGlobal,
     R: Net<Listener = TcpListener, Stream = TcpStream>,
@@ -80,7 +80,7 @@ where
     let mut output = Vec::new(rt.alloc());
     let mut faults = Vec::new(rt.alloc());
     serve_table(rt, table, input, &mut output, &mut faults).is_ok()
-        && output.as_slice() == ANSWERS.as_bytes()
+        && output.as_slice() == answers.as_bytes()
 }
 
 // Whether `sub` prints what it has to.
@@ -179,7 +179,7 @@ where
     };
     let (answered, talked) = thread::join(
         rt,
-        || serve(rt, served.table.as_str(), input),
+        || serve(rt, served.table.as_str(), input, ANSWERS),
         || order_all(rt, orders, served.address.as_str()),
     );
     answered && talked

@@ -106,6 +106,13 @@ pub(super) fn is_answered(stream: &mut TcpStream, sent: &[u8], wanted: &[u8]) ->
     is_filled && room.starts_with(wanted)
 }
 
+/// Whether a publication at QoS 2 is answered by PUBREC, and its PUBREL by PUBCOMP.
+pub(super) fn is_delivered(speaker: &mut TcpStream, publish: [u8; 10]) -> bool {
+    let id = publish[8];
+    is_answered(speaker, &publish, &[0x50, 2, 0, id])
+        && is_answered(speaker, &[0x62, 2, 0, id], &[0x70, 2, 0, id])
+}
+
 /// Whether these bytes are answered by as many as there is room for.
 pub(super) fn fills(stream: &mut TcpStream, sent: &[u8], room: &mut [u8]) -> bool {
     stream.write_all(sent).is_ok() && stream.read_exact(room).is_ok()

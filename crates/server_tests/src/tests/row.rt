@@ -4,6 +4,7 @@ use super::answers::{is_flood_answered, is_silence_ended};
 use super::crowds::{
     are_all_accepted, are_silent_ones_ended, are_sixty_answered, is_deaf_one_ended, is_heard_beside,
 };
+use super::expulsions::expels;
 use super::takeovers::{moves, takes_over};
 use super::visits::visits;
 use server::{Peers, Place};
@@ -32,6 +33,8 @@ pub(super) enum Row {
     NeverReads,
     /// A client finds its session at node 2, after a crash of node 1.
     Moves,
+    /// A client's session is ended twice, while it is connected and while it is away.
+    Expels,
     /// Node 1 crashes during three handshakes, which end at node 2.
     TakesOver,
 }
@@ -59,6 +62,7 @@ where
         Row::Deaf => is_deaf_one_ended(rt, first),
         Row::NeverReads => is_heard_beside(rt, first),
         Row::Moves => moves(rt, peers, places),
+        Row::Expels => expels(rt, peers, first),
         Row::TakesOver => takes_over(rt, peers, places),
     }
 }

@@ -1,6 +1,6 @@
 // Sessions that go on at another node.
 
-use super::client::{Pair, connect, fills, is_answered, is_silent, open, publish};
+use super::client::{Pair, connect, fills, is_answered, is_delivered, is_silent, open, publish};
 use super::heard::Heard;
 use super::nodes::{fault_in, moves_to};
 use super::row::{Row, Table};
@@ -109,11 +109,4 @@ fn is_ended(pair: &mut Pair, heard: &mut Heard) -> bool {
         && is_delivered(&mut pair.speaker, publish(0x34, 4, b'!'))
         && heard.hears(&mut pair.hearer, b'!')
         && is_silent(&mut pair.hearer)
-}
-
-// Whether a publication is answered by PUBREC, and its PUBREL by PUBCOMP.
-fn is_delivered(speaker: &mut TcpStream, publish: [u8; 10]) -> bool {
-    let id = publish[8];
-    is_answered(speaker, &publish, &[0x50, 2, 0, id])
-        && is_answered(speaker, &[0x62, 2, 0, id], &[0x70, 2, 0, id])
 }

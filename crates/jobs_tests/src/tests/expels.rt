@@ -1,0 +1,135 @@
+// The order to end the session of a client.
+
+use super::orders::{Served, free_port, serve};
+use command_line::Subscribe;
+use jobs::{Fault, subscribe};
+use packet::QoS;
+use std::io::{PipeWriter, Write};
+use std::net::{Net, TcpListener, TcpStream};
+use std::rt::Files;
+use std::sync::Wait;
+use std::thread::Threads;
+use std::time::{Clock, Duration};
+use std::{io, thread};
+
+// Identifiers with blanks, of 64 bytes and of 65, an empty one, one with U+0000; and lines that are no such order. Then the
+// only node that serves crashes.
+const FIRST: &str = "expel b\n\
+    expel  b c \n\
+    expel aaaaaaaaaaaaaaaaaaaaaaaaaaaaaaaaaaaaaaaaaaaaaaaaaaaaaaaaaaaaaaaa\n\
+    expel aaaaaaaaaaaaaaaaaaaaaaaaaaaaaaaaaaaaaaaaaaaaaaaaaaaaaaaaaaaaaaaaa\n\
+    expel \n\
+    expel b\u{0}\n\
+    expel\n\
+    Expel b\n\
+    expel meter\n";
+
+// Once the client was told: nobody serves, and the identifier is looked at first.
+const THEN: &str = "crash 1\n";
+
+const LAST: &str = "expel b\nexpel \nquit\n";
+
+const ANSWERS: &str = "expel b\n\
+    expel  b c \n\
+    expel aaaaaaaaaaaaaaaaaaaaaaaaaaaaaaaaaaaaaaaaaaaaaaaaaaaaaaaaaaaaaaaa\n\
+    refused 6\n\
+    refused 6\n\
+    refused 5\n\
+    refused 24\n\
+    refused 24\n\
+    expel meter\n\
+    crashed 1\n\
+    refused 18\n\
+    refused 6\n\
+    bye\n";
+
+// Whether a `sub` whose session is ended while it waits is told that it is lost.
+fn is_lost<R>(rt: &R, address: &str) -> bool
+where
+    R: Clock + AllocGlobal + Net<Stream = TcpStream>,
+{
+    let mut addresses = Vec::new(rt.alloc());
+    if addresses.push(address).is_err() {
+        return false;
+    }
+    let job = Subscribe {
+        id: "meter",
+        filter: "t/#",
+        qos: QoS::ExactlyOnce,
+        count: 1,
+        tries: 10,
+        addresses,
+    };
+    let mut output = Vec::new(rt.alloc());
+    matches!(subscribe(rt, &job, &mut output), Err(Fault::Lost)) && output.is_empty()
+}
+
+// Whether these lines are given once so many milliseconds are over.
+fn gives<R: Clock>(rt: &R, orders: &mut PipeWriter, after: u64, lines: &str) -> bool {
+    thread::sleep(rt, Duration::from_millis(after));
+    orders.write_all(lines.as_bytes()).is_ok()
+}
+
+// Whether all orders are given, by a pipe that then ends.
+fn orders_all<R: Clock>(rt: &R, orders: PipeWriter) -> bool {
+    let mut orders = orders;
+    gives(rt, &mut orders, 1_500, FIRST)
+        && gives(rt, &mut orders, 1_500, THEN)
+        && gives(rt, &mut orders, 1_000, LAST)
+}
+
+// The client comes once the node may serve.
+fn waits_and_is_lost<R>(rt: &R, address: &str) -> bool
+where
+    R: Clock + AllocGlobal + Net<Stream = TcpStream>,
+{
+    thread::sleep(rt, Duration::from_millis(500));
+    is_lost(rt, address)
+}
+
+// Whether the orders are given, and the client is told that it is lost.
+fn talks<R>(rt: &R, orders: PipeWriter, address: &str) -> bool
+where
+    R: Threads + Clock + Sync + AllocGlobal + Net<Stream = TcpStream>,
+{
+    let (ordered, lost) = thread::join(
+        rt,
+        || orders_all(rt, orders),
+        || waits_and_is_lost(rt, address),
+    );
+    ordered && lost
+}
+
+fn go_well<R>(rt: &R, served: &Served) -> bool
+where
+    R: Files + Threads + Wait + Clock + Sync + AllocGlobal,
+    R: Net<Listener = TcpListener, Stream = TcpStream>,
+{
+    let Ok((input, orders)) = io::pipe(rt) else {
+        return false;
+    };
+    let (answered, talked) = thread::join(
+        rt,
+        || serve(rt, served.table.as_str(), input, ANSWERS),
+        || talks(rt, orders, served.address.as_str()),
+    );
+    answered && talked
+}
+
+// Whether nodes on this port answer the orders, and the client is told.
+fn go_well_at<R>(rt: &R, port: u16) -> bool
+where
+    R: Files + Threads + Wait + Clock + Sync + AllocGlobal,
+    R: Net<Listener = TcpListener, Stream = TcpStream>,
+{
+    match Served::new(rt.alloc(), port) {
+        Ok(served) => go_well(rt, &served),
+        Err(_) => false,
+    }
+}
+
+#[test]
+fn clients_are_expelled(rt: HostRuntime) {
+    let port = free_port(&rt);
+    assert!(rt; port.is_ok_and(|port| go_well_at(&rt, port)));
+}

@@ -1,0 +1,35 @@
+-- Which node an order about a client is left for, by what each node showed of itself last.
+use Rattle.std.specs.Prelude.{◌≡◌, ℕ, ◌≤◌, Bool, true, false, ◌&&◌, not, nat_lt, if◌then◌else◌, List, [], ◌∷◌, Option, Some, None}
+use Rattle.ballot_base.specs.Replica.{is_active}
+use Rattle.lists.specs.Lists.{Each, In}
+use Rattle.post.specs.declared.choosing.Shown.{Shown}
+
+-- the node serves clients: it is the active primary of its ballot, and has not stopped
+abbrev pub serves : Shown → Bool
+serves shown = is_active shown.status.role && not shown.status.stopped
+
+-- none of those that serve among these nodes has a higher ballot
+abbrev pub NoneIsHigher : ℕ → List Shown → Type 0
+NoneIsHigher ballot = Each (λ shown. serves shown ≡ true → shown.status.ballot ≤ ballot)
+
+-- the node of this number serves, in the highest ballot of those that serve among these nodes
+pub record IsHighest (number : ℕ) (nodes : List Shown) : Type 0 where
+  pub shown : Shown
+  pub among : In shown nodes
+  pub names : shown.number ≡ number
+  pub is_served : serves shown ≡ true
+  pub highest : NoneIsHigher shown.status.ballot nodes
+
+-- none of these nodes serves
+abbrev pub NoneServes : List Shown → Type 0
+NoneServes = Each (λ shown. serves shown ≡ false)
+
+-- of two nodes the one that serves in the higher ballot, the first where both have the same
+abbrev pub higher : Option Shown → Shown → Option Shown
+higher None shown = if serves shown then Some shown else None
+higher (Some best) shown = if serves shown && nat_lt best.status.ballot shown.status.ballot then Some shown else Some best
+
+-- the same of one node after the other
+abbrev pub highest_from : Option Shown → List Shown → Option Shown
+highest_from found [] = found
+highest_from found (shown ∷ nodes) = highest_from (higher found shown) nodes

@@ -1,0 +1,135 @@
+// A client whose session an administrator ends.
+
+use super::client::{
+    Pair, SUBSCRIBE, SUBSCRIBED, is_answered, is_closed, is_delivered, is_silent, join, publish,
+};
+use super::heard::Heard;
+use super::nodes::fault_in;
+use super::row::{Row, Table};
+use packet::ClientId;
+use server::{Peers, Place};
+use std::net::{Net, TcpStream};
+use std::sync::Wait;
+use std::thread;
+use std::time::{Clock, Duration};
+
+const TABLES: &[Table] = &[
+    Table {
+        name: "one node expels a client",
+        members: &[1],
+        row: Row::Expels,
+    },
+    Table {
+        name: "two members expel a client",
+        members: &[1, 2],
+        row: Row::Expels,
+    },
+];
+
+#[test]
+fn sessions_are_expelled(rt: HostRuntime) {
+    assert_eq!(rt; fault_in(&rt, TABLES), None);
+}
+
+/// Whether client `h` finds no session and nothing of before each time that its session is ended, while it is connected and
+/// while it is away; and whether another client that is away gets all that was published.
+pub(super) fn expels<R>(rt: &R, peers: &Peers, place: Option<&Place>) -> bool
+where
+    R: AllocGlobal + Wait + Clock + Net<Stream = TcpStream>,
+{
+    leaves_a_queue(rt, place)
+        && match Pair::join(rt, place, false) {
+            Some(mut pair) => {
+                is_ended_while_connected(rt, peers, &mut pair)
+                    && is_ended_while_away(rt, peers, place, &mut pair.speaker)
+                    && is_heard_whole(rt, place)
+            }
+            None => false,
+        }
+}
+
+// Whether client `q` subscribes, and then is away.
+fn leaves_a_queue<R>(rt: &R, place: Option<&Place>) -> bool
+where
+    R: Net<Stream = TcpStream>,
+{
+    match join(rt, place, b'q', false) {
+        Some(mut stream) => is_answered(&mut stream, &SUBSCRIBE, &SUBSCRIBED),
+        None => false,
+    }
+}
+
+// Whether the subscriber's connection is closed after it was sent `x`, which it has not acknowledged.
+fn is_ended_while_connected<R>(rt: &R, peers: &Peers, pair: &mut Pair) -> bool
+where
+    R: AllocGlobal + Wait + Clock,
+{
+    let mut heard = Heard::new(rt);
+    pair.subscribes()
+        && is_delivered(&mut pair.speaker, publish(0x34, 1, b'x'))
+        && heard.hear(&mut pair.hearer).is_some()
+        && is_ordered(rt, peers)
+        && is_closed(&mut pair.hearer)
+        && is_delivered(&mut pair.speaker, publish(0x34, 2, b'y'))
+}
+
+// Whether the subscriber comes back to a new session, and to another one after an Expel while `z` waits for it.
+fn is_ended_while_away<R>(
+    rt: &R,
+    peers: &Peers,
+    place: Option<&Place>,
+    speaker: &mut TcpStream,
+) -> bool
+where
+    R: AllocGlobal + Wait + Clock + Net<Stream = TcpStream>,
+{
+    begins_anew(rt, place)
+        && is_delivered(speaker, publish(0x34, 3, b'z'))
+        && is_ordered(rt, peers)
+        && has_time(rt)
+        && begins_anew(rt, place)
+}
+
+// Whether the subscriber finds no session and gets nothing, subscribes again, and then is away.
+fn begins_anew<R>(rt: &R, place: Option<&Place>) -> bool
+where
+    R: Wait + Clock + Net<Stream = TcpStream>,
+{
+    match join(rt, place, b'h', false) {
+        Some(mut stream) => {
+            is_silent(&mut stream) && is_answered(&mut stream, &SUBSCRIBE, &SUBSCRIBED)
+        }
+        None => false,
+    }
+}
+
+// Whether the order to end the subscriber's session is taken.
+fn is_ordered<R>(rt: &R, peers: &Peers) -> bool
+where
+    R: AllocGlobal + Wait + Clock,
+{
+    match ClientId::new(rt.alloc(), "h") {
+        Ok(client) => peers.expel(rt, &client) == Ok(true),
+        Err(_) => false,
+    }
+}
+
+// Gives the node half a second to obey.
+fn has_time<R: Clock>(rt: &R) -> bool {
+    thread::sleep(rt, Duration::from_millis(500));
+    true
+}
+
+// Whether client `q` finds its session, and gets all three publications.
+fn is_heard_whole<R>(rt: &R, place: Option<&Place>) -> bool
+where
+    R: AllocGlobal + Net<Stream = TcpStream>,
+{
+    let mut heard = Heard::new(rt);
+    match join(rt, place, b'q', true) {
+        Some(mut stream) => {
+            heard.hears(&mut stream, b'z') && heard.payloads.as_slice() == b"xyz".as_slice()
+        }
+        None => false,
+    }
+}
