@@ -6,12 +6,12 @@ use Rattle.exact_model.specs.Promise.{Promise}
 use Rattle.exact_model.specs.world_model.World.{ClientPipes}
 use Rattle.exact_model.specs.world_model.Published.{published_of, published_on}
 use Rattle.world.specs.declared.world.WorldClient.{WorldClient}
-use Rattle.world.specs.Standing.{IsReached, connections_in, connections_on}
+use Rattle.world.specs.Standing.{IsReached, connections_at, connections_in}
 use Rattle.world.specs.World.{WorldState}
 use Rattle.world.proofs.ClientsStand.{client_at}
 
 pub promise_shown : (nodes : ℕ) (config : Config) (cs : List Client) (w : WorldState) (r : IsReached nodes config cs w) (i : ℕ) (client : WorldClient)
-    → slice_get w.clients i ≡ Some client → Promise (connections_on i r) (published_of i (published_on r.trail)) r.exact.agreed client.piped.core.state
+    → slice_get w.clients i ≡ Some client → Promise (connections_at i r.world) (published_of i (published_on r.trail)) r.exact.agreed client.piped.core.state
 promise_shown nodes config cs w r i client at =
     let one = client_at w.clients r.world.clients i client r.stands.clients at in
     subst (λ (o : Option ClientPipes). Promise (connections_in o) (published_of i (published_on r.trail)) r.exact.agreed client.piped.core.state) (sym one.at)

@@ -69,13 +69,13 @@ pub record IsReached (nodes : ℕ) (config : Config) (cs : List Client) (w : Wor
 abbrev pub asked_on : {nodes : ℕ} {config : Config} {cs : List Client} {w : WorldState} → IsReached nodes config cs w → List (ℕ × Publication)
 asked_on reached = published_on reached.trail
 
--- the connections of the client at a place, the newest first: history
+-- the connections of a client of the model's world, the newest first: history
 abbrev pub connections_in : Option ClientPipes → List Connection
 connections_in (Some c) = c.connections
 connections_in None = []
 
-abbrev pub connections_on : {nodes : ℕ} {config : Config} {cs : List Client} {w : WorldState} → ℕ → IsReached nodes config cs w → List Connection
-connections_on i reached = connections_in (slice_get reached.world.clients i)
+abbrev pub connections_at : ℕ → World → List Connection
+connections_at i world = connections_in (slice_get world.clients i)
 
 -- a world that is reached still is after it, and this was published since
 abbrev pub KeepsReached : List (ℕ × Publication) → WorldState → WorldState → Type 0

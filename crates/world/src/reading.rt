@@ -9,7 +9,7 @@ ghost use Rattle.world.specs.Found.{core_named, is_named, place_numbered, way_of
 ghost use Rattle.world.specs.Goes.{AreReached};
 ghost use Rattle.exact_model.specs.Promise.{Promise};
 ghost use Rattle.exact_model.specs.world_model.Published.{published_of, published_on};
-ghost use Rattle.world.specs.Standing.{IsReached, connections_on};
+ghost use Rattle.world.specs.Standing.{IsReached, connections_at};
 
 use crate::place::Place;
 use crate::world::{World, WorldClient};
@@ -65,7 +65,7 @@ impl World {
         ensures promised { (nodes : ℕ) (config : Config) (clients : List Client)
             (reached : IsReached nodes config clients self.now) (at : ℕ) →
             position (is_named client.now) self.now.clients ≡ Some at → IfSome result (λ core.
-            Promise (connections_on at reached) (published_of at (published_on reached.trail)) reached.exact.agreed core.now.state) }
+            Promise (connections_at at reached.world) (published_of at (published_on reached.trail)) reached.exact.agreed core.now.state) }
     {
         let at = self.place_of(client)?;
         let found = self.clients.get(at)?;

@@ -4,7 +4,7 @@ use Rattle.exact_model.specs.Promise.{Promise}
 use Rattle.exact_model.specs.world_model.Published.{published_of, published_on}
 use Rattle.master.proofs.Counting.{get_there}
 use Rattle.world.specs.declared.world.WorldClient.{WorldClient}
-use Rattle.world.specs.Standing.{connections_on}
+use Rattle.world.specs.Standing.{connections_at}
 use Rattle.world.specs.World.{WorldState}
 use Rattle.world.proofs.PromiseShown.{promise_shown, same_place}
 use Rattle.world.proofs.world.World.client.Goals as goal
@@ -23,6 +23,6 @@ returns-clause-promised c =
     } in
     rw (← c.self.view_is)
     (λ nodes config clients r at first.
-    subst (λ (k : Core). Promise (connections_on at r) (published_of at (published_on r.trail)) r.exact.agreed k.state) (sym c.core.ensures)
-    (subst (λ (i : ℕ). Promise (connections_on i r) (published_of i (published_on r.trail)) r.exact.agreed c.in_ok-found.found.now.piped.core.state) (same_place c.in_ok-at.at at (here ∙ first))
+    subst (λ (k : Core). Promise (connections_at at r.world) (published_of at (published_on r.trail)) r.exact.agreed k.state) (sym c.core.ensures)
+    (subst (λ (i : ℕ). Promise (connections_at i r.world) (published_of i (published_on r.trail)) r.exact.agreed c.in_ok-found.found.now.piped.core.state) (same_place c.in_ok-at.at at (here ∙ first))
     (promise_shown nodes config clients old r c.in_ok-at.at c.in_ok-found.found.now found)))

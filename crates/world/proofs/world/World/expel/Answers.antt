@@ -42,6 +42,11 @@ returns-clause-meets c =
       connections = c.self.inside.connections.items;
       losses = c.self.inside.losses;
     } in old) c.expel.new.self c.gather.new.self
-    (may_expel c.args.client.now c.args.node _ c.place_of.result c.is_none.result (rw (← c.self.view_is) at c.place_of.ensures.exact) c.is_none.ensures c.if-is_none.false
+    (may_expel c.args.client.now c.args.node (let old : WorldState = record {
+      nodes = c.self.inside.nodes;
+      clients = c.self.inside.clients.items;
+      connections = c.self.inside.connections.items;
+      losses = c.self.inside.losses;
+    } in old) c.place_of.result c.is_none.result (rw (← c.self.view_is) at c.place_of.ensures.exact) c.is_none.ensures c.if-is_none.false
     (λ full. both_ways false refl (c.in_ok-expel.ensures.idle.1 full)))
     c.in_ok-expel.ensures.step c.in_ok-expel.ensures.goes c.gather.ensures.gathers c.gather.ensures.still))
