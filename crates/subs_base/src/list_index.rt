@@ -24,7 +24,7 @@ ghost use Rattle.std.specs.Prelude.{
 ghost use Rattle.std.specs.Cmp.Lexicographic.{slice_cmp};
 ghost use Rattle.std.specs.Ordering.{nat_cmp};
 ghost use Rattle.std.specs.BTreeMap.{Updates, IsOrdered, get};
-ghost use Rattle.subs_base.specs.Content.{without_row};
+ghost use Rattle.subs_base.specs.Content.{without_row, with_filters};
 ghost use Rattle.subs_base.specs.Granted.{IsWanted};
 ghost use Rattle.subs_base.specs.ListIndex.{content_of, at};
 ghost use Rattle.subs_base.specs.Inside.{listed, greater, greatest_from, rows_of, AreOrdered};
@@ -99,6 +99,31 @@ impl SubIndex for ListIndex {
 }
 
 impl ListIndex {
+    /// The clients by their bytes, each with its filters by theirs.
+    pub fn clients(&self) -> &BTreeMap<ClientId, BTreeMap<Filter, QoS>>
+        ensures { listed result.now.entries ≡ self.now }
+    {
+        &self.clients
+    }
+
+    /// Puts these filters of a client in the place of those that it has. Without memory the index stays as it was.
+    pub fn put(
+        &mut self,
+        client: &ClientId,
+        filters: BTreeMap<Filter, QoS>,
+    ) -> Result<(), AllocError>
+        ensures ok { OnOk result
+            (content_of self.new ≡ with_filters (content_of self.old) client.now (get (slice_cmp nat_cmp) filters)) }
+        ensures err { OnErr result (content_of self.new ≡ content_of self.old) }
+    {
+        if filters.is_empty() {
+            self.drop_client(client);
+            return Ok(());
+        }
+        self.clients.insert(client.clone()?, filters)?;
+        Ok(())
+    }
+
     /// The filters of a client that has one, in the order of their bytes.
     pub fn filters_of(&self, client: &ClientId) -> Option<&BTreeMap<Filter, QoS>>
         ensures { option_map (λ filters. filters.now.entries) result ≡ at client.now self.now }

@@ -1,12 +1,12 @@
 -- What the nodes show once one of them was put in, taken out or changed.
-use Rattle.std.proofs.Common.{◌≡◌, ◌≢◌, ℕ, List, Bool, true, false, not, ◌&&◌, ◌||◌, ◌==◌, cond, Option, Some, None, refl, sym, ◌∙◌, ap, subst, bytes_eq, is_some, IsSome}
+use Rattle.std.proofs.Common.{◌≡◌, ℕ, List, Bool, true, false, not, ◌&&◌, ◌||◌, ◌==◌, cond, Option, Some, None, refl, sym, ◌∙◌, ap, subst, bytes_eq, is_some, IsSome}
 use Rattle.std.specs.Prelude.{option_and_then}
 use Rattle.std.proofs.lemmas.Bool.{true≢false, eq-eqb, eqb-true}
 use Rattle.slab.specs.Slab.{Slab, get, Updates, with_value}
 use Rattle.slab.proofs.SlabLemmas.{Updates-with_value}
 use Rattle.packet.specs.declared.qos.QoS.{QoS}
 use Rattle.subs_tree.specs.declared.node.Node.{Node}
-use Rattle.subs_tree.specs.Changes.{same_side, SetsRow, SetsChild, Writes, Links, Opens, Closes, IsBare}
+use Rattle.subs_tree.specs.Changes.{same_side, SetsRow, SetsSide, SetsChild, Writes, Fills, Links, Opens, Closes, IsBare}
 use Rattle.subs_tree.specs.Inside.{held_in, child_in, shape_of, HoldsNothing}
 
 -- every number but one has what it had
@@ -150,6 +150,20 @@ module _ (old new : Slab Node) (n : ℕ) where
           where
             by : (v : Bool) → (k == n) ≡ v → held_of r c (cond v (Some is) (get old k)) ≡ cond (v && (same_side rest r && bytes_eq client c)) kept (held_of r c (get old k))
             by true e = sets r c ∙ ap (cond (same_side rest r && bytes_eq client c) kept) (sym (ap (held_of r c) (self old n k (Some was) there e)))
+            by false e = refl
+
+    pub filled : (rest : Bool) (kept : List ℕ → Option QoS) → SetsSide (held_in was) (held_in is) rest kept → child_in is ≡ child_in was → Fills (shape_of old) (shape_of new) n rest kept
+    filled rest kept sets children = record {
+      child = λ i k l. children_same children k l i;
+      used = λ i k. used_same k i;
+      held = rows;
+    }
+      where
+        rows : (k : ℕ) (r : Bool) (c : List ℕ) → (shape_of new).held k r c ≡ cond ((k == n) && same_side rest r) (kept c) ((shape_of old).held k r c)
+        rows k r c = ap (held_of r c) (get_after old new n (Some is) updates k) ∙ by (k == n) refl
+          where
+            by : (v : Bool) → (k == n) ≡ v → held_of r c (cond v (Some is) (get old k)) ≡ cond (v && same_side rest r) (kept c) (held_of r c (get old k))
+            by true e = sets r c ∙ ap (cond (same_side rest r) (kept c)) (sym (ap (held_of r c) (self old n k (Some was) there e)))
             by false e = refl
 
 -- a write to the value of a number

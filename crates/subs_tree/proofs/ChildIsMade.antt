@@ -5,9 +5,8 @@ use Rattle.std.proofs.lemmas.Bool.{true≢false, eq-eqb, eqb-true}
 use Rattle.std.proofs.lemmas.List.{append_assoc}
 use Rattle.topics.specs.Text.{Levels}
 use Rattle.topics.specs.Matching.{is_all}
-use Rattle.packet.specs.declared.qos.QoS.{QoS}
-use Rattle.subs_tree.specs.Shape.{Children, Held, Shape, asked, rows}
-use Rattle.subs_tree.specs.Ways.{reach, led, place, IsTree, IsReached}
+use Rattle.subs_tree.specs.Shape.{Children, Shape, asked, rows}
+use Rattle.subs_tree.specs.Ways.{led, place, IsTree, IsReached}
 use Rattle.subs_tree.specs.Changes.{Links, Opens, Closes, IsBare}
 use Rattle.subs_tree.proofs.Ways.{rows_below}
 use Rattle.subs_tree.proofs.Linked.{free_unreached, tree_opened, tree_linked, rows_linked, led_new}

@@ -18,7 +18,7 @@ text_of_levels text other is =
     sym (join_with_byte-slice_split 47 text) ∙ ap (join_with_byte 47) is ∙ join_with_byte-slice_split 47 other
 
 -- two filters are one where their levels are
-same_text : (f g : List ℕ) → same_levels (levels f) (levels g) ≡ bytes_eq f g
+pub same_text : (f g : List ℕ) → same_levels (levels f) (levels g) ≡ bytes_eq f g
 same_text f g =
     elim (bytes_eq f g) as (λ v. bytes_eq f g ≡ v → same_levels (levels f) (levels g) ≡ v) [
       | true ↦ λ e. ap (λ h. same_levels (levels f) (levels h)) (sym ((bytes_decides f g).0 e)) ∙ same_levels_self (levels f)

@@ -15,3 +15,4 @@ pub mod Raising
 pub mod WalkFinds
 pub mod ContentOfTree
 pub mod TreeGrants
+pub mod RowsGathered

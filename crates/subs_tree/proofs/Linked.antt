@@ -4,7 +4,6 @@ use Rattle.std.specs.Prelude.{option_and_then}
 use Rattle.std.specs.Cmp.Lexicographic.{bytes_decides}
 use Rattle.std.proofs.lemmas.Bool.{true≢false, and_parts, eq-eqb, eqb-true}
 use Rattle.topics.specs.Text.{Levels}
-use Rattle.packet.specs.declared.qos.QoS.{QoS}
 use Rattle.subs_tree.specs.Shape.{Children, Held, Shape, rows}
 use Rattle.subs_tree.specs.Ways.{reach, led, place, IsTree}
 use Rattle.subs_tree.specs.Changes.{Links, Opens, IsBare}

@@ -1,15 +1,14 @@
 -- What one node shows once a map of it was changed.
-use Rattle.std.proofs.Common.{◌≡◌, ℕ, List, Bool, true, false, ◌&&◌, cond, Option, Some, None, [], refl, sym, ◌∙◌, ap, subst, bytes_eq, codes}
+use Rattle.std.proofs.Common.{◌≡◌, ℕ, List, Bool, true, false, cond, Option, None, [], refl, sym, ◌∙◌, ap, bytes_eq, codes}
 use Rattle.std.specs.Prelude.{option_map}
 use Rattle.std.specs.BTreeMap.{get, get_by, is_at}
 use Rattle.std.specs.Map.{lookup}
 use Rattle.std.specs.Cmp.Lexicographic.{slice_cmp, bytes_decides}
 use Rattle.std.specs.Ordering.{nat_cmp}
-use Rattle.std.proofs.lemmas.Bool.{true≢false}
 use Rattle.packet.specs.declared.qos.QoS.{QoS}
 use Rattle.subs_tree.specs.declared.node.Node.{Node}
 use Rattle.subs_tree.specs.declared.node_id.NodeId.{NodeId}
-use Rattle.subs_tree.specs.Changes.{same_side, SetsRow, SetsChild}
+use Rattle.subs_tree.specs.Changes.{SetsRow, SetsChild}
 use Rattle.subs_tree.specs.Inside.{held_in, child_in, HoldsNothing}
 
 abbrev pub number_of : Option NodeId → Option ℕ

@@ -50,6 +50,10 @@ abbrev pub with_asked : Asked → Levels → List ℕ → Option QoS → Asked
 with_asked before filter client kept f c =
     if same_levels filter f && bytes_eq client c then kept else before f c
 
+-- these are the clients of the filter of these levels
+abbrev pub with_rows : Asked → Levels → (List ℕ → Option QoS) → Asked
+with_rows before filter kept f c = if same_levels filter f then kept c else before f c
+
 -- the client's subscriptions of these filters are gone
 abbrev pub cleared : List ℕ → Filters → Content → Content
 cleared client filters before c f =

@@ -4,3 +4,4 @@ pub mod Changes
 pub mod Inside
 pub mod Standing
 pub mod Walk
+pub mod Gathered

@@ -2,6 +2,7 @@
 #![tactic(auto)]
 
 mod finding;
+mod gathering;
 mod making;
 mod node;
 mod node_id;

@@ -5,7 +5,7 @@ ghost use Rattle.std.specs.Cmp.Lexicographic.{slice_cmp};
 ghost use Rattle.std.specs.Ordering.{nat_cmp};
 ghost use Rattle.std.specs.BTreeMap.{Updates, get};
 ghost use Rattle.subs_tree.specs.Inside.{held_in, child_in, HoldsNothing};
-ghost use Rattle.subs_tree.specs.Changes.{SetsRow, SetsChild};
+ghost use Rattle.subs_tree.specs.Changes.{SetsRow, SetsSide, SetsChild};
 
 use crate::node_id::NodeId;
 use packet::{ClientId, QoS};
@@ -93,6 +93,18 @@ impl Node {
             return set_client(&mut self.rest, client, qos);
         }
         set_client(&mut self.here, client, qos)
+    }
+
+    /// Puts these rows in the place of those at `#` beside the node, or at its own filter.
+    pub(crate) fn put(&mut self, rest: bool, rows: Clients)
+        ensures rows { SetsSide (held_in self.old) (held_in self.new) rest (get (slice_cmp nat_cmp) rows) }
+        ensures child { child_in self.new ≡ child_in self.old }
+    {
+        if rest {
+            self.rest = rows;
+            return;
+        }
+        self.here = rows;
     }
 
     /// Takes the client's row out, and says whether there was one.

@@ -1,15 +1,18 @@
 // The nodes, named by their numbers: one for each front of levels that some filter begins with.
 
 ghost use Rattle.std.specs.Prelude.{◌≡◌, OnOk, OnErr, IfOk, IfSome, ◌↔◌, IsTrue, IsSome, Some, None, option_map};
+ghost use Rattle.std.specs.BTreeMap.{get};
+ghost use Rattle.std.specs.Cmp.Lexicographic.{slice_cmp};
+ghost use Rattle.std.specs.Ordering.{nat_cmp};
 ghost use Rattle.topics.specs.Text.{levels, levels_of};
 ghost use Rattle.topics.specs.Matching.{is_all};
 ghost use Rattle.subs_tree.specs.Ways.{reach, place};
-ghost use Rattle.subs_tree.specs.Inside.{nothing, with_asked};
+ghost use Rattle.subs_tree.specs.Inside.{nothing, with_asked, with_rows};
 ghost use Rattle.subs_tree.specs.Standing.{shape, root_of, rows_of, IsSound};
 
-use crate::node::Node;
+use crate::node::{Clients, Node};
 use crate::node_id::NodeId;
-use crate::slots::{Place, child, clear_at, open, set_at};
+use crate::slots::{Place, child, clear_at, open, put_at, set_at};
 use packet::{ClientId, QoS};
 use slab::Slab;
 use std::alloc::{AllocError, Global};
@@ -51,6 +54,19 @@ impl Nodes {
             self.prune(root, Some(text));
         }
         set
+    }
+
+    /// Puts these rows in the place of those of the filter with this text. Without memory some nodes that hold
+    /// nothing may stay.
+    pub(crate) fn put(&mut self, text: &[u8], rows: Clients) -> Result<(), AllocError>
+        requires { IsSound self.old }
+        ensures ok { OnOk result (rows_of self.new ≡ with_rows (rows_of self.old) (levels text.now) (get (slice_cmp nat_cmp) rows)) }
+        ensures sound { OnOk result (IsSound self.new) }
+    {
+        let root = self.make_root()?;
+        let place = self.make_place(root, Some(text))?;
+        put_at(&mut self.slab, place, rows);
+        Ok(())
     }
 
     /// Removes the client's subscription of the filter with this text, and says whether there was one. Nodes that

@@ -1,6 +1,6 @@
 // The index as a tree of the filters' levels.
 
-ghost use Rattle.std.specs.Prelude.{◌≡◌, ◌++◌, OnOk, OnErr, take, length};
+ghost use Rattle.std.specs.Prelude.{◌≡◌, ◌++◌, IfOk, OnOk, OnErr, take, length};
 ghost use Rattle.std.specs.BTreeMap.{IsOrdered, get};
 ghost use Rattle.std.specs.Cmp.Lexicographic.{slice_cmp};
 ghost use Rattle.std.specs.Ordering.{nat_cmp};
@@ -9,6 +9,7 @@ ghost use Rattle.subs_tree.specs.Inside.{cleared};
 ghost use Rattle.subs_tree.specs.Walk.{GivesSome};
 ghost use Rattle.subs_tree.specs.Standing.{content_in, IsSound};
 
+use crate::gathering::{gather, nodes_of};
 use crate::nodes::Nodes;
 use packet::{ClientId, QoS};
 use std::alloc::{AllocError, Global};
@@ -85,6 +86,21 @@ impl SubIndex for TreeIndex {
             rows.truncate(before);
         }
         appended
+    }
+}
+
+impl TreeIndex {
+    /// Builds the tree of a whole list in one pass, in place of a `set` for each of its filters.
+    pub fn of_list(alloc: Global, clients: ListIndex) -> Result<TreeIndex, AllocError>
+        ensures { IfOk result (λ index. index ≡ clients) }
+    {
+        let groups = gather(alloc, clients.clients())?;
+        let nodes = nodes_of(alloc, groups)?;
+        Ok(TreeIndex {
+            clients,
+            nodes,
+            alloc,
+        })
     }
 }
 

@@ -1,5 +1,5 @@
 -- The node of the number has no such row any more.
-use Rattle.std.proofs.Common.{sym, Some, None, ◌≡◌}
+use Rattle.std.proofs.Common.{sym, None}
 use Rattle.subs_tree.proofs.ChangedSlot.{wrote, written}
 use Rattle.slab.specs.Slab.{with_value}
 use Rattle.subs_tree.proofs.slots.clear_at.Goals as goal

@@ -1,5 +1,5 @@
 -- The node of the number has the row.
-use Rattle.std.proofs.Common.{sym, Some, None, ◌≡◌}
+use Rattle.std.proofs.Common.{sym, Some}
 use Rattle.subs_base.proofs.ContentAfter.{on_ok, on_err}
 use Rattle.subs_tree.proofs.ChangedSlot.{wrote, written, stayed}
 use Rattle.slab.specs.Slab.{with_value}

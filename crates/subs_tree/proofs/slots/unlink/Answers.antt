@@ -1,5 +1,5 @@
 -- The node of the number has nothing behind the level.
-use Rattle.std.proofs.Common.{sym, Some, None, ◌≡◌}
+use Rattle.std.proofs.Common.{sym, None}
 use Rattle.subs_tree.proofs.ChangedSlot.{wrote, linked}
 use Rattle.slab.specs.Slab.{with_value}
 use Rattle.subs_tree.proofs.slots.unlink.Goals as goal

@@ -1,5 +1,5 @@
 -- The map of the one side or the other has no such client any more.
-use Rattle.std.proofs.Common.{◌≡◌, refl, sym, subst, Bool, None}
+use Rattle.std.proofs.Common.{refl, sym, subst, Bool, None}
 use Rattle.subs_tree.proofs.LevelsFound.{updates_client}
 use Rattle.subs_tree.proofs.NodeSets.{sets_rest, sets_here}
 use Rattle.subs_tree.specs.Changes.{SetsRow}

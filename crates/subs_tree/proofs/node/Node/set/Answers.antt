@@ -1,5 +1,5 @@
 -- The map of the one side or the other has the client's row.
-use Rattle.std.proofs.Common.{◌≡◌, refl, sym, subst, Bool, Some}
+use Rattle.std.proofs.Common.{refl, sym, subst, Bool, Some}
 use Rattle.subs_base.proofs.ContentAfter.{on_ok}
 use Rattle.subs_tree.proofs.LevelsFound.{updates_client}
 use Rattle.subs_tree.proofs.NodeSets.{sets_rest, sets_here}

@@ -1,5 +1,5 @@
 -- The levels so far and one more lead to the child, from where the call goes on.
-use Rattle.std.proofs.Common.{rules, ◌≡◌, [], ◌∷◌, ◌++◌, ◌∙◌, sym, ap, false, List, ℕ}
+use Rattle.std.proofs.Common.{rules, ◌≡◌, [], ◌∷◌, ◌++◌, ◌∙◌, sym, ap, false}
 use Rattle.std.proofs.lemmas.List.{append_assoc}
 use Rattle.topics.specs.Text.{Levels, levels_of}
 use Rattle.topics.specs.Matching.{is_all}

@@ -1,12 +1,11 @@
 -- The nodes on the way to the child stay, and so do those on the way to its parent.
-use Rattle.std.proofs.Common.{rules, ◌≡◌, Some, [], ◌∷◌, ◌++◌, ◌∙◌, sym, ap, List, ℕ}
-use Rattle.topics.specs.Text.{Levels, levels_of}
+use Rattle.std.proofs.Common.{rules, ◌≡◌, Some, [], ◌∷◌, ◌++◌, ◌∙◌, sym, ap}
+use Rattle.topics.specs.Text.{Levels}
 use Rattle.std.proofs.lemmas.List.{append_assoc}
 use Rattle.subs_tree.specs.Ways.{led}
 use Rattle.subs_tree.specs.Inside.{shape_of}
 use Rattle.subs_tree.specs.Standing.{root_of}
 use Rattle.subs_tree.proofs.TextCut.{fewer}
-use Rattle.subs_tree.proofs.NodeSets.{number_of}
 use Rattle.subs_tree.proofs.Ways.{led_more}
 use Rattle.subs_tree.proofs.nodes.Nodes.+prune.Goals as goal
 

@@ -1,7 +1,7 @@
 -- The row of the filter goes from its place, if the nodes of its levels are there.
-use Rattle.std.proofs.Common.{◌≡◌, Some, None, ◌∙◌, sym, ap, is_some}
+use Rattle.std.proofs.Common.{None, ◌∙◌, sym, ap, is_some}
 use Rattle.topics.specs.Text.{levels}
-use Rattle.subs_tree.specs.Ways.{led, place}
+use Rattle.subs_tree.specs.Ways.{place}
 use Rattle.subs_tree.specs.Inside.{shape_of}
 use Rattle.subs_tree.specs.Standing.{root_of, rows_of}
 use Rattle.subs_tree.proofs.NodeSets.{number_of}

@@ -1,5 +1,5 @@
 -- The row of the filter is set at its place, once its nodes are there.
-use Rattle.std.proofs.Common.{◌≡◌, Some, [], ◌∙◌, sym, ap}
+use Rattle.std.proofs.Common.{Some, [], ◌∙◌, sym, ap}
 use Rattle.topics.specs.Text.{levels}
 use Rattle.subs_base.proofs.ContentAfter.{on_ok, on_err}
 use Rattle.subs_tree.specs.Ways.{led, place}
