@@ -1,7 +1,11 @@
 -- Words of private calls.
-use Rattle.std.specs.Prelude.{◌≡◌, ℕ, ◌<◌, length}
+use Rattle.std.specs.Prelude.{◌≡◌, ℕ, ◌<◌, length, List, [], ◌∷◌, Option, None, bytes_eq}
+use Rattle.std.specs.Map.{update_all}
 use Rattle.std.specs.List.{AllByRecursion}
+use Rattle.packet.specs.declared.qos.QoS.{QoS}
 use Rattle.retained.specs.Retained.{RetainedTopics}
+use Rattle.session_base.specs.Subscriptions.{HeldFilter}
+use Rattle.subs_base.specs.Content.{Content, with_filters}
 use Rattle.session_form.specs.FormLaws.{HasForm}
 use Rattle.broker_model.specs.Connection.{ConnectionName}
 use Rattle.broker_base.specs.State.{Sessions, State}
@@ -24,3 +28,12 @@ AreOwned rows = (x : ConnectionName) → owners_at rows.owners.entries x ≡ own
 -- the broker with this window, these sessions and retained publications
 abbrev pub state_read : ℕ × Rows × RetainedTopics → State
 state_read (window, rows, retained) = record { window = window; sessions = rows.sessions.entries; retained = retained }
+
+-- the QoS of each filter of a session, the last of a filter counting
+abbrev pub last_held : List HeldFilter → List ℕ → Option QoS
+last_held held = update_all bytes_eq (λ _. None) held
+
+-- the filters of all these sessions are put in, client by client
+abbrev pub all_held : Sessions → Content → Content
+all_held [] content = content
+all_held (row ∷ rows) content = all_held rows (with_filters content row.0 (last_held row.1.state.subscriptions))

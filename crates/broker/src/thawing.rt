@@ -1,31 +1,33 @@
 // The tables that frozen bytes stand for.
 
-ghost use Rattle.std.specs.Prelude.{◌≡◌, ◌<◌, ◌≤◌, [], length, IfOk, OnOk};
+ghost use Rattle.std.specs.Prelude.{◌≡◌, ◌<◌, ◌≤◌, [], length, IfOk};
+ghost use Rattle.std.specs.BTreeMap.{get};
+ghost use Rattle.std.specs.Cmp.Lexicographic.{slice_cmp};
+ghost use Rattle.std.specs.Ordering.{nat_cmp};
 ghost use Rattle.packet_base.specs.Outcome.{Gives, Reads};
 ghost use Rattle.packet_base.specs.Reading.{number_at};
 ghost use Rattle.session_form.specs.Counted.{counted_at, items_behind, last_of, Adds};
 ghost use Rattle.subs_base.specs.Content.{no_subscriptions};
 ghost use Rattle.subs_base.specs.ListIndex.{content_of};
-ghost use Rattle.broker_form.specs.broker_rows.Indexed.{all_set, all_told};
 ghost use Rattle.broker_form.specs.Form.{broker_at, is_behind, retained_at, topic_follows};
 ghost use Rattle.broker_tables.specs.Tables.{IsTied, state_in};
 ghost use Rattle.retained.specs.Retained.{IsRising};
-ghost use Rattle.broker.specs.Inside.{AreOwned, state_read};
+ghost use Rattle.broker.specs.Inside.{AreOwned, state_read, all_held, last_held};
 
 use crate::reading::{OUT_OF_MEMORY, read_head, read_topic};
 use crate::rows::Rows;
 use broker_form::thawed_is_in_range;
 use broker_model::Window;
 use broker_tables::{ClientRow, Tables};
-use packet::ClientId;
+use packet::{ClientId, QoS};
 use packet_base::{Reader, Stop};
 use retained::{RetainedPublication, RetainedStore};
 use session::Session;
 use session_form::keep;
 use std::alloc::{AllocError, Global};
 use std::collections::BTreeMap;
-use subs::{SubIndex, TreeIndex};
-use topics::TopicName;
+use subs::{ListIndex, SubIndex, TreeIndex};
+use topics::{Filter, TopicName};
 
 /// The most topics of which a publication is retained.
 const MAX_TOPICS: usize = 16_384;
@@ -118,27 +120,36 @@ fn is_behind(retained: &RetainedStore, topic: &TopicName) -> bool
 
 // ---- the index of subscriptions
 
-// An index that is told of each session's subscriptions.
+// The tree of a list of each session's subscriptions.
 fn index_of(
     alloc: Global,
     sessions: &BTreeMap<ClientId, ClientRow>,
 ) -> Result<TreeIndex, AllocError>
-    ensures { IfOk result (λ index. content_of index ≡ all_told sessions.now.entries no_subscriptions) }
+    ensures { IfOk result (λ index. content_of index ≡ all_held sessions.now.entries no_subscriptions) }
 {
-    let mut index = TreeIndex::new(alloc);
+    let mut list = ListIndex::new(alloc);
     for (client, row) in sessions {
-        set_all(&mut index, client, &row.state)?;
+        list.put(client, filters_of(alloc, &row.state)?)?;
     }
-    Ok(index)
+    TreeIndex::of_list(alloc, list)
 }
 
-// The index is told of one client's subscriptions.
-fn set_all(index: &mut TreeIndex, client: &ClientId, session: &Session) -> Result<(), AllocError>
-    ensures { OnOk result (content_of index.new
-        ≡ all_set client.now session.now.subscriptions (content_of index.old)) }
+// A session's subscriptions by the bytes of their filters.
+fn filters_of(alloc: Global, session: &Session) -> Result<BTreeMap<Filter, QoS>, AllocError>
+    ensures { IfOk result (λ filters. get (slice_cmp nat_cmp) filters ≡ last_held session.now.subscriptions) }
 {
+    let held = held_of(alloc, session)?;
+    let filters = BTreeMap::from_iter(alloc, held)?;
+    Ok(filters)
+}
+
+// A session's subscriptions, in their order.
+fn held_of(alloc: Global, session: &Session) -> Result<Vec<(Filter, QoS)>, AllocError>
+    ensures { IfOk result (λ held. held.items ≡ session.now.subscriptions) }
+{
+    let mut held = Vec::with_capacity(alloc, session.subscription_count())?;
     for (filter, qos) in session.subscriptions() {
-        index.set(client, filter, *qos)?;
+        held.push((filter.clone()?, *qos))?;
     }
-    Ok(())
+    Ok(held)
 }
