@@ -1,5 +1,5 @@
 -- HasWayOut.antt: from every moment of a group whose starts give nothing there is a way out.
-use Rattle.std.proofs.Common.{◌≡◌, ℕ, ◌+◌, ◌-◌, ◌*◌, ◌⊎◌, inl, inr, true, false, List, [], ◌∷◌, ◌++◌, length, Some, refl, ap, sym, ◌∙◌, subst, arith}
+use Rattle.std.proofs.Common.{◌≡◌, ℕ, ◌+◌, ◌-◌, ◌*◌, ◌⊎◌, inl, inr, true, false, List, [], ◌∷◌, ◌++◌, length, length-append, Some, refl, ap, sym, ◌∙◌, subst, arith}
 use Rattle.std.specs.Prelude.{slice_get}
 use Rattle.machine.specs.Machine.{Rules}
 use Rattle.lists.specs.Lists.{In}
@@ -91,6 +91,8 @@ module _ {S C O : Type 0} (rules : Rules S C O) (silent : StartsGiveNothing rule
               primary = subst (λ m. NodeIs (Serves (a.master.given + 1) longer (others new.primary new.members)) o.behind.world.nodes m) (sym first.number) o.primary;
               each = o.each;
             };
+            told = λ m i. subst (λ p. In (p, record { from = m; body = Held (a.master.given + 1) (length log + 1) }) o.behind.world.sent) (sym first.number)
+                (subst (λ n. In (first.place + 1, record { from = m; body = Held (a.master.given + 1) n }) o.behind.world.sent) one_more (o.told m i));
             goes = record {
               between = goes.between;
               came = goes.came;
@@ -101,6 +103,9 @@ module _ {S C O : Type 0} (rules : Rules S C O) (silent : StartsGiveNothing rule
         where
           longer : List C
           longer = log ++ rules.start_of (a.master.given + 1) ∷ []
+
+          one_more : length longer ≡ length log + 1
+          one_more = length-append log (rules.start_of (a.master.given + 1) ∷ [])
 
           whole : length (others new.primary new.members) + 1 ≡ length new.members
           whole = others_count new.primary new.members led (lawful_apart new lawful)

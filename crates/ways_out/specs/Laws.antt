@@ -66,6 +66,9 @@ pub record LeadsOut {S C O : Type 0} (rules : Rules S C O) (config : Config)
   pub events : length (way_out (length a.world.sent) (length a.master.members) place
       (length new.members - 1)) + 1 ≡ 4 * length new.members + 2
   pub led : IsLed (a.master.given + 1) new (log ++ rules.start_of (a.master.given + 1) ∷ []) last
+  -- each other member has answered that it holds all of that log
+  pub told : (m : ℕ) → In m (others new.primary new.members) →
+      In (new.primary, record { from = m; body = Held (a.master.given + 1) (length log + 1) }) last.world.sent
   pub goes : GoesOnTo rules config past last (log ++ rules.start_of (a.master.given + 1) ∷ [])
 
 -- where starts give nothing there is a way out at each moment of a group

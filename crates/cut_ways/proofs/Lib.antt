@@ -1,0 +1,6 @@
+pub mod SameRows
+pub mod Ahead
+pub mod LogsLike
+pub mod Followed
+pub mod CutGroupsLed
+pub use Rattle.ways_out.proofs as of_ways_out
