@@ -11,6 +11,10 @@ pub mod OpensUnused
 pub mod WorldsOpen
 pub mod TurnedAway
 pub mod PipesInOrder
+pub mod NodesHoused
+pub mod BeginsKept
+pub mod NoneClean
+pub mod SessionsKept
 pub mod DeedsCarry
 pub use Rattle.connection_model.proofs as of_connection_model
 pub use Rattle.connection_model.proofs.of_group_model as of_group_model

@@ -18,19 +18,9 @@ use Rattle.connection_model.specs.group_model.Group.{Group}
 use Rattle.connection_model.specs.group_model.Goes.{Went}
 use Rattle.connection_model.specs.Streams.{came_up, went_down}
 use Rattle.world_model.specs.World.{ClientPipes, HasPipe, Pipe, World, packets_of, with_client, with_pipe}
+pub use Rattle.world_model.specs.AtNodes.{Leads}
 use Rattle.world_model.proofs.OnTheWay.{IsHandled, packets_behind, piece_down}
 use Rattle.world_model.proofs.PipesHold.{IsPlaced, IsUp, PipeHolds, up_written}
-
--- a pipe leads to this port of the node
-pub record Leads (w : World) (n : ℕ) (port : Port) : Type 0 where
-  pub i : ℕ
-  pub c : ClientPipes
-  pub j : ℕ
-  pub κ : Connection
-  pub p : Pipe
-  pub has : HasPipe w i c j κ p
-  pub node : p.node ≡ n
-  pub at : p.port.0 ≡ port.0
 
 -- a client has a connection of this name
 pub record IsKnown (w : World) (x : ConnectionName) : Type 0 where

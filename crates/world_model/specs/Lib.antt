@@ -5,6 +5,8 @@ pub mod Carried
 pub mod Published
 pub mod InPipes
 pub mod Apart
+pub mod AtNodes
+pub mod Kept
 pub mod Deeds
 pub use Rattle.connection_model.specs as connection_model
 pub use Rattle.connection_model.specs.group_model as group_model
