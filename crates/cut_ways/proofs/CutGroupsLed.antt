@@ -66,17 +66,17 @@ assign_like rules ballot a new =
 
 -- ---- at the end
 
-serves_still : {S C O : Type 0} (rules : Rules S C O) (ballot b : ℕ) (log : List C) (os : List ℕ) (m : ℕ) (p s : WholeState S C) → IsLike rules ballot p s → Serves b log os m p → Serves b log os m s
+pub serves_still : {S C O : Type 0} (rules : Rules S C O) (ballot b : ℕ) (log : List C) (os : List ℕ) (m : ℕ) (p s : WholeState S C) → IsLike rules ballot p s → Serves b log os m p → Serves b log os m s
 serves_still {S = S} {C = C} rules ballot b log os m p s (inl same) z = subst (λ (x : WholeState S C). Serves b log os m x) (sym same) z
 serves_still rules ballot b log os m p s (inr a) z = absurd (both_ways (is_active p.role) a.passive (ap is_active z.leads.role))
 
-follows_still : {S C O : Type 0} (rules : Rules S C O) (ballot b : ℕ) (log : List C) (m : ℕ) (p s : WholeState S C) → IsLike rules ballot p s → Follows b log m p → Follows b log m s
+pub follows_still : {S C O : Type 0} (rules : Rules S C O) (ballot b : ℕ) (log : List C) (m : ℕ) (p s : WholeState S C) → IsLike rules ballot p s → Follows b log m p → Follows b log m s
 follows_still {S = S} {C = C} rules ballot b log m p s (inl same) z = subst (λ (x : WholeState S C). Follows b log m x) (sym same) z
 follows_still {S = S} {C = C} rules ballot b log m p s (inr a) z =
     subst (λ (x : WholeState S C). Follows b log m x) (sym a.is)
     (record { runs = z.runs; id = z.id; joined = z.joined; held = z.held; role = z.role; log_is = z.log_is })
 
-node_still : {S C O : Type 0} (rules : Rules S C O) (ballot : ℕ) (P : ℕ → WholeState S C → Type 0) (m : ℕ) (a : WholeMoment S C O) (b : Moment S C O) → MomentLike rules ballot a b →
+pub node_still : {S C O : Type 0} (rules : Rules S C O) (ballot : ℕ) (P : ℕ → WholeState S C → Type 0) (m : ℕ) (a : WholeMoment S C O) (b : Moment S C O) → MomentLike rules ballot a b →
     ((p s : WholeState S C) → IsLike rules ballot p s → P m p → P m s) → NodeIs P a.world.nodes m → NodeIs P (whole_moment b).world.nodes m
 node_still rules ballot P m a b like keeps z =
     let n = like.nodes z.place z.replica z.stands in

@@ -55,15 +55,15 @@ use Rattle.cut_ways.proofs.LogsLike.{message_like, wholly}
 
 -- ---- lists
 
-thinned_same : {C O : Type 0} (xs : List (Effect C O)) → Thinned xs xs
+pub thinned_same : {C O : Type 0} (xs : List (Effect C O)) → Thinned xs xs
 thinned_same [] = none
 thinned_same (x ∷ xs) = keeps (thinned_same xs)
 
-whole_thinned_same : {C O : Type 0} (xs : List (WholeEffect C O)) → WholeThinned xs xs
+pub whole_thinned_same : {C O : Type 0} (xs : List (WholeEffect C O)) → WholeThinned xs xs
 whole_thinned_same [] = whole_none
 whole_thinned_same (x ∷ xs) = whole_keeps (whole_thinned_same xs)
 
-messages_whole : {C O : Type 0} (archive : List C) (es : List (Effect C O)) → map (whole_letter archive) (messages es) ≡ whole_messages (whole_effects archive es)
+pub messages_whole : {C O : Type 0} (archive : List C) (es : List (Effect C O)) → map (whole_letter archive) (messages es) ≡ whole_messages (whole_effects archive es)
 messages_whole archive [] = refl
 messages_whole archive (To to m ∷ es) = ap (λ us. whole_letter archive (to, m) ∷ us) (messages_whole archive es)
 messages_whole archive (Out place o ∷ es) = messages_whole archive es
@@ -132,32 +132,35 @@ pub record Followed {S C O : Type 0} (rules : Rules S C O) (config : Config) (ba
   pub goes : Goes rules config past end
   pub like : MomentLike rules ballot last end
   pub archive : end.world.archive ≡ a.world.archive
+  -- and the past on whole logs has gone on
+  pub whole_before : List (WholeMoment S C O)
+  pub whole_came : WholePast rules config (last ∷ whole_before)
 
 -- ---- a message comes to a node
 
 module _ {S C O : Type 0} (rules : Rules S C O) (config : Config) (ballot : ℕ) (past : List (Moment S C O)) (a : WholeMoment S C O) (earlier : List (WholeMoment S C O))
     (came : WholePast rules config (a ∷ earlier)) (b : Moment S C O) (goes : Goes rules config past b) (like : MomentLike rules ballot a b)
     (k n : ℕ) (p : WholeState S C) (x : WholeMessage C) (sent : slice_get a.world.sent k ≡ Some (n + 1, x)) (stands : slice_get a.world.nodes n ≡ Some p) (runs : p.stopped ≡ false)
-    (silent : whole_outputs (whole_received {O = O} rules p x.from x.body).effects ≡ []) (after : (whole_received {O = O} rules p x.from x.body).state.joined ≡ ballot) where
-  node : NodeLike rules ballot b.world n p
+    (after : (whole_received {O = O} rules p x.from x.body).state.joined ≡ ballot) where
+  abbrev pub node : NodeLike rules ballot b.world n p
   node = like.nodes n p stands
 
-  abbrev r : ReplicaState S C
+  abbrev pub r : ReplicaState S C
   r = node.replica
 
-  letter : (y : ℕ × Message C) × (slice_get b.world.sent k ≡ Some y) × (whole_letter b.world.archive y ≡ (n + 1, x))
+  abbrev pub letter : (y : ℕ × Message C) × (slice_get b.world.sent k ≡ Some y) × (whole_letter b.world.archive y ≡ (n + 1, x))
   letter = get_back (whole_letter b.world.archive) b.world.sent k (n + 1, x) (ap (λ l. slice_get l k) like.sent ∙ sent)
 
-  abbrev m : Message C
+  abbrev pub m : Message C
   m = letter.0.1
 
   receiver : letter.0.0 ≡ n + 1
   receiver = ap (λ (y : ℕ × WholeMessage C). y.0) letter.2
 
-  is_x : whole_message b.world.archive m ≡ x
+  pub is_x : whole_message b.world.archive m ≡ x
   is_x = ap (λ (y : ℕ × WholeMessage C). y.1) letter.2
 
-  stood : slice_get b.world.sent k ≡ Some (n + 1, m)
+  pub stood : slice_get b.world.sent k ≡ Some (n + 1, m)
   stood = letter.1 ∙ ap (λ i. Some (let y : ℕ × Message C = (i, m) in y)) receiver
 
   may : In (n + 1, m) b.world.sent
@@ -167,11 +170,11 @@ module _ {S C O : Type 0} (rules : Rules S C O) (config : Config) (ballot : ℕ)
   like_stopped s (inl same) = ap (λ (y : WholeState S C). y.stopped) same
   like_stopped s (inr z) = ap (λ (y : WholeState S C). y.stopped) z.is
 
-  goes_r : r.stopped ≡ false
+  pub goes_r : r.stopped ≡ false
   goes_r = like_stopped (whole b.world.archive r) node.like ∙ runs
 
   -- the outcome on whole logs, of the replica that may be ahead
-  abbrev o : WholeOutcome S C O
+  abbrev pub o : WholeOutcome S C O
   o = whole_received rules p x.from x.body
 
   abbrev u : WholeOutcome S C O
@@ -187,7 +190,7 @@ module _ {S C O : Type 0} (rules : Rules S C O) (config : Config) (ballot : ℕ)
   joined_of s t (inl same) = ap (λ (y : WholeState S C). y.joined) same
   joined_of s t (inr z) = ap (λ (y : WholeState S C). y.joined) z.is
 
-  abbrev given : Outcome S C O
+  abbrev pub given : Outcome S C O
   given = received rules r m.from m.body
 
   told : AreLike rules ballot u (wholly b.world.archive given)
@@ -200,11 +203,11 @@ module _ {S C O : Type 0} (rules : Rules S C O) (config : Config) (ballot : ℕ)
       q : StandsFor rules config b (goes.between ++ past)
       q = past_stands rules config b (goes.between ++ past) goes.came
 
-  all : AreLike rules ballot o (wholly b.world.archive given)
+  pub all : AreLike rules ballot o (wholly b.world.archive given)
   all = record { state = like_then rules ballot o.state u.state (whole b.world.archive given.state) ahead.state told.state; effects = told.effects ∙ ahead.effects }
 
-  quiet : outputs given.effects ≡ []
-  quiet = outputs_whole b.world.archive given.effects ∙ ap whole_outputs all.effects ∙ silent
+  quiet : whole_outputs o.effects ≡ [] → outputs given.effects ≡ []
+  quiet silent = outputs_whole b.world.archive given.effects ∙ ap whole_outputs all.effects ∙ silent
 
   joined_now : given.state.joined ≡ ballot
   joined_now = joined_of o.state (whole b.world.archive given.state) all.state ∙ after
@@ -237,9 +240,9 @@ module _ {S C O : Type 0} (rules : Rules S C O) (config : Config) (ballot : ℕ)
   came_now : WholePast rules config (whole_after_outcome n o a ∷ a ∷ earlier)
   came_now = whole_went_on came (node_takes n p (whole_receives x) stands runs (in_at a.world.sent k (n + 1, x) sent) (inl (refl, whole_thinned_same o.effects)))
 
-  then_to_node : {ks : List ℕ} {last : WholeMoment S C O} → Followed rules config ballot past (after_outcome n given b) ks last → Followed rules config ballot past b (k ∷ ks) last
-  then_to_node f =
-      record { end = f.end; delivered = to_node k n r m stood node.stands goes_r quiet joined_now f.delivered; goes = f.goes; like = f.like; archive = f.archive }
+  then_to_node : whole_outputs o.effects ≡ [] → {ks : List ℕ} {last : WholeMoment S C O} → Followed rules config ballot past (after_outcome n given b) ks last → Followed rules config ballot past b (k ∷ ks) last
+  then_to_node silent f =
+      record { end = f.end; delivered = to_node k n r m stood node.stands goes_r (quiet silent) joined_now f.delivered; goes = f.goes; like = f.like; archive = f.archive; whole_before = f.whole_before; whole_came = f.whole_came }
 
 -- ---- an Activate comes to the master
 
@@ -277,19 +280,19 @@ module _ {S C O : Type 0} (rules : Rules S C O) (config : Config) (ballot : ℕ)
   came_heard = whole_went_on came (whole_hears from asked (in_at a.world.sent k _ sent))
 
   then_to_master : {ks : List ℕ} {last : WholeMoment S C O} → Followed rules config ballot past (after_activate from asked b) ks last → Followed rules config ballot past b (k ∷ ks) last
-  then_to_master f = record { end = f.end; delivered = to_master k from asked asks f.delivered; goes = f.goes; like = f.like; archive = f.archive }
+  then_to_master f = record { end = f.end; delivered = to_master k from asked asks f.delivered; goes = f.goes; like = f.like; archive = f.archive; whole_before = f.whole_before; whole_came = f.whole_came }
 
 -- ---- all of them
 
 pub followed : {S C O : Type 0} (rules : Rules S C O) (config : Config) (ballot : ℕ) (past : List (Moment S C O)) {a last : WholeMoment S C O} {ks : List ℕ} →
     WholeDelivered rules ballot a ks last → (earlier : List (WholeMoment S C O)) → WholePast rules config (a ∷ earlier) → (b : Moment S C O) → Goes rules config past b →
     MomentLike rules ballot a b → Followed rules config ballot past b ks last
-followed rules config ballot past all_came_whole earlier came b goes like = record { end = b; delivered = all_came; goes = goes; like = like; archive = refl }
+followed rules config ballot past all_came_whole earlier came b goes like = record { end = b; delivered = all_came; goes = goes; like = like; archive = refl; whole_before = earlier; whole_came = came }
 followed rules config ballot past {a = a} (to_node_whole k n p x sent stands runs silent after d) earlier came b goes like =
-    then_to_node rules config ballot past a earlier came b goes like k n p x sent stands runs silent after
-    (followed rules config ballot past d (a ∷ earlier) (came_now rules config ballot past a earlier came b goes like k n p x sent stands runs silent after) _
-    (goes_now rules config ballot past a earlier came b goes like k n p x sent stands runs silent after)
-    (like_now rules config ballot past a earlier came b goes like k n p x sent stands runs silent after))
+    then_to_node rules config ballot past a earlier came b goes like k n p x sent stands runs after silent
+    (followed rules config ballot past d (a ∷ earlier) (came_now rules config ballot past a earlier came b goes like k n p x sent stands runs after) _
+    (goes_now rules config ballot past a earlier came b goes like k n p x sent stands runs after)
+    (like_now rules config ballot past a earlier came b goes like k n p x sent stands runs after))
 followed rules config ballot past {a = a} (to_master_whole k from asked sent d) earlier came b goes like =
     then_to_master rules config ballot past a earlier came b goes like k from asked sent
     (followed rules config ballot past d (a ∷ earlier) (came_heard rules config ballot past a earlier came b goes like k from asked sent) _

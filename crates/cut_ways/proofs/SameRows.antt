@@ -12,7 +12,7 @@ use Rattle.agreement.specs.whole.Changing.{on_new_ballot as whole_on_new_ballot,
 use Rattle.agreement.specs.whole.Protocol.{received as whole_received}
 use Rattle.agreement.specs.whole.Replica.{ReplicaState as WholeState}
 use Rattle.agreement.specs.whole.Sending.{Outcome as WholeOutcome, message_to_followed as whole_followed, nothing_done as whole_nothing}
-use Rattle.agreement.specs.whole.Serving.{commit as whole_commit, commit_at as whole_commit_at, added as whole_added, on_append as whole_on_append, on_held as whole_on_held, on_commit as whole_on_commit, extended as whole_extended}
+use Rattle.agreement.specs.whole.Serving.{commit as whole_commit, commit_at as whole_commit_at, added as whole_added, on_append as whole_on_append, on_held as whole_on_held, on_commit as whole_on_commit, extended as whole_extended, proposed as whole_proposed}
 use Rattle.ballot_base.specs.declared.message.Body.{Body}
 use Rattle.ballot_base.specs.declared.message.Body.TheVariants.{NewBallot, Join, State, Install, Installed, Activate, Activated, Superseded, Append, Held, Commit}
 use Rattle.ballot_base.specs.declared.status.Role.TheVariants.{Backup, Active}
@@ -20,9 +20,9 @@ use Rattle.ballot_base.specs.Applying.{applied_to, outputs_to}
 use Rattle.ballot_base.specs.Changing.{activates, on_activated, on_installed, on_join, on_new_ballot, on_superseded}
 use Rattle.ballot_base.specs.Logs.{Log, part, places, pushed}
 use Rattle.ballot_base.specs.Protocol.{received}
-use Rattle.ballot_base.specs.Replica.{ReplicaState, is_installing, others, progress_at}
+use Rattle.ballot_base.specs.Replica.{ReplicaState, is_active, is_installing, others, progress_at}
 use Rattle.ballot_base.specs.Sending.{Outcome, message_to_followed, nothing_done}
-use Rattle.ballot_base.specs.Serving.{added, commit, commit_at, extended, follows, leads, least, most_places, on_append, on_commit, on_held, raised}
+use Rattle.ballot_base.specs.Serving.{added, commit, commit_at, extended, follows, leads, least, most_places, on_append, on_commit, on_held, proposed, raised}
 use Rattle.snapshots.specs.Matches.{IsBased}
 use Rattle.snapshots.specs.Whole.{whole, whole_body, whole_effect, whole_effects, whole_log}
 use Rattle.snapshots.proofs.Changing.{whole_to_each}
@@ -93,6 +93,13 @@ added_same {S = S} {C = C} {O = O} rules archive r c b =
         (whole_pushed archive r.log c) (commit_same rules archive longer (record { within = b.within; low = b.low }))
 
 -- ---- inside a ballot
+
+pub proposed_same : {S C O : Type 0} (rules : Rules S C O) (archive : List C) (r : ReplicaState S C) (c : C) → IsBased archive r →
+    IsSame {O = O} archive (proposed rules r c) (whole_proposed rules (whole archive r) c)
+unfolding proposed whole_proposed
+proposed_same {O = O} rules archive r c b =
+    if_same archive _ _ _ _ _ _ (ap (λ n. is_active r.role && nat_lt n most_places) (sym (whole_long archive r.log b.within)))
+    (added_same rules archive r c b) (same_nothing O archive r)
 
 held_same : {S C O : Type 0} (rules : Rules S C O) (archive : List C) (r : ReplicaState S C) (from ballot held : ℕ) → IsBased archive r →
     IsSame {O = O} archive (on_held rules r from ballot held) (whole_on_held rules (whole archive r) from ballot held)

@@ -1,0 +1,11 @@
+// The law of the next answer over cut logs. The call does nothing; its contract is the law.
+
+ghost use Rattle.cut_answers.specs.Answering.{CutGroupsAnswer};
+
+use machine::Machine;
+
+/// States that the primary of a ballot, whose other members hold all of its log, answers the next command at its place, whichever
+/// logs were cut: at once where it is alone, and otherwise when all others have told that they hold it too.
+pub fn cut_groups_answer<M: Machine>()
+    ensures { CutGroupsAnswer M.rules }
+{}
