@@ -1,0 +1,67 @@
+-- The first connection that a node opens in its ballot has the first name there.
+use Rattle.std.proofs.Common.{◌≡◌, ◌<◌, ◌≤◌, ◌^◌, Bool, true, false, ◌+◌, if◌then◌else◌, not, List, [], ◌∷◌, ◌++◌, filter, map, length, refl, ap, ◌∙◌, arith}
+use Rattle.std.specs.Prelude.{◌&&◌, nat_le, nat_lt}
+use Rattle.std.specs.List.{list_any}
+use Rattle.std.proofs.lemmas.Bool.{le-leb, lt-ltb, ne_eqb}
+use Rattle.std.proofs.lemmas.List.Elements.{filter-append}
+use Rattle.lists.proofs.OfEach.{each_append}
+use Rattle.broker_base.specs.Connection.{ConnectionName, is_connection_name}
+use Rattle.group_model.specs.world_base.declared.Connection.{Connection}
+use Rattle.group_model.specs.world_base.declared.Port.{Port}
+use Rattle.group_model.specs.world_base.Connections.{closed, fresh, has_failed, is_at, is_listed}
+use Rattle.group_model.specs.world_base.Core.{CoreState, Turn, serves}
+use Rattle.group_model.specs.world_base.Failing.{loses_all_failed}
+use Rattle.group_model.specs.world_base.Step.{next_name, opens, settled}
+use Rattle.group_model.specs.world_base.Turns.{quiet}
+use Rattle.escaping.specs.Opening.{FirstIsOpened, first_name, with_first}
+use Rattle.escaping.proofs.OneDelivery.{calm_finds, none_lost}
+
+both : (x y : Bool) → x ≡ true → y ≡ true → (x && y) ≡ true
+both x y e f = rw (e, f) refl
+
+-- the node with the connection, before it is settled
+abbrev with_new : Port → CoreState → CoreState
+with_new port core = record core { last_name = first_name core; connections = core.connections ++ fresh port (first_name core) ∷ [] }
+
+next_is_first : (core : CoreState) → core.last_name.ballot < core.replica.state.joined → next_name core ≡ first_name core
+next_is_first core low =
+    ap (λ (b : Bool). let x : ConnectionName = record { ballot = core.replica.state.joined; count = (if b then core.last_name.count else 0) + 1 } in x)
+    (ne_eqb core.last_name.ballot core.replica.state.joined (λ e. let z = low in omega (arith, e, z)))
+
+is_name : (core : CoreState) → core.last_name.ballot < core.replica.state.joined → core.replica.state.joined ≤ 2 ^ 32 → is_connection_name (next_name core) ≡ true
+is_name core low most =
+    ap is_connection_name (next_is_first core low)
+    ∙ ap (λ (b : Bool). (b && nat_le core.replica.state.joined (2 ^ 32)) && (nat_lt 0 1 && nat_le 1 (2 ^ 40))) (lt-ltb 0 core.replica.state.joined (let z = low in omega (arith, z)))
+    ∙ ap (λ (b : Bool). b && (nat_lt 0 1 && nat_le 1 (2 ^ 40))) (le-leb core.replica.state.joined (2 ^ 32) most)
+
+opens_first : (core : CoreState) (port : Port) → serves core ≡ true → core.last_name.ballot < core.replica.state.joined → core.replica.state.joined ≤ 2 ^ 32 →
+    list_any (is_at port) core.connections ≡ false → opens port core ≡ with_new port core
+unfolding opens
+opens_first core port leads low most new =
+    ap (λ (b : Bool). if b then opened (next_name core) else core)
+    (both (serves core && not (list_any (is_at port) core.connections)) (is_connection_name (next_name core))
+    (both (serves core) (not (list_any (is_at port) core.connections)) leads (ap not new)) (is_name core low most))
+    ∙ ap opened (next_is_first core low)
+  where
+    opened : ConnectionName → CoreState
+    opened x = record core { last_name = x; connections = core.connections ++ fresh port x ∷ [] }
+
+settled_new : (core : CoreState) (port : Port) → serves core ≡ true → settled (with_new port core) ≡ with_first port core
+unfolding settled
+settled_new core port leads =
+    ap (λ (b : Bool). let k : CoreState = record (with_new port core) {
+      connections = filter is_listed (if b then (with_new port core).connections else map closed (with_new port core).connections);
+    } in k) leads
+    ∙ ap (λ (l : List Connection). let k : CoreState = record (with_new port core) { connections = l } in k)
+    (filter-append is_listed core.connections (fresh port (first_name core) ∷ []))
+
+pub first_is_opened : FirstIsOpened
+first_is_opened core port now leads calm low most new =
+    ap (λ (k : CoreState). ending (quiet k)) (opens_first core port leads low most new)
+    ∙ ap (λ (t : Turn). let u : Turn = record { core = settled t.core; messages = [] ++ t.messages } in u)
+    (none_lost (length (with_new port core).connections) (with_new port core) (calm_finds (with_new port core).connections
+    (each_append (λ (c : Connection). has_failed c ≡ false) core.connections (fresh port (first_name core) ∷ []) calm (refl, tt))))
+    ∙ ap quiet (settled_new core port leads)
+  where
+    ending : Turn → Turn
+    ending first = record { core = settled (loses_all_failed first.core).core; messages = first.messages ++ (loses_all_failed first.core).messages }

@@ -1,0 +1,136 @@
+-- A node's step on a message of which its replica gives nothing does to the replica what the message does.
+use Rattle.std.proofs.Common.{◌≡◌, ◌⊎◌, inl, inr, ℕ, zero, suc, Bool, false, if◌then◌else◌, not, List, [], ◌∷◌, ◌++◌, filter, length, Option, Some, None, refl, sym, ap, ◌∙◌, subst}
+use Rattle.std.specs.Prelude.{◌&&◌}
+use Rattle.std.specs.List.{find, fold}
+use Rattle.std.proofs.lemmas.List.{append-nil}
+use Rattle.lists.specs.Lists.{Each}
+use Rattle.ballot.specs.Effect.{Effect}
+use Rattle.ballot.specs.Effect.TheVariants.{To, Out}
+use Rattle.ballot.specs.Message.{Message}
+use Rattle.ballot.specs.Protocol.Input.{Receives}
+use Rattle.ballot.specs.Replica.{CountedReplica, ReplicaState, is_active}
+use Rattle.ballot.specs.Sending.{Outcome}
+use Rattle.group_model.specs.snapshots.World.{outputs}
+use Rattle.broker_base.specs.Command.{Command}
+use Rattle.broker_base.specs.Output.{Output}
+use Rattle.broker_base.specs.State.{State}
+use Rattle.group_model.specs.world_base.declared.Connection.{Connection}
+use Rattle.group_model.specs.world_base.declared.item.Item.TheVariants.{Peer}
+use Rattle.group_model.specs.world_base.Connections.{has_failed}
+use Rattle.group_model.specs.world_base.Core.{CoreState, Turn, serves}
+use Rattle.group_model.specs.world_base.Failing.{closes_failed, loses_all_failed, loses_failed, loses_if}
+use Rattle.group_model.specs.world_base.Step.{node_step, settled}
+use Rattle.group_model.specs.world_base.Turns.{drives, is_message, moved, proposes, quiet, repeated, served, then_also}
+use Rattle.group_model.proofs.of_node_model.LossesTold.{each_loss_is_told}
+use Rattle.escaping.specs.Delivery.{AStepIsADelivery, IsCalm, heard_by}
+
+-- ---- effects that give nothing
+
+pub only_messages : (effects : List (Effect Command Output)) → outputs effects ≡ [] → filter is_message effects ≡ effects
+only_messages [] e = refl
+only_messages (To receiver message ∷ effects) e = ap (λ (l : List (Effect Command Output)). To receiver message ∷ l) (only_messages effects e)
+only_messages (Out place output ∷ effects) e = cc
+
+pub none_served : (effects : List (Effect Command Output)) → outputs effects ≡ [] → (core : CoreState) → fold served core effects ≡ core
+none_served [] e core = refl
+none_served (To receiver message ∷ effects) e core = none_served effects e core
+none_served (Out place output ∷ effects) e core = cc
+
+abbrev pub with_replica : ReplicaState State Command → CoreState → CoreState
+with_replica s core = record core { replica = record core.replica { state = s } }
+
+pub drives_silently : (core : CoreState) (message : Message Command) → core.replica.state.stopped ≡ false → outputs (heard_by core message).effects ≡ [] →
+    drives (Receives message) core ≡ record { core = with_replica (heard_by core message).state core; messages = (heard_by core message).effects }
+unfolding drives
+drives_silently core message runs silent =
+    ap (λ (b : Bool). moved (if b then (record { state = core.replica.state; effects = [] }) else heard_by core message) core) runs
+    ∙ ap (λ (k : CoreState). let t : Turn = record { core = k; messages = filter is_message (heard_by core message).effects } in t)
+    (none_served (heard_by core message).effects silent (with_replica (heard_by core message).state core))
+    ∙ ap (λ (l : List (Effect Command Output)). let t : Turn = record { core = with_replica (heard_by core message).state core; messages = l } in t)
+    (only_messages (heard_by core message).effects silent)
+
+-- ---- losses that follow from it
+
+record KeepsReplica (core : CoreState) (turn : Turn) : Type 0 where
+  replica : turn.core.replica ≡ core.replica
+  last_name : turn.core.last_name ≡ core.last_name
+  messages : turn.messages ≡ []
+
+-- nothing is proposed by a node that does not serve
+loses_quietly : (core : CoreState) → serves core ≡ false → KeepsReplica core (loses_failed core)
+unfolding loses_failed proposes
+loses_quietly core idle = by (find has_failed core.connections)
+  where
+    by : (o : Option Connection) → KeepsReplica core (loses_if o core)
+    by None = record { replica = refl; last_name = refl; messages = refl }
+    by (Some c) =
+        subst (λ (t : Turn). KeepsReplica core t) (sym (rw idle refl)) (let k : KeepsReplica core (quiet (closes_failed core)) = record { replica = refl; last_name = refl; messages = refl } in k)
+
+all_lost_quietly : (n : ℕ) (core : CoreState) → serves core ≡ false → KeepsReplica core (repeated n loses_failed core)
+unfolding repeated
+all_lost_quietly zero core idle = record { replica = refl; last_name = refl; messages = refl }
+all_lost_quietly (suc n) core idle =
+    let one = loses_quietly core idle in
+    let more = all_lost_quietly n (loses_failed core).core (ap (λ (r : CountedReplica State Command). is_active r.state.role && not r.state.stopped) one.replica ∙ idle) in
+    record {
+      replica = more.replica ∙ one.replica;
+      last_name = more.last_name ∙ one.last_name;
+      messages = ap (λ (l : List (Effect Command Output)). l ++ (repeated n loses_failed (loses_failed core).core).messages) one.messages ∙ more.messages;
+    }
+
+-- and nothing is lost where the node is calm
+pub calm_finds : (cs : List Connection) → Each (λ (c : Connection). has_failed c ≡ false) cs → find has_failed cs ≡ None
+calm_finds [] calm = refl
+calm_finds (c ∷ cs) (first, calm) = ap (λ (b : Bool). if b then Some c else find has_failed cs) first ∙ calm_finds cs calm
+
+failed_next : (core : CoreState) → find has_failed core.connections ≡ None → loses_failed core ≡ quiet core
+unfolding loses_failed
+failed_next core none = rw none refl
+
+pub none_lost : (n : ℕ) (core : CoreState) → find has_failed core.connections ≡ None → repeated n loses_failed core ≡ quiet core
+unfolding repeated
+none_lost zero core none = refl
+none_lost (suc n) core none = ap (λ (t : Turn). then_also t (repeated n loses_failed)) (failed_next core none) ∙ none_lost n core none
+
+all_keep : (core : CoreState) → IsCalm core ⊎ (is_active core.replica.state.role ≡ false) → KeepsReplica core (loses_all_failed core)
+all_keep core (inl calm) =
+    subst (λ (t : Turn). KeepsReplica core t) (sym (none_lost (length core.connections) core (calm_finds core.connections calm)))
+    (let k : KeepsReplica core (quiet core) = record { replica = refl; last_name = refl; messages = refl } in k)
+all_keep core (inr idle) = all_lost_quietly (length core.connections) core (ap (λ (b : Bool). b && not core.replica.state.stopped) idle)
+
+-- ---- the step
+
+abbrev end_of : CoreState → Turn → Turn
+end_of core first = record { core = settled (loses_all_failed first.core).core; messages = first.messages ++ (loses_all_failed first.core).messages }
+
+settled_keeps : (core : CoreState) → ((settled core).replica ≡ core.replica) × ((settled core).last_name ≡ core.last_name)
+unfolding settled
+settled_keeps core = (refl, refl)
+
+record Does (core : CoreState) (o : Outcome State Command Output) (turn : Turn) : Type 0 where
+  replica : turn.core.replica ≡ record core.replica { state = o.state }
+  last_name : turn.core.last_name ≡ core.last_name
+  messages : turn.messages ≡ o.effects
+
+pub a_step_is_a_delivery : AStepIsADelivery
+a_step_is_a_delivery core message runs silent calm =
+    record { replica = now.replica; last_name = now.last_name; messages = now.messages; calm = each_loss_is_told (Peer message) core }
+  where
+    o : Outcome State Command Output
+    o = heard_by core message
+
+    behind : CoreState
+    behind = with_replica o.state core
+
+    does : Does core o (end_of core (record { core = behind; messages = o.effects }))
+    does =
+        let k = all_keep behind calm in
+        let s = settled_keeps (loses_all_failed behind).core in
+        record {
+          replica = s.0 ∙ k.replica;
+          last_name = s.1 ∙ k.last_name;
+          messages = ap (λ (l : List (Effect Command Output)). o.effects ++ l) k.messages ∙ append-nil o.effects;
+        }
+
+    now : Does core o (node_step (Peer message) core)
+    now = subst (λ (t : Turn). Does core o (end_of core t)) (sym (drives_silently core message runs silent)) does

@@ -1,0 +1,51 @@
+-- What the last answer of the others makes the new primary put out: the answer to the CONNECT, first of all.
+use Rattle.std.specs.Prelude.{◌≡◌, ◌<◌, ◌≤◌, ℕ, false, List, [], ◌∷◌, ◌++◌, length, map, Some, true, Ok}
+use Rattle.std.specs.List.{find}
+use Rattle.lists.specs.Lists.{IsPrefixOf}
+use Rattle.packet.specs.declared.connect.Connect.{Connect}
+use Rattle.packet.specs.declared.packet.Packet.{Packet}
+use Rattle.packet.specs.declared.packet.Packet.TheVariants as packets
+use Rattle.packet.specs.Spelling.{spelling}
+use Rattle.packet.specs.Verdict.{verdict}
+use Rattle.ballot.specs.Effect.{Effect}
+use Rattle.ballot.specs.Effect.TheVariants.{Out}
+use Rattle.ballot.specs.Message.{Message}
+use Rattle.broker_base.specs.Command.{Command}
+use Rattle.broker_base.specs.Command.TheVariants as commands
+use Rattle.broker_base.specs.Connection.{ConnectionName}
+use Rattle.broker_base.specs.Output.{Output}
+use Rattle.broker_base.specs.Output.TheVariants.{Send}
+use Rattle.group_model.specs.world_base.declared.Connection.{Connection}
+use Rattle.group_model.specs.world_base.declared.item.Item.TheVariants.{Bytes, Peer}
+use Rattle.group_model.specs.world_base.declared.Port.{Port}
+use Rattle.group_model.specs.world_base.Connections.{is_first, is_open_named, most_pending}
+use Rattle.group_model.specs.world_base.Core.{CoreState}
+use Rattle.group_model.specs.world_base.Handing.{listed_at}
+use Rattle.group_model.specs.world_base.Reading.{open_at}
+use Rattle.group_model.specs.world_base.Step.{node_step}
+use Rattle.group_model.specs.world_base.Turns.{has_room}
+use Rattle.escaping.specs.Asking.{proposal_at}
+use Rattle.escaping.specs.Delivery.{heard_by}
+
+-- of all that is to be handed over at a port these bytes come first
+pub record PutsOutFirst (port : Port) (front : List ℕ) (core : CoreState) : Type 0 where
+  pub connection : Connection
+  pub listed : listed_at port core ≡ Some connection
+  pub first : IsPrefixOf front connection.pending
+
+-- where the first output of a message is a packet for an open connection with nothing to hand over, it is put out first, whatever comes
+-- after it
+abbrev pub AnswerIsPutOut : Type 0
+AnswerIsPutOut = (core : CoreState) (message : Message Command) (port : Port) (x : ConnectionName) (c : Connection) (place : ℕ) (packet : Packet) (others : List Output)
+    (more : List (Effect Command Output)) → core.replica.state.stopped ≡ false → listed_at port core ≡ Some c → find (is_open_named x) core.connections ≡ Some c →
+    c.pending ≡ [] → (heard_by core message).effects ≡ map (Out place) (Send x packet ∷ others) ++ more → 0 < length (spelling packet) →
+    length (spelling packet) ≤ most_pending → PutsOutFirst port (spelling packet) (node_step (Peer message) core).core
+
+-- the same where a sole member reads the CONNECT, and its proposal is answered at once
+abbrev pub AnswerAloneIsPutOut : Type 0
+AnswerAloneIsPutOut = (core : CoreState) (port : Port) (now : ℕ) (piece : List ℕ) (c : Connection) (connect : Connect) (place : ℕ) (packet : Packet)
+    (others : List Output) (more : List (Effect Command Output)) → has_room core ≡ true → open_at port core ≡ Some c → listed_at port core ≡ Some c →
+    find (is_open_named c.name) core.connections ≡ Some c → is_first c.stage ≡ true → c.unread ≡ [] → c.pending ≡ [] →
+    verdict piece ≡ Ok (packets.Connect connect, []) →
+    (proposal_at core (commands.Connect c.name connect.client connect.clean)).effects ≡ map (Out place) (Send c.name packet ∷ others) ++ more →
+    0 < length (spelling packet) → length (spelling packet) ≤ most_pending → PutsOutFirst port (spelling packet) (node_step (Bytes port piece now) core).core

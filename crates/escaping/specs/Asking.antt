@@ -1,0 +1,48 @@
+-- The CONNECT of a new connection at the new primary: it is read and proposed.
+use Rattle.std.specs.Prelude.{◌≡◌, ℕ, true, List, [], filter, Some, Ok}
+use Rattle.packet.specs.declared.connect.Connect.{Connect}
+use Rattle.packet.specs.declared.packet.Packet.TheVariants as packets
+use Rattle.packet.specs.Verdict.{verdict}
+use Rattle.ballot.specs.Sending.{Outcome}
+use Rattle.ballot.specs.Serving.{proposed}
+use Rattle.group_model.specs.snapshots.World.{outputs}
+use Rattle.broker_base.specs.Command.{Command}
+use Rattle.broker_base.specs.Command.TheVariants as commands
+use Rattle.broker_base.specs.Output.{Output}
+use Rattle.broker_base.specs.State.{State}
+use Rattle.group_model.specs.world_base.declared.Connection.{Connection}
+use Rattle.group_model.specs.world_base.declared.Stage.TheVariants.{Proposed}
+use Rattle.group_model.specs.world_base.declared.item.Item.TheVariants.{Bytes}
+use Rattle.group_model.specs.world_base.declared.Port.{Port}
+use Rattle.group_model.specs.world_base.Connections.{changed, is_first, is_listed, is_open_at}
+use Rattle.group_model.specs.world_base.Core.{CoreState, rules}
+use Rattle.group_model.specs.world_base.Reading.{open_at}
+use Rattle.group_model.specs.world_base.Step.{node_step}
+use Rattle.group_model.specs.world_base.Turns.{has_room}
+use Rattle.escaping.specs.Delivery.{IsCalm}
+
+-- the connection whose CONNECT came whole at this time
+abbrev pub asked_now : ℕ → ℕ → Connection → Connection
+asked_now now keep_alive c = record c { stage = Proposed; keep_alive = keep_alive; last_packet = now; unread = [] }
+
+-- what a proposal makes of the node's replica
+abbrev pub proposal_at : CoreState → Command → Outcome State Command Output
+proposal_at core command = proposed rules core.replica.state command
+
+-- the node that has proposed it, where it gives nothing yet
+abbrev pub with_asked : ℕ → Port → Connect → Command → CoreState → CoreState
+with_asked now port connect command core =
+    record core {
+      replica = record core.replica { state = (proposal_at core command).state };
+      connections = filter is_listed (changed (is_open_at port) (asked_now now connect.keep_alive) core.connections);
+    }
+
+-- bytes that are a CONNECT, on a connection that awaits one, at a node whose log has room, are proposed under the connection's name
+abbrev pub ConnectIsProposed : Type 0
+ConnectIsProposed = (core : CoreState) (port : Port) (now : ℕ) (piece : List ℕ) (c : Connection) (connect : Connect) → has_room core ≡ true → IsCalm core →
+    open_at port core ≡ Some c → is_first c.stage ≡ true → c.unread ≡ [] → verdict piece ≡ Ok (packets.Connect connect, []) →
+    outputs (proposal_at core (commands.Connect c.name connect.client connect.clean)).effects ≡ [] →
+    node_step (Bytes port piece now) core ≡ record {
+      core = with_asked now port connect (commands.Connect c.name connect.client connect.clean) core;
+      messages = (proposal_at core (commands.Connect c.name connect.client connect.clean)).effects;
+    }

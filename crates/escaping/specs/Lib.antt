@@ -1,0 +1,7 @@
+pub mod Answering
+pub mod Asking
+pub mod Delivery
+pub mod Opening
+pub mod Waiting
+pub mod Welcome
+pub use Rattle.group_model.specs as group_model

@@ -1,0 +1,28 @@
+-- The first connection that a new primary opens in its ballot.
+use Rattle.std.specs.Prelude.{◌≡◌, ◌<◌, ◌≤◌, ◌^◌, ℕ, true, false, [], ◌∷◌, ◌++◌, filter}
+use Rattle.std.specs.List.{list_any}
+use Rattle.broker_base.specs.Connection.{ConnectionName}
+use Rattle.group_model.specs.world_base.declared.item.Item.TheVariants.{Opened}
+use Rattle.group_model.specs.world_base.declared.Port.{Port}
+use Rattle.group_model.specs.world_base.Connections.{fresh, is_at, is_listed}
+use Rattle.group_model.specs.world_base.Core.{CoreState, serves}
+use Rattle.group_model.specs.world_base.Step.{node_step}
+use Rattle.group_model.specs.world_base.Turns.{quiet}
+use Rattle.escaping.specs.Delivery.{IsCalm}
+
+-- the first name of the ballot that the node joined
+abbrev pub first_name : CoreState → ConnectionName
+first_name core = record { ballot = core.replica.state.joined; count = 1 }
+
+-- the node with a connection of that name at this port, and no other change
+abbrev pub with_first : Port → CoreState → CoreState
+with_first port core =
+    record core {
+      last_name = first_name core;
+      connections = filter is_listed core.connections ++ fresh port (first_name core) ∷ [];
+    }
+
+-- a node that serves clients, is calm and gave no name in its ballot opens a connection at a port of which it lists none, under that name
+abbrev pub FirstIsOpened : Type 0
+FirstIsOpened = (core : CoreState) (port : Port) (now : ℕ) → serves core ≡ true → IsCalm core → core.last_name.ballot < core.replica.state.joined →
+    core.replica.state.joined ≤ 2 ^ 32 → list_any (is_at port) core.connections ≡ false → node_step (Opened port now) core ≡ quiet (with_first port core)

@@ -1,0 +1,55 @@
+-- A connection that waits for its CONNECT and then for its answer, while other messages come and bytes are handed over.
+use Rattle.std.specs.Prelude.{◌≡◌, ℕ, true, false, [], None, Some}
+use Rattle.std.specs.List.{find, list_any}
+use Rattle.packet.specs.declared.connect.Connect.{Connect}
+use Rattle.ballot.specs.Message.{Message}
+use Rattle.ballot.specs.Replica.{is_active}
+use Rattle.broker_base.specs.Command.{Command}
+use Rattle.broker_base.specs.Connection.{ConnectionName}
+use Rattle.group_model.specs.snapshots.World.{outputs}
+use Rattle.group_model.specs.world_base.declared.Connection.{Connection}
+use Rattle.group_model.specs.world_base.declared.item.Item.TheVariants.{Peer}
+use Rattle.group_model.specs.world_base.declared.Port.{Port}
+use Rattle.group_model.specs.world_base.Connections.{is_at, is_first, is_open_named}
+use Rattle.group_model.specs.world_base.Core.{CoreState}
+use Rattle.group_model.specs.world_base.Handing.{hands_over, listed_at}
+use Rattle.group_model.specs.world_base.Reading.{open_at}
+use Rattle.group_model.specs.world_base.Step.{node_step}
+use Rattle.escaping.specs.Asking.{with_asked}
+use Rattle.escaping.specs.Delivery.{IsCalm, heard_by}
+use Rattle.escaping.specs.Opening.{first_name, with_first}
+
+-- a connection of this name at this port is open, and nothing was put out for it
+pub record AwaitsAnswer (port : Port) (x : ConnectionName) (core : CoreState) : Type 0 where
+  pub connection : Connection
+  pub listed : listed_at port core ≡ Some connection
+  pub named : find (is_open_named x) core.connections ≡ Some connection
+  pub none : connection.pending ≡ []
+
+-- it stays so where a calm node that leads on takes a message of which its replica gives no output
+abbrev pub MessagesKeepItWaiting : Type 0
+MessagesKeepItWaiting = (port : Port) (x : ConnectionName) (core : CoreState) (message : Message Command) → AwaitsAnswer port x core → IsCalm core →
+    core.replica.state.stopped ≡ false → outputs (heard_by core message).effects ≡ [] → is_active (heard_by core message).state.role ≡ true →
+    (heard_by core message).state.stopped ≡ false → AwaitsAnswer port x (node_step (Peer message) core).core
+
+-- and where bytes are handed over, at whichever port
+abbrev pub HandingKeepsItWaiting : Type 0
+HandingKeepsItWaiting = (port other : Port) (x : ConnectionName) (core : CoreState) → AwaitsAnswer port x core → AwaitsAnswer port x (hands_over other core)
+
+-- a connection of this name at this port is open, its CONNECT has not come, and nothing was put out for it
+pub record AwaitsConnect (port : Port) (x : ConnectionName) (core : CoreState) : Type 0 where
+  pub waits : AwaitsAnswer port x core
+  pub name : waits.connection.name ≡ x
+  pub opened : open_at port core ≡ Some waits.connection
+  pub first : is_first waits.connection.stage ≡ true
+  pub unread : waits.connection.unread ≡ []
+
+-- so does the first connection of a ballot, at a port of which the node lists none, where no open connection has its name
+abbrev pub FirstAwaitsConnect : Type 0
+FirstAwaitsConnect = (port : Port) (core : CoreState) → list_any (is_at port) core.connections ≡ false →
+    find (is_open_named (first_name core)) core.connections ≡ None → AwaitsConnect port (first_name core) (with_first port core)
+
+-- and when its CONNECT is proposed it waits for the answer
+abbrev pub AskedAwaitsAnswer : Type 0
+AskedAwaitsAnswer = (port : Port) (x : ConnectionName) (core : CoreState) (now : ℕ) (connect : Connect) (command : Command) → AwaitsConnect port x core →
+    AwaitsAnswer port x (with_asked now port connect command core)

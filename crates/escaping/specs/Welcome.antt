@@ -1,0 +1,30 @@
+-- That a client whose session was kept is welcomed back after the start of a ballot, and its connection is not closed (MQTT 3.1.2.4, 3.2.2.2).
+use Rattle.std.specs.Prelude.{◌≡◌, ℕ, true, false, List, [], ◌∷◌, ◌++◌, Some}
+use Rattle.lists.specs.Lists.{Each}
+use Rattle.ballot.specs.Machine.{replay}
+use Rattle.broker_base.specs.Answers.{welcome}
+use Rattle.broker_base.specs.Command.{Command}
+use Rattle.broker_base.specs.Command.TheVariants as commands
+use Rattle.broker_base.specs.Commands.{past_of, usual_limits}
+use Rattle.broker_base.specs.Connection.{ConnectionName}
+use Rattle.broker_base.specs.Output.{Output}
+use Rattle.broker_base.specs.Output.TheVariants.{Send, Close}
+use Rattle.broker_base.specs.Past.{session_of}
+use Rattle.broker_base.specs.Place.{Client}
+use Rattle.group_model.specs.world_base.Core.{rules}
+
+-- an output that is a packet for this connection
+abbrev pub IsSentTo : ConnectionName → Output → Type 0
+IsSentTo x (Send y packet) = y ≡ x
+IsSentTo x (Close y) = ⊥
+
+-- after these commands and the start of a ballot a Connect is answered with CONNACK 0 and session present, and then with packets alone
+pub record IsWelcomedBack (list : List Command) (ballot : ℕ) (x : ConnectionName) (c : Client) : Type 0 where
+  pub rest : List Output
+  pub gives : rules.gives (replay rules (list ++ commands.Start ballot ∷ [])) (commands.Connect x c false) ≡ welcome x true ∷ rest
+  pub sent : Each (IsSentTo x) rest
+
+-- so is each client whose session is there, and is not clean
+abbrev pub KeptSessionsAreWelcomed : Type 0
+KeptSessionsAreWelcomed = (list : List Command) (ballot : ℕ) (x : ConnectionName) (c : Client) → session_of (past_of usual_limits list) c ≡ Some false →
+    IsWelcomedBack list ballot x c

@@ -1,0 +1,22 @@
+-- The CONNACK at the client: it is online with its session present.
+use Rattle.std.specs.Prelude.{◌≡◌, ℕ, true, List, [], Result, Ok, Err}
+use Rattle.client.specs.Core.{Core, nothing_read}
+use Rattle.client.specs.Reading.{OnBytes}
+use Rattle.client.specs.State.{is_online}
+use Rattle.client.specs.ClientError.{ClientError}
+use Rattle.client.specs.ClientError.TheVariants as errors
+use Rattle.client.specs.Stage.TheVariants as stages
+use Rattle.packet.specs.Verdict.{verdict}
+use Rattle.packet.specs.declared.connack.Connack.TheVariants as connacks
+use Rattle.packet.specs.declared.packet.Packet.TheVariants as packets
+
+-- its last CONNACK was a 0 with session present, and it is online
+pub record IsServed (core : Core) : Type 0 where
+  pub online : is_online core.state.stage ≡ true
+  pub present : core.state.present ≡ true
+
+-- bytes that are such a CONNACK, on a connection that was opened and on which nothing came yet, are taken unless memory runs out
+abbrev pub ConnackServes : Type 0
+ConnackServes = (piece : List ℕ) (old new : Core) (result : Result (Unit {0}) ClientError) → verdict piece ≡ Ok (packets.Connack (connacks.Accepted true), []) →
+    old.state.stage ≡ stages.Opened → old.unread ≡ nothing_read → (result ≡ Err errors.Memory → ⊥) → OnBytes piece old.state.stage old result new →
+    (result ≡ Ok tt) × IsServed new

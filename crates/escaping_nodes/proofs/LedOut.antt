@@ -1,0 +1,63 @@
+-- Nodes are led out by an Assign and the messages of a way out.
+use Rattle.std.proofs.Common.{◌≡◌, inr, ℕ, ◌+◌, ◌-◌, List, [], ◌∷◌, ◌++◌, length, refl, sym, ap, ◌∙◌, subst}
+use Rattle.ballot.specs.Config.{Config}
+use Rattle.ballot.specs.Message.{Message}
+use Rattle.broker_base.specs.Command.{Command}
+use Rattle.broker_base.specs.Output.{Output}
+use Rattle.broker_base.specs.State.{State}
+use Rattle.escaping.specs.group_model.Group.{replica_of}
+use Rattle.escaping.specs.group_model.snapshots.agreement.MasterState.{MasterState, assigning}
+use Rattle.escaping.specs.group_model.snapshots.Masters.{assigned}
+use Rattle.escaping.specs.group_model.snapshots.Past.{Moment, whole_moment}
+use Rattle.escaping.specs.group_model.snapshots.Whole.{whole}
+use Rattle.escaping.specs.group_model.world_base.Core.{rules}
+use Rattle.escaping.proofs.of_group_model.of_snapshots.PastsKept.{StandsFor, past_stands}
+use Rattle.escaping.proofs.of_group_model.of_snapshots.Views.{get_whole}
+use Rattle.world_nodes.specs.Goes.{behind_giving}
+use Rattle.world_nodes.specs.Nodes.{NodesState}
+use Rattle.cut_ways.specs.ways_out.Deliveries.{way_out}
+use Rattle.cut_ways.specs.ways_out.Laws.{StartsGiveNothing}
+use Rattle.cut_ways.proofs.of_ways_out.Premises.{joined_below}
+use Rattle.cut_ways.specs.Deliveries.{assigned_moment}
+use Rattle.cut_ways.specs.Laws.{LeadsOut}
+use Rattle.cut_ways.proofs.CutGroupsLed.{cut_groups_have_ways_out}
+use Rattle.escaping_nodes.specs.Coming.{AreCalm, Come, IsSeen}
+use Rattle.escaping_nodes.specs.Led.{AreLedOut, NodesAreLedOut}
+use Rattle.escaping_nodes.proofs.NodesFollow.{deliveries_are_followed, replica_at}
+
+-- the broker gives nothing at the start of a ballot
+starts_give_nothing : StartsGiveNothing rules
+starts_give_nothing s b = refl
+
+assigned_seen : (a : Moment State Command Output) (n : NodesState) (new : Config) → IsSeen a n → IsSeen (assigned_moment new a) (behind_giving new n)
+assigned_seen a n new s =
+    record {
+      master = ap (λ (m : MasterState). assigning m new) s.master;
+      nodes = s.nodes;
+      sent = ap (λ (l : List (ℕ × Message Command)). l ++ ((assigned Command a.master new).receiver, record { from = 0; body = (assigned Command a.master new).body }) ∷ []) s.sent
+          ∙ ap (λ (m : MasterState). n.sent ++ ((assigned Command m new).receiver, record { from = 0; body = (assigned Command m new).body }) ∷ []) s.master;
+      archive = s.archive;
+    }
+
+pub nodes_are_led_out : NodesAreLedOut
+nodes_are_led_out config a past came new place source log can n end s comes =
+    by (cut_groups_have_ways_out rules starts_give_nothing config a past came new place source log can)
+  where
+    stands : StandsFor rules config a past
+    stands = past_stands rules config a past came
+
+    fresh : AreCalm (a.master.given + 1) (behind_giving new n)
+    fresh at node there =
+        inr (joined_below rules config (whole_moment a) stands.earlier stands.kept.came at (whole a.world.archive (replica_of node.core))
+        (get_whole (whole a.world.archive) a.world.nodes at (replica_of node.core) (replica_at a n s at node there)))
+
+    same : way_out (length n.sent) (length n.master.members) place (length new.members - 1)
+        ≡ way_out (length a.world.sent) (length a.master.members) place (length new.members - 1)
+    same = ap (λ (l : List (ℕ × Message Command)). way_out (length l) (length n.master.members) place (length new.members - 1)) (sym s.sent)
+        ∙ ap (λ (m : MasterState). way_out (length a.world.sent) (length m.members) place (length new.members - 1)) (sym s.master)
+
+    by : LeadsOut rules config (a ∷ past) a new place log → AreLedOut config (a ∷ past) a new place log n end
+    by way =
+        let z = deliveries_are_followed (a.master.given + 1) (assigned_moment new a) way.last _ way.delivered (behind_giving new n) end
+        (subst (λ ks. Come (behind_giving new n) ks end) same comes) (assigned_seen a n new s) fresh in
+        record { way = way; seen = z.seen; calm = z.calm; names = z.names }

@@ -1,0 +1,2 @@
+pub mod NodesFollow
+pub mod LedOut

@@ -1,0 +1,55 @@
+-- Messages that come to nodes with connections, each by its number and exactly, and what they make of the replicas.
+use Rattle.std.specs.Prelude.{◌≡◌, ◌⊎◌, ◌<◌, ℕ, ◌+◌, false, List, [], ◌∷◌, map, Some, slice_get}
+use Rattle.ballot.specs.Body.TheVariants.{Activate}
+use Rattle.ballot.specs.Message.{Message}
+use Rattle.broker_base.specs.Command.{Command}
+use Rattle.broker_base.specs.Output.{Output}
+use Rattle.broker_base.specs.State.{State}
+use Rattle.escaping.specs.group_model.Group.{replica_of}
+use Rattle.escaping.specs.group_model.node_model.Moves.Deed.{takes, gives}
+use Rattle.escaping.specs.group_model.snapshots.Past.{Moment}
+use Rattle.escaping.specs.group_model.world_base.declared.item.Item.TheVariants.{Peer}
+use Rattle.escaping.specs.group_model.world_base.declared.Port.{Port}
+use Rattle.escaping.specs.group_model.world_base.Core.{CountedCore, rules}
+use Rattle.world_nodes.specs.Goes.{behind_answer, behind_deed}
+use Rattle.world_nodes.specs.Nodes.{NodesState, cores_of}
+use Rattle.cut_ways.specs.Deliveries.{Delivered}
+use Rattle.escaping.specs.Delivery.{IsCalm}
+
+-- the messages of these numbers come, one after the other, to nodes that run or to the master; in between nodes hand over bytes
+pub data Come : NodesState → List ℕ → NodesState → Type 0 where
+  all_came : {n : NodesState} → Come n [] n
+  to_node : {n new : NodesState} {ks : List ℕ} (k at : ℕ) (node : CountedCore) (message : Message Command) → slice_get n.sent k ≡ Some (at + 1, message) →
+      slice_get n.nodes at ≡ Some node → node.core.replica.state.stopped ≡ false → Come (behind_deed at node (takes (Peer message)) n) ks new →
+      Come n (k ∷ ks) new
+  to_master : {n new : NodesState} {ks : List ℕ} (k from ballot : ℕ) → slice_get n.sent k ≡ Some (0, record { from = from; body = Activate ballot }) →
+      Come (behind_answer from ballot n) ks new → Come n (k ∷ ks) new
+  hands : {n new : NodesState} {ks : List ℕ} (at : ℕ) (node : CountedCore) (port : Port) → slice_get n.nodes at ≡ Some node →
+      Come (behind_deed at node (gives port) n) ks new → Come n ks new
+
+-- the master, the replicas, the messages and the record of the nodes are those of the moment
+pub record IsSeen (a : Moment State Command Output) (n : NodesState) : Type 0 where
+  pub master : a.master ≡ n.master
+  pub nodes : a.world.nodes ≡ map replica_of (cores_of n.nodes)
+  pub sent : a.world.sent ≡ n.sent
+  pub archive : a.world.archive ≡ n.archive
+
+-- each node is calm, or has not joined the ballot yet
+abbrev pub AreCalm : ℕ → NodesState → Type 0
+AreCalm ballot n =
+    (at : ℕ) (node : CountedCore) → slice_get n.nodes at ≡ Some node → IsCalm node.core ⊎ (node.core.replica.state.joined < ballot)
+
+-- no node has given a name in between
+abbrev pub KeepNames : NodesState → NodesState → Type 0
+KeepNames n new =
+    (at : ℕ) (node later : CountedCore) → slice_get n.nodes at ≡ Some node → slice_get new.nodes at ≡ Some later → later.core.last_name ≡ node.core.last_name
+
+-- then nodes to which the messages come that are delivered in the model are seen as it says
+pub record AreFollowed (ballot : ℕ) (b : Moment State Command Output) (n new : NodesState) : Type 0 where
+  pub seen : IsSeen b new
+  pub calm : AreCalm ballot new
+  pub names : KeepNames n new
+
+abbrev pub DeliveriesAreFollowed : Type 0
+DeliveriesAreFollowed = (ballot : ℕ) (a b : Moment State Command Output) (ks : List ℕ) → Delivered rules ballot a ks b → (n new : NodesState) → Come n ks new →
+    IsSeen a n → AreCalm ballot n → AreFollowed ballot b n new

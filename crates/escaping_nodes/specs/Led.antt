@@ -1,0 +1,28 @@
+-- Nodes that are led out: an Assign, and the messages of a way out, by their numbers.
+use Rattle.std.specs.Prelude.{ℕ, ◌+◌, ◌-◌, List, ◌∷◌, length}
+use Rattle.ballot.specs.Config.{Config}
+use Rattle.broker_base.specs.Command.{Command}
+use Rattle.broker_base.specs.Output.{Output}
+use Rattle.broker_base.specs.State.{State}
+use Rattle.escaping.specs.group_model.snapshots.Past.{Moment, Past, whole_moment}
+use Rattle.escaping.specs.group_model.world_base.Core.{rules}
+use Rattle.world_nodes.specs.Goes.{behind_giving}
+use Rattle.world_nodes.specs.Nodes.{NodesState}
+use Rattle.cut_ways.specs.ways_out.Deliveries.{way_out}
+use Rattle.cut_ways.specs.ways_out.Laws.{CanBeLed}
+use Rattle.cut_ways.specs.Laws.{LeadsOut}
+use Rattle.escaping_nodes.specs.Coming.{AreCalm, Come, IsSeen, KeepNames}
+
+-- the moment to which the way out leads is seen then, each node is calm or has not joined the new ballot, and none has given a name
+pub record AreLedOut (config : Config) (past : List (Moment State Command Output)) (a : Moment State Command Output) (new : Config) (place : ℕ)
+    (log : List Command) (n end : NodesState) : Type 0 where
+  pub way : LeadsOut rules config past a new place log
+  pub seen : IsSeen way.last end
+  pub calm : AreCalm (a.master.given + 1) end
+  pub names : KeepNames n end
+
+-- whatever led up to nodes of which a new ballot asks no more than it may, whichever logs they cut, and whatever they keep of connections
+abbrev pub NodesAreLedOut : Type 0
+NodesAreLedOut = (config : Config) (a : Moment State Command Output) (past : List (Moment State Command Output)) → Past rules config (a ∷ past) →
+    (new : Config) (place source : ℕ) (log : List Command) → CanBeLed (whole_moment a) new place source log → (n end : NodesState) → IsSeen a n →
+    Come (behind_giving new n) (way_out (length n.sent) (length n.master.members) place (length new.members - 1)) end → AreLedOut config (a ∷ past) a new place log n end

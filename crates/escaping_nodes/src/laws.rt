@@ -1,0 +1,17 @@
+// Laws of nodes on a way out. The calls do nothing; their contracts are the laws.
+
+ghost use Rattle.escaping_nodes.specs.Coming.{DeliveriesAreFollowed};
+ghost use Rattle.escaping_nodes.specs.Led.{NodesAreLedOut};
+
+/// Says that nodes to which the messages of a way out come, by their numbers, each exactly, go through what these deliveries make
+/// of their replicas, whatever the nodes keep of connections and hand over in between; and that no node gives a name.
+pub fn deliveries_are_followed()
+    ensures { DeliveriesAreFollowed }
+{}
+
+/// Says that an Assign of a configuration whose nodes run, and the messages of a way out, by their numbers, lead nodes to the next
+/// ballot, whatever led up to them and whichever logs they cut. The ballot is active, all its members hold the log of the
+/// member that was asked with the ballot's start after it, and that is the agreed list, which what was agreed before begins.
+pub fn nodes_are_led_out()
+    ensures { NodesAreLedOut }
+{}

@@ -1,0 +1,7 @@
+//! What the messages of a way out make of nodes with connections: of their replicas what they make of a group of replicas.
+//! No code runs here; the laws are carried by calls that do nothing.
+#![tactic(auto)]
+
+mod laws;
+
+pub use laws::{deliveries_are_followed, nodes_are_led_out};
