@@ -1,2 +1,4 @@
 pub mod NodesFollow
 pub mod LedOut
+pub mod LeadsOn
+pub mod ClientAnswered

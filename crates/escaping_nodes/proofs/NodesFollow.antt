@@ -43,7 +43,7 @@ use Rattle.escaping.proofs.OneDelivery.{a_step_is_a_delivery}
 
 -- ---- places
 
-abbrev core_of : CountedCore → CoreState
+abbrev pub core_of : CountedCore → CoreState
 core_of c = c.core
 
 -- the replica at a place, as the moment has it
@@ -53,21 +53,21 @@ replica_at a n s at node there =
     ap (λ (l : List (ReplicaState State Command)). slice_get l at) s.nodes ∙ get_mapped replica_of (cores_of n.nodes) at node.core (get_mapped core_of n.nodes at node there)
 
 -- the replicas, where a node becomes another
-nodes_set : (nodes : List CountedCore) (at : ℕ) (new : CountedCore) →
+pub nodes_set : (nodes : List CountedCore) (at : ℕ) (new : CountedCore) →
     map replica_of (cores_of (slice_set nodes at new)) ≡ slice_set (map replica_of (cores_of nodes)) at (replica_of new.core)
 nodes_set nodes at new = ap (map replica_of) (set_mapped core_of nodes at new) ∙ set_mapped replica_of (cores_of nodes) at new.core
 
 not_below : (x y : ℕ) → x < y → x ≡ y → ⊥
 not_below x y low same = omega (arith, low, same)
 
-some_one : {X : Type 0} (o : Option X) (x y : X) → o ≡ Some x → o ≡ Some y → x ≡ y
+pub some_one : {X : Type 0} (o : Option X) (x y : X) → o ≡ Some x → o ≡ Some y → x ≡ y
 some_one o x y e f = cc
 
-abbrev IsCalmOrLow : ℕ → CountedCore → Type 0
+abbrev pub IsCalmOrLow : ℕ → CountedCore → Type 0
 IsCalmOrLow ballot node = IsCalm node.core ⊎ (node.core.replica.state.joined < ballot)
 
 -- where one becomes another that is calm, or has not joined the ballot, all are so still
-set_calm : (ballot : ℕ) (nodes : List CountedCore) (at : ℕ) (node new : CountedCore) → slice_get nodes at ≡ Some node → IsCalmOrLow ballot new →
+pub set_calm : (ballot : ℕ) (nodes : List CountedCore) (at : ℕ) (node new : CountedCore) → slice_get nodes at ≡ Some node → IsCalmOrLow ballot new →
     ((i : ℕ) (x : CountedCore) → slice_get nodes i ≡ Some x → IsCalmOrLow ballot x) → (i : ℕ) (x : CountedCore) → slice_get (slice_set nodes at new) i ≡ Some x →
     IsCalmOrLow ballot x
 set_calm ballot nodes at node new there now before i x e = by (cases_eq i at)
@@ -80,7 +80,7 @@ set_calm ballot nodes at node new there now before i x e = by (cases_eq i at)
 
 -- ---- bytes are handed over
 
-hands_keep : (port : Port) (core : CoreState) → ((hands_over port core).replica ≡ core.replica) × (IsCalm core → IsCalm (hands_over port core))
+pub hands_keep : (port : Port) (core : CoreState) → ((hands_over port core).replica ≡ core.replica) × (IsCalm core → IsCalm (hands_over port core))
 unfolding hands_over
 hands_keep port core = by (listed_at port core)
   where
@@ -92,7 +92,7 @@ hands_keep port core = by (listed_at port core)
           (each_kept (λ (d : Connection). has_failed d ≡ false) (is_at port) handed core.connections (λ d e. e) calm),
     )
 
-hands_seen : (a : Moment State Command Output) (n : NodesState) (at : ℕ) (node : CountedCore) (port : Port) → slice_get n.nodes at ≡ Some node → IsSeen a n →
+pub hands_seen : (a : Moment State Command Output) (n : NodesState) (at : ℕ) (node : CountedCore) (port : Port) → slice_get n.nodes at ≡ Some node → IsSeen a n →
     IsSeen a (behind_deed at node (gives port) n)
 hands_seen a n at node port there s =
     record {
@@ -105,7 +105,7 @@ hands_seen a n at node port there s =
       archive = s.archive;
     }
 
-hands_calm : (ballot : ℕ) (n : NodesState) (at : ℕ) (node : CountedCore) (port : Port) → slice_get n.nodes at ≡ Some node → AreCalm ballot n →
+pub hands_calm : (ballot : ℕ) (n : NodesState) (at : ℕ) (node : CountedCore) (port : Port) → slice_get n.nodes at ≡ Some node → AreCalm ballot n →
     AreCalm ballot (behind_deed at node (gives port) n)
 hands_calm ballot n at node port there calm =
     set_calm ballot n.nodes at node (record node { core = hands_over port node.core }) there (now (calm at node there)) calm
@@ -139,19 +139,23 @@ step_seen a n at node m s d =
     }
 
 -- the moment after a message, as it is seen
-record Next (ballot : ℕ) (ks : List ℕ) (b : Moment State Command Output) (n : NodesState) : Type 0 where
-  moment : Moment State Command Output
-  rest : Delivered rules ballot moment ks b
-  seen : IsSeen moment n
-  calm : AreCalm ballot n
+pub record Next (ballot : ℕ) (ks : List ℕ) (b : Moment State Command Output) (n : NodesState) : Type 0 where
+  pub moment : Moment State Command Output
+  pub rest : Delivered rules ballot moment ks b
+  pub seen : IsSeen moment n
+  pub calm : AreCalm ballot n
 
 -- and the node that takes it gives no name
-record NextAt (ballot : ℕ) (ks : List ℕ) (b : Moment State Command Output) (node : CountedCore) (message : Message Command) (n : NodesState) : Type 0 where
-  moment : Moment State Command Output
-  rest : Delivered rules ballot moment ks b
-  seen : IsSeen moment n
-  calm : AreCalm ballot n
-  named : (node_step (Peer message) node.core).core.last_name ≡ node.core.last_name
+pub record NextAt (ballot : ℕ) (ks : List ℕ) (b : Moment State Command Output) (node : CountedCore) (message : Message Command) (n : NodesState) : Type 0 where
+  pub moment : Moment State Command Output
+  pub rest : Delivered rules ballot moment ks b
+  pub seen : IsSeen moment n
+  pub calm : AreCalm ballot n
+  pub named : (node_step (Peer message) node.core).core.last_name ≡ node.core.last_name
+  -- of its replica it makes what the message does, which gives nothing and leaves it in the ballot
+  pub replica : (node_step (Peer message) node.core).core.replica ≡ record node.core.replica { state = (heard_by node.core message).state }
+  pub silent : outputs (heard_by node.core message).effects ≡ []
+  pub joined : (heard_by node.core message).state.joined ≡ ballot
 
 same_message : {X : Type 0} (o : Option (ℕ × X)) (i j : ℕ) (m l : X) → o ≡ Some (i, m) → o ≡ Some (j, l) → (i ≡ j) × (m ≡ l)
 same_message {X = X} o i j m l e f = let both = some_one o (i, m) (j, l) e f in (ap (λ (z : ℕ × X). z.0) both, ap (λ (z : ℕ × X). z.1) both)
@@ -167,7 +171,7 @@ asked_same x y e = cc
 
 module _ (ballot : ℕ) (b : Moment State Command Output) (n : NodesState) (calm : AreCalm ballot n) where
   -- at a node
-  node_comes : (a : Moment State Command Output) (k : ℕ) (ks : List ℕ) → Delivered rules ballot a (k ∷ ks) b → IsSeen a n → (at : ℕ) (node : CountedCore) (message : Message Command) →
+  pub node_comes : (a : Moment State Command Output) (k : ℕ) (ks : List ℕ) → Delivered rules ballot a (k ∷ ks) b → IsSeen a n → (at : ℕ) (node : CountedCore) (message : Message Command) →
       slice_get n.sent k ≡ Some (at + 1, message) → slice_get n.nodes at ≡ Some node → node.core.replica.state.stopped ≡ false →
       NextAt ballot ks b node message (behind_deed at node (takes (Peer message)) n)
   node_comes a k ks (to_node j place r m sent stands runs silent joined d) s at node message came there going =
@@ -189,6 +193,9 @@ module _ (ballot : ℕ) (b : Moment State Command Output) (n : NodesState) (calm
             seen = step_seen a n at node message s does;
             calm = set_calm ballot n.nodes at node (record node { core = (node_step (Peer message) node.core).core }) there (inl does.calm) calm;
             named = does.last_name;
+            replica = does.replica;
+            silent = quiet;
+            joined = in_ballot;
           }
         where
           may : (heard_by node.core message).state.joined ≡ ballot → IsCalmOrLow ballot node → IsCalm node.core ⊎ (is_active (heard_by node.core message).state.role ≡ false)
@@ -198,7 +205,7 @@ module _ (ballot : ℕ) (b : Moment State Command Output) (n : NodesState) (calm
       absurd (never_next at (sym (same_message (slice_get n.sent k) 0 (at + 1) (record { from = from; body = Activate asked }) message (ap (λ l. slice_get l k) (sym s.sent) ∙ sent) came).0))
 
   -- at the master
-  master_comes : (a : Moment State Command Output) (k : ℕ) (ks : List ℕ) → Delivered rules ballot a (k ∷ ks) b → IsSeen a n → (from asked : ℕ) →
+  pub master_comes : (a : Moment State Command Output) (k : ℕ) (ks : List ℕ) → Delivered rules ballot a (k ∷ ks) b → IsSeen a n → (from asked : ℕ) →
       slice_get n.sent k ≡ Some (0, record { from = from; body = Activate asked }) → Next ballot ks b (behind_answer from asked n)
   master_comes a k ks (to_node j place r m sent stands runs silent joined d) s from asked came =
       absurd (never_next place (same_message (slice_get n.sent k) (place + 1) 0 m (record { from = from; body = Activate asked }) (ap (λ l. slice_get l k) (sym s.sent) ∙ sent) came).0)

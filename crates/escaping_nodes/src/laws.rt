@@ -1,5 +1,9 @@
 // Laws of nodes on a way out. The calls do nothing; their contracts are the laws.
 
+ghost use Rattle.escaping_nodes.specs.Answered.{
+  OthersLetTheClientBeAnswered,
+  SoleMemberAnswersTheClient,
+};
 ghost use Rattle.escaping_nodes.specs.Coming.{DeliveriesAreFollowed};
 ghost use Rattle.escaping_nodes.specs.Led.{NodesAreLedOut};
 
@@ -14,4 +18,16 @@ pub fn deliveries_are_followed()
 /// member that was asked with the ballot's start after it, and that is the agreed list, which what was agreed before begins.
 pub fn nodes_are_led_out()
     ensures { NodesAreLedOut }
+{}
+
+/// Says that a sole member that leads its ballot puts CONNACK 0 with session present out first when it reads the CONNECT of a
+/// client whose session is there and not clean (MQTT 3.1.2.4, 3.2.2.2).
+pub fn sole_member_answers_the_client()
+    ensures { SoleMemberAnswersTheClient }
+{}
+
+/// Says the same of a primary with other members: they are sent the command and answer, by messages of known numbers, and the
+/// last answer makes the primary put the CONNACK out first, whatever is handed over in between.
+pub fn others_let_the_client_be_answered()
+    ensures { OthersLetTheClientBeAnswered }
 {}

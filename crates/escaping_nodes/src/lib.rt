@@ -4,4 +4,7 @@
 
 mod laws;
 
-pub use laws::{deliveries_are_followed, nodes_are_led_out};
+pub use laws::{
+    deliveries_are_followed, nodes_are_led_out, others_let_the_client_be_answered,
+    sole_member_answers_the_client,
+};

@@ -1,0 +1,292 @@
+-- A client that comes back at the new primary is answered first of all.
+use Rattle.std.proofs.Common.{◌≡◌, ◌⊎◌, inl, inr, ◌<◌, ◌≤◌, ℕ, ◌+◌, ◌*◌, Bool, true, false, not, List, [], ◌∷◌, ◌++◌, length, map, Some, refl, sym, ap, ◌∙◌, subst, arith}
+use Rattle.std.specs.Prelude.{nat_lt, slice_get, slice_set, ◌&&◌}
+use Rattle.std.specs.List.{find}
+use Rattle.std.proofs.lemmas.Bool.{and_from, cases_eq, lt-ltb}
+use Rattle.lists.proofs.Places.{get_set, get_set_other}
+use Rattle.ballot.specs.Effect.{Effect}
+use Rattle.ballot.specs.Logs.{places}
+use Rattle.ballot.specs.Machine.{replay}
+use Rattle.ballot.specs.Message.{Message}
+use Rattle.ballot.specs.Protocol.{received, replica_step}
+use Rattle.ballot.specs.Protocol.Input.{Proposes}
+use Rattle.ballot.specs.Replica.{CountedReplica, ReplicaState, is_active}
+use Rattle.ballot.specs.Sending.{Outcome}
+use Rattle.ballot.specs.Serving.{most_places}
+use Rattle.packet.specs.declared.connect.Connect.{Connect}
+use Rattle.packet.specs.Spelling.{spelling}
+use Rattle.broker_base.specs.Command.{Command}
+use Rattle.broker_base.specs.Command.TheVariants as commands
+use Rattle.broker_base.specs.Connection.{ConnectionName}
+use Rattle.broker_base.specs.Output.{Output}
+use Rattle.broker_base.specs.Output.TheVariants.{Send}
+use Rattle.ballot.specs.Effect.TheVariants.{Out}
+use Rattle.broker_base.specs.State.{State}
+use Rattle.ballot.specs.Config.{Config}
+use Rattle.escaping.specs.Answering.{PutsOutFirst}
+use Rattle.escaping.specs.Asking.{proposal_at, with_asked}
+use Rattle.escaping.specs.Delivery.{IsCalm, heard_by}
+use Rattle.escaping.specs.Waiting.{AwaitsAnswer}
+use Rattle.escaping.specs.Welcome.{IsWelcomedBack}
+use Rattle.escaping.specs.group_model.Group.{replica_of}
+use Rattle.escaping.specs.group_model.node_model.Moves.Deed.{takes, gives}
+use Rattle.escaping.specs.group_model.snapshots.Past.{Moment, Past}
+use Rattle.escaping.specs.group_model.snapshots.World.{messages, outputs}
+use Rattle.escaping.specs.group_model.world_base.declared.Connection.{Connection}
+use Rattle.escaping.specs.group_model.world_base.declared.item.Item.TheVariants.{Bytes, Peer}
+use Rattle.escaping.specs.group_model.world_base.declared.Port.{Port}
+use Rattle.escaping.specs.group_model.world_base.Connections.{is_open_named, most_pending}
+use Rattle.escaping.specs.group_model.world_base.Core.{CoreState, CountedCore, Turn, rules, serves}
+use Rattle.escaping.specs.group_model.world_base.Handing.{hands_over}
+use Rattle.escaping.specs.group_model.world_base.Step.{node_step}
+use Rattle.escaping.specs.group_model.world_base.Turns.{has_room}
+use Rattle.escaping.proofs.of_group_model.of_node_model.LossesTold.{each_loss_is_told}
+use Rattle.escaping.proofs.of_group_model.of_snapshots.Fronts.{whole_long}
+use Rattle.escaping.proofs.of_group_model.of_snapshots.PastsKept.{StandsFor, past_stands}
+use Rattle.escaping.proofs.AnswerAlone.{answer_alone_is_put_out}
+use Rattle.escaping.proofs.AnswerAwaited.{asked_awaits_answer, handing_keeps_it_waiting, messages_keep_it_waiting}
+use Rattle.escaping.proofs.AnswerPutOut.{answer_is_put_out}
+use Rattle.escaping.proofs.ComesBack.{kept_sessions_are_welcomed}
+use Rattle.escaping.proofs.ConnectProposed.{connect_is_proposed}
+use Rattle.world_nodes.specs.Goes.{behind_deed}
+use Rattle.world_nodes.specs.Nodes.{NodesState, cores_of}
+use Rattle.cut_ways.specs.Deliveries.{Delivered, after_outcome}
+use Rattle.cut_ways.specs.ways_out.Deliveries.{numbers_from}
+use Rattle.cut_answers.specs.Answering.{AnswersCommand, IsHeldByAll}
+use Rattle.cut_answers.proofs.CutGroupsAnswer.{cut_groups_answer}
+use Rattle.escaping_nodes.specs.Answered.{CanAsk, OthersLetTheClientBeAnswered, PutsOutAtLast, SoleMemberAnswersTheClient, begun, last_held, session_present}
+use Rattle.escaping_nodes.specs.Coming.{AreCalm, Come, IsSeen}
+use Rattle.escaping_nodes.specs.Coming.Come.{all_came as none_comes, to_node as comes_to_node, to_master as comes_to_master, hands}
+use Rattle.escaping_nodes.proofs.LeadsOn.{LeadsAt, leads_on, leads_proposing}
+use Rattle.escaping_nodes.proofs.NodesFollow.{IsCalmOrLow, deliveries_are_followed, hands_calm, hands_keep, hands_seen, master_comes, node_comes, nodes_set, replica_at, set_calm, some_one}
+
+-- ---- the connection waits while messages come
+
+-- the node at a place, which leads on, and its connection
+record StillWaits (ballot place : ℕ) (port : Port) (x : ConnectionName) (n : NodesState) : Type 0 where
+  node : CountedCore
+  stands : slice_get n.nodes place ≡ Some node
+  leads : LeadsAt ballot (replica_of node.core)
+  waits : AwaitsAnswer port x node.core
+
+-- .. where another node changes
+elsewhere : (ballot place : ℕ) (port : Port) (x : ConnectionName) (n v : NodesState) (at : ℕ) (new : CountedCore) → (place ≡ at → ⊥) → v.nodes ≡ slice_set n.nodes at new →
+    StillWaits ballot place port x n → StillWaits ballot place port x v
+elsewhere ballot place port x n v at new other is s =
+    record { node = s.node; stands = ap (λ l. slice_get l place) is ∙ get_set_other n.nodes at place new other ∙ s.stands; leads = s.leads; waits = s.waits }
+
+-- .. where it does itself
+itself : (ballot place : ℕ) (port : Port) (x : ConnectionName) (n v : NodesState) (old new : CountedCore) → slice_get n.nodes place ≡ Some old → v.nodes ≡ slice_set n.nodes place new →
+    LeadsAt ballot (replica_of new.core) → AwaitsAnswer port x new.core → StillWaits ballot place port x v
+itself ballot place port x n v old new there is leads waits =
+    record { node = new; stands = ap (λ l. slice_get l place) is ∙ get_set n.nodes place old new there; leads = leads; waits = waits }
+
+leads_with : (ballot : ℕ) (r s : CountedReplica State Command) → s ≡ r → LeadsAt ballot r.state → LeadsAt ballot s.state
+leads_with ballot r s same l = subst (λ (q : CountedReplica State Command). LeadsAt ballot q.state) (sym same) l
+
+calm_now : (ballot : ℕ) (node : CountedCore) → LeadsAt ballot (replica_of node.core) → IsCalmOrLow ballot node → IsCalm node.core
+calm_now ballot node l (inl calm) = calm
+calm_now ballot node l (inr low) = absurd (let e = l.joined in omega (arith, e, low))
+
+-- a message comes to it
+message_kept : (ballot place : ℕ) (port : Port) (x : ConnectionName) (n : NodesState) (node : CountedCore) (m : Message Command) → slice_get n.nodes place ≡ Some node →
+    IsCalm node.core → outputs (heard_by node.core m).effects ≡ [] → (heard_by node.core m).state.joined ≡ ballot →
+    (node_step (Peer m) node.core).core.replica ≡ record node.core.replica { state = (heard_by node.core m).state } → LeadsAt ballot (replica_of node.core) → AwaitsAnswer port x node.core →
+    StillWaits ballot place port x (behind_deed place node (takes (Peer m)) n)
+message_kept ballot place port x n node m there calm silent joined replica leads waits =
+    let on = leads_on {O = Output} rules ballot (replica_of node.core) leads m.from m.body joined in
+    itself ballot place port x n (behind_deed place node (takes (Peer m)) n) node (record node { core = (node_step (Peer m) node.core).core }) there refl
+    (leads_with ballot (record node.core.replica { state = (heard_by node.core m).state }) (node_step (Peer m) node.core).core.replica replica on)
+    (messages_keep_it_waiting port x node.core m waits calm leads.runs silent (ap is_active on.role) on.runs)
+
+waits_on : (ballot place : ℕ) (port : Port) (x : ConnectionName) (a b : Moment State Command Output) (ks : List ℕ) → Delivered rules ballot a ks b → (n new : NodesState) → Come n ks new → IsSeen a n →
+    AreCalm ballot n → StillWaits ballot place port x n → StillWaits ballot place port x new
+waits_on ballot place port x a b ks d n new none_comes s calm w = w
+waits_on ballot place port x a b ks d n new (comes_to_node k at node message came there going more) s calm w =
+    let z = node_comes ballot b n calm a k _ d s at node message came there going in
+    waits_on ballot place port x z.moment b _ z.rest _ new more z.seen z.calm (by (cases_eq place at) z.silent z.joined z.replica)
+  where
+    by : (place ≡ at) ⊎ (place ≡ at → ⊥) → outputs (heard_by node.core message).effects ≡ [] → (heard_by node.core message).state.joined ≡ ballot →
+        (node_step (Peer message) node.core).core.replica ≡ record node.core.replica { state = (heard_by node.core message).state } →
+        StillWaits ballot place port x (behind_deed at node (takes (Peer message)) n)
+    by (inr other) silent joined replica = elsewhere ballot place port x n (behind_deed at node (takes (Peer message)) n) at (record node { core = (node_step (Peer message) node.core).core }) other refl w
+    by (inl same) silent joined replica =
+        subst (λ i. StillWaits ballot place port x (behind_deed i node (takes (Peer message)) n)) same
+        (message_kept ballot place port x n node message here (calm_now ballot node leads (calm at node there)) silent joined replica leads
+        (subst (λ (c : CountedCore). AwaitsAnswer port x c.core) one w.waits))
+      where
+        here : slice_get n.nodes place ≡ Some node
+        here = ap (slice_get n.nodes) same ∙ there
+
+        one : w.node ≡ node
+        one = some_one (slice_get n.nodes place) w.node node w.stands here
+
+        leads : LeadsAt ballot (replica_of node.core)
+        leads = subst (λ (c : CountedCore). LeadsAt ballot (replica_of c.core)) one w.leads
+waits_on ballot place port x a b ks d n new (comes_to_master k from asked came more) s calm w =
+    let z = master_comes ballot b n calm a k _ d s from asked came in
+    waits_on ballot place port x z.moment b _ z.rest _ new more z.seen z.calm (record { node = w.node; stands = w.stands; leads = w.leads; waits = w.waits })
+waits_on ballot place port x a b ks d n new (hands at node other there more) s calm w =
+    waits_on ballot place port x a b ks d _ new more (hands_seen a n at node other there s) (hands_calm ballot n at node other there calm) (by (cases_eq place at))
+  where
+    by : (place ≡ at) ⊎ (place ≡ at → ⊥) → StillWaits ballot place port x (behind_deed at node (gives other) n)
+    by (inr apart) = elsewhere ballot place port x n (behind_deed at node (gives other) n) at (record node { core = hands_over other node.core }) apart refl w
+    by (inl same) =
+        subst (λ i. StillWaits ballot place port x (behind_deed i node (gives other) n)) same
+        (itself ballot place port x n (behind_deed place node (gives other) n) node (record node { core = hands_over other node.core }) here refl
+        (leads_with ballot node.core.replica (hands_over other node.core).replica (hands_keep other node.core).0 (subst (λ (c : CountedCore). LeadsAt ballot (replica_of c.core)) one w.leads))
+        (handing_keeps_it_waiting port other x node.core (subst (λ (c : CountedCore). AwaitsAnswer port x c.core) one w.waits)))
+      where
+        here : slice_get n.nodes place ≡ Some node
+        here = ap (slice_get n.nodes) same ∙ there
+
+        one : w.node ≡ node
+        one = some_one (slice_get n.nodes place) w.node node w.stands here
+
+-- ---- the CONNECT
+
+some_spelled : 0 < length (spelling session_present)
+unfolding spelling
+some_spelled = omega arith
+
+short_spelled : length (spelling session_present) ≤ most_pending
+unfolding spelling
+short_spelled = omega arith
+
+module _ (config : Config) (a : Moment State Command Output) (past : List (Moment State Command Output)) (came : Past rules config (a ∷ past)) (n : NodesState) (ballot place : ℕ) (node : CountedCore)
+    (os : List ℕ) (port : Port) (x : ConnectionName) (list : List Command) (start now : ℕ) (piece : List ℕ) (connect : Connect)
+    (can : CanAsk a n ballot place node os port x list start piece connect) where
+  abbrev core : CoreState
+  core = node.core
+
+  abbrev r : ReplicaState State Command
+  r = replica_of core
+
+  abbrev log : List Command
+  log = begun list start
+
+  abbrev c : Command
+  c = commands.Connect x connect.client false
+
+  abbrev connection : Connection
+  connection = can.awaits.waits.connection
+
+  q : StandsFor rules config a past
+  q = past_stands rules config a past came
+
+  stands : slice_get a.world.nodes place ≡ Some r
+  stands = replica_at a n can.seen place node can.stands
+
+  leads : LeadsAt ballot r
+  leads = record { joined = can.serves.leads.joined; held = can.serves.held; role = can.serves.leads.role; runs = can.serves.leads.runs }
+
+  calm : IsCalm core
+  calm = calm_now ballot node leads (can.calm place node can.stands)
+
+  long : places r.log ≡ length log
+  long = sym (whole_long a.world.archive r.log (q.kept.nodes place r stands).0.within) ∙ ap length can.serves.log_is
+
+  room : has_room core ≡ true
+  room =
+      and_from (serves core) (nat_lt (places r.log) most_places)
+      (ap (λ (b : Bool). b && not r.stopped) (ap is_active leads.role) ∙ ap not leads.runs)
+      (lt-ltb (places r.log) most_places (subst (λ k. k < most_places) (sym long) can.room))
+
+  proposes_c : commands.Connect connection.name connect.client connect.clean ≡ c
+  proposes_c = ap (λ (y : ConnectionName). commands.Connect y connect.client connect.clean) can.awaits.name ∙ ap (λ (b : Bool). commands.Connect x connect.client b) can.kept
+
+  welcomed : IsWelcomedBack list start x connect.client
+  welcomed = kept_sessions_are_welcomed list start x connect.client can.session
+
+  -- what answers the command begins with the CONNACK
+  begins : (es more : List (Effect Command Output)) → es ≡ map (Out (length log)) (rules.gives (replay rules log) c) ++ more →
+      es ≡ map (Out (length log)) (Send x session_present ∷ welcomed.rest) ++ more
+  begins es more is = is ∙ ap (λ (os : List Output). map (Out (length log)) os ++ more) welcomed.gives
+
+  -- ---- alone
+
+  pub alone : AnswersCommand rules a.world.archive ballot log c [] (place + 1) (replica_step rules r (Proposes c)) →
+      PutsOutFirst port (spelling session_present) (node_step (Bytes port piece now) core).core
+  alone z =
+      answer_alone_is_put_out core port now piece connection connect (length log) session_present welcomed.rest z.rest room can.awaits.opened can.awaits.waits.listed
+      (subst (λ (y : ConnectionName). find (is_open_named y) core.connections ≡ Some connection) (sym can.awaits.name) can.awaits.waits.named) can.awaits.first can.awaits.unread can.awaits.waits.none
+      can.is_connect
+      (ap (λ (d : Command). (proposal_at core d).effects) proposes_c ∙ begins (proposal_at core c).effects z.rest z.gives
+      ∙ ap (λ (y : ConnectionName). map (Out (length log)) (Send y session_present ∷ welcomed.rest) ++ z.rest) (sym can.awaits.name)) some_spelled short_spelled
+
+  -- ---- with others
+
+  module _ (front : List ℕ) (last : ℕ) (new : NodesState) (h : IsHeldByAll rules a place ballot r log c front last)
+      (comes : Come (behind_deed place node (takes (Bytes port piece now)) n)
+      (numbers_from (length n.sent) (length front + 1) ++ numbers_from (length n.sent + (length front + 1)) (length front)) new) where
+    abbrev turn : Turn
+    turn = node_step (Bytes port piece now) core
+
+    abbrev o : Outcome State Command Output
+    o = replica_step rules r (Proposes c)
+
+    abbrev first : NodesState
+    first = behind_deed place node (takes (Bytes port piece now)) n
+
+    stepped : turn ≡ record { core = with_asked now port connect c core; messages = (proposal_at core c).effects }
+    stepped =
+        connect_is_proposed core port now piece connection connect room calm can.awaits.opened can.awaits.first can.awaits.unread can.is_connect
+        (ap (λ (d : Command). outputs (proposal_at core d).effects) proposes_c ∙ h.quiet)
+        ∙ ap (λ (d : Command). let t : Turn = record { core = with_asked now port connect d core; messages = (proposal_at core d).effects } in t) proposes_c
+
+    seen_first : IsSeen (after_outcome place o a) first
+    seen_first =
+        record {
+          master = can.seen.master;
+          nodes = ap (λ (l : List (ReplicaState State Command)). slice_set l place o.state) can.seen.nodes
+              ∙ sym (nodes_set n.nodes place (record node { core = turn.core })
+              ∙ ap (λ (t : Turn). slice_set (map replica_of (cores_of n.nodes)) place (replica_of t.core)) stepped);
+          sent = ap (λ (l : List (ℕ × Message Command)). l ++ messages o.effects) can.seen.sent ∙ ap (λ (t : Turn). n.sent ++ messages t.messages) (sym stepped);
+          archive = can.seen.archive;
+        }
+
+    calm_first : AreCalm ballot first
+    calm_first = set_calm ballot n.nodes place node (record node { core = turn.core }) can.stands (inl (each_loss_is_told (Bytes port piece now) core)) can.calm
+
+    waits_first : StillWaits ballot place port x first
+    waits_first =
+        itself ballot place port x n first node (record node { core = turn.core }) can.stands refl
+        (subst (λ (t : Turn). LeadsAt ballot (replica_of t.core)) (sym stepped) (leads_proposing {O = Output} rules ballot r leads c))
+        (subst (λ (t : Turn). AwaitsAnswer port x t.core) (sym stepped) (asked_awaits_answer port x core now connect c can.awaits))
+
+    delivered : Delivered rules ballot (after_outcome place o a) (numbers_from (length n.sent) (length front + 1) ++ numbers_from (length n.sent + (length front + 1)) (length front)) h.before
+    delivered = subst (λ (l : List (ℕ × Message Command)). Delivered rules ballot (after_outcome place o a)
+        (numbers_from (length l) (length front + 1) ++ numbers_from (length l + (length front + 1)) (length front)) h.before) can.seen.sent h.delivered
+
+    seen_last : IsSeen h.before new
+    seen_last = (deliveries_are_followed ballot (after_outcome place o a) h.before _ delivered first new comes seen_first calm_first).seen
+
+    pub with_others : PutsOutAtLast place (length n.sent + 2 * length front + 1) port (last_held last ballot log) new
+    with_others = by (waits_on ballot place port x (after_outcome place o a) h.before _ delivered first new comes seen_first calm_first waits_first)
+      where
+        by : StillWaits ballot place port x new → PutsOutAtLast place (length n.sent + 2 * length front + 1) port (last_held last ballot log) new
+        by w =
+            record {
+              node = w.node;
+              stands = w.stands;
+              runs = w.leads.runs;
+              comes = ap (λ (l : List (ℕ × Message Command)). slice_get l (length n.sent + 2 * length front + 1)) (sym seen_last.sent)
+                  ∙ subst (λ (l : List (ℕ × Message Command)). slice_get h.before.world.sent (length l + 2 * length front + 1) ≡ Some (place + 1, last_held last ballot log)) can.seen.sent h.comes;
+              puts = answer_is_put_out w.node.core (last_held last ballot log) port x w.waits.connection (length log) session_present welcomed.rest h.primary.answers.rest w.leads.runs
+                  w.waits.listed w.waits.named w.waits.none
+                  (subst (λ (s : ReplicaState State Command). (received rules s last (last_held last ballot log).body).effects ≡ map (Out (length log)) (Send x session_present ∷ welcomed.rest) ++ h.primary.answers.rest)
+                  (some_one (slice_get h.before.world.nodes place) h.primary.replica (replica_of w.node.core) h.primary.stands (replica_at h.before new seen_last place w.node w.stands))
+                  (begins _ h.primary.answers.rest h.primary.answers.gives)) some_spelled short_spelled;
+            }
+
+pub sole_member_answers_the_client : SoleMemberAnswersTheClient
+sole_member_answers_the_client config a past came n ballot place node port x list start now piece connect can =
+    alone config a past came n ballot place node [] port x list start now piece connect can
+    ((cut_groups_answer rules config a past came ballot place (replica_of node.core) (begun list start) [] (commands.Connect x connect.client false)
+    (replica_at a n can.seen place node can.stands) can.serves can.room).0 refl)
+
+pub others_let_the_client_be_answered : OthersLetTheClientBeAnswered
+others_let_the_client_be_answered config a past came n new ballot place node front last port x list start now piece connect can apart out each comes =
+    with_others config a past came n ballot place node (front ++ last ∷ []) port x list start now piece connect can front last new
+    ((cut_groups_answer rules config a past came ballot place (replica_of node.core) (begun list start) (front ++ last ∷ []) (commands.Connect x connect.client false)
+    (replica_at a n can.seen place node can.stands) can.serves can.room).1 front last refl apart out each) comes

@@ -1,0 +1,86 @@
+-- A client that comes back at the new primary: its CONNECT, and the answer to it.
+use Rattle.std.specs.Prelude.{◌≡◌, ◌<◌, ℕ, ◌+◌, ◌*◌, true, false, List, [], ◌∷◌, ◌++◌, length, slice_get, Some, Ok}
+use Rattle.lists.specs.Lists.{In}
+use Rattle.ballot.specs.Body.TheVariants.{Held}
+use Rattle.ballot.specs.Config.{Config}
+use Rattle.ballot.specs.Message.{Message}
+use Rattle.ballot.specs.Serving.{most_places}
+use Rattle.packet.specs.declared.connack.Connack.TheVariants as connacks
+use Rattle.packet.specs.declared.connect.Connect.{Connect}
+use Rattle.packet.specs.declared.packet.Packet.{Packet}
+use Rattle.packet.specs.declared.packet.Packet.TheVariants as packets
+use Rattle.packet.specs.Spelling.{spelling}
+use Rattle.packet.specs.Verdict.{verdict}
+use Rattle.broker_base.specs.Command.{Command}
+use Rattle.broker_base.specs.Command.TheVariants as commands
+use Rattle.broker_base.specs.Commands.{past_of, usual_limits}
+use Rattle.broker_base.specs.Connection.{ConnectionName}
+use Rattle.broker_base.specs.Output.{Output}
+use Rattle.broker_base.specs.Past.{session_of}
+use Rattle.broker_base.specs.State.{State}
+use Rattle.escaping.specs.Answering.{PutsOutFirst}
+use Rattle.escaping.specs.Waiting.{AwaitsConnect}
+use Rattle.escaping.specs.group_model.Group.{replica_of}
+use Rattle.escaping.specs.group_model.node_model.Moves.Deed.{takes}
+use Rattle.escaping.specs.group_model.snapshots.Past.{Moment, Past, whole_moment}
+use Rattle.escaping.specs.group_model.snapshots.Whole.{whole}
+use Rattle.escaping.specs.group_model.world_base.declared.item.Item.TheVariants.{Bytes, Peer}
+use Rattle.escaping.specs.group_model.world_base.declared.Port.{Port}
+use Rattle.escaping.specs.group_model.world_base.Core.{CountedCore, rules}
+use Rattle.escaping.specs.group_model.world_base.Step.{node_step}
+use Rattle.world_nodes.specs.Goes.{behind_deed}
+use Rattle.world_nodes.specs.Nodes.{NodesState}
+use Rattle.cut_ways.specs.ways_out.Deliveries.{AreApart, NodeIs, numbers_from}
+use Rattle.cut_ways.specs.ways_out.Following.{Follows, Serves}
+use Rattle.escaping_nodes.specs.Coming.{AreCalm, Come, IsSeen}
+
+-- CONNACK 0 with session present (MQTT 3.2.2.2)
+abbrev pub session_present : Packet
+session_present = packets.Connack (connacks.Accepted true)
+
+-- the log of a ballot that began after these commands
+abbrev pub begun : List Command → ℕ → List Command
+begun list start = list ++ commands.Start start ∷ []
+
+-- the node at a place leads a ballot, with the commands of this list before the ballot's start; a connection awaits its CONNECT there; and the
+-- bytes are a CONNECT of a client whose session is there and not clean
+pub record CanAsk (a : Moment State Command Output) (n : NodesState) (ballot place : ℕ) (node : CountedCore) (others_of : List ℕ) (port : Port)
+    (x : ConnectionName) (list : List Command) (start : ℕ) (piece : List ℕ) (connect : Connect) : Type 0 where
+  pub seen : IsSeen a n
+  pub calm : AreCalm ballot n
+  pub stands : slice_get n.nodes place ≡ Some node
+  pub serves : Serves ballot (begun list start) others_of (place + 1) (whole a.world.archive (replica_of node.core))
+  pub room : length (begun list start) < most_places
+  pub awaits : AwaitsConnect port x node.core
+  pub session : session_of (past_of usual_limits list) connect.client ≡ Some false
+  pub is_connect : verdict piece ≡ Ok (packets.Connect connect, [])
+  pub kept : connect.clean ≡ false
+
+-- a sole member puts the answer out first when it reads them
+abbrev pub SoleMemberAnswersTheClient : Type 0
+SoleMemberAnswersTheClient = (config : Config) (a : Moment State Command Output) (past : List (Moment State Command Output)) → Past rules config (a ∷ past) →
+    (n : NodesState) (ballot place : ℕ) (node : CountedCore) (port : Port) (x : ConnectionName) (list : List Command) (start now : ℕ) (piece : List ℕ) (connect : Connect) →
+    CanAsk a n ballot place node [] port x list start piece connect →
+    PutsOutFirst port (spelling session_present) (node_step (Bytes port piece now) node.core).core
+
+-- the last answer of another member
+abbrev pub last_held : ℕ → ℕ → List Command → Message Command
+last_held last ballot log = record { from = last; body = Held ballot (length log + 1) }
+
+-- that message was sent to the node at the place, which runs, and puts the answer out first when it comes
+pub record PutsOutAtLast (place index : ℕ) (port : Port) (message : Message Command) (n : NodesState) : Type 0 where
+  pub node : CountedCore
+  pub stands : slice_get n.nodes place ≡ Some node
+  pub runs : node.core.replica.state.stopped ≡ false
+  pub comes : slice_get n.sent index ≡ Some (place + 1, message)
+  pub puts : PutsOutFirst port (spelling session_present) (node_step (Peer message) node.core).core
+
+-- with others: they are sent the command, and answer; once all answers but the last have come, the last one makes the primary put the answer out first
+abbrev pub OthersLetTheClientBeAnswered : Type 0
+OthersLetTheClientBeAnswered = (config : Config) (a : Moment State Command Output) (past : List (Moment State Command Output)) → Past rules config (a ∷ past) →
+    (n new : NodesState) (ballot place : ℕ) (node : CountedCore) (front : List ℕ) (last : ℕ) (port : Port) (x : ConnectionName) (list : List Command) (start now : ℕ) (piece : List ℕ) (connect : Connect) →
+    CanAsk a n ballot place node (front ++ last ∷ []) port x list start piece connect → AreApart (front ++ last ∷ []) → (In (place + 1) (front ++ last ∷ []) → ⊥) →
+    ((m : ℕ) → In m (front ++ last ∷ []) → NodeIs (Follows ballot (begun list start)) (whole_moment a).world.nodes m) →
+    Come (behind_deed place node (takes (Bytes port piece now)) n)
+    (numbers_from (length n.sent) (length front + 1) ++ numbers_from (length n.sent + (length front + 1)) (length front)) new →
+    PutsOutAtLast place (length n.sent + 2 * length front + 1) port (last_held last ballot (begun list start)) new
