@@ -4,6 +4,7 @@ mod changes;
 mod course;
 mod crashes;
 mod cuts;
+mod expelled;
 mod handshakes;
 mod long;
 mod losing;

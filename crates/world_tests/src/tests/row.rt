@@ -13,6 +13,8 @@ pub enum Deed {
     Tick(u8),
     Cut(u8),
     Crash(u8),
+    /// The session of a client is ended, by this node.
+    Expel(&'static str, u8),
     Open(&'static str, u8),
     /// All bytes that wait on a connection go up, or down.
     Up(u64),
@@ -37,6 +39,8 @@ pub enum Said {
     Packet,
     /// A ballot begins.
     Start(u64),
+    /// The session of a client ends.
+    Expel(&'static str),
 }
 
 /// What happens in a world, or is seen of it.
@@ -161,6 +165,7 @@ fn is_said(command: &Command, said: &Said) -> bool {
         (Command::Connect(_, client, false), Said::Connect(name)) => client.as_str() == *name,
         (Command::Packet(_, _), Said::Packet) => true,
         (Command::Start(ballot), Said::Start(number)) => *ballot == *number,
+        (Command::Expel(client), Said::Expel(name)) => client.as_str() == *name,
         _ => false,
     }
 }
@@ -208,6 +213,7 @@ fn event_of(alloc: Global, world: &World, deed: &Deed) -> Option<Event> {
 fn call_of(alloc: Global, deed: &Deed) -> Option<Event> {
     match deed {
         Deed::Open(client, node) => Some(Event::Open(named(alloc, client)?, *node)),
+        Deed::Expel(client, node) => Some(Event::Expel(named(alloc, client)?, *node)),
         Deed::Abandon(client) => Some(Event::Abandon(named(alloc, client)?)),
         Deed::Disconnect(client) => Some(Event::Disconnect(named(alloc, client)?)),
         Deed::Publish(client) => Some(Event::Publish(named(alloc, client)?, publication(alloc)?)),

@@ -1,0 +1,93 @@
+// An administrator ends a client's session.
+
+use crate::tests::row::{Deed, Row, Said, Table, fault_in};
+
+// CONNACK (3.2): no session, and accepted.
+const ABSENT: &[u8] = b"\x20\x02\x00\x00";
+
+// SUBACK of QoS 2 (3.9), and the PUBLISH of `x` about `t/1` at QoS 2 with identifier 1 (3.3).
+const GRANTED_AND_SENT: &[u8] = b"\x90\x03\x00\x01\x02\x34\x08\x00\x03t/1\x00\x01x";
+
+const AGREED: &[Said] = &[
+    Said::Connect("b"),
+    Said::Packet,
+    Said::Connect("a"),
+    Said::Packet,
+    Said::Expel("b"),
+    Said::Packet,
+    Said::Expel("b"),
+    Said::Connect("b"),
+    Said::Packet,
+    Said::Packet,
+];
+
+// The events of the script `client_is_expelled` of the folder `examples`. The session of b ends while it is connected, and once more
+// while it has none. What is published then is for nobody. It comes back to no session, and subscribes in its second one.
+const EXPELLED: &[Row] = &[
+    Row::Does(Deed::Open("b", 1), 0, 0),
+    Row::Does(Deed::Up(1), 0, 1),
+    Row::Does(Deed::Down(1), 0, 1),
+    Row::Does(Deed::Subscribe("b"), 0, 1),
+    Row::Does(Deed::Up(1), 0, 2),
+    Row::Does(Deed::Open("a", 1), 0, 2),
+    Row::Does(Deed::Up(2), 0, 3),
+    Row::Does(Deed::Down(2), 0, 3),
+    Row::Does(Deed::Publish("a"), 0, 3),
+    Row::Does(Deed::Up(2), 0, 4),
+    Row::HasDown(1, GRANTED_AND_SENT),
+    Row::Does(Deed::Expel("b", 1), 0, 5),
+    Row::Does(Deed::Publish("a"), 0, 5),
+    Row::Does(Deed::Up(2), 0, 6),
+    Row::HasDown(1, GRANTED_AND_SENT),
+    Row::Does(Deed::Down(1), 0, 6),
+    Row::Took("b", 1, 1),
+    Row::Idle(Deed::Up(1)),
+    Row::Does(Deed::Expel("b", 1), 0, 7),
+    Row::Does(Deed::Abandon("b"), 0, 7),
+    Row::Does(Deed::Open("b", 1), 0, 7),
+    Row::Does(Deed::Up(3), 0, 8),
+    Row::HasDown(3, ABSENT),
+    Row::Does(Deed::Down(3), 0, 8),
+    Row::Took("b", 1, 1),
+    Row::Does(Deed::Subscribe("b"), 0, 8),
+    Row::Does(Deed::Up(3), 0, 9),
+    Row::Does(Deed::Publish("a"), 0, 9),
+    Row::Does(Deed::Up(2), 0, 10),
+    Row::Does(Deed::Down(3), 0, 10),
+    Row::Took("b", 2, 2),
+    Row::Agrees(AGREED),
+];
+
+// It is idle where there is no such client, where the node is unknown, a backup, or has crashed.
+const IDLE: &[Row] = &[
+    Row::Idle(Deed::Expel("c", 1)),
+    Row::Idle(Deed::Expel("a", 0)),
+    Row::Idle(Deed::Expel("a", 2)),
+    Row::Idle(Deed::Expel("a", 3)),
+    Row::Does(Deed::Expel("a", 1), 1, 0),
+    Row::Does(Deed::Deliver(0), 2, 1),
+    Row::Does(Deed::Deliver(1), 3, 1),
+    Row::Agrees(&[Said::Expel("a")]),
+    Row::Does(Deed::Crash(1), 3, 1),
+    Row::Idle(Deed::Expel("a", 1)),
+];
+
+const TABLES: &[Table] = &[
+    Table {
+        name: "expelled",
+        nodes: 1,
+        members: &[1],
+        rows: EXPELLED,
+    },
+    Table {
+        name: "idle",
+        nodes: 2,
+        members: &[1, 2],
+        rows: IDLE,
+    },
+];
+
+#[test]
+fn sessions_are_ended(rt: HostRuntime) {
+    assert_eq!(rt; fault_in(rt.alloc(), TABLES), None);
+}
