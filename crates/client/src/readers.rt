@@ -6,9 +6,17 @@ ghost use Rattle.client.specs.Core.{without_accepted};
 
 use crate::client_core::ClientCore;
 use client_base::{Accepted, ClientError, Stage};
+use packet::ClientId;
 use std::mem;
 
 impl ClientCore {
+    /// Returns the identifier that the client writes in its CONNECT (MQTT 3.1.3.1).
+    pub fn client(&self) -> &ClientId
+        ensures { result.now ≡ self.now.state.client }
+    {
+        &self.client
+    }
+
     /// Appends what was written and not handed over before. Where the vector is empty the bytes are
     /// not copied. After `Memory` nothing has changed.
     pub fn outgoing(&mut self, out: &mut Vec<u8>) -> Result<(), ClientError>
