@@ -44,7 +44,8 @@ use Rattle.story.proofs.carrying.PlacesSay.{PlacesSay, Says, is_again}
 use Rattle.story.proofs.sessions.InTurn.{flat_map_same}
 use Rattle.story.proofs.sessions.LivesExact.{all_well, lives_exact}
 use Rattle.exact_model.specs.Promise.{PromiseBy, PromiseInStep}
-use Rattle.exact_model.specs.Shown.{AcceptsInOrder, IsAnswered, accepted_once, new_of}
+use Rattle.exact_model.specs.Shown.{AcceptsInOrder, IsAnswered, new_of}
+use Rattle.world_model.specs.Accepted.{accepted_once}
 use Rattle.exact_model.proofs.NewByPlace.{all_new}
 use Rattle.exact_model.proofs.FirstKept.{first_kept}
 use Rattle.exact_model.proofs.NewNumbered.{new_in_order}

@@ -21,11 +21,11 @@ use Rattle.world_model.specs.group_model.Goes.{all_put, groups_of}
 use Rattle.world_model.specs.group_model.Pasts.{HasPast}
 use Rattle.world_model.specs.World.{ClientPipes, HasPipe, Pipe, World}
 use Rattle.world_model.specs.Carried.{went_of}
+use Rattle.world_model.specs.Accepted.{accepted_once}
 use Rattle.world_model.specs.Published.{published_of, published_on}
 use Rattle.world_model.specs.Goes.{Reached}
 use Rattle.world_model.specs.InPipes.{IsInOrder}
 use Rattle.exact_model.specs.Promise.{Promise}
-use Rattle.exact_model.specs.Shown.{accepted_once}
 
 -- one client's story, by the list on which the nodes agree
 abbrev pub story_of : List Command → ClientPipes → Story

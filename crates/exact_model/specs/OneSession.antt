@@ -11,7 +11,8 @@ use Rattle.client_base.specs.State.{ClientState}
 use Rattle.story.specs.Headline.{is_released, two_entries}
 use Rattle.story.specs.InStep.{IsFirstSession}
 use Rattle.exact_model.specs.Promise.{PromiseInStep}
-use Rattle.exact_model.specs.Shown.{accepted_once, at_two, kept_of, new_of}
+use Rattle.exact_model.specs.Shown.{at_two, kept_of, new_of}
+use Rattle.world_model.specs.Accepted.{accepted_once}
 
 -- of client c, by the places of the list
 pub record PromiseOfOne (c : Client) (published : List Publication) (past : Past) (state : ClientState) : Type 0 where

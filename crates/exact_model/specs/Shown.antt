@@ -20,12 +20,12 @@ use Rattle.broker_base.specs.Place.{Client, Mark, Past, Place, same_client}
 use Rattle.broker_base.specs.Readings.{publication_in}
 use Rattle.broker_base.specs.Received.{is_exactly_once}
 use Rattle.client_base.specs.State.{ClientState}
-use Rattle.client_base.specs.declared.accepted.Accepted.{Accepted}
 use Rattle.client_base.specs.declared.kept_publication.KeptPublication.{KeptPublication}
 use Rattle.story.specs.Carried.{is_two}
 use Rattle.story.specs.Headline.{is_released, two_entries}
 use Rattle.story.specs.InStep.{entries_in, starts_of}
 use Rattle.story.specs.Lives.{IsRising}
+use Rattle.world_model.specs.Accepted.{accepted_once}
 
 -- ---- of its publications
 
@@ -70,16 +70,6 @@ pub record AreStillKept (published new kept : List Publication) : Type 0 where
   pub kept_are : kept ≡ again ++ waiting
 
 -- ---- of what it accepted
-
--- at QoS 2, the oldest first
-abbrev pub publication_accepted : Accepted → Publication
-publication_accepted a = record { retain = a.retain; qos = a.qos; topic = a.topic; payload = a.payload }
-
-abbrev pub is_accepted_once : Accepted → Bool
-is_accepted_once a = is_two a.qos
-
-abbrev pub accepted_once : List Accepted → List Publication
-accepted_once accepted = map publication_accepted (filter is_accepted_once accepted)
 
 -- At QoS 2 a beginning of a session's QoS 2 entries: `old`, in order, each once. No entry after it is released.
 pub record HasBeginning (c : Client) (past : Past) (start : ℕ) : Type 0 where

@@ -3,6 +3,7 @@ pub mod Carrying
 pub mod Goes
 pub mod Carried
 pub mod Published
+pub mod Accepted
 pub mod InPipes
 pub mod Apart
 pub mod AtNodes

@@ -24,7 +24,7 @@ use Rattle.client_base.specs.Calls.{confirmed, discarded, loses_session, numbere
 use Rattle.client_base.specs.Handled.{handled, handled_first, handled_online, is_sent_with, releasing, takes_in}
 use Rattle.client_base.specs.Steps.{Call, disconnected, keeper_step, request_refusal, subscribed, unless_refused, unsubscribed}
 use Rattle.story.specs.Sides.{Side}
-use Rattle.world_pipes.specs.Standing.{accepted_once, is_accepted_once, publication_accepted}
+use Rattle.world_model.specs.Accepted.{accepted_once, is_accepted_once, publication_accepted}
 
 -- one more
 more_accepted : (accepted : List Accepted) (one : Accepted) → accepted_once (accepted ++ one ∷ []) ≡ accepted_once accepted ++ accepted_once (one ∷ [])

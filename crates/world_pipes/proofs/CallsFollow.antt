@@ -24,7 +24,8 @@ use Rattle.world_pipes.specs.Goes.{ClientGoes, ClientStep}
 use Rattle.world_pipes.specs.Piped.{Calls, GoesUp, GoesUpWhere, Piped, TakesLeave, broken, is_holding, piped}
 use Rattle.world_pipes.specs.Piped as pipings
 use Rattle.story.specs.Headline.{accepted_on}
-use Rattle.world_pipes.specs.Standing.{AreWays, CanGoOut, StandsFor, accepted_once}
+use Rattle.world_pipes.specs.Standing.{AreWays, CanGoOut, StandsFor}
+use Rattle.world_model.specs.Accepted.{accepted_once}
 use Rattle.world_pipes.proofs.HearingFollows.{IsLeft, finished, left_lost, way_up}
 use Rattle.world_pipes.proofs.ModelsCalls.{IsCalled}
 use Rattle.world_pipes.proofs.PacketsHandled.{appended}

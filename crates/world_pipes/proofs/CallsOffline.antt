@@ -27,7 +27,8 @@ use Rattle.world_pipes.specs.declared.sending.Sending.TheVariants as sendings
 use Rattle.world_pipes.specs.Following.{CallingFollows}
 use Rattle.world_pipes.specs.Piped.{GoesUpWhere, Piped, is_holding, piped}
 use Rattle.story.specs.Headline.{accepted_on}
-use Rattle.world_pipes.specs.Standing.{AreWays, CanGoOut, StandsFor, accepted_once}
+use Rattle.world_pipes.specs.Standing.{AreWays, CanGoOut, StandsFor}
+use Rattle.world_model.specs.Accepted.{accepted_once}
 use Rattle.world_pipes.proofs.CallsFollow.{HasCall, up_follows}
 use Rattle.world_pipes.proofs.Ways.{none_sent}
 

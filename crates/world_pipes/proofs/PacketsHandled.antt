@@ -22,7 +22,8 @@ use Rattle.world_model.specs.Goes.{after_packet}
 use Rattle.world_model.proofs.OnTheWay.{newly_is}
 use Rattle.world_pipes.specs.Goes.{ClientGoes, ClientStep, published_along, published_with}
 use Rattle.story.specs.Headline.{accepted_on}
-use Rattle.world_pipes.specs.Standing.{CanGoOut, accepted_once}
+use Rattle.world_pipes.specs.Standing.{CanGoOut}
+use Rattle.world_model.specs.Accepted.{accepted_once}
 use Rattle.world_pipes.proofs.AcceptedAlike.{accepts_alike}
 use Rattle.world_pipes.proofs.Renamed.{handled_renamed, renamed}
 use Rattle.world_pipes.proofs.StaysOpen.{handled_stays}

@@ -13,7 +13,8 @@ use Rattle.world_base.specs.declared.Port.{Port}
 use Rattle.world_pipes.specs.declared.way.Way.{Way}
 use Rattle.world_pipes.specs.Following.{FollowsAll, after_losing}
 use Rattle.world_pipes.specs.Piped.{Connects, Piped, new_way, piped, taken_back}
-use Rattle.world_pipes.specs.Standing.{AreWays, CanGoOut, accepted_once}
+use Rattle.world_pipes.specs.Standing.{AreWays, CanGoOut}
+use Rattle.world_model.specs.Accepted.{accepted_once}
 use Rattle.world_pipes.proofs.Ways.{losing_goes, losing_publishes, same_pipes}
 
 -- the model's client lost its connection, and opened none

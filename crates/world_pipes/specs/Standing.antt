@@ -1,17 +1,15 @@
 -- Which client of the model of worlds a `PipedClient` stands for. History stands in the model alone.
-use Rattle.std.specs.Prelude.{◌≡◌, Bool, true, false, IsTrue, List, [], ◌∷◌, ◌++◌, filter, length, map, reverse}
+use Rattle.std.specs.Prelude.{◌≡◌, true, false, IsTrue, List, [], ◌∷◌, ◌++◌, length, reverse}
 use Rattle.packet_base.specs.Spelling.{IsId}
 use Rattle.packet.specs.ClientId.{is_client}
 use Rattle.packet.specs.Spelling.{IsPacket}
 use Rattle.lists.specs.Lists.{Each, IsPrefixOf}
-use Rattle.session_base.specs.declared.publication.Publication.{Publication}
-use Rattle.client_base.specs.declared.accepted.Accepted.{Accepted}
 use Rattle.client_base.specs.declared.kept_publication.KeptPublication.{KeptPublication}
 use Rattle.client_base.specs.State.{ClientState, publish_kept}
 use Rattle.client_base.specs.History as history
-use Rattle.story.specs.Carried.{is_two}
 use Rattle.story.specs.Headline.{accepted_on}
 use Rattle.story.specs.Sides.{Connection}
+use Rattle.world_model.specs.Accepted.{accepted_once}
 use Rattle.world_model.specs.World.{ClientPipes, Pipe}
 use Rattle.world_pipes.specs.declared.way.Way.{Way}
 use Rattle.world_pipes.specs.Piped.{Piped, is_holding}
@@ -51,16 +49,6 @@ pub record CanGoOut (state : ClientState) : Type 0 where
   pub released : Each IsId state.released
   pub sent : Each (λ (kept : KeptPublication). IsPacket (publish_kept false kept)) state.sent
   pub unsent : Each (λ (kept : KeptPublication). IsPacket (publish_kept false kept)) state.unsent
-
--- what a client shows as accepted at QoS 2, in order
-abbrev pub publication_accepted : Accepted → Publication
-publication_accepted a = record { retain = a.retain; qos = a.qos; topic = a.topic; payload = a.payload }
-
-abbrev pub is_accepted_once : Accepted → Bool
-is_accepted_once a = is_two a.qos
-
-abbrev pub accepted_once : List Accepted → List Publication
-accepted_once accepted = map publication_accepted (filter is_accepted_once accepted)
 
 pub record StandsFor (client : Piped) (m : ClientPipes) : Type 0 where
   pub keeper : history.StandsFor m.keeper client.core.state

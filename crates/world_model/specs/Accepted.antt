@@ -1,0 +1,15 @@
+-- What a client shows as accepted at QoS 2.
+use Rattle.std.specs.Prelude.{Bool, List, filter, map}
+use Rattle.session_base.specs.declared.publication.Publication.{Publication}
+use Rattle.client_base.specs.declared.accepted.Accepted.{Accepted}
+use Rattle.story.specs.Carried.{is_two}
+
+abbrev pub publication_accepted : Accepted → Publication
+publication_accepted a = record { retain = a.retain; qos = a.qos; topic = a.topic; payload = a.payload }
+
+abbrev pub is_accepted_once : Accepted → Bool
+is_accepted_once a = is_two a.qos
+
+-- the oldest first
+abbrev pub accepted_once : List Accepted → List Publication
+accepted_once accepted = map publication_accepted (filter is_accepted_once accepted)
