@@ -42,7 +42,7 @@ impl ClientCore {
     }
 
     // The identifier of the next request, or why there is none.
-    fn request_id(&self) -> Result<PacketId, ClientError>
+    pub(crate) fn request_id(&self) -> Result<PacketId, ClientError>
         ensures { RequestId self.now.state result }
     {
         if self.stage != Stage::Online {

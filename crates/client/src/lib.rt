@@ -10,6 +10,7 @@ mod identifiers;
 mod publishing;
 mod readers;
 mod reading;
+mod refusing;
 mod writing;
 
 pub use client_base::{Accepted, ClientError, KeptPublication, Request, Stage};

@@ -103,7 +103,7 @@ impl ClientCore {
     }
 
     // The identifier of the next publication, or why there is none.
-    fn publication_id(&self) -> Result<PacketId, ClientError>
+    pub(crate) fn publication_id(&self) -> Result<PacketId, ClientError>
         ensures { PublicationId self.now.state result }
     {
         if self.kept() >= WINDOW {

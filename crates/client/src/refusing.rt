@@ -1,0 +1,57 @@
+// Which calls a client refuses.
+
+ghost use Rattle.std.specs.Prelude.{ℕ, ◌≡◌, ◌+◌, false, if◌then◌else◌, length, min};
+ghost use Rattle.std.specs.Option.{is_some};
+ghost use Rattle.packet.specs.declared.packet.Packet.TheVariants as packets;
+ghost use Rattle.session_base.specs.Publication.{is_answered, publish_of};
+ghost use Rattle.client_base.specs.Calls.{is_over_limit, publish_refusal};
+ghost use Rattle.client_base.specs.Steps.{request_refusal};
+
+use crate::client_core::ClientCore;
+use packet::QoS;
+use session_base::Publication;
+
+/// How many bytes the body of a packet has at most.
+const LONGEST_BODY: usize = 1_048_572;
+
+impl ClientCore {
+    /// Returns whether [`ClientCore::publish`] refuses a publication for another cause than `Memory`. It takes no memory.
+    pub fn refuses(&self, publication: &Publication) -> bool
+        ensures { result ≡ is_some (publish_refusal publication.now self.now.state) }
+    {
+        if publication.qos == QoS::AtMostOnce {
+            return !self.connected() || is_long(publication);
+        }
+        self.publication_id().is_err() || is_long(publication)
+    }
+
+    /// Returns whether [`ClientCore::subscribe`] and [`ClientCore::unsubscribe`] refuse each filter for another cause than
+    /// `Memory`. It takes no memory.
+    pub fn refuses_requests(&self) -> bool
+        ensures { result ≡ is_some (request_refusal self.now.state) }
+    {
+        self.request_id().is_err()
+    }
+}
+
+// Whether the PUBLISH that carries a publication is over the size limit.
+fn is_long(publication: &Publication) -> bool
+    ensures { (id : ℕ) → result
+        ≡ is_over_limit (packets.Publish (publish_of false id publication.now)) }
+{
+    body_len(publication) > LONGEST_BODY
+}
+
+// How many bytes its body has: the topic with two bytes for its length, two for an identifier at QoS 1 and 2, and the payload.
+fn body_len(publication: &Publication) -> usize
+    ensures { result ≡ min (2 + length publication.now.topic
+        + (if is_answered publication.now.qos then 2 else 0) + length publication.now.payload) usize.MAX }
+{
+    let id = if publication.qos == QoS::AtMostOnce {
+        0
+    } else {
+        2
+    };
+    let names = 2 + publication.topic.as_str().len() + id;
+    names.saturating_add(publication.payload.as_slice().len())
+}
